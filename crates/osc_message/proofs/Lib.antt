@@ -1,0 +1,4 @@
+pub mod Strings
+pub mod PlainAddresses
+pub mod AddressNames
+pub mod MessageLaws

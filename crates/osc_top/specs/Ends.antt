@@ -1,0 +1,55 @@
+-- How a program ends, and what it has written then.
+use Rattle.std.specs.Prelude.{◌≡◌, ◌⊎◌, ℕ, List, [], ◌∷◌, ◌++◌, take, drop, if◌then◌else◌, Option, Some, None, IfSome, IsOkAnd, IsErrAnd, codes}
+use Rattle.std.specs.Str.{bytes_eq}
+use Rattle.osc_edge.specs.Faults.{Rose}
+use Rattle.osc_core.specs.History.{Legal}
+use Rattle.osc_top.specs.Scripts.{script_of}
+use Rattle.osc_top.specs.Plain.{plain}
+use Rattle.osc_top.specs.Printing.{printed, fault_text}
+
+-- what is held is told, and has gained this text
+abbrev pub Gains : Option (List ℕ) → Option (List ℕ) → List ℕ → Type 0
+Gains held after text = IfSome held (λ before. after ≡ Some (before ++ text))
+
+-- or some front of it
+abbrev pub GainsFront : Option (List ℕ) → Option (List ℕ) → List ℕ → Type 0
+GainsFront held after text = IfSome held (λ before. (count : ℕ) × (after ≡ Some (before ++ take count text)))
+
+-- the text, or a front of it where the count of faults rose
+abbrev pub GainsUnless : Option (List ℕ) → Option (List ℕ) → ℕ → ℕ → List ℕ → Type 0
+GainsUnless held after faults now text = Gains held after text ⊎ (GainsFront held after text × Rose faults now)
+
+-- what a script's whole input leaves: nothing, or what stands behind the first byte that is too many
+abbrev pub left_behind : List ℕ → List ℕ
+left_behind input = drop 67108865 input
+
+-- The end of a run of a script, by its status: done (0), where the script is lawful, its history is one that the
+-- server's rules give, and the printed history was gained; refused (1), where it has a first fault, and the line on
+-- that fault was gained; cut short (5), where the sink failed, and a front of the printed history was gained. Want of
+-- memory (3) promises nothing.
+pub record EndsRun (status : ℕ) (script : List ℕ) (held after : Option (List ℕ)) (faults now : ℕ) : Type 0 where
+  pub known : (status ≡ 0) ⊎ (status ≡ 1) ⊎ (status ≡ 3) ⊎ (status ≡ 5)
+  pub done : status ≡ 0 → IsOkAnd (script_of script) (λ acts. Legal (plain acts) × Gains held after (printed (plain acts))) × (now ≡ faults)
+  pub refused : status ≡ 1 → IsErrAnd (script_of script) (λ fault. GainsUnless held after faults now (fault_text fault))
+  pub cut_short : status ≡ 5 → IsOkAnd (script_of script) (λ acts. Legal (plain acts) × GainsFront held after (printed (plain acts))) × Rose faults now
+
+-- the text of a history is written, or a front of it
+pub record EndsHistory (status : ℕ) (text : List ℕ) (held after : Option (List ℕ)) (faults now : ℕ) : Type 0 where
+  pub known : (status ≡ 0) ⊎ (status ≡ 3) ⊎ (status ≡ 5)
+  pub done : status ≡ 0 → Gains held after text × (now ≡ faults)
+  pub cut_short : status ≡ 5 → GainsFront held after text × Rose faults now
+
+-- a last line of a status that is decided
+pub record EndsLine (decided status : ℕ) (text : List ℕ) (held after : Option (List ℕ)) (faults now : ℕ) : Type 0 where
+  pub known : (status ≡ decided) ⊎ (status ≡ 3)
+  pub written : status ≡ decided → GainsUnless held after faults now text
+
+-- The commands of the program. Others join here.
+pub data Command : Type 0 where
+  run : Command
+
+-- what the words of the command line say
+abbrev pub command_of : List (List ℕ) → Option Command
+command_of [] = None
+command_of (word ∷ []) = if bytes_eq word (codes "run") then Some run else None
+command_of (word ∷ next ∷ words) = None

@@ -1,0 +1,15 @@
+//! All that the program does, over any source and sink.
+#![tactic(auto)]
+
+pub mod laws;
+mod line_reading;
+mod player;
+mod script;
+mod text;
+mod top;
+mod whole;
+
+pub use top::{Ended, plain_top};
+
+#[cfg(test)]
+mod tests;

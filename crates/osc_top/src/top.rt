@@ -1,0 +1,153 @@
+// The top call.
+ghost use Rattle.std.specs.Prelude.{◌≡◌, ◌≢◌, ◌⊎◌, ◌≤◌, ℕ, IsSome, IsOk, IfSome, Some, [], None, is_some, map, string_bytes};
+ghost use Rattle.osc_edge.specs.Faults.{Rose};
+ghost use Rattle.osc_top.specs.Printing.{usage_text, fault_text};
+ghost use Rattle.osc_top.specs.Scripts.{script_of};
+ghost use Rattle.osc_top.specs.Ends.{GainsUnless, EndsRun, EndsHistory, EndsLine, command_of, left_behind};
+
+use crate::line_reading::read_script;
+use crate::player::play;
+use crate::script::{MOST_BYTES, ScriptFault, ScriptRefusal, TOO_LONG};
+use crate::text::Text;
+use crate::whole::{Input, Written, read_whole, write_whole};
+use osc_edge::{Sink, Source};
+use std::alloc::Global;
+
+/// How a program ends.
+#[derive(Clone, Copy, Debug, PartialEq, Eq)]
+pub struct Ended {
+    /// The exit status: 0 done, 1 script refused, 2 words refused, 3 want of memory, 4 the source failed, 5 the
+    /// sink failed (docs/FORMATS.md, "Programs").
+    pub status: u8,
+}
+
+const DONE: u8 = 0;
+
+const REFUSED: u8 = 1;
+
+const USAGE: u8 = 2;
+
+const NO_MEMORY: u8 = 3;
+
+const SOURCE_FAILED: u8 = 4;
+
+const SINK_FAILED: u8 = 5;
+
+/// Does all that the program does: reads a script from `input` to its end, plays it on a new server, and writes the
+/// printed history to `out`.
+///
+/// `words` are those of the command line, without the program's name. Scripts, printed lines and statuses are those
+/// of docs/FORMATS.md. What stands in `out` at want of memory isn't said.
+pub fn plain_top<S: Source, O: Sink>(
+    alloc: Global,
+    words: &[String],
+    input: &mut S,
+    out: &mut O,
+) -> Ended
+    ensures known { result.status ≤ 5 }
+
+    // Words that are no command are answered first, by a line on usage, and nothing is read then.
+    ensures usage { result.status ≡ 2 → command_of (map string_bytes words.now) ≡ None }
+    ensures no_command { command_of (map string_bytes words.now) ≡ None → (result.status ≡ 2) ⊎ (result.status ≡ 3) }
+    ensures unread { command_of (map string_bytes words.now) ≡ None → input.new ≡ input.old }
+    ensures usage_text { result.status ≡ 2 →
+        GainsUnless (O.held out.old) (O.held out.new) (O.faults out.old) (O.faults out.new) usage_text }
+
+    // Then a source that failed, of which nothing is written. Any other answer but want of memory means that the
+    // source didn't fail, and that it was read to its end, or to the first byte that is too many.
+    ensures source { result.status ≡ 4 → Rose (S.faults input.old) (S.faults input.new) }
+    ensures unwritten { result.status ≡ 4 → O.held out.new ≡ O.held out.old }
+    ensures sound { result.status ≢ 3 → result.status ≢ 4 → S.faults input.new ≡ S.faults input.old }
+    ensures read { IfSome (S.left input.old) (λ script. result.status ≢ 2 → result.status ≢ 3 → result.status ≢ 4 →
+        S.left input.new ≡ Some (left_behind script)) }
+
+    // Then a script that is refused, or its history, with a sink that took all of it or failed.
+    ensures script { IfSome (S.left input.old) (λ script. result.status ≢ 2 → result.status ≢ 4 →
+        EndsRun result.status script (O.held out.old) (O.held out.new) (O.faults out.old) (O.faults out.new)) }
+    ensures sink { result.status ≡ 5 → Rose (O.faults out.old) (O.faults out.new) }
+
+    // Done means that nothing failed and that the input was read to its end.
+    ensures steady { result.status ≡ 0 → O.faults out.new ≡ O.faults out.old }
+    ensures ended { result.status ≡ 0 → IfSome (S.left input.old) (λ script. S.left input.new ≡ Some []) }
+
+    // Lawful words, a lawful script and edges that don't fail are played, unless memory runs out.
+    ensures complete { IfSome (S.left input.old) (λ script.
+        IsSome (command_of (map string_bytes words.now)) → IsOk (script_of script) →
+        ¬ Rose (S.faults input.old) (S.faults input.new) → ¬ Rose (O.faults out.old) (O.faults out.new) →
+        (result.status ≡ 0) ⊎ (result.status ≡ 3)) }
+{
+    if !is_run(words) {
+        return last_line(USAGE, b"usage\n", out);
+    }
+    match read_whole(alloc, input) {
+        Input::Whole(bytes) => run(alloc, &bytes, out),
+        Input::TooLong => refuse(
+            alloc,
+            ScriptFault {
+                line: 0,
+                kind: TOO_LONG,
+            },
+            out,
+        ),
+        Input::Failed => Ended {
+            status: SOURCE_FAILED,
+        },
+        Input::NoMemory => Ended { status: NO_MEMORY },
+    }
+}
+
+/// The words are exactly `run`.
+fn is_run(words: &[String]) -> bool
+    ensures { result ≡ is_some (command_of (map string_bytes words.now)) }
+{
+    match words {
+        [word] => word.as_str() == "run",
+        _ => false,
+    }
+}
+
+fn run<O: Sink>(alloc: Global, bytes: &[u8], out: &mut O) -> Ended
+    ensures { EndsRun result.status bytes.now (O.held out.old) (O.held out.new) (O.faults out.old) (O.faults out.new) }
+{
+    match read_script(alloc, bytes) {
+        Ok(acts) => match play(alloc, &acts) {
+            Ok(text) => write_history(text.bytes(), out),
+            Err(_) => Ended { status: NO_MEMORY },
+        },
+        Err(ScriptRefusal::Fault(fault)) => refuse(alloc, fault, out),
+        Err(ScriptRefusal::NoMemory) => Ended { status: NO_MEMORY },
+    }
+}
+
+fn write_history<O: Sink>(text: &[u8], out: &mut O) -> Ended
+    ensures { EndsHistory result.status text.now (O.held out.old) (O.held out.new) (O.faults out.old) (O.faults out.new) }
+{
+    match write_whole(out, text) {
+        Written::Wrote => Ended { status: DONE },
+        Written::Refused => Ended {
+            status: SINK_FAILED,
+        },
+        Written::Short => Ended { status: NO_MEMORY },
+    }
+}
+
+fn refuse<O: Sink>(alloc: Global, fault: ScriptFault, out: &mut O) -> Ended
+    ensures { EndsLine 1 result.status (fault_text fault) (O.held out.old) (O.held out.new) (O.faults out.old) (O.faults out.new) }
+{
+    let mut text = Text::open(alloc);
+    match text.fault_line(fault) {
+        Ok(()) => last_line(REFUSED, text.bytes(), out),
+        Err(_) => Ended { status: NO_MEMORY },
+    }
+}
+
+/// A last line that can't be written changes no status, but for want of memory.
+fn last_line<O: Sink>(status: u8, line: &[u8], out: &mut O) -> Ended
+    requires { status ≢ 3 }
+    ensures { EndsLine status result.status line.now (O.held out.old) (O.held out.new) (O.faults out.old) (O.faults out.new) }
+{
+    match write_whole(out, line) {
+        Written::Short => Ended { status: NO_MEMORY },
+        _ => Ended { status },
+    }
+}
