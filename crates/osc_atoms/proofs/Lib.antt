@@ -1,0 +1,7 @@
+pub mod Positions
+pub mod Outcomes
+pub mod Numbers
+pub mod Paddings
+pub mod Strings
+pub mod Blobs
+pub mod Writings

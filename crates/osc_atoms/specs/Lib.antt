@@ -1,0 +1,4 @@
+pub mod Atoms
+pub mod Faults
+pub mod Standing
+pub mod Reading

@@ -1,0 +1,82 @@
+//! How a turn is closed.
+ghost use Rattle.std.specs.Prelude.{◌≡◌, ◌≢◌, ℕ, ◌<◌, ◌≤◌, List, [], ◌∷◌, false, length, map, All, IfOk, OnOk, IfErr};
+ghost use Rattle.osc_turn.specs.History.{texts};
+ghost use Rattle.osc_turn.specs.Numbers.{times};
+ghost use Rattle.osc_turn.specs.Rule.{number_of, Rests};
+ghost use Rattle.osc_turn.specs.Passes.{view, IsPassOf};
+ghost use Rattle.osc_turn.specs.Closing.{Gathers, Closes, first_view};
+
+use crate::job::Kept;
+use crate::pass::Pass;
+use crate::plays::Glue;
+use crate::still_out::StillOut;
+use crate::turn::Turn;
+use crate::view::View;
+use atomic_table::Seat;
+
+impl<S: Kept> Turn<S> {
+    // Joins the passes into the seat of the first one.
+    fn gather(&self, seat: &mut Seat<Option<S>, View>, mut passes: Vec<Pass>)
+        requires ours { (seat.old.table_id ≡ self.now.table.shared.table_id) × (seat.old.me.1 ≡ [])
+            × All (IsPassOf self.now) passes.items }
+        requires first { Rests seat.old.me.0 × (number_of seat.old.me.0 ≡ 0) }
+        ensures same { (seat.new.table_id ≡ seat.old.table_id) × (seat.new.me.1 ≡ []) }
+        ensures gathers { Gathers seat.old.me.0 passes.items seat.new.me.0 }
+    {
+        while let Some(pass) = passes.pop() {
+            let other = pass.into_seat::<S>();
+            self.table.shared.join_seat::<Glue>(seat, other);
+            self.count(seat);
+        }
+        passes.destroy_empty();
+    }
+
+    // Takes the value out, where the seat has every number that was drawn.
+    fn into_value(self, seat: Seat<Option<S>, View>) -> S
+        requires ours { seat.table_id ≡ self.table.shared.table_id }
+        requires whole { (seat.me.0.holds ≡ false) × (seat.me.0.spare ≡ []) × (0 < times 0 seat.me.0.numbers)
+            × (length seat.me.0.numbers ≡ seat.me.0.made) }
+        ensures stands { S.stands result (texts seat.me.0.seen) }
+        ensures kind { S.kind result ≡ seat.me.0.kind }
+        ensures each { All (λ e. times e.number seat.me.0.numbers ≡ 1) seat.me.0.seen }
+    {
+        let Turn { table } = self;
+        let mut closed = table.close_with(seat);
+        let value = closed.take(0).unwrap();
+        closed.free();
+        value
+    }
+
+    /// Gives the value out where all passes that were made are handed in, the first pass in the first place.
+    pub fn close(self, mut passes: Vec<Pass>) -> Result<S, StillOut<S>>
+        requires ours { All (IsPassOf self) passes.items }
+        requires few { (0 < length passes.items) × (length passes.items ≤ 65536) }
+        requires first { number_of (first_view passes.items) ≡ 0 }
+        ensures all_in { OnOk result ((first_view passes.items).made ≡ length passes.items) }
+        ensures closes { IfOk result (λ value. Closes S.stands value passes.items) }
+        ensures kind { IfOk result (λ value. S.kind value ≡ (first_view passes.items).kind) }
+        ensures made { IfErr result (λ out. out.made ≡ (first_view passes.items).made) }
+        ensures handed { IfErr result (λ out. out.handed ≡ length passes.items) }
+        ensures still_out { IfErr result (λ out. out.made ≢ out.handed) }
+        ensures turn { IfErr result (λ out. out.turn ≡ self) }
+        ensures back { IfErr result (λ out. (map view out.passes.items ≡ map view passes.items)
+            × All (IsPassOf self) out.passes.items) }
+    {
+        let handed = passes.len() as u32;
+        let mut seat = passes.remove(0).into_seat::<S>();
+        let made = self.count(&mut seat) as u32;
+        if made != handed {
+            let Ok(()) = passes.insert(0, Pass::of(seat)) else {
+                unreachable!()
+            };
+            return Err(StillOut {
+                made,
+                handed,
+                turn: self,
+                passes,
+            });
+        }
+        self.gather(&mut seat, passes);
+        Ok(self.into_value(seat))
+    }
+}
