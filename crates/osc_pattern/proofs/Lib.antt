@@ -1,0 +1,10 @@
+mod Sets
+mod Cutting
+mod Readings
+mod Openings
+mod Cuts
+mod Matches
+mod PatternLaws
+mod AddressLaws
+mod Parts
+mod PlainPatterns

@@ -1,0 +1,12 @@
+-- The parts that `split` gives are those of `slice_split`, and `any` tests each.
+use Rattle.std.proofs.Common.{rules, tests, nat_lt, length}
+use Rattle.std.proofs.lemmas.Iterator.Search.{any_from_yields_List}
+use Rattle.std.proofs.lemmas.Iterator.Splits.{YieldsList-from_slice_split}
+use Rattle.osc_pattern.specs.Items.{is_slash}
+use Rattle.osc_pattern.proofs.address.has_long_name.Goals as goal
+
+pub returns : goal.returns
+returns c =
+    any_from_yields_List (λ name. nat_lt 63 (length name)) _ _ _ c.any.ensures.ran
+    (YieldsList-from_slice_split _ is_slash c.args.names.now c.split.ensures.rest c.split.ensures.done c.split.ensures.closure (λ x b q k. search (rules, tests)))
+    (λ x b q k. search (rules, tests))

@@ -1,0 +1,8 @@
+pub mod Items
+pub mod Parts
+pub mod Cuts
+pub mod Reading
+pub mod Patterns
+pub mod Addresses
+pub mod Methods
+pub mod Views

@@ -1,0 +1,11 @@
+-- How the code's items stand for items.
+use Rattle.osc_pattern.specs.declared.item.Item.{Item as Borrowed}
+use Rattle.osc_pattern.specs.declared.item.Item.TheVariants.{Any, Star, Set, Choice, Plain}
+use Rattle.osc_pattern.specs.Items.{Item, any, star, set, choice, plain}
+
+abbrev pub item_of : Borrowed → Item
+item_of Any = any
+item_of Star = star
+item_of (Set list) = set list.now
+item_of (Choice texts) = choice texts.now
+item_of (Plain byte) = plain byte

@@ -1,0 +1,19 @@
+//! Address patterns and addresses of Open Sound Control 1.0 ("OSC Message Dispatching and Pattern Matching").
+#![tactic(auto)]
+
+mod address;
+mod check;
+mod cut;
+mod faults;
+mod item;
+pub mod laws;
+mod matcher;
+mod pattern;
+mod steps;
+#[cfg(test)]
+mod tests;
+
+pub use address::Address;
+pub use faults::{AddressFault, PatternFault};
+pub use pattern::Pattern;
+pub use steps::Steps;

@@ -1,0 +1,11 @@
+//! A queue of items, each due from a moment on: the least by due moment and unit number is taken first.
+#![tactic(auto)]
+
+mod entry;
+pub mod laws;
+mod queue;
+
+pub use queue::{Queue, UnitsFull};
+
+#[cfg(test)]
+mod tests;
