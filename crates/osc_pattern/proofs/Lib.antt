@@ -1,10 +1,10 @@
 mod Sets
-mod Cutting
+pub mod Cutting
 mod Readings
 mod Openings
 mod Cuts
 mod Matches
-mod PatternLaws
+pub mod PatternLaws
 mod AddressLaws
 mod Parts
 mod PlainPatterns
