@@ -1,19 +1,22 @@
 -- What steps do to the queue, and whom they invoke.
-use Rattle.std.proofs.Common.{◌≡◌, ◌⊎◌, inl, inr, ℕ, suc, ◌+◌, ◌<◌, Bool, true, false, cond, nat_lt, nat_le, IsTrue, List, [], ◌∷◌, ◌++◌, map, fold, find, length, Option, Some, None, slice_index_or, refl, sym, ap, subst, arith, leb-true, leb-false, zero-add, add-zero}
+use Rattle.std.proofs.Common.{◌≡◌, ◌⊎◌, inl, inr, ℕ, suc, ◌+◌, ◌<◌, Bool, true, false, cond, nat_lt, nat_le, IsTrue, List, [], ◌∷◌, ◌++◌, map, fold, find, length, Option, Some, None, is_some, slice_index_or, refl, sym, ap, subst, arith, leb-true, leb-false, zero-add, add-zero}
 use Rattle.std.specs.List.{AllByRecursion, Contains}
 use Rattle.std.specs.Str.{bytes_eq}
 use Rattle.std.proofs.lemmas.Bool.Decides.{nat_tests}
 use Rattle.std.proofs.lemmas.List.Sorted.{IsPermutation-refl}
 use Rattle.osc_message.specs.Reading.{pattern_of}
-use Rattle.osc_core.specs.State.{Method, Queued, State}
+use Rattle.osc_message.specs.Arguments.{unknown_of}
+use Rattle.osc_pattern.specs.Methods.{Method}
+use Rattle.osc_core.specs.State.{Queued, State}
 use Rattle.osc_core.specs.Queue.{is_before, IsLeast, IsInOrder}
-use Rattle.osc_core.specs.Matching.{is_below, matches, matched, matching, in_place}
+use Rattle.osc_pattern.specs.Patterns.{matches}
+use Rattle.osc_core.specs.Matching.{is_below, matched, matching, in_place}
 use Rattle.osc_core.specs.Events.{Event, enrol, submit, add, remove, tick, release, Answer, added, clock_back, ticked, released, nothing_due, Call, Invocation}
-use Rattle.osc_core.specs.Step.{Stepped, step, after_add, remove_at, release_first, unit_of, calls_of, calls_from, hits_of, invocations_of}
+use Rattle.osc_core.specs.Step.{Stepped, step, after_add, remove_at, release_first, units_in, matching_calls, calls_of, calls_from, hits_of, invocations_of}
 use Rattle.osc_core.specs.Releases.{ReleasesLeast, IsCallIn, InvokesRegistered}
 use Rattle.osc_core.specs.History.{Entry, after, invocations, IsInvokedIn}
 use Rattle.osc_core.proofs.Orders.{all_entered}
-use Rattle.osc_core.proofs.Rules.{stays_ordered}
+use Rattle.osc_core.proofs.Rules.{all_stay_ordered}
 
 -- a state with another queue, and the two ends of a release from it
 abbrev pub with_queue : State → List Queued → State
@@ -39,7 +42,7 @@ remove_at-queue state address (Some method) = refl
 
 pub step_ordered : (state : State) (event : Event) → IsInOrder state.queue → IsInOrder (step state event).state.queue
 step_ordered state enrol ordered = ordered
-step_ordered state (submit message) ordered = stays_ordered (unit_of state message) state.queue ordered
+step_ordered state (submit packet) ordered = all_stay_ordered (units_in state packet) state.queue ordered
 step_ordered state (add address) ordered = subst IsInOrder (sym (after_add-queue state address (step state (add address)).answer)) ordered
 step_ordered state (remove address) ordered = subst IsInOrder (sym (remove_at-queue state address (find (λ method. bytes_eq method.address address) state.methods))) ordered
 step_ordered state (tick now) ordered = go (nat_lt now state.clock) where
@@ -152,12 +155,15 @@ abbrev invocation : ℕ → Call → Invocation
 invocation number call = record { unit = number; call = call }
 
 message_calls : (state : State) (unit : Queued) (index : ℕ) (message : List ℕ) → StandsAt unit.messages index message → AllByRecursion (λ call. IsCallIn state unit (invocation unit.number call)) (calls_of state.methods index message)
-message_calls state unit index message stands =
-    all_map (λ call. IsCallIn state unit (invocation unit.number call)) (λ method. record { index = index; id = method.id; address = method.address; message = message }) (matching (pattern_of message) state.methods)
-    (all_more _ _ one (matching (pattern_of message) state.methods) (all_matching (pattern_of message) state.methods))
-  where
-    one : (method : Method) → IsMatchOf (pattern_of message) state.methods method → IsCallIn state unit (invocation unit.number (record { index = index; id = method.id; address = method.address; message = message }))
-    one method is = record { of_unit = refl; within = stands.0; message = stands.1; registered = is.0; matched = is.1 }
+message_calls state unit index message stands = go (unknown_of message) refl where
+  one : unknown_of message ≡ None → (method : Method) → IsMatchOf (pattern_of message) state.methods method → IsCallIn state unit (invocation unit.number (record { index = index; id = method.id; address = method.address; message = message }))
+  one known method is = record { of_unit = refl; within = stands.0; message = stands.1; known = known; registered = is.0; matched = is.1 }
+
+  go : (tag : Option ℕ) → unknown_of message ≡ tag → AllByRecursion (λ call. IsCallIn state unit (invocation unit.number call)) (cond (is_some tag) [] (matching_calls state.methods index message))
+  go (Some tag) is = tt
+  go None is =
+      all_map (λ call. IsCallIn state unit (invocation unit.number call)) (λ method. record { index = index; id = method.id; address = method.address; message = message }) (matching (pattern_of message) state.methods)
+      (all_more _ _ (one is) (matching (pattern_of message) state.methods) (all_matching (pattern_of message) state.methods))
 
 unit_calls : (state : State) (unit : Queued) (index : ℕ) (messages : List (List ℕ)) → StandFrom unit.messages index messages → AllByRecursion (λ call. IsCallIn state unit (invocation unit.number call)) (calls_from state.methods index messages)
 unit_calls state unit index [] stand = tt

@@ -7,8 +7,9 @@ use Rattle.std.proofs.lemmas.Cmp.{nat_list_cmp_total}
 use Rattle.std.proofs.lemmas.List.{append-nil}
 use Rattle.std.proofs.lemmas.List.MinMax.{ranks_by}
 use Rattle.std.proofs.lemmas.List.Sorted.{IsPermutation-refl, IsPermutation-sym, IsPermutation-trans, IsPermutation-insert, IsPermutation-middle, IsPermutation-append_right}
-use Rattle.osc_core.specs.State.{Method, Queued}
-use Rattle.osc_core.specs.Queue.{is_before, enqueue, IsInOrder}
+use Rattle.osc_pattern.specs.Methods.{Method}
+use Rattle.osc_core.specs.State.{Queued}
+use Rattle.osc_core.specs.Queue.{is_before, enqueue, enqueue_all, IsInOrder}
 use Rattle.osc_core.specs.Matching.{is_below, matched, matching, in_place, IsAscending}
 use Rattle.osc_core.proofs.Orders.{ordered_entered}
 
@@ -28,6 +29,17 @@ joined unit queue = IsPermutation-insert queue _ unit
 
 pub stays_ordered : (unit : Queued) (queue : List Queued) → IsInOrder queue → IsInOrder (enqueue unit queue)
 stays_ordered unit queue ordered = ordered_entered is_before before_order unit queue ordered
+
+pub all_stay_ordered : (units queue : List Queued) → IsInOrder queue → IsInOrder (enqueue_all units queue)
+all_stay_ordered [] queue ordered = ordered
+all_stay_ordered (unit ∷ units) queue ordered = all_stay_ordered units (enqueue unit queue) (stays_ordered unit queue ordered)
+
+pub all_joined : (units queue : List Queued) → IsPermutation (units ++ queue) (enqueue_all units queue)
+all_joined [] queue = IsPermutation-refl queue
+all_joined (unit ∷ units) queue =
+    let front = IsPermutation-sym _ _ (IsPermutation-middle units unit queue) in
+    let one = IsPermutation-append_right units (unit ∷ queue) (enqueue unit queue) (joined unit queue) in
+    IsPermutation-trans _ _ _ front (IsPermutation-trans _ _ _ one (all_joined units (enqueue unit queue)))
 
 all_placed : (methods more : List Method) → IsPermutation (more ++ methods) (fold in_place methods more)
 all_placed methods [] = IsPermutation-refl methods

@@ -3,8 +3,9 @@ use Rattle.std.proofs.Common.{◌≡◌, ℕ, Bool, true, false, cond, List, [],
 use Rattle.std.specs.List.{position_or_len}
 use Rattle.std.specs.Borrow.{Bor}
 use Rattle.osc_core.specs.declared.methods.Registered.{Registered}
-use Rattle.osc_core.specs.State.{Method}
-use Rattle.osc_core.specs.Matching.{matches, is_below, in_place, matching}
+use Rattle.osc_pattern.specs.Methods.{Method}
+use Rattle.osc_pattern.specs.Patterns.{matches}
+use Rattle.osc_core.specs.Matching.{is_below, in_place, matching}
 use Rattle.osc_core.specs.Views.{method_of, lent_of}
 use Rattle.std.proofs.lemmas.List.{append-nil}
 use Rattle.osc_core.proofs.Lists.{position-map, insert-map}

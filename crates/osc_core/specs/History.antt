@@ -1,8 +1,8 @@
 -- Histories: the entries of a server, in order.
 use Rattle.std.specs.Prelude.{◌≡◌, ℕ, ◌<◌, ◌^◌, IsTrue, List, [], ◌∷◌, ◌++◌}
 use Rattle.std.specs.List.{Contains}
-use Rattle.osc_message.specs.Addresses.{is_plain_address}
-use Rattle.osc_message.specs.Reading.{is_message}
+use Rattle.osc_pattern.specs.Addresses.{is_address}
+use Rattle.osc_packet.specs.Reading.{is_packet}
 use Rattle.osc_core.specs.State.{State, Queued, opening}
 use Rattle.osc_core.specs.Events.{Event, enrol, submit, add, remove, tick, release, Answer, nothing_due, record_full, Invocation}
 use Rattle.osc_core.specs.Step.{step}
@@ -17,9 +17,9 @@ pub record Entry : Type 0 where
 -- what a caller can hand in: a valid message of at most 65,504 bytes, a lawful address, or a moment below 2^64
 abbrev pub IsLawful : Event → Type 0
 IsLawful enrol = Unit {0}
-IsLawful (submit packet) = IsTrue (is_message 65504 packet)
-IsLawful (add address) = IsTrue (is_plain_address address)
-IsLawful (remove address) = IsTrue (is_plain_address address)
+IsLawful (submit packet) = IsTrue (is_packet 65504 packet)
+IsLawful (add address) = IsTrue (is_address address)
+IsLawful (remove address) = IsTrue (is_address address)
 IsLawful (tick now) = now < 2 ^ 64
 IsLawful release = Unit {0}
 

@@ -1,15 +1,11 @@
 -- Which methods a message invokes.
 use Rattle.std.specs.Prelude.{ℕ, Bool, List, [], filter, fold, insert}
 use Rattle.std.specs.List.{position_or_len}
-use Rattle.std.specs.Str.{bytes_eq}
 use Rattle.std.specs.Ordering.{is_lt, nat_cmp}
 use Rattle.std.specs.Cmp.Lexicographic.{slice_cmp}
-use Rattle.osc_core.specs.State.{Method}
+use Rattle.osc_pattern.specs.Patterns.{matches}
+use Rattle.osc_pattern.specs.Methods.{Method}
 use Rattle.osc_core.specs.Order.{IsOrdered}
-
--- A plain pattern matches its own address alone.
-abbrev pub matches : List ℕ → List ℕ → Bool
-matches pattern address = bytes_eq address pattern
 
 -- the first address is before the second, in the order of their bytes
 abbrev pub is_below : Method → Method → Bool

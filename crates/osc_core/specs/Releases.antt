@@ -3,9 +3,10 @@ use Rattle.std.specs.Prelude.{◌≡◌, ◌⊎◌, ℕ, ◌<◌, ◌≤◌, IsT
 use Rattle.std.specs.List.{AllByRecursion, Contains}
 use Rattle.std.specs.List.Sorted.{IsPermutation}
 use Rattle.osc_message.specs.Reading.{pattern_of}
+use Rattle.osc_message.specs.Arguments.{unknown_of}
 use Rattle.osc_core.specs.State.{Queued, State}
 use Rattle.osc_core.specs.Queue.{IsLeast}
-use Rattle.osc_core.specs.Matching.{matches}
+use Rattle.osc_pattern.specs.Patterns.{matches}
 use Rattle.osc_core.specs.Events.{released, nothing_due, Invocation}
 use Rattle.osc_core.specs.Step.{Stepped, calls_from, hits_of, invocations_of}
 
@@ -38,12 +39,13 @@ pub record FindsNothingDue (state : State) (stepped : Stepped) : Type 0 where
 abbrev pub ReleasesLeast : State → Stepped → Type 0
 ReleasesLeast state stepped = TakesLeast state stepped ⊎ FindsNothingDue state stepped
 
--- An invocation of a unit in a state: the message is one of the unit's, the method is registered in the state, and
--- the message's pattern matches its address.
+-- An invocation of a unit in a state: the message is one of the unit's and has no unknown tag, the method is registered
+-- in the state, and the message's pattern matches its address.
 pub record IsCallIn (state : State) (unit : Queued) (invocation : Invocation) : Type 0 where
   pub of_unit : invocation.unit ≡ unit.number
   pub within : invocation.call.index < length unit.messages
   pub message : slice_index_or unit.messages invocation.call.index [] ≡ invocation.call.message
+  pub known : unknown_of invocation.call.message ≡ None
   pub registered : Contains state.methods (record { id = invocation.call.id; address = invocation.call.address })
   pub matched : IsTrue (matches (pattern_of invocation.call.message) invocation.call.address)
 

@@ -1,10 +1,6 @@
 -- What a server is between two events.
 use Rattle.std.specs.Prelude.{ℕ, List, []}
-
--- a method, by its number and its address
-pub record Method : Type 0 where
-  pub id : ℕ
-  pub address : List ℕ
+use Rattle.osc_pattern.specs.Methods.{Method}
 
 -- a bundle's own messages, or a lone message, queued until a moment
 pub record Queued : Type 0 where

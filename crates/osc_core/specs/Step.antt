@@ -1,12 +1,16 @@
 -- The rules of the server: what an event is answered, and what it leaves.
-use Rattle.std.specs.Prelude.{ℕ, ◌+◌, max, not, nat_le, nat_lt, if◌then◌else◌, List, [], ◌∷◌, ◌++◌, map, find, filter, Option, Some, None, unwrap_or}
+use Rattle.std.specs.Prelude.{ℕ, ◌+◌, max, not, nat_le, nat_lt, if◌then◌else◌, List, [], ◌∷◌, ◌++◌, length, map, find, filter, Option, Some, None, is_some, unwrap_or}
 use Rattle.std.specs.Option.{option_map}
 use Rattle.std.specs.List.{list_any}
 use Rattle.std.specs.Str.{bytes_eq}
-use Rattle.osc_message.specs.Addresses.{is_proper_prefix}
+use Rattle.osc_pattern.specs.Addresses.{is_proper_prefix}
 use Rattle.osc_message.specs.Reading.{pattern_of}
-use Rattle.osc_core.specs.State.{Method, Queued, State}
-use Rattle.osc_core.specs.Queue.{enqueue}
+use Rattle.osc_message.specs.Arguments.{unknown_of}
+use Rattle.osc_pattern.specs.Methods.{Method}
+use Rattle.osc_core.specs.State.{Queued, State}
+use Rattle.osc_packet.specs.Units.{Timed}
+use Rattle.osc_packet.specs.Reading.{units_read}
+use Rattle.osc_core.specs.Queue.{enqueue_all}
 use Rattle.osc_core.specs.Matching.{matching}
 use Rattle.osc_core.specs.Events.{Event, enrol, submit, add, remove, tick, release, Answer, number, queued, added, taken, under_method, is_container, removed, not_there, ticked, clock_back, released, nothing_due, Hit, Call, Invocation}
 
@@ -28,14 +32,27 @@ abbrev pub after_add : State → List ℕ → Answer → State
 after_add state address (added id) = record state { methods = state.methods ++ record { id = id; address = address } ∷ []; next_id = state.next_id + 1 }
 after_add state address _ = state
 
--- A lone message is one unit, with the tag for "immediately".
-abbrev pub unit_of : State → List ℕ → Queued
-unit_of state message = record { number = state.next_unit; due = max 1 state.clock; tag = 1; messages = message ∷ [] }
+-- a unit that waits under its number, and is due at its effective tag or at the clock, whichever is greater
+abbrev pub waiting : ℕ → ℕ → Timed → Queued
+waiting clock next unit = record { number = next; due = max unit.tag clock; tag = unit.tag; messages = unit.messages }
 
--- the calls of a message, which is the unit's message at an index
-abbrev pub calls_of : List Method → ℕ → List ℕ → List Call
-calls_of methods index message =
+-- units take the next numbers in their order
+abbrev pub numbered : ℕ → ℕ → List Timed → List Queued
+numbered clock next [] = []
+numbered clock next (unit ∷ units) = waiting clock next unit ∷ numbered clock (next + 1) units
+
+-- the units of a packet that is handed in
+abbrev pub units_in : State → List ℕ → List Queued
+units_in state packet = numbered state.clock state.next_unit (units_read packet)
+
+-- the calls of the methods that a message matches, which is the unit's message at an index
+abbrev pub matching_calls : List Method → ℕ → List ℕ → List Call
+matching_calls methods index message =
     map (λ method. record { index = index; id = method.id; address = method.address; message = message }) (matching (pattern_of message) methods)
+
+-- a message with an unknown tag invokes nothing
+abbrev pub calls_of : List Method → ℕ → List ℕ → List Call
+calls_of methods index message = if is_some (unknown_of message) then [] else matching_calls methods index message
 
 -- those of messages that stand from an index on
 abbrev pub calls_from : List Method → ℕ → List (List ℕ) → List Call
@@ -70,7 +87,7 @@ remove_at state address (Some method) = record { answer = removed method.id; sta
 -- one event, on a state
 abbrev pub step : State → Event → Stepped
 step state enrol = record { answer = number state.callers; state = record state { callers = state.callers + 1 }; invocations = [] }
-step state (submit message) = record { answer = queued state.next_unit 1; state = record state { queue = enqueue (unit_of state message) state.queue; next_unit = state.next_unit + 1 }; invocations = [] }
+step state (submit packet) = record { answer = queued state.next_unit (length (units_read packet)); state = record state { queue = enqueue_all (units_in state packet) state.queue; next_unit = state.next_unit + length (units_read packet) }; invocations = [] }
 step state (add address) = let answer = add_answer state.methods state.next_id address in record { answer = answer; state = after_add state address answer; invocations = [] }
 step state (remove address) = remove_at state address (find (λ method. bytes_eq method.address address) state.methods)
 step state (tick now) = tick_to state now

@@ -1,11 +1,12 @@
 -- What the parts of a server stand for.
-use Rattle.std.specs.Prelude.{Bool, ◌&&◌, nat_le, List, map, length}
+use Rattle.std.specs.Prelude.{Bool, ◌&&◌, nat_lt, ◌^◌, List, map, length}
 use Rattle.std.specs.List.{list_all}
 use Rattle.std.specs.Borrow.{Bor}
 use Rattle.osc_message.specs.Reading.{is_message}
 use Rattle.osc_core.specs.declared.methods.Registered.{Registered}
 use Rattle.osc_core.specs.declared.queue.Stored.{Stored}
-use Rattle.osc_core.specs.State.{Method, Queued}
+use Rattle.osc_pattern.specs.Methods.{Method}
+use Rattle.osc_core.specs.State.{Queued}
 
 -- a registered method
 abbrev pub method_of : Registered → Method
@@ -29,4 +30,4 @@ queue_of = map queued_of
 
 -- each message that is kept can be read
 abbrev pub is_readable : Stored → Bool
-is_readable unit = nat_le (length unit.messages.items) 65504 && list_all (is_message 1073741824) unit.messages.items
+is_readable unit = nat_lt (length unit.messages.items) (2 ^ 32) && list_all (is_message 1073741824) unit.messages.items

@@ -1,7 +1,8 @@
 // The calls that a release makes.
-ghost use Rattle.std.specs.Prelude.{◌≡◌, ◌≤◌, ◌++◌, length, map, IsTrue, IfOk, OnOk};
+ghost use Rattle.std.specs.Prelude.{◌≡◌, ◌<◌, ◌^◌, ◌++◌, length, map, IsTrue, IfOk, OnOk, is_some, if◌then◌else◌, Some, None};
 ghost use Rattle.std.specs.List.{list_all};
 ghost use Rattle.osc_message.specs.Reading.{is_message, pattern_of};
+ghost use Rattle.osc_message.specs.Arguments.{unknown_of};
 ghost use Rattle.osc_core.specs.Step.{calls_of, calls_from};
 ghost use Rattle.osc_core.specs.Views.{methods_of};
 ghost use Rattle.osc_core.specs.Answers.{call_of};
@@ -10,6 +11,7 @@ use crate::Invocation;
 use crate::matching::matching_methods;
 use crate::methods::Registered;
 use osc_message::{Bytes, Message};
+use osc_pattern::Pattern;
 use std::alloc::{AllocError, Global};
 
 /// The calls of a unit's messages, in order.
@@ -18,7 +20,7 @@ pub(crate) fn calls_of_unit(
     methods: &[Registered],
     messages: &[Bytes],
 ) -> Result<Vec<Invocation>, AllocError>
-    requires few { length messages.now ≤ 65504 }
+    requires few { length messages.now < 2 ^ 32 }
     requires read { IsTrue (list_all (is_message 1073741824) messages.now) }
     ensures { IfOk result (λ calls. map call_of calls.items ≡ calls_from (methods_of methods.now) 0 messages.now) }
 {
@@ -29,7 +31,7 @@ pub(crate) fn calls_of_unit(
     Ok(calls)
 }
 
-/// Adds the calls of the message at an index.
+/// Adds the calls of the message at an index. One with an unknown tag has none.
 fn push_calls(
     alloc: Global,
     methods: &[Registered],
@@ -40,20 +42,24 @@ fn push_calls(
     requires { IsTrue (is_message 1073741824 message.now) }
     ensures { OnOk result (map call_of calls.new.items ≡ map call_of calls.old.items ++ calls_of (methods_of methods.now) index message.now) }
 {
-    let found = matching_methods(alloc, methods, pattern_in(message))?;
+    let Some(pattern) = invoking_pattern(message) else {
+        return Ok(());
+    };
+    let found = matching_methods(alloc, methods, &pattern)?;
     for method in &found {
         calls.push(call(alloc, index, method, message)?)?;
     }
     Ok(())
 }
 
-/// The pattern of a message that is kept.
-fn pattern_in(message: &Bytes) -> &[u8]
+/// The pattern of a message that is kept; none where it has an unknown tag.
+fn invoking_pattern(message: &Bytes) -> Option<Pattern<'_>>
     requires { IsTrue (is_message 1073741824 message.now) }
-    ensures { result.now ≡ pattern_of message.now }
+    ensures { result ≡ (if is_some (unknown_of message.now) then None else Some (pattern_of message.now)) }
 {
     match Message::check(message.as_slice(), 1_073_741_824) {
-        Ok(message) => message.pattern(),
+        Ok(message) if message.unknown().is_none() => Some(message.pattern()),
+        Ok(_) => None,
         Err(_) => unreachable!(),
     }
 }

@@ -1,12 +1,13 @@
 //! What the rules of the server say of every queue, every list of methods and every history.
-ghost use Rattle.std.specs.Prelude.{ℕ, List, ◌∷◌};
+ghost use Rattle.std.specs.Prelude.{ℕ, List, ◌∷◌, ◌++◌};
 ghost use Rattle.std.specs.List.{AllByRecursion};
 ghost use Rattle.std.specs.List.Sorted.{IsPermutation};
-ghost use Rattle.osc_core.specs.State.{Method, Queued, State, opening};
+ghost use Rattle.osc_pattern.specs.Methods.{Method};
+ghost use Rattle.osc_core.specs.State.{Queued, State, opening};
 ghost use Rattle.osc_core.specs.Queue.{enqueue, IsInOrder};
 ghost use Rattle.osc_core.specs.Matching.{matched, matching, IsAscending};
-ghost use Rattle.osc_core.specs.Events.{Event, release};
-ghost use Rattle.osc_core.specs.Step.{step};
+ghost use Rattle.osc_core.specs.Events.{Event, submit, release};
+ghost use Rattle.osc_core.specs.Step.{step, units_in};
 ghost use Rattle.osc_core.specs.Releases.{ReleasesLeast, InvokesRegistered};
 ghost use Rattle.osc_core.specs.History.{Entry, IsInvokedIn, after, invocations};
 
@@ -14,6 +15,11 @@ ghost use Rattle.osc_core.specs.History.{Entry, IsInvokedIn, after, invocations}
 pub fn a_unit_enters_the_queue()
     ensures joined { (unit : Queued) (queue : List Queued) → IsPermutation (unit ∷ queue) (enqueue unit queue) }
     ensures ordered { (unit : Queued) (queue : List Queued) → IsInOrder queue → IsInOrder (enqueue unit queue) }
+{}
+
+/// The units of a packet enter the queue, each once, and none of those that waited is lost.
+pub fn units_enter_the_queue()
+    ensures { (state : State) (packet : List ℕ) → IsPermutation (units_in state packet ++ state.queue) (step state (submit packet)).state.queue }
 {}
 
 /// The queue stands in order after every history.

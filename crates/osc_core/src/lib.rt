@@ -11,6 +11,7 @@ mod matching;
 mod methods;
 mod queue;
 mod server;
+mod units;
 
 pub use invocation::{Invocation, Invocations};
 pub use server::{Adding, Core, Releasing, Submitted};

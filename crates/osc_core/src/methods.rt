@@ -3,9 +3,9 @@ ghost use Rattle.std.specs.Prelude.{◌≡◌, ◌++◌, ◌∷◌, [], IfOk, fi
 ghost use Rattle.std.specs.Option.{option_map};
 ghost use Rattle.std.specs.Str.{bytes_eq};
 ghost use Rattle.std.specs.List.{list_any, position_or_len};
-ghost use Rattle.osc_message.specs.Addresses.{is_proper_prefix};
+ghost use Rattle.osc_pattern.specs.Addresses.{is_proper_prefix};
 
-use osc_message::Address;
+use osc_pattern::Address;
 use std::alloc::{AllocError, Global};
 
 /// A method, by its number and its address.

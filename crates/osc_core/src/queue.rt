@@ -1,11 +1,11 @@
 // The queued units, as a list in the order of their release.
-ghost use Rattle.std.specs.Prelude.{◌≡◌, ◌≤◌, length, [], position, IsTrue, OnOk, OnErr};
+ghost use Rattle.std.specs.Prelude.{◌≡◌, ◌+◌, ◌<◌, ◌≤◌, length, [], position, IsTrue};
+ghost use Rattle.std.specs.Vec.{vec_len, vec_capacity};
 ghost use Rattle.std.specs.List.{position_or_len, list_all};
-ghost use Rattle.osc_core.specs.Queue.{is_before, enqueue};
+ghost use Rattle.osc_core.specs.Queue.{is_before, enqueue, enqueue_all};
 ghost use Rattle.osc_core.specs.Views.{queued_of, queue_of, is_readable};
 
 use osc_message::Bytes;
-use std::alloc::AllocError;
 
 /// A unit that waits.
 #[derive(Drop)]
@@ -41,13 +41,32 @@ fn is_released_after(other: &Stored, due: u64, number: u64) -> bool
     due < other.due || (due == other.due && number < other.number)
 }
 
-/// A unit enters before the first that is released after it. An `Err` changes nothing.
-pub(crate) fn enter(queue: &mut Vec<Stored>, unit: Stored) -> Result<(), AllocError>
-    ensures ok { OnOk result (queue_of queue.new.items ≡ enqueue (queued_of unit) (queue_of queue.old.items)) }
-    ensures err { OnErr result (queue.new.items ≡ queue.old.items) }
-    ensures readable { OnOk result (IsTrue (list_all is_readable queue.old.items) → IsTrue (is_readable unit) → IsTrue (list_all is_readable queue.new.items)) }
+/// A unit enters before the first that is released after it.
+pub(crate) fn enter(queue: &mut Vec<Stored>, unit: Stored)
+    requires room { vec_len queue.old < vec_capacity queue.old }
+    requires queue { IsTrue (list_all is_readable queue.old.items) }
+    requires unit { IsTrue (is_readable unit) }
+    ensures queue { queue_of queue.new.items ≡ enqueue (queued_of unit) (queue_of queue.old.items) }
+    ensures readable { IsTrue (list_all is_readable queue.new.items) }
+    ensures len { vec_len queue.new ≡ vec_len queue.old + 1 }
+    ensures capacity { vec_capacity queue.old ≤ vec_capacity queue.new }
 {
     let place = place_in(queue, unit.due, unit.number);
-    queue.insert(place, unit)?;
-    Ok(())
+    match queue.insert(place, unit) {
+        Ok(()) => {}
+        Err(_) => unreachable!(),
+    }
+}
+
+/// Units enter one after another, for which there is room.
+pub(crate) fn enter_all(queue: &mut Vec<Stored>, units: Vec<Stored>)
+    requires room { vec_len queue.old + vec_len units ≤ vec_capacity queue.old }
+    requires queue { IsTrue (list_all is_readable queue.old.items) }
+    requires units { IsTrue (list_all is_readable units.items) }
+    ensures queue { queue_of queue.new.items ≡ enqueue_all (queue_of units.items) (queue_of queue.old.items) }
+    ensures readable { IsTrue (list_all is_readable queue.new.items) }
+{
+    for unit in units {
+        enter(queue, unit);
+    }
 }

@@ -1,7 +1,7 @@
 // The server, one event after another.
 ghost use Rattle.std.specs.Prelude.{◌≡◌, ◌+◌, ◌<◌, ◌≤◌, ◌^◌, length, IfOk, OnErr, IsTrue, ◌∷◌, []};
 ghost use Rattle.std.specs.List.{list_all};
-ghost use Rattle.osc_message.specs.Reading.{is_message};
+ghost use Rattle.osc_packet.specs.Reading.{units_read};
 ghost use Rattle.osc_core.specs.Step.{step, add_answer};
 ghost use Rattle.osc_core.specs.State.{opening};
 ghost use Rattle.osc_core.specs.Events.{add, submit, release};
@@ -11,8 +11,10 @@ ghost use Rattle.osc_core.specs.Answers.{adding_of, submitted_of, releasing_of, 
 use crate::Invocations;
 use crate::calls::calls_of_unit;
 use crate::methods::{Registered, has_below, id_above, id_at};
-use crate::queue::{Stored, enter};
-use osc_message::{Address, Bytes, Message};
+use crate::queue::{Stored, enter_all};
+use crate::units::units_of_packet;
+use osc_packet::Packet;
+use osc_pattern::Address;
 use std::alloc::{AllocError, Global};
 use std::marker::Model;
 
@@ -101,26 +103,21 @@ impl Core {
         Ok(adding)
     }
 
-    /// Queues a lone message as one unit, which is due at once. An `Err` is want of memory, and changes nothing.
-    pub fn submit(&mut self, message: &Message<'_>) -> Result<Submitted, AllocError>
-        requires { self.old.next_unit + 1 < 2 ^ 64 }
-        ensures answer { IfOk result (λ submitted. submitted_of submitted ≡ (step self.old (submit message.now)).answer) }
-        ensures state { IfOk result (λ _. self.new ≡ (step self.old (submit message.now)).state) }
+    /// Queues the packet's units, numbered in their order (docs/SERVER.md, "Units"). An `Err` is want of memory, and
+    /// changes nothing.
+    pub fn submit(&mut self, packet: &Packet<'_>) -> Result<Submitted, AllocError>
+        requires { self.old.next_unit + length (units_read packet.now) < 2 ^ 64 }
+        ensures answer { IfOk result (λ submitted. submitted_of submitted ≡ (step self.old (submit packet.now)).answer) }
+        ensures state { IfOk result (λ _. self.new ≡ (step self.old (submit packet.now)).state) }
         ensures err { OnErr result (self.new ≡ self.old) }
     {
-        let number = self.next_unit;
-        let unit = Stored {
-            number,
-            due: self.clock.max(1),
-            tag: 1,
-            messages: messages_of(self.alloc, message)?,
-        };
-        enter(&mut self.queue, unit)?;
-        self.next_unit += 1;
-        Ok(Submitted::Queued {
-            first: number,
-            count: 1,
-        })
+        let first = self.next_unit;
+        let units = units_of_packet(self.alloc, packet, self.clock, first)?;
+        let count = packet.count();
+        self.queue.reserve(units.len())?;
+        enter_all(&mut self.queue, units);
+        self.next_unit += u64::from(count);
+        Ok(Submitted::Queued { first, count })
     }
 
     /// Takes the unit that is least by due moment and number, if it is due, and tells its calls: for each message in
@@ -164,13 +161,4 @@ fn answer_to_add(methods: &[Registered], address: &[u8], next_id: u32) -> Adding
         return Adding::IsContainer;
     }
     Adding::Added(next_id)
-}
-
-fn messages_of(alloc: Global, message: &Message<'_>) -> Result<Vec<Bytes>, AllocError>
-    ensures value { IfOk result (λ messages. messages.items ≡ message.now ∷ []) }
-    ensures read { IfOk result (λ messages. IsTrue (list_all (is_message 1073741824) messages.items)) }
-{
-    let mut messages = Vec::new(alloc);
-    messages.push(Bytes::copied(alloc, message.bytes())?)?;
-    Ok(messages)
 }

@@ -1,170 +1,205 @@
--- The bytes that are read as a message are those of one, and no others are.
-use Rattle.std.proofs.Common.{◌≡◌, ℕ, zero, suc, ◌*◌, ◌<◌, ◌≤◌, ◌^◌, Bool, true, cond, ◌&&◌, ◌==◌, List, [], ◌∷◌, ◌++◌, map, length, take, drop, get_or, Some, None, option_and_then, refl, sym, ◌∙◌, ap, subst, arith, take-append-drop, lit<, eqb-true, eq-eqb}
-use Rattle.std.specs.List.{list_all, flat_map}
-use Rattle.std.specs.Int.{w32, from_be_bytes, cast_signed}
-use Rattle.std.proofs.Math.Facts.{Fits-of_z, Fits-lt-pow}
-use Rattle.std.proofs.lemmas.Bool.Decides.{nat_tests}
-use Rattle.std.proofs.lemmas.Option.{option_and_then_some, cond_some}
-use Rattle.std.proofs.lemmas.Nat.{be_bytes_4, from_be_bytes-to_be_bytes_4}
-use Rattle.std.proofs.lemmas.Int.{of_z-to_z, to_z-of_z}
-use borrow.Author.Gap.{read_sfits}
-use Rattle.std.proofs.lemmas.List.{drop_at}
-use Rattle.osc_message.specs.Atoms.{string, word, has_no_zero}
-use Rattle.osc_message.specs.Addresses.{is_plain_address}
-use Rattle.osc_message.specs.Messages.{Argument, integer, tag_of, atom_of, message_text, Form, bare, known, unknown, AllFit, IsBuilt, IsMessage}
-use Rattle.osc_message.specs.Reading.{string_at, are_integers, Parts, parts_with_tags, parts_of, pattern_of}
-use Rattle.osc_message.specs.Arguments.{arguments_of}
-use Rattle.osc_message.proofs.Strings.{string_read, string_at-string, string_text}
-use Rattle.osc_message.proofs.PlainAddresses.{and_true, both_true, plain_nonzero}
+-- A message that is written is read again.
+use Rattle.std.proofs.Common.{◌≡◌, ℕ, ◌+◌, ◌%◌, ◌<◌, ◌≤◌, Bool, true, false, ◌||◌, List, [], ◌∷◌, ◌++◌, length, drop, map, Option, Some, None, Result, Ok, Err, refl, sym, ◌∙◌, ap, subst, arith, length-append, eqb-true, eq-eqb, le-leb}
+use Rattle.std.specs.Prelude.{slice_index}
+use Rattle.std.specs.List.{list_any, flat_map}
+use Rattle.std.specs.Result.{result_ok}
+use Rattle.std.proofs.lemmas.List.{append-nil}
+use Rattle.std.proofs.lemmas.Bool.{cond-true, cond-false, ne_eqb}
+use Rattle.osc_atoms.specs.declared.fault.Fault.{Fault}
+use Rattle.osc_atoms.specs.Atoms.{string, has_no_zero}
+use Rattle.osc_atoms.specs.Reading.{and_then}
+use Rattle.osc_atoms.proofs.Strings.{string_again}
+use Rattle.osc_atoms.proofs.Paddings.{after_place}
+use Rattle.osc_pattern.specs.declared.faults.PatternFault.{PatternFault}
+use Rattle.osc_pattern.specs.Patterns.{IsPattern}
+use Rattle.osc_pattern.proofs.PatternLaws.{IsPattern-read}
+use Rattle.osc_message.specs.Tags.{is_unknown}
+use Rattle.osc_message.specs.Messages.{Argument, integer, float, text, content, long, time, double, symbol, character, rgba, midi, true_, false_, nil, infinitum, array_start, array_end, tag_of, atom_of, AllFit, Form, bare, known, unknown, IsLawful, tag_string, message_text}
+use Rattle.osc_message.specs.Wants.{StartsWithArgument}
+use Rattle.osc_message.specs.ArgumentReading.{argument_read, arguments_of}
+use Rattle.osc_message.specs.Reading.{Parts, begins, arguments_read, tags_read, comma_read, unless_fault, lawful_read, message_read, limited_read, parts_of}
+use Rattle.osc_message.proofs.LawfulPatterns.{pattern_nonzero, pattern_first}
+use Rattle.osc_message.proofs.ArrayBrackets.{balance_again}
+use Rattle.osc_message.proofs.ArgumentAtoms.{argument_again, atom_fours, string_fours}
+use Rattle.osc_message.proofs.Steps.{Placed, placed_on, ends_there, message_slash, comma_ends, comma_goes_on, tagged_again, arguments_step}
 
--- each of the numbers is a byte
-abbrev pub AreBytes : List ℕ → Type 0
-AreBytes bytes = (i : ℕ) → get_or bytes i 0 < 256
-
-tags_again : (tags rest : List ℕ) → list_all (λ tag. tag == 105) tags ≡ true → map tag_of (arguments_of tags rest) ≡ tags
-tags_again [] rest all = refl
-tags_again (tag ∷ tags) rest all =
-    let both = and_true (tag == 105) (list_all (λ t. t == 105) tags) all in
-    let first : tag ≡ 105 = grind (arith, nat_tests) in
-    λ i. sym first i ∷ tags_again tags (drop 4 rest) both.1 i
-
-four : (rest : List ℕ) (n : ℕ) → length rest ≡ 4 * suc n → (length (take 4 rest) ≡ 4) × (length (drop 4 rest) ≡ 4 * n)
-four [] n is = absurd (omega arith)
-four (a ∷ []) n is = absurd (omega arith)
-four (a ∷ b ∷ []) n is = absurd (omega arith)
-four (a ∷ b ∷ c ∷ []) n is = absurd (omega arith)
-four (a ∷ b ∷ c ∷ d ∷ rest) n is = (refl, omega arith)
-
-front_bytes : (n : ℕ) (bytes : List ℕ) → AreBytes bytes → AreBytes (take n bytes)
-front_bytes zero bytes all i = lit< tt
-front_bytes (suc n) [] all i = all i
-front_bytes (suc n) (b ∷ bytes) all zero = all 0
-front_bytes (suc n) (b ∷ bytes) all (suc i) = front_bytes n bytes (λ k. all (suc k)) i
-
-pub rest_bytes : (n : ℕ) (bytes : List ℕ) → AreBytes bytes → AreBytes (drop n bytes)
-rest_bytes zero bytes all = all
-rest_bytes (suc n) [] all = all
-rest_bytes (suc n) (b ∷ bytes) all = rest_bytes n bytes (λ k. all (suc k))
-
-number_fits : (bytes : List ℕ) → length bytes ≡ 4 → AreBytes bytes → from_be_bytes w32 bytes < 2 ^ 32
-number_fits [] is all = absurd (omega arith)
-number_fits (a ∷ []) is all = absurd (omega arith)
-number_fits (a ∷ b ∷ []) is all = absurd (omega arith)
-number_fits (a ∷ b ∷ c ∷ []) is all = absurd (omega arith)
-number_fits (a ∷ b ∷ c ∷ d ∷ []) is all = omega (arith, all 0, all 1, all 2, all 3)
-number_fits (a ∷ b ∷ c ∷ d ∷ e ∷ bytes) is all = absurd (omega arith)
-
-atoms_again : (tags rest : List ℕ) → length rest ≡ 4 * length tags → AreBytes rest → flat_map atom_of (arguments_of tags rest) ≡ rest
-atoms_again [] [] is all = refl
-atoms_again [] (b ∷ rest) is all = absurd (omega arith)
-atoms_again (tag ∷ tags) rest is all =
-    let sizes = four rest (length tags) is in
-    let first = ap word (of_z-to_z w32 _ (number_fits (take 4 rest) sizes.0 (front_bytes 4 rest all))) ∙ be_bytes_4 (take 4 rest) _ sizes.0 (front_bytes 4 rest all) refl in
-    let more = atoms_again tags (drop 4 rest) sizes.1 (rest_bytes 4 rest all) in
-    ap (λ (l : List ℕ). l ++ flat_map atom_of (arguments_of tags (drop 4 rest))) first ∙ ap (λ (l : List ℕ). take 4 rest ++ l) more ∙ take-append-drop 4 rest
-
-all_fit : (tags rest : List ℕ) → length rest ≡ 4 * length tags → AreBytes rest → AllFit (arguments_of tags rest)
-all_fit [] rest is all = tt
-all_fit (tag ∷ tags) rest is all =
-    let sizes = four rest (length tags) is in
-    (read_sfits w32 _, all_fit tags (drop 4 rest) sizes.1 (rest_bytes 4 rest all))
-
--- what is read as a message is one
-pub message_read : (most : ℕ) (bytes : List ℕ) (parts : Parts) → length bytes ≤ most → AreBytes bytes → parts_of bytes ≡ Some parts → IsMessage most bytes
-unfolding parts_of
-message_read most bytes parts short all is =
-    option_and_then_some (λ pattern. option_and_then (parts_with_tags pattern.0) (string_at pattern.1)) (string_at bytes) parts is (λ pattern first then.
-    option_and_then_some (parts_with_tags pattern.0) (string_at pattern.1) parts then (λ tags second last.
-    let one = string_read bytes pattern.0 pattern.1 first in
-    let two = string_read pattern.1 tags.0 tags.1 second in
-    let tests = and_true (is_plain_address pattern.0) (are_integers tags.0 tags.1) (cond_some _ _ _ last).0 in
-    let right : AreBytes tags.1 = behind _ (string tags.0) tags.1 two.spelled (behind bytes (string pattern.0) pattern.1 one.spelled all) in
-    with_tags most bytes pattern.0 pattern.1 tags.0 tags.1 short one.spelled two.spelled tests.0 tests.1 right))
+-- the arguments that stand at a place up to the end are read
+pub arguments_again : (bytes : List ℕ) (at : ℕ) (listed : List Argument) → Placed bytes at → AllFit listed → drop at bytes ≡ flat_map atom_of listed → (arguments_read bytes (map tag_of listed) at ≡ Ok tt) × (arguments_of (map tag_of listed) bytes at ≡ listed)
+arguments_again bytes at [] placed fit parts = (cond-true _ _ _ (eq-eqb at (length bytes) (ends_there bytes at placed parts)), refl)
+arguments_again bytes at (argument ∷ listed) placed fit parts =
+    let next = at + length (atom_of argument) in
+    let rest = flat_map atom_of listed in
+    let stands : StartsWithArgument bytes at argument = record { fits = fit.0; written = record { rest = rest; parts = parts } } in
+    let read : argument_read (tag_of argument) bytes at ≡ Ok (argument, next) = argument_again bytes at argument stands in
+    let behind : drop next bytes ≡ rest = after_place bytes at (length (atom_of argument)) (atom_of argument) rest parts refl in
+    let more = arguments_again bytes next listed (placed_on bytes at (atom_of argument) rest placed parts (atom_fours argument)) fit.1 behind in
+    (arguments_step bytes (tag_of argument) (map tag_of listed) at next argument read ∙ more.0, first_of (argument_read (tag_of argument) bytes at) read (ap (λ (l : List Argument). argument ∷ l) more.1))
   where
-    behind : (bytes front rest : List ℕ) → bytes ≡ front ++ rest → AreBytes bytes → AreBytes rest
-    behind bytes front rest is all = subst AreBytes (ap (drop (length front)) is ∙ drop_at front rest (length front) refl) (rest_bytes (length front) bytes all)
+    listed_in : Result (Argument × ℕ) Fault → List Argument
+    listed_in (Ok x) = x.0 ∷ arguments_of (map tag_of listed) bytes x.1
+    listed_in (Err f) = []
 
-    with_tags : (most : ℕ) (bytes pattern after tags rest : List ℕ) → length bytes ≤ most → bytes ≡ string pattern ++ after → after ≡ string tags ++ rest → is_plain_address pattern ≡ true → are_integers tags rest ≡ true → AreBytes rest → IsMessage most bytes
-    with_tags most bytes pattern after [] rest short one two plain integers all = absurd (cc)
-    with_tags most bytes pattern after (first ∷ tags) rest short one two plain integers all =
-        let tests = and_true (first == 44 && list_all (λ tag. tag == 105) tags) (length rest == 4 * length tags) integers in
-        let comma = and_true (first == 44) (list_all (λ tag. tag == 105) tags) tests.0 in
-        let size : length rest ≡ 4 * length tags = eqb-true _ _ tests.1 in
-        let is_comma : first ≡ 44 = eqb-true _ _ comma.0 in
-        let tag_is : first ∷ tags ≡ 44 ∷ map tag_of (arguments_of tags rest) = λ i. is_comma i ∷ sym (tags_again tags rest comma.1) i in
-        record {
-          form = known pattern (arguments_of tags rest);
-          built = (plain, all_fit tags rest size all);
-          spelled = one ∙ ap (λ (l : List ℕ). string pattern ++ l) (two ∙ ap (λ (l : List ℕ). string l ++ rest) tag_is ∙ ap (λ (l : List ℕ). string (44 ∷ map tag_of (arguments_of tags rest)) ++ l) (sym (atoms_again tags rest size all)));
-          short = short;
-        }
+    first_of : (r : Result (Argument × ℕ) Fault) → r ≡ Ok (argument, at + length (atom_of argument)) → argument ∷ arguments_of (map tag_of listed) bytes (at + length (atom_of argument)) ≡ argument ∷ listed → listed_in r ≡ argument ∷ listed
+    first_of r is same = ap listed_in is ∙ same
 
--- the parts of a message with arguments
-abbrev pub written_parts : List ℕ → List Argument → Parts
-written_parts pattern arguments = record { pattern = pattern; tags = map tag_of arguments; rest = flat_map atom_of arguments }
+known_tag : (argument : Argument) → is_unknown (tag_of argument) ≡ false
+known_tag (integer number) = refl
+known_tag (float bits) = refl
+known_tag (text bytes) = refl
+known_tag (content bytes) = refl
+known_tag (long number) = refl
+known_tag (time number) = refl
+known_tag (double bits) = refl
+known_tag (symbol bytes) = refl
+known_tag (character number) = refl
+known_tag (rgba number) = refl
+known_tag (midi number) = refl
+known_tag true_ = refl
+known_tag false_ = refl
+known_tag nil = refl
+known_tag infinitum = refl
+known_tag array_start = refl
+known_tag array_end = refl
 
--- what is written is read again, in its parts
-pub message_again : (pattern : List ℕ) (arguments : List Argument) → is_plain_address pattern ≡ true → parts_of (message_text (known pattern arguments)) ≡ Some (written_parts pattern arguments)
-unfolding parts_of
-message_again pattern arguments plain =
-    let tags = map tag_of arguments in
-    let rest = flat_map atom_of arguments in
-    let one = string_at-string pattern (string (44 ∷ tags) ++ rest) (plain_nonzero pattern plain) in
-    let two = string_at-string (44 ∷ tags) rest (tags_nonzero arguments) in
-    let tests : (is_plain_address pattern && are_integers (44 ∷ tags) rest) ≡ true = both_true _ _ plain (integers_again arguments) in
-    ap (option_and_then (λ x. option_and_then (parts_with_tags x.0) (string_at x.1))) one
-    ∙ ap (option_and_then (parts_with_tags pattern)) two
-    ∙ ap (λ (b : Bool). cond b (Some (written_parts pattern arguments)) None) tests
+pub known_tags : (listed : List Argument) → list_any is_unknown (map tag_of listed) ≡ false
+known_tags [] = refl
+known_tags (argument ∷ listed) = no_other (is_unknown (tag_of argument)) (list_any is_unknown (map tag_of listed)) (known_tag argument) (known_tags listed) where
+  no_other : (a b : Bool) → a ≡ false → b ≡ false → (a || b) ≡ false
+  no_other a b p q = rw (p, q) refl
+
+nonzero_tag : (argument : Argument) (tags : List ℕ) → has_no_zero tags ≡ true → has_no_zero (tag_of argument ∷ tags) ≡ true
+nonzero_tag (integer number) tags is = is
+nonzero_tag (float bits) tags is = is
+nonzero_tag (text bytes) tags is = is
+nonzero_tag (content bytes) tags is = is
+nonzero_tag (long number) tags is = is
+nonzero_tag (time number) tags is = is
+nonzero_tag (double bits) tags is = is
+nonzero_tag (symbol bytes) tags is = is
+nonzero_tag (character number) tags is = is
+nonzero_tag (rgba number) tags is = is
+nonzero_tag (midi number) tags is = is
+nonzero_tag true_ tags is = is
+nonzero_tag false_ tags is = is
+nonzero_tag nil tags is = is
+nonzero_tag infinitum tags is = is
+nonzero_tag array_start tags is = is
+nonzero_tag array_end tags is = is
+
+pub nonzero_tags : (listed : List Argument) → has_no_zero (map tag_of listed) ≡ true
+nonzero_tags [] = refl
+nonzero_tags (argument ∷ listed) = nonzero_tag argument (map tag_of listed) (nonzero_tags listed)
+
+-- the parts of a form that stands at a place
+abbrev pub parts_in : ℕ → Form → Parts
+parts_in at (bare name) = record { pattern = name; tags = None; place = at + length (string name) }
+parts_in at (known name listed) = record { pattern = name; tags = Some (map tag_of listed); place = at + length (string name) + length (tag_string (map tag_of listed)) }
+parts_in at (unknown name tags rest) = record { pattern = name; tags = Some tags; place = at + length (string name) + length (tag_string tags) }
+
+-- what follows a tag string is read, whatever is read there
+with_tags : (bytes pattern : List ℕ) (at : ℕ) (tags rest : List ℕ) → has_no_zero tags ≡ true → drop at bytes ≡ tag_string tags ++ rest → tags_read bytes (at + 1) tags (at + length (tag_string tags)) ≡ Ok tt → comma_read bytes pattern at ≡ Ok (record { pattern = pattern; tags = Some tags; place = at + length (tag_string tags) })
+with_tags bytes pattern at tags rest no_zero parts read =
+    comma_goes_on bytes pattern at _ parts
+    ∙ tagged_again bytes pattern at tags (record { no_zero = no_zero; written = record { rest = rest; parts = parts } })
+    ∙ ap (λ r. and_then r (λ _. Ok (record { pattern = pattern; tags = Some tags; place = at + length (tag_string tags) }))) read
+
+-- what follows the pattern
+after_again : (bytes : List ℕ) (at : ℕ) (name rest : List ℕ) → Placed bytes at → IsPattern name → drop at bytes ≡ string name ++ rest → (parts : Parts) → comma_read bytes name (at + length (string name)) ≡ Ok parts → message_read bytes at ≡ Ok parts
+after_again bytes at name rest placed lawful parts all read =
+    message_slash bytes at (ap (begins 47) parts ∙ pattern_first name rest lawful)
+    ∙ ap (λ r. and_then r (λ string. lawful_read bytes at string.0 string.1)) (string_again bytes at name (record { no_zero = pattern_nonzero name lawful; written = record { rest = rest; parts = parts } }))
+    ∙ ap (λ (o : Option PatternFault). unless_fault at o (comma_read bytes name (at + length (string name)))) (IsPattern-read name lawful)
+    ∙ read
+
+-- where the arguments stand
+pub behind_tags : (bytes : List ℕ) (at : ℕ) (name tags rest : List ℕ) → Placed bytes at → drop at bytes ≡ string name ++ (tag_string tags ++ rest)
+    → Placed bytes (at + length (string name) + length (tag_string tags)) × (drop (at + length (string name) + length (tag_string tags)) bytes ≡ rest)
+behind_tags bytes at name tags rest placed parts =
+    let end = at + length (string name) in
+    let there = placed_on bytes at (string name) (tag_string tags ++ rest) placed parts (string_fours name) in
+    let behind : drop end bytes ≡ tag_string tags ++ rest = after_place bytes at (length (string name)) (string name) (tag_string tags ++ rest) parts refl in
+    (placed_on bytes end (tag_string tags) rest there behind (string_fours (44 ∷ tags)), after_place bytes end (length (tag_string tags)) (tag_string tags) rest behind refl)
+
+pub message_again : (bytes : List ℕ) (at : ℕ) (form : Form) → Placed bytes at → IsLawful form → drop at bytes ≡ message_text form → message_read bytes at ≡ Ok (parts_in at form)
+message_again bytes at (bare name) placed lawful parts =
+    let whole : drop at bytes ≡ string name ++ [] = parts ∙ sym (append_nil (string name)) in
+    let end = at + length (string name) in
+    let behind : drop end bytes ≡ [] = after_place bytes at (length (string name)) (string name) [] whole refl in
+    after_again bytes at name [] placed lawful whole (parts_in at (bare name)) (comma_ends bytes name end (ends_there bytes end (placed_on bytes at (string name) [] placed whole (string_fours name)) behind))
   where
-    tags_nonzero : (arguments : List Argument) → has_no_zero (44 ∷ map tag_of arguments) ≡ true
-    tags_nonzero [] = refl
-    tags_nonzero (integer number ∷ arguments) = tags_nonzero arguments
+    append_nil : (l : List ℕ) → l ++ [] ≡ l
+    append_nil [] = refl
+    append_nil (x ∷ l) = ap (λ (r : List ℕ). x ∷ r) (append_nil l)
+message_again bytes at (known name listed) placed lawful parts =
+    let tags = map tag_of listed in
+    let rest = flat_map atom_of listed in
+    let end = at + length (string name) in
+    let place = end + length (tag_string tags) in
+    let behind : drop end bytes ≡ tag_string tags ++ rest = after_place bytes at (length (string name)) (string name) (tag_string tags ++ rest) parts refl in
+    let last = behind_tags bytes at name tags rest placed parts in
+    let read = (arguments_again bytes place listed last.0 lawful.1 last.1).0 in
+    let balanced = balance_again (end + 1) tags lawful.2 in
+    let tags_are : tags_read bytes (end + 1) tags place ≡ Ok tt = cond-false _ _ _ (known_tags listed) ∙ ap (λ r. and_then r (λ _. arguments_read bytes tags place)) balanced ∙ read in
+    after_again bytes at name (tag_string tags ++ rest) placed lawful.0 parts (parts_in at (known name listed)) (with_tags bytes name end tags rest (nonzero_tags listed) behind tags_are)
+message_again bytes at (unknown name tags rest) placed lawful parts =
+    let end = at + length (string name) in
+    let behind : drop end bytes ≡ tag_string tags ++ rest = after_place bytes at (length (string name)) (string name) (tag_string tags ++ rest) parts refl in
+    after_again bytes at name (tag_string tags ++ rest) placed lawful.0 parts (parts_in at (unknown name tags rest)) (with_tags bytes name end tags rest lawful.1 behind (cond-true _ _ _ lawful.2))
 
-    tags_same : (arguments : List Argument) → list_all (λ tag. tag == 105) (map tag_of arguments) ≡ true
-    tags_same [] = refl
-    tags_same (integer number ∷ arguments) = tags_same arguments
+pub all_fours : (listed : List Argument) → length (flat_map atom_of listed) % 4 ≡ 0
+all_fours [] = refl
+all_fours (argument ∷ listed) = let a = atom_fours argument in let b = all_fours listed in omega (arith, length-append (atom_of argument) (flat_map atom_of listed))
 
-    sizes : (arguments : List Argument) → length (flat_map atom_of arguments) ≡ 4 * length (map tag_of arguments)
-    sizes [] = refl
-    sizes (integer number ∷ arguments) = omega (arith, sizes arguments)
+-- every message has some bytes, and four by four
+pub text_fours : (form : Form) → IsLawful form → length (message_text form) % 4 ≡ 0
+text_fours (bare name) lawful = string_fours name
+text_fours (known name listed) lawful =
+    let a = string_fours name in
+    let b = string_fours (44 ∷ map tag_of listed) in
+    let c = all_fours listed in
+    omega (arith, length-append (string name) (tag_string (map tag_of listed) ++ flat_map atom_of listed), length-append (tag_string (map tag_of listed)) (flat_map atom_of listed))
+text_fours (unknown name tags rest) lawful =
+    let a = string_fours name in
+    let b = string_fours (44 ∷ tags) in
+    let c = lawful.3 in
+    omega (arith, length-append (string name) (tag_string tags ++ rest), length-append (tag_string tags) rest)
 
-    integers_again : (arguments : List Argument) → are_integers (44 ∷ map tag_of arguments) (flat_map atom_of arguments) ≡ true
-    integers_again arguments = both_true _ _ (tags_same arguments) (eq-eqb _ _ (sizes arguments))
+slash_alone : (name : List ℕ) → IsPattern name → begins 47 (string name) ≡ true
+slash_alone name lawful = ap (begins 47) (sym (append-nil (string name))) ∙ pattern_first name [] lawful
 
--- arguments that are written are read again
-pub arguments_again : (arguments : List Argument) → AllFit arguments → arguments_of (map tag_of arguments) (flat_map atom_of arguments) ≡ arguments
-arguments_again [] fit = refl
-arguments_again (integer number ∷ arguments) fit =
-    let first = ap (cast_signed w32) (from_be_bytes-to_be_bytes_4 _ (Fits-lt-pow (Fits-of_z {w = w32} {z = number} fit.0))) ∙ to_z-of_z w32 number fit.0 in
-    let more = arguments_again arguments fit.1 in
-    λ i. integer (first i) ∷ more i
+begins_some : (byte : ℕ) (bytes : List ℕ) → begins byte bytes ≡ true → 0 < length bytes
+begins_some byte [] is = absurd (cc)
+begins_some byte (x ∷ bytes) is = omega arith
 
--- no message is left unread
-pub message_unread : (most : ℕ) (bytes : List ℕ) → parts_of bytes ≡ None → IsMessage most bytes → ⊥
-message_unread most bytes none message = go message.form message.built message.spelled where
-  go : (form : Form) → IsBuilt form → bytes ≡ message_text form → ⊥
-  go (bare pattern) built spelled = built
-  go (unknown pattern tags rest) built spelled = built
-  go (known pattern arguments) built spelled = let again = message_again pattern arguments built.0 in cc (again, sym none, ap parts_of spelled)
+pub text_some : (form : Form) → IsLawful form → 0 < length (message_text form)
+text_some (bare name) lawful = begins_some 47 (string name) (slash_alone name lawful)
+text_some (known name listed) lawful = begins_some 47 _ (pattern_first name _ lawful.0)
+text_some (unknown name tags rest) lawful = begins_some 47 _ (pattern_first name _ lawful.0)
 
--- the pattern is what stands before the first zero byte
-pub pattern_read : (bytes : List ℕ) (parts : Parts) → parts_of bytes ≡ Some parts → parts.pattern ≡ pattern_of bytes
-unfolding parts_of
-pattern_read bytes parts is =
-    option_and_then_some (λ pattern. option_and_then (parts_with_tags pattern.0) (string_at pattern.1)) (string_at bytes) parts is (λ pattern first then.
-    option_and_then_some (parts_with_tags pattern.0) (string_at pattern.1) parts then (λ tags second last.
-    sym (ap (λ (p : Parts). p.pattern) (cond_some _ _ _ last).1) ∙ string_text bytes pattern first))
+begins_at : (byte : ℕ) (bytes : List ℕ) → begins byte bytes ≡ true → slice_index bytes 0 ≡ byte
+begins_at byte [] is = absurd (cc)
+begins_at byte (x ∷ bytes) is = eqb-true x byte is
 
--- four bytes for each argument
-pub parts_sized : (bytes : List ℕ) (parts : Parts) → parts_of bytes ≡ Some parts → length parts.rest ≡ 4 * length parts.tags
-unfolding parts_of
-parts_sized bytes parts is =
-    option_and_then_some (λ pattern. option_and_then (parts_with_tags pattern.0) (string_at pattern.1)) (string_at bytes) parts is (λ pattern first then.
-    option_and_then_some (parts_with_tags pattern.0) (string_at pattern.1) parts then (λ tags second last.
-    let found = cond_some _ _ _ last in
-    let tests = and_true (is_plain_address pattern.0) (are_integers tags.0 tags.1) found.0 in
-    subst (λ (p : Parts). length p.rest ≡ 4 * length p.tags) found.1 (size tags.0 tags.1 tests.1)))
-  where
-    size : (tags rest : List ℕ) → are_integers tags rest ≡ true → length rest ≡ 4 * length (drop 1 tags)
-    size [] rest integers = absurd (cc)
-    size (first ∷ tags) rest integers = eqb-true _ _ (and_true (first == 44 && list_all (λ tag. tag == 105) tags) (length rest == 4 * length tags) integers).1
+pub text_first : (form : Form) → IsLawful form → slice_index (message_text form) 0 ≡ 47
+text_first (bare name) lawful = begins_at 47 (string name) (slash_alone name lawful)
+text_first (known name listed) lawful = begins_at 47 (message_text (known name listed)) (pattern_first name (tag_string (map tag_of listed) ++ flat_map atom_of listed) lawful.0)
+text_first (unknown name tags rest) lawful = begins_at 47 (message_text (unknown name tags rest)) (pattern_first name (tag_string tags ++ rest) lawful.0)
+
+pub placed_first : (bytes : List ℕ) → length bytes % 4 ≡ 0 → Placed bytes 0
+placed_first bytes four = record { inside = omega arith; whole = four }
+
+-- a message of at most so many bytes is read
+pub limited_again : (most : ℕ) (bytes : List ℕ) (form : Form) → IsLawful form → bytes ≡ message_text form → length bytes ≤ most → limited_read most bytes ≡ Ok (parts_in 0 form)
+limited_again most bytes form lawful spelled short =
+    let some : 0 < length bytes = subst (λ (l : List ℕ). 0 < length l) (sym spelled) (text_some form lawful) in
+    let four : length bytes % 4 ≡ 0 = subst (λ (l : List ℕ). length l % 4 ≡ 0) (sym spelled) (text_fours form lawful) in
+    cond-false _ _ _ (ne_eqb (length bytes) 0 (λ e. omega arith))
+    ∙ cond-true _ _ _ (le-leb (length bytes) most short)
+    ∙ cond-true _ _ _ (eq-eqb (length bytes % 4) 0 four)
+    ∙ message_again bytes 0 form (placed_first bytes four) lawful spelled
+
+-- the parts of what is written
+pub parts_again : (form : Form) → IsLawful form → parts_of (message_text form) ≡ Some (parts_in 0 form)
+parts_again form lawful =
+    let four = text_fours form lawful in
+    cond-true _ _ _ (eq-eqb (length (message_text form) % 4) 0 four) ∙ ap result_ok (message_again (message_text form) 0 form (placed_first (message_text form) four) lawful refl)

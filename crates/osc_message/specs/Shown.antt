@@ -1,8 +1,31 @@
 -- What an argument of the code stands for.
+use Rattle.std.specs.Prelude.{ℕ, Result}
+use Rattle.std.specs.Result.{result_map_both}
+use Rattle.osc_atoms.specs.declared.fault.Fault.{Fault}
 use Rattle.osc_message.specs.declared.argument.Arg.{Arg}
-use Rattle.osc_message.specs.declared.argument.Arg.TheVariants.{Int}
-use Rattle.osc_message.specs.Messages.{Argument, integer}
+use Rattle.osc_message.specs.declared.argument.Arg.TheVariants.{Int, Float, Str, Blob, Long, Time, Double, Symbol, Char, Rgba, Midi, True, False, Nil, Infinitum, ArrayStart, ArrayEnd}
+use Rattle.osc_message.specs.Messages.{Argument, integer, float, text, content, long, time, double, symbol, character, rgba, midi, true_, false_, nil, infinitum, array_start, array_end}
 
--- an argument as it is written
+-- the argument itself
 abbrev pub shown : Arg → Argument
 shown (Int number) = integer number
+shown (Float bits) = float bits
+shown (Str bytes) = text bytes.now
+shown (Blob bytes) = content bytes.now
+shown (Long number) = long number
+shown (Time number) = time number
+shown (Double bits) = double bits
+shown (Symbol bytes) = symbol bytes.now
+shown (Char number) = character number
+shown (Rgba number) = rgba number
+shown (Midi number) = midi number
+shown True = true_
+shown False = false_
+shown Nil = nil
+shown Infinitum = infinitum
+shown ArrayStart = array_start
+shown ArrayEnd = array_end
+
+-- a reading of an argument and the place after it
+abbrev pub reading_shown : Result (Arg × ℕ) Fault → Result (Argument × ℕ) Fault
+reading_shown result = result_map_both (λ x. (shown x.0, x.1)) (λ fault. fault) result

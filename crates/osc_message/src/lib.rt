@@ -1,16 +1,26 @@
-//! Messages of Open Sound Control, borrowed from their bytes, and the addresses of methods.
+//! Messages of Open Sound Control, borrowed from their bytes.
 //!
-//! A message is a pattern that is a plain address, and int32 arguments (OSC 1.0, "OSC Messages").
-//! `laws` says of all messages that what is written is read again.
+//! A message is an address pattern, alone or with a type tag string and arguments (OSC 1.0, "OSC Messages"). `laws`
+//! says of all messages that what is written is read again.
 #![tactic(auto)]
 
-mod address;
+mod args;
 mod argument;
+mod argument_reading;
+mod argument_writing;
+mod build_fault;
+mod builder;
 mod bytes;
 pub mod laws;
 mod message;
+mod reading;
+mod tags;
+#[cfg(test)]
+mod tests;
 
-pub use address::{Address, AddressFault};
-pub use argument::{Arg, Args};
+pub use args::Args;
+pub use argument::Arg;
+pub use build_fault::BuildFault;
+pub use builder::Builder;
 pub use bytes::Bytes;
-pub use message::{Message, NotBuilt};
+pub use message::Message;

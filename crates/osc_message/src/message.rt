@@ -1,29 +1,21 @@
 // Messages, borrowed from their bytes.
-ghost use Rattle.std.specs.Prelude.{◌≡◌, ◌↔◌, ◌<◌, ◌≤◌, ◌^◌, ℕ, length, IsTrue, IsOk, IfOk, Option, List, Some, None, position, ◌==◌};
-ghost use Rattle.std.specs.Option.{option_map};
-ghost use Rattle.std.specs.List.{list_all};
+ghost use Rattle.std.specs.Prelude.{◌≡◌, ◌↔◌, ◌≤◌, ℕ, length, IsOk, IfOk, IfErr, Option, List, Err, option_map, is_ok};
+ghost use Rattle.osc_atoms.specs.declared.fault.Fault.{Fault};
 ghost use Rattle.osc_message.specs.Messages.{IsMessage};
-ghost use Rattle.osc_message.specs.Reading.{string_at, string_up_to, parts_of, is_message, is_zero, are_integers, pattern_of, parts_with_tags};
-ghost use Rattle.osc_message.specs.Slices.{seen};
+ghost use Rattle.osc_message.specs.Wants.{FirstFault};
+ghost use Rattle.osc_message.specs.Reading.{limited_read, is_message, IsReadable};
+ghost use Rattle.osc_message.specs.Seen.{seen};
+ghost use Rattle.std.specs.Result.{result_map_both, result_err};
 
 use crate::Args;
-use crate::address::is_plain;
+use crate::reading::{Slices, read_message};
+use crate::tags::{first_unknown, has_unknown};
+use osc_atoms::Fault;
+use osc_pattern::Pattern;
 use std::marker::Model;
 
-/// The bytes are no message of the forms that are read.
-#[derive(Clone, Copy, Debug, PartialEq, Eq)]
-pub struct NotBuilt;
-
-/// The parts of a message.
-#[derive(Clone, Copy)]
-struct Slices<'a> {
-    pattern: &'a [u8],
-    tags: &'a [u8],
-    rest: &'a [u8],
-}
-
-/// A message: a pattern that is a plain address, a type tag string of a comma and any number of `i`, and an int32 for
-/// each (OSC 1.0, "OSC Messages"). A contract sees its bytes.
+/// A message: an address pattern, then nothing, or a type tag string and its arguments (OSC 1.0, "OSC
+/// Messages"). A contract sees its bytes.
 #[derive(Drop)]
 pub struct Message<'a> {
     bytes: &'a [u8],
@@ -31,148 +23,111 @@ pub struct Message<'a> {
 }
 
 impl<'a> Model for Message<'a> {
-    ghost use Rattle.std.specs.Prelude.{List, ℕ, ◌≡◌, ◌≤◌, Some, length};
-    ghost use Rattle.osc_message.specs.Reading.{parts_of};
+    ghost use Rattle.std.specs.Prelude.{List, ℕ};
+    ghost use Rattle.osc_message.specs.Reading.{IsReadable};
+    ghost use Rattle.osc_message.specs.Seen.{seen};
 
     ghost Value = { List ℕ };
 
     ghost view = { λ m. m.bytes.now };
 
-    ghost invariant = { λ m. (parts_of m.bytes.now ≡ Some (record { pattern = m.slices.pattern.now; tags = m.slices.tags.now; rest = m.slices.rest.now })) × (length m.bytes.now ≤ 1073741824) };
+    ghost invariant = { λ m. IsReadable m.bytes.now (seen m.slices) };
 }
 
 impl<'a> Message<'a> {
     ghost use Rattle.osc_message.specs.Left.{left};
-    ghost use Rattle.std.specs.Prelude.{◌≡◌, ◌≤◌, ◌↔◌, IsTrue, IsOk, IfOk, Some, is_ok};
-    ghost use Rattle.std.specs.Option.{option_map};
+    ghost use Rattle.std.specs.Prelude.{◌≡◌, ◌↔◌, ◌≤◌, ℕ, length, IsTrue, IsOk, IfOk, IfErr, Some, Err, IsSome, is_ok, option_map};
+    ghost use Rattle.std.specs.Result.{result_err};
+    ghost use Rattle.osc_atoms.specs.declared.fault.Fault.{Fault};
     ghost use Rattle.osc_message.specs.Messages.{IsMessage};
-    ghost use Rattle.osc_message.specs.Reading.{pattern_of, parts_of, is_message};
-    ghost use Rattle.osc_message.specs.Arguments.{tags_of, message_arguments};
+    ghost use Rattle.osc_message.specs.Wants.{FirstFault};
+    ghost use Rattle.osc_message.specs.Reading.{pattern_of, parts_of, is_message, message_fault};
+    ghost use Rattle.osc_message.specs.Arguments.{tags_of, unknown_of, message_arguments};
 
-    /// Accepts exactly one message of at most `max` bytes, and borrows it.
-    pub fn check(bytes: &'a [u8], max: u32) -> Result<Message<'a>, NotBuilt>
+    /// Accepts exactly one message of at most `max` bytes, and borrows it. Else tells its first fault, of the kinds 1 to
+    /// 4 and 8 to 16; docs/FORMATS.md has the order of the checks. Takes no memory.
+    pub fn check(bytes: &'a [u8], max: u32) -> Result<Message<'a>, Fault>
         requires { max ≤ 1073741824 }
         ensures ok { IfOk result (λ message. message ≡ bytes.now) }
         ensures exact { IsOk result ↔ IsMessage max bytes.now }
         ensures read { is_ok result ≡ is_message max bytes.now }
+        ensures fault { IfErr result (λ fault. FirstFault bytes.now max fault) }
+        ensures first { (fault : Fault) → FirstFault bytes.now max fault → result ≡ Err fault }
+        ensures fault_read { result_err result ≡ message_fault max bytes.now }
+        ensures within { IfErr result (λ fault. fault.at ≤ length bytes.now) }
     {
-        if bytes.len() > max as usize {
-            return Err(NotBuilt);
-        }
-        match slices_of(bytes) {
-            Some(slices) => Ok(Message { bytes, slices }),
-            None => Err(NotBuilt),
-        }
+        let slices = read_limited(bytes, max)?;
+        Ok(Message { bytes, slices })
     }
 
     /// The whole message.
     pub fn bytes(&self) -> &'a [u8]
         ensures value { result.now ≡ self.now }
-        ensures read { IsTrue (is_message 1073741824 self.now) }
+        ensures read { IsSome (parts_of self.now) }
+        ensures small { length self.now ≤ 1073741824 }
+        ensures message { IsTrue (is_message 1073741824 self.now) }
     {
         self.bytes
     }
 
-    /// The bytes of the address pattern, without the zero bytes that end it (OSC 1.0, "OSC Address Pattern").
-    pub fn pattern(&self) -> &'a [u8]
-        ensures { result.now ≡ pattern_of self.now }
+    /// The address pattern, without the zero bytes that end it (OSC 1.0, "OSC Address Pattern").
+    pub fn pattern(&self) -> Pattern<'a>
+        ensures { result ≡ pattern_of self.now }
     {
-        self.slices.pattern
+        match Pattern::check(self.slices.pattern) {
+            Ok(pattern) => pattern,
+            Err(_) => unreachable!(),
+        }
     }
 
-    /// The type tags without the comma. `None` stands for a message without a tag string, of which none is accepted.
+    /// The type tags without the comma, `None` where there is no tag string.
     pub fn tags(&self) -> Option<&'a [u8]>
-        ensures { option_map (λ tags. tags.now) result ≡ Some (tags_of self.now) }
+        ensures { option_map (λ tags. tags.now) result ≡ tags_of self.now }
     {
-        Some(self.slices.tags)
+        self.slices.tags
     }
 
-    /// The arguments, in order.
+    /// The first tag that the standard doesn't have, if there is one.
+    pub fn unknown(&self) -> Option<u8>
+        ensures { result ≡ unknown_of self.now }
+    {
+        first_unknown(self.slices.tags?)
+    }
+
+    /// The arguments, in order. A message with an unknown tag has none that are read.
     pub fn args(&self) -> Args<'a>
         ensures { left result ≡ message_arguments self.now }
     {
-        Args::new(self.slices.tags, self.slices.rest)
-    }
-}
-
-#[tactic(auto, unfolding(crate::specs::Reading::parts_of))]
-fn slices_of(bytes: &[u8]) -> Option<Slices<'_>>
-    ensures { option_map seen result ≡ parts_of bytes.now }
-{
-    let (pattern, after) = read_string(bytes)?;
-    let (tag_string, rest) = read_string(after)?;
-    slices_with_tags(pattern, tag_string, rest)
-}
-
-fn slices_with_tags<'a>(
-    pattern: &'a [u8],
-    tag_string: &'a [u8],
-    rest: &'a [u8],
-) -> Option<Slices<'a>>
-    ensures { option_map seen result ≡ parts_with_tags pattern.now (tag_string.now, rest.now) }
-{
-    if !is_plain(pattern) || !tags_are_integers(tag_string, rest) {
-        return None;
-    }
-    Some(Slices {
-        pattern,
-        tags: &tag_string[1..],
-        rest,
-    })
-}
-
-fn tags_are_integers(tag_string: &[u8], rest: &[u8]) -> bool
-    ensures value { result ≡ are_integers tag_string.now rest.now }
-    ensures comma { IsTrue result → 0 < length tag_string.now }
-{
-    match tag_string {
-        [first, tags @ ..] => {
-            *first == b','
-                && are_integer_tags(tags)
-                && rest.len() % 4 == 0
-                && rest.len() / 4 == tags.len()
+        match self.slices.tags {
+            Some(tags) if !has_unknown(tags) => Args::new(tags, self.bytes, self.slices.place),
+            _ => Args::new(&[], self.bytes, self.slices.place),
         }
-        [] => false,
     }
 }
 
-fn are_integer_tags(tags: &[u8]) -> bool
-    ensures { result ≡ list_all (λ tag. tag == 105) tags.now }
+/// The parts of bytes that are a message of at most `max` bytes.
+fn read_limited(bytes: &[u8], max: u32) -> Result<Slices<'_>, Fault>
+    requires { max ≤ 1073741824 }
+    ensures read { result_map_both seen (λ fault. fault) result ≡ limited_read max bytes.now }
+    ensures readable { IfOk result (λ slices. IsReadable bytes.now (seen slices)) }
 {
-    tags.iter().all(|tag| *tag == b'i')
-}
-
-fn read_string(bytes: &[u8]) -> Option<(&[u8], &[u8])>
-    ensures { option_map (λ x. (x.0.now, x.1.now)) result ≡ string_at bytes.now }
-{
-    let place = first_zero(bytes)?;
-    read_string_up_to(bytes, place)
-}
-
-fn first_zero(bytes: &[u8]) -> Option<usize>
-    ensures { result ≡ position is_zero bytes.now }
-{
-    bytes.iter().position(|byte| *byte == 0)
-}
-
-fn read_string_up_to(bytes: &[u8], place: usize) -> Option<(&[u8], &[u8])>
-    requires { place < length bytes.now }
-    ensures { option_map (λ x. (x.0.now, x.1.now)) result ≡ string_up_to bytes.now place }
-{
-    let (text, ending) = bytes.split_at(place);
-    let size = 4 - place % 4;
-    if size > ending.len() {
-        return None;
+    if bytes.is_empty() {
+        return Err(Fault {
+            kind: Fault::EMPTY,
+            at: 0,
+        });
     }
-    let (zeros, rest) = ending.split_at(size);
-    if !are_zeros(zeros) {
-        return None;
+    if bytes.len() > max as usize {
+        return Err(Fault {
+            kind: Fault::TOO_LONG,
+            at: max,
+        });
     }
-    Some((text, rest))
-}
-
-fn are_zeros(bytes: &[u8]) -> bool
-    ensures { result ≡ list_all is_zero bytes.now }
-{
-    bytes.iter().all(|byte| *byte == 0)
+    if bytes.len() % 4 != 0 {
+        return Err(Fault {
+            kind: Fault::NOT_FOUR,
+            at: bytes.len() as u32,
+        });
+    }
+    read_message(bytes)
 }

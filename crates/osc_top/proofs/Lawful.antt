@@ -5,9 +5,10 @@ use Rattle.std.specs.List.{list_all, slice_split, list_any, starts_with}
 use Rattle.std.specs.Option.{option_map}
 use Rattle.hex.specs.Hex.{decode_of}
 use Rattle.hex.specs.declared.error.FromHexError.{FromHexError}
-use Rattle.osc_message.specs.Addresses.{is_plain_address, is_proper_prefix}
-use Rattle.osc_message.specs.Reading.{is_message}
-use Rattle.osc_core.specs.State.{State, Queued, Method, opening}
+use Rattle.osc_pattern.specs.Addresses.{is_address, is_proper_prefix}
+use Rattle.osc_packet.specs.Reading.{is_packet}
+use Rattle.osc_pattern.specs.Methods.{Method}
+use Rattle.osc_core.specs.State.{State, Queued, opening}
 use Rattle.osc_core.specs.Events.{release, Answer, added, taken, under_method, is_container, released, nothing_due, record_full, Call}
 use Rattle.osc_core.specs.Step.{Stepped, step, add_answer, after_add, release_first, calls_from, hits_of, invocations_of}
 use Rattle.osc_core.specs.History.{Entry, AddsEntry, LegalFrom, Legal, after}
@@ -15,18 +16,20 @@ use Rattle.osc_top.specs.declared.script.Act.{Act}
 use Rattle.osc_top.specs.declared.script.Act.TheVariants.{Add, Send, Pump}
 use Rattle.osc_top.specs.declared.script.ScriptFault.{ScriptFault}
 use Rattle.osc_top.specs.Plain.{entry_of, is_released, pumped, sent, entries_of, plain_from, plain}
-use Rattle.osc_top.specs.Scripts.{act_of, acts_from, acts_or_fault, add_of, send_of, message_of, is_word, is_space, lines_of, behind}
+use Rattle.osc_top.specs.declared.script.Line.{Line}
+use Rattle.osc_top.specs.Scripts.{act_of, script_from, line_or_fault, add_of, send_of, decoded_of, is_word, is_space, lines_of, behind}
+use Rattle.osc_top.proofs.Lines.{numbered}
 use Rattle.std.proofs.lemmas.List.{append-nil}
 
 -- a line that was read hands in what a caller can hand in
 abbrev pub IsLawfulAct : Act → Type 0
-IsLawfulAct (Add address) = IsTrue (is_plain_address address)
+IsLawfulAct (Add address) = IsTrue (is_address address)
 IsLawfulAct (Send message) = Unit {0}
 IsLawfulAct Pump = Unit {0}
 
-abbrev pub AreLawful : List Act → Type 0
+abbrev pub AreLawful : List Line → Type 0
 AreLawful [] = Unit {0}
-AreLawful (act ∷ acts) = IsLawfulAct act × AreLawful acts
+AreLawful (line ∷ lines) = IsLawfulAct line.act × AreLawful lines
 
 legal-append : (state : State) (xs ys : List Entry) → LegalFrom state xs → LegalFrom (after state xs) ys → LegalFrom state (xs ++ ys)
 legal-append state [] ys one two = two
@@ -83,60 +86,58 @@ pump_runs (suc most) state some =
 
 act_runs : (state : State) (act : Act) → 0 < state.callers → IsLawfulAct act → IsLegalRun state (entries_of state act)
 act_runs state (Add address) some lawful = record { legal = (some, lawful, add_adds state address, refl, tt); callers = add_callers state address (add_answer state.methods state.next_id address) }
-act_runs state (Send message) some lawful = go (is_message 65504 message) refl where
-  go : (t : Bool) → is_message 65504 message ≡ t → IsLegalRun state (sent state message t)
+act_runs state (Send message) some lawful = go (is_packet 65504 message) refl where
+  go : (t : Bool) → is_packet 65504 message ≡ t → IsLegalRun state (sent state message t)
   go true is = record { legal = (some, is, tt, refl, tt); callers = refl }
   go false is = record { legal = tt; callers = refl }
 act_runs state Pump some lawful = pump_runs (length state.queue) state some
 
-plain_runs : (state : State) (acts : List Act) → 0 < state.callers → AreLawful acts → LegalFrom state (plain_from state acts)
+plain_runs : (state : State) (lines : List Line) → 0 < state.callers → AreLawful lines → LegalFrom state (plain_from state lines)
 plain_runs state [] some lawful = tt
-plain_runs state (act ∷ acts) some lawful =
-    let one = act_runs state act some lawful.0 in
-    legal-append state (entries_of state act) (plain_from (after state (entries_of state act)) acts) one.legal
-    (plain_runs (after state (entries_of state act)) acts (subst (λ n. 0 < n) (sym one.callers) some) lawful.1)
+plain_runs state (line ∷ lines) some lawful =
+    let one = act_runs state line.act some lawful.0 in
+    legal-append state (entries_of state line.act) (plain_from (after state (entries_of state line.act)) lines) one.legal
+    (plain_runs (after state (entries_of state line.act)) lines (subst (λ n. 0 < n) (sym one.callers) some) lawful.1)
 
 add_lawful : (address : List ℕ) (act : Act) → add_of address ≡ Some act → IsLawfulAct act
-add_lawful address act said = go (is_plain_address address) refl said where
-  go : (t : Bool) → is_plain_address address ≡ t → cond {A = Option Act} t (Some (Add address)) None ≡ Some act → IsLawfulAct act
+add_lawful address act said = go (is_address address) refl said where
+  go : (t : Bool) → is_address address ≡ t → cond {A = Option Act} t (Some (Add address)) None ≡ Some act → IsLawfulAct act
   go true is so = let same : Add address ≡ act = cc in subst IsLawfulAct same is
   go false is so = absurd (cc)
 
-message_lawful : (read : Result (List ℕ) FromHexError) (act : Act) → message_of read ≡ Some act → IsLawfulAct act
-message_lawful (Err fault) act said = absurd (cc)
-message_lawful (Ok message) act said = go (is_message 65504 message) said where
-  go : (t : Bool) → cond {A = Option Act} t (Some (Send message)) None ≡ Some act → IsLawfulAct act
-  go true so = let same : Send message ≡ act = cc in subst IsLawfulAct same tt
-  go false so = absurd (cc)
+decoded_lawful : (read : Result (List ℕ) FromHexError) (act : Act) → decoded_of read ≡ Some act → IsLawfulAct act
+decoded_lawful (Err fault) act said = absurd (cc)
+decoded_lawful (Ok bytes) act said = let same : Send bytes ≡ act = cc in subst IsLawfulAct same tt
 
 send_lawful : (words : List ℕ) (act : Act) → send_of words ≡ Some act → IsLawfulAct act
 send_lawful words act said = go (list_all is_word (slice_split is_space words)) said where
   digits : List ℕ
   digits = filter (λ byte. not (is_space byte)) words
 
-  go : (t : Bool) → cond t (message_of (decode_of digits)) None ≡ Some act → IsLawfulAct act
-  go true so = message_lawful (decode_of digits) act so
+  go : (t : Bool) → cond t (decoded_of (decode_of digits)) None ≡ Some act → IsLawfulAct act
+  go true so = decoded_lawful (decode_of digits) act so
   go false so = absurd (cc)
 
 line_lawful : (line : List ℕ) (act : Act) → act_of line ≡ Some act → IsLawfulAct act
 unfolding act_of
-line_lawful line act said = go (bytes_eq line (codes "pump")) (starts_with nat_eq line (codes "add ")) (starts_with nat_eq line (codes "send ")) said where
-  go : (pumps adds sends : Bool) → cond pumps (Some Pump) (cond adds (add_of (drop 4 line)) (cond sends (send_of (drop 5 line)) None)) ≡ Some act → IsLawfulAct act
-  go true adds sends so = let same : Pump ≡ act = cc in subst IsLawfulAct same tt
-  go false true sends so = add_lawful (drop 4 line) act so
-  go false false true so = send_lawful (drop 5 line) act so
-  go false false false so = absurd (cc)
+line_lawful line act said = go (bytes_eq line (codes "pump")) (starts_with nat_eq line (codes "add ")) (starts_with nat_eq line (codes "send ")) (bytes_eq line (codes "send")) said where
+  go : (pumps adds sends alone : Bool) → cond pumps (Some Pump) (cond adds (add_of (drop 4 line)) (cond sends (send_of (drop 5 line)) (cond {A = Option Act} alone (Some (Send [])) None))) ≡ Some act → IsLawfulAct act
+  go true adds sends alone so = let same : Pump ≡ act = cc in subst IsLawfulAct same tt
+  go false true sends alone so = add_lawful (drop 4 line) act so
+  go false false true alone so = send_lawful (drop 5 line) act so
+  go false false false true so = let same : Send [] ≡ act = cc in subst IsLawfulAct same tt
+  go false false false false so = absurd (cc)
 
-onto_lawful : (number : ℕ) (said : Option Act) (others : Result (List Act) ScriptFault) (acts : List Act) → ((act : Act) → said ≡ Some act → IsLawfulAct act) → ((more : List Act) → others ≡ Ok more → AreLawful more) → acts_or_fault number said others ≡ Ok acts → AreLawful acts
-onto_lawful number None others acts one rest is = absurd (cc)
-onto_lawful number (Some act) (Err fault) acts one rest is = absurd (cc)
-onto_lawful number (Some act) (Ok more) acts one rest is = let same : act ∷ more ≡ acts = cc in subst AreLawful same (one act refl, rest more refl)
+onto_lawful : (number : ℕ) (said : Option Act) (others : Result (List Line) ScriptFault) (lines : List Line) → ((act : Act) → said ≡ Some act → IsLawfulAct act) → ((more : List Line) → others ≡ Ok more → AreLawful more) → line_or_fault number said others ≡ Ok lines → AreLawful lines
+onto_lawful number None others lines one rest is = absurd (cc)
+onto_lawful number (Some act) (Err fault) lines one rest is = absurd (cc)
+onto_lawful number (Some act) (Ok more) lines one rest is = let same : numbered number act ∷ more ≡ lines = cc in subst AreLawful same (one act refl, rest more refl)
 
-lines_lawful : (number : ℕ) (lines : List (List ℕ)) (acts : List Act) → acts_from number lines ≡ Ok acts → AreLawful acts
-lines_lawful number [] acts is = let same : [] ≡ acts = cc in subst AreLawful same tt
-lines_lawful number (line ∷ lines) acts is = onto_lawful number (act_of line) (acts_from (number + 1) lines) acts (line_lawful line) (lines_lawful (number + 1) lines) is
+lines_lawful : (number : ℕ) (texts : List (List ℕ)) (lines : List Line) → script_from number texts ≡ Ok lines → AreLawful lines
+lines_lawful number [] lines is = let same : [] ≡ lines = cc in subst AreLawful same tt
+lines_lawful number (text ∷ texts) lines is = onto_lawful number (act_of text) (script_from (number + 1) texts) lines (line_lawful text) (lines_lawful (number + 1) texts) is
 
 -- a script that is read to its end makes a legal history
-pub legal_script : (acts : List Act) (number : ℕ) (rest : List ℕ) (lines : List (List ℕ)) → length rest ≡ 0 → behind acts (acts_from number (lines_of rest)) ≡ acts_from 1 lines → Legal (plain acts)
-legal_script acts number [] lines none is = plain_runs opening acts (omega arith) (lines_lawful 1 lines acts (sym is ∙ ap Ok (append-nil acts)))
-legal_script acts number (byte ∷ rest) lines none is = absurd (omega arith)
+pub legal_script : (lines : List Line) (number : ℕ) (rest : List ℕ) (texts : List (List ℕ)) → length rest ≡ 0 → behind lines (script_from number (lines_of rest)) ≡ script_from 1 texts → Legal (plain lines).history
+legal_script lines number [] texts none is = plain_runs opening lines (omega arith) (lines_lawful 1 texts lines (sym is ∙ ap Ok (append-nil lines)))
+legal_script lines number (byte ∷ rest) texts none is = absurd (omega arith)

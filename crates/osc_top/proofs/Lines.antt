@@ -6,8 +6,9 @@ use Rattle.std.proofs.lemmas.Bool.Decides.{nat_tests}
 use Rattle.std.proofs.lemmas.List.{take_all, drop_all}
 use Rattle.std.proofs.lemmas.List.Splits.{slice_split_first}
 use Rattle.osc_top.specs.declared.script.Act.{Act}
+use Rattle.osc_top.specs.declared.script.Line.{Line}
 use Rattle.osc_top.specs.declared.script.ScriptFault.{ScriptFault}
-use Rattle.osc_top.specs.Scripts.{script_of, is_line_feed, without_empty_end, lines_of, act_of, onto, acts_or_fault, acts_from, behind}
+use Rattle.osc_top.specs.Scripts.{script_of, is_line_feed, without_empty_end, lines_of, act_of, onto, line_or_fault, script_from, behind}
 
 onto_parts : {X : Type 0} (x : X) (t : Bool) (parts : List (List X)) → (first : List X) × (rest : List (List X)) × (cond t ([] ∷ parts) (onto_first x parts) ≡ first ∷ rest)
 onto_parts x true parts = ([], parts, refl)
@@ -45,30 +46,34 @@ lines_step first bytes = let all : List ℕ = first ∷ bytes in elim (cases_lt 
       ap without_empty_end (split_none is_line_feed all none) ∙ one_part first bytes ∙ ap (λ (l : List ℕ). l ∷ []) (sym before) ∙ ap (λ (l : List ℕ). before_first is_line_feed all ∷ lines_of l) (sym after)
 ]
 
-pub behind_step : (acts : List Act) (act : Act) (read : Result (List Act) ScriptFault) → behind (acts ++ act ∷ []) read ≡ behind acts (onto act read)
+-- a line with its number
+abbrev pub numbered : ℕ → Act → Line
+numbered number act = record { number = number; act = act }
+
+pub behind_step : (acts : List Line) (act : Line) (read : Result (List Line) ScriptFault) → behind (acts ++ act ∷ []) read ≡ behind acts (onto act read)
 behind_step acts act (Ok more) = ap Ok (append_assoc acts (act ∷ []) more)
 behind_step acts act (Err fault) = refl
 
-pub line_read : (acts new : List Act) (act : Act) (number : ℕ) (first : ℕ) (bytes : List ℕ) → act_of (before_first is_line_feed (first ∷ bytes)) ≡ Some act → new ≡ acts ++ act ∷ [] → behind new (acts_from (number + 1) (lines_of (after_first is_line_feed (first ∷ bytes)))) ≡ behind acts (acts_from number (lines_of (first ∷ bytes)))
+pub line_read : (acts new : List Line) (act : Act) (number : ℕ) (first : ℕ) (bytes : List ℕ) → act_of (before_first is_line_feed (first ∷ bytes)) ≡ Some act → new ≡ acts ++ numbered number act ∷ [] → behind new (script_from (number + 1) (lines_of (after_first is_line_feed (first ∷ bytes)))) ≡ behind acts (script_from number (lines_of (first ∷ bytes)))
 line_read acts new act number first bytes said added =
-    let others = acts_from (number + 1) (lines_of (after_first is_line_feed (first ∷ bytes))) in
-    ap (λ (l : List Act). behind l others) added ∙ behind_step acts act others
-    ∙ ap (λ (o : Option Act). behind acts (acts_or_fault number o others)) (sym said)
-    ∙ ap (λ (lines : List (List ℕ)). behind acts (acts_from number lines)) (sym (lines_step first bytes))
+    let others = script_from (number + 1) (lines_of (after_first is_line_feed (first ∷ bytes))) in
+    ap (λ (l : List Line). behind l others) added ∙ behind_step acts (numbered number act) others
+    ∙ ap (λ (o : Option Act). behind acts (line_or_fault number o others)) (sym said)
+    ∙ ap (λ (lines : List (List ℕ)). behind acts (script_from number lines)) (sym (lines_step first bytes))
 
-pub line_refused : (acts : List Act) (number : ℕ) (first : ℕ) (bytes : List ℕ) → act_of (before_first is_line_feed (first ∷ bytes)) ≡ None → behind acts (acts_from number (lines_of (first ∷ bytes))) ≡ Err (record { line = number; kind = 9 })
+pub line_refused : (acts : List Line) (number : ℕ) (first : ℕ) (bytes : List ℕ) → act_of (before_first is_line_feed (first ∷ bytes)) ≡ None → behind acts (script_from number (lines_of (first ∷ bytes))) ≡ Err (record { line = number; kind = 9 })
 line_refused acts number first bytes said =
-    let others = acts_from (number + 1) (lines_of (after_first is_line_feed (first ∷ bytes))) in
-    ap (λ (lines : List (List ℕ)). behind acts (acts_from number lines)) (lines_step first bytes)
-    ∙ ap (λ (o : Option Act). behind acts (acts_or_fault number o others)) said
+    let others = script_from (number + 1) (lines_of (after_first is_line_feed (first ∷ bytes))) in
+    ap (λ (lines : List (List ℕ)). behind acts (script_from number lines)) (lines_step first bytes)
+    ∙ ap (λ (o : Option Act). behind acts (line_or_fault number o others)) said
 
 -- the same, for bytes of which there is one at least
-pub line_read_at : (acts new : List Act) (act : Act) (number : ℕ) (bytes line rest : List ℕ) → 0 < length bytes → line ≡ before_first is_line_feed bytes → rest ≡ after_first is_line_feed bytes → act_of line ≡ Some act → new ≡ acts ++ act ∷ [] → behind new (acts_from (number + 1) (lines_of rest)) ≡ behind acts (acts_from number (lines_of bytes))
+pub line_read_at : (acts new : List Line) (act : Act) (number : ℕ) (bytes line rest : List ℕ) → 0 < length bytes → line ≡ before_first is_line_feed bytes → rest ≡ after_first is_line_feed bytes → act_of line ≡ Some act → new ≡ acts ++ numbered number act ∷ [] → behind new (script_from (number + 1) (lines_of rest)) ≡ behind acts (script_from number (lines_of bytes))
 line_read_at acts new act number [] line rest some is after said added = absurd (omega arith)
 line_read_at acts new act number (first ∷ bytes) line rest some is after said added =
-    ap (λ (l : List ℕ). behind new (acts_from (number + 1) (lines_of l))) after ∙ line_read acts new act number first bytes (ap act_of (sym is) ∙ said) added
+    ap (λ (l : List ℕ). behind new (script_from (number + 1) (lines_of l))) after ∙ line_read acts new act number first bytes (ap act_of (sym is) ∙ said) added
 
-pub line_refused_at : (acts : List Act) (number : ℕ) (bytes line : List ℕ) → 0 < length bytes → line ≡ before_first is_line_feed bytes → act_of line ≡ None → behind acts (acts_from number (lines_of bytes)) ≡ Err (record { line = number; kind = 9 })
+pub line_refused_at : (acts : List Line) (number : ℕ) (bytes line : List ℕ) → 0 < length bytes → line ≡ before_first is_line_feed bytes → act_of line ≡ None → behind acts (script_from number (lines_of bytes)) ≡ Err (record { line = number; kind = 9 })
 line_refused_at acts number [] line some is said = absurd (omega arith)
 line_refused_at acts number (first ∷ bytes) line some is said = line_refused acts number first bytes (ap act_of (sym is) ∙ said)
 
@@ -76,6 +81,6 @@ line_refused_at acts number (first ∷ bytes) line some is said = line_refused a
 pub long_refused : (left : Option (List ℕ)) (more : List ℕ → Type 0) (P Q R A : Type 0) → IfSome left (λ all. (67108864 < length all) × more all) → IfSome left (λ script. P → IsOk (script_of script) → Q → R → A)
 long_refused None more P Q R A long = tt
 long_refused (Some all) more P Q R A long = λ p ok q r. go (nat_lt 67108864 (length all)) (lt-ltb 67108864 (length all) long.0) ok where
-  go : (t : Bool) → t ≡ true → IsOk (cond {A = Result (List Act) ScriptFault} t (Err (record { line = 0; kind = 1 })) (acts_from 1 (lines_of all))) → A
+  go : (t : Bool) → t ≡ true → IsOk (cond {A = Result (List Line) ScriptFault} t (Err (record { line = 0; kind = 1 })) (script_from 1 (lines_of all))) → A
   go true is ok = absurd (cc)
   go false is ok = absurd (cc)

@@ -5,7 +5,7 @@ use Rattle.osc_edge.specs.Faults.{Rose}
 use Rattle.osc_core.specs.History.{Legal}
 use Rattle.osc_top.specs.Scripts.{script_of}
 use Rattle.osc_top.specs.Plain.{plain}
-use Rattle.osc_top.specs.Printing.{printed, fault_text}
+use Rattle.osc_top.specs.Printing.{printed_run, refusal_text}
 
 -- what is held is told, and has gained this text
 abbrev pub Gains : Option (List ℕ) → Option (List ℕ) → List ℕ → Type 0
@@ -24,14 +24,14 @@ abbrev pub left_behind : List ℕ → List ℕ
 left_behind input = drop 67108865 input
 
 -- The end of a run of a script, by its status: done (0), where the script is lawful, its history is one that the
--- server's rules give, and the printed history was gained; refused (1), where it has a first fault, and the line on
--- that fault was gained; cut short (5), where the sink failed, and a front of the printed history was gained. Want of
--- memory (3) promises nothing.
+-- server's rules give, and the printed run was gained, which is the printed history and the lines of faults; refused (1),
+-- where it has a first fault, and the line on that fault was gained; cut short (5), where the sink failed, and a front of
+-- the printed run was gained. Want of memory (3) promises nothing.
 pub record EndsRun (status : ℕ) (script : List ℕ) (held after : Option (List ℕ)) (faults now : ℕ) : Type 0 where
   pub known : (status ≡ 0) ⊎ (status ≡ 1) ⊎ (status ≡ 3) ⊎ (status ≡ 5)
-  pub done : status ≡ 0 → IsOkAnd (script_of script) (λ acts. Legal (plain acts) × Gains held after (printed (plain acts))) × (now ≡ faults)
-  pub refused : status ≡ 1 → IsErrAnd (script_of script) (λ fault. GainsUnless held after faults now (fault_text fault))
-  pub cut_short : status ≡ 5 → IsOkAnd (script_of script) (λ acts. Legal (plain acts) × GainsFront held after (printed (plain acts))) × Rose faults now
+  pub done : status ≡ 0 → IsOkAnd (script_of script) (λ lines. Legal (plain lines).history × Gains held after (printed_run (plain lines))) × (now ≡ faults)
+  pub refused : status ≡ 1 → IsErrAnd (script_of script) (λ fault. GainsUnless held after faults now (refusal_text fault))
+  pub cut_short : status ≡ 5 → IsOkAnd (script_of script) (λ lines. Legal (plain lines).history × GainsFront held after (printed_run (plain lines))) × Rose faults now
 
 -- the text of a history is written, or a front of it
 pub record EndsHistory (status : ℕ) (text : List ℕ) (held after : Option (List ℕ)) (faults now : ℕ) : Type 0 where

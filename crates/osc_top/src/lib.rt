@@ -1,11 +1,11 @@
 //! All that the program does, over any source and sink.
 #![tactic(auto)]
 
+mod entries;
 pub mod laws;
 mod line_reading;
 mod player;
 mod script;
-mod text;
 mod top;
 mod whole;
 

@@ -1,20 +1,21 @@
 // Reads the lines of a script.
 ghost use Rattle.std.specs.Prelude.{◌≡◌, ◌+◌, ◌≤◌, ◌<◌, length, take, drop, IfOk, List, ℕ, map, filter, not, Ok, Err, Option, position};
 ghost use Rattle.std.specs.List.{list_all, slice_split, before_first, after_first};
-ghost use Rattle.osc_top.specs.Scripts.{act_of, acts_from, lines_of, script_of, add_of, send_of, message_of, is_word, is_space, is_line_feed};
+ghost use Rattle.osc_top.specs.Scripts.{act_of, script_from, lines_of, script_of, add_of, send_of, is_word, is_space, is_line_feed};
 ghost use Rattle.osc_top.specs.Reads.{Reads, AddsLine};
 ghost use Rattle.osc_top.specs.Plain.{plain};
 ghost use Rattle.osc_core.specs.History.{Legal};
 
-use crate::script::{Act, MOST_BYTES, NOT_BUILT, ScriptFault, ScriptRefusal, TOO_LONG};
-use osc_message::{Address, AddressFault, Bytes, Message};
+use crate::script::{Act, Line, MOST_BYTES, NOT_BUILT, ScriptFault, ScriptRefusal, TOO_LONG};
+use osc_message::Bytes;
+use osc_pattern::{Address, AddressFault};
 use std::alloc::{AllocError, Global};
 
 /// The lines of a script, or its first fault.
-pub fn read_script(alloc: Global, bytes: &[u8]) -> Result<Vec<Act>, ScriptRefusal>
-    ensures acts { Reads result (script_of bytes.now) }
-    ensures legal { IfOk result (λ acts. Legal (plain acts.items)) }
-    ensures few { IfOk result (λ acts. length acts.items ≤ 67108864) }
+pub fn read_script(alloc: Global, bytes: &[u8]) -> Result<Vec<Line>, ScriptRefusal>
+    ensures lines { Reads result (script_of bytes.now) }
+    ensures legal { IfOk result (λ lines. Legal (plain lines.items).history) }
+    ensures few { IfOk result (λ lines. length lines.items ≤ 67108864) }
 {
     if bytes.len() > MOST_BYTES {
         return Err(ScriptRefusal::Fault(ScriptFault {
@@ -25,36 +26,36 @@ pub fn read_script(alloc: Global, bytes: &[u8]) -> Result<Vec<Act>, ScriptRefusa
     read_lines(alloc, bytes)
 }
 
-fn read_lines(alloc: Global, bytes: &[u8]) -> Result<Vec<Act>, ScriptRefusal>
+fn read_lines(alloc: Global, bytes: &[u8]) -> Result<Vec<Line>, ScriptRefusal>
     requires { length bytes.now ≤ 67108864 }
-    ensures acts { Reads result (acts_from 1 (lines_of bytes.now)) }
-    ensures legal { IfOk result (λ acts. Legal (plain acts.items)) }
-    ensures few { IfOk result (λ acts. length acts.items ≤ length bytes.now) }
+    ensures lines { Reads result (script_from 1 (lines_of bytes.now)) }
+    ensures legal { IfOk result (λ lines. Legal (plain lines.items).history) }
+    ensures few { IfOk result (λ lines. length lines.items ≤ length bytes.now) }
 {
-    let mut acts = Vec::new(alloc);
+    let mut lines = Vec::new(alloc);
     let mut number = 1;
     let mut rest = bytes;
     while !rest.is_empty() {
         let (line, after) = first_line(rest);
-        if let Err(refusal) = push_line(alloc, number, line, &mut acts) {
+        if let Err(refusal) = push_line(alloc, number, line, &mut lines) {
             return Err(refusal);
         }
         number += 1;
         rest = after;
     }
-    Ok(acts)
+    Ok(lines)
 }
 
 fn push_line(
     alloc: Global,
     number: u32,
     line: &[u8],
-    acts: &mut Vec<Act>,
+    lines: &mut Vec<Line>,
 ) -> Result<(), ScriptRefusal>
-    ensures { AddsLine result number line.now acts.old.items acts.new.items }
+    ensures { AddsLine result number line.now lines.old.items lines.new.items }
 {
     match read_line(alloc, line) {
-        Ok(Some(act)) => match acts.push(act) {
+        Ok(Some(act)) => match lines.push(Line { number, act }) {
             Ok(()) => Ok(()),
             Err(_) => Err(ScriptRefusal::NoMemory),
         },
@@ -100,6 +101,9 @@ fn read_line(alloc: Global, line: &[u8]) -> Result<Option<Act>, AllocError>
     if line.starts_with(b"send ") {
         return read_send(alloc, &line[5..]);
     }
+    if line == b"send".as_slice() {
+        return Ok(Some(Act::Send(Bytes::of(Vec::new(alloc)))));
+    }
     Ok(None)
 }
 
@@ -108,8 +112,8 @@ fn read_add(alloc: Global, address: &[u8]) -> Result<Option<Act>, AllocError>
 {
     match Address::read(alloc, address) {
         Ok(address) => Ok(Some(Act::Add(address))),
-        Err(AddressFault::NotBuilt) => Ok(None),
         Err(AddressFault::NoMemory) => Err(AllocError),
+        Err(_) => Ok(None),
     }
 }
 
@@ -121,19 +125,9 @@ fn read_send(alloc: Global, words: &[u8]) -> Result<Option<Act>, AllocError>
     }
     let digits = joined(alloc, words)?;
     match hex::decode(alloc, digits.as_slice()) {
-        Ok(message) => Ok(message_act(message)),
+        Ok(bytes) => Ok(Some(Act::Send(Bytes::of(bytes)))),
         Err(hex::FromHexError::OutOfMemory) => Err(AllocError),
         Err(_) => Ok(None),
-    }
-}
-
-fn message_act(message: Vec<u8>) -> Option<Act>
-    ensures { result ≡ message_of (Ok message.items) }
-{
-    if Message::check(&message, 65_504).is_ok() {
-        Some(Act::Send(Bytes::of(message)))
-    } else {
-        None
     }
 }
 

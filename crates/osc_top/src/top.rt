@@ -1,16 +1,17 @@
 // The top call.
 ghost use Rattle.std.specs.Prelude.{◌≡◌, ◌≢◌, ◌⊎◌, ◌≤◌, ℕ, IsSome, IsOk, IfSome, Some, [], None, is_some, map, string_bytes};
 ghost use Rattle.osc_edge.specs.Faults.{Rose};
-ghost use Rattle.osc_top.specs.Printing.{usage_text, fault_text};
+ghost use Rattle.osc_top.specs.Printing.{usage_text, refusal_text};
 ghost use Rattle.osc_top.specs.Scripts.{script_of};
 ghost use Rattle.osc_top.specs.Ends.{GainsUnless, EndsRun, EndsHistory, EndsLine, command_of, left_behind};
 
+use crate::entries::refusal_line;
 use crate::line_reading::read_script;
 use crate::player::play;
 use crate::script::{MOST_BYTES, ScriptFault, ScriptRefusal, TOO_LONG};
-use crate::text::Text;
 use crate::whole::{Input, Written, read_whole, write_whole};
 use osc_edge::{Sink, Source};
+use osc_print::Text;
 use std::alloc::Global;
 
 /// How a program ends.
@@ -34,7 +35,7 @@ const SOURCE_FAILED: u8 = 4;
 const SINK_FAILED: u8 = 5;
 
 /// Does all that the program does: reads a script from `input` to its end, plays it on a new server, and writes the
-/// printed history to `out`.
+/// printed history and the faults of its packets to `out`.
 ///
 /// `words` are those of the command line, without the program's name. Scripts, printed lines and statuses are those
 /// of docs/FORMATS.md. What stands in `out` at want of memory isn't said.
@@ -110,7 +111,7 @@ fn run<O: Sink>(alloc: Global, bytes: &[u8], out: &mut O) -> Ended
     ensures { EndsRun result.status bytes.now (O.held out.old) (O.held out.new) (O.faults out.old) (O.faults out.new) }
 {
     match read_script(alloc, bytes) {
-        Ok(acts) => match play(alloc, &acts) {
+        Ok(lines) => match play(alloc, &lines) {
             Ok(text) => write_history(text.bytes(), out),
             Err(_) => Ended { status: NO_MEMORY },
         },
@@ -132,10 +133,10 @@ fn write_history<O: Sink>(text: &[u8], out: &mut O) -> Ended
 }
 
 fn refuse<O: Sink>(alloc: Global, fault: ScriptFault, out: &mut O) -> Ended
-    ensures { EndsLine 1 result.status (fault_text fault) (O.held out.old) (O.held out.new) (O.faults out.old) (O.faults out.new) }
+    ensures { EndsLine 1 result.status (refusal_text fault) (O.held out.old) (O.held out.new) (O.faults out.old) (O.faults out.new) }
 {
     let mut text = Text::open(alloc);
-    match text.fault_line(fault) {
+    match refusal_line(&mut text, fault) {
         Ok(()) => last_line(REFUSED, text.bytes(), out),
         Err(_) => Ended { status: NO_MEMORY },
     }

@@ -1,0 +1,61 @@
+// The arguments of a message, one after another.
+ghost use Rattle.std.specs.Prelude.{◌≡◌, ◌%◌, ◌≤◌, length, IsTrue, is_ok};
+ghost use Rattle.osc_message.specs.ArgumentReading.{arguments_end, arguments_of};
+
+use crate::Arg;
+use crate::argument_reading::read_argument;
+
+/// The arguments of a message that are left, in order.
+#[derive(Drop)]
+pub struct Args<'a> {
+    tags: &'a [u8],
+    bytes: &'a [u8],
+    place: u32,
+    ghost whole: { length bytes.now % 4 ≡ 0 },
+    ghost small: { length bytes.now ≤ 1073741824 },
+    ghost aligned: { place % 4 ≡ 0 },
+    ghost inside: { place ≤ length bytes.now },
+    ghost readable: { IsTrue (is_ok (arguments_end tags.now bytes.now place)) },
+}
+
+impl<'a> Args<'a> {
+    ghost use Rattle.osc_message.specs.Left.{left};
+    ghost use Rattle.std.specs.Prelude.{◌≡◌, ◌%◌, ◌≤◌, length, IsTrue, is_ok};
+    ghost use Rattle.osc_message.specs.ArgumentReading.{arguments_end, arguments_of};
+
+    /// The arguments of these tags, from `place` on.
+    pub(crate) fn new(tags: &'a [u8], bytes: &'a [u8], place: u32) -> Self
+        requires whole { length bytes.now % 4 ≡ 0 }
+        requires small { length bytes.now ≤ 1073741824 }
+        requires aligned { place % 4 ≡ 0 }
+        requires inside { place ≤ length bytes.now }
+        requires readable { IsTrue (is_ok (arguments_end tags.now bytes.now place)) }
+        ensures { left result ≡ arguments_of tags.now bytes.now place }
+    {
+        Args { tags, bytes, place }
+    }
+}
+
+impl<'a> Iterator for Args<'a> {
+    type Item = Arg<'a>;
+
+    ghost use Rattle.std.specs.Iterator.{YieldsFirstBy, item_count};
+    ghost use Rattle.osc_message.specs.Shown.{shown};
+    ghost use Rattle.osc_message.specs.Left.{left};
+
+    ghost next_gives = { YieldsFirstBy shown left };
+
+    ghost remaining = { item_count left };
+
+    fn next(&mut self) -> Option<Arg<'a>> {
+        let (tag, tags) = self.tags.split_first()?;
+        match read_argument(*tag, self.bytes, self.place) {
+            Ok((argument, place)) => {
+                self.tags = tags;
+                self.place = place;
+                Some(argument)
+            }
+            Err(_) => unreachable!(),
+        }
+    }
+}

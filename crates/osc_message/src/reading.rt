@@ -1,0 +1,145 @@
+// A message: its parts, or its first fault.
+ghost use Rattle.std.specs.Prelude.{◌≡◌, ◌+◌, ◌%◌, ◌≤◌, IsTrue, IfOk, drop, length};
+ghost use Rattle.std.specs.Result.{result_map_both};
+ghost use Rattle.osc_message.specs.Reading.{message_read, lawful_read, comma_read, tagged_read, tags_read, arguments_read, begins, has_arguments};
+ghost use Rattle.osc_message.specs.Seen.{seen};
+
+use crate::argument_reading::end_of_arguments;
+use crate::tags::{check_brackets, has_unknown};
+use osc_atoms::{Fault, string_at};
+use osc_pattern::Pattern;
+
+/// The parts of a message. Its arguments begin at `place`.
+#[derive(Clone, Copy)]
+pub(crate) struct Slices<'a> {
+    pub(crate) pattern: &'a [u8],
+    pub(crate) tags: Option<&'a [u8]>,
+    pub(crate) place: u32,
+}
+
+/// Reads the message that the bytes are.
+#[tactic(auto, unfolding(crate::specs::Reading::message_read))]
+pub(crate) fn read_message(bytes: &[u8]) -> Result<Slices<'_>, Fault>
+    requires whole { length bytes.now % 4 ≡ 0 }
+    requires small { length bytes.now ≤ 1073741824 }
+    ensures read { result_map_both seen (λ fault. fault) result ≡ message_read bytes.now 0 }
+    ensures place { IfOk result (λ slices. (slices.place % 4 ≡ 0) × (slices.place ≤ length bytes.now)) }
+    ensures arguments { IfOk result (λ slices. IsTrue (has_arguments bytes.now (seen slices))) }
+{
+    if !begins_with(b'/', bytes) {
+        return Err(Fault {
+            kind: Fault::START,
+            at: 0,
+        });
+    }
+    let (pattern, end) = string_at(bytes, 0)?;
+    read_pattern(bytes, pattern, end)
+}
+
+/// Checks the pattern that the bytes begin with, and reads what follows it.
+fn read_pattern<'a>(bytes: &'a [u8], pattern: &'a [u8], end: u32) -> Result<Slices<'a>, Fault>
+    requires pattern { length pattern.now ≤ 1073741824 }
+    requires whole { length bytes.now % 4 ≡ 0 }
+    requires aligned { end % 4 ≡ 0 }
+    requires inside { end ≤ length bytes.now }
+    requires small { length bytes.now ≤ 1073741824 }
+    ensures read { result_map_both seen (λ fault. fault) result ≡ lawful_read bytes.now 0 pattern.now end }
+    ensures place { IfOk result (λ slices. (slices.place % 4 ≡ 0) × (slices.place ≤ length bytes.now)) }
+    ensures arguments { IfOk result (λ slices. IsTrue (has_arguments bytes.now (seen slices))) }
+{
+    if let Err(fault) = Pattern::check(pattern) {
+        return Err(Fault {
+            kind: fault.kind,
+            at: fault.at,
+        });
+    }
+    read_after_pattern(bytes, pattern, end)
+}
+
+fn read_after_pattern<'a>(bytes: &'a [u8], pattern: &'a [u8], at: u32) -> Result<Slices<'a>, Fault>
+    requires whole { length bytes.now % 4 ≡ 0 }
+    requires aligned { at % 4 ≡ 0 }
+    requires inside { at ≤ length bytes.now }
+    requires small { length bytes.now ≤ 1073741824 }
+    ensures read { result_map_both seen (λ fault. fault) result ≡ comma_read bytes.now pattern.now at }
+    ensures place { IfOk result (λ slices. (slices.place % 4 ≡ 0) × (slices.place ≤ length bytes.now)) }
+    ensures arguments { IfOk result (λ slices. IsTrue (has_arguments bytes.now (seen slices))) }
+{
+    if at as usize == bytes.len() {
+        return Ok(Slices {
+            pattern,
+            tags: None,
+            place: at,
+        });
+    }
+    if !begins_with(b',', &bytes[at as usize..]) {
+        return Err(Fault {
+            kind: Fault::NO_TAGS,
+            at,
+        });
+    }
+    read_tag_string(bytes, pattern, at)
+}
+
+/// Reads the tag string at `at`, and what follows it.
+fn read_tag_string<'a>(bytes: &'a [u8], pattern: &'a [u8], at: u32) -> Result<Slices<'a>, Fault>
+    requires whole { length bytes.now % 4 ≡ 0 }
+    requires aligned { at % 4 ≡ 0 }
+    requires inside { at ≤ length bytes.now }
+    requires small { length bytes.now ≤ 1073741824 }
+    requires comma { IsTrue (begins 44 (drop at bytes.now)) }
+    ensures read { result_map_both seen (λ fault. fault) result ≡ tagged_read bytes.now pattern.now at }
+    ensures place { IfOk result (λ slices. (slices.place % 4 ≡ 0) × (slices.place ≤ length bytes.now)) }
+    ensures arguments { IfOk result (λ slices. IsTrue (has_arguments bytes.now (seen slices))) }
+{
+    let (text, place) = string_at(bytes, at)?;
+    let tags = &text[1..];
+    check_tags(bytes, at + 1, tags, place)?;
+    Ok(Slices {
+        pattern,
+        tags: Some(tags),
+        place,
+    })
+}
+
+/// Checks the tags, which stand from `place` on, and their arguments, which stand from `start` on.
+fn check_tags(bytes: &[u8], place: u32, tags: &[u8], start: u32) -> Result<(), Fault>
+    requires whole { length bytes.now % 4 ≡ 0 }
+    requires aligned { start % 4 ≡ 0 }
+    requires inside { start ≤ length bytes.now }
+    requires before { place + length tags.now ≤ length bytes.now }
+    requires small { length bytes.now ≤ 1073741824 }
+    ensures { result ≡ tags_read bytes.now place tags.now start }
+{
+    if has_unknown(tags) {
+        return Ok(());
+    }
+    check_brackets(tags, place)?;
+    check_arguments(bytes, tags, start)
+}
+
+fn check_arguments(bytes: &[u8], tags: &[u8], start: u32) -> Result<(), Fault>
+    requires whole { length bytes.now % 4 ≡ 0 }
+    requires aligned { start % 4 ≡ 0 }
+    requires inside { start ≤ length bytes.now }
+    requires small { length bytes.now ≤ 1073741824 }
+    ensures { result ≡ arguments_read bytes.now tags.now start }
+{
+    let end = end_of_arguments(tags, bytes, start)?;
+    if end as usize != bytes.len() {
+        return Err(Fault {
+            kind: Fault::LEFT_OVER,
+            at: end,
+        });
+    }
+    Ok(())
+}
+
+fn begins_with(byte: u8, bytes: &[u8]) -> bool
+    ensures { result ≡ begins byte bytes.now }
+{
+    match bytes {
+        [first, ..] => *first == byte,
+        [] => false,
+    }
+}

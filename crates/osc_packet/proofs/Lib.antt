@@ -1,0 +1,15 @@
+pub mod Steps
+pub mod Known
+pub mod Chains
+pub mod Parts
+pub mod Heads
+pub mod Told
+pub mod Found
+pub mod Silent
+pub mod Apart
+pub mod Again
+pub mod Bodies
+pub mod Whole
+pub mod Walks
+pub mod Entering
+pub mod Few

@@ -1,0 +1,8 @@
+pub mod Packets
+pub mod Units
+pub mod Faults
+pub mod Wants
+pub mod Reading
+pub mod Contents
+pub mod Known
+pub mod Walks

@@ -1,0 +1,21 @@
+//! Packets of Open Sound Control, borrowed from their bytes, and the units that they are released in.
+//!
+//! A packet is a message or a bundle, and a bundle has a time tag and elements, which are packets (OSC 1.0, "OSC
+//! Packets", "OSC Bundles").
+#![tactic(auto)]
+
+mod checking;
+mod content;
+pub mod laws;
+mod packet;
+#[cfg(test)]
+mod tests;
+mod unit;
+mod unit_messages;
+mod units;
+mod walk;
+
+pub use packet::Packet;
+pub use unit::Unit;
+pub use unit_messages::UnitMessages;
+pub use units::Units;

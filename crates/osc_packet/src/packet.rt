@@ -1,0 +1,80 @@
+// Packets, borrowed from their bytes.
+ghost use Rattle.std.specs.Prelude.{◌≡◌, ◌≤◌, IfOk};
+ghost use Rattle.std.specs.Result.{result_err};
+ghost use Rattle.osc_packet.specs.Reading.{packet_fault};
+
+use crate::Units;
+use crate::checking::check_packet;
+use crate::laws::of_messages;
+use osc_atoms::Fault;
+use std::marker::Model;
+
+/// A packet: a message, or a bundle with all that it encloses (OSC 1.0, "OSC Packets"). A contract sees its bytes.
+#[derive(Drop)]
+pub struct Packet<'a> {
+    bytes: &'a [u8],
+}
+
+impl<'a> Model for Packet<'a> {
+    ghost use Rattle.std.specs.Prelude.{List, ℕ, ◌≡◌, None};
+    ghost use Rattle.osc_packet.specs.Reading.{packet_fault};
+
+    ghost Value = { List ℕ };
+
+    ghost view = { λ p. p.bytes.now };
+
+    ghost invariant = { λ p. packet_fault 65504 p.bytes.now ≡ None };
+}
+
+impl<'a> Packet<'a> {
+    ghost use Rattle.std.specs.Prelude.{◌≡◌, ◌≤◌, ◌↔◌, length, IsTrue, IsOk, IfOk, IfErr, is_ok};
+    ghost use Rattle.std.specs.Result.{result_err};
+    ghost use Rattle.osc_atoms.specs.declared.fault.Fault.{Fault};
+    ghost use Rattle.osc_packet.specs.Packets.{IsPacket};
+    ghost use Rattle.osc_packet.specs.Wants.{FirstFault};
+    ghost use Rattle.osc_packet.specs.Reading.{packet_fault, is_packet, units_read};
+
+    /// Accepts exactly one packet of at most `max` bytes, whole, and borrows it. Else tells its first fault, of the kinds
+    /// 1 to 18; docs/FORMATS.md has the order of the checks.
+    /// Takes no memory.
+    pub fn check(bytes: &'a [u8], max: u32) -> Result<Packet<'a>, Fault>
+        requires { max ≤ 65504 }
+        ensures ok { IfOk result (λ packet. packet ≡ bytes.now) }
+        ensures exact { IsOk result ↔ IsPacket max bytes.now }
+        ensures read { is_ok result ≡ is_packet max bytes.now }
+        ensures fault { IfErr result (λ fault. FirstFault bytes.now max fault) }
+        ensures first { (fault : Fault) → FirstFault bytes.now max fault → result ≡ Err fault }
+        ensures fault_read { result_err result ≡ packet_fault max bytes.now }
+    {
+        // What packets are stands on what messages are.
+        of_messages();
+        check_packet(bytes, max)?;
+        Ok(Packet { bytes })
+    }
+
+    /// The whole packet.
+    pub fn bytes(&self) -> &'a [u8]
+        ensures value { result.now ≡ self.now }
+        ensures read { IsTrue (is_packet 65504 self.now) }
+        ensures small { length self.now ≤ 65504 }
+        ensures few { length (units_read self.now) ≤ 65504 }
+    {
+        self.bytes
+    }
+
+    /// How many units there are, one for each bundle, or one for a message alone.
+    pub fn count(&self) -> u32
+        ensures value { result ≡ length (units_read self.now) }
+        ensures few { result ≤ 65504 }
+    {
+        self.units().count() as u32
+    }
+
+    /// The units in order, the packet's own first, then those of the enclosed bundles in the order of the packet.
+    pub fn units(&self) -> Units<'a>
+        ensures value { result ≡ units_read self.now }
+        ensures few { length (units_read self.now) ≤ 65504 }
+    {
+        Units::new(self.bytes)
+    }
+}

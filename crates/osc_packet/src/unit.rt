@@ -1,0 +1,81 @@
+// Units: the messages that are released together.
+ghost use Rattle.std.specs.Prelude.{◌≡◌, ◌≤◌, length};
+ghost use Rattle.osc_packet.specs.Units.{stored_size};
+
+use crate::UnitMessages;
+use crate::content::Content;
+use std::marker::Model;
+
+/// The messages of one bundle that aren't in a bundle enclosed in it, or a message alone (OSC 1.0, "Temporal Semantics
+/// and OSC Time Tags"). They are released together. A contract sees the effective tag, and the bytes of each message.
+#[derive(Drop)]
+pub struct Unit<'a> {
+    tag: u64,
+    content: Content<'a>,
+}
+
+impl<'a> Model for Unit<'a> {
+    ghost use Rattle.osc_packet.specs.Units.{Timed};
+    ghost use Rattle.osc_packet.specs.Contents.{messages_of, IsSound};
+
+    ghost Value = { Timed };
+
+    ghost view = { λ u. record { tag = u.tag; messages = messages_of u.content } };
+
+    ghost invariant = { λ u. IsSound u.content };
+}
+
+impl<'a> Unit<'a> {
+    ghost use Rattle.std.specs.Prelude.{◌≡◌, ◌≤◌, length};
+    ghost use Rattle.osc_packet.specs.Units.{stored_size};
+    ghost use Rattle.osc_packet.specs.Contents.{messages_of, IsSound};
+
+    pub(crate) fn new(tag: u64, content: Content<'a>) -> Unit<'a>
+        requires { IsSound content }
+        ensures { result ≡ record { tag = tag; messages = messages_of content.entry } }
+    {
+        Unit { tag, content }
+    }
+
+    /// The effective time tag. A message alone has 1, "immediately". A bundle in a bundle has its own tag, and where that
+    /// is 1 it has the effective tag of the bundle around it.
+    pub fn tag(&self) -> u64
+        ensures { result ≡ self.now.tag }
+    {
+        self.tag
+    }
+
+    /// How many messages there are.
+    pub fn count(&self) -> u32
+        ensures { result ≡ length self.now.messages }
+    {
+        let mut rest = self.content;
+        let mut count = 0;
+        while let Some((_, after)) = rest.split_first() {
+            count += 1;
+            rest = after;
+        }
+        count
+    }
+
+    /// How many bytes the messages take where they are kept, each after its length in 4 bytes.
+    pub fn stored(&self) -> u32
+        ensures size { result ≡ stored_size self.now.messages }
+        ensures small { result ≤ 65508 }
+    {
+        let mut rest = self.content;
+        let mut size = 0;
+        while let Some((message, after)) = rest.split_first() {
+            size += 4 + message.len() as u32;
+            rest = after;
+        }
+        size
+    }
+
+    /// The messages, in the order of the packet.
+    pub fn messages(&self) -> UnitMessages<'a>
+        ensures { result ≡ self.now.messages }
+    {
+        UnitMessages::new(self.content)
+    }
+}

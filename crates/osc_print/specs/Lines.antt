@@ -1,0 +1,25 @@
+-- Printed lines.
+use Rattle.std.specs.Prelude.{ℕ, List, [], ◌∷◌, ◌++◌, codes}
+use Rattle.std.specs.List.{flat_map}
+use Rattle.std.specs.Fmt.{decimal}
+use Rattle.osc_atoms.specs.declared.fault.Fault.{Fault}
+use Rattle.osc_message.specs.Arguments.{tags_of, message_arguments}
+use Rattle.osc_print.specs.Words.{spaced, argument_word, tags_word}
+
+-- a line ends with a line feed
+abbrev pub line : List ℕ → List ℕ
+line words = words ++ 10 ∷ []
+
+-- the unit's number, the message's index, the method's id and its address
+abbrev pub call_head : ℕ → ℕ → ℕ → List ℕ → List ℕ
+call_head unit index id address = codes "call" ++ spaced (decimal unit) ++ spaced (decimal index) ++ spaced (decimal id) ++ spaced address
+
+-- the line of a call, with the message's tags and a word for each argument
+abbrev pub call_text : ℕ → ℕ → ℕ → List ℕ → List ℕ → List ℕ
+call_text unit index id address message =
+    line (call_head unit index id address
+    ++ (spaced (tags_word (tags_of message)) ++ flat_map (λ argument. spaced (argument_word argument)) (message_arguments message)))
+
+-- the line of a fault of the packet in a line of a script
+abbrev pub fault_text : ℕ → Fault → List ℕ
+fault_text number fault = line (codes "fault" ++ spaced (decimal number) ++ spaced (decimal fault.kind) ++ spaced (decimal fault.at))

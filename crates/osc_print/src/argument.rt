@@ -1,0 +1,96 @@
+// Arguments, as words.
+ghost use Rattle.std.specs.Prelude.{◌≡◌, ◌++◌, OnOk};
+ghost use Rattle.std.specs.Fmt.{signed_decimal};
+ghost use Rattle.std.specs.List.{flat_map};
+ghost use Rattle.hex.specs.Hex.{encode_lower};
+ghost use Rattle.osc_atoms.specs.Atoms;
+ghost use Rattle.osc_message.specs.Shown.{shown};
+ghost use Rattle.osc_print.specs.Words.{argument_word, spaced, shown_byte, is_shown};
+
+use crate::Text;
+use osc_message::Arg;
+use std::alloc::AllocError;
+
+impl Text {
+    /// Adds a space and the word of an argument.
+    pub(crate) fn space_argument(&mut self, argument: Arg<'_>) -> Result<(), AllocError>
+        ensures { OnOk result (self.new ≡ self.old ++ spaced (argument_word (shown argument.entry))) }
+    {
+        match argument {
+            Arg::Int(number) => self.space_signed(b"i:", i64::from(number)),
+            Arg::Long(number) => self.space_signed(b"h:", number),
+            Arg::Float(bits) => self.space_hex(b"f:", &bits.to_be_bytes()),
+            Arg::Char(number) => self.space_hex(b"c:", &number.to_be_bytes()),
+            Arg::Rgba(number) => self.space_hex(b"r:", &number.to_be_bytes()),
+            Arg::Midi(number) => self.space_hex(b"m:", &number.to_be_bytes()),
+            Arg::Time(tag) => self.space_hex(b"t:", &tag.to_be_bytes()),
+            Arg::Double(bits) => self.space_hex(b"d:", &bits.to_be_bytes()),
+            Arg::Blob(bytes) => self.space_hex(b"b:", bytes),
+            Arg::Str(text) => self.space_text(b"s:", text),
+            Arg::Symbol(text) => self.space_text(b"S:", text),
+            Arg::True => self.space_word(b"T"),
+            Arg::False => self.space_word(b"F"),
+            Arg::Nil => self.space_word(b"N"),
+            Arg::Infinitum => self.space_word(b"I"),
+            Arg::ArrayStart => self.space_word(b"["),
+            Arg::ArrayEnd => self.space_word(b"]"),
+        }
+    }
+
+    fn space_signed(&mut self, tag: &[u8], number: i64) -> Result<(), AllocError>
+        ensures { OnOk result (self.new ≡ self.old ++ spaced (tag.now ++ signed_decimal number)) }
+    {
+        self.space_word(tag)?;
+        let digits = number.to_string(self.alloc())?;
+        self.word(digits.as_bytes())
+    }
+
+    /// Adds the bytes in lower-case hexadecimal digits.
+    fn space_hex(&mut self, tag: &[u8], bytes: &[u8]) -> Result<(), AllocError>
+        ensures { OnOk result (self.new ≡ self.old ++ spaced (tag.now ++ encode_lower bytes.now)) }
+    {
+        self.space_word(tag)?;
+        self.hex(bytes)
+    }
+
+    fn hex(&mut self, bytes: &[u8]) -> Result<(), AllocError>
+        ensures { OnOk result (self.new ≡ self.old ++ encode_lower bytes.now) }
+    {
+        let digits = hex::encode(self.alloc(), bytes)?;
+        self.word(digits.as_bytes())
+    }
+
+    fn space_text(&mut self, tag: &[u8], text: &[u8]) -> Result<(), AllocError>
+        ensures { OnOk result (self.new ≡ self.old ++ spaced (tag.now ++ flat_map shown_byte text.now)) }
+    {
+        self.space_word(tag)?;
+        self.shown(text)
+    }
+
+    /// Adds bytes that can be read as they are, and any other as `\x` and two digits.
+    fn shown(&mut self, text: &[u8]) -> Result<(), AllocError>
+        ensures { OnOk result (self.new ≡ self.old ++ flat_map shown_byte text.now) }
+    {
+        for byte in text {
+            self.shown_byte(*byte)?;
+        }
+        Ok(())
+    }
+
+    fn shown_byte(&mut self, byte: u8) -> Result<(), AllocError>
+        ensures { OnOk result (self.new ≡ self.old ++ shown_byte byte) }
+    {
+        if is_shown(byte) {
+            return self.word(&[byte]);
+        }
+        self.word(b"\\x")?;
+        self.hex(&[byte])
+    }
+}
+
+/// A byte from `!` to `~` that isn't a backslash.
+fn is_shown(byte: u8) -> bool
+    ensures { result ≡ is_shown byte }
+{
+    byte.is_ascii_graphic() && byte != b'\\'
+}
