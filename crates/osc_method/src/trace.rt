@@ -1,0 +1,57 @@
+// A method that keeps the last bytes of what it was told.
+ghost use Rattle.std.specs.Prelude.{◌≡◌, ◌≤◌, ◌<◌, ◌^◌, Some, [], IfOk};
+
+use crate::{Call, Method};
+use circular_buffer::HeapCircularBuffer;
+use std::alloc::{AllocError, Global};
+
+/// A method that tells the last bytes of what it was told, at most as many as it was made for.
+#[derive(Drop)]
+pub struct Trace {
+    bytes: HeapCircularBuffer<u8>,
+    ghost few: { bytes.capacity < 2 ^ 32 },
+}
+
+impl Trace {
+    /// Keeps at most `keep` bytes, for which it reserves the memory.
+    pub fn open(alloc: Global, keep: u32) -> Result<Trace, AllocError>
+        requires some { 0 < keep }
+        requires few { keep ≤ 1048576 }
+        ensures keep { IfOk result (λ trace. ⟦<Trace as Method>⟧.keep trace ≡ keep) }
+        ensures heard { IfOk result (λ trace. ⟦<Trace as Method>⟧.heard trace ≡ Some []) }
+    {
+        Ok(Trace {
+            bytes: HeapCircularBuffer::with_capacity(alloc, keep as usize)?,
+        })
+    }
+}
+
+impl Method for Trace {
+    ghost keep = { λ t. t.bytes.capacity };
+
+    ghost heard = { λ t. Some t.bytes.items };
+
+    fn reset(&mut self) {
+        self.bytes.clear();
+    }
+
+    fn invoke(&mut self, call: &Call<'_>) {
+        let message = call.message.bytes();
+        let size = message.len() as u32;
+        self.bytes.extend_from_slice(&call.unit.to_be_bytes());
+        self.bytes.extend_from_slice(&call.index.to_be_bytes());
+        self.bytes.extend_from_slice(&size.to_be_bytes());
+        self.bytes.extend_from_slice(message);
+    }
+
+    fn told(&self) -> Option<u32> {
+        Some(self.bytes.len() as u32)
+    }
+
+    fn byte(&self, k: u32) -> u8 {
+        match self.bytes.get(k as usize) {
+            Some(byte) => *byte,
+            None => unreachable!(),
+        }
+    }
+}

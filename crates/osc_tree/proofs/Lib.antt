@@ -1,0 +1,9 @@
+pub mod Above
+pub mod Lists
+pub mod Prefixes
+pub mod Counts
+pub mod Tallies
+pub mod Lines
+pub mod Lawful
+pub mod Places
+pub mod Orders

@@ -1,0 +1,5 @@
+pub mod Registry
+pub mod Nodes
+pub mod Adding
+pub mod Matching
+pub mod Views

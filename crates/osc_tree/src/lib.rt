@@ -1,0 +1,20 @@
+//! The registered methods, by their addresses, and those that a pattern matches (OSC 1.0, "OSC Message Dispatching and
+//! Pattern Matching").
+#![tactic(auto)]
+
+mod adding;
+mod hits;
+pub mod laws;
+mod lookup;
+mod matching;
+mod nodes;
+mod refusals;
+mod registered;
+mod tree;
+
+pub use hits::Hits;
+pub use refusals::{NotThere, TreeRefusal};
+pub use tree::Tree;
+
+#[cfg(test)]
+mod tests;
