@@ -49,9 +49,6 @@ impl Method for Trace {
     }
 
     fn byte(&self, k: u32) -> u8 {
-        match self.bytes.get(k as usize) {
-            Some(byte) => *byte,
-            None => unreachable!(),
-        }
+        self.bytes.get(k as usize).copied().unwrap_or(0)
     }
 }
