@@ -1,6 +1,6 @@
 -- What a method keeps of what it was told.
-use Rattle.std.specs.Prelude.{ℕ, ◌-◌, List, ◌++◌, length, drop, Option}
-use Rattle.std.specs.Option.{option_map}
+use Rattle.std.specs.Prelude.{ℕ, ◌-◌, List, ◌++◌, length, drop, slice_get, Option}
+use Rattle.std.specs.Option.{option_map, option_map_or, unwrap_or}
 
 -- the last bytes, at most so many
 abbrev pub last_of : ℕ → List ℕ → List ℕ
@@ -9,3 +9,7 @@ last_of keep bytes = drop (length bytes - keep) bytes
 -- what a method has heard after a call
 abbrev pub after_call : ℕ → List ℕ → Option (List ℕ) → Option (List ℕ)
 after_call keep call heard = option_map (λ bytes. last_of keep (bytes ++ call)) heard
+
+-- the byte in a place, counted from the oldest; 0 where nothing is told of that place
+abbrev pub byte_heard : Option (List ℕ) → ℕ → ℕ
+byte_heard heard k = option_map_or (λ bytes. unwrap_or (slice_get bytes k) 0) heard 0

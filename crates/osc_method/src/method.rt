@@ -1,7 +1,7 @@
 // The trait of methods.
-ghost use Rattle.std.specs.Prelude.{◌≡◌, ◌≤◌, ℕ, List, [], length, Option, IfSome, slice_get};
+ghost use Rattle.std.specs.Prelude.{◌≡◌, ◌≤◌, ℕ, List, [], length, Option, IfSome};
 ghost use Rattle.std.specs.Option.{option_map};
-ghost use Rattle.osc_method.specs.Heard.{after_call};
+ghost use Rattle.osc_method.specs.Heard.{after_call, byte_heard};
 ghost use Rattle.osc_method.specs.Calls.{call_bytes};
 
 use crate::Call;
@@ -32,7 +32,7 @@ pub trait Method: Drop {
         ensures count { result ≡ option_map length (heard self.now) }
         ensures within { IfSome result (λ count. count ≤ keep self.now) };
 
-    /// One of the bytes that it tells, counted from the oldest; any byte where it tells none in that place.
+    /// One of the bytes that it tells, counted from the oldest; 0 where it tells none in that place.
     fn byte(&self, k: u32) -> u8
-        ensures { IfSome (heard self.now) (λ bytes. IfSome (slice_get bytes k) (λ byte. result ≡ byte)) };
+        ensures { result ≡ byte_heard (heard self.now) k };
 }
