@@ -7,3 +7,8 @@ pub mod Lines
 pub mod Lawful
 pub mod Places
 pub mod Orders
+pub mod Literals
+pub mod Sorting
+pub mod Ranges
+pub mod InOrder
+pub mod Leaving

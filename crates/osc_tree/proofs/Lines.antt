@@ -1,5 +1,5 @@
 -- Which line refuses an address, and what that says of the methods.
-use Rattle.std.proofs.Common.{◌≡◌, ◌≢◌, ℕ, suc, ◌+◌, ◌<◌, ◌≤◌, ◌==◌, Bool, true, false, not, cond, ◌||◌, nat_lt, List, [], ◌∷◌, length, find, position, get_or, Option, Some, None, All, refl, ap, subst, ◌∙◌, arith}
+use Rattle.std.proofs.Common.{◌≡◌, ◌≢◌, ℕ, suc, ◌+◌, ◌<◌, ◌≤◌, ◌==◌, Bool, true, false, not, cond, ◌||◌, nat_lt, List, [], ◌∷◌, length, find, position, get_or, Option, Some, None, All, refl, sym, ap, subst, ◌∙◌, arith}
 use Rattle.std.specs.List.{list_any, position_or_len, Contains}
 use Rattle.std.specs.Option.{option_map}
 use Rattle.std.specs.Str.{bytes_eq}
@@ -7,7 +7,9 @@ use Rattle.std.proofs.lemmas.Bool.Decides.{nat_tests}
 use Rattle.std.proofs.lemmas.Bool.{ltb-false}
 use Rattle.std.proofs.lemmas.Slice.Eq.{bytes_eq-Decides}
 use Rattle.osc_pattern.specs.Addresses.{is_proper_prefix}
-use Rattle.osc_pattern.specs.Methods.{Method}
+use Rattle.osc_pattern.specs.Methods.{Method, IsMethodList}
+use Rattle.std.proofs.lemmas.List.{length-map, get_or-map}
+use Rattle.std.proofs.lemmas.List.Sums.{position_or_len_is}
 use Rattle.osc_tree.specs.declared.refusals.TreeRefusal.{TreeRefusal}
 use Rattle.osc_tree.specs.declared.refusals.TreeRefusal.TheVariants.{Taken, UnderMethod, IsContainer, MethodsFull, NodesFull}
 use Rattle.osc_tree.specs.declared.registered.Registered.{Registered}
@@ -172,3 +174,19 @@ such_id registered id found e =
     let there = find-some (λ method. method.id == id) (methods_of registered) (method_of found) (find-map method_of (λ method. method.id == id) registered ∙ ap (option_map method_of) e) in
     let same : found.id ≡ id = (let h : (found.id == id) ≡ true = there.1 in grind (arith, nat_tests)) in
     held (methods_of registered) (method_of found) id found.address there.0 same refl
+
+-- a method that has the number is the one that is found
+pub found_there : (registered : List Registered) (place id : ℕ) (d : Registered) → IsMethodList (methods_of registered) → place < length registered → (get_or registered place d).id ≡ id → find (λ method. method.id == id) registered ≡ Some (get_or registered place d)
+found_there registered place id d list within is =
+    let test : Registered → Bool = λ method. method.id == id in
+    let earlier : (k : ℕ) → k < place → test (get_or registered k d) ≡ false = λ k lt. go k lt (test (get_or registered k d)) refl in
+    let here : test (get_or registered place d) ≡ true = (let same : (get_or registered place d).id ≡ id = is in grind (arith, nat_tests)) in
+    find-at test registered place d (sym (position_or_len_is test registered place d (omega arith) earlier (λ _. here))) within
+  where
+    go : (k : ℕ) → k < place → (t : Bool) → ((get_or registered k d).id == id) ≡ t → t ≡ false
+    go k lt false e = refl
+    go k lt true e =
+        let long = length-map registered method_of in
+        let first : (get_or registered k d).id ≡ id = (let h : ((get_or registered k d).id == id) ≡ true = e in grind (arith, nat_tests)) in
+        absurd (list.ids k place (method_of d) lt (omega arith)
+        (ap (λ (m : Method). m.id) (get_or-map method_of registered k d (method_of d) (omega arith)) ∙ first ∙ sym is ∙ ap (λ (m : Method). m.id) (sym (get_or-map method_of registered place d (method_of d) within))))

@@ -1,8 +1,8 @@
 -- Lists of the code, and what they stand for.
-use Rattle.std.proofs.Common.{◌≡◌, ℕ, suc, ◌+◌, ◌<◌, Bool, true, false, not, cond, ◌||◌, List, [], ◌∷◌, ◌++◌, map, find, filter, length, take, drop, insert, get_or, Some, None, position, All, nat_lt, refl, sym, ap, ◌∙◌, one-add, arith}
+use Rattle.std.proofs.Common.{◌≡◌, ℕ, suc, ◌+◌, ◌<◌, ◌≤◌, Bool, true, false, not, cond, ◌||◌, List, [], ◌∷◌, ◌++◌, map, find, filter, length, take, drop, insert, get_or, Some, None, position, All, nat_lt, refl, sym, ap, ◌∙◌, one-add, arith}
 use Rattle.std.specs.List.{list_any, position_or_len, AllPairs, Contains, remove}
-use Rattle.std.specs.Option.{option_map}
-use Rattle.std.proofs.lemmas.Bool.{ltb-true}
+use Rattle.std.specs.Option.{option_map, unwrap_or}
+use Rattle.std.proofs.lemmas.Bool.{ltb-true, ltb-false}
 use Rattle.std.proofs.lemmas.List.{map-append, take-map, drop-map}
 use Rattle.std.proofs.lemmas.List.Elements.{All-cons, All-head, All-tail, All-nil}
 
@@ -65,6 +65,12 @@ position-some test xs place e = go (nat_lt (position_or_len test xs) (length xs)
   go true is e = let same : place ≡ position_or_len test xs = cc in (same, let below = ltb-true _ _ is in omega arith)
   go false is e = absurd (cc)
 
+pub position-none : {X : Type 0} (test : X → Bool) (xs : List X) → position test xs ≡ None → length xs ≤ position_or_len test xs
+position-none test xs e = go (position_or_len test xs) (nat_lt (position_or_len test xs) (length xs)) refl e where
+  go : (k : ℕ) (t : Bool) → nat_lt k (length xs) ≡ t → cond t (Some k) None ≡ None → length xs ≤ k
+  go k true is e = absurd (cc)
+  go k false is e = ltb-false k (length xs) is
+
 find_first : {X : Type 0} (test : X → Bool) (xs : List X) (d : X) → position_or_len test xs < length xs → find test xs ≡ Some (get_or xs (position_or_len test xs) d)
 find_first test [] d within = absurd (omega arith)
 find_first test (y ∷ ys) d within = go (test y) refl within (find_first test ys d) where
@@ -89,3 +95,17 @@ remove-filter test (y ∷ ys) once within = go (test y) refl within (remove-filt
       → remove (y ∷ ys) (cond (not t) (1 + position_or_len test ys) 0) ≡ cond (not t) (y ∷ filter (λ x. not (test x)) ys) (filter (λ x. not (test x)) ys)
   go true is within more = sym (filter_all (λ x. not (test x)) ys (λ k d below. ap not (once 0 (suc k) d (omega arith) (omega arith) is)))
   go false is within more = rw one-add (ap (λ l. y ∷ l) (more (omega arith)))
+
+pub position_or_len-bound : {X : Type 0} (test : X → Bool) (xs : List X) → position_or_len test xs ≤ length xs
+position_or_len-bound test [] = omega arith
+position_or_len-bound test (x ∷ xs) = go (test x) (position_or_len-bound test xs) where
+  go : (t : Bool) → position_or_len test xs ≤ length xs → cond (not t) (1 + position_or_len test xs) 0 ≤ suc (length xs)
+  go true le = omega arith
+  go false le = omega arith
+
+-- a place that may be none, and stands past the end then
+pub position-else : {X : Type 0} (test : X → Bool) (xs : List X) → unwrap_or (position test xs) (length xs) ≡ position_or_len test xs
+position-else test xs = go (nat_lt (position_or_len test xs) (length xs)) refl where
+  go : (t : Bool) → nat_lt (position_or_len test xs) (length xs) ≡ t → unwrap_or (cond t (Some (position_or_len test xs)) None) (length xs) ≡ position_or_len test xs
+  go true is = refl
+  go false is = let le = position_or_len-bound test xs in let ge = ltb-false (position_or_len test xs) (length xs) is in omega arith

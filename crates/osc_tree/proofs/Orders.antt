@@ -10,13 +10,13 @@ use Rattle.std.proofs.lemmas.List.Sorted.{IsPermutation-refl, IsPermutation-sym,
 use Rattle.osc_pattern.specs.Methods.{Method}
 use Rattle.osc_tree.specs.Matching.{is_below, matched, matching, matching_ids, in_place, IsAscending, AreHits}
 
-below_order : IsStrictWeakOrder is_below
+pub below_order : IsStrictWeakOrder is_below
 below_order = ranks_by nat_list_cmp_total (λ method. method.address)
 
-placed_behind : (method other : Method) (others : List Method) → is_below method other ≡ false → in_place (other ∷ others) method ≡ other ∷ in_place others method
+pub placed_behind : (method other : Method) (others : List Method) → is_below method other ≡ false → in_place (other ∷ others) method ≡ other ∷ in_place others method
 placed_behind method other others e = rw (e, one-add) refl
 
-placed_ahead : (method other : Method) (others : List Method) → is_below method other ≡ true → in_place (other ∷ others) method ≡ method ∷ other ∷ others
+pub placed_ahead : (method other : Method) (others : List Method) → is_below method other ≡ true → in_place (other ∷ others) method ≡ method ∷ other ∷ others
 placed_ahead method other others e = rw e refl
 
 -- what holds of a method and of all others holds of all, once it is in its place
@@ -32,14 +32,14 @@ below_all : (method other : Method) (others : List Method) → is_below method o
 below_all method other [] e first = first
 below_all method other (third ∷ others) e first = (below_order.chain third other method first.0 (below_order.one_way method other e), below_all method other others e first.1)
 
-ascending_placed : (method : Method) (others : List Method) → IsAscending others → IsAscending (in_place others method)
+pub ascending_placed : (method : Method) (others : List Method) → IsAscending others → IsAscending (in_place others method)
 ascending_placed method [] ascending = (tt, tt)
 ascending_placed method (other ∷ others) ascending = go (is_below method other) refl (ascending_placed method others ascending.1) where
   go : (t : Bool) → is_below method other ≡ t → IsAscending (in_place others method) → IsAscending (in_place (other ∷ others) method)
   go true e more = subst IsAscending (sym (placed_ahead method other others e)) ((below_order.one_way method other e, below_all method other others e ascending.0), ascending)
   go false e more = subst IsAscending (sym (placed_behind method other others e)) (all_placed (λ third. is_below third other ≡ false) method others e ascending.0, more)
 
-folded_ascend : (methods more : List Method) → IsAscending methods → IsAscending (fold in_place methods more)
+pub folded_ascend : (methods more : List Method) → IsAscending methods → IsAscending (fold in_place methods more)
 folded_ascend methods [] ascending = ascending
 folded_ascend methods (method ∷ more) ascending = folded_ascend (in_place methods method) more (ascending_placed method methods ascending)
 

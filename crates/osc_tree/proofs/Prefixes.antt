@@ -32,7 +32,7 @@ runs_inner : (names : List (List ℕ)) → runs_of names ≡ map (λ text. 47 �
 runs_inner [] = refl
 runs_inner (name ∷ names) = ap (λ l. (47 ∷ name) ∷ l) (sym (map-map (λ text. 47 ∷ text) (λ more. name ++ more) (runs_of names)))
 
-split-cons : (bytes : List ℕ) → (name : List ℕ) × (names : List (List ℕ)) × (slice_split is_slash bytes ≡ name ∷ names)
+pub split-cons : (bytes : List ℕ) → (name : List ℕ) × (names : List (List ℕ)) × (slice_split is_slash bytes ≡ name ∷ names)
 split-cons [] = ([], [], refl)
 split-cons (x ∷ xs) = go (is_slash x) (split-cons xs) where
   go : (t : Bool) → (name : List ℕ) × (names : List (List ℕ)) × (slice_split is_slash xs ≡ name ∷ names)

@@ -3,3 +3,4 @@ pub mod Nodes
 pub mod Adding
 pub mod Matching
 pub mod Views
+pub mod Order

@@ -3,11 +3,14 @@
 #![tactic(auto)]
 
 mod adding;
+mod beginning;
 mod hits;
 pub mod laws;
+mod literal;
 mod lookup;
 mod matching;
 mod nodes;
+mod order;
 mod refusals;
 mod registered;
 mod tree;

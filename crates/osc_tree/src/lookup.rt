@@ -4,6 +4,8 @@ ghost use Rattle.std.specs.Option.{option_map, option_copied};
 ghost use Rattle.std.specs.List.{list_any};
 ghost use Rattle.std.specs.Str.{bytes_eq};
 ghost use Rattle.osc_pattern.specs.Addresses.{is_proper_prefix};
+ghost use Rattle.osc_pattern.specs.Methods.{IsMethodList};
+ghost use Rattle.osc_tree.specs.Views.{methods_of};
 
 use crate::registered::Registered;
 
@@ -53,8 +55,19 @@ pub(crate) fn place_of(methods: &[Registered], address: &[u8]) -> Option<usize>
         .position(|method| method.address.bytes() == address)
 }
 
-/// The method with the id.
+/// The method with the id. It is first looked for at the place of that number, where ids that count the methods added
+/// stand until one is removed.
 pub(crate) fn with_id(methods: &[Registered], id: u32) -> Option<&Registered>
+    requires { IsMethodList (methods_of methods.now) }
+    ensures { option_copied result ≡ find (λ method. nat_eq method.id id) methods.now }
+{
+    match methods.get(id as usize) {
+        Some(method) if method.id == id => Some(method),
+        _ => first_with_id(methods, id),
+    }
+}
+
+fn first_with_id(methods: &[Registered], id: u32) -> Option<&Registered>
     ensures { option_copied result ≡ find (λ method. nat_eq method.id id) methods.now }
 {
     methods.iter().find(|method| method.id == id)

@@ -1,100 +1,71 @@
 // The methods that a pattern matches.
-ghost use Rattle.std.specs.Prelude.{◌≡◌, ◌≤◌, ◌<◌, ◌^◌, ◌+◌, [], length, map, insert, position, All, vec_len, vec_capacity};
-ghost use Rattle.std.specs.List.{position_or_len};
-ghost use Rattle.osc_tree.specs.Matching.{is_below, matching, matching_ids};
-ghost use Rattle.osc_tree.specs.Views.{methods_of, method_at, methods_at};
+ghost use Rattle.std.specs.Prelude.{◌≡◌, ◌≤◌, ◌<◌, ◌+◌, ◌++◌, ◌∷◌, [], length, map, filter, All, vec_len, vec_capacity};
+ghost use Rattle.osc_pattern.specs.Methods.{IsMethodList};
+ghost use Rattle.osc_pattern.specs.Patterns.{matches};
+ghost use Rattle.osc_tree.specs.Matching.{matching_ids};
+ghost use Rattle.osc_tree.specs.Order.{IsOrder};
+ghost use Rattle.osc_tree.specs.Views.{methods_of, methods_at};
 
+use crate::beginning::beginning_with;
+use crate::literal::literal_front;
 use crate::registered::Registered;
 use osc_pattern::{Pattern, Steps};
 use std::sync::ledger::Ledger;
 
-/// Fills the list with the ids of the methods that the pattern matches, in ascending order of the address.
+/// Fills the list with the ids of the methods that the pattern matches, in ascending order of the address. Only those
+/// that begin with the pattern's literal front are tried.
 pub(crate) fn find_ids<L: Ledger>(
     methods: &[Registered],
+    places: &[u32],
     pattern: &Pattern<'_>,
     ids: &mut Vec<u32>,
     steps: &mut Steps<L>,
 )
-    requires room { length methods.now ≤ vec_capacity ids.old }
-    requires few { length methods.now < 2 ^ 32 }
+    requires list { IsMethodList (methods_of methods.now) }
+    requires order { IsOrder methods.now places.now }
+    requires room { length places.now ≤ vec_capacity ids.old }
     ensures ids { ids.new.items ≡ matching_ids pattern.now (methods_of methods.now) }
-    ensures len { vec_len ids.new ≤ length methods.now }
+    ensures len { vec_len ids.new ≤ length places.now }
     ensures capacity { vec_capacity ids.old ≤ vec_capacity ids.new }
     ensures counted { steps.old ≤ steps.new }
 {
     ids.clear();
-    find_places(methods, pattern, ids, steps);
-    name_places(methods, ids);
+    let near = beginning_with(methods, places, literal_front(pattern.bytes()));
+    add_matching(methods, near, pattern, ids, steps);
 }
 
-/// Adds the places of the matching methods, in ascending order of the address.
-fn find_places<L: Ledger>(
+/// Adds the ids of the methods at these places that the pattern matches, in room that is there.
+fn add_matching<L: Ledger>(
     methods: &[Registered],
+    places: &[u32],
     pattern: &Pattern<'_>,
-    places: &mut Vec<u32>,
+    ids: &mut Vec<u32>,
     steps: &mut Steps<L>,
 )
-    requires empty { places.old.items ≡ [] }
-    requires room { length methods.now ≤ vec_capacity places.old }
-    requires few { length methods.now < 2 ^ 32 }
-    ensures places { methods_at methods.now places.new.items ≡ matching pattern.now (methods_of methods.now) }
-    ensures within { All (λ place. place < length methods.now) places.new.items }
-    ensures len { vec_len places.new ≤ length methods.now }
-    ensures capacity { vec_capacity places.old ≤ vec_capacity places.new }
+    requires within { All (λ place. place < length methods.now) places.now }
+    requires empty { ids.old.items ≡ [] }
+    requires room { length places.now ≤ vec_capacity ids.old }
+    ensures ids { ids.new.items ≡ map (λ method. method.id) (filter (λ method. matches pattern.now method.address) (methods_at methods.now places.now)) }
+    ensures len { vec_len ids.new ≤ length places.now }
+    ensures capacity { vec_capacity ids.old ≤ vec_capacity ids.new }
     ensures counted { steps.old ≤ steps.new }
 {
-    for place in 0..methods.len() {
-        if pattern.matches(&methods[place].address, steps) {
-            enter(methods, place as u32, places);
+    for place in places {
+        let method = &methods[*place as usize];
+        if pattern.matches(&method.address, steps) {
+            add_id(method.id, ids);
         }
     }
 }
 
-/// A place enters before the first whose method has a greater address, in room that is there.
-fn enter(methods: &[Registered], place: u32, places: &mut Vec<u32>)
-    requires place { place < length methods.now }
-    requires within { All (λ other. other < length methods.now) places.old.items }
-    requires room { vec_len places.old < vec_capacity places.old }
-    ensures items { places.new.items ≡ insert places.old.items (position_or_len (λ other. is_below (method_at methods.now place) (method_at methods.now other)) places.old.items) place }
-    ensures within { All (λ other. other < length methods.now) places.new.items }
-    ensures len { vec_len places.new ≡ vec_len places.old + 1 }
-    ensures capacity { vec_capacity places.old ≤ vec_capacity places.new }
+fn add_id(id: u32, ids: &mut Vec<u32>)
+    requires { vec_len ids.old < vec_capacity ids.old }
+    ensures ids { ids.new.items ≡ ids.old.items ++ id ∷ [] }
+    ensures len { vec_len ids.new ≡ vec_len ids.old + 1 }
+    ensures capacity { vec_capacity ids.old ≤ vec_capacity ids.new }
 {
-    let before = first_above(methods, place, places).unwrap_or(places.len());
-    match places.insert(before, place) {
+    match ids.push(id) {
         Ok(()) => {}
         Err(_) => unreachable!(),
-    }
-}
-
-/// Where the first place stands whose method has a greater address.
-fn first_above(methods: &[Registered], place: u32, places: &[u32]) -> Option<usize>
-    requires place { place < length methods.now }
-    requires within { All (λ other. other < length methods.now) places.now }
-    ensures { result ≡ position (λ other. is_below (method_at methods.now place) (method_at methods.now other)) places.now }
-{
-    places
-        .iter()
-        .position(|other| is_ahead(methods, place, *other))
-}
-
-/// The address of the method at this place is before that of the other, in the order of their bytes.
-fn is_ahead(methods: &[Registered], place: u32, other: u32) -> bool
-    requires place { place < length methods.now }
-    requires other { other < length methods.now }
-    ensures { result ≡ is_below (method_at methods.now place) (method_at methods.now other) }
-{
-    methods[place as usize].address < methods[other as usize].address
-}
-
-/// Each place becomes the id of the method there.
-fn name_places(methods: &[Registered], places: &mut Vec<u32>)
-    requires { All (λ place. place < length methods.now) places.old.items }
-    ensures items { places.new.items ≡ map (λ place. (method_at methods.now place).id) places.old.items }
-    ensures len { vec_len places.new ≡ vec_len places.old }
-    ensures capacity { vec_capacity places.new ≡ vec_capacity places.old }
-{
-    for place in places.iter_mut() {
-        *place = methods[*place as usize].id;
     }
 }

@@ -146,8 +146,10 @@ fn match_all<L: Ledger, R: Abort>(rt: &R, alloc: Global, blank: Blank) -> Result
         play(alloc, &mut tree, &mut next, Event::Add(text))?;
     }
     let mut hits = Hits::open(alloc, 3)?;
-    let rows: [(&[u8], &[u32]); 4] = [
+    let rows: [(&[u8], &[u32]); 6] = [
         (b"/*/x", &[1, 0]),
+        (b"/a*/x", &[1, 0]),
+        (b"/a/?", &[0]),
         (b"/a/x", &[0]),
         (b"/b", &[]),
         (b"/?", &[2]),
@@ -157,6 +159,10 @@ fn match_all<L: Ledger, R: Abort>(rt: &R, alloc: Global, blank: Blank) -> Result
         tree.matches(&pattern, &mut hits, &mut steps);
         assert_eq!(rt; hits.ids(), ids);
     }
+    play(alloc, &mut tree, &mut next, Event::Remove(b"/a/x"))?;
+    let pattern = Pattern::check(b"/*").ok().ok_or("a pattern")?;
+    tree.matches(&pattern, &mut hits, &mut steps);
+    assert_eq!(rt; hits.ids(), [2].as_slice());
     Ok(())
 }
 

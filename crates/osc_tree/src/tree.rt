@@ -1,4 +1,5 @@
-//! The tree of methods, as a list in the order of adding, in room that is reserved at opening.
+//! The tree of methods: a list in the order of adding, and their places in the order of their addresses, in room that is
+//! reserved at opening.
 ghost use Rattle.std.specs.Prelude.{◌≡◌, ◌≤◌, ◌↔◌, ℕ, List, [], ◌∷◌, ◌++◌, Some, None, IsOk, IsErr, IfOk, IfErr, IfSome, IsNone, OnOk, OnErr};
 ghost use Rattle.std.specs.Option.{option_map, option_copied};
 ghost use Rattle.std.specs.Result.{result_ok};
@@ -12,6 +13,7 @@ use crate::hits::Hits;
 use crate::lookup::{place_of, with_id};
 use crate::matching::find_ids;
 use crate::nodes::new_nodes;
+use crate::order::{enter, leave};
 use crate::refusals::{NotThere, TreeRefusal};
 use crate::registered::Registered;
 use osc_pattern::{Address, Pattern, Steps};
@@ -27,6 +29,7 @@ use std::sync::ledger::Ledger;
 #[derive(Drop)]
 pub struct Tree {
     methods: Vec<Registered>,
+    places: Vec<u32>,
     method_limit: u32,
     node_limit: u32,
     node_count: u32,
@@ -38,11 +41,12 @@ impl Model for Tree {
 
     ghost Value = { Registry };
 
-    ghost use Rattle.osc_tree.specs.Views.{methods_of, IsKept};
+    ghost use Rattle.osc_tree.specs.Views.{methods_of};
+    ghost use Rattle.osc_tree.specs.Order.{IsIndexed};
 
     ghost view = { λ tree. record { methods = methods_of tree.methods.items; method_limit = tree.method_limit; node_limit = tree.node_limit } };
 
-    ghost invariant = { λ tree. IsKept (methods_of tree.methods.items) tree.method_limit tree.node_limit tree.node_count (vec_capacity tree.methods) };
+    ghost invariant = { λ tree. IsIndexed tree.methods.items tree.places.items tree.method_limit tree.node_limit tree.node_count (vec_capacity tree.methods) (vec_capacity tree.places) };
 }
 
 impl Tree {
@@ -56,6 +60,7 @@ impl Tree {
     {
         Ok(Tree {
             methods: Vec::with_capacity(alloc, methods as usize)?,
+            places: Vec::with_capacity(alloc, methods as usize)?,
             method_limit: methods,
             node_limit: nodes,
             node_count: 0,
@@ -86,10 +91,12 @@ impl Tree {
             Ok(need) => need,
             Err(refusal) => return Err((refusal, address)),
         };
+        let place = self.methods.len() as u32;
         match self.methods.push(Registered { id, address }) {
             Ok(()) => {}
             Err(_) => unreachable!(),
         }
+        enter(&self.methods, place, &mut self.places);
         self.node_count += need;
         Ok(())
     }
@@ -107,6 +114,7 @@ impl Tree {
             return Err(NotThere);
         };
         let method = self.methods.remove(place);
+        leave(place as u32, &mut self.places);
         self.node_count -= new_nodes(&self.methods, &method.address);
         Ok(method.id)
     }
@@ -122,7 +130,7 @@ impl Tree {
         ensures lawful { IsLawful self.now }
         ensures counted { steps.old ≤ steps.new }
     {
-        find_ids(&self.methods, pattern, &mut hits.ids, steps);
+        find_ids(&self.methods, &self.places, pattern, &mut hits.ids, steps);
     }
 
     /// The address of the method with the id.

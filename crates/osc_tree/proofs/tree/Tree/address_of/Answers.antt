@@ -1,6 +1,8 @@
-use Rattle.std.proofs.Common.{◌≡◌, ◌≢◌, ◌==◌, Some, None, find, is_some, refl, sym, ap, subst, ◌∙◌}
+use Rattle.std.proofs.Common.{List, ◌≡◌, ◌≢◌, ◌==◌, Some, None, find, is_some, refl, sym, ap, subst, ◌∙◌}
 use Rattle.std.specs.Option.{option_map, option_copied}
 use Rattle.osc_tree.specs.declared.registered.Registered.{Registered}
+use Rattle.osc_pattern.specs.Methods.{IsMethodList}
+use Rattle.osc_tree.specs.Views.{methods_of}
 use Rattle.osc_tree.specs.Registry.{Registry, IsAt, IsNewId, address_by_id}
 use Rattle.osc_tree.proofs.Lines.{all_at, no_such_id, such_id, address_by_id-of}
 use Rattle.osc_tree.proofs.tree.Tree.address_of.Goals as goal
@@ -32,3 +34,6 @@ returns-clause-read c =
     ap (option_map (λ (method : Registered). method.address)) (sym (ap (find (λ method. method.id == c.args.id)) (sym c.deref.ensures.value) ∙ sym c.with_id.ensures ∙ ap option_copied c.in_ok-with_id.was))
     ∙ sym (address_by_id-of c.self.inside.methods.items c.args.id)
     ∙ ap (λ tree. address_by_id tree.methods c.args.id) c.self.view_is
+
+pub with_id-requires : goal.with_id-requires
+with_id-requires c = subst (λ (l : List Registered). IsMethodList (methods_of l)) (sym c.deref.ensures.value) c.self.invariant.kept.list

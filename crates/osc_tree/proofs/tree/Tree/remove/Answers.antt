@@ -7,6 +7,7 @@ use Rattle.osc_tree.specs.Views.{methods_of}
 use Rattle.osc_tree.proofs.Lists.{position-some}
 use Rattle.osc_tree.proofs.Lines.{unplaced, placed, id_at-none, none-id_at, id_at-some}
 use Rattle.osc_tree.proofs.Lawful.{one_fewer_kept, removed_is, nodes_without, kept_lawful}
+use Rattle.osc_tree.proofs.Leaving.{one_fewer_ordered}
 use Rattle.osc_tree.proofs.tree.Tree.remove.Goals as goal
 
 pub returns-in_default-clause-read : goal.returns-in_default-clause-read
@@ -29,7 +30,7 @@ overflow_sub-self c =
     let method = c.remove-method.result in
     let more : c.new_nodes.result ≡ new_nodes (methods_of (remove registered place)) (get_or registered place method).address =
     c.new_nodes.ensures ∙ ap (λ l. new_nodes (methods_of l) method.address) (c.deref-2.ensures.value ∙ c.remove-method.ensures.items) ∙ ap (λ m. new_nodes (methods_of (remove registered place)) m.address) c.remove-method.ensures.value in
-    let counted = c.self.invariant.counted in
+    let counted = c.self.invariant.kept.counted in
     omega (arith, nodes_without registered place method there.1)
 
 pub invariant_of-self : goal.invariant_of-self
@@ -43,8 +44,13 @@ invariant_of-self c =
     let method = c.remove-method.result in
     let more : c.new_nodes.result ≡ new_nodes (methods_of (remove registered place)) (get_or registered place method).address =
     c.new_nodes.ensures ∙ ap (λ l. new_nodes (methods_of l) method.address) (c.deref-2.ensures.value ∙ c.remove-method.ensures.items) ∙ ap (λ m. new_nodes (methods_of (remove registered place)) m.address) c.remove-method.ensures.value in
-    rw (c.remove-method.ensures.items, more, c.remove-method.ensures.capacity)
-    (one_fewer_kept registered place method c.args.address.now inside.method_limit inside.node_limit inside.node_count (vec_capacity inside.methods) c.self.invariant there.0 there.1)
+    record {
+      kept = rw (c.remove-method.ensures.items, more, c.remove-method.ensures.capacity)
+          (one_fewer_kept registered place method c.args.address.now inside.method_limit inside.node_limit inside.node_count (vec_capacity inside.methods) c.self.invariant.kept there.0 there.1);
+      order = rw (c.remove-method.ensures.items, c.leave.ensures.items)
+          (one_fewer_ordered registered place c.args.address.now method inside.places.items (record { list = c.self.invariant.kept.list; first = there.0; within = there.1 }) c.self.invariant.order);
+      room = rw c.leave.ensures.capacity c.self.invariant.room;
+    }
 
 pub returns-clause-read : goal.returns-clause-read
 returns-clause-read c =
@@ -70,9 +76,9 @@ returns-clause-others c =
     let found : position (λ method. bytes_eq method.address c.args.address.now) registered ≡ Some place =
     ap (λ a. position (λ method. bytes_eq method.address a) registered) (sym c.bytes.ensures.value) ∙ ap (position (λ method. bytes_eq method.address c.bytes.result.now)) (sym c.deref.ensures.value) ∙ sym c.place_of.ensures ∙ c.in-Some.is in
     let there = position-some (λ method. bytes_eq method.address c.args.address.now) registered place found in
-    let others : methods_of c.remove-method.new.self.items ≡ without (methods_of registered) c.args.address.now = ap methods_of c.remove-method.ensures.items ∙ removed_is registered place c.args.address.now c.self.invariant.list there.0 there.1 in
+    let others : methods_of c.remove-method.new.self.items ≡ without (methods_of registered) c.args.address.now = ap methods_of c.remove-method.ensures.items ∙ removed_is registered place c.args.address.now c.self.invariant.kept.list there.0 there.1 in
     ap (λ l. let tree : Registry = record { methods = l; method_limit = inside.method_limit; node_limit = inside.node_limit } in tree) others
     ∙ ap (λ t. let tree : Registry = record { methods = without t.methods c.args.address.now; method_limit = t.method_limit; node_limit = t.node_limit } in tree) c.self.view_is
 
 pub returns-clause-lawful : goal.returns-clause-lawful
-returns-clause-lawful c = kept_lawful _ _ (vec_capacity c.remove-method.new.self) (invariant_of-self c)
+returns-clause-lawful c = let kept = (invariant_of-self c).kept in kept_lawful _ _ (vec_capacity c.remove-method.new.self) kept

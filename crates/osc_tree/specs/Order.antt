@@ -1,0 +1,43 @@
+-- The methods in ascending order of their addresses, and the places where they stand in the order of adding.
+use Rattle.std.specs.Prelude.{◌≡◌, ℕ, ◌≤◌, ◌<◌, Bool, true, false, nat_eq, nat_lt, get_or, ◌-◌, if◌then◌else◌, List, [], length, fold, All}
+use Rattle.std.specs.List.{starts_with}
+use Rattle.std.specs.Ordering.{is_lt, nat_cmp}
+use Rattle.std.specs.Cmp.Lexicographic.{slice_cmp}
+use Rattle.osc_pattern.specs.Methods.{Method}
+use Rattle.osc_tree.specs.declared.registered.Registered.{Registered}
+use Rattle.osc_tree.specs.Matching.{in_place}
+use Rattle.osc_tree.specs.Views.{methods_of, methods_at, IsKept}
+
+-- the methods in ascending order of the address
+abbrev pub ordered : List Method → List Method
+ordered methods = fold in_place [] methods
+
+-- these are the places of all methods, in ascending order of the address
+pub record IsOrder (registered : List Registered) (places : List ℕ) : Type 0 where
+  pub within : All (λ place. place < length registered) places
+  pub all : methods_at registered places ≡ ordered (methods_of registered)
+
+-- the methods are kept, and their places stand in order, with room reserved for as many as there may be methods
+pub record IsIndexed (registered : List Registered) (places : List ℕ) (method_limit node_limit node_count method_capacity place_capacity : ℕ) : Type 0 where
+  pub kept : IsKept (methods_of registered) method_limit node_limit node_count method_capacity
+  pub order : IsOrder registered places
+  pub room : method_limit ≤ place_capacity
+
+-- whether the method's address is before the text, in the order of their bytes
+abbrev pub is_before : List ℕ → Method → Bool
+is_before text method = is_lt (slice_cmp nat_cmp method.address text)
+
+-- whether the method's address begins with the text
+abbrev pub begins_with : List ℕ → Method → Bool
+begins_with text method = starts_with nat_eq method.address text
+
+-- a search for the first method that isn't before a text: all below low are before it, and none from high on
+pub record IsSearched (text : List ℕ) (methods : List Method) (low high : ℕ) : Type 0 where
+  pub order : low ≤ high
+  pub bound : high ≤ length methods
+  pub before : (k : ℕ) (d : Method) → k < low → is_before text (get_or methods k d) ≡ true
+  pub behind : (k : ℕ) (d : Method) → high ≤ k → k < length methods → is_before text (get_or methods k d) ≡ false
+
+-- where a place stands once another is taken out of a list
+abbrev pub closed_up : ℕ → ℕ → ℕ
+closed_up place other = if nat_lt place other then other - 1 else other
