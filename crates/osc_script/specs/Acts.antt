@@ -1,6 +1,6 @@
 -- What a line says, by its words, or the kind of its fault.
-use Rattle.std.specs.Prelude.{ℕ, ◌^◌, ◌<◌, IsTrue, if◌then◌else◌, List, [], ◌∷◌, Option, Some, None, ok_or, Result, Ok, Err, codes}
-use Rattle.std.specs.List.{concat}
+use Rattle.std.specs.Prelude.{ℕ, ◌^◌, ◌<◌, ◌==◌, Bool, true, IsTrue, if◌then◌else◌, List, [], ◌∷◌, Option, Some, None, ok_or, Result, Ok, Err, codes}
+use Rattle.std.specs.List.{concat, list_any}
 use Rattle.std.specs.Int.{w64, from_be_bytes}
 use Rattle.std.specs.Str.{bytes_eq}
 use Rattle.hex.specs.Hex.{decode_of, decode_sized}
@@ -23,15 +23,10 @@ only_one operands = None
 abbrev pub only_of : List (List ℕ) → Result (List ℕ) ℕ
 only_of operands = ok_or (only_one operands) count_kind
 
--- one or more operands, joined
-abbrev pub joined_of : List (List ℕ) → Result (List ℕ) ℕ
-joined_of [] = Err count_kind
-joined_of (operand ∷ operands) = Ok (concat (operand ∷ operands))
-
--- no operand
-abbrev pub nothing_of : List (List ℕ) → Result Act ℕ
-nothing_of [] = Ok Pump
-nothing_of (operand ∷ operands) = Err count_kind
+-- a pump, where there is no operand
+abbrev pub pump_of : List (List ℕ) → Result Act ℕ
+pump_of [] = Ok Pump
+pump_of (operand ∷ operands) = Err count_kind
 
 -- decoded digits, or a fault of this kind
 abbrev pub decoded : ℕ → Result (List ℕ) FromHexError → Result (List ℕ) ℕ
@@ -44,7 +39,7 @@ address_of operands = and_then (only_of operands) (λ operand. if is_address ope
 
 -- words of hexadecimal digits, joined, two digits a byte
 abbrev pub packet_of : List (List ℕ) → Result (List ℕ) ℕ
-packet_of operands = and_then (joined_of operands) (λ digits. decoded hex_kind (decode_of digits))
+packet_of operands = decoded hex_kind (decode_of (concat operands))
 
 -- one word of the digits of eight bytes, which are a number, the first byte the highest
 abbrev pub moment_of : List (List ℕ) → Result ℕ ℕ
@@ -58,8 +53,21 @@ act_of word operands =
     else (if bytes_eq word (codes "remove") then and_then (address_of operands) (λ address. Ok (Remove address))
     else (if bytes_eq word (codes "send") then and_then (packet_of operands) (λ packet. Ok (Send packet))
     else (if bytes_eq word (codes "tick") then and_then (moment_of operands) (λ moment. Ok (Tick moment))
-    else (if bytes_eq word (codes "pump") then nothing_of operands
+    else (if bytes_eq word (codes "pump") then pump_of operands
     else Err word_kind))))
+
+-- a word that begins lines
+abbrev pub is_known : List ℕ → Bool
+is_known word = list_any (bytes_eq word) (codes "add" ∷ codes "remove" ∷ codes "send" ∷ codes "tick" ∷ codes "pump" ∷ [])
+
+-- how many operands a known word has: one for `add`, `remove` and `tick`, any number for `send`, none for `pump`
+abbrev pub has_count : List ℕ → ℕ → Bool
+has_count word many =
+    if bytes_eq word (codes "add") then many == 1
+    else (if bytes_eq word (codes "remove") then many == 1
+    else (if bytes_eq word (codes "send") then true
+    else (if bytes_eq word (codes "tick") then many == 1
+    else many == 0)))
 
 -- an act that the server can be handed: a lawful address, or a moment of 64 bits
 abbrev pub IsLawfulAct : Act → Type 0

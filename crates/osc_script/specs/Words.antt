@@ -1,9 +1,12 @@
 -- The lines of a script, and the words of a line.
-use Rattle.std.specs.Prelude.{ℕ, ◌-◌, ◌==◌, Bool, nat_le, nat_eq, if◌then◌else◌, List, [], ◌∷◌, length, take, filter}
+use Rattle.std.specs.Prelude.{ℕ, ◌-◌, ◌==◌, Bool, not, nat_le, nat_eq, if◌then◌else◌, List, [], ◌∷◌, length, take, filter}
 use Rattle.std.specs.List.{slice_split, ends_with}
 
 abbrev pub is_space : ℕ → Bool
 is_space byte = byte == 32
+
+abbrev pub is_no_space : ℕ → Bool
+is_no_space byte = not (is_space byte)
 
 abbrev pub is_line_feed : ℕ → Bool
 is_line_feed byte = byte == 10

@@ -3,7 +3,7 @@ ghost use Rattle.std.specs.Prelude.{◌≡◌, IfOk};
 ghost use Rattle.std.specs.List.{concat};
 ghost use Rattle.std.specs.Option.{option_copied};
 ghost use Rattle.osc_script.specs.Words.{words_of};
-ghost use Rattle.osc_script.specs.Acts.{act_of, only_one, address_of, packet_of, moment_of, nothing_of};
+ghost use Rattle.osc_script.specs.Acts.{act_of, only_one, address_of, packet_of, moment_of, pump_of};
 ghost use Rattle.osc_script.specs.Scripts.{line_says};
 ghost use Rattle.osc_script.specs.Answers.{Says};
 
@@ -46,7 +46,7 @@ fn read_act(alloc: Global, word: &[u8], operands: &[u8]) -> Result<Act, LineRefu
         return Ok(Act::Tick(read_moment(operands)?));
     }
     if word == b"pump".as_slice() {
-        return read_nothing(operands);
+        return read_pump(operands);
     }
     Err(LineRefusal::Kind(ScriptFault::WORD))
 }
@@ -67,9 +67,6 @@ fn read_address(alloc: Global, operands: &[u8]) -> Result<Address, LineRefusal>
 fn read_packet(alloc: Global, operands: &[u8]) -> Result<Bytes, LineRefusal>
     ensures { Says result (packet_of (words_of operands.now)) }
 {
-    let Some(_) = next_word(operands) else {
-        return Err(LineRefusal::Kind(ScriptFault::COUNT));
-    };
     let digits = joined(alloc, operands)?;
     match hex::decode(alloc, digits.as_slice()) {
         Ok(bytes) => Ok(Bytes::of(bytes)),
@@ -89,8 +86,8 @@ fn read_moment(operands: &[u8]) -> Result<u64, LineRefusal>
     }
 }
 
-fn read_nothing(operands: &[u8]) -> Result<Act, LineRefusal>
-    ensures { Says result (nothing_of (words_of operands.now)) }
+fn read_pump(operands: &[u8]) -> Result<Act, LineRefusal>
+    ensures { Says result (pump_of (words_of operands.now)) }
 {
     match next_word(operands) {
         Some(_) => Err(LineRefusal::Kind(ScriptFault::COUNT)),

@@ -24,13 +24,18 @@ impl Model for Script {
 }
 
 impl Script {
-    ghost use Rattle.std.specs.Prelude.{◌≡◌, ◌≤◌, length, IfOk};
+    ghost use Rattle.std.specs.Prelude.{◌≡◌, ◌≤◌, ◌<◌, length, Err, IfOk};
     ghost use Rattle.osc_script.specs.Scripts.{script_of, AreLawful};
     ghost use Rattle.osc_script.specs.Answers.{Reads};
+    ghost use Rattle.osc_script.specs.Kinds.{too_long_kind};
+    ghost use Rattle.osc_script.specs.Faults.{IsFirstFault};
+    ghost use Rattle.osc_script.specs.declared.fault.ScriptFault.{ScriptFault};
 
     /// The lines of the bytes, or the first fault; `NoMemory` where memory runs out before one is found.
     pub fn read(alloc: Global, bytes: &[u8], mode: Mode) -> Result<Script, ScriptRefusal>
         ensures reads { Reads result (script_of mode bytes.now) }
+        ensures first { (fault : ScriptFault) → result ≡ Err (ScriptRefusal.Fault fault) → 0 < fault.line → IsFirstFault bytes.now fault }
+        ensures long { 67108864 < length bytes.now → result ≡ Err (ScriptRefusal.Fault (record { line = 0; kind = too_long_kind })) }
         ensures lawful { IfOk result AreLawful }
         ensures few { IfOk result (λ lines. length lines ≤ length bytes.now) }
         ensures short { IfOk result (λ _. length bytes.now ≤ 67108864) }

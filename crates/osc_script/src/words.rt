@@ -1,8 +1,9 @@
 // Cuts lines off a script, and words off a line.
-ghost use Rattle.std.specs.Prelude.{◌≡◌, ◌<◌, [], ◌∷◌, length, not, position, MatchOption, IfSome};
+ghost use Rattle.std.specs.Prelude.{◌≡◌, ◌<◌, [], ◌∷◌, length, position, MatchOption, IfSome};
 ghost use Rattle.osc_script.specs.Words;
-ghost use Rattle.osc_script.specs.Words.{is_space, is_line_feed, words_of, lines_of};
+ghost use Rattle.osc_script.specs.Words.{is_space, is_no_space, is_line_feed, words_of, lines_of};
 
+#[tactic(auto, using(crate::proofs::Cutting::lines))]
 /// The first line without what ends it, and what follows it.
 pub(crate) fn first_line(rest: &[u8]) -> (&[u8], &[u8])
     requires { 0 < length rest.now }
@@ -30,6 +31,7 @@ fn without_return(line: &[u8]) -> &[u8]
     }
 }
 
+#[tactic(auto, using(crate::proofs::Cutting::words))]
 /// The first word, and what follows the space behind it.
 pub(crate) fn next_word(text: &[u8]) -> Option<(&[u8], &[u8])>
     ensures words { MatchOption result (words_of text.now ≡ []) (λ parts. words_of text.now ≡ parts.0.now ∷ words_of parts.1.now) }
@@ -44,7 +46,7 @@ pub(crate) fn next_word(text: &[u8]) -> Option<(&[u8], &[u8])>
 
 /// Where the first byte is that is no space.
 fn first_other(text: &[u8]) -> Option<usize>
-    ensures { result ≡ position (λ byte. not (is_space byte)) text.now }
+    ensures { result ≡ position is_no_space text.now }
 {
     text.iter().position(|byte| *byte != b' ')
 }

@@ -14,6 +14,7 @@ returns c = record {
   many = refl;
   unknown = refl;
   skipped = refl;
+  bare = refl;
   second = refl;
   read = refl;
 }
