@@ -1,9 +1,10 @@
 -- How the first line and the first word are cut off.
-use Rattle.std.proofs.Common.{◌≡◌, ℕ, suc, ◌+◌, ◌-◌, ◌<◌, ◌≤◌, Bool, true, false, cond, not, eqb, nat_le, List, [], ◌∷◌, length, take, drop, filter, position, Some, None, refl, sym, ap, ◌∙◌, arith, one-add, subst, length-take, length-drop}
-use Rattle.std.specs.List.{slice_split, before_first, after_first, position_or_len, onto_first}
+use Rattle.std.proofs.Common.{◌≡◌, ℕ, suc, ◌+◌, ◌-◌, ◌<◌, ◌≤◌, Bool, true, false, cond, not, eqb, nat_le, List, [], ◌∷◌, length, take, drop, filter, position, Some, None, refl, sym, ap, ◌∙◌, arith, one-add, subst, length-take, length-drop, ◌++◌, length-append, All}
+use Rattle.std.specs.List.{slice_split, position_or_len, onto_first}
 use Rattle.std.proofs.lemmas.List.{take_all, drop_all}
+use Rattle.std.proofs.Math.Seq.{take-append_seam, drop-append_seam}
 use Rattle.std.proofs.lemmas.Bool.Decides.{nat_tests}
-use Rattle.std.proofs.lemmas.List.Splits.{slice_split_first}
+use Rattle.std.proofs.lemmas.List.Splits.{slice_split_first, slice_split_at, slice_split_none}
 use Rattle.osc_script.specs.Words.{is_space, is_no_space, is_line_feed, is_word, words_of, without_return, lines_from, lines_of}
 use Rattle.osc_script.proofs.Places.{position_some, position_none}
 
@@ -114,3 +115,26 @@ word_last text word k is cut ends =
     word_unended text k (sym is) (ap (position is_space) (sym same) ∙ sym ends) ∙ ap (λ l. l ∷ []) (sym same)
 
 pub ruleset words = (words_none)
+
+pub feed_ends : (line rest : List ℕ) → All (λ byte. is_line_feed byte ≡ false) line → lines_of (line ++ 10 ∷ rest) ≡ without_return line ∷ lines_of rest
+feed_ends line rest none =
+    let after = parts_are is_line_feed rest in
+    ap lines_from (slice_split_at is_line_feed line 10 rest none refl) ∙ more_lines line (slice_split is_line_feed rest) after.0 after.1 after.2
+
+pub last_line : (line : List ℕ) → All (λ byte. is_line_feed byte ≡ false) line → 0 < length line → lines_of line ≡ line ∷ []
+last_line line none some = ap lines_from (slice_split_none is_line_feed line none) ∙ one_part line some
+
+pub return_dropped : (line : List ℕ) → without_return (line ++ 13 ∷ []) ≡ line
+return_dropped line =
+    let long : length (line ++ 13 ∷ []) - 1 ≡ length line = omega (arith, length-append line (13 ∷ [])) in
+    let end : drop (length (line ++ 13 ∷ []) - 1) (line ++ 13 ∷ []) ≡ 13 ∷ [] = ap (λ n. drop n (line ++ 13 ∷ [])) long ∙ drop-append_seam line (13 ∷ []) in
+    rw end (ap (λ n. take n (line ++ 13 ∷ [])) long ∙ take-append_seam line (13 ∷ []))
+
+pub space_tells_nothing : (text : List ℕ) → words_of (32 ∷ text) ≡ words_of text
+space_tells_nothing text = space_dropped 32 text refl
+
+pub space_ends : (word rest : List ℕ) → All (λ byte. is_space byte ≡ false) word → 0 < length word → words_of (word ++ 32 ∷ rest) ≡ word ∷ words_of rest
+space_ends word rest none some = ap (filter is_word) (slice_split_at is_space word 32 rest none refl) ∙ word_kept word (slice_split is_space rest) some
+
+pub last_word : (word : List ℕ) → All (λ byte. is_space byte ≡ false) word → 0 < length word → words_of word ≡ word ∷ []
+last_word word none some = ap (filter is_word) (slice_split_none is_space word none) ∙ word_kept word [] some

@@ -1,8 +1,8 @@
 -- What a script that isn't refused holds.
-use Rattle.std.proofs.Common.{◌≡◌, ℕ, ◌+◌, ◌*◌, ◌<◌, ◌≤◌, ◌^◌, Bool, true, false, cond, eqb, IsTrue, List, [], ◌∷◌, ◌++◌, length, Option, Some, None, ok_or, Result, Ok, Err, IfOk, codes, refl, sym, ap, subst, ◌∙◌, arith, nat_lt}
+use Rattle.std.proofs.Common.{◌≡◌, ℕ, ◌+◌, ◌*◌, ◌<◌, ◌≤◌, ◌^◌, Bool, true, false, cond, eqb, IsTrue, List, [], ◌∷◌, length, Option, Some, None, Result, Ok, Err, IfOk, codes, refl, sym, ap, subst, ◌∙◌, arith, nat_lt}
 use Rattle.std.proofs.lemmas.Bool.{ltb-false}
 use Rattle.std.proofs.lemmas.List.{append-nil}
-use Rattle.std.specs.List.{slice_split, onto_first, starts_with, AllByRecursion}
+use Rattle.std.specs.List.{slice_split, onto_first, starts_with}
 use Rattle.std.specs.Int.{w64, from_be_bytes}
 use Rattle.std.specs.Str.{bytes_eq}
 use Rattle.hex.specs.Hex.{decode_sized, IsBytes}
@@ -18,7 +18,7 @@ use Rattle.osc_script.specs.declared.fault.ScriptFault.{ScriptFault}
 use Rattle.osc_script.specs.Kinds.{word_kind, address_kind, tag_kind}
 use Rattle.osc_script.specs.Words.{words_of, is_line_feed, lines_from, lines_of}
 use Rattle.osc_script.specs.Acts.{and_then, only_of, pump_of, decoded, address_of, packet_of, moment_of, act_of, IsLawfulAct}
-use Rattle.osc_script.specs.Scripts.{words_say, line_says, line_from, line_of, onto, script_from, script_of, AreLawful}
+use Rattle.osc_script.specs.Scripts.{words_say, line_says, line_from, onto, script_from, script_of, AreLawful}
 use Rattle.osc_script.proofs.Lines.{behind}
 
 -- where a step on what was read gives a value, there was one

@@ -1,5 +1,5 @@
 -- What a list of bytes says line by line, or its first fault.
-use Rattle.std.specs.Prelude.{ℕ, ◌+◌, ◌<◌, nat_lt, nat_eq, if◌then◌else◌, List, [], ◌∷◌, length, Option, Some, None, Result, Ok, Err, codes}
+use Rattle.std.specs.Prelude.{ℕ, ◌+◌, nat_lt, nat_eq, if◌then◌else◌, List, [], ◌∷◌, length, Option, Some, None, Result, Ok, Err, codes}
 use Rattle.std.specs.List.{starts_with, AllByRecursion}
 use Rattle.osc_script.specs.declared.act.Act.{Act}
 use Rattle.osc_script.specs.declared.line.Line.{Line}

@@ -54,10 +54,8 @@ fn read_act(alloc: Global, word: &[u8], operands: &[u8]) -> Result<Act, LineRefu
 fn read_address(alloc: Global, operands: &[u8]) -> Result<Address, LineRefusal>
     ensures { Says result (address_of (words_of operands.now)) }
 {
-    match Address::read(
-        alloc,
-        only_word(operands).ok_or(LineRefusal::Kind(ScriptFault::COUNT))?,
-    ) {
+    let operand = only_word(operands).ok_or(LineRefusal::Kind(ScriptFault::COUNT))?;
+    match Address::read(alloc, operand) {
         Ok(address) => Ok(address),
         Err(AddressFault::NoMemory) => Err(LineRefusal::NoMemory),
         Err(_) => Err(LineRefusal::Kind(ScriptFault::ADDRESS)),
@@ -78,9 +76,8 @@ fn read_packet(alloc: Global, operands: &[u8]) -> Result<Bytes, LineRefusal>
 fn read_moment(operands: &[u8]) -> Result<u64, LineRefusal>
     ensures { Says result (moment_of (words_of operands.now)) }
 {
-    match <[u8; 8] as FromHex>::from_hex(only_word(operands).ok_or(LineRefusal::Kind(
-        ScriptFault::COUNT,
-    ))?) {
+    let operand = only_word(operands).ok_or(LineRefusal::Kind(ScriptFault::COUNT))?;
+    match <[u8; 8] as FromHex>::from_hex(operand) {
         Ok(bytes) => Ok(u64::from_be_bytes(bytes)),
         Err(_) => Err(LineRefusal::Kind(ScriptFault::TAG)),
     }

@@ -1,8 +1,9 @@
 //! What the definitions say of all scripts, and of the examples of docs/FORMATS.md.
 ghost use Rattle.std.specs.Prelude.{◌≡◌, ◌≤◌, ◌<◌, ◌↔◌, ◌^◌, ◌%◌, ℕ, true, false, List, [], ◌∷◌, ◌++◌, length, Ok, Err, IsOk, IfOk, codes};
-ghost use Rattle.std.specs.List.{AllPass, concat};
+ghost use Rattle.std.specs.List.{All, AllPass, concat};
 ghost use Rattle.std.specs.Int.{w64, to_be_bytes};
 ghost use Rattle.hex.specs.Hex.{is_hex_digit, encode_lower, encode_upper, IsBytes};
+ghost use Rattle.osc_script.specs.Words.{is_space, is_line_feed, words_of, without_return, lines_of};
 ghost use Rattle.osc_script.specs.Kinds.{word_kind, count_kind};
 ghost use Rattle.osc_script.specs.Acts.{is_known, has_count, act_of, packet_of, moment_of};
 ghost use Rattle.osc_script.specs.declared.fault.ScriptFault.{ScriptFault};
@@ -11,6 +12,20 @@ ghost use Rattle.osc_script.specs.declared.mode.Mode.{Mode};
 ghost use Rattle.osc_script.specs.declared.mode.Mode.TheVariants.{Plain};
 ghost use Rattle.osc_script.specs.Scripts.{script_of, AreLawful};
 ghost use Rattle.osc_script.specs.Faults.{IsFirstFault};
+
+/// A line feed ends a line, a carriage return right before it is no part of the line, and the last line may lack both.
+pub fn lines_end_at_line_feeds()
+    ensures ended { (line rest : List ℕ) → All (λ byte. is_line_feed byte ≡ false) line → lines_of (line ++ 10 ∷ rest) ≡ without_return line ∷ lines_of rest }
+    ensures returned { (line : List ℕ) → without_return (line ++ 13 ∷ []) ≡ line }
+    ensures last { (line : List ℕ) → All (λ byte. is_line_feed byte ≡ false) line → 0 < length line → lines_of line ≡ line ∷ [] }
+{}
+
+/// Spaces stand between words, before the first and after the last, and tell nothing else.
+pub fn words_stand_between_spaces()
+    ensures spaced { (text : List ℕ) → words_of (32 ∷ text) ≡ words_of text }
+    ensures word { (word rest : List ℕ) → All (λ byte. is_space byte ≡ false) word → 0 < length word → words_of (word ++ 32 ∷ rest) ≡ word ∷ words_of rest }
+    ensures last { (word : List ℕ) → All (λ byte. is_space byte ≡ false) word → 0 < length word → words_of word ≡ word ∷ [] }
+{}
 
 /// What a script that isn't refused holds: addresses that are lawful, moments of 64 bits, and no more lines than bytes.
 pub fn scripts_are_lawful()

@@ -49,6 +49,7 @@ impl Script {
         read_lines(alloc, bytes, mode)
     }
 
+    /// The script of these lines.
     pub(crate) fn of(lines: Vec<Line>) -> Script
         ensures { result ≡ lines.items }
     {
@@ -59,7 +60,7 @@ impl Script {
     pub fn lines(&self) -> &[Line]
         ensures { result.now ≡ self.now }
     {
-        self.items.as_slice()
+        &self.items
     }
 
     /// The lines, handed out. Takes no memory.

@@ -31,6 +31,17 @@ fn the_first_line_outside_the_rules_is_told(rt: HostRuntime) -> Result<(), Fail>
     Ok(())
 }
 
+fn shown(act: &Act) -> (&str, &[u8]) {
+    match act {
+        Act::Add(address) => ("add", address.bytes()),
+        Act::Remove(address) => ("remove", address.bytes()),
+        Act::Send(packet) => ("send", packet.as_slice()),
+        Act::Tick(511) => ("tick", b"511"),
+        Act::Tick(_) => ("tick", b"another"),
+        Act::Pump => ("pump", b""),
+    }
+}
+
 #[test]
 fn lines_that_say_something_keep_their_numbers(rt: HostRuntime) -> Result<(), Fail> {
     let alloc = rt.alloc();
@@ -39,36 +50,22 @@ fn lines_that_say_something_keep_their_numbers(rt: HostRuntime) -> Result<(), Fa
     let script = Script::read(alloc, bytes, Mode::Plain)
         .ok()
         .ok_or("a script")?;
-    let mut numbers = Vec::new(alloc);
-    for line in script.lines() {
+    let lines = [
+        (3, "add", b"/a".as_slice()),
+        (5, "remove", b"/b".as_slice()),
+        (6, "send", b"/a\n".as_slice()),
+        (7, "tick", b"511".as_slice()),
+        (9, "pump", b"".as_slice()),
+        (10, "send", b"".as_slice()),
+    ];
+    for (line, (number, word, operand)) in script.lines().iter().zip(lines) {
+        assert_eq!(rt; line.number, number);
         assert_eq!(rt; line.lane, 0);
-        numbers.push(line.number)?;
+        let (said, with) = shown(&line.act);
+        assert_eq!(rt; said, word);
+        assert_eq!(rt; with, operand);
     }
-    assert_eq!(rt; numbers.as_slice(), [3, 5, 6, 7, 9, 10].as_slice());
-    for line in script.into_lines() {
-        match line.act {
-            Act::Add(address) => {
-                assert_eq!(rt; line.number, 3);
-                assert_eq!(rt; address.bytes(), b"/a".as_slice());
-            }
-            Act::Remove(address) => {
-                assert_eq!(rt; line.number, 5);
-                assert_eq!(rt; address.bytes(), b"/b".as_slice());
-            }
-            Act::Send(packet) if line.number == 6 => {
-                assert_eq!(rt; packet.as_slice(), b"/a\n".as_slice());
-            }
-            Act::Send(packet) => {
-                assert_eq!(rt; line.number, 10);
-                assert!(rt; packet.as_slice().is_empty());
-            }
-            Act::Tick(moment) => {
-                assert_eq!(rt; line.number, 7);
-                assert_eq!(rt; moment, 511);
-            }
-            Act::Pump => assert_eq!(rt; line.number, 9),
-        }
-    }
+    assert_eq!(rt; script.into_lines().len(), lines.len());
     Ok(())
 }
 
