@@ -13,14 +13,15 @@ ghost use Rattle.osc_script.specs.declared.mode.Mode.TheVariants.{Plain};
 ghost use Rattle.osc_script.specs.Scripts.{script_of, AreLawful};
 ghost use Rattle.osc_script.specs.Faults.{IsFirstFault};
 
-/// A line feed ends a line, a carriage return right before it is no part of the line, and the last line may lack both.
+/// A line feed ends a line; one carriage return right before it is no part of the line; a last line without a line feed
+/// stands as it is.
 pub fn lines_end_at_line_feeds()
     ensures ended { (line rest : List ℕ) → All (λ byte. is_line_feed byte ≡ false) line → lines_of (line ++ 10 ∷ rest) ≡ without_return line ∷ lines_of rest }
     ensures returned { (line : List ℕ) → without_return (line ++ 13 ∷ []) ≡ line }
     ensures last { (line : List ℕ) → All (λ byte. is_line_feed byte ≡ false) line → 0 < length line → lines_of line ≡ line ∷ [] }
 {}
 
-/// Spaces stand between words, before the first and after the last, and tell nothing else.
+/// Spaces stand between words, and it doesn't matter how many, nor whether some stand first or last.
 pub fn words_stand_between_spaces()
     ensures spaced { (text : List ℕ) → words_of (32 ∷ text) ≡ words_of text }
     ensures word { (word rest : List ℕ) → All (λ byte. is_space byte ≡ false) word → 0 < length word → words_of (word ++ 32 ∷ rest) ≡ word ∷ words_of rest }
