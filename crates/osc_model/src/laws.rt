@@ -15,13 +15,20 @@ ghost use Rattle.osc_model.specs.Refusals.{IsRefusal};
 ghost use Rattle.osc_model.specs.Heard.{Told, reset, hear_all, heard_of, calls_bytes, IsWithin};
 ghost use Rattle.osc_model.specs.History.{Entry, IsLawful, Legal, IsSound, IsInvokedIn, after, invocations};
 
+use osc_pattern::laws as addresses;
+use osc_tree::laws as trees;
+
 /// What holds of a server at every moment holds at its opening, and each lawful event keeps it. So it holds after every
 /// legal history.
 pub fn a_server_stays_sound()
     ensures opening { (caps : Caps) → AreInRange caps → IsSound (opening caps) }
     ensures step { (state : State) (event : Event) → IsLawful event → IsSound state → IsSound (step state event).state }
     ensures after { (caps : Caps) (history : List Entry) → Legal caps history → IsSound (after (opening caps) history) }
-{}
+{
+    addresses::tests_are_exact();
+    trees::an_added_method_is_lawful();
+    trees::an_address_adds_its_new_nodes();
+}
 
 /// Units enter the queue each once, and none of those that waited is lost. Each takes its blocks.
 pub fn units_enter_the_queue()
@@ -33,7 +40,9 @@ pub fn units_enter_the_queue()
 pub fn a_release_takes_the_least_unit()
     ensures step { (state : State) → IsInOrder state.queue → ReleasesLeast state (step state release) }
     ensures after { (caps : Caps) (history : List Entry) → Legal caps history → ReleasesLeast (after (opening caps) history) (step (after (opening caps) history) release) }
-{}
+{
+    a_server_stays_sound();
+}
 
 /// An event that is refused, and a release that finds nothing due, change nothing and invoke nothing.
 pub fn a_refusal_changes_nothing()
@@ -53,7 +62,9 @@ pub fn an_id_is_given_once()
 pub fn invocations_are_of_registered_methods()
     ensures step { (state : State) (event : Event) → InvokesRegistered state (step state event) }
     ensures history { (state : State) (history : List Entry) → AllByRecursion (IsInvokedIn state history) (invocations state history) }
-{}
+{
+    trees::the_matching_methods_ascend();
+}
 
 /// A box hears the calls of its id in their order, and keeps the last bytes of them behind what it had heard. So a box
 /// that was reset has then heard the last bytes of these calls.
