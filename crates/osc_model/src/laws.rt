@@ -16,6 +16,7 @@ ghost use Rattle.osc_model.specs.Events.{Event, submit, release, tick, enrol, ad
 ghost use Rattle.osc_model.specs.Step.{step, waiting, numbered, enter_all};
 ghost use Rattle.osc_model.specs.Releases.{ReleasesLeast, InvokesRegistered};
 ghost use Rattle.osc_model.specs.Refusals.{IsRefusal};
+ghost use Rattle.osc_model.specs.Passing.{entering, leaving, all_entering, all_leaving};
 ghost use Rattle.osc_model.specs.Heard.{Told, reset, hear_all, heard_of, calls_bytes, IsWithin};
 ghost use Rattle.osc_model.specs.History.{Entry, IsLawful, Legal, IsSound, IsInvokedIn, after, invocations};
 
@@ -84,6 +85,19 @@ pub fn a_release_takes_the_least_unit()
 {
     a_server_stays_sound();
 }
+
+/// No unit is lost, and none is released twice: those that waited and those that are queued are, each once, those that
+/// are released and those that wait then.
+pub fn no_unit_is_lost()
+    ensures step { (state : State) (event : Event) → IsPermutation (state.queue ++ entering state event) (leaving state event ++ (step state event).state.queue) }
+    ensures history { (state : State) (history : List Entry) → IsPermutation (state.queue ++ all_entering state history) (all_leaving state history ++ (after state history).queue) }
+{}
+
+/// The clock never goes back.
+pub fn the_clock_never_goes_back()
+    ensures step { (state : State) (event : Event) → state.clock ≤ (step state event).state.clock }
+    ensures after { (state : State) (history : List Entry) → state.clock ≤ (after state history).clock }
+{}
 
 /// An event that is refused, and a release that finds nothing due, change nothing and invoke nothing.
 pub fn a_refusal_changes_nothing()
