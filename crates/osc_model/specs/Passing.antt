@@ -1,11 +1,11 @@
 -- Which units a history queues, and which it releases.
-use Rattle.std.specs.Prelude.{ℕ, nat_le, nat_lt, if◌then◌else◌, List, [], ◌∷◌, ◌++◌, length}
+use Rattle.std.specs.Prelude.{ℕ, zero, suc, ◌+◌, nat_le, nat_lt, if◌then◌else◌, List, [], ◌∷◌, ◌++◌, length}
 use Rattle.osc_packet.specs.Units.{Timed}
 use Rattle.osc_packet.specs.Reading.{units_read}
 use Rattle.osc_queue.specs.Timed.{due_of}
 use Rattle.osc_model.specs.State.{State, Queued}
 use Rattle.osc_model.specs.Counts.{blocks_of, free_places, free_blocks}
-use Rattle.osc_model.specs.Events.{Event, submit, release}
+use Rattle.osc_model.specs.Events.{Event, submit, release, Answer, queued, released}
 use Rattle.osc_model.specs.Step.{step, numbered}
 use Rattle.osc_model.specs.History.{Entry}
 
@@ -28,6 +28,21 @@ first_due clock (unit ∷ units) = if nat_le (due_of unit) clock then unit ∷ [
 abbrev pub leaving : State → Event → List Queued
 leaving state release = first_due state.clock state.queue
 leaving state _ = []
+
+-- so many numbers, from the first on
+abbrev pub numbers_from : ℕ → ℕ → List ℕ
+numbers_from first zero = []
+numbers_from first (suc count) = first ∷ numbers_from (first + 1) count
+
+-- the numbers that an answer gives to units
+abbrev pub queued_in : Answer → List ℕ
+queued_in (queued first count) = numbers_from first count
+queued_in _ = []
+
+-- the number of the unit that an answer says was released, or none
+abbrev pub released_in : Answer → List ℕ
+released_in (released unit hits) = unit ∷ []
+released_in _ = []
 
 -- the units that a history queues, in their order
 abbrev pub all_entering : State → List Entry → List Queued

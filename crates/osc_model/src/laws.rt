@@ -1,5 +1,5 @@
 //! What the rules of the server say of every state and every history.
-ghost use Rattle.std.specs.Prelude.{◌≡◌, ◌≤◌, ◌<◌, ◌+◌, ℕ, List, [], ◌∷◌, ◌++◌, length, replicate, codes, All, None, Some};
+ghost use Rattle.std.specs.Prelude.{◌≡◌, ◌≤◌, ◌<◌, ◌+◌, ℕ, List, [], ◌∷◌, ◌++◌, length, map, replicate, codes, All, None, Some};
 ghost use Rattle.std.specs.Option.{option_map};
 ghost use Rattle.std.specs.List.{AllByRecursion, Contains};
 ghost use Rattle.std.specs.List.Sorted.{IsPermutation};
@@ -7,7 +7,7 @@ ghost use Rattle.osc_pattern.specs.Addresses.{IsAddress};
 ghost use Rattle.osc_pattern.specs.Methods.{Method, IsMethodList};
 ghost use Rattle.osc_packet.specs.Units.{Timed, blocks};
 ghost use Rattle.osc_method.specs.Heard.{last_of};
-ghost use Rattle.osc_queue.specs.Timed.{enter, IsInOrder, IsNewUnit};
+ghost use Rattle.osc_queue.specs.Timed.{unit_of, enter, IsInOrder, IsNewUnit};
 ghost use Rattle.osc_tree.specs.Registry.{Registry, IsLawful as IsLawfulRegistry, IsNewId, without, address_by_id};
 ghost use Rattle.osc_tree.specs.Adding.{IsAddable, add_refusal};
 ghost use Rattle.osc_model.specs.State.{Caps, AreInRange, State, Queued, AreNumbered, opening};
@@ -16,7 +16,7 @@ ghost use Rattle.osc_model.specs.Events.{Event, submit, release, tick, enrol, ad
 ghost use Rattle.osc_model.specs.Step.{step, waiting, numbered, enter_all};
 ghost use Rattle.osc_model.specs.Releases.{ReleasesLeast, InvokesRegistered};
 ghost use Rattle.osc_model.specs.Refusals.{IsRefusal};
-ghost use Rattle.osc_model.specs.Passing.{entering, leaving, all_entering, all_leaving};
+ghost use Rattle.osc_model.specs.Passing.{entering, leaving, all_entering, all_leaving, queued_in, released_in};
 ghost use Rattle.osc_model.specs.Heard.{Told, reset, hear_all, heard_of, calls_bytes, IsWithin};
 ghost use Rattle.osc_model.specs.History.{Entry, IsLawful, Legal, IsSound, IsInvokedIn, after, invocations};
 
@@ -87,10 +87,12 @@ pub fn a_release_takes_the_least_unit()
 }
 
 /// No unit is lost, and none is released twice: those that waited and those that are queued are, each once, those that
-/// are released and those that wait then.
+/// are released and those that wait then. The answers tell their numbers.
 pub fn no_unit_is_lost()
     ensures step { (state : State) (event : Event) → IsPermutation (state.queue ++ entering state event) (leaving state event ++ (step state event).state.queue) }
     ensures history { (state : State) (history : List Entry) → IsPermutation (state.queue ++ all_entering state history) (all_leaving state history ++ (after state history).queue) }
+    ensures entering { (state : State) (event : Event) → map (λ unit. unit_of unit) (entering state event) ≡ queued_in (step state event).answer }
+    ensures leaving { (state : State) (event : Event) → map (λ unit. unit_of unit) (leaving state event) ≡ released_in (step state event).answer }
 {}
 
 /// The clock never goes back.
