@@ -1,0 +1,22 @@
+-- How much of a server's tables is in use.
+use Rattle.std.specs.Prelude.{ℕ, ◌+◌, ◌-◌, List, [], ◌∷◌, length}
+use Rattle.osc_packet.specs.Units.{Timed, blocks}
+use Rattle.osc_model.specs.State.{State, Queued}
+
+-- the blocks that units take
+abbrev pub blocks_of : List Timed → ℕ
+blocks_of [] = 0
+blocks_of (unit ∷ units) = blocks unit + blocks_of units
+
+-- the blocks that queued units take
+abbrev pub queued_blocks : List Queued → ℕ
+queued_blocks [] = 0
+queued_blocks (unit ∷ units) = blocks unit.2 + queued_blocks units
+
+-- how many more units may be queued
+abbrev pub free_places : State → ℕ
+free_places state = state.caps.units - length state.queue
+
+-- how many blocks are free
+abbrev pub free_blocks : State → ℕ
+free_blocks state = state.caps.blocks - queued_blocks state.queue

@@ -1,0 +1,51 @@
+-- What callers hand in and are answered.
+use Rattle.std.specs.Prelude.{ℕ, List, Option}
+use Rattle.osc_tree.specs.Adding.{Refusal}
+
+-- how much is needed, and how much is free
+pub record Room : Type 0 where
+  pub need : ℕ
+  pub free : ℕ
+
+-- what a caller hands in
+pub data Event : Type 0 where
+  enrol : Event
+  submit : List ℕ → Event  -- the bytes of a packet
+  add : List ℕ → Event  -- an address
+  remove : List ℕ → Event
+  tick : ℕ → Event
+  release : Event
+
+-- which message of a unit, and the method that it invokes
+pub record Hit : Type 0 where
+  pub index : ℕ
+  pub id : ℕ
+
+-- what an event is answered
+pub data Answer : Type 0 where
+  number : ℕ → Answer
+  callers_full : Answer
+  queued : ℕ → ℕ → Answer  -- the first unit's number, and how many
+  units_full : Room → Answer
+  pool_full : Room → Answer
+  added : ℕ → Answer
+  refused : Refusal → Answer  -- why an address isn't added
+  removed : ℕ → Answer
+  not_there : Answer
+  ticked : Answer
+  clock_back : ℕ → Answer  -- the clock that is kept
+  released : ℕ → List Hit → Answer
+  nothing_due : Option ℕ → Answer
+  record_full : Room → Answer
+
+-- a call of a method: which message of the unit, the method, and the message
+pub record Call : Type 0 where
+  pub index : ℕ
+  pub id : ℕ
+  pub address : List ℕ
+  pub message : List ℕ
+
+-- a call, in the unit with a number
+pub record Invocation : Type 0 where
+  pub unit : ℕ
+  pub call : Call

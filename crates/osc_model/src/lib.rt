@@ -1,0 +1,5 @@
+//! The rules of the server as plain lists: its state, what each event is answered and leaves, its histories, and what
+//! boxed methods hear of them (docs/SERVER.md). The definitions stand in `specs/`; `laws` says what they come to.
+#![tactic(auto)]
+
+pub mod laws;
