@@ -1,33 +1,23 @@
 -- What the parts of a server stand for.
-use Rattle.std.specs.Prelude.{Bool, ◌&&◌, nat_lt, ◌^◌, List, map, length}
-use Rattle.std.specs.List.{list_all}
-use Rattle.std.specs.Borrow.{Bor}
+use Rattle.std.specs.Prelude.{◌≡◌, ℕ, ◌<◌, ◌^◌, IsTrue, List, map, length, All, Contains}
+use Rattle.std.specs.List.{AllByRecursion, list_all}
 use Rattle.osc_message.specs.Reading.{is_message}
-use Rattle.osc_core.specs.declared.methods.Registered.{Registered}
-use Rattle.osc_core.specs.declared.queue.Stored.{Stored}
-use Rattle.osc_pattern.specs.Methods.{Method}
-use Rattle.osc_core.specs.State.{Queued}
+use Rattle.osc_queue.specs.Timed.{Item, due_of, unit_of}
+use Rattle.osc_model.specs.State.{State, Queued}
+use Rattle.osc_model.specs.Counts.{queued_blocks}
+use Rattle.osc_model.specs.History.{IsSound}
+use Rattle.osc_core.specs.Kept.{Kept, Stock, kept_blocks, messages_by}
 
--- a registered method
-abbrev pub method_of : Registered → Method
-method_of registered = record { id = registered.id; address = registered.address }
+-- a queued unit: what the queue has of it is its tag, and its messages are kept by its number
+abbrev pub queued_of : List Kept → Item ℕ → Queued
+queued_of kept item = (due_of item, unit_of item, record { tag = item.2; messages = messages_by kept (unit_of item) })
 
--- registered methods, in the order of adding
-abbrev pub methods_of : List Registered → List Method
-methods_of = map method_of
+-- the queued units, in order
+abbrev pub queue_of : List Kept → List (Item ℕ) → List Queued
+queue_of kept items = map (queued_of kept) items
 
--- methods that are lent
-abbrev pub lent_of : List (Bor Registered) → List Method
-lent_of = map (λ lent. method_of lent.now)
-
--- a unit that is stored
-abbrev pub queued_of : Stored → Queued
-queued_of unit = record { number = unit.number; due = unit.due; tag = unit.tag; messages = unit.messages.items }
-
--- units that are stored, in order
-abbrev pub queue_of : List Stored → List Queued
-queue_of = map queued_of
-
--- each message that is kept can be read
-abbrev pub is_readable : Stored → Bool
-is_readable unit = nat_lt (length unit.messages.items) (2 ^ 32) && list_all (is_message 1073741824) unit.messages.items
+-- each queued unit's messages are kept, and nothing else is
+pub record AreKept (kept : List Kept) (items : List (Item ℕ)) : Type 0 where
+  pub each : AllByRecursion (λ item. Contains (map (λ one. one.unit) kept) (unit_of item)) items
+  pub as_many : length kept ≡ length items
+  pub blocks : kept_blocks kept ≡ queued_blocks (queue_of kept items)
