@@ -1,5 +1,6 @@
 pub mod Answers
 pub mod Boxes
 pub mod Frames
+pub mod Ids
 pub mod Kept
 pub mod Views

@@ -12,10 +12,9 @@ mod messages;
 mod sequential;
 mod server;
 mod store;
+mod units;
 
 pub use answers::{AddRefusal, Adding, Closed, Enrolled, Releasing, Removing, Submitted, Ticking};
 pub use invocation::{Invocation, Invocations};
 pub use sequential::{Core, Stands};
 
-#[cfg(test)]
-mod tests;

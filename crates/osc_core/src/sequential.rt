@@ -1,16 +1,17 @@
 //! The server with its boxes, one event after another.
-ghost use Rattle.std.specs.Prelude.{◌≡◌, ◌+◌, ◌<◌, ◌≤◌, ◌^◌, ◌++◌, ◌∷◌, [], length, map, IfOk, OnOk, OnErr};
+ghost use Rattle.std.specs.Prelude.{◌≡◌, ◌+◌, ◌<◌, ◌≤◌, ◌^◌, ◌++◌, ◌∷◌, [], length, map, IsTrue, List, Contains, vec_capacity, IfOk, OnOk, OnErr};
 ghost use Rattle.osc_packet.specs.Reading.{units_read};
 ghost use Rattle.osc_model.specs.State.{Caps, AreInRange, opening};
 ghost use Rattle.osc_model.specs.Events.{enrol, submit, add, remove, tick, release, added};
 ghost use Rattle.osc_model.specs.Step.{step};
 ghost use Rattle.osc_model.specs.Heard.{Told, reset};
 ghost use Rattle.osc_model.specs.History.{IsSound};
-ghost use Rattle.osc_core.specs.Answers.{enrolled_of, submitted_of, adding_of, removing_of, ticking_of, releasing_of, invoked_by, OnAdded, OnRefused, OnRemoved};
+ghost use Rattle.osc_core.specs.Answers.{enrolled_of, submitted_of, adding_of, removing_of, ticking_of, releasing_of, invoked_by, OnAdded, OnRefused, OnRemoved, OnNotThere};
+ghost use Rattle.osc_core.specs.Ids.{is_ascending};
 ghost use Rattle.osc_core.specs.Boxes.{all_hear, without_id, one_more, entries_after};
 
 use crate::answers::{Adding, Closed, Enrolled, Releasing, Removing, Submitted, Ticking};
-use crate::boxes::Boxed;
+use crate::boxes::{Boxed, hand_out, invoke_all, keep_box};
 use crate::server::Server;
 use osc_method::Method;
 use osc_packet::Packet;
@@ -34,6 +35,7 @@ pub struct Core {
     boxes: Vec<Boxed>,
     entries: u64,
     ghost alike: { map (λ one. one.0) boxes.items ≡ map (λ method. method.id) state.methods },
+    ghost ascending: { IsTrue (is_ascending (map (λ one. one.0) boxes.items)) },
     ghost reserved: { state.caps.methods ≤ vec_capacity boxes },
 }
 
@@ -103,14 +105,17 @@ impl Core {
         self.count();
         match self.state.add(address) {
             Ok(id) => {
-                self.keep(id, method);
+                keep_box(&mut self.boxes, id, method);
                 Adding::Added(id)
             }
-            Err((why, address)) => Adding::Refused {
-                why,
-                address,
-                method,
-            },
+            Err(refused) => {
+                let (why, address) = refused;
+                Adding::Refused {
+                    why,
+                    address,
+                    method,
+                }
+            }
         }
     }
 
@@ -119,7 +124,7 @@ impl Core {
         requires { caller < self.old.state.callers }
         ensures answer { removing_of result ≡ (step self.old.state (remove address.now)).answer }
         ensures state { self.new.state ≡ (step self.old.state (remove address.now)).state }
-        ensures removed { OnRemoved result (λ id method. Contains (⟦<Core as Stands>⟧.boxes self.old) (record { id = id; keep = keep method; heard = heard method })) }
+        ensures removed { OnRemoved result (λ id method. Contains {X = Told} (⟦<Core as Stands>⟧.boxes self.old) (record { id = id; keep = keep method; heard = heard method })) }
         ensures others { OnRemoved result (λ id _. ⟦<Core as Stands>⟧.boxes self.new ≡ without_id id (⟦<Core as Stands>⟧.boxes self.old)) }
         ensures boxes { OnNotThere result (⟦<Core as Stands>⟧.boxes self.new ≡ ⟦<Core as Stands>⟧.boxes self.old) }
         ensures entries { self.new.entries ≡ one_more self.old.entries }
@@ -128,7 +133,7 @@ impl Core {
         match self.state.remove(address) {
             Some(id) => Removing::Removed {
                 id,
-                method: self.hand_out(id),
+                method: hand_out(&mut self.boxes, id),
             },
             None => Removing::NotThere,
         }
@@ -182,9 +187,17 @@ impl Core {
         self.entries
     }
 
+    fn count(&mut self)
+        ensures state { self.new.state ≡ self.old.state }
+        ensures boxes { ⟦<Core as Stands>⟧.boxes self.new ≡ ⟦<Core as Stands>⟧.boxes self.old }
+        ensures entries { self.new.entries ≡ one_more self.old.entries }
+    {
+        self.entries = self.entries.saturating_add(1);
+    }
+
     /// Ends the server, and hands its boxes out with what they heard.
     pub fn close(self) -> Closed
-        ensures { map (λ one. record { id = one.0; keep = keep one.1; heard = heard one.1 }) result.kept.items ≡ ⟦<Core as Stands>⟧.boxes self }
+        ensures kept { map (λ one. record { id = one.0; keep = keep one.1; heard = heard one.1 }) result.kept.items ≡ ⟦<Core as Stands>⟧.boxes self }
         ensures ids { map (λ one. one.0) result.kept.items ≡ map (λ method. method.id) self.state.methods }
     {
         Closed { kept: self.boxes }

@@ -1,0 +1,4 @@
+pub mod Ascents
+pub mod Hearing
+pub mod Joins
+pub mod Submits
