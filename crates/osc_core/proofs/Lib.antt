@@ -1,1 +1,4 @@
+pub mod Finding
 pub mod Framing
+pub mod Stocks
+pub mod Storing

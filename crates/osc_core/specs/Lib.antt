@@ -2,4 +2,5 @@ pub mod Answers
 pub mod Boxes
 pub mod Frames
 pub mod Kept
+pub mod Sections
 pub mod Views
