@@ -3,4 +3,5 @@ pub mod Boxes
 pub mod Frames
 pub mod Ids
 pub mod Kept
+pub mod Sections
 pub mod Views
