@@ -1,8 +1,9 @@
 -- Ids that ascend.
 use Rattle.std.proofs.Common.{◌≡◌, ◌≢◌, ℕ, zero, suc, ◌+◌, ◌<◌, ◌≤◌, Bool, true, false, ◌&&◌, ◌==◌, nat_lt, not, cond, List, [], ◌∷◌, ◌++◌, length, map, filter, take, drop, get_or, refl, sym, ap, subst, ◌∙◌, arith}
-use Rattle.std.specs.List.{list_all, AllByRecursion, Contains, remove}
+use Rattle.std.specs.List.{list_all, All, AllByRecursion, Contains, remove}
 use Rattle.std.proofs.lemmas.Bool.Decides.{nat_tests}
-use Rattle.std.proofs.lemmas.List.{length-map}
+use Rattle.std.proofs.lemmas.List.{length-map, get_or-map}
+use Rattle.osc_pattern.specs.Methods.{Method}
 use Rattle.osc_core.specs.Ids.{is_ascending, IsFirstFrom, without}
 
 pub both : (a b : Bool) → (a && b) ≡ true → (a ≡ true) × (b ≡ true)
@@ -125,3 +126,16 @@ filter-map view test (x ∷ xs) = go (test (view x)) (filter-map view test xs) w
   go : (t : Bool) → map view (filter (λ x. test (view x)) xs) ≡ filter test (map view xs) → map view (cond t (x ∷ filter (λ x. test (view x)) xs) (filter (λ x. test (view x)) xs)) ≡ cond t (view x ∷ filter test (map view xs)) (filter test (map view xs))
   go true more = ap (λ l. view x ∷ l) more
   go false more = more
+
+-- the element that is taken out of its place leaves the others
+pub viewed_without : {X Y : Type 0} (key : Y → ℕ) (view : X → Y) (xs new : List X) (place id : ℕ) → new ≡ remove xs place → is_ascending (map (λ x. key (view x)) xs) ≡ true → (place < length (map (λ x. key (view x)) xs)) × (get_or (map (λ x. key (view x)) xs) place 0 ≡ id) → map view new ≡ filter (λ y. not (key y == id)) (map view xs)
+viewed_without key view xs new place id is ascending at =
+    ap (map view) is
+    ∙ ap (map view) (left_out (λ x. key (view x)) xs place id ascending (omega (arith, length-map xs (λ x. key (view x)), at.0)) at.1)
+    ∙ filter-map view (λ y. not (key y == id)) xs
+
+pub ids_below : (methods : List Method) (id : ℕ) → All (λ method. method.id < id) methods → (k : ℕ) → k < length (map (λ method. method.id) methods) → get_or (map (λ method. method.id) methods) k 0 < id
+ids_below methods id all k lt =
+    let within : k < length methods = omega (arith, length-map methods (λ (method : Method). method.id)) in
+    let d : Method = record { id = 0; address = [] } in
+    subst (λ (n : ℕ). n < id) (sym (get_or-map (λ (method : Method). method.id) methods k d 0 within)) (all k d within)

@@ -1,12 +1,16 @@
 -- What boxes hear of calls.
-use Rattle.std.proofs.Common.{◌≡◌, ◌≢◌, ℕ, zero, suc, ◌<◌, Bool, true, false, ◌==◌, nat_lt, cond, List, [], ◌∷◌, length, map, get_or, Option, refl, sym, ap, subst, ◌∙◌, arith}
+use Rattle.std.proofs.Common.{◌≡◌, ◌≢◌, ℕ, zero, suc, ◌+◌, ◌<◌, ◌≤◌, Bool, true, false, ◌==◌, nat_lt, cond, List, [], ◌∷◌, length, map, drop, get_or, Option, refl, sym, ap, subst, ◌∙◌, arith}
 use Rattle.std.specs.List.{list_all, AllByRecursion, slice_set}
 use Rattle.std.proofs.lemmas.Bool.Decides.{nat_tests}
-use Rattle.std.proofs.lemmas.List.{length-map, map-set, get_or-map}
+use Rattle.std.proofs.lemmas.List.{length-map, map-set, get_or-map, set-get_or, drop_more}
 use Rattle.std.proofs.lemmas.Simd.{map-map}
 use Rattle.osc_method.specs.Heard.{after_call}
-use Rattle.osc_model.specs.Events.{Invocation}
+use Rattle.osc_method.specs.Calls.{call_text}
+use Rattle.osc_model.specs.Events.{Invocation, Call}
 use Rattle.osc_model.specs.Heard.{Told, bytes_of, hear, hear_all}
+use Rattle.osc_model.specs.Step.{invocations_of}
+use Rattle.osc_core.specs.declared.invocation.Invocation.{Invocation as CodeCall}
+use Rattle.osc_core.specs.Answers.{call_of}
 use Rattle.osc_core.specs.Boxes.{all_hear}
 use Rattle.osc_core.specs.Ids.{is_ascending}
 use Rattle.osc_core.proofs.Ascents.{both, behind, rising}
@@ -64,3 +68,39 @@ module _ {X : Type 0} (view : X → Told) where
         (omega (arith, length-map boxes view))
         (ap (λ (l : List ℕ). get_or l place 0) ids ∙ at)
         (heard ∙ ap (λ (t : Told). hear t invocation) (sym there))
+
+  pub none_hears_of : (boxes : List X) (invocation : Invocation) → AllByRecursion (λ other. other ≢ invocation.call.id) (map (λ box. (view box).id) boxes) → map view boxes ≡ map (λ told. hear told invocation) (map view boxes)
+  none_hears_of boxes invocation none =
+      sym (none_hears (map view boxes) invocation (subst (AllByRecursion (λ other. other ≢ invocation.call.id)) (sym (map-map (λ (told : Told). told.id) view boxes)) none))
+
+-- an element that keeps its key keeps the keys
+pub keys_stay : {X : Type 0} (key : X → ℕ) (xs : List X) (place : ℕ) (old one : X) → place < length (map key xs) → old ≡ get_or xs place old → key one ≡ key old → map key (slice_set xs place one) ≡ map key xs
+keys_stay key xs place old one within is same =
+    let there : place < length xs = omega (arith, length-map xs key) in
+    map-set key xs place one
+    ∙ ap (slice_set (map key xs) place) (same ∙ ap key is ∙ sym (get_or-map key xs place old 0 there))
+    ∙ set-get_or (map key xs) place 0
+
+pub heard_call : (told : Told) (unit : ℕ) (call : Call) (message : List ℕ) (keep : ℕ) (heard : Option (List ℕ)) → told.id ≡ call.id → message ≡ call.message → keep ≡ told.keep → heard ≡ after_call told.keep (call_text unit call.index message) told.heard → record { id = told.id; keep = keep; heard = heard } ≡ hear told (record { unit = unit; call = call })
+heard_call told unit call message keep heard same m k h =
+    heard_one told (record { unit = unit; call = call }) keep heard same k (h ∙ ap (λ (bytes : List ℕ). after_call told.keep (call_text unit call.index bytes) told.heard) m)
+
+dropped : {X : Type 0} (xs : List X) (n : ℕ) → length xs ≤ n → drop n xs ≡ []
+dropped [] zero le = refl
+dropped [] (suc n) le = refl
+dropped (x ∷ xs) zero le = absurd (omega arith)
+dropped (x ∷ xs) (suc n) le = dropped xs n (omega arith)
+
+-- one call more is made
+pub one_call_more : (unit : ℕ) (calls : List CodeCall) (i : ℕ) (item : CodeCall) (old new : List Told) → i < length calls → item ≡ get_or calls i item → new ≡ map (λ told. hear told (record { unit = unit; call = call_of item })) old → all_hear (invocations_of unit (map call_of (drop (i + 1) calls))) new ≡ all_hear (invocations_of unit (map call_of (drop i calls))) old
+one_call_more unit calls i item old new lt is heard =
+    ap (all_hear (invocations_of unit (map call_of (drop (i + 1) calls)))) heard
+    ∙ all_hear_more (record { unit = unit; call = call_of item }) (invocations_of unit (map call_of (drop (i + 1) calls))) old
+    ∙ ap (λ (l : List CodeCall). all_hear (invocations_of unit (map call_of l)) old) (ap (λ (one : CodeCall). one ∷ drop (i + 1) calls) is ∙ sym (drop_more calls i item lt))
+
+pub all_calls_made : (unit : ℕ) (calls : List CodeCall) (i : ℕ) (boxes : List Told) → length calls ≤ i → boxes ≡ all_hear (invocations_of unit (map call_of (drop i calls))) boxes
+all_calls_made unit calls i boxes le =
+    sym (none_to_hear boxes) ∙ ap (λ (l : List CodeCall). all_hear (invocations_of unit (map call_of l)) boxes) (sym (dropped calls i le))
+
+pub hears_nothing : (invocations : List Invocation) (boxes : List Told) → [] ≡ invocations → boxes ≡ all_hear invocations boxes
+hears_nothing invocations boxes none = sym (none_to_hear boxes) ∙ ap (λ (l : List Invocation). all_hear l boxes) none

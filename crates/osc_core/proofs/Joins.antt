@@ -1,5 +1,5 @@
 -- Queued units and their messages.
-use Rattle.std.proofs.Common.{◌≡◌, ◌≢◌, ℕ, zero, suc, ◌+◌, ◌/◌, ◌<◌, Bool, true, false, cond, List, [], ◌∷◌, ◌++◌, length, map, insert, take, drop, slice_get, Option, Some, unwrap_or, refl, sym, ap, subst, ◌∙◌, ◌||◌, ◌==◌, not, one-add, arith}
+use Rattle.std.proofs.Common.{◌≡◌, ◌≢◌, ℕ, zero, suc, ◌+◌, ◌/◌, ◌<◌, Bool, true, false, cond, List, [], ◌∷◌, ◌++◌, length, map, insert, take, drop, slice_get, Option, Some, unwrap_or, refl, sym, ap, subst, max, ◌∙◌, ◌||◌, ◌==◌, not, one-add, arith}
 use Rattle.std.specs.List.{AllByRecursion, Contains, list_any, position_or_len}
 use Rattle.std.proofs.lemmas.Bool.Decides.{nat_tests}
 use Rattle.std.proofs.lemmas.List.{length-map, map-append, take-map, drop-map}
@@ -7,6 +7,7 @@ use Rattle.osc_packet.specs.Units.{Timed, stored_size, blocks}
 use Rattle.osc_queue.specs.Timed.{Item, due_of, unit_of, is_before, enter, IsNewUnit}
 use Rattle.osc_model.specs.State.{Queued}
 use Rattle.osc_model.specs.Counts.{queued_blocks}
+use Rattle.osc_model.specs.Step.{waiting}
 use Rattle.osc_core.specs.Kept.{Kept, kept_blocks, messages_by, without_unit}
 use Rattle.osc_core.specs.Views.{queued_of, queue_of, is_kept, AreKept, HasFirst}
 
@@ -201,3 +202,9 @@ first_kept kept [] due unit tag at are = absurd (cc)
 first_kept kept (item ∷ items) due unit tag at are =
     let same : unit_of item ≡ unit = ap (λ (o : Option (Item ℕ)). unit_of (unwrap_or o item)) at in
     subst (λ (n : ℕ). Contains (map (λ (one : Kept). one.unit) kept) n) same (contains_kept kept (unit_of item) are.0)
+
+pub unit_entered : (kept : List Kept) (items : List (Item ℕ)) (clock number due tag : ℕ) (unit : Timed) → tag ≡ unit.tag → due ≡ max tag clock → AreKept kept items → AllByRecursion (λ item. unit_of item < number) items → queue_of (kept ++ record { unit = number; messages = unit.messages } ∷ []) (enter (due, number, tag) items) ≡ enter (waiting clock number unit) (queue_of kept items)
+unit_entered kept items clock number due tag unit t d are below =
+    ap (λ (n : ℕ). queue_of (kept ++ record { unit = number; messages = unit.messages } ∷ []) (enter (n, number, tag) items)) d
+    ∙ ap (λ (n : ℕ). queue_of (kept ++ record { unit = number; messages = unit.messages } ∷ []) (enter (max n clock, number, n) items)) t
+    ∙ queue_entered kept (max unit.tag clock) number unit.tag unit.messages items are (new_unit number items below)

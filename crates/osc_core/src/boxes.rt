@@ -69,7 +69,8 @@ fn invoke_one(boxes: &mut Vec<Boxed>, unit: u64, call: &Invocation)
 /// A box hears a call.
 fn invoke(boxed: &mut Boxed, unit: u64, call: &Invocation)
     requires { boxed.old.0 ≡ call.now.id }
-    ensures { record { id = boxed.new.0; keep = keep boxed.new.1; heard = heard boxed.new.1 } ≡ hear (record { id = boxed.old.0; keep = keep boxed.old.1; heard = heard boxed.old.1 }) (record { unit = unit; call = call_of call.now }) }
+    ensures id { boxed.new.0 ≡ boxed.old.0 }
+    ensures told { record { id = boxed.new.0; keep = keep boxed.new.1; heard = heard boxed.new.1 } ≡ hear (record { id = boxed.old.0; keep = keep boxed.old.1; heard = heard boxed.old.1 }) (record { unit = unit; call = call_of call.now }) }
 {
     match Message::check(call.message.as_slice(), 1_073_741_824) {
         Ok(message) => {
@@ -89,10 +90,13 @@ pub(crate) fn place_of(boxes: &[Boxed], id: u32) -> Option<usize>
     ensures { IsPlaceOf result id (map (λ one. one.0) boxes.now) }
 {
     let place = first_from(boxes, id);
-    if place < boxes.len() && boxes[place].0 == id {
-        return Some(place);
+    if place == boxes.len() {
+        return None;
     }
-    None
+    if boxes[place].0 != id {
+        return None;
+    }
+    Some(place)
 }
 
 /// The place of the first box whose id isn't below this one, or how many boxes there are.

@@ -74,7 +74,7 @@ impl Core {
         ensures boxes { ⟦<Core as Stands>⟧.boxes self.new ≡ ⟦<Core as Stands>⟧.boxes self.old }
         ensures entries { self.new.entries ≡ one_more self.old.entries }
     {
-        self.count();
+        count(&mut self.entries);
         self.state.enrol()
     }
 
@@ -87,7 +87,7 @@ impl Core {
         ensures boxes { ⟦<Core as Stands>⟧.boxes self.new ≡ ⟦<Core as Stands>⟧.boxes self.old }
         ensures entries { self.new.entries ≡ one_more self.old.entries }
     {
-        self.count();
+        count(&mut self.entries);
         self.state.submit(packet)
     }
 
@@ -102,7 +102,7 @@ impl Core {
         ensures handed_back { OnRefused result (λ back untouched. (back ≡ address) × (untouched ≡ method)) }
         ensures entries { self.new.entries ≡ one_more self.old.entries }
     {
-        self.count();
+        count(&mut self.entries);
         match self.state.add(address) {
             Ok(id) => {
                 keep_box(&mut self.boxes, id, method);
@@ -129,7 +129,7 @@ impl Core {
         ensures boxes { OnNotThere result (⟦<Core as Stands>⟧.boxes self.new ≡ ⟦<Core as Stands>⟧.boxes self.old) }
         ensures entries { self.new.entries ≡ one_more self.old.entries }
     {
-        self.count();
+        count(&mut self.entries);
         match self.state.remove(address) {
             Some(id) => Removing::Removed {
                 id,
@@ -147,7 +147,7 @@ impl Core {
         ensures boxes { ⟦<Core as Stands>⟧.boxes self.new ≡ ⟦<Core as Stands>⟧.boxes self.old }
         ensures entries { self.new.entries ≡ one_more self.old.entries }
     {
-        self.count();
+        count(&mut self.entries);
         self.state.tick(now)
     }
 
@@ -164,12 +164,15 @@ impl Core {
         ensures err { OnErr result (self.new ≡ self.old) }
         ensures alike { map (λ one. one.id) (⟦<Core as Stands>⟧.boxes self.old) ≡ map (λ method. method.id) self.old.state.methods }
     {
-        let releasing = self.state.release()?;
-        if let Releasing::Released { unit, calls } = &releasing {
-            invoke_all(&mut self.boxes, *unit, calls.as_slice());
-            self.count();
+        match self.state.release() {
+            Ok(Releasing::Released { unit, calls }) => {
+                invoke_all(&mut self.boxes, unit, calls.as_slice());
+                count(&mut self.entries);
+                Ok(Releasing::Released { unit, calls })
+            }
+            Ok(Releasing::NothingDue { next }) => Ok(Releasing::NothingDue { next }),
+            Err(no_memory) => Err(no_memory),
         }
-        Ok(releasing)
     }
 
     /// The clock: the last moment that was handed in, or 1.
@@ -187,14 +190,6 @@ impl Core {
         self.entries
     }
 
-    fn count(&mut self)
-        ensures state { self.new.state ≡ self.old.state }
-        ensures boxes { ⟦<Core as Stands>⟧.boxes self.new ≡ ⟦<Core as Stands>⟧.boxes self.old }
-        ensures entries { self.new.entries ≡ one_more self.old.entries }
-    {
-        self.entries = self.entries.saturating_add(1);
-    }
-
     /// Ends the server, and hands its boxes out with what they heard.
     pub fn close(self) -> Closed
         ensures kept { map (λ one. record { id = one.0; keep = keep one.1; heard = heard one.1 }) result.kept.items ≡ ⟦<Core as Stands>⟧.boxes self }
@@ -202,4 +197,11 @@ impl Core {
     {
         Closed { kept: self.boxes }
     }
+}
+
+/// One entry more, up to the greatest number.
+fn count(entries: &mut u64)
+    ensures { entries.new ≡ one_more entries.old }
+{
+    *entries = entries.saturating_add(1);
 }

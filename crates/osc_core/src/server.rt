@@ -1,5 +1,5 @@
 // The server but for its boxes.
-ghost use Rattle.std.specs.Prelude.{◌≡◌, ◌+◌, ◌<◌, ◌≤◌, ◌^◌, length, map, All, Contains, IfOk, IfErr, OnOk, OnErr, IfSome, IsNone, Some, None};
+ghost use Rattle.std.specs.Prelude.{◌≡◌, ◌+◌, ◌<◌, ◌≤◌, ◌^◌, ◌++◌, ◌∷◌, [], length, map, All, Contains, IfOk, IfErr, OnOk, OnErr, IfSome, IfNone, Some, None};
 ghost use Rattle.std.specs.Option.{option_map};
 ghost use Rattle.osc_packet.specs.Reading.{units_read};
 ghost use Rattle.osc_tree.specs.Adding.{refusal_of as tree_refusal_of};
@@ -19,7 +19,7 @@ use osc_atoms::Room;
 use osc_packet::Packet;
 use osc_pattern::Address;
 use osc_queue::Queue;
-use osc_tree::{Hits, NotThere, Tree, TreeRefusal};
+use osc_tree::{Hits, Tree, TreeRefusal};
 use std::alloc::{AllocError, Global};
 use std::marker::Model;
 
@@ -117,7 +117,10 @@ impl Server {
         ensures answer { added_of result ≡ (step self.old (add address)).answer }
         ensures state { self.new ≡ (step self.old (add address)).state }
         ensures new { IfOk result (λ id. All (λ method. method.id < id) self.old.methods) }
+        ensures ids { IfOk result (λ id. map (λ method. method.id) self.new.methods ≡ map (λ method. method.id) self.old.methods ++ id ∷ []) }
         ensures room { OnOk result (length self.old.methods < self.old.caps.methods) }
+        ensures unchanged { OnErr result (self.new ≡ self.old) }
+        ensures caps { self.new.caps ≡ self.old.caps }
         ensures handed_back { IfErr result (λ refused. refused.1 ≡ address) }
     {
         let id = self.next_id;
@@ -136,12 +139,13 @@ impl Server {
         ensures state { self.new ≡ (step self.old (remove address.now)).state }
         ensures held { IfSome result (λ id. Contains (map (λ method. method.id) self.old.methods) id) }
         ensures others { IfSome result (λ id. map (λ method. method.id) self.new.methods ≡ without id (map (λ method. method.id) self.old.methods)) }
-        ensures none { IsNone result → self.new ≡ self.old }
+        ensures unchanged { IfNone result (self.new ≡ self.old) }
+        ensures caps { self.new.caps ≡ self.old.caps }
     {
-        match self.tree.remove(address) {
-            Ok(id) => Some(id),
-            Err(NotThere) => None,
-        }
+        let Ok(id) = self.tree.remove(address) else {
+            return None;
+        };
+        Some(id)
     }
 
     /// Sets the clock, unless the moment is before it.
@@ -162,6 +166,8 @@ impl Server {
         ensures calls { IfOk result (λ releasing. invoked_by releasing ≡ (step self.old release).invocations) }
         ensures state { OnOk result (self.new ≡ (step self.old release).state) }
         ensures err { OnErr result (self.new ≡ self.old) }
+        ensures methods { self.new.methods ≡ self.old.methods }
+        ensures caps { self.new.caps ≡ self.old.caps }
     {
         let Some((due, unit, _)) = self.queue.first() else {
             return Ok(Releasing::NothingDue { next: None });

@@ -1,5 +1,5 @@
 use Rattle.std.proofs.Common.{◌≡◌, arith}
-use Rattle.osc_core.proofs.Joins.{as_many, blocks_pushed, queue_entered, are_entered, new_unit, numbers_entered}
+use Rattle.osc_core.proofs.Joins.{as_many, blocks_pushed, unit_entered, are_entered, new_unit, numbers_entered}
 use Rattle.osc_core.proofs.units.enter.Goals as goal
 
 pub put-requires-clause-place : goal.put-requires-clause-place
@@ -10,8 +10,8 @@ push-requires-clause-new c = new_unit c.args.number c.args.queue.now.items c.req
 
 pub returns-clause-queue : goal.returns-clause-queue
 returns-clause-queue c =
-    rw (c.put.ensures.kept, c.push.ensures.items, c.tag-tag.ensures, c.max.ensures)
-    (queue_entered c.args.store.now.kept _ c.args.number c.args.unit.now.tag c.args.unit.now.messages c.args.queue.now.items c.requires.running.kept (new_unit c.args.number c.args.queue.now.items c.requires.running.numbers))
+    rw (c.put.ensures.kept, c.push.ensures.items)
+    (unit_entered c.args.store.now.kept c.args.queue.now.items c.args.clock c.args.number _ _ c.args.unit.now c.tag-tag.ensures c.max.ensures c.requires.running.kept c.requires.running.numbers)
 
 pub returns-clause-running : goal.returns-clause-running
 returns-clause-running c = record {
