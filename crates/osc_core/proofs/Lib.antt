@@ -1,3 +1,4 @@
+pub mod Calling
 pub mod Finding
 pub mod Framing
 pub mod Stocks
