@@ -52,7 +52,22 @@ fn push_calls(
         return Ok(());
     }
     find_hits(tree, hits, &message.pattern());
-    for id in hits.ids() {
+    push_hits(alloc, tree, hits.ids(), index, message, calls)
+}
+
+/// Adds the calls of the methods with these ids.
+fn push_hits(
+    alloc: Global,
+    tree: &Tree,
+    ids: &[u32],
+    index: u32,
+    message: &Message<'_>,
+    calls: &mut Vec<Invocation>,
+) -> Result<(), AllocError>
+    requires { All (λ id. IsSome (address_by_id tree.now.methods id)) ids.now }
+    ensures { OnOk result (map call_of calls.new.items ≡ map call_of calls.old.items ++ map (call_by tree.now.methods index message.now) ids.now) }
+{
+    for id in ids {
         calls.push(call(alloc, tree, index, *id, message)?)?;
     }
     Ok(())
