@@ -1,4 +1,5 @@
 pub mod Ascents
+pub mod Calling
 pub mod Finding
 pub mod Framing
 pub mod Hearing
