@@ -64,10 +64,10 @@ module _ {X : Type 0} (view : X → Told) where
       let there : get_or (map view boxes) place (view one) ≡ view old = get_or-map view boxes place old (view one) within ∙ ap view (sym is) in
       map-set view boxes place one
       ∙ one_hears (map view boxes) place (view one) invocation
-        (ap is_ascending ids ∙ ascending)
-        (omega (arith, length-map boxes view))
-        (ap (λ (l : List ℕ). get_or l place 0) ids ∙ at)
-        (heard ∙ ap (λ (t : Told). hear t invocation) (sym there))
+      (ap is_ascending ids ∙ ascending)
+      (omega (arith, length-map boxes view))
+      (ap (λ (l : List ℕ). get_or l place 0) ids ∙ at)
+      (heard ∙ ap (λ (t : Told). hear t invocation) (sym there))
 
   pub none_hears_of : (boxes : List X) (invocation : Invocation) → AllByRecursion (λ other. other ≢ invocation.call.id) (map (λ box. (view box).id) boxes) → map view boxes ≡ map (λ told. hear told invocation) (map view boxes)
   none_hears_of boxes invocation none =

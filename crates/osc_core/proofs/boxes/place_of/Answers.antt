@@ -15,5 +15,5 @@ returns-then-boxes-place g c =
     let place = c.first_from-place.result in
     nowhere (map (λ one. one.0) boxes) place c.args.id c.requires c.first_from-place.ensures
     (λ lt same.
-        let within : place < length boxes = omega (arith, lt, length-map boxes (λ one. one.0)) in
-        c.if-boxes-place.true (sym (get_or-map (λ one. one.0) boxes place c.index-boxes-place.result 0 within) ∙ same))
+    let within : place < length boxes = omega (arith, lt, length-map boxes (λ one. one.0)) in
+    c.if-boxes-place.true (sym (get_or-map (λ one. one.0) boxes place c.index-boxes-place.result 0 within) ∙ same))
