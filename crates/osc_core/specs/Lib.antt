@@ -1,10 +1,8 @@
-pub mod State
-pub mod Order
-pub mod Queue
-pub mod Matching
-pub mod Events
-pub mod Step
-pub mod Releases
-pub mod History
-pub mod Views
 pub mod Answers
+pub mod Boxes
+pub mod Calls
+pub mod Frames
+pub mod Ids
+pub mod Kept
+pub mod Sections
+pub mod Views

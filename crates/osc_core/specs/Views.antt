@@ -1,33 +1,49 @@
 -- What the parts of a server stand for.
-use Rattle.std.specs.Prelude.{Bool, ◌&&◌, nat_lt, ◌^◌, List, map, length}
-use Rattle.std.specs.List.{list_all}
-use Rattle.std.specs.Borrow.{Bor}
-use Rattle.osc_message.specs.Reading.{is_message}
-use Rattle.osc_core.specs.declared.methods.Registered.{Registered}
-use Rattle.osc_core.specs.declared.queue.Stored.{Stored}
-use Rattle.osc_pattern.specs.Methods.{Method}
-use Rattle.osc_core.specs.State.{Queued}
+use Rattle.std.specs.Prelude.{◌≡◌, ℕ, ◌<◌, ◌≤◌, ◌==◌, Bool, true, List, [], ◌∷◌, map, All}
+use Rattle.std.specs.List.{AllByRecursion, list_any}
+use Rattle.osc_queue.specs.Timed.{Item, Timed, due_of, unit_of, IsNewUnit}
+use Rattle.osc_tree.specs.Registry.{Registry, IsLawful}
+use Rattle.osc_tree.specs.Matching.{HitList}
+use Rattle.osc_model.specs.State.{Queued}
+use Rattle.osc_core.specs.Kept.{Kept, Stock, messages_by, without_unit}
 
--- a registered method
-abbrev pub method_of : Registered → Method
-method_of registered = record { id = registered.id; address = registered.address }
+-- a queued unit: what the queue has of it is its tag, and its messages are kept by its number
+abbrev pub queued_of : List Kept → Item ℕ → Queued
+queued_of kept item = (due_of item, unit_of item, record { tag = item.2; messages = messages_by kept (unit_of item) })
 
--- registered methods, in the order of adding
-abbrev pub methods_of : List Registered → List Method
-methods_of = map method_of
+-- the queued units, in order
+abbrev pub queue_of : List Kept → List (Item ℕ) → List Queued
+queue_of kept items = map (queued_of kept) items
 
--- methods that are lent
-abbrev pub lent_of : List (Bor Registered) → List Method
-lent_of = map (λ lent. method_of lent.now)
+-- whether messages are kept under the number
+abbrev pub is_kept : List Kept → ℕ → Bool
+is_kept kept number = list_any (λ one. one.unit == number) kept
 
--- a unit that is stored
-abbrev pub queued_of : Stored → Queued
-queued_of unit = record { number = unit.number; due = unit.due; tag = unit.tag; messages = unit.messages.items }
+-- each item's messages are kept under its number, which no other item has, and nothing else is kept
+abbrev pub AreKept : List Kept → List (Item ℕ) → Type 0
+AreKept kept [] = kept ≡ []
+AreKept kept (item ∷ items) = (is_kept kept (unit_of item) ≡ true) × IsNewUnit (unit_of item) items × AreKept (without_unit kept (unit_of item)) items
 
--- units that are stored, in order
-abbrev pub queue_of : List Stored → List Queued
-queue_of = map queued_of
+-- The items' messages are kept; the items' numbers were given; and there is room for as many units here as there.
+pub record AreQueued (stock : Stock) (queue : Timed ℕ) (next : ℕ) : Type 0 where
+  pub kept : AreKept stock.kept queue.items
+  pub numbers : AllByRecursion (λ item. unit_of item < next) queue.items
+  pub places : stock.places ≡ queue.limit
 
--- each message that is kept can be read
-abbrev pub is_readable : Stored → Bool
-is_readable unit = nat_lt (length unit.messages.items) (2 ^ 32) && list_all (is_message 1073741824) unit.messages.items
+-- the methods are a lawful list, their ids were given, and the hits have room for all of them
+pub record AreRegistered (tree : Registry) (hits : HitList) (next : ℕ) : Type 0 where
+  pub lawful : IsLawful tree
+  pub ids : All (λ method. method.id < next) tree.methods
+  pub room : tree.method_limit ≤ hits.limit
+
+-- the parts of a server fit together
+pub record IsRunning (tree : Registry) (hits : HitList) (stock : Stock) (queue : Timed ℕ) (next_id next_unit callers caller_limit : ℕ) : Type 0 where
+  pub methods : AreRegistered tree hits next_id
+  pub units : AreQueued stock queue next_unit
+  pub few_callers : callers ≤ caller_limit
+
+-- an item with the number is the first, and the others are these
+pub record HasFirst (number : ℕ) (items others : List (Item ℕ)) : Type 0 where
+  pub item : Item ℕ
+  pub is : items ≡ item ∷ others
+  pub number_is : unit_of item ≡ number

@@ -1,17 +1,20 @@
-//! The sequential server: methods by address, a queue of units, and what a release invokes.
+//! The sequential server: methods by address with their boxes, a queue of units, a clock and callers, and what a release
+//! invokes (docs/SERVER.md).
 //!
-//! Each call answers what the rules of `specs/Step.antt` give, and leaves the state that they give. `laws` says in
-//! the words of the subject what these rules come to, for all states and histories.
+//! Each call answers what the rules of `osc_model` give, and leaves the state that they give.
 #![tactic(auto)]
 
+mod answers;
+mod boxes;
 mod calls;
 mod invocation;
-pub mod laws;
-mod matching;
-mod methods;
-mod queue;
+mod messages;
+mod sequential;
 mod server;
+mod store;
 mod units;
 
+pub use answers::{AddRefusal, Adding, Closed, Enrolled, Releasing, Removing, Submitted, Ticking};
 pub use invocation::{Invocation, Invocations};
-pub use server::{Adding, Core, Releasing, Submitted};
+pub use sequential::{Core, Stands};
+

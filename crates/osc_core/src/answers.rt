@@ -1,0 +1,90 @@
+//! What the calls of the server answer.
+use crate::Invocations;
+use osc_atoms::Room;
+use osc_method::Method;
+use osc_pattern::Address;
+
+/// What an enrolment is answered.
+#[derive(Clone, Copy, Debug, PartialEq, Eq)]
+pub enum Enrolled {
+    /// The new caller's number.
+    Number(u32),
+    /// There are as many callers as there may be.
+    CallersFull,
+}
+
+/// What a submit is answered.
+#[derive(Clone, Copy, Debug, PartialEq, Eq)]
+pub enum Submitted {
+    /// So many units wait, the first of which has this number.
+    Queued { first: u64, count: u32 },
+    /// The packet has more units than places are free.
+    UnitsFull(Room),
+    /// The packet's units take more blocks of 64 bytes than are free.
+    PoolFull(Room),
+}
+
+/// Why a method isn't added: the first of these that applies.
+#[derive(Clone, Copy, Debug, PartialEq, Eq)]
+pub enum AddRefusal {
+    /// The method with this id has the address.
+    Taken(u32),
+    /// The method with this id has an address that is a proper prefix of the new one.
+    UnderMethod(u32),
+    /// A method has an address below the new one.
+    IsContainer,
+    /// There are as many methods as there may be, which is this number.
+    MethodsFull(u32),
+    /// The address needs more new nodes than are free.
+    NodesFull(Room),
+}
+
+/// What an add is answered.
+#[derive(Drop)]
+pub enum Adding {
+    /// The method was added, with this id.
+    Added(u32),
+    /// The address and the box come back untouched.
+    Refused {
+        why: AddRefusal,
+        address: Address,
+        method: Box<dyn Method + Send>,
+    },
+}
+
+/// What a removal is answered.
+#[derive(Drop)]
+pub enum Removing {
+    /// The method with this id was removed, and its box comes back with what it heard.
+    Removed {
+        id: u32,
+        method: Box<dyn Method + Send>,
+    },
+    /// No method has the address.
+    NotThere,
+}
+
+/// What a tick is answered.
+#[derive(Clone, Copy, Debug, PartialEq, Eq)]
+pub enum Ticking {
+    /// The clock stands at the moment.
+    Ticked,
+    /// The moment is before the clock, which stays at this one.
+    ClockBack(u64),
+}
+
+/// What a release is answered.
+#[derive(Drop)]
+pub enum Releasing {
+    /// The unit with this number left the queue, and made these calls.
+    Released { unit: u64, calls: Invocations },
+    /// No unit is due. `next` is the least due moment in the queue, `None` where the queue is empty.
+    NothingDue { next: Option<u64> },
+}
+
+/// The boxes of a server that is done.
+#[derive(Drop)]
+pub struct Closed {
+    /// The id of each registered method with its box, ascending.
+    pub kept: Vec<(u32, Box<dyn Method + Send>)>,
+}
