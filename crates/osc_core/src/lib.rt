@@ -17,4 +17,3 @@ mod units;
 pub use answers::{AddRefusal, Adding, Closed, Enrolled, Releasing, Removing, Submitted, Ticking};
 pub use invocation::{Invocation, Invocations};
 pub use sequential::{Core, Stands};
-
