@@ -1,0 +1,20 @@
+use Rattle.std.proofs.Common.{refl}
+use Rattle.hex.proofs.OnLiterals.{hex_on_literals}
+use Rattle.osc_script.specs.Acts.{act_of}
+use Rattle.osc_script.proofs.laws.examples.Goals as goal
+
+pub returns : goal.returns
+unfolding act_of hex_on_literals
+returns c = record {
+  address = refl;
+  word = refl;
+  odd = refl;
+  digits = refl;
+  few = refl;
+  many = refl;
+  unknown = refl;
+  skipped = refl;
+  bare = refl;
+  second = refl;
+  read = refl;
+}

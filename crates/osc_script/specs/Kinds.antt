@@ -1,0 +1,26 @@
+-- The kinds of faults of a script, numbered. docs/FORMATS.md has the order in which they are tried.
+use Rattle.std.specs.Prelude.{ℕ}
+
+-- the input has over 67,108,864 bytes
+abbrev pub too_long_kind : ℕ
+too_long_kind = 1
+
+-- an unknown word
+abbrev pub word_kind : ℕ
+word_kind = 2
+
+-- a known word with too few or too many words behind it
+abbrev pub count_kind : ℕ
+count_kind = 3
+
+-- the operand of `add` or `remove` isn't a lawful address
+abbrev pub address_kind : ℕ
+address_kind = 4
+
+-- the joined words of a `send` have a byte that is no hexadecimal digit, or are an odd number of digits
+abbrev pub hex_kind : ℕ
+hex_kind = 5
+
+-- the operand of `tick` isn't exactly 16 hexadecimal digits
+abbrev pub tag_kind : ℕ
+tag_kind = 6

@@ -1,0 +1,6 @@
+pub mod Words
+pub mod Kinds
+pub mod Acts
+pub mod Scripts
+pub mod Faults
+pub mod Answers

@@ -1,0 +1,120 @@
+// Reads what a line says.
+ghost use Rattle.std.specs.Prelude.{◌≡◌, IfOk};
+ghost use Rattle.std.specs.List.{concat};
+ghost use Rattle.std.specs.Option.{option_copied};
+ghost use Rattle.osc_script.specs.Words.{words_of};
+ghost use Rattle.osc_script.specs.Acts.{act_of, only_one, address_of, packet_of, moment_of, pump_of};
+ghost use Rattle.osc_script.specs.Scripts.{line_says};
+ghost use Rattle.osc_script.specs.Answers.{Says};
+
+use crate::act::Act;
+use crate::fault::{LineRefusal, ScriptFault};
+use crate::words::next_word;
+use hex::{FromHex, FromHexError};
+use osc_message::Bytes;
+use osc_pattern::{Address, AddressFault};
+use std::alloc::{AllocError, Global};
+
+/// What the line says; nothing where it is skipped.
+pub(crate) fn read_line(alloc: Global, text: &[u8]) -> Result<Option<Act>, LineRefusal>
+    ensures { Says result (line_says text.now) }
+{
+    if text.starts_with(b"#") {
+        return Ok(None);
+    }
+    match next_word(text) {
+        Some((word, operands)) => Ok(Some(read_act(alloc, word, operands)?)),
+        None => Ok(None),
+    }
+}
+
+/// What a word and the words behind it say.
+#[tactic(auto, unfolding(crate::specs::Acts::act_of))]
+fn read_act(alloc: Global, word: &[u8], operands: &[u8]) -> Result<Act, LineRefusal>
+    ensures { Says result (act_of word.now (words_of operands.now)) }
+{
+    if word == b"add".as_slice() {
+        return Ok(Act::Add(read_address(alloc, operands)?));
+    }
+    if word == b"remove".as_slice() {
+        return Ok(Act::Remove(read_address(alloc, operands)?));
+    }
+    if word == b"send".as_slice() {
+        return Ok(Act::Send(read_packet(alloc, operands)?));
+    }
+    if word == b"tick".as_slice() {
+        return Ok(Act::Tick(read_moment(operands)?));
+    }
+    if word == b"pump".as_slice() {
+        return read_pump(operands);
+    }
+    Err(LineRefusal::Kind(ScriptFault::WORD))
+}
+
+fn read_address(alloc: Global, operands: &[u8]) -> Result<Address, LineRefusal>
+    ensures { Says result (address_of (words_of operands.now)) }
+{
+    match Address::read(
+        alloc,
+        only_word(operands).ok_or(LineRefusal::Kind(ScriptFault::COUNT))?,
+    ) {
+        Ok(address) => Ok(address),
+        Err(AddressFault::NoMemory) => Err(LineRefusal::NoMemory),
+        Err(_) => Err(LineRefusal::Kind(ScriptFault::ADDRESS)),
+    }
+}
+
+fn read_packet(alloc: Global, operands: &[u8]) -> Result<Bytes, LineRefusal>
+    ensures { Says result (packet_of (words_of operands.now)) }
+{
+    let digits = joined(alloc, operands)?;
+    match hex::decode(alloc, digits.as_slice()) {
+        Ok(bytes) => Ok(Bytes::of(bytes)),
+        Err(FromHexError::OutOfMemory) => Err(LineRefusal::NoMemory),
+        Err(_) => Err(LineRefusal::Kind(ScriptFault::HEX)),
+    }
+}
+
+fn read_moment(operands: &[u8]) -> Result<u64, LineRefusal>
+    ensures { Says result (moment_of (words_of operands.now)) }
+{
+    match <[u8; 8] as FromHex>::from_hex(only_word(operands).ok_or(LineRefusal::Kind(
+        ScriptFault::COUNT,
+    ))?) {
+        Ok(bytes) => Ok(u64::from_be_bytes(bytes)),
+        Err(_) => Err(LineRefusal::Kind(ScriptFault::TAG)),
+    }
+}
+
+fn read_pump(operands: &[u8]) -> Result<Act, LineRefusal>
+    ensures { Says result (pump_of (words_of operands.now)) }
+{
+    match next_word(operands) {
+        Some(_) => Err(LineRefusal::Kind(ScriptFault::COUNT)),
+        None => Ok(Act::Pump),
+    }
+}
+
+/// The one operand, where there is one and no more.
+fn only_word(operands: &[u8]) -> Option<&[u8]>
+    ensures { option_copied result ≡ only_one (words_of operands.now) }
+{
+    let (word, after) = next_word(operands)?;
+    match next_word(after) {
+        Some(_) => None,
+        None => Some(word),
+    }
+}
+
+/// The words without the spaces between them.
+fn joined(alloc: Global, words: &[u8]) -> Result<Vec<u8>, AllocError>
+    ensures { IfOk result (λ digits. digits.items ≡ concat (words_of words.now)) }
+{
+    let mut digits = Vec::with_capacity(alloc, words.len())?;
+    let mut rest = words;
+    while let Some((word, after)) = next_word(rest) {
+        digits.extend_from_slice(word)?;
+        rest = after;
+    }
+    Ok(digits)
+}

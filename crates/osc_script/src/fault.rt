@@ -1,0 +1,54 @@
+// Why a script isn't read.
+ghost use Rattle.std.specs.Prelude.{◌≡◌};
+ghost use Rattle.osc_script.specs.declared.fault.LineRefusal.TheVariants.{NoMemory};
+
+use std::alloc::AllocError;
+use thiserror::Error;
+
+/// The first line outside the rules, counted from 1, or 0 for an input that is too long; docs/FORMATS.md has the order in
+/// which the kinds are tried.
+#[derive(Clone, Copy, Debug, PartialEq, Eq, Error)]
+#[error("line {line} of the script has a fault of kind {kind}")]
+pub struct ScriptFault {
+    pub line: u32,
+    /// One of the numbers below.
+    pub kind: u8,
+}
+
+impl ScriptFault {
+    /// The input has over 67,108,864 bytes.
+    pub const TOO_LONG: u8 = 1;
+    /// An unknown word, whatever follows it.
+    pub const WORD: u8 = 2;
+    /// A wrong number of words for a known word.
+    pub const COUNT: u8 = 3;
+    /// The operand of `add` or `remove` isn't a lawful address.
+    pub const ADDRESS: u8 = 4;
+    /// The joined words of a `send` have a byte that is no hexadecimal digit, or are an odd number of digits.
+    pub const HEX: u8 = 5;
+    /// The operand of `tick` isn't exactly 16 hexadecimal digits.
+    pub const TAG: u8 = 6;
+}
+
+/// Why a script isn't read.
+#[derive(Clone, Copy, Debug, PartialEq, Eq)]
+pub enum ScriptRefusal {
+    Fault(ScriptFault),
+    NoMemory,
+}
+
+/// Why a line isn't read.
+#[derive(Clone, Copy)]
+pub(crate) enum LineRefusal {
+    /// The kind of its fault.
+    Kind(u8),
+    NoMemory,
+}
+
+impl From<AllocError> for LineRefusal {
+    ghost from_gives = { λ _ r. r ≡ NoMemory };
+
+    fn from(_error: AllocError) -> LineRefusal {
+        LineRefusal::NoMemory
+    }
+}

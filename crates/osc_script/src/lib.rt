@@ -1,0 +1,21 @@
+//! Scripts: what the lines of an input say, or the first fault.
+#![tactic(auto)]
+
+mod act;
+mod act_reading;
+mod fault;
+pub mod laws;
+mod line;
+mod line_reading;
+mod mode;
+mod script;
+mod words;
+
+pub use act::Act;
+pub use fault::{ScriptFault, ScriptRefusal};
+pub use line::Line;
+pub use mode::Mode;
+pub use script::Script;
+
+#[cfg(test)]
+mod tests;

@@ -1,0 +1,71 @@
+// Scripts, read whole.
+use crate::fault::{ScriptFault, ScriptRefusal};
+use crate::line::Line;
+use crate::line_reading::read_lines;
+use crate::mode::Mode;
+use std::alloc::Global;
+use std::marker::Model;
+
+const MOST_BYTES: usize = 67_108_864;
+
+/// The lines of a lawful script that say something, in order. A contract sees the list.
+#[derive(Drop)]
+pub struct Script {
+    items: Vec<Line>,
+}
+
+impl Model for Script {
+    ghost use Rattle.std.specs.Prelude.{List};
+    ghost use Rattle.osc_script.specs.declared.line.Line.{Line};
+
+    ghost Value = { List Line };
+
+    ghost view = { λ s. s.items.items };
+}
+
+impl Script {
+    ghost use Rattle.std.specs.Prelude.{◌≡◌, ◌≤◌, ◌<◌, length, Err, IfOk};
+    ghost use Rattle.osc_script.specs.Scripts.{script_of, AreLawful};
+    ghost use Rattle.osc_script.specs.Answers.{Reads};
+    ghost use Rattle.osc_script.specs.Kinds.{too_long_kind};
+    ghost use Rattle.osc_script.specs.Faults.{IsFirstFault};
+    ghost use Rattle.osc_script.specs.declared.fault.ScriptFault.{ScriptFault};
+
+    /// The lines of the bytes, or the first fault; `NoMemory` where memory runs out before one is found.
+    pub fn read(alloc: Global, bytes: &[u8], mode: Mode) -> Result<Script, ScriptRefusal>
+        ensures reads { Reads result (script_of mode bytes.now) }
+        ensures first { (fault : ScriptFault) → result ≡ Err (ScriptRefusal.Fault fault) → 0 < fault.line → IsFirstFault bytes.now fault }
+        ensures long { 67108864 < length bytes.now → result ≡ Err (ScriptRefusal.Fault (record { line = 0; kind = too_long_kind })) }
+        ensures lawful { IfOk result AreLawful }
+        ensures few { IfOk result (λ lines. length lines ≤ length bytes.now) }
+        ensures short { IfOk result (λ _. length bytes.now ≤ 67108864) }
+    {
+        if bytes.len() > MOST_BYTES {
+            return Err(ScriptRefusal::Fault(ScriptFault {
+                line: 0,
+                kind: ScriptFault::TOO_LONG,
+            }));
+        }
+        read_lines(alloc, bytes, mode)
+    }
+
+    pub(crate) fn of(lines: Vec<Line>) -> Script
+        ensures { result ≡ lines.items }
+    {
+        Script { items: lines }
+    }
+
+    /// The lines. Takes no memory.
+    pub fn lines(&self) -> &[Line]
+        ensures { result.now ≡ self.now }
+    {
+        self.items.as_slice()
+    }
+
+    /// The lines, handed out. Takes no memory.
+    pub fn into_lines(self) -> Vec<Line>
+        ensures { result.items ≡ self }
+    {
+        self.items
+    }
+}
