@@ -1,7 +1,6 @@
-pub mod Scripts
 pub mod Plain
 pub mod Printing
 pub mod Calls
+pub mod Bank
 pub mod Ends
-pub mod Reads
 pub mod Whole

@@ -1,25 +1,33 @@
 // The top call.
-ghost use Rattle.std.specs.Prelude.{◌≡◌, ◌≢◌, ◌⊎◌, ◌≤◌, ℕ, IsSome, IsOk, IfSome, Some, [], None, is_some, map, string_bytes};
+ghost use Rattle.std.specs.Prelude.{◌≡◌, ◌≢◌, ◌⊎◌, ◌≤◌, ℕ, List, IsSome, IsOkAnd, IfSome, Some, Ok, [], None, is_some, length, map, string_bytes};
 ghost use Rattle.osc_edge.specs.Faults.{Rose};
-ghost use Rattle.osc_top.specs.Printing.{usage_text, refusal_text};
-ghost use Rattle.osc_top.specs.Scripts.{script_of};
+ghost use Rattle.osc_script.specs.declared.line.Line.{Line};
+ghost use Rattle.osc_script.specs.declared.mode.Mode.TheVariants.{Plain};
+ghost use Rattle.osc_script.specs.Scripts.{script_of};
+ghost use Rattle.osc_top.specs.Plain.{count_adds};
+ghost use Rattle.osc_top.specs.Bank.{IsAccounted};
+ghost use Rattle.osc_top.specs.Printing.{usage_text, refusal_text, bank_short_text};
 ghost use Rattle.osc_top.specs.Ends.{GainsUnless, EndsRun, EndsHistory, EndsLine, command_of, left_behind};
 
 use crate::entries::refusal_line;
-use crate::line_reading::read_script;
 use crate::player::play;
-use crate::script::{MOST_BYTES, ScriptFault, ScriptRefusal, TOO_LONG};
 use crate::whole::{Input, Written, read_whole, write_whole};
 use osc_edge::{Sink, Source};
+use osc_method::Method;
 use osc_print::Text;
+use osc_script::{Mode, Script, ScriptFault, ScriptRefusal};
 use std::alloc::Global;
 
 /// How a program ends.
-#[derive(Clone, Copy, Debug, PartialEq, Eq)]
+#[derive(Drop)]
 pub struct Ended {
-    /// The exit status: 0 done, 1 script refused, 2 words refused, 3 want of memory, 4 the source failed, 5 the
-    /// sink failed (docs/FORMATS.md, "Programs").
+    /// The exit status: 0 done, 1 script refused, 2 words refused, 3 want of memory, 4 the source failed, 5 the sink
+    /// failed, 8 more adds than boxes (docs/FORMATS.md, "Programs").
     pub status: u8,
+    /// The id of each method that was added with its box, ascending, the removed ones among them.
+    pub heard: Vec<(u32, Box<dyn Method + Send>)>,
+    /// The other boxes: those of adds that were refused, in the order of the lines, and those behind the last add.
+    pub left: Vec<Box<dyn Method + Send>>,
 }
 
 const DONE: u8 = 0;
@@ -34,18 +42,22 @@ const SOURCE_FAILED: u8 = 4;
 
 const SINK_FAILED: u8 = 5;
 
+const BANK_SHORT: u8 = 8;
+
 /// Does all that the program does: reads a script from `input` to its end, plays it on a new server, and writes the
 /// printed history and the faults of its packets to `out`.
 ///
-/// `words` are those of the command line, without the program's name. Scripts, printed lines and statuses are those
-/// of docs/FORMATS.md. What stands in `out` at want of memory isn't said.
+/// `words` are those of the command line, without the program's name. The k-th add of the script gets the k-th box of
+/// `bank`. Scripts, printed lines and statuses are those of docs/FORMATS.md. What stands in `out`, and what becomes of
+/// the boxes, at want of memory isn't said.
 pub fn plain_top<S: Source, O: Sink>(
     alloc: Global,
     words: &[String],
     input: &mut S,
     out: &mut O,
+    bank: Vec<Box<dyn Method + Send>>,
 ) -> Ended
-    ensures known { result.status ≤ 5 }
+    ensures known { (result.status ≤ 5) ⊎ (result.status ≡ 8) }
 
     // Words that are no command are answered first, by a line on usage, and nothing is read then.
     ensures usage { result.status ≡ 2 → command_of (map string_bytes words.now) ≡ None }
@@ -62,18 +74,27 @@ pub fn plain_top<S: Source, O: Sink>(
     ensures read { IfSome (S.left input.old) (λ script. result.status ≢ 2 → result.status ≢ 3 → result.status ≢ 4 →
         S.left input.new ≡ Some (left_behind script)) }
 
-    // Then a script that is refused, or its history, with a sink that took all of it or failed.
+    // Then a script that is refused, or one that adds more methods than there are boxes, or its history, with a sink that
+    // took all of it or failed.
     ensures script { IfSome (S.left input.old) (λ script. result.status ≢ 2 → result.status ≢ 4 →
-        EndsRun result.status script (O.held out.old) (O.held out.new) (O.faults out.old) (O.faults out.new)) }
+        EndsRun result.status (length bank.items) script (O.held out.old) (O.held out.new) (O.faults out.old) (O.faults out.new)) }
     ensures sink { result.status ≡ 5 → Rose (O.faults out.old) (O.faults out.new) }
 
     // Done means that nothing failed and that the input was read to its end.
     ensures steady { result.status ≡ 0 → O.faults out.new ≡ O.faults out.old }
     ensures ended { result.status ≡ 0 → IfSome (S.left input.old) (λ script. S.left input.new ≡ Some []) }
 
-    // Lawful words, a lawful script and edges that don't fail are played, unless memory runs out.
+    // Each box that was added has heard what the history says, and each other one comes back as it was; where nothing was
+    // played, all of them.
+    ensures accounted { (result.status ≡ 0) ⊎ (result.status ≡ 5) → (lines : List Line) ×
+        IfSome (S.left input.old) (λ script. script_of Plain script ≡ Ok lines) ×
+        IsAccounted lines (map (λ one. record { id = one.0; keep = keep one.1; heard = heard one.1 }) result.heard.items) result.left.items (map (λ box. record { keep = keep box; heard = heard box }) bank.items) bank.items }
+    ensures none_heard { (result.status ≡ 1) ⊎ (result.status ≡ 2) ⊎ (result.status ≡ 4) ⊎ (result.status ≡ 8) → result.heard.items ≡ [] }
+    ensures all_left { (result.status ≡ 1) ⊎ (result.status ≡ 2) ⊎ (result.status ≡ 4) ⊎ (result.status ≡ 8) → result.left.items ≡ bank.items }
+
+    // Lawful words, a lawful script with enough boxes and edges that don't fail are played, unless memory runs out.
     ensures complete { IfSome (S.left input.old) (λ script.
-        IsSome (command_of (map string_bytes words.now)) → IsOk (script_of script) →
+        IsSome (command_of (map string_bytes words.now)) → IsOkAnd (script_of Plain script) (λ lines. count_adds lines ≤ length bank.items) →
         ¬ Rose (S.faults input.old) (S.faults input.new) → ¬ Rose (O.faults out.old) (O.faults out.new) →
         (result.status ≡ 0) ⊎ (result.status ≡ 3)) }
 {
