@@ -54,5 +54,5 @@ heard_after caps history bank = boxes_heard (invocations (opening caps) history)
 pub record IsAccounted {X : Type 0} (lines : List Line) (heard : List Told) (left : List X) (meanings : List Meaning) (bank : List X) : Type 0 where
   pub enough : count_adds lines ≤ length bank
   pub legal : Legal default_caps (plain default_caps lines).history
-  pub heard : heard ≡ heard_after default_caps (plain default_caps lines).history meanings
-  pub left : left ≡ boxes_left (add_answers (plain default_caps lines).history) bank
+  pub boxes : heard ≡ heard_after default_caps (plain default_caps lines).history meanings
+  pub others : left ≡ boxes_left (add_answers (plain default_caps lines).history) bank
