@@ -1,0 +1,11 @@
+pub mod Ascents
+pub mod Calling
+pub mod Finding
+pub mod Framing
+pub mod Hearing
+pub mod Joins
+pub mod Leaving
+pub mod Same
+pub mod Stocks
+pub mod Storing
+pub mod Submits

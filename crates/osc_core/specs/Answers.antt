@@ -1,5 +1,5 @@
 -- What the calls' answers stand for.
-use Rattle.std.specs.Prelude.{ℕ, List, [], map}
+use Rattle.std.specs.Prelude.{ℕ, List, [], map, Option, Some, None, Result, Ok, Err}
 use Rattle.std.specs.declared.alloc.Global.{Global}
 use Rattle.std.specs.declared.dyn_box.DynBox.{DynBox}
 use Rattle.osc_tree.specs.Adding.{Refusal, taken, under_method, is_container, methods_full, nodes_full}
@@ -39,6 +39,16 @@ refusal_of (UnderMethod id) = under_method id
 refusal_of IsContainer = is_container
 refusal_of (MethodsFull limit) = methods_full limit
 refusal_of (NodesFull room) = nodes_full room.need room.free
+
+-- the answer to an add, where the address comes back with a refusal
+abbrev pub added_of : Result ℕ (AddRefusal × List ℕ) → Answer
+added_of (Ok id) = added id
+added_of (Err refusing) = refused (refusal_of refusing.0)
+
+-- the answer to a removal
+abbrev pub removal_of : Option ℕ → Answer
+removal_of (Some id) = removed id
+removal_of None = not_there
 
 module _ {X : Type 0} {Y : X → Type 0} where
   -- the answer to an add

@@ -1,7 +1,8 @@
 -- How messages are kept in a list of bytes: each after its length in 4 bytes.
-use Rattle.std.specs.Prelude.{ℕ, zero, suc, List, [], ◌∷◌, ◌++◌, length, take, drop}
+use Rattle.std.specs.Prelude.{ℕ, zero, suc, ◌+◌, ◌≤◌, IsTrue, List, [], ◌∷◌, ◌++◌, length, take, drop}
 use Rattle.std.specs.Int.{w32, from_be_bytes}
 use Rattle.osc_atoms.specs.Atoms.{word}
+use Rattle.osc_message.specs.Reading.{is_message}
 
 -- messages, each after its length
 abbrev pub framed : List (List ℕ) → List ℕ
@@ -23,3 +24,9 @@ after_framed bytes = drop (first_length bytes) (drop 4 bytes)
 abbrev pub unframed : ℕ → List ℕ → List (List ℕ)
 unframed zero bytes = []
 unframed (suc count) bytes = first_framed bytes ∷ unframed count (after_framed bytes)
+
+-- the bytes begin with so many messages, each after its length
+abbrev pub IsFramed : ℕ → List ℕ → Type 0
+IsFramed zero bytes = Unit {0}
+IsFramed (suc count) bytes =
+    (4 + first_length bytes ≤ length bytes) × IsTrue (is_message 1073741824 (first_framed bytes)) × IsFramed count (after_framed bytes)

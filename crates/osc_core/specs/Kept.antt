@@ -1,6 +1,5 @@
 -- The messages of queued units, by the units' numbers.
 use Rattle.std.specs.Prelude.{ℕ, ◌+◌, ◌/◌, ◌==◌, if◌then◌else◌, List, [], ◌∷◌}
-use Rattle.std.specs.List.{list_any}
 use Rattle.osc_packet.specs.Units.{stored_size}
 
 -- the messages of the unit with this number

@@ -1,5 +1,118 @@
 // The boxes of the registered methods.
-use osc_method::Method;
+ghost use Rattle.std.specs.Prelude.{◌≡◌, ◌<◌, ◌≤◌, ◌++◌, ◌∷◌, [], map, length, Contains, vec_len, vec_capacity, IsTrue};
+ghost use Rattle.osc_model.specs.Step.{invocations_of};
+ghost use Rattle.osc_model.specs.Heard.{Told, hear, reset};
+ghost use Rattle.osc_core.specs.Answers.{call_of};
+ghost use Rattle.osc_core.specs.Boxes.{all_hear, without_id};
+ghost use Rattle.osc_core.specs.Ids.{is_ascending, IsFirstFrom, IsPlaceOf, without};
+
+use crate::invocation::Invocation;
+use osc_message::Message;
+use osc_method::{Call, Method};
 
 /// The id of a registered method, and its box.
 pub(crate) type Boxed = (u32, Box<dyn Method + Send>);
+
+/// Keeps a box, which is reset, in room that is there.
+pub(crate) fn keep_box(boxes: &mut Vec<Boxed>, id: u32, mut method: Box<dyn Method + Send>)
+    requires { vec_len boxes.old < vec_capacity boxes.old }
+    ensures boxes { map (λ one. record { id = one.0; keep = keep one.1; heard = heard one.1 }) boxes.new.items ≡ map (λ one. record { id = one.0; keep = keep one.1; heard = heard one.1 }) boxes.old.items ++ reset (record { id = id; keep = keep method; heard = heard method }) ∷ [] }
+    ensures ids { map (λ one. one.0) boxes.new.items ≡ map (λ one. one.0) boxes.old.items ++ id ∷ [] }
+    ensures capacity { vec_capacity boxes.old ≤ vec_capacity boxes.new }
+{
+    method.reset();
+    match boxes.push((id, method)) {
+        Ok(()) => {}
+        Err(_) => unreachable!(),
+    }
+}
+
+/// Takes the box of an id out.
+pub(crate) fn hand_out(boxes: &mut Vec<Boxed>, id: u32) -> Box<dyn Method + Send>
+    requires ascending { IsTrue (is_ascending (map (λ one. one.0) boxes.old.items)) }
+    requires held { Contains (map (λ one. one.0) boxes.old.items) id }
+    ensures removed { Contains {X = Told} (map (λ one. record { id = one.0; keep = keep one.1; heard = heard one.1 }) boxes.old.items) (record { id = id; keep = keep result; heard = heard result }) }
+    ensures others { map (λ one. record { id = one.0; keep = keep one.1; heard = heard one.1 }) boxes.new.items ≡ without_id id (map (λ one. record { id = one.0; keep = keep one.1; heard = heard one.1 }) boxes.old.items) }
+    ensures ids { map (λ one. one.0) boxes.new.items ≡ without id (map (λ one. one.0) boxes.old.items) }
+    ensures capacity { vec_capacity boxes.old ≤ vec_capacity boxes.new }
+{
+    match place_of(boxes, id) {
+        Some(place) => boxes.remove(place).1,
+        None => unreachable!(),
+    }
+}
+
+/// The calls are made one after another.
+pub(crate) fn invoke_all(boxes: &mut Vec<Boxed>, unit: u64, calls: &[Invocation])
+    requires { IsTrue (is_ascending (map (λ one. one.0) boxes.old.items)) }
+    ensures boxes { map (λ one. record { id = one.0; keep = keep one.1; heard = heard one.1 }) boxes.new.items ≡ all_hear (invocations_of unit (map call_of calls.now)) (map (λ one. record { id = one.0; keep = keep one.1; heard = heard one.1 }) boxes.old.items) }
+    ensures ids { map (λ one. one.0) boxes.new.items ≡ map (λ one. one.0) boxes.old.items }
+    ensures capacity { vec_capacity boxes.old ≤ vec_capacity boxes.new }
+{
+    for call in calls {
+        invoke_one(boxes, unit, call);
+    }
+}
+
+/// The box of the call's method hears the call, and no other.
+fn invoke_one(boxes: &mut Vec<Boxed>, unit: u64, call: &Invocation)
+    requires { IsTrue (is_ascending (map (λ one. one.0) boxes.old.items)) }
+    ensures ids { map (λ one. one.0) boxes.new.items ≡ map (λ one. one.0) boxes.old.items }
+    ensures capacity { vec_capacity boxes.old ≤ vec_capacity boxes.new }
+    ensures boxes { map (λ one. record { id = one.0; keep = keep one.1; heard = heard one.1 }) boxes.new.items ≡ map (λ told. hear told (record { unit = unit; call = call_of call.now })) (map (λ one. record { id = one.0; keep = keep one.1; heard = heard one.1 }) boxes.old.items) }
+{
+    if let Some(place) = place_of(boxes, call.id) {
+        invoke(&mut boxes[place], unit, call);
+    }
+}
+
+/// A box hears a call.
+fn invoke(boxed: &mut Boxed, unit: u64, call: &Invocation)
+    requires { boxed.old.0 ≡ call.now.id }
+    ensures id { boxed.new.0 ≡ boxed.old.0 }
+    ensures told { record { id = boxed.new.0; keep = keep boxed.new.1; heard = heard boxed.new.1 } ≡ hear (record { id = boxed.old.0; keep = keep boxed.old.1; heard = heard boxed.old.1 }) (record { unit = unit; call = call_of call.now }) }
+{
+    match Message::check(call.message.as_slice(), 1_073_741_824) {
+        Ok(message) => {
+            boxed.1.invoke(&Call {
+                unit,
+                index: call.index,
+                message,
+            });
+        }
+        Err(_) => unreachable!(),
+    }
+}
+
+/// The place of the id among the boxes.
+pub(crate) fn place_of(boxes: &[Boxed], id: u32) -> Option<usize>
+    requires { IsTrue (is_ascending (map (λ one. one.0) boxes.now)) }
+    ensures { IsPlaceOf result id (map (λ one. one.0) boxes.now) }
+{
+    let place = first_from(boxes, id);
+    if place == boxes.len() {
+        return None;
+    }
+    if boxes[place].0 != id {
+        return None;
+    }
+    Some(place)
+}
+
+/// The place of the first box whose id isn't below this one, or how many boxes there are.
+fn first_from(boxes: &[Boxed], id: u32) -> usize
+    requires { IsTrue (is_ascending (map (λ one. one.0) boxes.now)) }
+    ensures { IsFirstFrom result id (map (λ one. one.0) boxes.now) }
+{
+    let mut low = 0;
+    let mut high = boxes.len();
+    while low < high {
+        let middle = low + (high - low) / 2;
+        if boxes[middle].0 < id {
+            low = middle + 1;
+        } else {
+            high = middle;
+        }
+    }
+    low
+}

@@ -9,7 +9,10 @@ mod boxes;
 mod invocation;
 mod sequential;
 mod server;
+mod store;
+mod units;
 
 pub use answers::{AddRefusal, Adding, Closed, Enrolled, Releasing, Removing, Submitted, Ticking};
 pub use invocation::{Invocation, Invocations};
 pub use sequential::{Core, Stands};
+

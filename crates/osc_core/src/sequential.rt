@@ -1,5 +1,5 @@
 //! The server with its boxes, one event after another.
-ghost use Rattle.std.specs.Prelude.{◌≡◌, ◌+◌, ◌<◌, ◌≤◌, ◌^◌, ◌++◌, ◌∷◌, [], List, length, map, Contains, vec_capacity, IfOk, OnOk, OnErr};
+ghost use Rattle.std.specs.Prelude.{◌≡◌, ◌+◌, ◌<◌, ◌≤◌, ◌^◌, ◌++◌, ◌∷◌, [], length, map, IsTrue, List, Contains, vec_capacity, IfOk, OnOk, OnErr};
 ghost use Rattle.osc_packet.specs.Reading.{units_read};
 ghost use Rattle.osc_model.specs.State.{Caps, AreInRange, opening};
 ghost use Rattle.osc_model.specs.Events.{enrol, submit, add, remove, tick, release, added};
@@ -7,10 +7,11 @@ ghost use Rattle.osc_model.specs.Step.{step};
 ghost use Rattle.osc_model.specs.Heard.{Told, reset};
 ghost use Rattle.osc_model.specs.History.{IsSound};
 ghost use Rattle.osc_core.specs.Answers.{enrolled_of, submitted_of, adding_of, removing_of, ticking_of, releasing_of, invoked_by, OnAdded, OnRefused, OnRemoved, OnNotThere};
+ghost use Rattle.osc_core.specs.Ids.{is_ascending};
 ghost use Rattle.osc_core.specs.Boxes.{all_hear, without_id, one_more, entries_after};
 
 use crate::answers::{Adding, Closed, Enrolled, Releasing, Removing, Submitted, Ticking};
-use crate::boxes::Boxed;
+use crate::boxes::{Boxed, hand_out, invoke_all, keep_box};
 use crate::server::Server;
 use osc_method::Method;
 use osc_packet::Packet;
@@ -35,6 +36,7 @@ pub struct Core {
     entries: u64,
     ghost never: { ⊥ },
     ghost alike: { map (λ one. one.0) boxes.items ≡ map (λ method. method.id) state.methods },
+    ghost ascending: { IsTrue (is_ascending (map (λ one. one.0) boxes.items)) },
     ghost reserved: { state.caps.methods ≤ vec_capacity boxes },
 }
 
@@ -69,7 +71,8 @@ impl Core {
         ensures boxes { ⟦<Core as Stands>⟧.boxes self.new ≡ ⟦<Core as Stands>⟧.boxes self.old }
         ensures entries { self.new.entries ≡ one_more self.old.entries }
     {
-        unreachable!()
+        count(&mut self.entries);
+        self.state.enrol()
     }
 
     /// Queues the packet's units, numbered in their order (docs/SERVER.md, "Units").
@@ -81,7 +84,8 @@ impl Core {
         ensures boxes { ⟦<Core as Stands>⟧.boxes self.new ≡ ⟦<Core as Stands>⟧.boxes self.old }
         ensures entries { self.new.entries ≡ one_more self.old.entries }
     {
-        unreachable!()
+        count(&mut self.entries);
+        self.state.submit(packet)
     }
 
     /// Adds a method at the address, and resets and keeps its box. A refusal hands both back.
@@ -95,7 +99,21 @@ impl Core {
         ensures handed_back { OnRefused result (λ back untouched. (back ≡ address) × (untouched ≡ method)) }
         ensures entries { self.new.entries ≡ one_more self.old.entries }
     {
-        unreachable!()
+        count(&mut self.entries);
+        match self.state.add(address) {
+            Ok(id) => {
+                keep_box(&mut self.boxes, id, method);
+                Adding::Added(id)
+            }
+            Err(refused) => {
+                let (why, address) = refused;
+                Adding::Refused {
+                    why,
+                    address,
+                    method,
+                }
+            }
+        }
     }
 
     /// Removes the method at the address, and hands its box out with what it heard.
@@ -103,12 +121,19 @@ impl Core {
         requires { caller < self.old.state.callers }
         ensures answer { removing_of result ≡ (step self.old.state (remove address.now)).answer }
         ensures state { self.new.state ≡ (step self.old.state (remove address.now)).state }
-        ensures removed { OnRemoved result (λ id method. Contains (⟦<Core as Stands>⟧.boxes self.old) (record { id = id; keep = keep method; heard = heard method })) }
+        ensures removed { OnRemoved result (λ id method. Contains {X = Told} (⟦<Core as Stands>⟧.boxes self.old) (record { id = id; keep = keep method; heard = heard method })) }
         ensures others { OnRemoved result (λ id _. ⟦<Core as Stands>⟧.boxes self.new ≡ without_id id (⟦<Core as Stands>⟧.boxes self.old)) }
         ensures boxes { OnNotThere result (⟦<Core as Stands>⟧.boxes self.new ≡ ⟦<Core as Stands>⟧.boxes self.old) }
         ensures entries { self.new.entries ≡ one_more self.old.entries }
     {
-        unreachable!()
+        count(&mut self.entries);
+        match self.state.remove(address) {
+            Some(id) => Removing::Removed {
+                id,
+                method: hand_out(&mut self.boxes, id),
+            },
+            None => Removing::NotThere,
+        }
     }
 
     /// Sets the clock to the moment, unless it is before the clock.
@@ -119,7 +144,8 @@ impl Core {
         ensures boxes { ⟦<Core as Stands>⟧.boxes self.new ≡ ⟦<Core as Stands>⟧.boxes self.old }
         ensures entries { self.new.entries ≡ one_more self.old.entries }
     {
-        unreachable!()
+        count(&mut self.entries);
+        self.state.tick(now)
     }
 
     /// Takes the unit that is least by due moment and number, if it is due, and invokes for each of its messages in order
@@ -135,7 +161,15 @@ impl Core {
         ensures err { OnErr result (self.new ≡ self.old) }
         ensures alike { map (λ one. one.id) (⟦<Core as Stands>⟧.boxes self.old) ≡ map (λ method. method.id) self.old.state.methods }
     {
-        unreachable!()
+        match self.state.release() {
+            Ok(Releasing::Released { unit, calls }) => {
+                invoke_all(&mut self.boxes, unit, calls.as_slice());
+                count(&mut self.entries);
+                Ok(Releasing::Released { unit, calls })
+            }
+            Ok(Releasing::NothingDue { next }) => Ok(Releasing::NothingDue { next }),
+            Err(no_memory) => Err(no_memory),
+        }
     }
 
     /// The clock: the last moment that was handed in, or 1.
@@ -155,9 +189,16 @@ impl Core {
 
     /// Ends the server, and hands its boxes out with what they heard.
     pub fn close(self) -> Closed
-        ensures boxes { map (λ one. record { id = one.0; keep = keep one.1; heard = heard one.1 }) result.kept.items ≡ ⟦<Core as Stands>⟧.boxes self }
+        ensures kept { map (λ one. record { id = one.0; keep = keep one.1; heard = heard one.1 }) result.kept.items ≡ ⟦<Core as Stands>⟧.boxes self }
         ensures ids { map (λ one. one.0) result.kept.items ≡ map (λ method. method.id) self.state.methods }
     {
         unreachable!()
     }
+}
+
+/// One entry more, up to the greatest number.
+fn count(entries: &mut u64)
+    ensures { entries.new ≡ one_more entries.old }
+{
+    *entries = entries.saturating_add(1);
 }

@@ -1,59 +1,13 @@
 -- Ids are given once, and only grow.
-use Rattle.std.proofs.Common.{ℕ, ◌+◌, ◌<◌, ◌≤◌, ◌==◌, Bool, true, false, not, cond, nat_le, nat_lt, List, [], ◌∷◌, length, Option, Some, None, All, arith}
+use Rattle.std.proofs.Common.{ℕ, ◌<◌, ◌≤◌, not, List, Option, Some, None, All, arith}
 use Rattle.std.specs.Str.{bytes_eq}
 use Rattle.std.proofs.lemmas.List.Elements.{All-filter}
-use Rattle.osc_packet.specs.Units.{Timed}
-use Rattle.osc_packet.specs.Reading.{units_read}
-use Rattle.osc_queue.specs.Timed.{due_of}
-use Rattle.osc_tree.specs.Registry.{id_at}
-use Rattle.osc_tree.specs.Adding.{Refusal, add_refusal}
-use Rattle.osc_model.specs.State.{Queued, State, registry}
-use Rattle.osc_model.specs.Counts.{blocks_of, free_places, free_blocks}
-use Rattle.osc_model.specs.Events.{Event, enrol, submit, add, remove, tick, release, number, callers_full, queued, units_full, pool_full, ticked, clock_back, nothing_due}
-use Rattle.osc_model.specs.Step.{Stepped, step, leaves, after_submit, add_at, remove_at, releases, release_first}
+use Rattle.osc_tree.specs.Adding.{Refusal}
+use Rattle.osc_model.specs.State.{State}
+use Rattle.osc_model.specs.Step.{add_at, remove_at}
 use Rattle.osc_model.specs.History.{Entry, after}
+use Rattle.osc_model.proofs.Keeping.{after_keeps}
 use Rattle.osc_model.proofs.Soundness.{one_more_given}
-
--- what two states share, each of two steps keeps
-abbrev Keeps : (State → Type 0) → Stepped → Type 0
-Keeps P stepped = P stepped.state
-
-either : (P : State → Type 0) (t : Bool) (one other : Stepped) → Keeps P one → Keeps P other → Keeps P (cond t one other)
-either P true one other first second = first
-either P false one other first second = second
-
--- What holds of a state, and speaks of its methods and its next id alone, holds after an event, if it holds after an
--- address is added and after one is removed.
-pub record IsKept (P : State → Type 0) : Type 0 where
-  pub callers : (state : State) (callers : ℕ) → P state → P (record state { callers = callers })
-  pub clock : (state : State) (clock : ℕ) → P state → P (record state { clock = clock })
-  pub queue : (state : State) (queue : List Queued) (next_unit : ℕ) → P state → P (record state { queue = queue; next_unit = next_unit })
-  pub added : (state : State) (address : List ℕ) (refusal : Option Refusal) → P state → P (add_at state address refusal).state
-  pub removed : (state : State) (address : List ℕ) (found : Option ℕ) → P state → P (remove_at state address found).state
-
-step_keeps : (P : State → Type 0) → IsKept P → (state : State) (event : Event) → P state → P (step state event).state
-step_keeps P kept state enrol holds = either P (state.callers == state.caps.callers) (leaves state callers_full) (leaves (record state { callers = state.callers + 1 }) (number state.callers)) holds (kept.callers state (state.callers + 1) holds)
-step_keeps P kept state (submit packet) holds = go (units_read packet) where
-  go : (units : List Timed) → P (cond (nat_lt (free_places state) (length units)) (leaves state (units_full (record { need = length units; free = free_places state })))
-      (cond (nat_lt (free_blocks state) (blocks_of units)) (leaves state (pool_full (record { need = blocks_of units; free = free_blocks state }))) (leaves (after_submit state units) (queued state.next_unit (length units))))).state
-  go units =
-      either P (nat_lt (free_places state) (length units)) (leaves state (units_full (record { need = length units; free = free_places state })))
-      (cond (nat_lt (free_blocks state) (blocks_of units)) (leaves state (pool_full (record { need = blocks_of units; free = free_blocks state }))) (leaves (after_submit state units) (queued state.next_unit (length units)))) holds
-      (either P (nat_lt (free_blocks state) (blocks_of units)) (leaves state (pool_full (record { need = blocks_of units; free = free_blocks state }))) (leaves (after_submit state units) (queued state.next_unit (length units))) holds
-      (kept.queue state (after_submit state units).queue (after_submit state units).next_unit holds))
-step_keeps P kept state (add address) holds = kept.added state address (add_refusal (registry state) address) holds
-step_keeps P kept state (remove address) holds = kept.removed state address (id_at state.methods address) holds
-step_keeps P kept state (tick now) holds = either P (nat_lt now state.clock) (leaves state (clock_back state.clock)) (leaves (record state { clock = now }) ticked) holds (kept.clock state now holds)
-step_keeps P kept state release holds = go state.queue where
-  go : (queue : List Queued) → P (release_first state queue).state
-  go [] = holds
-  go (unit ∷ units) = either P (nat_le (due_of unit) state.clock) (releases state unit units) (leaves state (nothing_due (Some (due_of unit)))) holds_on holds where
-    holds_on : P (record state { queue = units })
-    holds_on = kept.queue state units state.next_unit holds
-
-after_keeps : (P : State → Type 0) → IsKept P → (state : State) (history : List Entry) → P state → P (after state history)
-after_keeps P kept state [] holds = holds
-after_keeps P kept state (entry ∷ entries) holds = after_keeps P kept (step state entry.event).state entries (step_keeps P kept state entry.event holds)
 
 -- The next id grows.
 
@@ -68,7 +22,7 @@ removed_grows least state address (Some id) grown = grown
 pub next_grows : (state : State) (history : List Entry) → state.next_id ≤ (after state history).next_id
 next_grows state history =
     after_keeps (λ later. state.next_id ≤ later.next_id)
-    (record { callers = λ later callers grown. grown; clock = λ later clock grown. grown; queue = λ later queue next_unit grown. grown; added = added_grows state.next_id; removed = removed_grows state.next_id })
+    (record { callers = λ later callers grown. grown; clock = λ later clock on grown. grown; queue = λ later queue next_unit grown. grown; added = added_grows state.next_id; removed = removed_grows state.next_id })
     state history (omega arith)
 
 -- Each id was given.
@@ -87,5 +41,5 @@ removed_given state address (Some id) given = All-filter (λ method. not (bytes_
 pub ids_given : (state : State) (history : List Entry) → AreGiven state → AreGiven (after state history)
 ids_given state history given =
     after_keeps AreGiven
-    (record { callers = λ later callers given. given; clock = λ later clock given. given; queue = λ later queue next_unit given. given; added = added_given; removed = removed_given })
+    (record { callers = λ later callers given. given; clock = λ later clock on given. given; queue = λ later queue next_unit given. given; added = added_given; removed = removed_given })
     state history given

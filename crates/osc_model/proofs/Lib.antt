@@ -4,5 +4,8 @@ pub mod Soundness
 pub mod Calls
 pub mod Releases
 pub mod Invoked
+pub mod Keeping
 pub mod Ids
+pub mod Clocks
+pub mod Passing
 pub mod Hearing

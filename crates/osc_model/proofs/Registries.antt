@@ -1,6 +1,6 @@
 -- Lists of methods that grow and shrink, and stay lawful.
-use Rattle.std.proofs.Common.{◌≡◌, ◌≢◌, ℕ, ◌+◌, ◌≤◌, ◌==◌, Bool, true, false, not, cond, ◌||◌, nat_lt, List, [], ◌∷◌, ◌++◌, length, filter, find, Option, Some, None, All, refl, ap, arith, append_assoc}
-use Rattle.std.specs.List.{list_any}
+use Rattle.std.proofs.Common.{◌≡◌, ◌≢◌, ℕ, zero, suc, ◌+◌, ◌≤◌, ◌==◌, Bool, true, false, not, cond, ◌||◌, nat_lt, List, [], ◌∷◌, ◌++◌, length, filter, find, Option, Some, None, All, refl, ap, subst, arith, append_assoc}
+use Rattle.std.specs.List.{list_any, AllPairs, Contains}
 use Rattle.std.specs.Option.{option_map, option_or}
 use Rattle.std.specs.Str.{bytes_eq}
 use Rattle.std.proofs.lemmas.Bool.Decides.{nat_tests}
@@ -103,3 +103,16 @@ not_refused tree address few e =
           method_room = grind (arith, nat_tests);
           node_room = grind (arith, nat_tests);
         }
+
+-- A method is found by its id.
+
+pub by_id : (methods : List Method) (method : Method) → AllPairs (λ a b. a.id ≢ b.id) methods → Contains methods method → find (λ other. other.id == method.id) methods ≡ Some method
+by_id [] method pairs (k, within, is) = absurd (omega arith)
+by_id (first ∷ methods) method pairs (zero, within, is) = rw same (ap Some is) where
+  same : (first.id == method.id) ≡ true
+  same = let e : first.id ≡ method.id = ap (λ (m : Method). m.id) is in grind (arith, nat_tests)
+by_id (first ∷ methods) method pairs (suc k, within, is) =
+    rw other (by_id methods method (λ i j d less inside. pairs (suc i) (suc j) d (omega arith) (omega arith)) (k, omega arith, is))
+  where
+    other : (first.id == method.id) ≡ false
+    other = let differs : first.id ≢ method.id = subst (λ (m : Method). first.id ≢ m.id) is (pairs 0 (suc k) method (omega arith) within) in grind (arith, nat_tests)

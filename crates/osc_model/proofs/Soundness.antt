@@ -16,7 +16,7 @@ use Rattle.osc_model.specs.Counts.{blocks_of, queued_blocks, free_places, free_b
 use Rattle.osc_model.specs.Events.{Event, enrol, submit, add, remove, tick, release, units_full, pool_full, queued, number, callers_full, ticked, clock_back, nothing_due}
 use Rattle.osc_model.specs.Step.{step, leaves, numbered, after_submit, add_at, remove_at, releases, release_first}
 use Rattle.osc_model.specs.History.{Entry, IsLawful, LegalFrom, Legal, IsSound, after}
-use Rattle.osc_model.proofs.Queues.{all_counted, numbered_length, all_blocks, all_ordered, all_given}
+use Rattle.osc_model.proofs.Queues.{all_counted, numbered_length, all_blocks, all_ordered, all_numbered}
 use Rattle.osc_model.proofs.Registries.{AddsNodes, without_lawful, not_refused}
 
 -- an address that can be added, with a new id, leaves methods as lawful as they were
@@ -79,8 +79,8 @@ submitted state units sound places room =
       caps = sound.caps;
       methods = sound.methods;
       ids = sound.ids;
-      ordered = all_ordered state.clock state.next_unit units state.queue sound.ordered sound.numbers;
-      numbers = all_given state.clock state.next_unit units state.queue sound.numbers;
+      ordered = all_ordered state.clock state.next_unit units state.queue sound.numbers sound.ordered;
+      numbers = all_numbered state.clock state.next_unit units state.queue sound.numbers;
       few_units = omega (arith, all_counted (numbered state.clock state.next_unit units) state.queue, numbered_length state.clock state.next_unit units);
       few_blocks = omega (arith, all_blocks state.clock state.next_unit units state.queue);
       callers = sound.callers;
@@ -97,7 +97,7 @@ submits state packet sound = go (units_read packet) where
     cases false e true f = sound
     cases false e false f = submitted state units sound e f
 
-new_id : (next : ℕ) (methods : List Method) → All (λ method. method.id < next) methods → IsNewId methods next
+pub new_id : (next : ℕ) (methods : List Method) → All (λ method. method.id < next) methods → IsNewId methods next
 new_id next methods given = All-weaker (λ method. method.id < next) (λ method. method.id ≢ next) (λ method. differs method.id) methods given where
   differs : (n : ℕ) → n < next → n ≢ next
   differs n below same = omega arith

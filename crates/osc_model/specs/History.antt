@@ -1,11 +1,11 @@
 -- Histories: the entries of a server, in order.
 use Rattle.std.specs.Prelude.{◌≡◌, ℕ, ◌<◌, ◌≤◌, ◌^◌, IsTrue, List, [], ◌∷◌, ◌++◌, length, All}
-use Rattle.std.specs.List.{AllByRecursion, Contains}
+use Rattle.std.specs.List.{Contains}
 use Rattle.osc_pattern.specs.Addresses.{is_address}
 use Rattle.osc_packet.specs.Reading.{is_packet}
-use Rattle.osc_queue.specs.Timed.{unit_of, IsInOrder}
+use Rattle.osc_queue.specs.Timed.{IsInOrder}
 use Rattle.osc_tree.specs.Registry.{IsLawful as IsLawfulRegistry}
-use Rattle.osc_model.specs.State.{Caps, AreInRange, State, Queued, opening, registry}
+use Rattle.osc_model.specs.State.{Caps, AreInRange, State, Queued, AreNumbered, opening, registry}
 use Rattle.osc_model.specs.Counts.{queued_blocks}
 use Rattle.osc_model.specs.Events.{Event, enrol, submit, add, remove, tick, release, Answer, nothing_due, record_full, Invocation}
 use Rattle.osc_model.specs.Step.{step}
@@ -61,7 +61,7 @@ pub record IsSound (state : State) : Type 0 where
   pub methods : IsLawfulRegistry (registry state)
   pub ids : All (λ method. method.id < state.next_id) state.methods
   pub ordered : IsInOrder state.queue
-  pub numbers : AllByRecursion (λ unit. unit_of unit < state.next_unit) state.queue
+  pub numbers : AreNumbered state.next_unit state.queue
   pub few_units : length state.queue ≤ state.caps.units
   pub few_blocks : queued_blocks state.queue ≤ state.caps.blocks
   pub callers : (1 ≤ state.callers) × (state.callers ≤ state.caps.callers)

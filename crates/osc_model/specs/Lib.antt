@@ -6,3 +6,4 @@ pub mod Releases
 pub mod Refusals
 pub mod Heard
 pub mod History
+pub mod Passing

@@ -1,8 +1,9 @@
 -- What a server is between two events.
-use Rattle.std.specs.Prelude.{ℕ, ◌≤◌, List, []}
+use Rattle.std.specs.Prelude.{ℕ, ◌<◌, ◌≤◌, List, []}
+use Rattle.std.specs.List.{AllByRecursion}
 use Rattle.osc_packet.specs.Units.{Timed}
 use Rattle.osc_pattern.specs.Methods.{Method}
-use Rattle.osc_queue.specs.Timed.{Item}
+use Rattle.osc_queue.specs.Timed.{Item, unit_of}
 use Rattle.osc_tree.specs.Registry.{Registry}
 
 -- the limits of a server's tables: queued units, blocks of 64 bytes for their messages, methods, nodes of the methods'
@@ -25,6 +26,10 @@ pub record AreInRange (caps : Caps) : Type 0 where
 -- a queued unit: the moment from which it is due, its number, and its effective tag and messages
 abbrev pub Queued : Type 0
 Queued = Item Timed
+
+-- each unit has a number below this one
+abbrev pub AreNumbered : ℕ → List Queued → Type 0
+AreNumbered next queue = AllByRecursion (λ unit. unit_of unit < next) queue
 
 -- the methods in the order of adding, and the units in the order of their release
 pub record State : Type 0 where

@@ -1,17 +1,22 @@
 //! What the rules of the server say of every state and every history.
-ghost use Rattle.std.specs.Prelude.{◌≡◌, ◌≤◌, ◌<◌, ◌+◌, ℕ, List, [], ◌∷◌, ◌++◌, All};
+ghost use Rattle.std.specs.Prelude.{◌≡◌, ◌≤◌, ◌<◌, ◌+◌, ℕ, List, [], ◌∷◌, ◌++◌, length, map, replicate, codes, All, None, Some};
 ghost use Rattle.std.specs.Option.{option_map};
-ghost use Rattle.std.specs.List.{AllByRecursion};
+ghost use Rattle.std.specs.List.{AllByRecursion, Contains};
 ghost use Rattle.std.specs.List.Sorted.{IsPermutation};
-ghost use Rattle.osc_packet.specs.Units.{Timed};
+ghost use Rattle.osc_pattern.specs.Addresses.{IsAddress};
+ghost use Rattle.osc_pattern.specs.Methods.{Method, IsMethodList};
+ghost use Rattle.osc_packet.specs.Units.{Timed, blocks};
 ghost use Rattle.osc_method.specs.Heard.{last_of};
-ghost use Rattle.osc_queue.specs.Timed.{IsInOrder};
-ghost use Rattle.osc_model.specs.State.{Caps, AreInRange, State, Queued, opening};
+ghost use Rattle.osc_queue.specs.Timed.{unit_of, enter, IsInOrder, IsNewUnit};
+ghost use Rattle.osc_tree.specs.Registry.{Registry, IsLawful as IsLawfulRegistry, IsNewId, without, address_by_id};
+ghost use Rattle.osc_tree.specs.Adding.{IsAddable, add_refusal};
+ghost use Rattle.osc_model.specs.State.{Caps, AreInRange, State, Queued, AreNumbered, opening};
 ghost use Rattle.osc_model.specs.Counts.{blocks_of, queued_blocks};
-ghost use Rattle.osc_model.specs.Events.{Event, submit, release, tick, enrol, added, number, callers_full, ticked, clock_back, Invocation};
-ghost use Rattle.osc_model.specs.Step.{step, numbered, enter_all};
+ghost use Rattle.osc_model.specs.Events.{Event, submit, release, tick, enrol, added, number, callers_full, units_full, pool_full, ticked, clock_back, Invocation};
+ghost use Rattle.osc_model.specs.Step.{step, waiting, numbered, enter_all};
 ghost use Rattle.osc_model.specs.Releases.{ReleasesLeast, InvokesRegistered};
 ghost use Rattle.osc_model.specs.Refusals.{IsRefusal};
+ghost use Rattle.osc_model.specs.Passing.{entering, leaving, all_entering, all_leaving, queued_in, released_in};
 ghost use Rattle.osc_model.specs.Heard.{Told, reset, hear_all, heard_of, calls_bytes, IsWithin};
 ghost use Rattle.osc_model.specs.History.{Entry, IsLawful, Legal, IsSound, IsInvokedIn, after, invocations};
 
@@ -36,6 +41,43 @@ pub fn units_enter_the_queue()
     ensures blocks { (clock next : ℕ) (units : List Timed) (queue : List Queued) → queued_blocks (enter_all (numbered clock next units) queue) ≡ blocks_of units + queued_blocks queue }
 {}
 
+/// A number above those of all units is new. So units that enter under the next numbers keep the order, and their numbers
+/// are below the next one after them.
+pub fn units_keep_the_order()
+    ensures new { (next : ℕ) (queue : List Queued) → AreNumbered next queue → IsNewUnit next queue }
+    ensures one { (clock next : ℕ) (unit : Timed) (queue : List Queued) → AreNumbered next queue → IsInOrder queue → IsInOrder (enter (waiting clock next unit) queue) }
+    ensures one_number { (clock next : ℕ) (unit : Timed) (queue : List Queued) → AreNumbered next queue → AreNumbered (next + 1) (enter (waiting clock next unit) queue) }
+    ensures all { (clock next : ℕ) (units : List Timed) (queue : List Queued) → AreNumbered next queue → IsInOrder queue → IsInOrder (enter_all (numbered clock next units) queue) }
+    ensures all_numbers { (clock next : ℕ) (units : List Timed) (queue : List Queued) → AreNumbered next queue → AreNumbered (next + length units) (enter_all (numbered clock next units) queue) }
+{}
+
+/// Each unit that enters is one more in the queue, and takes its blocks.
+pub fn units_are_counted()
+    ensures one { (unit : Queued) (queue : List Queued) → length (enter unit queue) ≡ 1 + length queue }
+    ensures one_blocks { (unit : Queued) (queue : List Queued) → queued_blocks (enter unit queue) ≡ blocks unit.2 + queued_blocks queue }
+    ensures all { (units queue : List Queued) → length (enter_all units queue) ≡ length units + length queue }
+    ensures numbered { (clock next : ℕ) (units : List Timed) → length (numbered clock next units) ≡ length units }
+{}
+
+/// Units that enter in two goes enter as in one.
+pub fn units_enter_in_two_goes()
+    ensures entered { (first more queue : List Queued) → enter_all (first ++ more) queue ≡ enter_all more (enter_all first queue) }
+    ensures numbered { (clock next : ℕ) (first more : List Timed) → numbered clock next (first ++ more) ≡ numbered clock next first ++ numbered clock (next + length first) more }
+{}
+
+/// An address that isn't refused can be added. Where it is added under a new id, and where a method is removed, the
+/// methods stay lawful.
+pub fn methods_stay_lawful()
+    ensures addable { (tree : Registry) (address : List ℕ) → IsLawfulRegistry tree → add_refusal tree address ≡ None → IsAddable tree address }
+    ensures new_id { (next : ℕ) (methods : List Method) → All (λ method. method.id < next) methods → IsNewId methods next }
+    ensures more { (tree : Registry) (id : ℕ) (address : List ℕ) → IsLawfulRegistry tree → IsNewId tree.methods id → IsAddress address → add_refusal tree address ≡ None → IsLawfulRegistry (record tree { methods = tree.methods ++ record { id = id; address = address } ∷ [] }) }
+    ensures fewer { (tree : Registry) (address : List ℕ) → IsLawfulRegistry tree → IsLawfulRegistry (record tree { methods = without tree.methods address }) }
+    ensures found { (methods : List Method) (method : Method) → IsMethodList methods → Contains methods method → address_by_id methods method.id ≡ Some method.address }
+{
+    trees::an_added_method_is_lawful();
+    trees::an_address_adds_its_new_nodes();
+}
+
 /// A release takes the unit that is least by due moment and number, where it is due, and leaves exactly the others.
 pub fn a_release_takes_the_least_unit()
     ensures step { (state : State) → IsInOrder state.queue → ReleasesLeast state (step state release) }
@@ -43,6 +85,21 @@ pub fn a_release_takes_the_least_unit()
 {
     a_server_stays_sound();
 }
+
+/// No unit is lost, and none is released twice: those that waited and those that are queued are, each once, those that
+/// are released and those that wait then. The answers tell their numbers.
+pub fn no_unit_is_lost()
+    ensures step { (state : State) (event : Event) → IsPermutation (state.queue ++ entering state event) (leaving state event ++ (step state event).state.queue) }
+    ensures history { (state : State) (history : List Entry) → IsPermutation (state.queue ++ all_entering state history) (all_leaving state history ++ (after state history).queue) }
+    ensures entering { (state : State) (event : Event) → map (λ unit. unit_of unit) (entering state event) ≡ queued_in (step state event).answer }
+    ensures leaving { (state : State) (event : Event) → map (λ unit. unit_of unit) (leaving state event) ≡ released_in (step state event).answer }
+{}
+
+/// The clock never goes back.
+pub fn the_clock_never_goes_back()
+    ensures step { (state : State) (event : Event) → state.clock ≤ (step state event).state.clock }
+    ensures after { (state : State) (history : List Entry) → state.clock ≤ (after state history).clock }
+{}
 
 /// An event that is refused, and a release that finds nothing due, change nothing and invoke nothing.
 pub fn a_refusal_changes_nothing()
@@ -75,10 +132,13 @@ pub fn a_box_hears_its_calls()
     ensures on { (told : Told) (first more : List Invocation) → hear_all (first ++ more) told ≡ hear_all more (hear_all first told) }
 {}
 
-/// The clock never goes back, and stands where a tick before it left it; callers are numbered up to their limit.
+/// The clock never goes back, and stands where a tick before it left it; callers are numbered up to their limit; a message
+/// alone is queued where there is a place for it and blocks for its bytes, of which 64 take two.
 pub fn examples()
     ensures early { (step (opening (record { units = 1; blocks = 1; methods = 1; nodes = 1; callers = 1 })) (tick 0)).answer ≡ clock_back 1 }
     ensures on { (step (opening (record { units = 1; blocks = 1; methods = 1; nodes = 1; callers = 1 })) (tick 5)).answer ≡ ticked }
     ensures full { (step (opening (record { units = 1; blocks = 1; methods = 1; nodes = 1; callers = 1 })) enrol).answer ≡ callers_full }
+    ensures no_place { (step (step (opening (record { units = 1; blocks = 1; methods = 1; nodes = 1; callers = 1 })) (submit (codes "/a" ++ 0 ∷ 0 ∷ []))).state (submit (codes "/a" ++ 0 ∷ 0 ∷ []))).answer ≡ units_full (record { need = 1; free = 0 }) }
+    ensures no_block { (step (opening (record { units = 1; blocks = 1; methods = 1; nodes = 1; callers = 1 })) (submit (codes "/a" ++ 0 ∷ 0 ∷ codes ",b" ++ 0 ∷ 0 ∷ 0 ∷ 0 ∷ 0 ∷ 52 ∷ replicate 52 0))).answer ≡ pool_full (record { need = 2; free = 1 }) }
     ensures second { (step (opening (record { units = 1; blocks = 1; methods = 1; nodes = 1; callers = 2 })) enrol).answer ≡ number 1 }
 {}

@@ -1,0 +1,87 @@
+// The kept messages of a unit, one after another.
+ghost use Rattle.std.specs.Prelude.{◌≡◌, IsTrue, length};
+ghost use Rattle.osc_message.specs.Reading.{is_message};
+ghost use Rattle.osc_core.specs.Frames.{first_framed, after_framed, unframed, IsFramed};
+
+use osc_message::Message;
+use std::marker::Model;
+
+/// The messages of a unit that are left, in order. A contract sees the bytes of each.
+#[derive(Drop)]
+pub(crate) struct Messages<'a> {
+    count: u32,
+    bytes: &'a [u8],
+}
+
+impl<'a> Model for Messages<'a> {
+    ghost use Rattle.std.specs.Prelude.{List, ℕ};
+    ghost use Rattle.osc_core.specs.Frames.{unframed, IsFramed};
+
+    ghost Value = { List (List ℕ) };
+
+    ghost view = { λ m. unframed m.count m.bytes.now };
+
+    ghost invariant = { λ m. IsFramed m.count m.bytes.now };
+}
+
+impl<'a> Messages<'a> {
+    ghost use Rattle.std.specs.Prelude.{◌≡◌, length};
+    ghost use Rattle.osc_core.specs.Frames.{unframed, IsFramed};
+
+    pub(crate) fn new(count: u32, bytes: &'a [u8]) -> Messages<'a>
+        requires { IsFramed count bytes.now }
+        ensures { result ≡ unframed count bytes.now }
+    {
+        Messages { count, bytes }
+    }
+
+    /// How many messages are left.
+    pub(crate) fn left(&self) -> u32
+        ensures { result ≡ length self.now }
+    {
+        self.count
+    }
+}
+
+impl<'a> Iterator for Messages<'a> {
+    type Item = Message<'a>;
+
+    ghost use Rattle.std.specs.Iterator.{YieldsFirst, item_count};
+
+    ghost next_gives = { YieldsFirst (λ left. left) };
+
+    ghost remaining = { item_count (λ left. left) };
+
+    fn next(&mut self) -> Option<Message<'a>> {
+        if self.count == 0 {
+            return None;
+        }
+        let (message, rest) = split_first(self.bytes);
+        self.count -= 1;
+        self.bytes = rest;
+        Some(message)
+    }
+}
+
+/// The first message, and the bytes after it.
+fn split_first(bytes: &[u8]) -> (Message<'_>, &[u8])
+    requires { IsFramed 1 bytes.now }
+    ensures message { result.0 ≡ first_framed bytes.now }
+    ensures rest { result.1.now ≡ after_framed bytes.now }
+{
+    let (word, rest) = bytes.split_at(4);
+    let size = u32::from_be_bytes([word[0], word[1], word[2], word[3]]);
+    let (message, rest) = rest.split_at(size as usize);
+    (as_message(message), rest)
+}
+
+/// The message that the bytes are.
+fn as_message(bytes: &[u8]) -> Message<'_>
+    requires { IsTrue (is_message 1073741824 bytes.now) }
+    ensures { result ≡ bytes.now }
+{
+    match Message::check(bytes, 1_073_741_824) {
+        Ok(message) => message,
+        Err(_) => unreachable!(),
+    }
+}
