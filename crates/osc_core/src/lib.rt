@@ -6,7 +6,9 @@
 
 mod answers;
 mod boxes;
+mod calls;
 mod invocation;
+mod messages;
 mod sequential;
 mod server;
 mod store;

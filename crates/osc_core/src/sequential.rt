@@ -34,7 +34,6 @@ pub struct Core {
     state: Server,
     boxes: Vec<Boxed>,
     entries: u64,
-    ghost never: { ⊥ },
     ghost alike: { map (λ one. one.0) boxes.items ≡ map (λ method. method.id) state.methods },
     ghost ascending: { IsTrue (is_ascending (map (λ one. one.0) boxes.items)) },
     ghost reserved: { state.caps.methods ≤ vec_capacity boxes },
@@ -60,7 +59,11 @@ impl Core {
         ensures boxes { IfOk result (λ core. ⟦<Core as Stands>⟧.boxes core ≡ []) }
         ensures entries { IfOk result (λ core. core.entries ≡ 0) }
     {
-        Err(AllocError)
+        Ok(Core {
+            state: Server::open(alloc, units, blocks, methods, nodes, callers)?,
+            boxes: Vec::with_capacity(alloc, methods as usize)?,
+            entries: 0,
+        })
     }
 
     /// Enrols a caller, who gets the number of callers so far.
@@ -176,7 +179,7 @@ impl Core {
     pub fn clock(&self) -> u64
         ensures { result ≡ self.now.state.clock }
     {
-        unreachable!()
+        self.state.clock()
     }
 
     /// How many entries the history has: one for each call but a release that finds nothing due. It stands still at the
@@ -184,7 +187,7 @@ impl Core {
     pub fn entries(&self) -> u64
         ensures { result ≡ self.now.entries }
     {
-        unreachable!()
+        self.entries
     }
 
     /// Ends the server, and hands its boxes out with what they heard.
@@ -192,7 +195,7 @@ impl Core {
         ensures kept { map (λ one. record { id = one.0; keep = keep one.1; heard = heard one.1 }) result.kept.items ≡ ⟦<Core as Stands>⟧.boxes self }
         ensures ids { map (λ one. one.0) result.kept.items ≡ map (λ method. method.id) self.state.methods }
     {
-        unreachable!()
+        Closed { kept: self.boxes }
     }
 }
 

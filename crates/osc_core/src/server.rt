@@ -23,13 +23,26 @@ use osc_tree::{Hits, Tree, TreeRefusal};
 use std::alloc::{AllocError, Global};
 use std::marker::Model;
 
+/// The methods' addresses, the units with their messages, the clock and the numbers that are given next.
 #[derive(Drop)]
 pub(crate) struct Server {
+    alloc: Global,
+    tree: Tree,
+    hits: Hits,
+    /// The tags of the queued units.
+    queue: Queue<u64>,
+    /// Their messages, by the units' numbers.
+    store: Store,
     clock: u64,
+    next_id: u32,
+    next_unit: u64,
+    callers: u32,
+    caller_limit: u32,
 }
 
 impl Model for Server {
-    ghost use Rattle.osc_model.specs.State.{State, opening};
+    ghost use Rattle.osc_model.specs.State.{State};
+    ghost use Rattle.osc_core.specs.Views.{queue_of, IsRunning};
 
     ghost Value = { State };
 
