@@ -1,17 +1,26 @@
 -- What the calls of a player come to: facts under a call's result, and turns of a pump.
 use Rattle.std.proofs.Common.{◌≡◌, ℕ, Bool, true, false, cond, List, [], ◌∷◌, ◌++◌, map, length, Result, Ok, Err, OnOk, refl, sym, ap, subst, ◌∙◌, append_assoc}
+use Rattle.std.specs.List.{Contains}
+use Rattle.std.specs.declared.alloc.Global.{Global}
+use Rattle.std.specs.declared.dyn_box.DynBox.{DynBox}
 use Rattle.std.proofs.lemmas.List.{append-nil, map-id}
 use Rattle.osc_packet.specs.Reading.{is_packet}
 use Rattle.osc_model.specs.State.{State}
-use Rattle.osc_model.specs.Events.{submit, release, Answer, Invocation}
+use Rattle.osc_model.specs.Events.{Event, add, remove, submit, release, Answer, Invocation}
 use Rattle.osc_model.specs.Step.{step}
-use Rattle.osc_model.specs.Heard.{Told}
+use Rattle.osc_model.specs.Heard.{Told, reset}
 use Rattle.osc_model.specs.History.{Entry, after}
-use Rattle.osc_core.specs.Boxes.{all_hear}
+use Rattle.osc_core.specs.Answers.{adding_of, OnAdded, OnRefused, OnRemoved, OnNotThere}
+use Rattle.osc_core.specs.Boxes.{all_hear, without_id}
+use Rattle.osc_core.specs.declared.answers.Adding.{Adding}
+use Rattle.osc_core.specs.declared.answers.Removing.{Removing}
 use Rattle.osc_top.specs.Plain.{entry_of, sent, is_released, pumped}
 use Rattle.osc_top.specs.Printing.{printed_from}
 use Rattle.osc_top.specs.Bank.{Meaning}
-use Rattle.osc_top.specs.Tally.{IsAt}
+use Rattle.osc_top.specs.Tally.{IsAt, handed_back, handed_out}
+use Rattle.osc_top.proofs.Hearing.{told_at}
+use Rattle.osc_top.proofs.Places.{IsQuiet, at_quiet}
+use Rattle.osc_top.proofs.Adds.{at_add, at_remove}
 use Rattle.osc_top.proofs.Histories.{release_stays, release_silent, pump_ends}
 
 pub on_ok : {V E : Type 0} (r : Result V E) (P Q : Type 0) → OnOk r P → (P → Q) → OnOk r Q
@@ -71,3 +80,38 @@ end_after state state' whole t is went next end =
 
 pub end_entries : (history whole : List Entry) (state : State) (t : Bool) → t ≡ false → t ≡ is_released (step state release).answer → history ++ pumped (length state.queue) state ≡ whole → history ≡ whole
 end_entries history whole state t is went same = sym (append-nil history) ∙ ap (λ (l : List Entry). history ++ l) (sym (pump_ends state (length state.queue) (sym went ∙ is))) ∙ same
+
+-- The same under a call's result.
+
+module _ {X V E : Type 0} (meaning : X → Meaning) (r : Result V E) (state state' : State) where
+  pub ok_quiet : (event : Event) (boxes boxes' gone : List Told) (left rest : List X) → state' ≡ (step state event).state → IsQuiet event state → boxes' ≡ boxes
+      → OnOk r ((history : List Entry) (bank : List X) → IsAt meaning history bank state boxes gone left rest → IsAt meaning (history ++ entry_of state event ∷ []) bank state' boxes' gone left rest)
+  ok_quiet event boxes boxes' gone left rest next quiet same = any_ok r _ (λ history bank at. at_quiet meaning history bank state state' event next quiet boxes boxes' gone left rest same at)
+
+  pub ok_sent : (bytes packet : List ℕ) (boxes boxes' gone : List Told) (left rest : List X) → packet ≡ bytes → is_packet 65504 bytes ≡ true
+      → OnOk r ((history : List Entry) (bank : List X) → IsAt meaning history bank state boxes gone left rest → IsAt meaning (history ++ entry_of state (submit packet) ∷ []) bank state' boxes' gone left rest)
+      → OnOk r ((history : List Entry) (bank : List X) → IsAt meaning history bank state boxes gone left rest → IsAt meaning (history ++ sent state bytes (is_packet 65504 bytes)) bank state' boxes' gone left rest)
+  ok_sent bytes packet boxes boxes' gone left rest same is goes = on_ok r _ _ goes (λ moves history bank at. at_sent meaning history bank state state' bytes packet boxes' gone left rest same is (moves history bank at))
+
+module _ {V E Z : Type 0} {Y : Z → Type 0} (meaning : DynBox Z Global Y → Meaning) (r : Result V E) (state state' : State) (address : List ℕ) where
+  pub ok_add : (adding : Adding Z Y) (method : DynBox Z Global Y) (boxes boxes' gone : List Told) (left left' rest more : List (DynBox Z Global Y))
+      → adding_of adding ≡ (step state (add address)).answer
+      → state' ≡ (step state (add address)).state
+      → OnAdded adding (λ id. boxes' ≡ boxes ++ reset (record { id = id; keep = (meaning method).keep; heard = (meaning method).heard }) ∷ [])
+      → OnRefused adding (λ back untouched. boxes' ≡ boxes)
+      → OnRefused adding (λ back untouched. (back ≡ address) × (untouched ≡ method))
+      → OnOk r (left' ≡ left ++ handed_back adding)
+      → rest ≡ method ∷ more
+      → OnOk r ((history : List Entry) (bank : List (DynBox Z Global Y)) → IsAt meaning history bank state boxes gone left rest → IsAt meaning (history ++ entry_of state (add address) ∷ []) bank state' boxes' gone left' more)
+  ok_add adding method boxes boxes' gone left left' rest more answer next grown same back kept first =
+      on_ok r _ _ kept (λ keeps history bank at. at_add meaning history bank state state' address adding method boxes boxes' gone left left' rest more answer next grown same back keeps first at)
+
+  pub ok_remove : (removing : Removing Z Y) (boxes boxes' : List Told) (pairs pairs' : List (ℕ × DynBox Z Global Y)) (left rest : List (DynBox Z Global Y))
+      → state' ≡ (step state (remove address)).state
+      → OnRemoved removing (λ id method. Contains boxes (told_at id (meaning method)))
+      → OnRemoved removing (λ id method. boxes' ≡ without_id id boxes)
+      → OnNotThere removing (boxes' ≡ boxes)
+      → OnOk r (pairs' ≡ pairs ++ handed_out removing)
+      → OnOk r ((history : List Entry) (bank : List (DynBox Z Global Y)) → IsAt meaning history bank state boxes (map (λ one. told_at one.0 (meaning one.1)) pairs) left rest → IsAt meaning (history ++ entry_of state (remove address) ∷ []) bank state' boxes' (map (λ one. told_at one.0 (meaning one.1)) pairs') left rest)
+  ok_remove removing boxes boxes' pairs pairs' left rest next there others same kept =
+      on_ok r _ _ kept (λ keeps history bank at. at_remove meaning history bank state state' address removing boxes boxes' pairs pairs' left rest next there others same keeps at)

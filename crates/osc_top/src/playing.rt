@@ -93,8 +93,8 @@ fn gather(
     core: Core,
     mut removed: Vec<(u32, Box<dyn Method + Send>)>,
 ) -> Result<Vec<(u32, Box<dyn Method + Send>)>, AllocError>
-    ensures each { IfOk result (λ heard. IsPermutation (⟦<Core as Stands>⟧.boxes core ++ map (λ one. record { id = one.0; keep = keep one.1; heard = heard one.1 }) removed.items) (map (λ one. record { id = one.0; keep = keep one.1; heard = heard one.1 }) heard.items)) }
-    ensures ascending { IfOk result (λ heard. IsNonDecreasingBy (λ one. one.0) heard.items) }
+    ensures each { IfOk result (λ sorted. IsPermutation (⟦<Core as Stands>⟧.boxes core ++ map (λ one. record { id = one.0; keep = keep one.1; heard = heard one.1 }) removed.items) (map (λ one. record { id = one.0; keep = keep one.1; heard = heard one.1 }) heard.items)) }
+    ensures ascending { IfOk result (λ sorted. IsNonDecreasingBy (λ one. one.0) sorted.items) }
 {
     let Closed { kept: mut heard } = core.close();
     heard.append(&mut removed)?;
@@ -106,7 +106,8 @@ fn sort_by_id(heard: &mut Vec<(u32, Box<dyn Method + Send>)>) -> Result<(), Allo
     ensures each { IsPermutation heard.old.items heard.new.items }
     ensures ascending { OnOk result (IsNonDecreasingBy (λ one. one.0) heard.new.items) }
 {
-    heard.sort_by_key(|one| one.0)
+    heard.sort_by_key(|one| one.0)?;
+    Ok(())
 }
 
 /// Keeps the boxes that no add has taken.
