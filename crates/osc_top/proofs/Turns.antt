@@ -88,10 +88,10 @@ module _ {X V E : Type 0} (meaning : X → Meaning) (r : Result V E) (state stat
       → OnOk r ((history : List Entry) (bank : List X) → IsAt meaning history bank state boxes gone left rest → IsAt meaning (history ++ entry_of state event ∷ []) bank state' boxes' gone left rest)
   ok_quiet event boxes boxes' gone left rest next quiet same = any_ok r _ (λ history bank at. at_quiet meaning history bank state state' event next quiet boxes boxes' gone left rest same at)
 
-  pub ok_sent : (bytes packet : List ℕ) (boxes boxes' gone : List Told) (left rest : List X) → packet ≡ bytes → is_packet 65504 bytes ≡ true
-      → OnOk r ((history : List Entry) (bank : List X) → IsAt meaning history bank state boxes gone left rest → IsAt meaning (history ++ entry_of state (submit packet) ∷ []) bank state' boxes' gone left rest)
-      → OnOk r ((history : List Entry) (bank : List X) → IsAt meaning history bank state boxes gone left rest → IsAt meaning (history ++ sent state bytes (is_packet 65504 bytes)) bank state' boxes' gone left rest)
-  ok_sent bytes packet boxes boxes' gone left rest same is goes = on_ok r _ _ goes (λ moves history bank at. at_sent meaning history bank state state' bytes packet boxes' gone left rest same is (moves history bank at))
+  pub ok_sent : (bytes packet : List ℕ) (boxes boxes' gone gone' : List Told) (left left' rest rest' : List X) → packet ≡ bytes → is_packet 65504 bytes ≡ true
+      → OnOk r ((history : List Entry) (bank : List X) → IsAt meaning history bank state boxes gone left rest → IsAt meaning (history ++ entry_of state (submit packet) ∷ []) bank state' boxes' gone' left' rest')
+      → OnOk r ((history : List Entry) (bank : List X) → IsAt meaning history bank state boxes gone left rest → IsAt meaning (history ++ sent state bytes (is_packet 65504 bytes)) bank state' boxes' gone' left' rest')
+  ok_sent bytes packet boxes boxes' gone gone' left left' rest rest' same is goes = on_ok r _ _ goes (λ moves history bank at. at_sent meaning history bank state state' bytes packet boxes' gone' left' rest' same is (moves history bank at))
 
 module _ {V E Z : Type 0} {Y : Z → Type 0} (meaning : DynBox Z Global Y → Meaning) (r : Result V E) (state state' : State) (address : List ℕ) where
   pub ok_add : (adding : Adding Z Y) (method : DynBox Z Global Y) (boxes boxes' gone : List Told) (left left' rest more : List (DynBox Z Global Y))

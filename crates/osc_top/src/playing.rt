@@ -93,7 +93,7 @@ fn gather(
     core: Core,
     mut removed: Vec<(u32, Box<dyn Method + Send>)>,
 ) -> Result<Vec<(u32, Box<dyn Method + Send>)>, AllocError>
-    ensures each { IfOk result (λ sorted. IsPermutation (⟦<Core as Stands>⟧.boxes core ++ map (λ one. record { id = one.0; keep = keep one.1; heard = heard one.1 }) removed.items) (map (λ one. record { id = one.0; keep = keep one.1; heard = heard one.1 }) heard.items)) }
+    ensures each { IfOk result (λ sorted. IsPermutation (⟦<Core as Stands>⟧.boxes core ++ map (λ one. record { id = one.0; keep = keep one.1; heard = heard one.1 }) removed.items) (map (λ one. record { id = one.0; keep = keep one.1; heard = heard one.1 }) sorted.items)) }
     ensures ascending { IfOk result (λ sorted. IsNonDecreasingBy (λ one. one.0) sorted.items) }
 {
     let Closed { kept: mut heard } = core.close();
