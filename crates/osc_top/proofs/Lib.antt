@@ -6,3 +6,4 @@ pub mod Places
 pub mod Adds
 pub mod Turns
 pub mod Transfers
+pub mod Endings
