@@ -7,3 +7,5 @@ pub mod Adds
 pub mod Turns
 pub mod Transfers
 pub mod Endings
+pub mod Lawful
+pub mod Runs

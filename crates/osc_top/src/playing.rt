@@ -1,5 +1,5 @@
 // Plays a script on a server, and prints its history and faults.
-ghost use Rattle.std.specs.Prelude.{◌≡◌, ◌++◌, [], ◌≤◌, List, map, length, IfOk, OnOk};
+ghost use Rattle.std.specs.Prelude.{◌≡◌, ◌++◌, [], ◌<◌, ◌≤◌, List, map, length, IfOk, OnOk};
 ghost use Rattle.std.specs.List.Sorted.{IsPermutation, IsNonDecreasingBy};
 ghost use Rattle.std.specs.Vec.Iter.{into_iter_items};
 ghost use Rattle.osc_model.specs.State.{opening};
@@ -58,7 +58,7 @@ impl Player {
     {
         Ok(Player {
             alloc,
-            core: Core::open(alloc, 4096, 16_384, 1024, 4096, 1)?,
+            core: Core::open_in(Vec::new(alloc), alloc, 4096, 16_384, 1024, 4096, 1)?,
             bank: bank.into_iter(),
             removed: Vec::new(alloc),
             left: Vec::new(alloc),
@@ -69,6 +69,7 @@ impl Player {
 
     /// Ends the server, and puts the lines of the faults behind the history.
     fn finish(self) -> Result<Played, AllocError>
+        requires { 0 < self.core.state.callers }
         ensures text { IfOk result (λ played. played.text ≡ self.text ++ self.faults) }
         ensures boxes { IfOk result (λ played. (history : List Entry) (bank : List _) → IsAt (λ box. record { keep = keep box; heard = heard box }) history bank self.core.state (⟦<Core as Stands>⟧.boxes self.core) (⟦<Player as Holds>⟧.removed self) self.left.items (into_iter_items self.bank) → (map (λ one. record { id = one.0; keep = keep one.1; heard = heard one.1 }) played.heard.items ≡ heard_after default_caps history (map (λ box. record { keep = keep box; heard = heard box }) bank)) × (played.left.items ≡ boxes_left (add_answers history) bank)) }
     {
@@ -93,6 +94,7 @@ fn gather(
     core: Core,
     mut removed: Vec<(u32, Box<dyn Method + Send>)>,
 ) -> Result<Vec<(u32, Box<dyn Method + Send>)>, AllocError>
+    requires { 0 < core.state.callers }
     ensures each { IfOk result (λ sorted. IsPermutation (⟦<Core as Stands>⟧.boxes core ++ map (λ one. record { id = one.0; keep = keep one.1; heard = heard one.1 }) removed.items) (map (λ one. record { id = one.0; keep = keep one.1; heard = heard one.1 }) sorted.items)) }
     ensures ascending { IfOk result (λ sorted. IsNonDecreasingBy (λ one. one.0) sorted.items) }
 {
