@@ -21,6 +21,10 @@ use Rattle.osc_top.proofs.Lawful.{legal_script}
 use Rattle.osc_top.specs.Tally.{Grows, IsAt}
 use Rattle.osc_top.proofs.Histories.{answers-append, plain_step}
 
+pub no_items : {X : Type 0} (xs : List X) → length xs ≡ 0 → xs ≡ []
+no_items [] none = refl
+no_items (x ∷ xs) none = absurd (omega arith)
+
 abbrev adds_of : Act → ℕ
 adds_of act = cond (is_add act) 1 0
 
