@@ -45,6 +45,13 @@ pub record EndsRun (status have : ℕ) (script : List ℕ) (held after : Option 
   pub cut_short : status ≡ 5 → IsOkAnd (script_of Plain script) (λ lines. (count_adds lines ≤ have) × IsLegalRun lines × GainsFront held after (run_text lines)) × Rose faults now
   pub bank_short : status ≡ 8 → IsOkAnd (script_of Plain script) (λ lines. (have < count_adds lines) × GainsUnless held after faults now (bank_short_text (count_adds lines) have))
 
+-- the same of lines that were read
+pub record EndsLines (status have : ℕ) (lines : List Line) (held after : Option (List ℕ)) (faults now : ℕ) : Type 0 where
+  pub known : (status ≡ 0) ⊎ (status ≡ 3) ⊎ (status ≡ 5) ⊎ (status ≡ 8)
+  pub done : status ≡ 0 → (count_adds lines ≤ have) × IsLegalRun lines × Gains held after (run_text lines) × (now ≡ faults)
+  pub cut_short : status ≡ 5 → (count_adds lines ≤ have) × IsLegalRun lines × GainsFront held after (run_text lines) × Rose faults now
+  pub bank_short : status ≡ 8 → (have < count_adds lines) × GainsUnless held after faults now (bank_short_text (count_adds lines) have)
+
 -- the text of a history is written, or a front of it
 pub record EndsHistory (status : ℕ) (text : List ℕ) (held after : Option (List ℕ)) (faults now : ℕ) : Type 0 where
   pub known : (status ≡ 0) ⊎ (status ≡ 3) ⊎ (status ≡ 5)

@@ -5,4 +5,7 @@ mod calls;
 mod entries;
 mod player;
 mod playing;
+mod top;
 mod whole;
+
+pub use top::{Ended, plain_top};
