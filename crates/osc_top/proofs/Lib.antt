@@ -9,3 +9,4 @@ pub mod Transfers
 pub mod Endings
 pub mod Lawful
 pub mod Runs
+pub mod Tops
