@@ -58,9 +58,9 @@ module _ (script : List ℕ) (lines : List Line) where
     not_one (inr (inr (inr z))) one_is = absurd (omega (arith, z, one_is))
 
 -- what holds of the whole input that was read
-pub of_whole : (left : Option (List ℕ)) (bytes : List ℕ) (more P : List ℕ → Type 0) → IfSome left (λ all. (bytes ≡ all) × more all) → P bytes → IfSome left P
-of_whole None bytes more P read holds = tt
-of_whole (Some all) bytes more P read holds = subst P read.0 holds
+pub of_whole : (left : Option (List ℕ)) (bytes : List ℕ) (few after P : List ℕ → Type 0) → IfSome left (λ all. (bytes ≡ all) × few all × after all) → P bytes → IfSome left P
+of_whole None bytes few after P read holds = tt
+of_whole (Some all) bytes few after P read holds = subst P read.0 holds
 
 -- an input that is too long is a script that is refused
 pub long_refused : (left : Option (List ℕ)) (more : List ℕ → Type 0) (P Q R A : Type 0) (fits : List Line → Type 0) → IfSome left (λ all. (67108864 < length all) × more all) → IfSome left (λ script. P → IsOkAnd (script_of Plain script) fits → Q → R → A)
