@@ -31,10 +31,9 @@ module _ {X P : Type 0} (meaning : X → Meaning) (tell : P → Told) (number : 
       → (map tell sorted ≡ heard_after default_caps history (map meaning bank)) × (left' ≡ boxes_left (add_answers history) bank)
   ended history bank state boxes gone left rest left' sorted moved ascending all at =
       let heard = boxes_heard (invocations (opening default_caps) history) (add_answers history) (map meaning bank) in
-      let same : IsPermutation heard (map tell sorted) = IsPermutation-trans heard (boxes ++ gone) (map tell sorted) at.tally.told moved in
-      (
+      let same : IsPermutation heard (map tell sorted) = IsPermutation-trans heard (boxes ++ gone) (map tell sorted) at.tally.told moved in (
         same_rising (map tell sorted) heard (ascending_told number tell numbered sorted ascending) at.tally.rising
-        (λ id. sum_by-IsPermutation (times id) heard (map tell sorted) same)
-        (λ box there. Contains-permutation (map tell sorted) heard box (IsPermutation-sym heard (map tell sorted) same) there),
+            (λ id. sum_by-IsPermutation (times id) heard (map tell sorted) same)
+            (λ box there. Contains-permutation (map tell sorted) heard box (IsPermutation-sym heard (map tell sorted) same) there),
         all ∙ ap (λ (l : List X). l ++ rest) at.tally.refused ∙ ap (λ (l : List X). refused_boxes (add_answers history) bank ++ l) at.tally.waiting ∙ sym (left_parts (add_answers history) bank),
       )

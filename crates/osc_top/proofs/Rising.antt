@@ -165,5 +165,12 @@ same_rising (x ∷ xs) (y ∷ ys) ascending rising counts there = go (contains_c
       kept : (y ≡ box) ⊎ Contains ys box → Contains ys box
       kept (inr behind) = behind
       kept (inl is) =
-          absurd (omega (arith, once y.id (y ∷ ys) rising, counts y.id, sum_by-cons (times y.id) x xs, ap (times y.id) same, equal_once y.id y.id refl,
-          id_counted xs y.id (subst (λ (b : Told). Contains (map (λ (other : Told). other.id) xs) b.id) (sym is) (id_contained (λ (b : Told). b.id) xs box inside))))
+          absurd (omega (
+            arith,
+            once y.id (y ∷ ys) rising,
+            counts y.id,
+            sum_by-cons (times y.id) x xs,
+            ap (times y.id) same,
+            equal_once y.id y.id refl,
+            id_counted xs y.id (subst (λ (b : Told). Contains (map (λ (other : Told). other.id) xs) b.id) (sym is) (id_contained (λ (b : Told). b.id) xs box inside)),
+          ))

@@ -3,6 +3,7 @@
 
 mod calls;
 mod entries;
+pub mod laws;
 mod player;
 mod playing;
 mod top;

@@ -183,10 +183,7 @@ impl Player {
 }
 
 /// Keeps the box of an add that was refused.
-fn keep_refused(
-    left: &mut Vec<Box<dyn Method + Send>>,
-    adding: Adding,
-) -> Result<(), AllocError>
+fn keep_refused(left: &mut Vec<Box<dyn Method + Send>>, adding: Adding) -> Result<(), AllocError>
     ensures { OnOk result (left.new.items ≡ left.old.items ++ handed_back adding) }
 {
     match adding {

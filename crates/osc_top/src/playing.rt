@@ -108,9 +108,11 @@ fn sort_by_id(heard: &mut Vec<(u32, Box<dyn Method + Send>)>) -> Result<(), Allo
     ensures each { IsPermutation heard.old.items heard.new.items }
     ensures ascending { OnOk result (IsNonDecreasingBy (λ one. one.0) heard.new.items) }
 {
-    heard.sort_by_key(|one: &(u32, Box<dyn Method + Send>)| -> u32
-        ensures { result ≡ one.now.0 }
-    { one.0 })?;
+    heard.sort_by_key(
+        |one: &(u32, Box<dyn Method + Send>)| -> u32
+            ensures { result ≡ one.now.0 }
+        { one.0 },
+    )?;
     Ok(())
 }
 

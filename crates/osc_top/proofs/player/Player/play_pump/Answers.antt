@@ -26,11 +26,12 @@ loop-preserved g c =
       units = on.same_units ∙ before.units;
       callers = on.same_callers ∙ before.callers;
       boxes = λ history bank at.
-          let prior = before.boxes history bank at in
-          (prior.0 ++ entry_of state release ∷ [],
-          at_turn _ prior.0 bank c.release.new.self.core.state (entry_of state release) _ _ _ _ c.in_ok-release.field-0 went (done.boxes prior.0 bank prior.1),
-          append_assoc prior.0 (entry_of state release ∷ []) (pumped (length c.release.new.self.core.state.queue) c.release.new.self.core.state)
-          ∙ ap (λ (l : List Entry). prior.0 ++ l) on.same_entries ∙ prior.2);
+          let prior = before.boxes history bank at in (
+            prior.0 ++ entry_of state release ∷ [],
+            at_turn _ prior.0 bank c.release.new.self.core.state (entry_of state release) _ _ _ _ c.in_ok-release.field-0 went (done.boxes prior.0 bank prior.1),
+            append_assoc prior.0 (entry_of state release ∷ []) (pumped (length c.release.new.self.core.state.queue) c.release.new.self.core.state)
+                ∙ ap (λ (l : List Entry). prior.0 ++ l) on.same_entries ∙ prior.2,
+          );
     }
 
 pub loop-smaller : goal.loop-smaller
