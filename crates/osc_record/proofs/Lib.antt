@@ -1,0 +1,5 @@
+pub mod Lawful
+pub mod Again
+pub mod Kept
+pub mod Releases
+pub mod Readings
