@@ -11,9 +11,14 @@ use Rattle.osc_tree.specs.Adding.{Refusal, taken, under_method, is_container, me
 use Rattle.osc_record.specs.Limits.{Limits, AreInRange, limit_fault}
 use Rattle.osc_record.specs.Recordings.{Recorded, IsRecordable, hits_in, entry_text, record_text}
 
+-- a number that isn't negative
+abbrev pub natural_of : ℤ → Option ℕ
+natural_of (pos n) = Some n
+natural_of (negsuc n) = None
+
 -- the first argument where it is a number in four bytes that isn't negative, and those after it
 abbrev pub int_first : List Argument → Option (ℕ × List Argument)
-int_first (integer (pos n) ∷ rest) = Some (n, rest)
+int_first (integer z ∷ rest) = option_map (λ n. (n, rest)) (natural_of z)
 int_first _ = None
 
 -- where it is any number in four bytes
@@ -23,7 +28,7 @@ signed_first _ = None
 
 -- where it is a number in eight bytes that isn't negative
 abbrev pub long_first : List Argument → Option (ℕ × List Argument)
-long_first (long (pos n) ∷ rest) = Some (n, rest)
+long_first (long z ∷ rest) = option_map (λ n. (n, rest)) (natural_of z)
 long_first _ = None
 
 -- where it is a moment

@@ -12,7 +12,8 @@ use Rattle.osc_record.specs.declared.event.Event.{Event}
 use Rattle.osc_record.specs.declared.event.Event.TheVariants.{Enrol, Submit, Add, Remove, Tick, Release}
 use Rattle.osc_record.specs.declared.event.Answer.{Answer}
 use Rattle.osc_record.specs.declared.event.Answer.TheVariants.{Number, CallersFull, Queued, UnitsFull, PoolFull, Added, Taken, UnderMethod, IsContainer, MethodsFull, NodesFull, Removed, NotThere, Ticked, ClockBack, Released}
-use Rattle.osc_record.specs.Recordings.{hits_in}
+use Rattle.osc_record.specs.declared.parts.Parts.{Parts}
+use Rattle.osc_record.specs.Recordings.{Recorded, hits_in}
 
 -- the event
 abbrev pub event_of : Event → model.Event
@@ -49,3 +50,7 @@ answer_of (Released unit hits) = released unit (hits_in hits.now)
 -- the arguments of a message
 abbrev pub listed : List Arg → List Argument
 listed args = map shown args
+
+-- the caller, the event and the answer
+abbrev pub parts_of : Parts → Recorded
+parts_of parts = record { caller = parts.caller; event = event_of parts.event; answer = answer_of parts.answer }
