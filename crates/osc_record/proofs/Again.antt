@@ -30,7 +30,7 @@ each_of_three true true false is = absurd (cc)
 each_of_three true false c is = absurd (cc)
 each_of_three false b c is = absurd (cc)
 
-cond_gives : {X : Type 0} (b : Bool) (o : Option X) (x : X) → cond b o None ≡ Some x → (b ≡ true) × (o ≡ Some x)
+pub cond_gives : {X : Type 0} (b : Bool) (o : Option X) (x : X) → cond b o None ≡ Some x → (b ≡ true) × (o ≡ Some x)
 cond_gives true o x is = (refl, is)
 cond_gives false o x is = absurd (cc)
 

@@ -3,3 +3,7 @@ pub mod Again
 pub mod Kept
 pub mod Releases
 pub mod Readings
+pub mod Walks
+pub mod ArgumentsRead
+pub mod Checked
+pub mod Spelled

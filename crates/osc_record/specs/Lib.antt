@@ -3,3 +3,4 @@ pub mod Recordings
 pub mod Shown
 pub mod Reading
 pub mod Writing
+pub mod Left

@@ -1,5 +1,5 @@
 -- A recording, read: its limits and its entries, or the first malformed place. `laws` ties them to what is written.
-use Rattle.std.specs.Prelude.{ℕ, zero, suc, ◌+◌, ◌%◌, Bool, ◌&&◌, ◌==◌, nat_lt, nat_le, ◌≤◌, if◌then◌else◌, ℤ, pos, negsuc, List, [], ◌∷◌, length, take, drop, map, codes, Option, Some, None, option_and_then, option_map, is_none, Result, Ok, Err}
+use Rattle.std.specs.Prelude.{◌≡◌, ℕ, ⊤, IsTrue, is_ok, zero, suc, ◌+◌, ◌%◌, Bool, ◌&&◌, ◌==◌, nat_lt, nat_le, ◌≤◌, if◌then◌else◌, ℤ, pos, negsuc, List, [], ◌∷◌, length, take, drop, map, codes, Option, Some, None, option_and_then, option_map, is_none, Result, Ok, Err}
 use Rattle.std.specs.List.{AllByRecursion}
 use Rattle.std.specs.Int.{w32, from_be_bytes}
 use Rattle.std.specs.Str.{bytes_eq}
@@ -194,6 +194,20 @@ entries_read zero limit place (byte ∷ bytes) = Err place
 entries_read (suc most) limit place (byte ∷ bytes) =
     before_read place (entry_first limit place (byte ∷ bytes)) (λ size. entries_read most limit (place + size) (drop size (byte ∷ bytes)))
 
+-- all the entries that stand one after another from a place on, or the first malformed place
+abbrev pub entries_at : ℕ → ℕ → List ℕ → Result (List Placed) ℕ
+entries_at limit place bytes = entries_read (length bytes) limit place bytes
+
+-- whether entries are read, or the first malformed place
+abbrev pub outcome : Result (List Placed) ℕ → Result ⊤ ℕ
+outcome (Ok entries) = Ok tt
+outcome (Err at) = Err at
+
+-- the entries that are read
+abbrev pub placed_in : Result (List Placed) ℕ → List Placed
+placed_in (Ok entries) = entries
+placed_in (Err at) = []
+
 -- limits in their ranges
 abbrev pub lawful_limits : Limits → Option Limits
 lawful_limits limits = if is_none (limit_fault limits) then Some limits else None
@@ -247,3 +261,19 @@ pub record IsRecord (limits : Limits) (entries : List Recorded) : Type 0 where
   pub lawful : AreInRange limits
   pub all : AllByRecursion (λ entry. IsRecordable entry.caller entry.event entry.answer) entries
   pub fits : length (record_text limits entries) ≤ limits.recording
+
+-- a recording that is read
+pub record ReadRecord : Type 0 where
+  pub caps : Limits
+  pub entries : List Placed
+
+-- what bytes with these limits are read as
+abbrev pub read_of : Limits → List ℕ → ReadRecord
+read_of limits bytes = record { caps = limits; entries = placed_in (entries_after limits bytes) }
+
+-- the bytes are read, with these limits
+pub record AreRead (limits : Limits) (bytes : List ℕ) : Type 0 where
+  pub header : header_read bytes ≡ Some limits
+  pub entries : IsTrue (is_ok (entries_after limits bytes))
+  pub long : 56 ≤ length bytes
+  pub small : length bytes ≤ 1073741824
