@@ -24,7 +24,7 @@ drop_front (x ∷ front) back = drop_front front back
 all_three : (a b c : Bool) → a ≡ true → b ≡ true → c ≡ true → (a && b && c) ≡ true
 all_three a b c p q r = rw (p, q, r) refl
 
-each_of_three : (a b c : Bool) → (a && b && c) ≡ true → (a ≡ true) × (b ≡ true) × (c ≡ true)
+pub each_of_three : (a b c : Bool) → (a && b && c) ≡ true → (a ≡ true) × (b ≡ true) × (c ≡ true)
 each_of_three true true true is = (refl, refl, refl)
 each_of_three true true false is = absurd (cc)
 each_of_three true false c is = absurd (cc)

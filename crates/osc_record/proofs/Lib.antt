@@ -7,3 +7,5 @@ pub mod Walks
 pub mod ArgumentsRead
 pub mod Checked
 pub mod Spelled
+pub mod RowsRead
+pub mod EntriesRead

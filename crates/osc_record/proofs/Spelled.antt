@@ -56,7 +56,7 @@ message_bytes bytes message all is =
     subst AreBytes (some_is (take size (drop 4 bytes)) message inner.1) (front_bytes size (drop 4 bytes) (rest_bytes 4 bytes all))
 
 -- the first of a chain of readings
-read_then : {X Y : Type 0} (f : X → Option Y) (o : Option X) (y : Y) → option_and_then f o ≡ Some y → (x : X) × ((o ≡ Some x) × (f x ≡ Some y))
+pub read_then : {X Y : Type 0} (f : X → Option Y) (o : Option X) (y : Y) → option_and_then f o ≡ Some y → (x : X) × ((o ≡ Some x) × (f x ≡ Some y))
 read_then f None y is = absurd (cc)
 read_then f (Some x) y is = (x, (refl, is))
 
@@ -96,10 +96,10 @@ limits_were arguments limits is =
     header_tail : Limits → List Argument
     header_tail l = int l.units ∷ int l.blocks ∷ int l.methods ∷ int l.nodes ∷ int l.callers ∷ int l.recording ∷ []
 
-none_some : {X : Type 0} (x : X) → ◌≡◌ {A = Option X} None (Some x) → ⊥
+pub none_some : {X : Type 0} (x : X) → ◌≡◌ {A = Option X} None (Some x) → ⊥
 none_some x e = cc
 
-both_true : (a b : Bool) → (a && b) ≡ true → (a ≡ true) × (b ≡ true)
+pub both_true : (a b : Bool) → (a && b) ≡ true → (a ≡ true) × (b ≡ true)
 both_true true true is = (refl, refl)
 both_true true false is = absurd (cc)
 both_true false b is = absurd (cc)

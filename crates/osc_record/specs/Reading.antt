@@ -256,6 +256,10 @@ placed_from place [] = []
 placed_from place (entry ∷ entries) =
     record { at = place; entry = entry } ∷ placed_from (place + length (entry_text entry.caller entry.event entry.answer)) entries
 
+-- the entries without their places
+abbrev pub unplaced : List Placed → List Recorded
+unplaced placed = map (λ p. p.entry) placed
+
 -- limits in their ranges, and entries that a recording can hold within the last of them
 pub record IsRecord (limits : Limits) (entries : List Recorded) : Type 0 where
   pub lawful : AreInRange limits

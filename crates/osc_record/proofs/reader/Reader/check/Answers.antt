@@ -2,6 +2,7 @@ use Rattle.std.proofs.Common.{◌≡◌, ◌≤◌, ℕ, Some, Ok, Err, ◌∙�
 use Rattle.osc_record.specs.Reading.{entries_at, entries_after, outcome, placed_in, header_read, record_read}
 use Rattle.osc_record.proofs.Checked.{read_after, record_ok, record_err, complete_ok, complete_err, complete_header}
 use Rattle.osc_record.proofs.Spelled.{header_long}
+use Rattle.osc_record.proofs.EntriesRead.{record_was}
 use Rattle.osc_record.proofs.reader.Reader.check.Goals as goal
 
 pub returns-in_default-clause-complete : goal.returns-in_default-clause-complete
@@ -23,6 +24,11 @@ invariant_of-result c = record {
 
 pub returns-in-Ok-clause-ok : goal.returns-in-Ok-clause-ok
 returns-in-Ok-clause-ok c = record_ok c.args.bytes.now c.in-Some.caps (sym c.in-Some.ensures) (walked c)
+
+pub returns-in-Ok-clause-written : goal.returns-in-Ok-clause-written
+returns-in-Ok-clause-written c =
+    let was = record_was c.args.bytes.now c.in-Some.caps (λ i. omega (arith, c.type_inv.bytes i)) (sym c.in-Some.ensures) (read_after c.in-Some.caps c.args.bytes.now (walked c)) in
+    (was.lawful, was.text)
 
 pub returns-in-Ok-clause-complete : goal.returns-in-Ok-clause-complete
 returns-in-Ok-clause-complete c = complete_ok c.args.bytes.now c.in-Some.caps (placed_in (entries_after c.in-Some.caps c.args.bytes.now)) (record_ok c.args.bytes.now c.in-Some.caps (sym c.in-Some.ensures) (walked c))
