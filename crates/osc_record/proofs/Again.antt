@@ -1,16 +1,16 @@
 -- An entry that is written is read again, and entries are read one after another.
-use Rattle.std.proofs.Common.{◌≡◌, ℕ, ◌+◌, ◌*◌, ◌%◌, ◌<◌, ◌≤◌, ◌^◌, Bool, true, false, ◌&&◌, cond, ◌==◌, zero, suc, List, [], ◌∷◌, ◌++◌, length, take, drop, map, Option, Some, None, Ok, Err, Result, refl, sym, ap, ◌∙◌, subst, inl, inr, arith, length-append, codes, eq-eqb, eqb-true, lt-ltb, le-leb, leb-true, append_assoc, append-nil}
-use Rattle.std.specs.Prelude.{⊤, option_map, option_and_then, nat_lt, nat_le, is_ok, if◌then◌else◌}
+use Rattle.std.proofs.Common.{◌≡◌, ℕ, ◌+◌, ◌%◌, ◌<◌, ◌≤◌, ◌^◌, Bool, true, false, ◌&&◌, cond, ◌==◌, zero, suc, List, [], ◌∷◌, ◌++◌, length, take, drop, Option, Some, None, Ok, Err, Result, refl, sym, ap, ◌∙◌, subst, arith, length-append, eq-eqb, lt-ltb, le-leb, leb-true, append-nil}
+use Rattle.std.specs.Prelude.{option_map, option_and_then, nat_lt, nat_le, if◌then◌else◌}
 use Rattle.std.specs.Option.{option_map_or}
 use Rattle.std.specs.Int.{w32, to_be_bytes, from_be_bytes}
 use Rattle.std.proofs.lemmas.Nat.{from_be_bytes-to_be_bytes_4}
-use Rattle.std.proofs.lemmas.Bool.{cond-true, cond-false}
-use Rattle.std.proofs.lemmas.List.{take_all, length-drop, length-take-le, take-append-le, drop-append-le}
-use Rattle.osc_message.specs.Messages.{known, IsLawful}
+use Rattle.std.proofs.lemmas.Bool.{cond-true}
+use Rattle.std.proofs.lemmas.List.{length-drop, length-take-le, take-append-le, drop-append-le}
+use Rattle.osc_message.specs.Messages.{known}
 use Rattle.osc_message.proofs.MessageLaws.{text_fours, text_some}
 use Rattle.osc_model.specs.Events.{Event, Answer}
 use Rattle.osc_record.specs.Recordings.{Row, Recorded, row_of, row_text, sized, entry_text, FitsRow, IsRecordable}
-use Rattle.osc_record.specs.Reading.{row_read, entry_of, bytes_of_size, message_first, entry_first, Placed, onto_read, before_read, entries_read}
+use Rattle.osc_record.specs.Reading.{entry_of, bytes_of_size, message_first, entry_first, Placed, onto_read, before_read, entries_read}
 use Rattle.osc_record.proofs.Lawful.{LawfulRow, ReadAs, row_lawful, row_again, entry_again}
 
 pub take_front : (front back : List ℕ) → take (length front) (front ++ back) ≡ front

@@ -1,5 +1,5 @@
 -- What a check answers, by the recording that is read.
-use Rattle.std.proofs.Common.{◌≡◌, ℕ, ◌≤◌, ◌<◌, List, length, drop, true, false, Some, None, Ok, Err, Result, Option, refl, sym, ap, ◌∙◌, IsOk}
+use Rattle.std.proofs.Common.{◌≡◌, ℕ, List, drop, true, Some, None, Ok, Err, Result, Option, refl, sym, ap, ◌∙◌}
 use Rattle.std.specs.Prelude.{IsTrue, is_ok, ⊤}
 use Rattle.std.specs.List.{flat_map}
 use Rattle.osc_record.specs.Limits.{Limits}
@@ -15,6 +15,16 @@ ok_entries limits (Err at) is = absurd (cc)
 -- the entries are read where a walk ends well
 pub read_after : (limits : Limits) (bytes : List ℕ) → Ok tt ≡ outcome (entries_at limits.recording 56 (drop 56 bytes)) → IsTrue (is_ok (entries_after limits bytes))
 read_after limits bytes is = ok_entries limits (entries_after limits bytes) (is ∙ sym (ap outcome (after_is limits bytes)))
+
+err_entries : (at : ℕ) (r : Result (List Placed) ℕ) → Err at ≡ outcome r → r ≡ Err at
+err_entries at (Ok entries) is = absurd (cc)
+err_entries at (Err place) is = same at place is where
+  same : (a b : ℕ) → ◌≡◌ {A = Result ⊤ ℕ} (Err a) (Err b) → ◌≡◌ {A = Result (List Placed) ℕ} (Err b) (Err a)
+  same a b e = cc
+
+-- the place where a walk ends
+pub err_after : (limits : Limits) (bytes : List ℕ) (at : ℕ) → Err at ≡ outcome (entries_at limits.recording 56 (drop 56 bytes)) → entries_after limits bytes ≡ Err at
+err_after limits bytes at is = err_entries at (entries_after limits bytes) (is ∙ sym (ap outcome (after_is limits bytes)))
 
 read_at : (bytes : List ℕ) (limits : Limits) → header_read bytes ≡ Some limits → (r : Result (List Placed) ℕ) → entries_after limits bytes ≡ r → record_read bytes ≡ elim r [ Ok entries ↦ Ok (limits, entries) | Err at ↦ Err at ]
 read_at bytes limits header r is = ap (with_entries bytes) header ∙ ap (λ (e : Result (List Placed) ℕ). elim e [ Ok entries ↦ Ok (limits, entries) | Err at ↦ Err at ]) is

@@ -1,5 +1,5 @@
 -- Bytes that are read as a recording are its text.
-use Rattle.std.proofs.Common.{◌≡◌, ◌⊎◌, ℕ, ◌+◌, ◌-◌, ◌%◌, ◌&&◌, ◌<◌, ◌≤◌, zero, suc, Bool, true, false, cond, ◌==◌, List, [], ◌∷◌, ◌++◌, length, take, drop, map, Option, Some, None, Ok, Err, Result, refl, sym, ap, ◌∙◌, subst, inl, inr, arith, codes, leb-true, length-append, length-drop, take-append-drop, append_assoc}
+use Rattle.std.proofs.Common.{◌≡◌, ◌⊎◌, ℕ, ◌+◌, ◌%◌, ◌&&◌, ◌≤◌, zero, suc, Bool, true, false, cond, ◌==◌, List, [], ◌∷◌, ◌++◌, length, take, drop, map, Option, Some, None, Ok, Err, Result, refl, sym, ap, ◌∙◌, subst, inl, inr, arith, codes, leb-true, length-append, length-drop, take-append-drop, append_assoc}
 use Rattle.std.specs.Prelude.{option_and_then, option_map, nat_lt, nat_le, if◌then◌else◌, is_ok, IsTrue}
 use Rattle.std.specs.Int.{w32, to_be_bytes, from_be_bytes}
 use Rattle.std.specs.List.{flat_map, AllByRecursion}
@@ -8,16 +8,16 @@ use Rattle.std.specs.Str.{bytes_eq}
 use Rattle.std.proofs.lemmas.Nat.{be_bytes_4}
 use Rattle.std.proofs.lemmas.List.{length-take-le, drop-drop}
 use Rattle.osc_atoms.specs.Atoms.{AreBytes, string}
-use Rattle.osc_message.specs.Messages.{Argument, known, tag_of, atom_of, tag_string}
+use Rattle.osc_message.specs.Messages.{tag_of, atom_of, tag_string}
 use Rattle.osc_message.specs.Reading.{is_message, pattern_of}
 use Rattle.osc_message.specs.Arguments.{message_arguments}
 use Rattle.osc_record.specs.Limits.{Limits, IsWithin, AreInRange, is_within, limit_fault}
-use Rattle.osc_record.specs.Recordings.{Row, Recorded, row_of, row_text, sized, entry_text, header_row, header_text, record_text, FitsRow, IsRecordable}
-use Rattle.osc_record.specs.Reading.{row_read, entry_of, bytes_of_size, message_first, entry_first, Placed, onto_read, before_read, entries_read, entries_after, header_of, header_read, placed_from, placed_in, IsRecord}
+use Rattle.osc_record.specs.Recordings.{Row, Recorded, row_text, sized, entry_text, header_text, record_text, FitsRow, IsRecordable}
+use Rattle.osc_record.specs.Reading.{row_read, entry_of, bytes_of_size, message_first, entry_first, Placed, onto_read, before_read, entries_read, entries_after, header_of, header_read, placed_in, IsRecord}
 use Rattle.osc_record.proofs.Again.{cond_gives, each_of_three, first_more}
 use Rattle.osc_record.proofs.ArgumentsRead.{some_is}
 use Rattle.osc_record.proofs.Spelled.{Spelled, spelled, front_bytes, rest_bytes, message_bytes, header_was, none_some, both_true}
-use Rattle.osc_record.proofs.RowsRead.{Was, row_was, back_bytes, mapped}
+use Rattle.osc_record.proofs.RowsRead.{row_was, back_bytes, mapped}
 
 no_row : (b1 b2 b3 b4 b5 b6 : Bool) (e : Recorded) → cond {A = Option Recorded} b1 None (cond b2 None (cond b3 None (cond b4 None (cond b5 None (cond b6 None None))))) ≡ Some e → ⊥
 no_row true b2 b3 b4 b5 b6 e is = none_some e is

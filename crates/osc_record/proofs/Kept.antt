@@ -1,16 +1,14 @@
 -- What a recording in the making keeps: its bytes are those of its entries, and are read as them.
-use Rattle.std.proofs.Common.{◌≡◌, ℕ, ◌+◌, ◌-◌, ◌*◌, ◌%◌, ◌<◌, ◌≤◌, ◌^◌, Bool, true, false, cond, ◌==◌, zero, suc, List, [], ◌∷◌, ◌++◌, length, take, drop, map, Option, Some, None, Ok, Err, Result, refl, sym, ap, ◌∙◌, subst, inl, inr, arith, length-append, length-drop, codes, eq-eqb, eqb-true, append_assoc, append-nil, take-append-drop}
+use Rattle.std.proofs.Common.{◌≡◌, ℕ, ◌+◌, ◌<◌, ◌≤◌, ◌^◌, Bool, true, false, cond, ◌==◌, zero, suc, List, [], ◌∷◌, ◌++◌, length, take, drop, map, Option, Some, None, Ok, Err, Result, refl, sym, ap, ◌∙◌, subst, arith, length-append, length-drop, eqb-true, append_assoc, append-nil, take-append-drop}
 use Rattle.std.specs.Prelude.{IsTrue, is_ok}
-use Rattle.std.specs.Int.{w32, to_be_bytes}
 use Rattle.std.specs.List.{flat_map, AllByRecursion}
 use Rattle.std.specs.Option.{option_map_or}
-use Rattle.std.proofs.lemmas.Bool.{cond-true, cond-false}
-use Rattle.std.proofs.lemmas.List.{take_all, drop_all, drop-append-le, take-append-le}
-use Rattle.osc_model.specs.Events.{Event, Answer, Hit}
+use Rattle.std.proofs.lemmas.List.{take_all, drop_all, drop-append-le}
+use Rattle.osc_model.specs.Events.{Event, Answer}
 use Rattle.osc_record.specs.Limits.{Limits}
 use Rattle.osc_record.specs.Recordings.{Row, Recorded, row_of, row_text, sized, entry_text, FitsRow, IsHit, IsRecordable, hits_in, record_text, header_text}
 use Rattle.osc_record.specs.Reading.{Placed, entry_first, entries_read, entries_after}
-use Rattle.osc_record.specs.Writing.{Begun, Recording, begun_text, recording_text, appended, entries_of, entries_in, begun_in, recording_of, AreWhole, IsKept}
+use Rattle.osc_record.specs.Writing.{Begun, begun_text, recording_text, appended, entries_of, entries_in, begun_in, recording_of, AreWhole, IsKept}
 use Rattle.osc_record.proofs.Again.{entry_first_again, entries_more}
 
 -- an entry has some bytes

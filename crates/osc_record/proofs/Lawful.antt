@@ -1,24 +1,23 @@
 -- The messages of a recording are lawful, and are read as the entries that they stand for.
-use Rattle.std.proofs.Common.{◌≡◌, ℕ, ◌+◌, ◌*◌, ◌%◌, ◌<◌, ◌≤◌, ◌^◌, Bool, true, false, ◌&&◌, cond, ◌==◌, ℤ, pos, negsuc, zero, suc, List, [], ◌∷◌, ◌++◌, length, take, drop, map, Option, Some, None, Ok, Err, Result, refl, sym, ap, ◌∙◌, subst, inl, inr, arith, length-append, codes, eq-eqb, eqb-true, lt-ltb, le-leb}
-use Rattle.std.specs.Prelude.{⊤, option_map, option_and_then, nat_lt, is_ok}
+use Rattle.std.proofs.Common.{◌≡◌, ℕ, ◌*◌, ◌%◌, ◌≤◌, true, ◌==◌, ℤ, List, [], ◌∷◌, length, Option, Some, None, Ok, Err, Result, refl, ap, ◌∙◌, inl, inr, arith, codes, eq-eqb, lt-ltb}
+use Rattle.std.specs.Prelude.{⊤, option_map, is_ok}
 use Rattle.std.specs.Int.{w32, to_be_bytes, from_be_bytes}
-use Rattle.std.specs.List.{flat_map, AllByRecursion}
+use Rattle.std.specs.List.{AllByRecursion}
 use Rattle.std.proofs.lemmas.Nat.{from_be_bytes-to_be_bytes_4}
-use Rattle.std.proofs.lemmas.Bool.{cond-true, cond-false}
+use Rattle.std.proofs.lemmas.Bool.{cond-true}
 use Rattle.osc_atoms.specs.declared.fault.Fault.{Fault}
-use Rattle.osc_atoms.specs.Atoms.{word}
 use Rattle.osc_pattern.specs.Patterns.{IsPattern}
 use Rattle.osc_pattern.specs.Reading.{read_part}
 use Rattle.osc_pattern.proofs.PatternLaws.{is_pattern-sound}
 use Rattle.osc_message.specs.Tags.{Balanced}
-use Rattle.osc_message.specs.Messages.{Argument, AllFit, tag_of, known, IsLawful}
+use Rattle.osc_message.specs.Messages.{known, IsLawful}
 use Rattle.osc_message.specs.Reading.{brackets_read}
 use Rattle.osc_message.proofs.ArrayBrackets.{balance_seen, bracket_fault_again}
 use Rattle.osc_message.proofs.MessageLaws.{limited_again}
 use Rattle.osc_message.proofs.TextLaws.{pattern_again, known_arguments_again}
-use Rattle.osc_tree.specs.Adding.{Refusal, taken, under_method, is_container, methods_full, nodes_full}
-use Rattle.osc_model.specs.Events.{Room, Event, enrol, submit, add, remove, tick, release, Hit, Answer, number, callers_full, queued, units_full, pool_full, added, refused, removed, not_there, ticked, clock_back, released, nothing_due, record_full}
-use Rattle.osc_record.specs.Recordings.{Row, Recorded, row_of, row_text, FitsRow, IsHit, IsSound, IsRecordable, enrolled, submitted, adding, removing, ticking, releasing, hit_text, hits_text, hits_in, enrol_row, submit_row, add_row, remove_row, tick_row, release_row}
+use Rattle.osc_tree.specs.Adding.{taken, under_method, is_container, methods_full, nodes_full}
+use Rattle.osc_model.specs.Events.{Event, enrol, submit, add, remove, tick, release, Hit, Answer, number, callers_full, queued, units_full, pool_full, added, refused, removed, not_there, ticked, clock_back, released, nothing_due, record_full}
+use Rattle.osc_record.specs.Recordings.{Row, Recorded, row_of, row_text, FitsRow, IsHit, IsSound, enrolled, submitted, adding, removing, ticking, releasing, hits_text, hits_in, enrol_row, submit_row, add_row, remove_row, tick_row, release_row}
 use Rattle.osc_record.specs.Reading.{row_read, entry_of}
 
 pub enrol_address : IsPattern (codes "/osc/enrol")

@@ -1,6 +1,6 @@
 -- A message that is read as a header was written as one.
-use Rattle.std.proofs.Common.{◌≡◌, ◌⊎◌, ℕ, ◌+◌, ◌%◌, ◌&&◌, ◌<◌, ◌≤◌, zero, suc, Bool, true, false, cond, List, [], ◌∷◌, length, take, drop, Option, Some, None, IsOk, refl, sym, ap, ◌∙◌, subst, inl, inr, arith, codes, eqb-true, lit<}
-use Rattle.std.specs.Prelude.{slice_index, option_and_then, is_ok, is_none, ◌==◌, nat_lt, nat_le}
+use Rattle.std.proofs.Common.{◌≡◌, ◌⊎◌, ℕ, ◌%◌, ◌&&◌, ◌≤◌, zero, suc, Bool, true, false, cond, List, [], ◌∷◌, length, take, drop, Option, Some, None, refl, sym, ap, ◌∙◌, subst, inl, inr, arith, codes, eqb-true, lit<}
+use Rattle.std.specs.Prelude.{option_and_then, is_none, ◌==◌, nat_lt, nat_le}
 use Rattle.std.specs.Str.{bytes_eq}
 use Rattle.std.specs.Int.{w32, from_be_bytes}
 use Rattle.std.proofs.lemmas.Slice.Eq.{bytes_eq-Decides}
@@ -12,7 +12,7 @@ use Rattle.osc_message.proofs.Checks.{exact_of}
 use Rattle.osc_message.proofs.TextLaws.{pattern_again, bare_arguments, known_arguments_again, unknown_arguments_again}
 use Rattle.osc_record.specs.Limits.{Limits, limit_fault}
 use Rattle.osc_record.specs.Recordings.{int, row_text, header_row}
-use Rattle.osc_record.specs.Reading.{limits_read, lawful_limits, header_of, header_read, message_first, bytes_of_size, at_end, int_first}
+use Rattle.osc_record.specs.Reading.{limits_read, lawful_limits, header_of, header_read, message_first, bytes_of_size, int_first}
 use Rattle.osc_record.proofs.Again.{message_more, cond_gives}
 use Rattle.osc_record.proofs.ArgumentsRead.{int_was, end_was, some_is}
 

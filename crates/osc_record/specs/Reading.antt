@@ -1,15 +1,15 @@
 -- A recording, read: its limits and its entries, or the first malformed place. `laws` ties them to what is written.
-use Rattle.std.specs.Prelude.{◌≡◌, ℕ, ⊤, IsTrue, is_ok, zero, suc, ◌+◌, ◌%◌, Bool, ◌&&◌, ◌==◌, nat_lt, nat_le, ◌≤◌, if◌then◌else◌, ℤ, pos, negsuc, List, [], ◌∷◌, length, take, drop, map, codes, Option, Some, None, option_and_then, option_map, is_none, Result, Ok, Err}
+use Rattle.std.specs.Prelude.{◌≡◌, ◌⊎◌, ◌<◌, ◌++◌, ℕ, ⊤, IsTrue, is_ok, zero, suc, ◌+◌, ◌%◌, Bool, ◌&&◌, ◌==◌, nat_lt, nat_le, ◌≤◌, if◌then◌else◌, ℤ, pos, negsuc, List, [], ◌∷◌, length, take, drop, map, codes, Option, Some, None, option_and_then, option_map, is_none, Result, Ok, Err}
 use Rattle.std.specs.List.{AllByRecursion}
 use Rattle.std.specs.Int.{w32, from_be_bytes}
 use Rattle.std.specs.Str.{bytes_eq}
 use Rattle.osc_message.specs.Messages.{Argument, integer, text, content, long, time}
 use Rattle.osc_message.specs.Reading.{is_message, pattern_of}
 use Rattle.osc_message.specs.Arguments.{message_arguments}
-use Rattle.osc_model.specs.Events.{Room, enrol, submit, add, remove, tick, release, Answer, number, callers_full, queued, units_full, pool_full, added, refused, removed, not_there, ticked, clock_back, released}
-use Rattle.osc_tree.specs.Adding.{Refusal, taken, under_method, is_container, methods_full, nodes_full}
+use Rattle.osc_model.specs.Events.{enrol, submit, add, remove, tick, release, Answer, number, callers_full, queued, units_full, pool_full, added, refused, removed, not_there, ticked, clock_back, released}
+use Rattle.osc_tree.specs.Adding.{taken, under_method, is_container, methods_full, nodes_full}
 use Rattle.osc_record.specs.Limits.{Limits, AreInRange, limit_fault}
-use Rattle.osc_record.specs.Recordings.{Recorded, IsRecordable, hits_in, entry_text, record_text}
+use Rattle.osc_record.specs.Recordings.{Recorded, IsRecordable, hits_in, header_text, entry_text, record_text}
 
 -- a number that isn't negative
 abbrev pub natural_of : ℤ → Option ℕ
@@ -281,3 +281,24 @@ pub record AreRead (limits : Limits) (bytes : List ℕ) : Type 0 where
   pub entries : IsTrue (is_ok (entries_after limits bytes))
   pub long : 56 ≤ length bytes
   pub small : length bytes ≤ 1073741824
+
+-- the bytes don't begin with the header of lawful limits
+pub record HasNoHeader (bytes : List ℕ) (at : ℕ) : Type 0 where
+  pub first : at ≡ 0
+  pub none : (limits : Limits) (rest : List ℕ) → AreInRange limits → bytes ≡ header_text limits ++ rest → ⊥
+
+-- the bytes are a recording up to a place, and are followed there by some bytes that don't begin with an entry within the limit
+pub record HasNoEntry (bytes : List ℕ) (at : ℕ) : Type 0 where
+  pub limits : Limits
+  pub entries : List Recorded
+  pub rest : List ℕ
+  pub lawful : IsRecord limits entries
+  pub text : bytes ≡ record_text limits entries ++ rest
+  pub place : at ≡ length (record_text limits entries)
+  pub some : 0 < length rest
+  pub none : (entry : Recorded) (more : List ℕ) → IsRecordable entry.caller entry.event entry.answer → at + length (entry_text entry.caller entry.event entry.answer) ≤ limits.recording
+      → rest ≡ entry_text entry.caller entry.event entry.answer ++ more → ⊥
+
+-- the place of the header or of the first entry that doesn't read
+abbrev pub IsMalformedAt : List ℕ → ℕ → Type 0
+IsMalformedAt bytes at = HasNoHeader bytes at ⊎ HasNoEntry bytes at

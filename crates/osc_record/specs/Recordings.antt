@@ -1,11 +1,11 @@
 -- A recording, written: the messages that stand for its header and its entries, each after its size.
-use Rattle.std.specs.Prelude.{ℕ, ◌<◌, ◌^◌, ℤ, pos, negsuc, List, [], ◌∷◌, ◌++◌, length, codes, Option, Some, None, option_map}
+use Rattle.std.specs.Prelude.{ℕ, ◌+◌, ◌*◌, ◌<◌, ◌^◌, ℤ, pos, negsuc, List, [], ◌∷◌, ◌++◌, length, codes, Option, Some, None, option_map}
 use Rattle.std.specs.List.{flat_map, AllByRecursion}
 use Rattle.std.specs.Option.{option_map_or}
 use Rattle.std.specs.Int.{w32, from_be_bytes}
-use Rattle.osc_atoms.specs.Atoms.{word}
+use Rattle.osc_atoms.specs.Atoms.{word, string, blob_end}
 use Rattle.osc_message.specs.Messages.{Argument, integer, text, content, long, time, AllFit, known, message_text}
-use Rattle.osc_model.specs.Events.{Room, Event, enrol, submit, add, remove, tick, release, Hit, Answer, number, callers_full, queued, units_full, pool_full, added, refused, removed, not_there, ticked, clock_back, released}
+use Rattle.osc_model.specs.Events.{Event, enrol, submit, add, remove, tick, release, Hit, Answer, number, callers_full, queued, units_full, pool_full, added, refused, removed, not_there, ticked, clock_back, released}
 use Rattle.osc_tree.specs.Adding.{Refusal, taken, under_method, is_container, methods_full, nodes_full}
 use Rattle.osc_record.specs.Limits.{Limits}
 
@@ -173,3 +173,12 @@ FitsRow (Some row) = AllFit row.arguments
 pub record IsRecordable (caller : ℕ) (event : Event) (answer : Answer) : Type 0 where
   pub fits : FitsRow (row_of caller event answer)
   pub sound : IsSound answer
+
+-- how many bytes an entry has
+abbrev pub entry_size : Event → Answer → ℕ
+entry_size enrol answer = 28
+entry_size (submit packet) answer = 48 + (length packet + blob_end (length packet))
+entry_size (add address) answer = 40 + length (string address)
+entry_size (remove address) answer = 36 + length (string address)
+entry_size (tick moment) answer = 48
+entry_size release answer = 44 + 8 * length (option_map_or (λ r. r.1) (releasing answer) [])

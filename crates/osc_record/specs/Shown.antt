@@ -1,6 +1,5 @@
 -- What events and answers of the code stand for.
-use Rattle.std.specs.Prelude.{List, ◌∷◌, map}
-use Rattle.std.specs.Int.{w32, from_be_bytes}
+use Rattle.std.specs.Prelude.{List, map}
 use Rattle.osc_atoms.specs.declared.room.Room.{Room as RoomOf}
 use Rattle.osc_message.specs.declared.argument.Arg.{Arg}
 use Rattle.osc_message.specs.Messages.{Argument}

@@ -1,8 +1,8 @@
 //! What the definitions of recordings say of each other. These functions do nothing; their contracts are the laws.
-ghost use Rattle.std.specs.Prelude.{◌≡◌, ℕ, List, [], ◌∷◌, ◌++◌, codes, Ok};
-ghost use Rattle.osc_model.specs.Events.{tick, ticked};
+ghost use Rattle.std.specs.Prelude.{◌≡◌, ℕ, List, [], ◌∷◌, ◌++◌, length, codes, Ok};
+ghost use Rattle.osc_model.specs.Events.{Event, Answer, tick, ticked};
 ghost use Rattle.osc_record.specs.Limits.{Limits};
-ghost use Rattle.osc_record.specs.Recordings.{Recorded, entry_text, header_text, record_text};
+ghost use Rattle.osc_record.specs.Recordings.{Recorded, FitsRow, row_of, entry_size, entry_text, header_text, record_text};
 ghost use Rattle.osc_record.specs.Reading.{record_read, placed_from, IsRecord};
 
 /// A recording that is written is read again: its limits, and its entries, each at its place.
@@ -13,6 +13,12 @@ pub fn written_is_read_again()
 /// No two recordings have one text: the bytes determine the limits and the entries.
 pub fn texts_differ()
     ensures { (limits other : Limits) (entries others : List Recorded) → IsRecord limits entries → IsRecord other others → record_text limits entries ≡ record_text other others → (limits ≡ other) × (entries ≡ others) }
+{}
+
+/// How many bytes an entry has, whatever it is answered: but a release's size counts its hits.
+pub fn sizes()
+    ensures header { (limits : Limits) → length (header_text limits) ≡ 56 }
+    ensures entry { (caller : ℕ) (event : Event) (answer : Answer) → FitsRow (row_of caller event answer) → length (entry_text caller event answer) ≡ entry_size event answer }
 {}
 
 /// A header and an entry, byte by byte.

@@ -37,7 +37,7 @@ impl<'a> Reader<'a> {
     ghost use Rattle.std.specs.Prelude.{◌≡◌, ◌≤◌, ℕ, List, length, IfOk, IfErr, IsOkAnd, Ok, Err};
     ghost use Rattle.osc_record.specs.Limits.{Limits};
     ghost use Rattle.osc_record.specs.Recordings.{Recorded, record_text};
-    ghost use Rattle.osc_record.specs.Reading.{record_read, placed_from, unplaced, IsRecord};
+    ghost use Rattle.osc_record.specs.Reading.{record_read, placed_from, unplaced, IsRecord, IsMalformedAt};
     ghost use Rattle.osc_record.specs.Left.{entries_left};
 
     /// Accepts exactly a recording, and borrows it. Else tells the first malformed place. Packets and addresses may be
@@ -45,6 +45,7 @@ impl<'a> Reader<'a> {
     pub fn check(bytes: &'a [u8]) -> Result<Reader<'a>, Malformed>
         requires { length bytes.now ≤ 1073741824 }
         ensures ok { IfOk result (λ reader. record_read bytes.now ≡ Ok (reader.caps, reader.entries)) }
+        ensures first { IfErr result (λ malformed. IsMalformedAt bytes.now malformed.at) }
         ensures err { IfErr result (λ malformed. record_read bytes.now ≡ Err malformed.at) }
         ensures written { IfOk result (λ reader. IsRecord reader.caps (unplaced reader.entries) × (bytes.now ≡ record_text reader.caps (unplaced reader.entries))) }
         ensures complete { (limits : Limits) (entries : List Recorded) → IsRecord limits entries → bytes.now ≡ record_text limits entries → IsOkAnd result (λ reader. (reader.caps ≡ limits) × (reader.entries ≡ placed_from 56 entries)) }

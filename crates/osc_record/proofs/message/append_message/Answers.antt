@@ -1,4 +1,4 @@
-use Rattle.std.proofs.Common.{◌∙◌, map, ap}
+use Rattle.std.proofs.Common.{◌∙◌, ap}
 use Rattle.osc_atoms.specs.Atoms.{has_no_zero}
 use Rattle.osc_message.proofs.MessageLaws.{nonzero_tags}
 use Rattle.osc_record.specs.Shown.{listed}

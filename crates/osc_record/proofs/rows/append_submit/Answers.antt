@@ -1,6 +1,6 @@
-use Rattle.std.proofs.Common.{◌≡◌, ◌++◌, ◌∷◌, [], codes, pos, to_z, of_z, w32, w64, arith, ◌∙◌}
-use Rattle.std.proofs.lemmas.Int.{to_z_pos, to_z-of_z}
-use Rattle.osc_message.specs.Messages.{integer, text, content, long, time}
+use Rattle.std.proofs.Common.{◌≡◌, ◌++◌, ◌∷◌, [], codes, pos, to_z, w32, w64, arith, ◌∙◌}
+use Rattle.std.proofs.lemmas.Int.{to_z_pos}
+use Rattle.osc_message.specs.Messages.{integer, content, long}
 use Rattle.osc_record.specs.Recordings.{sized, row_text}
 use Rattle.osc_record.proofs.rows.append_submit.Goals as goal
 

@@ -1,8 +1,9 @@
-use Rattle.std.proofs.Common.{◌≡◌, ◌≤◌, ℕ, Some, Ok, Err, ◌∙◌, sym, ap, drop, length, arith}
-use Rattle.osc_record.specs.Reading.{entries_at, entries_after, outcome, placed_in, header_read, record_read}
-use Rattle.osc_record.proofs.Checked.{read_after, record_ok, record_err, complete_ok, complete_err, complete_header}
+use Rattle.std.proofs.Common.{◌≡◌, ℕ, Ok, Err, inl, inr, ◌∙◌, sym, ap, drop, arith}
+use Rattle.osc_record.specs.Reading.{entries_at, entries_after, outcome, placed_in, record_read}
+use Rattle.osc_record.proofs.Checked.{read_after, err_after, record_ok, record_err, complete_ok, complete_err, complete_header}
 use Rattle.osc_record.proofs.Spelled.{header_long}
 use Rattle.osc_record.proofs.EntriesRead.{record_was}
+use Rattle.osc_record.proofs.Stops.{no_header, no_entry}
 use Rattle.osc_record.proofs.reader.Reader.check.Goals as goal
 
 pub returns-in_default-clause-complete : goal.returns-in_default-clause-complete
@@ -41,3 +42,11 @@ returns-in-Err-clause-err c = failed c
 
 pub returns-in-Err-clause-complete : goal.returns-in-Err-clause-complete
 returns-in-Err-clause-complete c = complete_err c.args.bytes.now c.in-Err.at (failed c)
+
+pub returns-in-Err-clause-first : goal.returns-in-Err-clause-first
+returns-in-Err-clause-first c =
+    inr (no_entry c.args.bytes.now c.in-Some.caps c.in-Err.at (λ i. omega (arith, c.type_inv.bytes i)) (sym c.in-Some.ensures)
+    (err_after c.in-Some.caps c.args.bytes.now c.in-Err.at (c.in-Err.ensures ∙ ap (λ (n : ℕ). outcome (entries_at n 56 (drop 56 c.args.bytes.now))) c.recording.ensures.value)))
+
+pub returns-in_default-clause-first : goal.returns-in_default-clause-first
+returns-in_default-clause-first c = inl (no_header c.args.bytes.now (sym c.in_default.ensures))

@@ -1,5 +1,4 @@
-use Rattle.std.proofs.Common.{◌≡◌, ◌+◌, ◌≤◌, None, length, vec_capacity, sym, ap, ◌∙◌, subst, arith}
-use Rattle.osc_record.specs.Limits.{Limits}
+use Rattle.std.proofs.Common.{◌≡◌, ◌+◌, ◌≤◌, None, length, vec_capacity, sym, ap, ◌∙◌, arith}
 use Rattle.osc_record.specs.Recordings.{Recorded, entry_text}
 use Rattle.osc_record.specs.Shown.{event_of, answer_of}
 use Rattle.osc_record.specs.Writing.{Recording, recording_of, recording_text, appended}
