@@ -1,0 +1,13 @@
+pub mod Lawful
+pub mod Again
+pub mod Kept
+pub mod Releases
+pub mod Readings
+pub mod Walks
+pub mod ArgumentsRead
+pub mod Checked
+pub mod Spelled
+pub mod RowsRead
+pub mod EntriesRead
+pub mod Sizes
+pub mod Stops

@@ -1,0 +1,43 @@
+-- How many bytes an entry has.
+use Rattle.std.proofs.Common.{◌≡◌, ℕ, ◌+◌, ◌*◌, ℤ, List, [], ◌++◌, length, replicate, Option, Some, None, refl, arith, ap, sym, ◌∙◌, length-append}
+use Rattle.std.specs.Prelude.{option_map}
+use Rattle.std.specs.Option.{option_map_or}
+use Rattle.std.proofs.lemmas.List.{length-replicate}
+use Rattle.osc_atoms.specs.Atoms.{word, tag, string, blob_end}
+use Rattle.osc_model.specs.Events.{Event, enrol, submit, add, remove, tick, release, Hit, Answer}
+use Rattle.osc_record.specs.Recordings.{Row, row_of, row_text, sized, entry_text, entry_size, FitsRow, enrolled, submitted, adding, removing, ticking, releasing, enrol_row, submit_row, add_row, remove_row, tick_row, release_row, hits_text}
+use Rattle.osc_record.proofs.Lawful.{length-hits_text}
+use Rattle.osc_record.proofs.Releases.{release_shape}
+
+abbrev pub text_in : Option Row → List ℕ
+text_in o = option_map_or (λ row. sized (row_text row)) o []
+
+pub sizes_are : (caller : ℕ) (event : Event) (answer : Answer) → FitsRow (row_of caller event answer) → length (entry_text caller event answer) ≡ entry_size event answer
+sizes_are caller enrol answer fits = go (enrolled answer) fits where
+  go : (o : Option ℤ) → FitsRow (option_map (enrol_row caller) o) → length (text_in (option_map (enrol_row caller) o)) ≡ 28
+  go None f = absurd f
+  go (Some z) f = refl
+sizes_are caller (submit packet) answer fits = go (submitted answer) fits where
+  go : (o : Option (ℕ × ℕ × ℕ)) → FitsRow (option_map (submit_row caller packet) o) → length (text_in (option_map (submit_row caller packet) o)) ≡ 48 + (length packet + blob_end (length packet))
+  go None f = absurd f
+  go (Some t) f =
+      let zeros : List ℕ = replicate (blob_end (length packet)) 0 in
+      let tail : List ℕ = word t.0 ++ (tag t.1 ++ (word t.2 ++ [])) in
+      omega (arith, length-append (packet ++ zeros) tail, length-append packet zeros, length-replicate {A = ℕ} (blob_end (length packet)) 0)
+sizes_are caller (add address) answer fits = go (adding answer) fits where
+  go : (o : Option (ℕ × ℕ × ℕ)) → FitsRow (option_map (add_row caller address) o) → length (text_in (option_map (add_row caller address) o)) ≡ 40 + length (string address)
+  go None f = absurd f
+  go (Some t) f = omega (arith, length-append (string address) (word t.0 ++ (word t.1 ++ (word t.2 ++ []))))
+sizes_are caller (remove address) answer fits = go (removing answer) fits where
+  go : (o : Option (ℕ × ℕ)) → FitsRow (option_map (remove_row caller address) o) → length (text_in (option_map (remove_row caller address) o)) ≡ 36 + length (string address)
+  go None f = absurd f
+  go (Some t) f = omega (arith, length-append (string address) (word t.0 ++ (word t.1 ++ [])))
+sizes_are caller (tick moment) answer fits = go (ticking moment answer) fits where
+  go : (o : Option (ℕ × ℕ)) → FitsRow (option_map (tick_row caller moment) o) → length (text_in (option_map (tick_row caller moment) o)) ≡ 48
+  go None f = absurd f
+  go (Some t) f = refl
+sizes_are caller release answer fits = go (releasing answer) fits where
+  go : (o : Option (ℕ × List Hit)) → FitsRow (option_map (λ r. release_row caller r.0 (hits_text r.1)) o)
+      → length (text_in (option_map (λ r. release_row caller r.0 (hits_text r.1)) o)) ≡ 44 + 8 * length (option_map_or (λ r. r.1) o [])
+  go None f = absurd f
+  go (Some r) f = sym (ap length (release_shape caller r.0 (hits_text r.1) (length r.1) (length-hits_text r.1))) ∙ omega (arith, length-hits_text r.1)

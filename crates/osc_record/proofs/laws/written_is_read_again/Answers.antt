@@ -1,0 +1,5 @@
+use Rattle.osc_record.proofs.Readings.{record_again}
+use Rattle.osc_record.proofs.laws.written_is_read_again.Goals as goal
+
+pub returns : goal.returns
+returns c = record_again

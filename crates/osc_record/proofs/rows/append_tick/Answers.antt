@@ -1,0 +1,11 @@
+use Rattle.std.proofs.Common.{◌≡◌, ◌++◌, ◌∷◌, [], codes, pos, to_z, w32, arith, ◌∙◌}
+use Rattle.std.proofs.lemmas.Int.{to_z_pos}
+use Rattle.osc_message.specs.Messages.{integer, time}
+use Rattle.osc_record.specs.Recordings.{sized, row_text}
+use Rattle.osc_record.proofs.rows.append_tick.Goals as goal
+
+pub returns-clause-out : goal.returns-clause-out
+returns-clause-out c =
+    let caller : to_z w32 c.args.caller ≡ pos c.args.caller = to_z_pos w32 c.args.caller (omega (arith, c.requires.fits.0)) in
+    let code : to_z w32 c.args.code ≡ pos c.args.code = to_z_pos w32 c.args.code (omega (arith, c.requires.fits.1.1.0)) in
+    c.append_message.ensures.out ∙ (λ i. c.args.out.now.items ++ sized (row_text (record { address = codes "/osc/tick"; arguments = integer (caller i) ∷ time c.args.moment ∷ integer (code i) ∷ time c.args.clock ∷ [] })))

@@ -1,0 +1,13 @@
+use Rattle.std.proofs.Common.{◌≡◌, ◌-◌, ◌≤◌, length, drop}
+use Rattle.osc_record.specs.Reading.{entries_at, outcome}
+use Rattle.osc_record.proofs.sized_reading.check_entries.Given as goal
+
+-- what comes of the entries that are left comes of all
+abbrev pub invariant-loop-at : goal.invariant-loop-at
+invariant-loop-at l = record {
+  inside : l.at ≤ length l.bytes;
+  same : outcome (entries_at l.limit l.at (drop l.at l.bytes)) ≡ outcome (entries_at l.limit 56 (drop 56 l.bytes));
+}
+
+abbrev pub decreases-loop-at : goal.decreases-loop-at
+decreases-loop-at l = length l.bytes - l.at

@@ -1,0 +1,6 @@
+pub mod Limits
+pub mod Recordings
+pub mod Shown
+pub mod Reading
+pub mod Writing
+pub mod Left

@@ -1,0 +1,86 @@
+// The arguments of a recording's messages, one after another.
+ghost use Rattle.std.specs.Prelude.{◌≡◌, ℤ, ℕ, option_map, Some};
+ghost use Rattle.osc_message.specs.Left.{left};
+ghost use Rattle.osc_record.specs.Reading.{natural_of, int_first, signed_first, long_first, time_first, text_first, content_first, at_end};
+
+use osc_message::{Arg, Args};
+
+/// The next argument where it is a number in four bytes that isn't negative.
+pub(crate) fn next_int(args: &mut Args<'_>) -> Option<u32>
+    ensures { option_map (λ n. (n, left args.new)) result ≡ int_first (left args.old) }
+{
+    match args.next() {
+        Some(Arg::Int(number)) => natural(number),
+        _ => None,
+    }
+}
+
+/// Where it is any number in four bytes.
+pub(crate) fn next_signed(args: &mut Args<'_>) -> Option<i32>
+    ensures { option_map (λ n. (n, left args.new)) result ≡ signed_first (left args.old) }
+{
+    match args.next() {
+        Some(Arg::Int(number)) => Some(number),
+        _ => None,
+    }
+}
+
+/// Where it is a number in eight bytes that isn't negative.
+pub(crate) fn next_long(args: &mut Args<'_>) -> Option<u64>
+    ensures { option_map (λ n. (n, left args.new)) result ≡ long_first (left args.old) }
+{
+    match args.next() {
+        Some(Arg::Long(number)) => long_natural(number),
+        _ => None,
+    }
+}
+
+/// Where it is a moment.
+pub(crate) fn next_time(args: &mut Args<'_>) -> Option<u64>
+    ensures { option_map (λ n. (n, left args.new)) result ≡ time_first (left args.old) }
+{
+    match args.next() {
+        Some(Arg::Time(moment)) => Some(moment),
+        _ => None,
+    }
+}
+
+/// Where it is a string.
+pub(crate) fn next_text<'a>(args: &mut Args<'a>) -> Option<&'a [u8]>
+    ensures { option_map (λ text. (text.now, left args.new)) result ≡ text_first (left args.old) }
+{
+    match args.next() {
+        Some(Arg::Str(text)) => Some(text),
+        _ => None,
+    }
+}
+
+/// Where it is a blob.
+pub(crate) fn next_blob<'a>(args: &mut Args<'a>) -> Option<&'a [u8]>
+    ensures { option_map (λ blob. (blob.now, left args.new)) result ≡ content_first (left args.old) }
+{
+    match args.next() {
+        Some(Arg::Blob(blob)) => Some(blob),
+        _ => None,
+    }
+}
+
+fn natural(number: i32) -> Option<u32>
+    ensures { result ≡ natural_of number }
+{
+    if number < 0 {
+        None
+    } else {
+        Some(number as u32)
+    }
+}
+
+fn long_natural(number: i64) -> Option<u64>
+    ensures { result ≡ natural_of number }
+{
+    if number < 0 {
+        None
+    } else {
+        Some(number as u64)
+    }
+}

@@ -1,0 +1,130 @@
+// The limits of a server's tables and of its recording.
+ghost use Rattle.std.specs.Prelude.{◌≡◌, ◌↔◌, IsOk, IfOk, IfErr, Some, None};
+ghost use Rattle.osc_record.specs.Limits.{Limits, AreInRange, is_within, limit_fault};
+
+use std::marker::Model;
+use thiserror::Error;
+
+/// A limit is outside its range.
+#[derive(Clone, Copy, Debug, PartialEq, Eq, Error)]
+#[error("limit {field} is outside its range")]
+pub struct CapFault {
+    /// The first such limit, counted from 1.
+    pub field: u8,
+}
+
+/// How many queued units, blocks of 64 bytes, methods, nodes and callers there may be, and how many bytes of recording.
+#[derive(Clone, Copy, Debug, PartialEq, Eq)]
+pub struct Caps {
+    units: u32,
+    blocks: u32,
+    methods: u32,
+    nodes: u32,
+    callers: u32,
+    recording: u32,
+}
+
+impl Model for Caps {
+    ghost use Rattle.osc_record.specs.Limits.{Limits, AreInRange};
+
+    ghost Value = { Limits };
+
+    ghost view = { λ c. record { units = c.units; blocks = c.blocks; methods = c.methods; nodes = c.nodes; callers = c.callers; recording = c.recording } };
+
+    ghost invariant = { λ c. AreInRange (record { units = c.units; blocks = c.blocks; methods = c.methods; nodes = c.nodes; callers = c.callers; recording = c.recording }) };
+
+    ghost inverse = { λ l. record { units = l.units; blocks = l.blocks; methods = l.methods; nodes = l.nodes; callers = l.callers; recording = l.recording } };
+}
+
+impl Caps {
+    /// The limits, or the first of them that is outside its range: units, blocks and nodes from 1 to 1,048,576, methods
+    /// from 1 to 65,536, callers from 1 to 1,024, and recording from 56 to 1,073,741,824.
+    pub fn new(
+        units: u32,
+        blocks: u32,
+        methods: u32,
+        nodes: u32,
+        callers: u32,
+        recording: u32,
+    ) -> Result<Caps, CapFault>
+        ensures ok { IfOk result (λ caps. caps ≡ record { units = units; blocks = blocks; methods = methods; nodes = nodes; callers = callers; recording = recording }) }
+        ensures exact { IsOk result ↔ AreInRange (record { units = units; blocks = blocks; methods = methods; nodes = nodes; callers = callers; recording = recording }) }
+        ensures read { IsOk result ↔ (limit_fault (record { units = units; blocks = blocks; methods = methods; nodes = nodes; callers = callers; recording = recording }) ≡ None) }
+        ensures fault { IfErr result (λ fault. limit_fault (record { units = units; blocks = blocks; methods = methods; nodes = nodes; callers = callers; recording = recording }) ≡ Some fault.field) }
+    {
+        if !lies_within(1, 1048576, units) {
+            return Err(CapFault { field: 1 });
+        }
+        if !lies_within(1, 1048576, blocks) {
+            return Err(CapFault { field: 2 });
+        }
+        if !lies_within(1, 65536, methods) {
+            return Err(CapFault { field: 3 });
+        }
+        if !lies_within(1, 1048576, nodes) {
+            return Err(CapFault { field: 4 });
+        }
+        if !lies_within(1, 1024, callers) {
+            return Err(CapFault { field: 5 });
+        }
+        if !lies_within(56, 1073741824, recording) {
+            return Err(CapFault { field: 6 });
+        }
+        Ok(Caps {
+            units,
+            blocks,
+            methods,
+            nodes,
+            callers,
+            recording,
+        })
+    }
+
+    pub fn units(&self) -> u32
+        ensures value { result ≡ self.now.units }
+        ensures range { AreInRange self.now }
+    {
+        self.units
+    }
+
+    pub fn blocks(&self) -> u32
+        ensures value { result ≡ self.now.blocks }
+        ensures range { AreInRange self.now }
+    {
+        self.blocks
+    }
+
+    pub fn methods(&self) -> u32
+        ensures value { result ≡ self.now.methods }
+        ensures range { AreInRange self.now }
+    {
+        self.methods
+    }
+
+    pub fn nodes(&self) -> u32
+        ensures value { result ≡ self.now.nodes }
+        ensures range { AreInRange self.now }
+    {
+        self.nodes
+    }
+
+    pub fn callers(&self) -> u32
+        ensures value { result ≡ self.now.callers }
+        ensures range { AreInRange self.now }
+    {
+        self.callers
+    }
+
+    pub fn recording(&self) -> u32
+        ensures value { result ≡ self.now.recording }
+        ensures range { AreInRange self.now }
+    {
+        self.recording
+    }
+}
+
+fn lies_within(least: u32, most: u32, number: u32) -> bool
+    ensures { result ≡ is_within least most number }
+{
+    least <= number && number <= most
+}

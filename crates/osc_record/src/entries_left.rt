@@ -1,0 +1,67 @@
+// The entries of a recording, one after another.
+ghost use Rattle.std.specs.Prelude.{◌≡◌, ◌≤◌, length, drop, IsTrue, is_ok};
+ghost use Rattle.osc_record.specs.Reading.{entries_at};
+
+use crate::event::Entry;
+use crate::sized_reading::first_entry;
+
+/// The entries of a recording that are left, in order.
+#[derive(Drop)]
+pub struct Entries<'a> {
+    bytes: &'a [u8],
+    limit: u32,
+    at: u32,
+    ghost small: { length bytes.now ≤ 1073741824 },
+    ghost inside: { at ≤ length bytes.now },
+    ghost readable: { IsTrue (is_ok (entries_at limit at (drop at bytes.now))) },
+}
+
+impl<'a> Entries<'a> {
+    ghost use Rattle.std.specs.Prelude.{◌≡◌, ◌≤◌, length, drop, IsTrue, is_ok};
+    ghost use Rattle.osc_record.specs.Reading.{entries_at, placed_in};
+    ghost use Rattle.osc_record.specs.Left.{entries_left};
+
+    /// The entries from the header's end on.
+    pub(crate) fn new(bytes: &'a [u8], limit: u32) -> Entries<'a>
+        requires long { 56 ≤ length bytes.now }
+        requires small { length bytes.now ≤ 1073741824 }
+        requires readable { IsTrue (is_ok (entries_at limit 56 (drop 56 bytes.now))) }
+        ensures { entries_left result ≡ placed_in (entries_at limit 56 (drop 56 bytes.now)) }
+    {
+        Entries {
+            bytes,
+            limit,
+            at: 56,
+        }
+    }
+}
+
+impl<'a> Iterator for Entries<'a> {
+    type Item = Entry<'a>;
+
+    ghost use Rattle.std.specs.Iterator.{YieldsFirstBy, item_count};
+    ghost use Rattle.osc_record.specs.Left.{placed_of, entries_left};
+
+    ghost next_gives = { YieldsFirstBy placed_of entries_left };
+
+    ghost remaining = { item_count entries_left };
+
+    fn next(&mut self) -> Option<Entry<'a>> {
+        if self.at as usize == self.bytes.len() {
+            return None;
+        }
+        let at = self.at;
+        match first_entry(self.limit, at, &self.bytes[at as usize..]) {
+            Some((parts, size)) => {
+                self.at = at + size;
+                Some(Entry {
+                    at,
+                    caller: parts.caller,
+                    event: parts.event,
+                    answer: parts.answer,
+                })
+            }
+            None => unreachable!(),
+        }
+    }
+}

@@ -1,0 +1,57 @@
+// Events, their answers, and entries of the two.
+
+use osc_atoms::Room;
+
+/// What a caller hands in.
+#[derive(Clone, Copy, Debug, PartialEq, Eq)]
+pub enum Event<'a> {
+    Enrol,
+    /// The bytes of a packet.
+    Submit(&'a [u8]),
+    /// An address.
+    Add(&'a [u8]),
+    Remove(&'a [u8]),
+    /// The moment.
+    Tick(u64),
+    Release,
+}
+
+/// What an event is answered; docs/FORMATS.md, "The recording", has the answers of each event.
+#[derive(Clone, Copy, Debug, PartialEq, Eq)]
+pub enum Answer<'a> {
+    /// A new caller's number.
+    Number(u32),
+    CallersFull,
+    /// The number of the packet's first unit, and how many units it has.
+    Queued { first: u64, count: u32 },
+    UnitsFull(Room),
+    PoolFull(Room),
+    /// The method's id.
+    Added(u32),
+    /// The id of the method at the address.
+    Taken(u32),
+    /// The id of the method above the address.
+    UnderMethod(u32),
+    IsContainer,
+    /// How many methods there may be.
+    MethodsFull(u32),
+    NodesFull(Room),
+    /// The method's id.
+    Removed(u32),
+    NotThere,
+    Ticked,
+    /// The clock that is kept.
+    ClockBack(u64),
+    /// The unit's number, and two words for each invocation: the message's index and the method's id.
+    Released { unit: u64, hits: &'a [u8] },
+}
+
+/// An entry of a recording.
+#[derive(Clone, Copy, Debug, PartialEq, Eq)]
+pub struct Entry<'a> {
+    /// Its place in the recording.
+    pub at: u32,
+    pub caller: u32,
+    pub event: Event<'a>,
+    pub answer: Answer<'a>,
+}

@@ -1,0 +1,25 @@
+//! The recording of a server: the events that callers hand in, each with its answer, as a stream of sized messages.
+#![tactic(auto)]
+
+mod answers;
+mod arguments;
+mod caps;
+mod entries;
+mod entries_left;
+mod entry_reading;
+mod event;
+pub mod laws;
+mod message;
+mod parts;
+mod reader;
+mod recorder;
+mod rows;
+mod sized_reading;
+#[cfg(test)]
+mod tests;
+
+pub use caps::{CapFault, Caps};
+pub use entries_left::Entries;
+pub use event::{Answer, Entry, Event};
+pub use reader::{Malformed, Reader};
+pub use recorder::Recorder;

@@ -1,0 +1,75 @@
+// Recordings, read from borrowed bytes.
+ghost use Rattle.std.specs.Prelude.{◌≡◌, ◌≤◌, length, Some, None};
+
+use crate::caps::Caps;
+use crate::entries_left::Entries;
+use crate::sized_reading::{check_entries, read_header};
+use std::marker::Model;
+use thiserror::Error;
+
+/// The bytes aren't a recording.
+#[derive(Clone, Copy, Debug, PartialEq, Eq, Error)]
+#[error("the recording is malformed at byte {at}")]
+pub struct Malformed {
+    /// The place of the header or of the first entry that doesn't read.
+    pub at: u32,
+}
+
+/// A recording, borrowed from its bytes; docs/FORMATS.md, "The recording", has the format. A contract sees the limits,
+/// and the entries, each at its place.
+#[derive(Drop)]
+pub struct Reader<'a> {
+    caps: Caps,
+    bytes: &'a [u8],
+}
+
+impl<'a> Model for Reader<'a> {
+    ghost use Rattle.osc_record.specs.Reading.{ReadRecord, read_of, AreRead};
+
+    ghost Value = { ReadRecord };
+
+    ghost view = { λ r. read_of r.caps r.bytes.now };
+
+    ghost invariant = { λ r. AreRead r.caps r.bytes.now };
+}
+
+impl<'a> Reader<'a> {
+    ghost use Rattle.std.specs.Prelude.{◌≡◌, ◌≤◌, ℕ, List, length, IfOk, IfErr, IsOkAnd, Ok, Err};
+    ghost use Rattle.osc_record.specs.Limits.{Limits};
+    ghost use Rattle.osc_record.specs.Recordings.{Recorded, record_text};
+    ghost use Rattle.osc_record.specs.Reading.{record_read, placed_from, unplaced, IsRecord, IsMalformedAt};
+    ghost use Rattle.osc_record.specs.Left.{entries_left};
+
+    /// Accepts exactly a recording, and borrows it. Else tells the first malformed place. Packets and addresses may be
+    /// any bytes that their arguments can hold. Takes no memory.
+    pub fn check(bytes: &'a [u8]) -> Result<Reader<'a>, Malformed>
+        requires { length bytes.now ≤ 1073741824 }
+        ensures ok { IfOk result (λ reader. record_read bytes.now ≡ Ok (reader.caps, reader.entries)) }
+        ensures first { IfErr result (λ malformed. IsMalformedAt bytes.now malformed.at) }
+        ensures err { IfErr result (λ malformed. record_read bytes.now ≡ Err malformed.at) }
+        ensures written { IfOk result (λ reader. IsRecord reader.caps (unplaced reader.entries) × (bytes.now ≡ record_text reader.caps (unplaced reader.entries))) }
+        ensures complete { (limits : Limits) (entries : List Recorded) → IsRecord limits entries → bytes.now ≡ record_text limits entries → IsOkAnd result (λ reader. (reader.caps ≡ limits) × (reader.entries ≡ placed_from 56 entries)) }
+    {
+        let Some(caps) = read_header(bytes) else {
+            return Err(Malformed { at: 0 });
+        };
+        match check_entries(bytes, caps.recording()) {
+            Ok(()) => Ok(Reader { caps, bytes }),
+            Err(at) => Err(Malformed { at }),
+        }
+    }
+
+    /// The limits.
+    pub fn caps(&self) -> Caps
+        ensures { result ≡ self.now.caps }
+    {
+        self.caps
+    }
+
+    /// The entries, in order.
+    pub fn entries(&self) -> Entries<'a>
+        ensures { entries_left result ≡ self.now.entries }
+    {
+        Entries::new(self.bytes, self.caps.recording())
+    }
+}

@@ -1,0 +1,144 @@
+// The header and the messages of entries, appended to bytes that have room for them.
+ghost use Rattle.std.specs.Prelude.{◌≡◌, ◌+◌, ◌≤◌, ◌++◌, ℤ, length};
+ghost use Rattle.std.specs.Vec.{vec_len, vec_capacity};
+ghost use Rattle.osc_message.specs.Messages.{AllFit};
+ghost use Rattle.osc_record.specs.Recordings.{sized, row_text, enrol_row, submit_row, add_row, remove_row, tick_row, header_text};
+
+use crate::caps::Caps;
+use crate::message::append_message;
+use osc_message::Arg;
+
+/// Appends the header.
+pub(crate) fn append_header(out: &mut Vec<u8>, caps: Caps)
+    requires room { vec_len out.old + length (header_text caps) ≤ vec_capacity out.old }
+    ensures out { out.new.items ≡ out.old.items ++ header_text caps }
+    ensures capacity { vec_capacity out.old ≤ vec_capacity out.new }
+{
+    append_message(
+        out,
+        b"/osc/rec",
+        b",iiiiiii",
+        &[
+            Arg::Int(1),
+            Arg::Int(caps.units() as i32),
+            Arg::Int(caps.blocks() as i32),
+            Arg::Int(caps.methods() as i32),
+            Arg::Int(caps.nodes() as i32),
+            Arg::Int(caps.callers() as i32),
+            Arg::Int(caps.recording() as i32),
+        ],
+    );
+}
+
+pub(crate) fn append_enrol(out: &mut Vec<u8>, caller: u32, answer: i32)
+    requires fits { AllFit (enrol_row caller answer).arguments }
+    requires room { vec_len out.old + length (sized (row_text (enrol_row caller answer))) ≤ vec_capacity out.old }
+    ensures out { out.new.items ≡ out.old.items ++ sized (row_text (enrol_row caller answer)) }
+    ensures capacity { vec_capacity out.old ≤ vec_capacity out.new }
+{
+    append_message(
+        out,
+        b"/osc/enrol",
+        b",ii",
+        &[Arg::Int(caller as i32), Arg::Int(answer)],
+    );
+}
+
+/// Appends a submit with the code and the two numbers of its answer.
+pub(crate) fn append_submit(
+    out: &mut Vec<u8>,
+    caller: u32,
+    packet: &[u8],
+    code: u32,
+    first: u64,
+    second: u32,
+)
+    requires fits { AllFit (submit_row caller packet.now (code, first, second)).arguments }
+    requires small { length (row_text (submit_row caller packet.now (code, first, second))) ≤ 1073741824 }
+    requires room { vec_len out.old + length (sized (row_text (submit_row caller packet.now (code, first, second)))) ≤ vec_capacity out.old }
+    ensures out { out.new.items ≡ out.old.items ++ sized (row_text (submit_row caller packet.now (code, first, second))) }
+    ensures capacity { vec_capacity out.old ≤ vec_capacity out.new }
+{
+    append_message(
+        out,
+        b"/osc/submit",
+        b",ibihi",
+        &[
+            Arg::Int(caller as i32),
+            Arg::Blob(packet),
+            Arg::Int(code as i32),
+            Arg::Long(first as i64),
+            Arg::Int(second as i32),
+        ],
+    );
+}
+
+/// Appends an add with the code and the two numbers of its answer.
+pub(crate) fn append_add(
+    out: &mut Vec<u8>,
+    caller: u32,
+    address: &[u8],
+    code: u32,
+    first: u32,
+    second: u32,
+)
+    requires fits { AllFit (add_row caller address.now (code, first, second)).arguments }
+    requires small { length (row_text (add_row caller address.now (code, first, second))) ≤ 1073741824 }
+    requires room { vec_len out.old + length (sized (row_text (add_row caller address.now (code, first, second)))) ≤ vec_capacity out.old }
+    ensures out { out.new.items ≡ out.old.items ++ sized (row_text (add_row caller address.now (code, first, second))) }
+    ensures capacity { vec_capacity out.old ≤ vec_capacity out.new }
+{
+    append_message(
+        out,
+        b"/osc/add",
+        b",isiii",
+        &[
+            Arg::Int(caller as i32),
+            Arg::Str(address),
+            Arg::Int(code as i32),
+            Arg::Int(first as i32),
+            Arg::Int(second as i32),
+        ],
+    );
+}
+
+/// Appends a remove with the code and the id of its answer.
+pub(crate) fn append_remove(out: &mut Vec<u8>, caller: u32, address: &[u8], code: u32, id: u32)
+    requires fits { AllFit (remove_row caller address.now (code, id)).arguments }
+    requires small { length (row_text (remove_row caller address.now (code, id))) ≤ 1073741824 }
+    requires room { vec_len out.old + length (sized (row_text (remove_row caller address.now (code, id)))) ≤ vec_capacity out.old }
+    ensures out { out.new.items ≡ out.old.items ++ sized (row_text (remove_row caller address.now (code, id))) }
+    ensures capacity { vec_capacity out.old ≤ vec_capacity out.new }
+{
+    append_message(
+        out,
+        b"/osc/remove",
+        b",isii",
+        &[
+            Arg::Int(caller as i32),
+            Arg::Str(address),
+            Arg::Int(code as i32),
+            Arg::Int(id as i32),
+        ],
+    );
+}
+
+/// Appends a tick with the code of its answer and the clock after it.
+pub(crate) fn append_tick(out: &mut Vec<u8>, caller: u32, moment: u64, code: u32, clock: u64)
+    requires fits { AllFit (tick_row caller moment (code, clock)).arguments }
+    requires room { vec_len out.old + length (sized (row_text (tick_row caller moment (code, clock)))) ≤ vec_capacity out.old }
+    ensures out { out.new.items ≡ out.old.items ++ sized (row_text (tick_row caller moment (code, clock))) }
+    ensures capacity { vec_capacity out.old ≤ vec_capacity out.new }
+{
+    append_message(
+        out,
+        b"/osc/tick",
+        b",itit",
+        &[
+            Arg::Int(caller as i32),
+            Arg::Time(moment),
+            Arg::Int(code as i32),
+            Arg::Time(clock),
+        ],
+    );
+}

@@ -1,0 +1,140 @@
+// Limits, the bytes of the format, and what is malformed.
+use crate::*;
+use std::alloc::AllocError;
+
+/// The header of 4,096 units, 16,384 blocks, 1,024 methods, 4,096 nodes, 1 caller and 67,108,864 bytes.
+const HEADER: [u8; 56] =
+    *b"\0\0\0\x34/osc/rec\0\0\0\0,iiiiiii\0\0\0\0\0\0\0\x01\0\0\x10\0\0\0\x40\0\0\0\x04\0\0\0\x10\0\0\0\0\x01\x04\0\0\0";
+
+/// The entry of a tick by caller 0 at 5.
+const TICK: [u8; 48] =
+    *b"\0\0\0\x2c/osc/tick\0\0\0,itit\0\0\0\0\0\0\0\0\0\0\0\0\0\0\x05\0\0\0\0\0\0\0\0\0\0\0\x05";
+
+#[test]
+fn the_first_limit_outside_its_range_is_named(rt: HostRuntime) {
+    let rows: [([u32; 6], Option<u8>); 8] = [
+        ([0, 1, 1, 1, 1, 56], Some(1)),
+        ([1, 1048577, 0, 1, 1, 56], Some(2)),
+        ([1, 1, 65537, 1, 1, 56], Some(3)),
+        ([1, 1, 1, 0, 1, 56], Some(4)),
+        ([1, 1, 1, 1, 1025, 56], Some(5)),
+        ([1, 1, 1, 1, 1, 55], Some(6)),
+        ([1, 1, 1, 1, 1, 56], None),
+        ([1048576, 1048576, 65536, 1048576, 1024, 1073741824], None),
+    ];
+    for ([units, blocks, methods, nodes, callers, recording], want) in rows {
+        let caps = Caps::new(units, blocks, methods, nodes, callers, recording);
+        assert_eq!(rt; caps.err().map(|fault| fault.field), want);
+    }
+}
+
+#[test]
+fn a_header_and_a_tick_are_written_and_read(rt: HostRuntime) -> Result<(), AllocError> {
+    let Ok(caps) = Caps::new(4096, 16384, 1024, 4096, 1, 67108864) else {
+        panic!(rt; "refused");
+    };
+    let mut recorder = Recorder::open(rt.alloc(), caps)?;
+    assert_eq!(rt; recorder.bytes(), HEADER.as_slice());
+    assert_eq!(rt; recorder.free(), 67108864 - 56);
+    assert!(rt; recorder.fits(48));
+    recorder.put(0, Event::Tick(5), Answer::Ticked);
+    let bytes = recorder.close();
+    assert!(rt; bytes.len() == 104);
+    assert_eq!(rt; &bytes[56..], TICK.as_slice());
+    let Ok(reader) = Reader::check(&bytes) else {
+        panic!(rt; "refused");
+    };
+    assert_eq!(rt; reader.caps(), caps);
+    let want = Entry {
+        at: 56,
+        caller: 0,
+        event: Event::Tick(5),
+        answer: Answer::Ticked,
+    };
+    let mut entries = reader.entries();
+    assert_eq!(rt; entries.next(), Some(want));
+    assert_eq!(rt; entries.next(), None);
+    Ok(())
+}
+
+#[test]
+fn a_release_has_its_hits_in_order(rt: HostRuntime) -> Result<(), AllocError> {
+    let Ok(caps) = Caps::new(1, 1, 1, 1, 1, 200) else {
+        panic!(rt; "refused");
+    };
+    let mut recorder = Recorder::open(rt.alloc(), caps)?;
+    recorder.start_release(3, 7, 2);
+    recorder.put_hit(0, 5);
+    recorder.put_hit(1, 4);
+    let bytes = recorder.close();
+    assert!(rt; bytes.len() == 116);
+    assert_eq!(rt;
+        &bytes[56..],
+        b"\0\0\0\x38/osc/release\0\0\0\0,ihb\0\0\0\0\0\0\0\x03\0\0\0\0\0\0\0\x07\0\0\0\x10\0\0\0\0\0\0\0\x05\0\0\0\x01\0\0\0\x04".as_slice()
+    );
+    Ok(())
+}
+
+#[test]
+fn the_first_malformed_place_is_told(rt: HostRuntime) -> Result<(), AllocError> {
+    let rows: [(&[u8], Option<u32>); 16] = [
+        (b"", None),
+        (&TICK, None),
+        (b"\0", Some(56)),
+        (b"\0\0\0\0", Some(56)),
+        (b"\0\0\0\x06abcdef", Some(56)),
+        (b"\0\0\0\x08abcd", Some(56)),
+        (&HEADER, Some(56)),
+        (
+            b"\0\0\0\x18/osc/enrol\0\0,ii\0\0\0\0\x01\xff\xff\xff\xff",
+            None,
+        ),
+        (
+            b"\0\0\0\x18/osc/enrol\0\0,ii\0\0\0\0\x01\xff\xff\xff\xfe",
+            Some(56),
+        ),
+        (
+            b"\0\0\0\x18/osc/enrol\0\0,ii\0\xff\xff\xff\xff\0\0\0\x01",
+            Some(56),
+        ),
+        (
+            b"\0\0\0\x18/osc/enrol\0\x01,ii\0\0\0\0\x01\0\0\0\x01",
+            Some(56),
+        ),
+        (
+            b"\0\0\0\x1c/osc/enrol\0\0,iii\0\0\0\0\0\0\0\x01\0\0\0\x01\0\0\0\x01",
+            Some(56),
+        ),
+        (
+            b"\0\0\0\x24/osc/remove\0,isii\0\0\0\0\0\0\0/a\0\0\0\0\0\x02\0\0\0\0",
+            Some(56),
+        ),
+        (
+            b"\0\0\0\x24/osc/remove\0,isii\0\0\0\0\0\0\0/a\0\0\0\0\0\x01\0\0\0\x01",
+            Some(56),
+        ),
+        (
+            b"\0\0\0\x2c/osc/tick\0\0\0,itit\0\0\0\0\0\0\0\0\0\0\0\0\0\0\x05\0\0\0\0\0\0\0\0\0\0\0\x06",
+            Some(56),
+        ),
+        (
+            b"\0\0\0\x2c/osc/release\0\0\0\0,ihb\0\0\0\0\0\0\0\0\0\0\0\0\0\0\0\0\0\0\0\x04\0\0\0\0",
+            Some(56),
+        ),
+    ];
+    for (entry, want) in rows {
+        let mut bytes = Vec::from_slice(rt.alloc(), &HEADER)?;
+        bytes.extend_from_slice(entry)?;
+        assert!(rt; bytes.len() <= 200);
+        assert_eq!(rt;
+            Reader::check(&bytes).err().map(|malformed| malformed.at),
+            want,
+            "{entry:?}"
+        );
+    }
+    assert_eq!(rt;
+        Reader::check(&TICK).err().map(|malformed| malformed.at),
+        Some(0)
+    );
+    Ok(())
+}
