@@ -45,7 +45,8 @@ impl Stands for Core {
 
 impl Core {
     /// A server with these limits: of queued units, of blocks of 64 bytes for their messages, of methods, of nodes of the
-    /// methods' addresses, and of callers. Its clock stands at 1. The `Err` means that there is no memory for its tables.
+    /// methods' addresses, and of callers. Its clock stands at 1. `boxes` is the empty list in which boxes will be kept. The
+    /// `Err` means that there is no memory for its tables.
     pub fn open(
         alloc: Global,
         units: u32,
@@ -53,15 +54,18 @@ impl Core {
         methods: u32,
         nodes: u32,
         callers: u32,
+        mut boxes: Vec<(u32, Box<dyn Method + Send>)>,
     ) -> Result<Core, AllocError>
-        requires { AreInRange (record { units = units; blocks = blocks; methods = methods; nodes = nodes; callers = callers }) }
+        requires ranges { AreInRange (record { units = units; blocks = blocks; methods = methods; nodes = nodes; callers = callers }) }
+        requires boxes { boxes.items ≡ [] }
         ensures state { IfOk result (λ core. core.state ≡ opening (record { units = units; blocks = blocks; methods = methods; nodes = nodes; callers = callers })) }
         ensures boxes { IfOk result (λ core. ⟦<Core as Stands>⟧.boxes core ≡ []) }
         ensures entries { IfOk result (λ core. core.entries ≡ 0) }
     {
+        boxes.reserve(methods as usize)?;
         Ok(Core {
             state: Server::open(alloc, units, blocks, methods, nodes, callers)?,
-            boxes: Vec::with_capacity(alloc, methods as usize)?,
+            boxes,
             entries: 0,
         })
     }
@@ -190,8 +194,9 @@ impl Core {
         self.entries
     }
 
-    /// Ends the server, and hands its boxes out with what they heard.
+    /// Ends the server, and hands its boxes out with what they heard. Every server has a caller.
     pub fn close(self) -> Closed
+        requires { 0 < self.state.callers }
         ensures kept { map (λ one. record { id = one.0; keep = keep one.1; heard = heard one.1 }) result.kept.items ≡ ⟦<Core as Stands>⟧.boxes self }
         ensures ids { map (λ one. one.0) result.kept.items ≡ map (λ method. method.id) self.state.methods }
     {
