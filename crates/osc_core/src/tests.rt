@@ -49,7 +49,15 @@ impl Player {
         requires { AreInRange (record { units = units; blocks = blocks; methods = methods; nodes = nodes; callers = callers }) }
     {
         Ok(Player {
-            core: Core::open(alloc, units, blocks, methods, nodes, callers)?,
+            core: Core::open(
+                alloc,
+                units,
+                blocks,
+                methods,
+                nodes,
+                callers,
+                Vec::new(alloc),
+            )?,
             calls: 0,
         })
     }
@@ -149,95 +157,75 @@ fn pool_full(need: u64, free: u64) -> Answer
     Answer::Submitted(Submitted::PoolFull(Room::new(need, free)))
 }
 
-#[test]
-fn units_blocks_and_callers_have_their_limits(rt: HostRuntime) -> Result<(), Fail> {
-    let units_full = Answer::Submitted(Submitted::UnitsFull(Room::new(1, 0)));
-    let rows: [(u32, u32, u32, Event, Answer, Event, Answer, Event, Answer); 7] = [
-        (
-            1,
-            9,
-            1,
-            Event::Submit(b"/a\0\0"),
-            queued(0),
-            Event::Submit(b"/a\0\0"),
-            units_full,
-            Event::Release,
-            Answer::Released(0),
-        ),
-        (
-            9,
-            1,
-            1,
-            Event::Submit(ONE),
-            queued(0),
-            Event::Submit(ONE),
-            pool_full(1, 0),
-            Event::Release,
-            Answer::Released(0),
-        ),
-        (
-            9,
-            1,
-            1,
-            Event::Submit(ONE),
-            queued(0),
-            Event::Release,
-            Answer::Released(0),
-            Event::Submit(ONE),
-            queued(1),
-        ),
-        (
-            9,
-            1,
-            1,
-            Event::Submit(OVER),
-            pool_full(2, 1),
-            Event::Submit(FULL),
-            queued(0),
-            Event::Release,
-            Answer::Released(0),
-        ),
-        (
-            9,
-            1,
-            1,
-            Event::Submit(TWO),
-            pool_full(2, 1),
-            Event::Submit(ONE),
-            queued(0),
-            Event::Release,
-            Answer::Released(0),
-        ),
-        (
-            9,
-            9,
-            1,
-            Event::Enrol,
-            Answer::Enrolled(Enrolled::CallersFull),
-            Event::Release,
-            Answer::NothingDue(None),
-            Event::Submit(ONE),
-            queued(0),
-        ),
-        (
-            9,
-            9,
-            2,
-            Event::Enrol,
-            Answer::Enrolled(Enrolled::Number(1)),
-            Event::Enrol,
-            Answer::Enrolled(Enrolled::CallersFull),
-            Event::Release,
-            Answer::NothingDue(None),
-        ),
-    ];
-    for (units, blocks, callers, first, one, second, two, third, three) in rows {
-        let mut player = Player::open(rt.alloc(), units, blocks, 1, 9, callers)?;
-        assert_eq!(rt; player.play(first)?, one);
-        assert_eq!(rt; player.play(second)?, two);
-        assert_eq!(rt; player.play(third)?, three);
+/// Plays calls on a new server, each with the answer that it has to get.
+fn plays(
+    alloc: Global,
+    units: u32,
+    blocks: u32,
+    callers: u32,
+    calls: &[(Event, Answer)],
+) -> Result<(), Fail>
+    requires { AreInRange (record { units = units; blocks = blocks; methods = 1; nodes = 9; callers = callers }) }
+{
+    let mut player = Player::open(alloc, units, blocks, 1, 9, callers)?;
+    for (event, answer) in calls {
+        if player.play(*event)? != *answer {
+            return Err(Fail::new("another answer"));
+        }
     }
     Ok(())
+}
+
+#[test]
+fn a_full_queue_refuses_a_unit(rt: HostRuntime) -> Result<(), Fail> {
+    let units_full = Answer::Submitted(Submitted::UnitsFull(Room::new(1, 0)));
+    let calls = [
+        (Event::Submit(b"/a\0\0"), queued(0)),
+        (Event::Submit(b"/a\0\0"), units_full),
+        (Event::Release, Answer::Released(0)),
+    ];
+    plays(rt.alloc(), 1, 9, 1, &calls)
+}
+
+#[test]
+fn a_full_store_refuses_a_unit_until_one_leaves(rt: HostRuntime) -> Result<(), Fail> {
+    let calls = [
+        (Event::Submit(ONE), queued(0)),
+        (Event::Submit(ONE), pool_full(1, 0)),
+        (Event::Release, Answer::Released(0)),
+        (Event::Submit(ONE), queued(1)),
+    ];
+    plays(rt.alloc(), 9, 1, 1, &calls)
+}
+
+#[test]
+fn a_block_has_64_bytes(rt: HostRuntime) -> Result<(), Fail> {
+    let calls = [
+        (Event::Submit(OVER), pool_full(2, 1)),
+        (Event::Submit(FULL), queued(0)),
+    ];
+    plays(rt.alloc(), 9, 1, 1, &calls)
+}
+
+#[test]
+fn a_refused_packet_keeps_no_block_and_no_number(rt: HostRuntime) -> Result<(), Fail> {
+    let calls = [
+        (Event::Submit(TWO), pool_full(2, 1)),
+        (Event::Submit(ONE), queued(0)),
+    ];
+    plays(rt.alloc(), 9, 1, 1, &calls)
+}
+
+#[test]
+fn callers_have_a_limit(rt: HostRuntime) -> Result<(), Fail> {
+    let full = [(Event::Enrol, Answer::Enrolled(Enrolled::CallersFull))];
+    plays(rt.alloc(), 9, 9, 1, &full)?;
+    let calls = [
+        (Event::Enrol, Answer::Enrolled(Enrolled::Number(1))),
+        (Event::Enrol, Answer::Enrolled(Enrolled::CallersFull)),
+        (Event::Release, Answer::NothingDue(None)),
+    ];
+    plays(rt.alloc(), 9, 9, 2, &calls)
 }
 
 #[test]
