@@ -2,6 +2,7 @@
 #![tactic(auto)]
 
 use osc_edge::{StdSink, StdSource};
+use osc_method::{Method, Trace};
 use osc_top::plain_top;
 use std::alloc::AllocError;
 use std::process::ExitCode;
@@ -9,14 +10,28 @@ use std::{env, io};
 
 const NO_MEMORY: u8 = 3;
 
+/// How many methods a script can add.
+const BOXES: usize = 8192;
+
+/// How many bytes each box tells.
+const KEPT: u32 = 64;
+
 fn main(rt: HostRuntime) -> ExitCode {
-    let Ok(words) = words(&rt) else {
-        return ExitCode::from(NO_MEMORY);
-    };
-    let mut input = StdSource::open(&rt);
-    let mut out = StdSink::open(&rt);
-    let ended = plain_top(rt.alloc(), &words, &mut input, &mut out);
-    ExitCode::from(ended.status)
+    match run(&rt) {
+        Ok(status) => ExitCode::from(status),
+        Err(_) => ExitCode::from(NO_MEMORY),
+    }
+}
+
+fn run(rt: &HostRuntime) -> Result<u8, AllocError> {
+    let words = words(rt)?;
+    let mut bank: Vec<Box<dyn Method + Send>> = Vec::with_capacity(rt.alloc(), BOXES)?;
+    for _ in 0..BOXES {
+        bank.push(Box::new(rt.alloc(), Trace::open(rt.alloc(), KEPT)?)?)?;
+    }
+    let mut input = StdSource::open(rt);
+    let mut out = StdSink::open(rt);
+    Ok(plain_top(rt.alloc(), &words, &mut input, &mut out, bank).status)
 }
 
 /// The words of the command line, without the program's name; none where one of them isn't UTF-8, which is no

@@ -45,8 +45,7 @@ impl Stands for Core {
 
 impl Core {
     /// A server with these limits: of queued units, of blocks of 64 bytes for their messages, of methods, of nodes of the
-    /// methods' addresses, and of callers. Its clock stands at 1. `boxes` is the empty list in which boxes will be kept. The
-    /// `Err` means that there is no memory for its tables.
+    /// methods' addresses, and of callers. Its clock stands at 1. The `Err` means that there is no memory for its tables.
     pub fn open(
         alloc: Global,
         units: u32,
@@ -54,10 +53,32 @@ impl Core {
         methods: u32,
         nodes: u32,
         callers: u32,
-        mut boxes: Vec<(u32, Box<dyn Method + Send>)>,
     ) -> Result<Core, AllocError>
-        requires ranges { AreInRange (record { units = units; blocks = blocks; methods = methods; nodes = nodes; callers = callers }) }
-        requires boxes { boxes.items ≡ [] }
+        requires { AreInRange (record { units = units; blocks = blocks; methods = methods; nodes = nodes; callers = callers }) }
+        ensures state { IfOk result (λ core. core.state ≡ opening (record { units = units; blocks = blocks; methods = methods; nodes = nodes; callers = callers })) }
+        ensures boxes { IfOk result (λ core. ⟦<Core as Stands>⟧.boxes core ≡ []) }
+        ensures entries { IfOk result (λ core. core.entries ≡ 0) }
+    {
+        Ok(Core {
+            state: Server::open(alloc, units, blocks, methods, nodes, callers)?,
+            boxes: Vec::with_capacity(alloc, methods as usize)?,
+            entries: 0,
+        })
+    }
+
+    /// As `open`, over an empty list in which the boxes will be kept. A function that hands boxes out opens the server so:
+    /// then no box can be made out of its caller's sight (docs/DECISIONS.md).
+    pub fn open_in(
+        mut boxes: Vec<(u32, Box<dyn Method + Send>)>,
+        alloc: Global,
+        units: u32,
+        blocks: u32,
+        methods: u32,
+        nodes: u32,
+        callers: u32,
+    ) -> Result<Core, AllocError>
+        requires empty { boxes.items ≡ [] }
+        requires caps { AreInRange (record { units = units; blocks = blocks; methods = methods; nodes = nodes; callers = callers }) }
         ensures state { IfOk result (λ core. core.state ≡ opening (record { units = units; blocks = blocks; methods = methods; nodes = nodes; callers = callers })) }
         ensures boxes { IfOk result (λ core. ⟦<Core as Stands>⟧.boxes core ≡ []) }
         ensures entries { IfOk result (λ core. core.entries ≡ 0) }

@@ -1,5 +1,12 @@
-pub mod Places
-pub mod Transfers
+pub mod Rising
+pub mod Hearing
+pub mod Tallies
 pub mod Histories
-pub mod Lines
+pub mod Places
+pub mod Adds
+pub mod Turns
+pub mod Transfers
+pub mod Endings
 pub mod Lawful
+pub mod Runs
+pub mod Tops

@@ -1,7 +1,7 @@
-pub mod Scripts
 pub mod Plain
 pub mod Printing
 pub mod Calls
+pub mod Bank
+pub mod Tally
 pub mod Ends
-pub mod Reads
 pub mod Whole

@@ -1,15 +1,12 @@
 //! All that the program does, over any source and sink.
 #![tactic(auto)]
 
+mod calls;
 mod entries;
 pub mod laws;
-mod line_reading;
 mod player;
-mod script;
+mod playing;
 mod top;
 mod whole;
 
 pub use top::{Ended, plain_top};
-
-#[cfg(test)]
-mod tests;

@@ -1,6 +1,6 @@
 use Rattle.std.proofs.Common.{refl}
 use Rattle.hex.proofs.OnLiterals.{hex_on_literals}
-use Rattle.osc_top.specs.Scripts.{act_of}
+use Rattle.osc_script.specs.Acts.{act_of}
 use Rattle.osc_message.specs.Reading.{message_read}
 use Rattle.osc_packet.specs.Reading.{element_fault}
 use Rattle.osc_pattern.specs.Reading.{read_part}
