@@ -9,4 +9,3 @@ pub mod Same
 pub mod Stocks
 pub mod Storing
 pub mod Submits
-pub mod Young

@@ -1,5 +1,5 @@
 // Rows of calls and their answers, and what boxes tell.
-ghost use Rattle.std.specs.Prelude.{◌≡◌, ◌*◌, ◌<◌, ◌≤◌, OnOk};
+ghost use Rattle.std.specs.Prelude.{◌≡◌, ◌*◌, ◌<◌, ◌≤◌, ◌^◌, length, OnOk};
 ghost use Rattle.osc_model.specs.State.{AreInRange};
 
 use crate::*;
@@ -49,15 +49,7 @@ impl Player {
         requires { AreInRange (record { units = units; blocks = blocks; methods = methods; nodes = nodes; callers = callers }) }
     {
         Ok(Player {
-            core: Core::open(
-                alloc,
-                units,
-                blocks,
-                methods,
-                nodes,
-                callers,
-                Vec::new(alloc),
-            )?,
+            core: Core::open(alloc, units, blocks, methods, nodes, callers)?,
             calls: 0,
         })
     }
@@ -121,6 +113,11 @@ impl Player {
         let ticking = self.core.tick(0, now);
         self.calls += 1;
         Ok(ticking)
+    }
+
+    fn close(self) -> Vec<(u32, Box<dyn Method + Send>)> {
+        let Player { core, .. } = self;
+        core.close().kept
     }
 
     fn play(&mut self, event: Event) -> Result<Answer, Fail> {
@@ -276,31 +273,68 @@ fn release_all(player: &mut Player) -> Result<(), Fail> {
     Ok(())
 }
 
-#[test]
-fn a_box_tells_the_calls_of_its_address(rt: HostRuntime) -> Result<(), Fail> {
-    let packet =
-        b"#bundle\0\0\0\0\0\0\0\0\x02\0\0\0\x04/a\0\0\0\0\0\x18#bundle\0\0\0\0\0\0\0\0\x02\0\0\0\x04/b\0\0\0\0\0\x04/c\0\0";
-    let told = *b"\0\0\0\0\0\0\0\0\0\0\0\x01\0\0\0\x04/c\0\0";
-    for (keep, from) in [(64, 0u32), (16, 4)] {
-        let mut player = Player::open(rt.alloc(), 9, 9, 9, 9, 1)?;
-        player.add(
-            rt.alloc(),
-            b"/c",
-            Box::new(rt.alloc(), Trace::open(rt.alloc(), keep)?)?,
-        )?;
-        player.add(rt.alloc(), b"/a", Box::new(rt.alloc(), Mute)?)?;
-        player.add(rt.alloc(), b"/b", Box::new(rt.alloc(), Mute)?)?;
-        player.submit(packet)?;
-        player.tick(2)?;
-        release_all(&mut player)?;
-        let Removing::Removed { method, .. } = player.remove(rt.alloc(), b"/c")? else {
-            return Err(Fail::new("a method at /c"));
-        };
-        assert_eq!(rt; method.told(), Some(20 - from));
-        for k in 0..20 - from {
-            assert_eq!(rt; method.byte(k), told[(from + k) as usize]);
+fn add_mute(player: &mut Player, alloc: Global, address: &[u8]) -> Result<(), Fail> {
+    player.add(alloc, address, Box::new(alloc, Mute)?)?;
+    Ok(())
+}
+
+fn add_trace(player: &mut Player, alloc: Global, address: &[u8], keep: u32) -> Result<(), Fail>
+    requires some { 0 < keep }
+    requires few { keep ≤ 1048576 }
+{
+    player.add(alloc, address, Box::new(alloc, Trace::open(alloc, keep)?)?)?;
+    Ok(())
+}
+
+/// The method's box tells these bytes.
+fn tells(method: &Box<dyn Method + Send>, bytes: &[u8]) -> bool
+    requires { length bytes.now < 2 ^ 32 }
+{
+    if method.told() != Some(bytes.len() as u32) {
+        return false;
+    }
+    for k in 0..bytes.len() {
+        if method.byte(k as u32) != bytes[k] {
+            return false;
         }
     }
+    true
+}
+
+/// The method at the address is removed, and its box tells these bytes.
+fn told_at(player: &mut Player, alloc: Global, address: &[u8], bytes: &[u8]) -> Result<bool, Fail>
+    requires { length bytes.now < 2 ^ 32 }
+{
+    match player.remove(alloc, address)? {
+        Removing::Removed { method, .. } => Ok(tells(&method, bytes)),
+        Removing::NotThere => Ok(false),
+    }
+}
+
+/// A bundle for the moment 2, whose second message is to `/c`, and a bundle in it.
+const TIMED: &[u8] =
+    b"#bundle\0\0\0\0\0\0\0\0\x02\0\0\0\x04/a\0\0\0\0\0\x18#bundle\0\0\0\0\0\0\0\0\x02\0\0\0\x04/b\0\0\0\0\0\x04/c\0\0";
+
+/// The bundle is released, and a box at `/c` that keeps so many bytes tells these.
+fn hears(alloc: Global, keep: u32, bytes: &[u8]) -> Result<bool, Fail>
+    requires some { 0 < keep }
+    requires few { keep ≤ 1048576 }
+    requires small { length bytes.now < 2 ^ 32 }
+{
+    let mut player = Player::open(alloc, 9, 9, 9, 9, 1)?;
+    add_trace(&mut player, alloc, b"/c", keep)?;
+    add_mute(&mut player, alloc, b"/a")?;
+    player.submit(TIMED)?;
+    player.tick(2)?;
+    release_all(&mut player)?;
+    told_at(&mut player, alloc, b"/c", bytes)
+}
+
+#[test]
+fn a_box_tells_the_last_bytes_of_its_calls(rt: HostRuntime) -> Result<(), Fail> {
+    let told = b"\0\0\0\0\0\0\0\0\0\0\0\x01\0\0\0\x04/c\0\0";
+    assert!(rt; hears(rt.alloc(), 64, told)?);
+    assert!(rt; hears(rt.alloc(), 16, &told[4..])?);
     Ok(())
 }
 
@@ -325,16 +359,15 @@ fn a_refused_add_hands_the_box_back_as_it_was(rt: HostRuntime) -> Result<(), Fai
 #[test]
 fn the_boxes_come_out_ascending_by_id(rt: HostRuntime) -> Result<(), Fail> {
     let mut player = Player::open(rt.alloc(), 9, 9, 9, 9, 1)?;
-    for address in [b"/c", b"/b", b"/a"] {
-        player.add(rt.alloc(), address, Box::new(rt.alloc(), Mute)?)?;
-    }
+    add_mute(&mut player, rt.alloc(), b"/c")?;
+    add_mute(&mut player, rt.alloc(), b"/b")?;
+    add_mute(&mut player, rt.alloc(), b"/a")?;
     player.remove(rt.alloc(), b"/b")?;
-    player.add(rt.alloc(), b"/b", Box::new(rt.alloc(), Mute)?)?;
-    let Player { core, .. } = player;
-    let closed = core.close();
+    add_mute(&mut player, rt.alloc(), b"/b")?;
     let mut ids = [9; 3];
-    for k in 0..closed.kept.len().min(3) {
-        ids[k] = closed.kept[k].0;
+    let kept = player.close();
+    for k in 0..kept.len().min(3) {
+        ids[k] = kept[k].0;
     }
     assert_eq!(rt; ids, [0, 2, 3]);
     Ok(())
