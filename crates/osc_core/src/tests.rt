@@ -1,5 +1,5 @@
 // Rows of calls and their answers, and what boxes tell.
-ghost use Rattle.std.specs.Prelude.{◌≡◌, ◌*◌, ◌<◌, ◌≤◌, ◌^◌, length, OnOk};
+ghost use Rattle.std.specs.Prelude.{◌≡◌, ◌*◌, ◌<◌, ◌≤◌, OnOk};
 ghost use Rattle.osc_model.specs.State.{AreInRange};
 
 use crate::*;
@@ -278,33 +278,20 @@ fn add_mute(player: &mut Player, alloc: Global, address: &[u8]) -> Result<(), Fa
     Ok(())
 }
 
-fn add_trace(player: &mut Player, alloc: Global, address: &[u8], keep: u32) -> Result<(), Fail>
-    requires some { 0 < keep }
-    requires few { keep ≤ 1048576 }
-{
-    player.add(alloc, address, Box::new(alloc, Trace::open(alloc, keep)?)?)?;
-    Ok(())
-}
-
 /// The method's box tells these bytes.
-fn tells(method: &Box<dyn Method + Send>, bytes: &[u8]) -> bool
-    requires { length bytes.now < 2 ^ 32 }
-{
-    if method.told() != Some(bytes.len() as u32) {
-        return false;
-    }
-    for k in 0..bytes.len() {
-        if method.byte(k as u32) != bytes[k] {
+fn tells(method: &Box<dyn Method + Send>, bytes: &[u8]) -> bool {
+    let mut place = 0u32;
+    for byte in bytes {
+        if method.byte(place) != *byte {
             return false;
         }
+        place = place.saturating_add(1);
     }
-    true
+    method.told() == u32::try_from(bytes.len()).ok()
 }
 
 /// The method at the address is removed, and its box tells these bytes.
-fn told_at(player: &mut Player, alloc: Global, address: &[u8], bytes: &[u8]) -> Result<bool, Fail>
-    requires { length bytes.now < 2 ^ 32 }
-{
+fn told_at(player: &mut Player, alloc: Global, address: &[u8], bytes: &[u8]) -> Result<bool, Fail> {
     match player.remove(alloc, address)? {
         Removing::Removed { method, .. } => Ok(tells(&method, bytes)),
         Removing::NotThere => Ok(false),
@@ -315,26 +302,26 @@ fn told_at(player: &mut Player, alloc: Global, address: &[u8], bytes: &[u8]) -> 
 const TIMED: &[u8] =
     b"#bundle\0\0\0\0\0\0\0\0\x02\0\0\0\x04/a\0\0\0\0\0\x18#bundle\0\0\0\0\0\0\0\0\x02\0\0\0\x04/b\0\0\0\0\0\x04/c\0\0";
 
-/// The bundle is released, and a box at `/c` that keeps so many bytes tells these.
-fn hears(alloc: Global, keep: u32, bytes: &[u8]) -> Result<bool, Fail>
-    requires some { 0 < keep }
-    requires few { keep ≤ 1048576 }
-    requires small { length bytes.now < 2 ^ 32 }
-{
-    let mut player = Player::open(alloc, 9, 9, 9, 9, 1)?;
-    add_trace(&mut player, alloc, b"/c", keep)?;
-    add_mute(&mut player, alloc, b"/a")?;
+/// The bundle is released, and the box at `/c` tells these bytes.
+fn hears(player: &mut Player, alloc: Global, bytes: &[u8]) -> Result<bool, Fail> {
+    add_mute(player, alloc, b"/a")?;
     player.submit(TIMED)?;
     player.tick(2)?;
-    release_all(&mut player)?;
-    told_at(&mut player, alloc, b"/c", bytes)
+    release_all(player)?;
+    told_at(player, alloc, b"/c", bytes)
 }
 
 #[test]
 fn a_box_tells_the_last_bytes_of_its_calls(rt: HostRuntime) -> Result<(), Fail> {
     let told = b"\0\0\0\0\0\0\0\0\0\0\0\x01\0\0\0\x04/c\0\0";
-    assert!(rt; hears(rt.alloc(), 64, told)?);
-    assert!(rt; hears(rt.alloc(), 16, &told[4..])?);
+    let mut whole = Player::open(rt.alloc(), 9, 9, 9, 9, 1)?;
+    let trace = Box::new(rt.alloc(), Trace::open(rt.alloc(), 64)?)?;
+    whole.add(rt.alloc(), b"/c", trace)?;
+    assert!(rt; hears(&mut whole, rt.alloc(), told)?);
+    let mut cut = Player::open(rt.alloc(), 9, 9, 9, 9, 1)?;
+    let trace = Box::new(rt.alloc(), Trace::open(rt.alloc(), 16)?)?;
+    cut.add(rt.alloc(), b"/c", trace)?;
+    assert!(rt; hears(&mut cut, rt.alloc(), &told[4..])?);
     Ok(())
 }
 
