@@ -1,9 +1,9 @@
 -- Queued units and their messages.
-use Rattle.std.proofs.Common.{◌≡◌, ◌≢◌, ℕ, zero, suc, ◌+◌, ◌/◌, ◌<◌, Bool, true, false, cond, List, [], ◌∷◌, ◌++◌, length, map, insert, take, drop, slice_get, Option, Some, unwrap_or, refl, sym, ap, subst, max, ◌∙◌, ◌||◌, ◌==◌, not, one-add, arith}
-use Rattle.std.specs.List.{AllByRecursion, Contains, list_any, position_or_len}
+use Rattle.std.proofs.Common.{◌≡◌, ◌≢◌, ℕ, suc, ◌+◌, ◌/◌, ◌<◌, Bool, true, false, cond, List, [], ◌∷◌, ◌++◌, length, map, insert, take, drop, slice_get, Option, Some, unwrap_or, refl, sym, ap, subst, max, ◌∙◌, ◌||◌, ◌==◌, not, one-add, arith}
+use Rattle.std.specs.List.{AllByRecursion, Contains, position_or_len}
 use Rattle.std.proofs.lemmas.Bool.Decides.{nat_tests}
-use Rattle.std.proofs.lemmas.List.{length-map, map-append, take-map, drop-map}
-use Rattle.osc_packet.specs.Units.{Timed, stored_size, blocks}
+use Rattle.std.proofs.lemmas.List.{map-append, take-map, drop-map}
+use Rattle.osc_packet.specs.Units.{Timed, stored_size}
 use Rattle.osc_queue.specs.Timed.{Item, due_of, unit_of, is_before, enter, IsNewUnit}
 use Rattle.osc_model.specs.State.{Queued}
 use Rattle.osc_model.specs.Counts.{queued_blocks}

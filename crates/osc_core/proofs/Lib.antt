@@ -9,3 +9,4 @@ pub mod Same
 pub mod Stocks
 pub mod Storing
 pub mod Submits
+pub mod Young

@@ -1,5 +1,5 @@
 -- A server is what its fields are.
-use Rattle.std.proofs.Common.{◌≡◌, ℕ, ◌≤◌, Bool, List, refl, sym, ap, subst, ◌∙◌}
+use Rattle.std.proofs.Common.{◌≡◌, ℕ, ◌≤◌, Bool, List, sym, ap, subst, ◌∙◌}
 use Rattle.std.proofs.Props.{props}
 use Rattle.osc_model.specs.State.{State}
 use Rattle.osc_core.specs.declared.sequential.Core.{Core, alike-type, ascending-type, reserved-type}

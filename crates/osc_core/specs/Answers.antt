@@ -3,7 +3,7 @@ use Rattle.std.specs.Prelude.{ℕ, List, [], map, Option, Some, None, Result, Ok
 use Rattle.std.specs.declared.alloc.Global.{Global}
 use Rattle.std.specs.declared.dyn_box.DynBox.{DynBox}
 use Rattle.osc_tree.specs.Adding.{Refusal, taken, under_method, is_container, methods_full, nodes_full}
-use Rattle.osc_model.specs.Events.{Answer, Room, number, callers_full, queued, units_full, pool_full, added, refused, removed, not_there, ticked, clock_back, released, nothing_due, Call, Invocation}
+use Rattle.osc_model.specs.Events.{Answer, number, callers_full, queued, units_full, pool_full, added, refused, removed, not_there, ticked, clock_back, released, nothing_due, Call, Invocation}
 use Rattle.osc_model.specs.Step.{hits_of, invocations_of}
 use Rattle.osc_core.specs.declared.answers.Enrolled.{Enrolled}
 use Rattle.osc_core.specs.declared.answers.Enrolled.TheVariants.{Number, CallersFull}

@@ -17,3 +17,6 @@ mod units;
 pub use answers::{AddRefusal, Adding, Closed, Enrolled, Releasing, Removing, Submitted, Ticking};
 pub use invocation::{Invocation, Invocations};
 pub use sequential::{Core, Stands};
+
+#[cfg(test)]
+mod tests;

@@ -1,4 +1,4 @@
-use Rattle.std.proofs.Common.{◌≡◌, arith}
+use Rattle.std.proofs.Common.{arith}
 use Rattle.osc_core.proofs.Joins.{as_many, blocks_pushed, unit_entered, are_entered, new_unit, numbers_entered}
 use Rattle.osc_core.proofs.units.enter.Goals as goal
 

@@ -1,4 +1,4 @@
-use Rattle.std.proofs.Common.{ℕ, List, map, subst}
+use Rattle.std.proofs.Common.{ℕ, map, subst}
 use Rattle.std.specs.List.{Contains}
 use Rattle.osc_queue.specs.Timed.{unit_of}
 use Rattle.osc_core.specs.Kept.{Kept}

@@ -1,10 +1,7 @@
-use Rattle.std.proofs.Common.{◌≡◌, ◌-◌, ◌<◌, ◌≤◌, length, refl, sym, ap, arith}
+use Rattle.std.proofs.Common.{◌≡◌, ◌-◌, length, refl, arith}
 use Rattle.std.proofs.lemmas.List.{length-map}
 use Rattle.osc_packet.specs.Reading.{units_read}
-use Rattle.osc_model.specs.Counts.{blocks_of, queued_blocks}
-use Rattle.osc_model.specs.Step.{submit_units, leaves, after_submit, Stepped}
-use Rattle.osc_model.specs.State.{State}
-use Rattle.osc_model.specs.Events.{queued, pool_full}
+use Rattle.osc_model.specs.Counts.{queued_blocks}
 use Rattle.osc_core.specs.Views.{queue_of, queued_of}
 use Rattle.osc_core.specs.contracts.server.Server.{the_view}
 use Rattle.osc_core.proofs.Joins.{same_blocks}
