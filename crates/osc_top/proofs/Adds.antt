@@ -1,6 +1,6 @@
 -- What became of a server and the boxes, one add or one removal on, and what each event numbers.
-use Rattle.std.proofs.Common.{◌≡◌, inl, inr, ◌⊎◌, ℕ, ◌+◌, ◌<◌, ◌≤◌, Bool, true, false, cond, nat_lt, ◌==◌, ◌^◌, List, [], ◌∷◌, ◌++◌, map, length, Option, Some, None, refl, sym, ap, subst, ◌∙◌, arith}
-use Rattle.std.specs.List.{AllByRecursion, Contains}
+use Rattle.std.proofs.Common.{◌≡◌, inl, inr, ℕ, ◌+◌, ◌≤◌, cond, nat_lt, List, [], ◌∷◌, ◌++◌, map, length, Option, Some, None, refl, sym, ap, subst, ◌∙◌, arith}
+use Rattle.std.specs.List.{Contains}
 use Rattle.std.specs.declared.alloc.Global.{Global}
 use Rattle.std.specs.declared.dyn_box.DynBox.{DynBox}
 use Rattle.std.proofs.lemmas.List.{append-nil, map-append}
@@ -8,20 +8,20 @@ use Rattle.osc_packet.specs.Units.{Timed}
 use Rattle.osc_packet.specs.Reading.{units_read}
 use Rattle.osc_tree.specs.Registry.{id_at}
 use Rattle.osc_tree.specs.Adding.{Refusal, add_refusal}
-use Rattle.osc_model.specs.State.{State, Queued, opening, registry}
+use Rattle.osc_model.specs.State.{State, opening, registry}
 use Rattle.osc_model.specs.Counts.{blocks_of, free_places, free_blocks}
-use Rattle.osc_model.specs.Events.{Event, add, remove, submit, tick, Answer, queued, units_full, pool_full, added, refused, removed, not_there, ticked, clock_back, Invocation}
+use Rattle.osc_model.specs.Events.{add, remove, submit, tick, Answer, queued, units_full, pool_full, added, refused, ticked, clock_back, Invocation}
 use Rattle.osc_model.specs.Step.{Stepped, step, leaves, after_submit, add_at, remove_at}
 use Rattle.osc_model.specs.Heard.{Told, reset}
-use Rattle.osc_model.specs.History.{Entry, after, invocations}
-use Rattle.osc_core.specs.Answers.{adding_of, refusal_of, removing_of, OnAdded, OnRefused, OnRemoved, OnNotThere}
+use Rattle.osc_model.specs.History.{Entry, invocations}
+use Rattle.osc_core.specs.Answers.{adding_of, refusal_of, OnAdded, OnRefused, OnRemoved, OnNotThere}
 use Rattle.osc_core.specs.Boxes.{without_id}
 use Rattle.osc_core.specs.declared.answers.Adding.{Adding}
 use Rattle.osc_core.specs.declared.answers.Adding.TheVariants.{Added, Refused}
 use Rattle.osc_core.specs.declared.answers.Removing.{Removing}
 use Rattle.osc_core.specs.declared.answers.Removing.TheVariants.{Removed, NotThere}
 use Rattle.osc_top.specs.Plain.{default_caps, entry_of}
-use Rattle.osc_top.specs.Bank.{Meaning, box_left, answer_to_add, add_answers}
+use Rattle.osc_top.specs.Bank.{Meaning, answer_to_add, add_answers}
 use Rattle.osc_top.specs.Tally.{Tally, IsAt, Grows, handed_back, handed_out}
 use Rattle.osc_top.proofs.Hearing.{told_at}
 use Rattle.osc_top.proofs.Tallies.{tally_added, tally_refused, tally_removed}

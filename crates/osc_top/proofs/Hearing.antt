@@ -1,13 +1,13 @@
 -- What the boxes of a bank have heard after one more add, and after more calls.
-use Rattle.std.proofs.Common.{◌≡◌, inl, inr, ℕ, zero, suc, ◌+◌, ◌-◌, ◌<◌, ◌≤◌, ◌==◌, Bool, true, false, cond, List, [], ◌∷◌, ◌++◌, map, length, drop, filter, Option, Some, None, refl, sym, ap, subst, ◌∙◌, arith, append_assoc}
+use Rattle.std.proofs.Common.{◌≡◌, ℕ, zero, suc, ◌-◌, ◌<◌, ◌==◌, Bool, true, false, cond, List, [], ◌∷◌, ◌++◌, map, length, drop, filter, refl, sym, ap, subst, ◌∙◌, arith, append_assoc}
 use Rattle.std.specs.Option.{option_map}
-use Rattle.std.specs.List.{AllByRecursion, Contains, flat_map}
+use Rattle.std.specs.List.{AllByRecursion, flat_map}
 use Rattle.std.proofs.lemmas.Bool.Decides.{nat_tests}
 use Rattle.std.proofs.lemmas.List.{append-nil, map-append, drop_all}
 use Rattle.std.proofs.lemmas.List.Sums.{sum_by-cons}
 use Rattle.osc_method.specs.Heard.{last_of, after_call}
 use Rattle.osc_model.specs.Events.{Answer, added, Invocation}
-use Rattle.osc_model.specs.Heard.{Told, bytes_of, calls_bytes, heard_of, reset, hear, hear_all}
+use Rattle.osc_model.specs.Heard.{Told, bytes_of, heard_of, reset, hear, hear_all}
 use Rattle.osc_top.specs.Bank.{Meaning, box_heard, box_left, boxes_heard}
 use Rattle.osc_top.specs.Tally.{IsRising, refused_boxes}
 use Rattle.osc_top.proofs.Rising.{all_weaker, count, times, one_if}

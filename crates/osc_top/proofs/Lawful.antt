@@ -1,13 +1,10 @@
 -- What a script makes is a history that the rules give.
-use Rattle.std.proofs.Common.{◌≡◌, ℕ, zero, suc, ◌+◌, ◌<◌, ◌≤◌, Bool, true, false, cond, nat_lt, ◌==◌, IsTrue, List, [], ◌∷◌, ◌++◌, length, drop, take, filter, map, Option, Some, None, refl, sym, ap, subst, ◌∙◌, arith}
-use Rattle.std.specs.List.{AllByRecursion}
-use Rattle.std.proofs.lemmas.List.{append-nil}
-use Rattle.osc_pattern.specs.Addresses.{is_address}
+use Rattle.std.proofs.Common.{◌≡◌, ℕ, zero, suc, ◌<◌, Bool, true, false, cond, nat_lt, List, [], ◌∷◌, ◌++◌, length, Option, Some, None, refl, sym, subst, ◌∙◌, arith}
 use Rattle.osc_packet.specs.Units.{Timed}
 use Rattle.osc_packet.specs.Reading.{is_packet, units_read}
 use Rattle.osc_tree.specs.Registry.{id_at}
 use Rattle.osc_tree.specs.Adding.{Refusal, add_refusal}
-use Rattle.osc_model.specs.State.{State, Queued, Caps, AreInRange, opening, registry}
+use Rattle.osc_model.specs.State.{State, opening, registry}
 use Rattle.osc_model.specs.Counts.{blocks_of, free_places, free_blocks}
 use Rattle.osc_model.specs.Events.{add, remove, submit, tick, release, Answer, queued, units_full, pool_full, ticked, clock_back, nothing_due, record_full}
 use Rattle.osc_model.specs.Step.{Stepped, step, leaves, after_submit, add_at, remove_at}

@@ -1,24 +1,17 @@
 -- What became of the boxes, one event on.
-use Rattle.std.proofs.Common.{◌≡◌, inl, inr, ◌⊎◌, ℕ, zero, suc, ◌+◌, ◌<◌, ◌≤◌, ◌==◌, Bool, true, false, cond, nat_le, List, [], ◌∷◌, ◌++◌, map, length, drop, Option, Some, None, refl, sym, ap, subst, ◌∙◌, arith, append_assoc}
+use Rattle.std.proofs.Common.{◌≡◌, ℕ, ◌+◌, ◌<◌, ◌≤◌, List, [], ◌∷◌, ◌++◌, map, length, drop, sym, ap, subst, ◌∙◌, arith, append_assoc}
 use Rattle.std.specs.List.{AllByRecursion, Contains}
 use Rattle.std.specs.List.Sorted.{IsPermutation}
-use Rattle.std.specs.declared.alloc.Global.{Global}
-use Rattle.std.specs.declared.dyn_box.DynBox.{DynBox}
 use Rattle.std.proofs.lemmas.List.{append-nil, map-append}
 use Rattle.std.proofs.lemmas.List.Sums.{sum_by-append}
 use Rattle.std.proofs.lemmas.List.Elements.{All-from_recursion, recursion_from_All}
-use Rattle.std.proofs.lemmas.List.Sorted.{IsPermutation-refl, IsPermutation-sym, IsPermutation-trans, IsPermutation-map, IsPermutation-append_left, IsPermutation-to_front, IsPermutation-middle, All-permutation, sum_by-IsPermutation}
-use Rattle.osc_model.specs.State.{State, Queued, opening}
-use Rattle.osc_model.specs.Events.{Event, add, Answer, added, refused, Invocation}
-use Rattle.osc_model.specs.Step.{step}
+use Rattle.std.proofs.lemmas.List.Sorted.{IsPermutation-sym, IsPermutation-trans, IsPermutation-map, IsPermutation-append_left, IsPermutation-to_front, IsPermutation-middle, All-permutation, sum_by-IsPermutation}
+use Rattle.osc_model.specs.Events.{Answer, added, Invocation}
 use Rattle.osc_model.specs.Heard.{Told, reset, hear_all}
-use Rattle.osc_model.specs.Releases.{IsCallIn, InvokesRegistered}
-use Rattle.osc_model.specs.History.{Entry, after, invocations}
 use Rattle.osc_core.specs.Boxes.{all_hear, without_id}
-use Rattle.osc_top.specs.Plain.{default_caps}
-use Rattle.osc_top.specs.Bank.{Meaning, answer_to_add, add_answers, box_left, box_heard, boxes_heard}
-use Rattle.osc_top.specs.Tally.{IsRising, refused_boxes, Tally, IsAt}
-use Rattle.osc_top.proofs.Rising.{all_weaker, all_append, all_front, count, times, once, id_counted, id_below, id_contained, one_moved, rising_push}
+use Rattle.osc_top.specs.Bank.{Meaning, box_left, box_heard, boxes_heard}
+use Rattle.osc_top.specs.Tally.{IsRising, refused_boxes, Tally}
+use Rattle.osc_top.proofs.Rising.{all_weaker, all_append, all_front, count, times, once, id_counted, id_below, one_moved, rising_push}
 use Rattle.osc_top.proofs.Hearing.{HearsCalls, told_at, heard_push, refused_push, waiting_push, drop_map, fresh_box, heard_more, below_map, rising_map, none_hear}
 
 module _ {X : Type 0} (meaning : X → Meaning) where

@@ -1,12 +1,12 @@
 -- What the calls of a player come to: facts under a call's result, and turns of a pump.
-use Rattle.std.proofs.Common.{◌≡◌, ℕ, Bool, true, false, cond, List, [], ◌∷◌, ◌++◌, map, length, Result, Ok, Err, OnOk, refl, sym, ap, subst, ◌∙◌, append_assoc}
+use Rattle.std.proofs.Common.{◌≡◌, ℕ, Bool, true, false, cond, List, [], ◌∷◌, ◌++◌, map, length, Result, Ok, Err, OnOk, sym, ap, subst, ◌∙◌}
 use Rattle.std.specs.List.{Contains}
 use Rattle.std.specs.declared.alloc.Global.{Global}
 use Rattle.std.specs.declared.dyn_box.DynBox.{DynBox}
 use Rattle.std.proofs.lemmas.List.{append-nil, map-id}
 use Rattle.osc_packet.specs.Reading.{is_packet}
 use Rattle.osc_model.specs.State.{State}
-use Rattle.osc_model.specs.Events.{Event, add, remove, submit, release, Answer, Invocation}
+use Rattle.osc_model.specs.Events.{Event, add, remove, submit, release, Invocation}
 use Rattle.osc_model.specs.Step.{step}
 use Rattle.osc_model.specs.Heard.{Told, reset}
 use Rattle.osc_model.specs.History.{Entry, after}

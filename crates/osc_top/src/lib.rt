@@ -10,3 +10,6 @@ mod top;
 mod whole;
 
 pub use top::{Ended, plain_top};
+
+#[cfg(test)]
+mod tests;

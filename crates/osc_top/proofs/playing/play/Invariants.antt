@@ -1,4 +1,3 @@
-use Rattle.std.proofs.Common.{◌≡◌}
 use Rattle.std.specs.Vec.Iter.{into_iter_items}
 use Rattle.osc_core.specs.contracts.sequential.CoreStands.TheImpl as stands
 use Rattle.osc_top.specs.contracts.player.PlayerHolds.TheImpl as holds

@@ -1,4 +1,4 @@
-use Rattle.std.proofs.Common.{◌≡◌, ◌<◌, length, rules, arith, sym, ap, ◌∙◌}
+use Rattle.std.proofs.Common.{◌≡◌, ◌<◌, length, rules}
 use Rattle.osc_top.specs.Plain.{count_adds}
 use Rattle.osc_top.proofs.Tops.{short_ends}
 use Rattle.osc_top.proofs.top.play_lines.Goals as goal

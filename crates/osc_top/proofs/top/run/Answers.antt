@@ -1,4 +1,4 @@
-use Rattle.std.proofs.Common.{◌≡◌, Ok, sym, ap, ◌∙◌, rules}
+use Rattle.std.proofs.Common.{◌≡◌, Ok, rules}
 use Rattle.osc_script.specs.declared.mode.Mode.TheVariants.{Plain}
 use Rattle.osc_script.specs.Scripts.{script_of}
 use Rattle.osc_top.proofs.Tops.{lines_end}

@@ -1,10 +1,10 @@
-use Rattle.std.proofs.Common.{◌≡◌, true, false, List, [], ◌∷◌, ◌++◌, length, refl, sym, ap, ◌∙◌, arith, append_assoc}
+use Rattle.std.proofs.Common.{◌≡◌, true, List, [], ◌∷◌, ◌++◌, length, refl, sym, ap, ◌∙◌, append_assoc}
 use Rattle.osc_model.specs.Events.{release}
 use Rattle.osc_model.specs.Step.{step}
 use Rattle.osc_model.specs.History.{Entry}
 use Rattle.osc_top.specs.Plain.{entry_of, is_released, pumped}
 use Rattle.osc_top.proofs.Histories.{pump_step}
-use Rattle.osc_top.proofs.Turns.{at_turn, at_end, turn_text, turn_state, end_state, end_text, end_after, end_entries}
+use Rattle.osc_top.proofs.Turns.{at_turn, at_end, turn_text, turn_state, end_entries}
 use Rattle.osc_top.proofs.player.Player.play_pump.Goals as goal
 
 pub loop-init : goal.loop-init

@@ -1,4 +1,4 @@
-use Rattle.std.proofs.Common.{◌≡◌, true, sym, rules}
+use Rattle.std.proofs.Common.{◌≡◌, true, rules}
 use Rattle.osc_packet.specs.Reading.{is_packet}
 use Rattle.osc_top.proofs.Turns.{ok_sent}
 use Rattle.osc_top.proofs.player.Player.play_send.Goals as goal
