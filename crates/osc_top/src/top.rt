@@ -103,7 +103,7 @@ pub fn plain_top<S: Source, O: Sink>(
         return unplayed(alloc, last_line(USAGE, b"usage\n", out), bank);
     }
     match read_whole(alloc, input) {
-        Input::Whole(bytes) => run(alloc, &bytes, out, bank),
+        Input::Whole(bytes) => run(alloc, bytes, out, bank),
         Input::TooLong => {
             let fault = ScriptFault {
                 line: 0,
@@ -139,18 +139,21 @@ fn unplayed(alloc: Global, status: u8, bank: Vec<Box<dyn Method + Send>>) -> End
     }
 }
 
+/// Reads and plays the script. The memory of the input is given back before anything is played.
 fn run<O: Sink>(
     alloc: Global,
-    bytes: &[u8],
+    bytes: Vec<u8>,
     out: &mut O,
     bank: Vec<Box<dyn Method + Send>>,
 ) -> Ended
-    ensures ends { EndsRun result.status (length bank.items) bytes.now (O.held out.old) (O.held out.new) (O.faults out.old) (O.faults out.new) }
-    ensures accounted { (result.status ≡ 0) ⊎ (result.status ≡ 5) → (lines : List Line) × (script_of Plain bytes.now ≡ Ok lines) × IsAccounted lines (map (λ one. record { id = one.0; keep = keep one.1; heard = heard one.1 }) result.heard.items) result.left.items (map (λ box. record { keep = keep box; heard = heard box }) bank.items) bank.items }
+    ensures ends { EndsRun result.status (length bank.items) bytes.items (O.held out.old) (O.held out.new) (O.faults out.old) (O.faults out.new) }
+    ensures accounted { (result.status ≡ 0) ⊎ (result.status ≡ 5) → (lines : List Line) × (script_of Plain bytes.items ≡ Ok lines) × IsAccounted lines (map (λ one. record { id = one.0; keep = keep one.1; heard = heard one.1 }) result.heard.items) result.left.items (map (λ box. record { keep = keep box; heard = heard box }) bank.items) bank.items }
     ensures none_heard { (result.status ≡ 1) ⊎ (result.status ≡ 8) → result.heard.items ≡ [] }
     ensures all_left { (result.status ≡ 1) ⊎ (result.status ≡ 8) → result.left.items ≡ bank.items }
 {
-    match Script::read(alloc, bytes, Mode::Plain) {
+    let read = Script::read(alloc, &bytes, Mode::Plain);
+    drop(bytes);
+    match read {
         Ok(script) => play_lines(alloc, script.into_lines(), out, bank),
         Err(ScriptRefusal::Fault(fault)) => unplayed(alloc, refuse(alloc, fault, out), bank),
         Err(ScriptRefusal::NoMemory) => unplayed(alloc, NO_MEMORY, bank),

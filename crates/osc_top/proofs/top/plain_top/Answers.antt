@@ -1,4 +1,4 @@
-use Rattle.std.proofs.Common.{◌≡◌, Some, Ok, List, ℕ, sym, ap, ◌∙◌}
+use Rattle.std.proofs.Common.{◌≡◌, Some, Ok}
 use Rattle.osc_script.specs.declared.mode.Mode.TheVariants.{Plain}
 use Rattle.osc_script.specs.Scripts.{script_of}
 use Rattle.osc_top.specs.Ends.{left_behind}
@@ -15,4 +15,4 @@ returns-in-TooLong-clause-complete g c = long_refused (g.S.Source.left c.args.in
 pub returns-in-Whole-clause-accounted : goal.returns-in-Whole-clause-accounted
 returns-in-Whole-clause-accounted g c = λ status.
     let account = c.run.ensures.accounted status in
-    (account.0, of_whole (g.S.Source.left c.args.input.now) c.in-Whole.bytes.items _ _ (λ script. script_of Plain script ≡ Ok account.0) c.in-Whole.ensures.0 (ap (λ (b : List ℕ). script_of Plain b) (sym c.deref.ensures.value) ∙ account.1), account.2)
+    (account.0, of_whole (g.S.Source.left c.args.input.now) c.in-Whole.bytes.items _ _ (λ script. script_of Plain script ≡ Ok account.0) c.in-Whole.ensures.0 account.1, account.2)
