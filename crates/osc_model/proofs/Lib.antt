@@ -1,3 +1,6 @@
+pub mod Stepping
+pub mod Refusals
+pub mod Counted
 pub mod Queues
 pub mod Registries
 pub mod Soundness
@@ -9,3 +12,12 @@ pub mod Ids
 pub mod Clocks
 pub mod Passing
 pub mod Hearing
+pub mod Onward
+pub mod Changes
+pub mod Leaving
+pub mod Silence
+pub mod Boxes
+pub mod Blocks
+pub mod Sizes
+pub mod Fitting
+pub mod Recordable

@@ -11,11 +11,14 @@ use Rattle.osc_pattern.specs.Methods.{Method}
 use Rattle.osc_queue.specs.Timed.{due_of}
 use Rattle.osc_tree.specs.Registry.{Registry, IsLawful as IsLawfulRegistry, IsNewId, id_at}
 use Rattle.osc_tree.specs.Adding.{Refusal, IsAddable, add_refusal}
-use Rattle.osc_model.specs.State.{Caps, AreInRange, State, Queued, opening, registry}
+use Rattle.osc_model.specs.Limits.{Limits, AreInRange}
+use Rattle.osc_model.specs.State.{State, Queued, opening, registry}
 use Rattle.osc_model.specs.Counts.{blocks_of, queued_blocks, free_places, free_blocks}
-use Rattle.osc_model.specs.Events.{Event, enrol, submit, add, remove, tick, release, units_full, pool_full, queued, number, callers_full, ticked, clock_back, nothing_due}
-use Rattle.osc_model.specs.Step.{step, leaves, numbered, after_submit, add_at, remove_at, releases, release_first}
-use Rattle.osc_model.specs.History.{Entry, IsLawful, LegalFrom, Legal, IsSound, after}
+use Rattle.osc_model.specs.Recordings.{entry_size}
+use Rattle.osc_model.specs.Events.{Event, enrol, submit, add, remove, tick, release, units_full, pool_full, queued, number, callers_full, ticked, clock_back, nothing_due, Entry}
+use Rattle.osc_model.specs.Step.{step, decided, leaves, numbered, after_submit, add_at, remove_at, releases, release_first}
+use Rattle.osc_model.specs.History.{IsLawful, LegalFrom, Legal, IsSound, after}
+use Rattle.osc_model.proofs.Stepping.{step_so}
 use Rattle.osc_model.proofs.Queues.{all_counted, numbered_length, all_blocks, all_ordered, all_numbered}
 use Rattle.osc_model.proofs.Registries.{AddsNodes, without_lawful, not_refused}
 
@@ -41,7 +44,7 @@ none_lawful method_limit node_limit = record {
   few_nodes = omega arith;
 }
 
-pub opening_sound : (caps : Caps) → AreInRange caps → IsSound (opening caps)
+pub opening_sound : (caps : Limits) → AreInRange caps → IsSound (opening caps)
 opening_sound caps ranges =
     let callers = ranges.callers in
     record {
@@ -63,7 +66,10 @@ with_callers state callers sound few = record { caps = sound.caps; methods = sou
 with_clock : (state : State) (clock : ℕ) → IsSound state → IsSound (record state { clock = clock })
 with_clock state clock sound = record { caps = sound.caps; methods = sound.methods; ids = sound.ids; ordered = sound.ordered; numbers = sound.numbers; few_units = sound.few_units; few_blocks = sound.few_blocks; callers = sound.callers }
 
-enrolled : (state : State) → IsSound state → IsSound (step state enrol).state
+with_recorded : (state : State) (recorded : ℕ) → IsSound state → IsSound (record state { recorded = recorded })
+with_recorded state recorded sound = record { caps = sound.caps; methods = sound.methods; ids = sound.ids; ordered = sound.ordered; numbers = sound.numbers; few_units = sound.few_units; few_blocks = sound.few_blocks; callers = sound.callers }
+
+enrolled : (state : State) → IsSound state → IsSound (decided state enrol).state
 enrolled state sound = go (state.callers == state.caps.callers) refl where
   go : (t : Bool) → (state.callers == state.caps.callers) ≡ t → IsSound (cond t (leaves state callers_full) (leaves (record state { callers = state.callers + 1 }) (number state.callers))).state
   go true e = sound
@@ -86,7 +92,7 @@ submitted state units sound places room =
       callers = sound.callers;
     }
 
-submits : (state : State) (packet : List ℕ) → IsSound state → IsSound (step state (submit packet)).state
+submits : (state : State) (packet : List ℕ) → IsSound state → IsSound (decided state (submit packet)).state
 submits state packet sound = go (units_read packet) where
   go : (units : List Timed) → IsSound (cond (nat_lt (free_places state) (length units)) (leaves state (units_full (record { need = length units; free = free_places state })))
       (cond (nat_lt (free_blocks state) (blocks_of units)) (leaves state (pool_full (record { need = blocks_of units; free = free_blocks state }))) (leaves (after_submit state units) (queued state.next_unit (length units))))).state
@@ -111,7 +117,7 @@ ids_later next methods given = All-weaker (λ method. method.id < next) (λ meth
 pub one_more_given : (next : ℕ) (methods : List Method) (address : List ℕ) → All (λ method. method.id < next) methods → All (λ method. method.id < next + 1) (methods ++ record { id = next; address = address } ∷ [])
 one_more_given next methods address given = All-push (λ method. method.id < next + 1) methods (record { id = next; address = address }) (ids_later next methods given) (omega arith)
 
-adds : OfMethods → (state : State) (address : List ℕ) → IsTrue (is_address address) → IsSound state → IsSound (step state (add address)).state
+adds : OfMethods → (state : State) (address : List ℕ) → IsTrue (is_address address) → IsSound state → IsSound (decided state (add address)).state
 adds of state address spelled sound = go (add_refusal (registry state) address) refl where
   go : (refusal : Option Refusal) → add_refusal (registry state) address ≡ refusal → IsSound (add_at state address refusal).state
   go (Some refusal) e = sound
@@ -129,7 +135,7 @@ adds of state address spelled sound = go (add_refusal (registry state) address) 
         callers = sound.callers;
       }
 
-removes : OfMethods → (state : State) (address : List ℕ) → IsSound state → IsSound (step state (remove address)).state
+removes : OfMethods → (state : State) (address : List ℕ) → IsSound state → IsSound (decided state (remove address)).state
 removes of state address sound = go (id_at state.methods address) where
   go : (found : Option ℕ) → IsSound (remove_at state address found).state
   go None = sound
@@ -145,7 +151,7 @@ removes of state address sound = go (id_at state.methods address) where
         callers = sound.callers;
       }
 
-ticks : (state : State) (now : ℕ) → IsSound state → IsSound (step state (tick now)).state
+ticks : (state : State) (now : ℕ) → IsSound state → IsSound (decided state (tick now)).state
 ticks state now sound = go (nat_lt now state.clock) where
   go : (t : Bool) → IsSound (cond t (leaves state (clock_back state.clock)) (leaves (record state { clock = now }) ticked)).state
   go true = sound
@@ -170,13 +176,23 @@ released_sound state (unit ∷ units) sound = go (nat_le (due_of unit) state.clo
       }
   go false = sound
 
+decided_sound : OfMethods → (state : State) (event : Event) → IsLawful event → IsSound state → IsSound (decided state event).state
+decided_sound of state enrol lawful sound = enrolled state sound
+decided_sound of state (submit packet) lawful sound = submits state packet sound
+decided_sound of state (add address) lawful sound = adds of state address lawful sound
+decided_sound of state (remove address) lawful sound = removes of state address sound
+decided_sound of state (tick now) lawful sound = ticks state now sound
+decided_sound of state release lawful sound = released_sound state state.queue sound
+
 pub step_sound : OfMethods → (state : State) (event : Event) → IsLawful event → IsSound state → IsSound (step state event).state
-step_sound of state enrol lawful sound = enrolled state sound
-step_sound of state (submit packet) lawful sound = submits state packet sound
-step_sound of state (add address) lawful sound = adds of state address lawful sound
-step_sound of state (remove address) lawful sound = removes of state address sound
-step_sound of state (tick now) lawful sound = ticks state now sound
-step_sound of state release lawful sound = released_sound state state.queue sound
+step_sound of state event lawful sound =
+    let decides : IsSound (decided state event).state = decided_sound of state event lawful sound in
+    step_so (λ stepped. IsSound stepped.state) state event
+    (record {
+      silent = λ none. decides;
+      full = λ some full. sound;
+      room = λ some fits. with_recorded (decided state event).state (state.recorded + entry_size event (decided state event).answer) decides;
+    })
 
 -- A history.
 
@@ -184,5 +200,5 @@ after_sound : OfMethods → (state : State) (history : List Entry) → LegalFrom
 after_sound of state [] legal sound = sound
 after_sound of state (entry ∷ entries) legal sound = after_sound of (step state entry.event).state entries legal.4 (step_sound of state entry.event legal.1 sound)
 
-pub history_sound : OfMethods → (caps : Caps) (history : List Entry) → Legal caps history → IsSound (after (opening caps) history)
+pub history_sound : OfMethods → (caps : Limits) (history : List Entry) → Legal caps history → IsSound (after (opening caps) history)
 history_sound of caps history legal = after_sound of (opening caps) history legal.1 (opening_sound caps legal.0)

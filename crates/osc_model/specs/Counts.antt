@@ -20,3 +20,7 @@ free_places state = state.caps.units - length state.queue
 -- how many blocks are free
 abbrev pub free_blocks : State → ℕ
 free_blocks state = state.caps.blocks - queued_blocks state.queue
+
+-- how many bytes are left for entries
+abbrev pub free_bytes : State → ℕ
+free_bytes state = state.caps.recording - state.recorded

@@ -1,5 +1,5 @@
 -- What callers hand in and are answered.
-use Rattle.std.specs.Prelude.{ℕ, List, Option}
+use Rattle.std.specs.Prelude.{ℕ, Bool, true, false, List, Option}
 use Rattle.osc_tree.specs.Adding.{Refusal}
 
 -- how much is needed, and how much is free
@@ -37,6 +37,18 @@ pub data Answer : Type 0 where
   released : ℕ → List Hit → Answer
   nothing_due : Option ℕ → Answer
   record_full : Room → Answer
+
+-- an event of a caller, and what it was answered
+pub record Entry : Type 0 where
+  pub caller : ℕ
+  pub event : Event
+  pub answer : Answer
+
+-- whether an answer adds an entry to the history: all do but these two
+abbrev pub adds_entry : Answer → Bool
+adds_entry (nothing_due next) = false
+adds_entry (record_full room) = false
+adds_entry _ = true
 
 -- a call of a method: which message of the unit, the method, and the message
 pub record Call : Type 0 where

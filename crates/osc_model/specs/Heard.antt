@@ -1,5 +1,5 @@
 -- What boxed methods hear of a server's invocations.
-use Rattle.std.specs.Prelude.{ℕ, ◌≤◌, ◌==◌, if◌then◌else◌, List, [], ◌∷◌, length, filter, Option, IfSome}
+use Rattle.std.specs.Prelude.{ℕ, ◌≤◌, ◌==◌, if◌then◌else◌, not, List, [], ◌∷◌, length, map, filter, Option, IfSome}
 use Rattle.std.specs.Option.{option_map}
 use Rattle.std.specs.List.{flat_map}
 use Rattle.osc_method.specs.Calls.{call_text}
@@ -42,3 +42,11 @@ hear_all (invocation ∷ invocations) told = hear_all invocations (hear told inv
 -- what a box tells is no more than it keeps
 abbrev pub IsWithin : Told → Type 0
 IsWithin told = IfSome told.heard (λ bytes. length bytes ≤ told.keep)
+
+-- each box hears the invocations of its id
+abbrev pub all_hear : List Invocation → List Told → List Told
+all_hear invocations boxes = map (hear_all invocations) boxes
+
+-- the boxes but for that of an id
+abbrev pub without_id : ℕ → List Told → List Told
+without_id id boxes = filter (λ box. not (box.id == id)) boxes

@@ -1,21 +1,18 @@
 -- Histories: the entries of a server, in order.
-use Rattle.std.specs.Prelude.{◌≡◌, ℕ, ◌<◌, ◌≤◌, ◌^◌, IsTrue, List, [], ◌∷◌, ◌++◌, length, All}
-use Rattle.std.specs.List.{Contains}
+use Rattle.std.specs.Prelude.{◌≡◌, ℕ, ◌<◌, ◌≤◌, ◌^◌, IsTrue, if◌then◌else◌, List, [], ◌∷◌, ◌++◌, length, map, All}
+use Rattle.std.specs.List.{AllByRecursion, Contains}
+use Rattle.std.specs.Option.{option_map}
 use Rattle.osc_pattern.specs.Addresses.{is_address}
 use Rattle.osc_packet.specs.Reading.{is_packet}
 use Rattle.osc_queue.specs.Timed.{IsInOrder}
 use Rattle.osc_tree.specs.Registry.{IsLawful as IsLawfulRegistry}
-use Rattle.osc_model.specs.State.{Caps, AreInRange, State, Queued, AreNumbered, opening, registry}
+use Rattle.osc_model.specs.State.{State, Queued, AreNumbered, opening, registry}
+use Rattle.osc_model.specs.Limits.{Limits, AreInRange}
 use Rattle.osc_model.specs.Counts.{queued_blocks}
-use Rattle.osc_model.specs.Events.{Event, enrol, submit, add, remove, tick, release, Answer, nothing_due, record_full, Invocation}
-use Rattle.osc_model.specs.Step.{step}
+use Rattle.osc_model.specs.Events.{Event, enrol, submit, add, remove, tick, release, Answer, nothing_due, record_full, Entry, adds_entry, Invocation}
+use Rattle.osc_model.specs.Heard.{Told, heard_of}
+use Rattle.osc_model.specs.Step.{Stepped, step}
 use Rattle.osc_model.specs.Releases.{IsCallIn}
-
--- an event of a caller, and what it was answered
-pub record Entry : Type 0 where
-  pub caller : ℕ
-  pub event : Event
-  pub answer : Answer
 
 -- what a caller can hand in: a valid packet of at most 65,504 bytes, a lawful address, or a moment below 2^64
 abbrev pub IsLawful : Event → Type 0
@@ -40,7 +37,7 @@ LegalFrom state (entry ∷ entries) =
     (entry.caller < state.callers) × IsLawful entry.event × AddsEntry entry.answer × (entry.answer ≡ (step state entry.event).answer) × LegalFrom (step state entry.event).state entries
 
 -- a history of a server with these limits, from its opening on
-abbrev pub Legal : Caps → List Entry → Type 0
+abbrev pub Legal : Limits → List Entry → Type 0
 Legal caps entries = AreInRange caps × LegalFrom (opening caps) entries
 
 -- the state after a history
@@ -66,6 +63,14 @@ pub record IsSound (state : State) : Type 0 where
   pub few_blocks : queued_blocks state.queue ≤ state.caps.blocks
   pub callers : (1 ≤ state.callers) × (state.callers ≤ state.caps.callers)
 
+-- What holds of the numbers of a server at every moment: the bytes that are recorded lie between the header's and the
+-- limit, and there are at least as many as ids and as units' numbers were given.
+pub record IsCounted (state : State) : Type 0 where
+  pub header : 56 ≤ state.recorded
+  pub within : state.recorded ≤ state.caps.recording
+  pub ids : state.next_id ≤ state.recorded
+  pub units : state.next_unit ≤ state.recorded
+
 -- An invocation of a history: at some place stands a release, and the invocation is a call of a unit that was queued
 -- then, in the state after the entries before that place.
 pub record IsInvokedIn (state : State) (history : List Entry) (invocation : Invocation) : Type 0 where
@@ -77,3 +82,35 @@ pub record IsInvokedIn (state : State) (history : List Entry) (invocation : Invo
   pub unit : Queued
   pub queued : Contains (after state before).queue unit
   pub call : IsCallIn (after state before) unit invocation
+
+-- what a server has played: its limits, and its history
+pub record Performance : Type 0 where
+  pub caps : Limits
+  pub history : List Entry
+
+-- the state in which it is
+abbrev pub state_of : Performance → State
+state_of performance = after (opening performance.caps) performance.history
+
+-- all that it has invoked
+abbrev pub invoked_in : Performance → List Invocation
+invoked_in performance = invocations (opening performance.caps) performance.history
+
+-- what an event does in its state
+abbrev pub stepped_in : Performance → Event → Stepped
+stepped_in performance event = step (state_of performance) event
+
+-- it goes on with the entry of a caller's event, where its answer adds one
+abbrev pub onward : Performance → ℕ → Event → Performance
+onward performance caller event =
+    let answer = (stepped_in performance event).answer in
+    if adds_entry answer then record performance { history = performance.history ++ record { caller = caller; event = event; answer = answer } ∷ [] } else performance
+
+-- what a registered method has heard: the last bytes of the calls of its id, where it tells
+abbrev pub HasHeard : List Invocation → Told → Type 0
+HasHeard invocations told = told.heard ≡ option_map (λ _. heard_of invocations told.id told.keep) told.heard
+
+-- there is a box for each registered method, in the order of adding, and each has heard its calls
+pub record HaveHeard (performance : Performance) (boxes : List Told) : Type 0 where
+  pub ids : map (λ box. box.id) boxes ≡ map (λ method. method.id) (state_of performance).methods
+  pub heard : AllByRecursion (HasHeard (invoked_in performance)) boxes

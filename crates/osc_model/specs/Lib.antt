@@ -1,6 +1,8 @@
+pub mod Limits
 pub mod State
 pub mod Counts
 pub mod Events
+pub mod Recordings
 pub mod Step
 pub mod Releases
 pub mod Refusals

@@ -1,33 +1,25 @@
 -- Which units a history queues, and which it releases.
-use Rattle.std.specs.Prelude.{ℕ, zero, suc, ◌+◌, nat_le, nat_lt, if◌then◌else◌, List, [], ◌∷◌, ◌++◌, length}
-use Rattle.osc_packet.specs.Units.{Timed}
+use Rattle.std.specs.Prelude.{ℕ, zero, suc, ◌+◌, List, [], ◌∷◌, ◌++◌, take}
 use Rattle.osc_packet.specs.Reading.{units_read}
-use Rattle.osc_queue.specs.Timed.{due_of}
 use Rattle.osc_model.specs.State.{State, Queued}
-use Rattle.osc_model.specs.Counts.{blocks_of, free_places, free_blocks}
-use Rattle.osc_model.specs.Events.{Event, submit, release, Answer, queued, released}
+use Rattle.osc_model.specs.Events.{Event, submit, Answer, queued, released, Entry}
 use Rattle.osc_model.specs.Step.{step, numbered}
-use Rattle.osc_model.specs.History.{Entry}
 
--- units under the next numbers, where there is room for them, or none
-abbrev pub units_taken_in : State → List Timed → List Queued
-units_taken_in state units =
-    if nat_lt (free_places state) (length units) then [] else (if nat_lt (free_blocks state) (blocks_of units) then [] else numbered state.clock state.next_unit units)
+-- the units that an event queues, by what it is answered
+abbrev pub queued_by : Answer → State → Event → List Queued
+queued_by (queued first count) state (submit packet) = numbered state.clock state.next_unit (units_read packet)
+queued_by _ state event = []
 
--- the units that an event queues
 abbrev pub entering : State → Event → List Queued
-entering state (submit packet) = units_taken_in state (units_read packet)
-entering state _ = []
+entering state event = queued_by (step state event).answer state event
 
--- the first unit of a queue, if it is due
-abbrev pub first_due : ℕ → List Queued → List Queued
-first_due clock [] = []
-first_due clock (unit ∷ units) = if nat_le (due_of unit) clock then unit ∷ [] else []
+-- the unit that an event releases, by what it is answered: the first of the queue, or none
+abbrev pub released_by : Answer → List Queued → List Queued
+released_by (released unit hits) queue = take 1 queue
+released_by _ queue = []
 
--- the unit that an event releases, or none
 abbrev pub leaving : State → Event → List Queued
-leaving state release = first_due state.clock state.queue
-leaving state _ = []
+leaving state event = released_by (step state event).answer state.queue
 
 -- so many numbers, from the first on
 abbrev pub numbers_from : ℕ → ℕ → List ℕ

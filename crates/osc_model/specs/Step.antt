@@ -10,8 +10,9 @@ use Rattle.osc_tree.specs.Adding.{Refusal, add_refusal}
 use Rattle.osc_tree.specs.Matching.{matching}
 use Rattle.osc_queue.specs.Timed.{due_of, unit_of, enter}
 use Rattle.osc_model.specs.State.{State, Queued, registry}
-use Rattle.osc_model.specs.Counts.{blocks_of, free_places, free_blocks}
-use Rattle.osc_model.specs.Events.{Event, enrol, submit, add, remove, tick, release, Answer, number, callers_full, queued, units_full, pool_full, added, refused, removed, not_there, ticked, clock_back, released, nothing_due, Hit, Call, Invocation}
+use Rattle.osc_model.specs.Counts.{blocks_of, free_places, free_blocks, free_bytes}
+use Rattle.osc_model.specs.Recordings.{entry_size}
+use Rattle.osc_model.specs.Events.{Event, enrol, submit, add, remove, tick, release, Answer, number, callers_full, queued, units_full, pool_full, added, refused, removed, not_there, ticked, clock_back, released, nothing_due, record_full, adds_entry, Hit, Call, Invocation}
 
 -- what a step gives: the answer, the state after it, and whom it invoked
 pub record Stepped : Type 0 where
@@ -108,11 +109,24 @@ release_first state [] = leaves state (nothing_due None)
 release_first state (unit ∷ units) =
     if nat_le (due_of unit) state.clock then releases state unit units else leaves state (nothing_due (Some (due_of unit)))
 
--- one event, on a state
+-- what an event is answered, and what it leaves, as long as there is room for its entry
+abbrev pub decided : State → Event → Stepped
+decided state enrol = enrol_one state
+decided state (submit packet) = submit_units state (units_read packet)
+decided state (add address) = add_at state address (add_refusal (registry state) address)
+decided state (remove address) = remove_at state address (id_at state.methods address)
+decided state (tick now) = tick_to state now
+decided state release = release_first state state.queue
+
+-- an entry of so many bytes is recorded where there is room for it; else all stays
+abbrev pub recorded_as : State → ℕ → Stepped → Stepped
+recorded_as state size stepped =
+    if nat_lt (free_bytes state) size then leaves state (record_full (record { need = size; free = free_bytes state }))
+    else record stepped { state = record stepped.state { recorded = state.recorded + size } }
+
+-- One event, on a state. The entry of an add, of a remove and of a submit has one size, whatever the answer is. Where
+-- nothing is due there is no entry.
 abbrev pub step : State → Event → Stepped
-step state enrol = enrol_one state
-step state (submit packet) = submit_units state (units_read packet)
-step state (add address) = add_at state address (add_refusal (registry state) address)
-step state (remove address) = remove_at state address (id_at state.methods address)
-step state (tick now) = tick_to state now
-step state release = release_first state state.queue
+step state event =
+    let stepped = decided state event in
+    if adds_entry stepped.answer then recorded_as state (entry_size event stepped.answer) stepped else stepped

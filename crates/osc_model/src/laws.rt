@@ -1,5 +1,5 @@
 //! What the rules of the server say of every state and every history.
-ghost use Rattle.std.specs.Prelude.{◌≡◌, ◌≤◌, ◌<◌, ◌+◌, ℕ, List, [], ◌∷◌, ◌++◌, length, map, replicate, codes, All, None, Some};
+ghost use Rattle.std.specs.Prelude.{◌≡◌, ◌≢◌, ◌≤◌, ◌<◌, ◌+◌, ℕ, List, [], ◌∷◌, ◌++◌, length, map, replicate, codes, true, false, All, None, Some};
 ghost use Rattle.std.specs.Option.{option_map};
 ghost use Rattle.std.specs.List.{AllByRecursion, Contains};
 ghost use Rattle.std.specs.List.Sorted.{IsPermutation};
@@ -10,15 +10,17 @@ ghost use Rattle.osc_method.specs.Heard.{last_of};
 ghost use Rattle.osc_queue.specs.Timed.{unit_of, enter, IsInOrder, IsNewUnit};
 ghost use Rattle.osc_tree.specs.Registry.{Registry, IsLawful as IsLawfulRegistry, IsNewId, without, address_by_id};
 ghost use Rattle.osc_tree.specs.Adding.{IsAddable, add_refusal};
-ghost use Rattle.osc_model.specs.State.{Caps, AreInRange, State, Queued, AreNumbered, opening};
-ghost use Rattle.osc_model.specs.Counts.{blocks_of, queued_blocks};
-ghost use Rattle.osc_model.specs.Events.{Event, submit, release, tick, enrol, added, number, callers_full, units_full, pool_full, ticked, clock_back, Invocation};
-ghost use Rattle.osc_model.specs.Step.{step, waiting, numbered, enter_all};
+ghost use Rattle.osc_model.specs.Limits.{Limits, AreInRange};
+ghost use Rattle.osc_model.specs.State.{State, Queued, AreNumbered, opening};
+ghost use Rattle.osc_model.specs.Counts.{blocks_of, queued_blocks, free_bytes};
+ghost use Rattle.osc_model.specs.Recordings.{IsRecordable, entry_size, record_text};
+ghost use Rattle.osc_model.specs.Events.{Event, submit, add, remove, release, tick, enrol, added, removed, record_full, adds_entry, number, callers_full, units_full, pool_full, ticked, clock_back, Invocation, Entry};
+ghost use Rattle.osc_model.specs.Step.{step, decided, leaves, waiting, numbered, enter_all};
 ghost use Rattle.osc_model.specs.Releases.{ReleasesLeast, InvokesRegistered};
 ghost use Rattle.osc_model.specs.Refusals.{IsRefusal};
 ghost use Rattle.osc_model.specs.Passing.{entering, leaving, all_entering, all_leaving, queued_in, released_in};
-ghost use Rattle.osc_model.specs.Heard.{Told, reset, hear_all, heard_of, calls_bytes, IsWithin};
-ghost use Rattle.osc_model.specs.History.{Entry, IsLawful, Legal, IsSound, IsInvokedIn, after, invocations};
+ghost use Rattle.osc_model.specs.Heard.{Told, reset, hear_all, all_hear, without_id, heard_of, calls_bytes, IsWithin};
+ghost use Rattle.osc_model.specs.History.{IsLawful, Legal, IsSound, IsCounted, IsInvokedIn, after, invocations, Performance, state_of, invoked_in, stepped_in, onward, HaveHeard};
 
 use osc_pattern::laws as addresses;
 use osc_tree::laws as trees;
@@ -26,9 +28,10 @@ use osc_tree::laws as trees;
 /// What holds of a server at every moment holds at its opening, and each lawful event keeps it. So it holds after every
 /// legal history.
 pub fn a_server_stays_sound()
-    ensures opening { (caps : Caps) → AreInRange caps → IsSound (opening caps) }
+    ensures opening { (caps : Limits) → AreInRange caps → IsSound (opening caps) }
     ensures step { (state : State) (event : Event) → IsLawful event → IsSound state → IsSound (step state event).state }
-    ensures after { (caps : Caps) (history : List Entry) → Legal caps history → IsSound (after (opening caps) history) }
+    ensures after { (caps : Limits) (history : List Entry) → Legal caps history → IsSound (after (opening caps) history) }
+    ensures counted { (caps : Limits) (history : List Entry) → Legal caps history → IsCounted (after (opening caps) history) }
 {
     addresses::tests_are_exact();
     trees::an_added_method_is_lawful();
@@ -78,10 +81,11 @@ pub fn methods_stay_lawful()
     trees::an_address_adds_its_new_nodes();
 }
 
-/// A release takes the unit that is least by due moment and number, where it is due, and leaves exactly the others.
+/// A release takes the unit that is least by due moment and number, where it is due and there is room for the entry, and
+/// leaves exactly the others.
 pub fn a_release_takes_the_least_unit()
     ensures step { (state : State) → IsInOrder state.queue → ReleasesLeast state (step state release) }
-    ensures after { (caps : Caps) (history : List Entry) → Legal caps history → ReleasesLeast (after (opening caps) history) (step (after (opening caps) history) release) }
+    ensures after { (caps : Limits) (history : List Entry) → Legal caps history → ReleasesLeast (after (opening caps) history) (step (after (opening caps) history) release) }
 {
     a_server_stays_sound();
 }
@@ -101,9 +105,11 @@ pub fn the_clock_never_goes_back()
     ensures after { (state : State) (history : List Entry) → state.clock ≤ (after state history).clock }
 {}
 
-/// An event that is refused, and a release that finds nothing due, change nothing and invoke nothing.
+/// An event that is refused changes nothing but that its entry is recorded, and invokes nothing. Where nothing is due and
+/// where there is no room for the entry, all stays.
 pub fn a_refusal_changes_nothing()
-    ensures state { (state : State) (event : Event) → IsRefusal (step state event).answer → (step state event).state ≡ state }
+    ensures state { (state : State) (event : Event) → IsRefusal (step state event).answer → (step state event).state ≡ record state { recorded = (step state event).state.recorded } }
+    ensures all { (state : State) (event : Event) → adds_entry (step state event).answer ≡ false → (step state event).state ≡ state }
     ensures silent { (state : State) (event : Event) → IsRefusal (step state event).answer → (step state event).invocations ≡ [] }
 {}
 
@@ -132,13 +138,75 @@ pub fn a_box_hears_its_calls()
     ensures on { (told : Told) (first more : List Invocation) → hear_all (first ++ more) told ≡ hear_all more (hear_all first told) }
 {}
 
+/// There is no room for an entry exactly where its bytes are more than the free ones. Then it is refused before all else,
+/// and changes nothing; else the event is answered by the other rules, and the entry's bytes are recorded.
+pub fn a_full_recording_refuses()
+    ensures full { (state : State) (event : Event) → adds_entry (decided state event).answer ≡ true → free_bytes state < entry_size event (decided state event).answer →
+        step state event ≡ leaves state (record_full (record { need = entry_size event (decided state event).answer; free = free_bytes state })) }
+    ensures room { (state : State) (event : Event) → adds_entry (decided state event).answer ≡ true → entry_size event (decided state event).answer ≤ free_bytes state →
+        step state event ≡ record (decided state event) { state = record (decided state event).state { recorded = state.recorded + entry_size event (decided state event).answer } } }
+    ensures nothing_due { (state : State) (event : Event) → adds_entry (decided state event).answer ≡ false → step state event ≡ decided state event }
+{}
+
+/// A performance goes on by a caller's event: its history stays legal, its state is the step's, and its invocations are
+/// followed by those of the step.
+pub fn a_performance_goes_on()
+    ensures legal { (performance : Performance) (caller : ℕ) (event : Event) → Legal performance.caps performance.history → caller < (state_of performance).callers → IsLawful event →
+        Legal performance.caps (onward performance caller event).history }
+    ensures state { (performance : Performance) (caller : ℕ) (event : Event) → state_of (onward performance caller event) ≡ (stepped_in performance event).state }
+    ensures invoked { (performance : Performance) (caller : ℕ) (event : Event) → invoked_in (onward performance caller event) ≡ invoked_in performance ++ (stepped_in performance event).invocations }
+{}
+
+/// The entries of a legal history can be recorded, each number within its argument; and as many bytes are recorded as
+/// the recording's text has.
+pub fn a_legal_history_is_recordable()
+    ensures next { (performance : Performance) (caller : ℕ) (event : Event) → Legal performance.caps performance.history → caller < (state_of performance).callers → IsLawful event →
+        adds_entry (stepped_in performance event).answer ≡ true → IsRecordable caller event (stepped_in performance event).answer }
+    ensures all { (caps : Limits) (history : List Entry) → Legal caps history → AllByRecursion (λ entry. IsRecordable entry.caller entry.event entry.answer) history }
+    ensures recorded { (caps : Limits) (history : List Entry) → Legal caps history → (after (opening caps) history).recorded ≡ length (record_text caps history) }
+    ensures within { (caps : Limits) (history : List Entry) → Legal caps history → length (record_text caps history) ≤ caps.recording }
+{
+    addresses::tests_are_exact();
+    trees::the_matching_methods_ascend();
+    a_server_stays_sound();
+}
+
+/// The boxes of the registered methods have heard the history: none at its opening; an event that calls no box leaves
+/// that so; a method that is added has heard nothing; one that is removed leaves; and those that are registered at a
+/// release hear its invocations.
+pub fn boxes_hear_the_history()
+    ensures opening { (caps : Limits) → HaveHeard (record { caps = caps; history = [] }) [] }
+    ensures others { (performance : Performance) (caller : ℕ) (event : Event) (boxes : List Told) → HaveHeard performance boxes → (stepped_in performance event).state.methods ≡ (state_of performance).methods →
+        (stepped_in performance event).invocations ≡ [] → HaveHeard (onward performance caller event) boxes }
+    ensures added { (performance : Performance) (caller : ℕ) (address : List ℕ) (told : Told) (boxes : List Told) → Legal performance.caps performance.history → HaveHeard performance boxes →
+        (stepped_in performance (add address)).answer ≡ added told.id → HaveHeard (onward performance caller (add address)) (boxes ++ reset told ∷ []) }
+    ensures removed { (performance : Performance) (caller id : ℕ) (address : List ℕ) (boxes : List Told) → Legal performance.caps performance.history → HaveHeard performance boxes →
+        (stepped_in performance (remove address)).answer ≡ removed id → HaveHeard (onward performance caller (remove address)) (without_id id boxes) }
+    ensures released { (performance : Performance) (caller : ℕ) (boxes : List Told) → HaveHeard performance boxes →
+        HaveHeard (onward performance caller release) (all_hear (stepped_in performance release).invocations boxes) }
+{
+    a_server_stays_sound();
+    a_method_is_called_while_it_is_registered();
+}
+
+/// No invocation of an id stands before its method was added, nor after it was removed.
+pub fn a_method_is_called_while_it_is_registered()
+    ensures given { (caps : Limits) (history : List Entry) → Legal caps history → All (λ invocation. invocation.call.id < (after (opening caps) history).next_id) (invocations (opening caps) history) }
+    ensures removed { (caps : Limits) (before later : List Entry) (entry : Entry) (id : ℕ) → Legal caps (before ++ entry ∷ later) → entry.answer ≡ removed id →
+        All (λ invocation. invocation.call.id ≢ id) (invocations (after (opening caps) (before ++ entry ∷ [])) later) }
+{
+    a_server_stays_sound();
+    an_id_is_given_once();
+    invocations_are_of_registered_methods();
+}
+
 /// The clock never goes back, and stands where a tick before it left it; callers are numbered up to their limit; a message
 /// alone is queued where there is a place for it and blocks for its bytes, of which 64 take two.
 pub fn examples()
-    ensures early { (step (opening (record { units = 1; blocks = 1; methods = 1; nodes = 1; callers = 1 })) (tick 0)).answer ≡ clock_back 1 }
-    ensures on { (step (opening (record { units = 1; blocks = 1; methods = 1; nodes = 1; callers = 1 })) (tick 5)).answer ≡ ticked }
-    ensures full { (step (opening (record { units = 1; blocks = 1; methods = 1; nodes = 1; callers = 1 })) enrol).answer ≡ callers_full }
-    ensures no_place { (step (step (opening (record { units = 1; blocks = 1; methods = 1; nodes = 1; callers = 1 })) (submit (codes "/a" ++ 0 ∷ 0 ∷ []))).state (submit (codes "/a" ++ 0 ∷ 0 ∷ []))).answer ≡ units_full (record { need = 1; free = 0 }) }
-    ensures no_block { (step (opening (record { units = 1; blocks = 1; methods = 1; nodes = 1; callers = 1 })) (submit (codes "/a" ++ 0 ∷ 0 ∷ codes ",b" ++ 0 ∷ 0 ∷ 0 ∷ 0 ∷ 0 ∷ 52 ∷ replicate 52 0))).answer ≡ pool_full (record { need = 2; free = 1 }) }
-    ensures second { (step (opening (record { units = 1; blocks = 1; methods = 1; nodes = 1; callers = 2 })) enrol).answer ≡ number 1 }
+    ensures early { (step (opening (record { units = 1; blocks = 1; methods = 1; nodes = 1; callers = 1; recording = 200 })) (tick 0)).answer ≡ clock_back 1 }
+    ensures on { (step (opening (record { units = 1; blocks = 1; methods = 1; nodes = 1; callers = 1; recording = 200 })) (tick 5)).answer ≡ ticked }
+    ensures full { (step (opening (record { units = 1; blocks = 1; methods = 1; nodes = 1; callers = 1; recording = 200 })) enrol).answer ≡ callers_full }
+    ensures no_place { (step (step (opening (record { units = 1; blocks = 1; methods = 1; nodes = 1; callers = 1; recording = 200 })) (submit (codes "/a" ++ 0 ∷ 0 ∷ []))).state (submit (codes "/a" ++ 0 ∷ 0 ∷ []))).answer ≡ units_full (record { need = 1; free = 0 }) }
+    ensures no_block { (step (opening (record { units = 1; blocks = 1; methods = 1; nodes = 1; callers = 1; recording = 200 })) (submit (codes "/a" ++ 0 ∷ 0 ∷ codes ",b" ++ 0 ∷ 0 ∷ 0 ∷ 0 ∷ 0 ∷ 52 ∷ replicate 52 0))).answer ≡ pool_full (record { need = 2; free = 1 }) }
+    ensures second { (step (opening (record { units = 1; blocks = 1; methods = 1; nodes = 1; callers = 2; recording = 200 })) enrol).answer ≡ number 1 }
 {}

@@ -1,5 +1,5 @@
 //! Addresses of methods.
-ghost use Rattle.std.specs.Prelude.{◌≡◌, IsTrue, IsOk, IfOk, IfSome, IsOkUnless, Some, nat_lt, length};
+ghost use Rattle.std.specs.Prelude.{◌≡◌, ◌↔◌, IsTrue, IsOk, IfOk, IfSome, IsOkUnless, Some, nat_lt, length};
 ghost use Rattle.std.specs.List.{list_any, slice_split};
 ghost use Rattle.std.specs.Str.{bytes_eq};
 ghost use Rattle.std.specs.Ordering.{nat_cmp};
@@ -55,6 +55,14 @@ impl Address {
             Ok(bytes) => Ok(Address { bytes }),
             Err(_) => Err(AddressFault::NoMemory),
         }
+    }
+
+    /// Whether the bytes are an address. Takes no memory.
+    pub fn is_lawful(bytes: &[u8]) -> bool
+        ensures test { result ≡ is_address bytes.now }
+        ensures exact { IsTrue result ↔ IsAddress bytes.now }
+    {
+        first_fault(bytes).is_none()
     }
 
     /// The address's bytes.

@@ -9,7 +9,8 @@ use Rattle.std.proofs.lemmas.List.{length-drop, length-take-le, take-append-le, 
 use Rattle.osc_message.specs.Messages.{known}
 use Rattle.osc_message.proofs.MessageLaws.{text_fours, text_some}
 use Rattle.osc_model.specs.Events.{Event, Answer}
-use Rattle.osc_record.specs.Recordings.{Row, Recorded, row_of, row_text, sized, entry_text, FitsRow, IsRecordable}
+use Rattle.osc_model.specs.Events.{Entry as Recorded}
+use Rattle.osc_model.specs.Recordings.{Row, row_of, row_text, sized, entry_text, FitsRow, IsRecordable}
 use Rattle.osc_record.specs.Reading.{entry_of, bytes_of_size, message_first, entry_first, Placed, onto_read, before_read, entries_read}
 use Rattle.osc_record.proofs.Lawful.{LawfulRow, ReadAs, row_lawful, row_again, entry_again}
 

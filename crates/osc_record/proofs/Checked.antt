@@ -2,8 +2,9 @@
 use Rattle.std.proofs.Common.{◌≡◌, ℕ, List, drop, true, Some, None, Ok, Err, Result, Option, refl, sym, ap, ◌∙◌}
 use Rattle.std.specs.Prelude.{IsTrue, is_ok, ⊤}
 use Rattle.std.specs.List.{flat_map}
-use Rattle.osc_record.specs.Limits.{Limits}
-use Rattle.osc_record.specs.Recordings.{Recorded, entry_text, record_text}
+use Rattle.osc_model.specs.Limits.{Limits}
+use Rattle.osc_model.specs.Events.{Entry as Recorded}
+use Rattle.osc_model.specs.Recordings.{entry_text, record_text}
 use Rattle.osc_record.specs.Reading.{Placed, entries_at, entries_after, outcome, placed_in, header_read, with_entries, record_read, placed_from, IsRecord}
 use Rattle.osc_record.proofs.Walks.{after_is}
 use Rattle.osc_record.proofs.Readings.{header_again, record_again}

@@ -11,8 +11,9 @@ use Rattle.osc_atoms.specs.Atoms.{AreBytes, string}
 use Rattle.osc_message.specs.Messages.{tag_of, atom_of, tag_string}
 use Rattle.osc_message.specs.Reading.{is_message, pattern_of}
 use Rattle.osc_message.specs.Arguments.{message_arguments}
-use Rattle.osc_record.specs.Limits.{Limits, IsWithin, AreInRange, is_within, limit_fault}
-use Rattle.osc_record.specs.Recordings.{Row, Recorded, row_text, sized, entry_text, header_text, record_text, FitsRow, IsRecordable}
+use Rattle.osc_model.specs.Limits.{Limits, IsWithin, AreInRange, is_within, limit_fault}
+use Rattle.osc_model.specs.Events.{Entry as Recorded}
+use Rattle.osc_model.specs.Recordings.{Row, row_text, sized, entry_text, header_text, record_text, FitsRow, IsRecordable}
 use Rattle.osc_record.specs.Reading.{row_read, entry_of, bytes_of_size, message_first, entry_first, Placed, onto_read, before_read, entries_read, entries_after, header_of, header_read, placed_in, IsRecord}
 use Rattle.osc_record.proofs.Again.{cond_gives, each_of_three, first_more}
 use Rattle.osc_record.proofs.ArgumentsRead.{some_is}

@@ -5,8 +5,9 @@ use Rattle.std.specs.List.{flat_map, AllByRecursion}
 use Rattle.std.specs.Option.{option_map_or}
 use Rattle.std.proofs.lemmas.List.{take_all, drop_all, drop-append-le}
 use Rattle.osc_model.specs.Events.{Event, Answer}
-use Rattle.osc_record.specs.Limits.{Limits}
-use Rattle.osc_record.specs.Recordings.{Row, Recorded, row_of, row_text, sized, entry_text, FitsRow, IsHit, IsRecordable, hits_in, record_text, header_text}
+use Rattle.osc_model.specs.Limits.{Limits}
+use Rattle.osc_model.specs.Events.{Entry as Recorded}
+use Rattle.osc_model.specs.Recordings.{Row, row_of, row_text, sized, entry_text, FitsRow, IsHit, IsRecordable, hits_in, record_text, header_text}
 use Rattle.osc_record.specs.Reading.{Placed, entry_first, entries_read, entries_after}
 use Rattle.osc_record.specs.Writing.{Begun, begun_text, recording_text, appended, entries_of, entries_in, begun_in, recording_of, AreWhole, IsKept}
 use Rattle.osc_record.proofs.Again.{entry_first_again, entries_more}

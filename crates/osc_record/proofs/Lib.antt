@@ -9,5 +9,5 @@ pub mod Checked
 pub mod Spelled
 pub mod RowsRead
 pub mod EntriesRead
-pub mod Sizes
 pub mod Stops
+pub mod Hits

@@ -7,8 +7,9 @@ use Rattle.osc_message.specs.Messages.{known, IsLawful, AllFit}
 use Rattle.osc_message.specs.Reading.{is_message}
 use Rattle.osc_message.proofs.MessageLaws.{limited_again}
 use Rattle.osc_message.proofs.TextLaws.{pattern_again, known_arguments_again}
-use Rattle.osc_record.specs.Limits.{Limits, IsWithin, AreInRange, is_within, limit_fault}
-use Rattle.osc_record.specs.Recordings.{Recorded, row_text, header_row, header_text, entry_text, record_text, IsRecordable}
+use Rattle.osc_model.specs.Limits.{Limits, IsWithin, AreInRange, is_within, limit_fault}
+use Rattle.osc_model.specs.Events.{Entry as Recorded}
+use Rattle.osc_model.specs.Recordings.{row_text, header_row, header_text, entry_text, record_text, IsRecordable}
 use Rattle.osc_record.specs.Reading.{entry_first, Placed, onto_read, before_read, entries_read, limits_read, header_of, header_read, with_entries, record_read, placed_from, IsRecord}
 use Rattle.osc_record.proofs.Lawful.{rec_address, balanced}
 use Rattle.osc_record.proofs.Again.{drop_front, message_again, entry_first_again}

@@ -1,28 +1,19 @@
 -- A release that is begun: with each hit it is kept, and with the last it is an entry.
-use Rattle.std.proofs.Common.{◌≡◌, ℕ, ◌+◌, ◌-◌, ◌*◌, ◌%◌, ◌<◌, ◌≤◌, ◌^◌, Bool, true, false, cond, ◌==◌, List, [], ◌∷◌, ◌++◌, length, take, drop, replicate, Option, Some, None, refl, sym, ap, ◌∙◌, subst, arith, length-append, codes, eqb-true, append_assoc, append-nil, take-append-drop}
+use Rattle.std.proofs.Common.{◌≡◌, ℕ, ◌+◌, ◌-◌, ◌*◌, ◌<◌, ◌≤◌, ◌^◌, Bool, true, false, cond, ◌==◌, List, [], ◌∷◌, ◌++◌, length, take, drop, Option, Some, None, refl, sym, ap, ◌∙◌, subst, arith, length-append, codes, eqb-true, append_assoc, append-nil, take-append-drop}
 use Rattle.std.specs.List.{AllByRecursion}
 use Rattle.std.proofs.lemmas.Bool.{cond-true, cond-false, ne_eqb}
 use Rattle.std.proofs.lemmas.List.{length-take-le}
-use Rattle.osc_atoms.specs.Atoms.{word, tag, string, blob, blob_end}
+use Rattle.osc_atoms.specs.Atoms.{word, tag, string}
 use Rattle.osc_message.specs.Messages.{tag_string}
 use Rattle.osc_model.specs.Events.{Hit, release, released}
-use Rattle.osc_record.specs.Limits.{Limits}
-use Rattle.osc_record.specs.Recordings.{Recorded, row_text, release_row, sized, entry_text, IsHit, IsRecordable, hit_text, hits_text, hits_in}
+use Rattle.osc_model.specs.Limits.{Limits}
+use Rattle.osc_model.specs.Events.{Entry as Recorded}
+use Rattle.osc_model.specs.Recordings.{row_text, release_row, sized, entry_text, IsHit, IsRecordable, hit_text, hits_text, hits_in}
 use Rattle.osc_record.specs.Writing.{Begun, Recording, release_head, begun_text, settled, with_hit, entries_in, begun_in, recording_of, AreWhole, IsKept}
-use Rattle.osc_record.proofs.Lawful.{length-hits_text, hits_again}
+use Rattle.osc_model.proofs.Sizes.{length-hits_text, eights}
+use Rattle.osc_record.proofs.Lawful.{hits_again}
 use Rattle.osc_record.proofs.Again.{take_front, drop_front}
 use Rattle.osc_record.proofs.Kept.{whole_more, whole_kept, whole_view, all_whole}
-
-no_padding : (k : ℕ) → blob_end (8 * k) ≡ 0
-no_padding k = let whole : (8 * k) % 4 ≡ 0 = omega arith in ap (λ n. (4 - n) % 4) whole
-
--- a blob of eights
-eights : (content : List ℕ) (k : ℕ) → length content ≡ 8 * k → blob content ++ [] ≡ word (8 * k) ++ content
-eights content k is =
-    (λ i. (word (is i) ++ (content ++ replicate (blob_end (is i)) 0)) ++ [])
-    ∙ ap (λ n. (word (8 * k) ++ (content ++ replicate n 0)) ++ []) (no_padding k)
-    ∙ ap (λ l. (word (8 * k) ++ l) ++ []) (append-nil content)
-    ∙ append-nil (word (8 * k) ++ content)
 
 pub release_shape : (caller unit : ℕ) (content : List ℕ) (k : ℕ) → length content ≡ 8 * k → release_head caller unit k ++ content ≡ sized (row_text (release_row caller unit content))
 release_shape caller unit content k is =

@@ -10,7 +10,8 @@ use Rattle.osc_atoms.specs.Atoms.{AreBytes, blob}
 use Rattle.osc_message.specs.Messages.{Argument, integer, text, content, long, time, atom_of}
 use Rattle.osc_model.specs.Events.{enrol, submit, add, remove, tick, release, Answer, number, callers_full, queued, units_full, pool_full, added, refused, removed, not_there, ticked, clock_back, released}
 use Rattle.osc_tree.specs.Adding.{taken, under_method, is_container, methods_full, nodes_full}
-use Rattle.osc_record.specs.Recordings.{Recorded, int, enrolled, submitted, adding, removing, ticking, hits_text, hits_in, IsHit, IsSound, row_of, enrol_row, submit_row, add_row, remove_row, tick_row, release_row}
+use Rattle.osc_model.specs.Events.{Entry as Recorded}
+use Rattle.osc_model.specs.Recordings.{int, enrolled, submitted, adding, removing, ticking, hits_text, hits_in, IsHit, IsSound, row_of, enrol_row, submit_row, add_row, remove_row, tick_row, release_row}
 use Rattle.osc_record.specs.Reading.{int_first, signed_first, long_first, time_first, text_first, content_first, answer_if, enrol_answer, submit_answer, add_answer, remove_answer, tick_answer, release_answer, enrol_read, submit_read, add_read, remove_read, tick_read, release_read, row_read}
 use Rattle.osc_record.proofs.Again.{take_front, drop_front}
 use Rattle.osc_record.proofs.ArgumentsRead.{some_is, int_was, signed_was, long_was, time_was, text_was, content_was, end_was}
@@ -99,7 +100,7 @@ small_word a b c d p q r s = omega arith
 abbrev pub HitsBack : List ℕ → Type 0
 HitsBack bytes = (hits_text (hits_in bytes) ≡ bytes) × AllByRecursion IsHit (hits_in bytes)
 
-hits_back : (bytes : List ℕ) → AreBytes bytes → length bytes % 8 ≡ 0 → HitsBack bytes
+pub hits_back : (bytes : List ℕ) → AreBytes bytes → length bytes % 8 ≡ 0 → HitsBack bytes
 hits_back [] all whole = (refl, tt)
 hits_back (a ∷ []) all whole = absurd (omega arith)
 hits_back (a ∷ b ∷ []) all whole = absurd (omega arith)

@@ -10,8 +10,8 @@ use Rattle.osc_message.specs.Reading.{limited_read, is_message, pattern_of}
 use Rattle.osc_message.specs.Arguments.{message_arguments}
 use Rattle.osc_message.proofs.Checks.{exact_of}
 use Rattle.osc_message.proofs.TextLaws.{pattern_again, bare_arguments, known_arguments_again, unknown_arguments_again}
-use Rattle.osc_record.specs.Limits.{Limits, limit_fault}
-use Rattle.osc_record.specs.Recordings.{int, row_text, header_row}
+use Rattle.osc_model.specs.Limits.{Limits, limit_fault}
+use Rattle.osc_model.specs.Recordings.{int, row_text, header_row}
 use Rattle.osc_record.specs.Reading.{limits_read, lawful_limits, header_of, header_read, message_first, bytes_of_size, int_first}
 use Rattle.osc_record.proofs.Again.{message_more, cond_gives}
 use Rattle.osc_record.proofs.ArgumentsRead.{int_was, end_was, some_is}

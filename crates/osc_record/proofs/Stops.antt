@@ -3,8 +3,9 @@ use Rattle.std.proofs.Common.{◌≡◌, ℕ, ◌+◌, ◌<◌, ◌≤◌, zero,
 use Rattle.std.specs.List.{flat_map, AllByRecursion}
 use Rattle.std.specs.Prelude.{option_and_then}
 use Rattle.osc_atoms.specs.Atoms.{AreBytes}
-use Rattle.osc_record.specs.Limits.{Limits}
-use Rattle.osc_record.specs.Recordings.{Recorded, sized, entry_text, header_text, IsRecordable}
+use Rattle.osc_model.specs.Limits.{Limits}
+use Rattle.osc_model.specs.Events.{Entry as Recorded}
+use Rattle.osc_model.specs.Recordings.{sized, entry_text, header_text, IsRecordable}
 use Rattle.osc_record.specs.Reading.{message_first, entry_first, Placed, onto_read, before_read, entries_read, entries_after, header_of, header_read, HasNoHeader, HasNoEntry}
 use Rattle.osc_record.proofs.Again.{first_more, entry_first_again}
 use Rattle.osc_record.proofs.Readings.{header_again}

@@ -2,10 +2,10 @@
 use Rattle.std.proofs.Common.{◌≡◌, ℕ, ◌+◌, ◌-◌, ◌<◌, ◌≤◌, true, zero, suc, List, [], ◌∷◌, length, take, drop, Option, Some, None, Ok, Err, Result, refl, sym, ap, ◌∙◌, arith, length-drop}
 use Rattle.std.specs.Prelude.{IsTrue, is_ok}
 use Rattle.std.proofs.lemmas.List.{drop-drop, take_all}
-use Rattle.osc_record.specs.Recordings.{Recorded}
+use Rattle.osc_model.specs.Events.{Entry as Recorded}
 use Rattle.osc_record.specs.Reading.{entry_first, Placed, onto_read, before_read, entries_read, entries_at, entries_after, outcome, placed_in}
 use Rattle.osc_record.proofs.Again.{first_more}
-use Rattle.osc_record.specs.Limits.{Limits}
+use Rattle.osc_model.specs.Limits.{Limits}
 
 -- no more is read than there are bytes
 pub enough : (most more limit place : ℕ) (bytes : List ℕ) → length bytes ≤ most → length bytes ≤ more → entries_read most limit place bytes ≡ entries_read more limit place bytes

@@ -1,5 +1,3 @@
-pub mod Limits
-pub mod Recordings
 pub mod Shown
 pub mod Reading
 pub mod Writing

@@ -8,8 +8,9 @@ use Rattle.osc_message.specs.Reading.{is_message, pattern_of}
 use Rattle.osc_message.specs.Arguments.{message_arguments}
 use Rattle.osc_model.specs.Events.{enrol, submit, add, remove, tick, release, Answer, number, callers_full, queued, units_full, pool_full, added, refused, removed, not_there, ticked, clock_back, released}
 use Rattle.osc_tree.specs.Adding.{taken, under_method, is_container, methods_full, nodes_full}
-use Rattle.osc_record.specs.Limits.{Limits, AreInRange, limit_fault}
-use Rattle.osc_record.specs.Recordings.{Recorded, IsRecordable, hits_in, header_text, entry_text, record_text}
+use Rattle.osc_model.specs.Limits.{Limits, AreInRange, limit_fault}
+use Rattle.osc_model.specs.Events.{Entry as Recorded}
+use Rattle.osc_model.specs.Recordings.{IsRecordable, hits_in, header_text, entry_text, record_text}
 
 -- a number that isn't negative
 abbrev pub natural_of : ℤ → Option ℕ

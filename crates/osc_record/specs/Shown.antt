@@ -1,5 +1,5 @@
 -- What events and answers of the code stand for.
-use Rattle.std.specs.Prelude.{List, map}
+use Rattle.std.specs.Prelude.{◌≡◌, ◌%◌, List, length, map}
 use Rattle.osc_atoms.specs.declared.room.Room.{Room as RoomOf}
 use Rattle.osc_message.specs.declared.argument.Arg.{Arg}
 use Rattle.osc_message.specs.Messages.{Argument}
@@ -12,7 +12,8 @@ use Rattle.osc_record.specs.declared.event.Event.TheVariants.{Enrol, Submit, Add
 use Rattle.osc_record.specs.declared.event.Answer.{Answer}
 use Rattle.osc_record.specs.declared.event.Answer.TheVariants.{Number, CallersFull, Queued, UnitsFull, PoolFull, Added, Taken, UnderMethod, IsContainer, MethodsFull, NodesFull, Removed, NotThere, Ticked, ClockBack, Released}
 use Rattle.osc_record.specs.declared.parts.Parts.{Parts}
-use Rattle.osc_record.specs.Recordings.{Recorded, hits_in}
+use Rattle.osc_model.specs.Events.{Entry as Recorded}
+use Rattle.osc_model.specs.Recordings.{hits_in}
 
 -- the event
 abbrev pub event_of : Event → model.Event
@@ -45,6 +46,11 @@ answer_of NotThere = not_there
 answer_of Ticked = ticked
 answer_of (ClockBack kept) = clock_back kept
 answer_of (Released unit hits) = released unit (hits_in hits.now)
+
+-- the bytes of a release's hits are eights
+abbrev pub HasWholeHits : Answer → Type 0
+HasWholeHits (Released unit hits) = length hits.now % 8 ≡ 0
+HasWholeHits _ = Unit {0}
 
 -- the arguments of a message
 abbrev pub listed : List Arg → List Argument

@@ -4,8 +4,9 @@ use Rattle.std.specs.List.{AllByRecursion}
 use Rattle.osc_atoms.specs.Atoms.{word, tag, string}
 use Rattle.osc_message.specs.Messages.{tag_string}
 use Rattle.osc_model.specs.Events.{Hit, release, released}
-use Rattle.osc_record.specs.Limits.{Limits}
-use Rattle.osc_record.specs.Recordings.{Recorded, IsHit, hits_text, hits_in, record_text}
+use Rattle.osc_model.specs.Limits.{Limits}
+use Rattle.osc_model.specs.Events.{Entry as Recorded}
+use Rattle.osc_model.specs.Recordings.{IsHit, hits_text, hits_in, record_text}
 use Rattle.osc_record.specs.Reading.{Placed, entries_after}
 
 -- a release that is begun: who releases which unit, the hits that it has, and how many it is owed

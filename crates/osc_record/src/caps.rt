@@ -1,6 +1,6 @@
 // The limits of a server's tables and of its recording.
 ghost use Rattle.std.specs.Prelude.{◌≡◌, ◌↔◌, IsOk, IfOk, IfErr, Some, None};
-ghost use Rattle.osc_record.specs.Limits.{Limits, AreInRange, is_within, limit_fault};
+ghost use Rattle.osc_model.specs.Limits.{Limits, AreInRange, is_within, limit_fault};
 
 use std::marker::Model;
 use thiserror::Error;
@@ -25,7 +25,7 @@ pub struct Caps {
 }
 
 impl Model for Caps {
-    ghost use Rattle.osc_record.specs.Limits.{Limits, AreInRange};
+    ghost use Rattle.osc_model.specs.Limits.{Limits, AreInRange};
 
     ghost Value = { Limits };
 

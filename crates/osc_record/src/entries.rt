@@ -2,7 +2,7 @@
 ghost use Rattle.std.specs.Prelude.{◌≡◌, ◌≢◌, ◌+◌, ◌≤◌, ◌++◌, length};
 ghost use Rattle.std.specs.Vec.{vec_len, vec_capacity};
 ghost use Rattle.osc_model.specs.Events.{enrol, submit, add, remove, tick, release};
-ghost use Rattle.osc_record.specs.Recordings.{entry_text, FitsRow, row_of};
+ghost use Rattle.osc_model.specs.Recordings.{entry_text, FitsRow, row_of};
 ghost use Rattle.osc_record.specs.Shown.{event_of, answer_of};
 
 use crate::event::{Answer, Event};

@@ -1,8 +1,9 @@
 //! What the definitions of recordings say of each other. These functions do nothing; their contracts are the laws.
 ghost use Rattle.std.specs.Prelude.{◌≡◌, ℕ, List, [], ◌∷◌, ◌++◌, length, codes, Ok};
 ghost use Rattle.osc_model.specs.Events.{Event, Answer, tick, ticked};
-ghost use Rattle.osc_record.specs.Limits.{Limits};
-ghost use Rattle.osc_record.specs.Recordings.{Recorded, FitsRow, row_of, entry_size, entry_text, header_text, record_text};
+ghost use Rattle.osc_model.specs.Limits.{Limits};
+ghost use Rattle.osc_model.specs.Events.{Entry as Recorded};
+ghost use Rattle.osc_model.specs.Recordings.{FitsRow, row_of, entry_size, entry_text, header_text, record_text};
 ghost use Rattle.osc_record.specs.Reading.{record_read, placed_from, IsRecord};
 
 /// A recording that is written is read again: its limits, and its entries, each at its place.

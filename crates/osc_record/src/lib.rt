@@ -14,6 +14,7 @@ mod parts;
 mod reader;
 mod recorder;
 mod rows;
+mod sized_entry;
 mod sized_reading;
 #[cfg(test)]
 mod tests;
@@ -23,3 +24,4 @@ pub use entries_left::Entries;
 pub use event::{Answer, Entry, Event};
 pub use reader::{Malformed, Reader};
 pub use recorder::Recorder;
+pub use sized_entry::entry_bytes;

@@ -3,11 +3,11 @@ ghost use Rattle.std.specs.Prelude.{◌≡◌, ◌+◌, ◌-◌, ◌%◌, ◌<�
 ghost use Rattle.std.specs.List.{flat_map};
 ghost use Rattle.std.specs.Vec.{vec_len, vec_capacity};
 ghost use Rattle.osc_atoms.specs.Atoms;
-ghost use Rattle.osc_atoms.specs.Atoms.{string, has_no_zero};
+ghost use Rattle.osc_atoms.specs.Atoms.{string, has_no_zero, blob_end};
 ghost use Rattle.osc_message.specs.Messages.{tag_of, atom_of, Fits, AllFit, known, message_text};
 ghost use Rattle.osc_message.specs.Shown.{shown};
 ghost use Rattle.osc_record.specs.Shown.{listed};
-ghost use Rattle.osc_record.specs.Recordings.{sized};
+ghost use Rattle.osc_model.specs.Recordings.{sized};
 
 use osc_atoms::{put_blob, put_string, put_tag, put_word};
 use osc_message::Arg;
@@ -31,11 +31,19 @@ pub(crate) fn append_message(out: &mut Vec<u8>, address: &[u8], tags: &[u8], arg
 }
 
 /// How many bytes a string of `size` bytes has with its end.
-fn string_size(size: usize) -> usize
+pub(crate) fn string_size(size: usize) -> usize
     requires { size ≤ 1073741824 }
     ensures { result ≡ size + (4 - size % 4) }
 {
     size + (4 - size % 4)
+}
+
+/// How many bytes a blob of `size` bytes has with its count and its end.
+pub(crate) fn blob_size(size: usize) -> usize
+    requires { size ≤ 1073741824 }
+    ensures { result ≡ 4 + (size + blob_end size) }
+{
+    4 + size + (4 - size % 4) % 4
 }
 
 /// How many bytes the arguments have behind their tags.
@@ -59,7 +67,7 @@ fn atom_size(arg: Arg<'_>) -> usize
         Arg::Int(_) | Arg::Float(_) | Arg::Char(_) | Arg::Rgba(_) | Arg::Midi(_) => 4,
         Arg::Long(_) | Arg::Time(_) | Arg::Double(_) => 8,
         Arg::Str(text) | Arg::Symbol(text) => string_size(text.len()),
-        Arg::Blob(blob) => 4 + blob.len() + (4 - blob.len() % 4) % 4,
+        Arg::Blob(blob) => blob_size(blob.len()),
         _ => 0,
     }
 }

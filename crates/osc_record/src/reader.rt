@@ -35,8 +35,9 @@ impl<'a> Model for Reader<'a> {
 
 impl<'a> Reader<'a> {
     ghost use Rattle.std.specs.Prelude.{◌≡◌, ◌≤◌, ℕ, List, length, IfOk, IfErr, IsOkAnd, Ok, Err};
-    ghost use Rattle.osc_record.specs.Limits.{Limits};
-    ghost use Rattle.osc_record.specs.Recordings.{Recorded, record_text};
+    ghost use Rattle.osc_model.specs.Limits.{Limits};
+    ghost use Rattle.osc_model.specs.Events.{Entry as Recorded};
+    ghost use Rattle.osc_model.specs.Recordings.{record_text};
     ghost use Rattle.osc_record.specs.Reading.{record_read, placed_from, unplaced, IsRecord, IsMalformedAt};
     ghost use Rattle.osc_record.specs.Left.{entries_left};
 

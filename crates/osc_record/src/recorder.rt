@@ -1,7 +1,7 @@
 // A recording in the making.
 ghost use Rattle.std.specs.Prelude.{◌≡◌, ◌+◌, ◌*◌, ◌<◌, ◌≤◌, ◌^◌, ◌==◌, ◌++◌, length, if◌then◌else◌};
 ghost use Rattle.std.specs.Vec.{vec_len, vec_capacity};
-ghost use Rattle.osc_record.specs.Recordings.{hit_text};
+ghost use Rattle.osc_model.specs.Recordings.{hit_text};
 ghost use Rattle.osc_record.specs.Writing.{release_head};
 
 use crate::caps::Caps;
@@ -40,7 +40,7 @@ impl Model for Recorder {
 impl Recorder {
     ghost use Rattle.std.specs.Prelude.{◌≡◌, ◌≢◌, ◌↔◌, ◌+◌, ◌*◌, ◌<◌, ◌≤◌, ◌^◌, [], length, IsTrue, IfOk, None};
     ghost use Rattle.osc_model.specs.Events.{release};
-    ghost use Rattle.osc_record.specs.Recordings.{IsRecordable, entry_text, record_text};
+    ghost use Rattle.osc_model.specs.Recordings.{IsRecordable, entry_text, record_text};
     ghost use Rattle.osc_record.specs.Shown.{event_of, answer_of};
     ghost use Rattle.osc_record.specs.Writing.{recording_text, appended, with_release, with_hit};
 

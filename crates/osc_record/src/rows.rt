@@ -2,7 +2,7 @@
 ghost use Rattle.std.specs.Prelude.{◌≡◌, ◌+◌, ◌≤◌, ◌++◌, ℤ, length};
 ghost use Rattle.std.specs.Vec.{vec_len, vec_capacity};
 ghost use Rattle.osc_message.specs.Messages.{AllFit};
-ghost use Rattle.osc_record.specs.Recordings.{sized, row_text, enrol_row, submit_row, add_row, remove_row, tick_row, header_text};
+ghost use Rattle.osc_model.specs.Recordings.{sized, row_text, enrol_row, submit_row, add_row, remove_row, tick_row, header_text};
 
 use crate::caps::Caps;
 use crate::message::append_message;

@@ -10,6 +10,10 @@ const HEADER: [u8; 56] =
 const TICK: [u8; 48] =
     *b"\0\0\0\x2c/osc/tick\0\0\0,itit\0\0\0\0\0\0\0\0\0\0\0\0\0\0\x05\0\0\0\0\0\0\0\0\0\0\0\x05";
 
+/// The entry of a release by caller 3 of unit 7, with two hits.
+const RELEASE: [u8; 60] =
+    *b"\0\0\0\x38/osc/release\0\0\0\0,ihb\0\0\0\0\0\0\0\x03\0\0\0\0\0\0\0\x07\0\0\0\x10\0\0\0\0\0\0\0\x05\0\0\0\x01\0\0\0\x04";
+
 #[test]
 fn the_first_limit_outside_its_range_is_named(rt: HostRuntime) {
     let rows: [([u32; 6], Option<u8>); 8] = [
@@ -41,6 +45,8 @@ fn a_header_and_a_tick_are_written_and_read(rt: HostRuntime) -> Result<(), Alloc
     let bytes = recorder.close();
     assert!(rt; bytes.len() == 104);
     assert_eq!(rt; &bytes[56..], TICK.as_slice());
+    let entry = entry_bytes(rt.alloc(), 0, Event::Tick(5), Answer::Ticked)?;
+    assert_eq!(rt; entry.as_slice(), TICK.as_slice());
     let Ok(reader) = Reader::check(&bytes) else {
         panic!(rt; "refused");
     };
@@ -68,10 +74,13 @@ fn a_release_has_its_hits_in_order(rt: HostRuntime) -> Result<(), AllocError> {
     recorder.put_hit(1, 4);
     let bytes = recorder.close();
     assert!(rt; bytes.len() == 116);
-    assert_eq!(rt;
-        &bytes[56..],
-        b"\0\0\0\x38/osc/release\0\0\0\0,ihb\0\0\0\0\0\0\0\x03\0\0\0\0\0\0\0\x07\0\0\0\x10\0\0\0\0\0\0\0\x05\0\0\0\x01\0\0\0\x04".as_slice()
-    );
+    assert_eq!(rt; &bytes[56..], RELEASE.as_slice());
+    let answer = Answer::Released {
+        unit: 7,
+        hits: &RELEASE[44..],
+    };
+    let entry = entry_bytes(rt.alloc(), 3, Event::Release, answer)?;
+    assert_eq!(rt; entry.as_slice(), RELEASE.as_slice());
     Ok(())
 }
 

@@ -1,5 +1,8 @@
-use Rattle.osc_model.proofs.Ids.{next_grows, ids_given}
+use Rattle.osc_model.proofs.Ids.{step_next, next_grows, ids_given}
 use Rattle.osc_model.proofs.laws.an_id_is_given_once.Goals as goal
+
+pub returns-clause-next : goal.returns-clause-next
+returns-clause-next c = step_next
 
 pub returns-clause-grows : goal.returns-clause-grows
 returns-clause-grows c = next_grows

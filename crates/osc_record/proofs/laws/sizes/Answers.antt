@@ -1,4 +1,4 @@
-use Rattle.osc_record.proofs.Sizes.{sizes_are}
+use Rattle.osc_model.proofs.Sizes.{sizes_are}
 use Rattle.osc_record.proofs.laws.sizes.Goals as goal
 
 pub returns-clause-entry : goal.returns-clause-entry

@@ -1,7 +1,7 @@
 use Rattle.std.proofs.Common.{◌≡◌, ◌++◌, ◌∷◌, [], codes, pos, to_z, of_z, w32, arith, ◌∙◌}
 use Rattle.std.proofs.lemmas.Int.{to_z_pos, to_z-of_z}
 use Rattle.osc_message.specs.Messages.{integer}
-use Rattle.osc_record.specs.Recordings.{sized, row_text}
+use Rattle.osc_model.specs.Recordings.{sized, row_text}
 use Rattle.osc_record.proofs.rows.append_enrol.Goals as goal
 
 pub returns-clause-out : goal.returns-clause-out

@@ -1,7 +1,7 @@
 use Rattle.std.proofs.Common.{◌≡◌, ◌++◌, ◌∷◌, [], codes, pos, to_z, w32, arith, ◌∙◌}
 use Rattle.std.proofs.lemmas.Int.{to_z_pos}
 use Rattle.osc_message.specs.Messages.{integer, time}
-use Rattle.osc_record.specs.Recordings.{sized, row_text}
+use Rattle.osc_model.specs.Recordings.{sized, row_text}
 use Rattle.osc_record.proofs.rows.append_tick.Goals as goal
 
 pub returns-clause-out : goal.returns-clause-out

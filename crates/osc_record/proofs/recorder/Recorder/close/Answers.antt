@@ -1,5 +1,5 @@
 use Rattle.std.proofs.Common.{vec_capacity, sym, ap, ◌∙◌, ◌++◌, append-nil}
-use Rattle.osc_record.specs.Recordings.{record_text}
+use Rattle.osc_model.specs.Recordings.{record_text}
 use Rattle.osc_record.specs.Writing.{begun_text, recording_text}
 use Rattle.osc_record.proofs.Kept.{text_is}
 use Rattle.osc_record.proofs.recorder.Recorder.close.Goals as goal

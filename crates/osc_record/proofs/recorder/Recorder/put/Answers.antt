@@ -1,5 +1,6 @@
 use Rattle.std.proofs.Common.{◌≡◌, ◌+◌, ◌≤◌, None, length, vec_capacity, sym, ap, ◌∙◌, arith}
-use Rattle.osc_record.specs.Recordings.{Recorded, entry_text}
+use Rattle.osc_model.specs.Events.{Entry as Recorded}
+use Rattle.osc_model.specs.Recordings.{entry_text}
 use Rattle.osc_record.specs.Shown.{event_of, answer_of}
 use Rattle.osc_record.specs.Writing.{Recording, recording_of, recording_text, appended}
 use Rattle.osc_record.proofs.Kept.{Put, put_keeps, text_is}

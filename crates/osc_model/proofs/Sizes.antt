@@ -1,16 +1,41 @@
--- How many bytes an entry has.
-use Rattle.std.proofs.Common.{◌≡◌, ℕ, ◌+◌, ◌*◌, ℤ, List, [], ◌++◌, length, replicate, Option, Some, None, refl, arith, ap, sym, ◌∙◌, length-append}
+-- How many bytes the header and each entry of a recording have.
+use Rattle.std.proofs.Common.{◌≡◌, ℕ, ◌+◌, ◌-◌, ◌*◌, ◌%◌, ℤ, List, [], ◌∷◌, ◌++◌, length, replicate, codes, Option, Some, None, refl, arith, ap, ◌∙◌, length-append, append-nil}
 use Rattle.std.specs.Prelude.{option_map}
 use Rattle.std.specs.Option.{option_map_or}
 use Rattle.std.proofs.lemmas.List.{length-replicate}
-use Rattle.osc_atoms.specs.Atoms.{word, tag, string, blob_end}
+use Rattle.osc_atoms.specs.Atoms.{word, tag, string, blob, blob_end}
+use Rattle.osc_message.specs.Messages.{tag_string}
 use Rattle.osc_model.specs.Events.{Event, enrol, submit, add, remove, tick, release, Hit, Answer}
-use Rattle.osc_record.specs.Recordings.{Row, row_of, row_text, sized, entry_text, entry_size, FitsRow, enrolled, submitted, adding, removing, ticking, releasing, enrol_row, submit_row, add_row, remove_row, tick_row, release_row, hits_text}
-use Rattle.osc_record.proofs.Lawful.{length-hits_text}
-use Rattle.osc_record.proofs.Releases.{release_shape}
+use Rattle.osc_model.specs.Limits.{Limits}
+use Rattle.osc_model.specs.Recordings.{Row, row_of, row_text, sized, header_text, entry_text, entry_size, FitsRow, enrolled, submitted, adding, removing, ticking, releasing, enrol_row, submit_row, add_row, remove_row, tick_row, release_row, hits_text}
+
+pub length-hits_text : (hits : List Hit) → length (hits_text hits) ≡ 8 * length hits
+length-hits_text [] = refl
+length-hits_text (hit ∷ hits) = omega (arith, length-hits_text hits)
+
+no_padding : (k : ℕ) → blob_end (8 * k) ≡ 0
+no_padding k = let whole : (8 * k) % 4 ≡ 0 = omega arith in ap (λ n. (4 - n) % 4) whole
+
+-- a blob of eights
+pub eights : (content : List ℕ) (k : ℕ) → length content ≡ 8 * k → blob content ++ [] ≡ word (8 * k) ++ content
+eights content k is =
+    (λ i. (word (is i) ++ (content ++ replicate (blob_end (is i)) 0)) ++ [])
+    ∙ ap (λ n. (word (8 * k) ++ (content ++ replicate n 0)) ++ []) (no_padding k)
+    ∙ ap (λ l. (word (8 * k) ++ l) ++ []) (append-nil content)
+    ∙ append-nil (word (8 * k) ++ content)
+
+release_size : (caller unit : ℕ) (hits : List Hit) → length (sized (row_text (release_row caller unit (hits_text hits)))) ≡ 44 + 8 * length hits
+release_size caller unit hits =
+    let k : ℕ = length hits in
+    let body : List ℕ = string (codes "/osc/release") ++ (tag_string (codes "ihb") ++ (word caller ++ (tag unit ++ (word (8 * k) ++ hits_text hits)))) in
+    let text : row_text (release_row caller unit (hits_text hits)) ≡ body = ap (λ l. string (codes "/osc/release") ++ (tag_string (codes "ihb") ++ (word caller ++ (tag unit ++ l)))) (eights (hits_text hits) k (length-hits_text hits)) in
+    omega (arith, ap length text, length-hits_text hits)
 
 abbrev pub text_in : Option Row → List ℕ
 text_in o = option_map_or (λ row. sized (row_text row)) o []
+
+pub header_size : (limits : Limits) → length (header_text limits) ≡ 56
+header_size limits = refl
 
 pub sizes_are : (caller : ℕ) (event : Event) (answer : Answer) → FitsRow (row_of caller event answer) → length (entry_text caller event answer) ≡ entry_size event answer
 sizes_are caller enrol answer fits = go (enrolled answer) fits where
@@ -40,4 +65,4 @@ sizes_are caller release answer fits = go (releasing answer) fits where
   go : (o : Option (ℕ × List Hit)) → FitsRow (option_map (λ r. release_row caller r.0 (hits_text r.1)) o)
       → length (text_in (option_map (λ r. release_row caller r.0 (hits_text r.1)) o)) ≡ 44 + 8 * length (option_map_or (λ r. r.1) o [])
   go None f = absurd f
-  go (Some r) f = sym (ap length (release_shape caller r.0 (hits_text r.1) (length r.1) (length-hits_text r.1))) ∙ omega (arith, length-hits_text r.1)
+  go (Some r) f = release_size caller r.0 r.1

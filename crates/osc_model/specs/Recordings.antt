@@ -5,9 +5,9 @@ use Rattle.std.specs.Option.{option_map_or}
 use Rattle.std.specs.Int.{w32, from_be_bytes}
 use Rattle.osc_atoms.specs.Atoms.{word, string, blob_end}
 use Rattle.osc_message.specs.Messages.{Argument, integer, text, content, long, time, AllFit, known, message_text}
-use Rattle.osc_model.specs.Events.{Event, enrol, submit, add, remove, tick, release, Hit, Answer, number, callers_full, queued, units_full, pool_full, added, refused, removed, not_there, ticked, clock_back, released}
+use Rattle.osc_model.specs.Events.{Event, Entry, enrol, submit, add, remove, tick, release, Hit, Answer, number, callers_full, queued, units_full, pool_full, added, refused, removed, not_there, ticked, clock_back, released}
 use Rattle.osc_tree.specs.Adding.{Refusal, taken, under_method, is_container, methods_full, nodes_full}
-use Rattle.osc_record.specs.Limits.{Limits}
+use Rattle.osc_model.specs.Limits.{Limits}
 
 -- a message of the recording: its address, and its arguments, each under its tag
 pub record Row : Type 0 where
@@ -141,14 +141,8 @@ header_text limits = sized (row_text (header_row limits))
 abbrev pub entry_text : ℕ → Event → Answer → List ℕ
 entry_text caller event answer = option_map_or (λ row. sized (row_text row)) (row_of caller event answer) []
 
--- an event of a caller with its answer
-pub record Recorded : Type 0 where
-  pub caller : ℕ
-  pub event : Event
-  pub answer : Answer
-
 -- the bytes of a whole recording
-abbrev pub record_text : Limits → List Recorded → List ℕ
+abbrev pub record_text : Limits → List Entry → List ℕ
 record_text limits entries = header_text limits ++ flat_map (λ entry. entry_text entry.caller entry.event entry.answer) entries
 
 -- the two numbers of a hit are words
