@@ -46,7 +46,7 @@ impl Text {
     }
 
     /// Adds the bytes in lower-case hexadecimal digits.
-    fn space_hex(&mut self, tag: &[u8], bytes: &[u8]) -> Result<(), AllocError>
+    pub(crate) fn space_hex(&mut self, tag: &[u8], bytes: &[u8]) -> Result<(), AllocError>
         ensures { OnOk result (self.new ≡ self.old ++ spaced (tag.now ++ encode_lower bytes.now)) }
     {
         self.space_word(tag)?;

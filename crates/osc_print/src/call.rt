@@ -4,28 +4,30 @@ ghost use Rattle.std.specs.Option.{option_copied};
 ghost use Rattle.std.specs.List.{flat_map};
 ghost use Rattle.osc_message.specs.Arguments.{tags_of, message_arguments};
 ghost use Rattle.osc_print.specs.Words.{argument_word, spaced, tags_word};
-ghost use Rattle.osc_print.specs.Lines.{call_text, call_head};
+ghost use Rattle.osc_print.specs.Lines.{call_head};
+ghost use Rattle.osc_print.specs.Entries.{invocation_text};
 
 use crate::Text;
 use osc_message::Message;
+use osc_method::Call;
+use osc_pattern::Address;
 use std::alloc::AllocError;
 
-/// Adds the line of a call: the unit's number, the message's index in the unit, the method's id and address, the
-/// message's tags and a word for each argument (docs/FORMATS.md, "Printed text"). An `Err` is want of memory.
-pub fn call_words(
+/// Adds the line of a call of the method with this id and address: the unit's number, the message's index in the unit,
+/// the id, the address, the message's tags and a word for each argument (docs/FORMATS.md, "Printed text"). An `Err` is
+/// want of memory.
+pub fn call_line(
     text: &mut Text,
-    unit: u64,
-    index: u32,
+    call: &Call<'_>,
     id: u32,
-    address: &[u8],
-    message: &Message<'_>,
+    address: &Address,
 ) -> Result<(), AllocError>
-    ensures ok { OnOk result (text.new ≡ text.old ++ call_text unit index id address.now message.now) }
+    ensures ok { OnOk result (text.new ≡ text.old ++ invocation_text (record { unit = call.now.unit; call = record { index = call.now.index; id = id; address = address.now; message = call.now.message } })) }
     ensures err { OnErr result (text.new ≡ text.old) }
 {
     let mut line = text.empty();
-    line.call_head(unit, index, id, address)?;
-    line.message_words(message)?;
+    line.call_head(call.unit, call.index, id, address.bytes())?;
+    line.message_words(&call.message)?;
     line.end_line()?;
     text.word(line.bytes())
 }

@@ -1,11 +1,17 @@
-//! The text that the programs print: words, calls and faults (docs/FORMATS.md, "Printed text").
+//! The text that the programs print: words, entries, calls and faults (docs/FORMATS.md, "Printed text").
 #![tactic(auto)]
 
 mod argument;
 mod call;
+mod entry;
 mod fault;
+pub mod laws;
 mod text;
 
-pub use call::call_words;
+pub use call::call_line;
+pub use entry::entry_line;
 pub use fault::fault_line;
 pub use text::Text;
+
+#[cfg(test)]
+mod tests;

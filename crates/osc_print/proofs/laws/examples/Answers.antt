@@ -1,0 +1,28 @@
+use Rattle.std.proofs.Common.{refl}
+use Rattle.std.specs.Fmt.{digits}
+use Rattle.hex.proofs.OnLiterals.{hex_on_literals}
+use Rattle.osc_message.specs.Reading.{message_read}
+use Rattle.osc_pattern.specs.Reading.{read_part}
+use Rattle.osc_print.proofs.laws.examples.Goals as goal
+
+pub returns : goal.returns
+unfolding digits hex_on_literals message_read read_part
+returns c = record {
+  number = refl;
+  callers_full = refl;
+  queued = refl;
+  units_full = refl;
+  pool_full = refl;
+  added = refl;
+  taken = refl;
+  under_method = refl;
+  is_container = refl;
+  methods_full = refl;
+  nodes_full = refl;
+  removed = refl;
+  not_there = refl;
+  ticked = refl;
+  clock_back = refl;
+  released = refl;
+  call = refl;
+}

@@ -1,0 +1,62 @@
+-- The printed lines of entries and of invocations.
+use Rattle.std.specs.Prelude.{ℕ, List, [], ◌++◌, length, codes}
+use Rattle.std.specs.Fmt.{decimal}
+use Rattle.hex.specs.Hex.{encode_lower}
+use Rattle.osc_atoms.specs.Atoms.{tag}
+use Rattle.osc_tree.specs.Adding.{Refusal, taken, under_method, is_container, methods_full, nodes_full}
+use Rattle.osc_model.specs.Events.{Event, enrol, add, remove, submit, tick, release, Answer, number, callers_full, queued, units_full, pool_full, added, refused, removed, not_there, ticked, clock_back, released, Entry, Invocation}
+use Rattle.osc_print.specs.Words.{spaced}
+use Rattle.osc_print.specs.Lines.{line, call_text}
+
+-- a word and a number
+abbrev pub named : List ℕ → ℕ → List ℕ
+named word value = word ++ spaced (decimal value)
+
+-- a word, how much is needed, and how much is free
+abbrev pub named_room : List ℕ → ℕ → ℕ → List ℕ
+named_room word need free = word ++ (spaced (decimal need) ++ spaced (decimal free))
+
+-- a moment, in 16 digits
+abbrev pub moment_word : ℕ → List ℕ
+moment_word moment = encode_lower (tag moment)
+
+-- why an address isn't added
+abbrev pub refusal_words : Refusal → List ℕ
+refusal_words (taken id) = named (codes "taken") id
+refusal_words (under_method id) = named (codes "under-method") id
+refusal_words is_container = codes "is-container"
+refusal_words (methods_full limit) = named (codes "methods-full") limit
+refusal_words (nodes_full need free) = named_room (codes "nodes-full") need free
+
+-- what an event is answered, in words
+abbrev pub answer_words : Answer → List ℕ
+answer_words (number caller) = decimal caller
+answer_words callers_full = codes "full"
+answer_words (queued first count) = named_room (codes "queued") first count
+answer_words (units_full room) = named_room (codes "units-full") room.need room.free
+answer_words (pool_full room) = named_room (codes "pool-full") room.need room.free
+answer_words (added id) = named (codes "id") id
+answer_words (refused refusal) = refusal_words refusal
+answer_words (removed id) = named (codes "id") id
+answer_words not_there = codes "not-there"
+answer_words ticked = codes "ticked"
+answer_words (clock_back clock) = codes "clock-back" ++ spaced (moment_word clock)
+answer_words (released unit hits) = decimal unit ++ spaced (decimal (length hits))
+answer_words _ = []
+
+-- an event's word, its caller and what is handed in
+abbrev pub event_words : ℕ → Event → List ℕ
+event_words caller enrol = named (codes "enrol") caller
+event_words caller (submit packet) = named (codes "submit") caller
+event_words caller (add address) = named (codes "add") caller ++ spaced address
+event_words caller (remove address) = named (codes "remove") caller ++ spaced address
+event_words caller (tick moment) = named (codes "tick") caller ++ spaced (moment_word moment)
+event_words caller release = named (codes "release") caller
+
+-- an entry's line
+abbrev pub entry_text : Entry → List ℕ
+entry_text entry = line (event_words entry.caller entry.event ++ spaced (answer_words entry.answer))
+
+-- the line of an invocation
+abbrev pub invocation_text : Invocation → List ℕ
+invocation_text invocation = call_text invocation.unit invocation.call.index invocation.call.id invocation.call.address invocation.call.message

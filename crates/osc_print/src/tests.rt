@@ -1,0 +1,129 @@
+// The lines of entries, of a call and of a fault, and words.
+use crate::*;
+use osc_atoms::{Fault, Room};
+use osc_message::Message;
+use osc_method::Call;
+use osc_pattern::Address;
+use osc_record::{Answer, Entry, Event};
+use std::test::Fail;
+
+#[test]
+fn lines_are_printed_as_the_format_has_them(rt: HostRuntime) -> Result<(), Fail> {
+    let full = Room::new(3, 2);
+    let queued = Answer::Queued {
+        first: 12,
+        count: 2,
+    };
+    let released = Answer::Released {
+        unit: 12,
+        hits: &[0; 16],
+    };
+    let rows: [(Event<'_>, Answer<'_>, &[u8]); 16] = [
+        (Event::Enrol, Answer::Number(1), b"enrol 7 1\n"),
+        (Event::Enrol, Answer::CallersFull, b"enrol 7 full\n"),
+        (Event::Submit(b"/a\0\0"), queued, b"submit 7 queued 12 2\n"),
+        (
+            Event::Submit(b""),
+            Answer::UnitsFull(full),
+            b"submit 7 units-full 3 2\n",
+        ),
+        (
+            Event::Submit(b""),
+            Answer::PoolFull(full),
+            b"submit 7 pool-full 3 2\n",
+        ),
+        (Event::Add(b"/a/b"), Answer::Added(5), b"add 7 /a/b id 5\n"),
+        (
+            Event::Add(b"/a/b"),
+            Answer::Taken(5),
+            b"add 7 /a/b taken 5\n",
+        ),
+        (
+            Event::Add(b"/a/b"),
+            Answer::UnderMethod(5),
+            b"add 7 /a/b under-method 5\n",
+        ),
+        (
+            Event::Add(b"/a/b"),
+            Answer::IsContainer,
+            b"add 7 /a/b is-container\n",
+        ),
+        (
+            Event::Add(b"/a/b"),
+            Answer::MethodsFull(1024),
+            b"add 7 /a/b methods-full 1024\n",
+        ),
+        (
+            Event::Add(b"/a/b"),
+            Answer::NodesFull(full),
+            b"add 7 /a/b nodes-full 3 2\n",
+        ),
+        (
+            Event::Remove(b"/a"),
+            Answer::Removed(5),
+            b"remove 7 /a id 5\n",
+        ),
+        (
+            Event::Remove(b"/a"),
+            Answer::NotThere,
+            b"remove 7 /a not-there\n",
+        ),
+        (
+            Event::Tick(0xab),
+            Answer::Ticked,
+            b"tick 7 00000000000000ab ticked\n",
+        ),
+        (
+            Event::Tick(0),
+            Answer::ClockBack(1),
+            b"tick 7 0000000000000000 clock-back 0000000000000001\n",
+        ),
+        (Event::Release, released, b"release 7 12 2\n"),
+    ];
+    for (event, answer, want) in rows {
+        let mut text = Text::open(rt.alloc());
+        let entry = Entry {
+            at: 56,
+            caller: 7,
+            event,
+            answer,
+        };
+        entry_line(&mut text, &entry)?;
+        assert_eq!(rt; text.bytes(), want);
+    }
+    Ok(())
+}
+
+#[test]
+fn calls_faults_and_words_are_printed(rt: HostRuntime) -> Result<(), Fail> {
+    let mut text = Text::open(rt.alloc());
+    let bytes =
+        b"/l*\0,ihsb[T]\0\0\0\0\xff\xff\xff\xff\0\0\0\0\0\0\0\x07 \\a\0\0\0\0\x02\xab\xcd\0\0";
+    let message = Message::check(bytes, 65_504).ok().ok_or("a message")?;
+    let call = Call {
+        unit: 12,
+        index: 1,
+        message,
+    };
+    let address = Address::read(rt.alloc(), b"/light")
+        .ok()
+        .ok_or("an address")?;
+    call_line(&mut text, &call, 4, &address)?;
+    let bare = Message::check(b"/c\0\0", 65_504).ok().ok_or("a message")?;
+    let call = Call {
+        unit: 13,
+        index: 0,
+        message: bare,
+    };
+    call_line(&mut text, &call, 4, &address)?;
+    fault_line(&mut text, 2, Fault { kind: 16, at: 12 })?;
+    text.word(b"units")?;
+    text.space_word(b"full")?;
+    text.space_number(0)?;
+    text.end_line()?;
+    assert_eq!(rt;
+        text.bytes(),
+        b"call 12 1 4 /light ,ihsb[T] i:-1 h:7 s:\\x20\\x5ca b:abcd [ T ]\ncall 13 0 4 /light -\nfault 2 16 12\nunits full 0\n".as_slice()
+    );
+    Ok(())
+}
