@@ -1,18 +1,23 @@
 -- Methods by their ids, and the calls of the methods that match.
-use Rattle.std.proofs.Common.{◌≡◌, ◌≢◌, ℕ, suc, ◌==◌, Bool, true, false, cond, List, [], ◌∷◌, map, find, get_or, Option, Some, None, All, Contains, IsSome, inl, inr, refl, sym, ap, subst, ◌∙◌, arith}
+use Rattle.std.proofs.Common.{◌≡◌, ◌≢◌, ℕ, suc, ◌+◌, ◌≤◌, ◌==◌, Bool, true, false, cond, List, [], ◌∷◌, ◌++◌, length, length-append, map, is_some, find, get_or, Option, Some, None, All, Contains, inl, inr, refl, sym, ap, ◌∙◌, arith}
 use Rattle.std.specs.List.{AllPairs}
 use Rattle.std.specs.Option.{option_map}
 use Rattle.std.specs.List.Sorted.{IsPermutation}
-use Rattle.std.proofs.lemmas.Bool.{eq-eqb, eqb-true, cases_order}
-use Rattle.std.proofs.lemmas.List.{get_or_default}
+use Rattle.std.proofs.lemmas.Bool.{cond-false, eq-eqb, eqb-true, cases_order}
+use Rattle.std.proofs.lemmas.List.{get_or_default, length-map}
 use Rattle.std.proofs.lemmas.List.Elements.{All-cons, All-head, All-tail, All-nil, All-filter, All-contains}
-use Rattle.std.proofs.lemmas.List.Sorted.{All-permutation}
+use Rattle.std.proofs.lemmas.List.Sorted.{All-permutation, length_permutation}
+use Rattle.std.proofs.lemmas.List.Sums.{length-filter, count_by-le-length}
 use Rattle.osc_pattern.specs.Patterns.{matches}
 use Rattle.osc_pattern.specs.Methods.{Method}
 use Rattle.osc_tree.specs.Registry.{Registry, IsLawful, address_by_id}
-use Rattle.osc_tree.specs.Matching.{matched, matching}
-use Rattle.osc_model.specs.Events.{Call}
-use Rattle.osc_core.specs.Calls.{call_by}
+use Rattle.osc_tree.specs.Matching.{matched, matching, matching_ids}
+use Rattle.osc_method.specs.declared.call.Call.{Call as CodeCall}
+use Rattle.osc_message.specs.Reading.{pattern_of}
+use Rattle.osc_message.specs.Arguments.{unknown_of}
+use Rattle.osc_model.specs.Step.{calls_of, calls_from, matching_calls, hits_of, invocations_of}
+use Rattle.osc_model.specs.Events.{Call, Hit, Invocation}
+use Rattle.osc_core.specs.Calls.{call_by, invocation_by, invoked_ids}
 
 later : (x y : Method) (ys : List Method) → Contains ys x → Contains (y ∷ ys) x
 later x y ys (k, within, is) = (suc k, omega arith, is)
@@ -69,9 +74,56 @@ called all (method ∷ methods) index message known =
     let own : Method → Type 0 = λ m. address_by_id all m.id ≡ Some m.address in
     rw (All-head own method methods known) (ap (λ (l : List Call). record { index = index; id = method.id; address = method.address; message = message } ∷ l) (called all methods index message (All-tail own method methods known)))
 
--- each of their ids has an address
-pub named : (all methods : List Method) → All (λ method. address_by_id all method.id ≡ Some method.address) methods → All (λ id. IsSome (address_by_id all id)) (map (λ method. method.id) methods)
-named all [] known = All-nil (λ id. IsSome (address_by_id all id))
-named all (method ∷ methods) known =
-    let own : Method → Type 0 = λ m. address_by_id all m.id ≡ Some m.address in
-    All-cons (λ id. IsSome (address_by_id all id)) method.id (map (λ m. m.id) methods) (subst (λ o. IsSome o) (sym (All-head own method methods known)) refl) (named all methods (All-tail own method methods known))
+-- the invocations of the methods that a message invokes are those of its calls
+pub invoked : (methods : List Method) (call : CodeCall) (ids : List ℕ) → map (invocation_by methods call) ids ≡ invocations_of call.unit (map (call_by methods call.index call.message) ids)
+invoked methods call [] = refl
+invoked methods call (id ∷ ids) = ap (λ (l : List Invocation). invocation_by methods call id ∷ l) (invoked methods call ids)
+
+pub hit : (methods : List Method) (call : CodeCall) (ids : List ℕ) → map (λ id. record { index = call.index; id = id }) ids ≡ hits_of (map (call_by methods call.index call.message) ids)
+hit methods call [] = refl
+hit methods call (id ∷ ids) = ap (λ (l : List Hit). record { index = call.index; id = id } ∷ l) (hit methods call ids)
+
+-- a message's calls are those of the ids that it invokes
+pub calls_by_ids : (methods : List Method) (index : ℕ) (message : List ℕ) → is_some (unknown_of message) ≡ false → All (λ method. address_by_id methods method.id ≡ Some method.address) (matching (pattern_of message) methods)
+    → map (call_by methods index message) (matching_ids (pattern_of message) methods) ≡ calls_of methods index message
+calls_by_ids methods index message known own = called methods (matching (pattern_of message) methods) index message own ∙ sym (cond-false (is_some (unknown_of message)) [] (matching_calls methods index message) known)
+
+-- as many calls as ids
+pub as_many_calls : (methods : List Method) (index : ℕ) (message : List ℕ) → length (calls_of methods index message) ≡ length (invoked_ids methods message)
+as_many_calls methods index message = go (is_some (unknown_of message)) where
+  go : (t : Bool) → length (cond t [] (matching_calls methods index message)) ≡ length (cond t [] (matching_ids (pattern_of message) methods))
+  go true = refl
+  go false = length-map (matching (pattern_of message) methods) (λ method. record { index = index; id = method.id; address = method.address; message = message }) ∙ sym (length-map (matching (pattern_of message) methods) (λ (method : Method). method.id))
+
+pub length-hits_of : (calls : List Call) → length (hits_of calls) ≡ length calls
+length-hits_of [] = refl
+length-hits_of (call ∷ calls) = ap suc (length-hits_of calls)
+
+pub hits_in_two : (first more : List Call) → hits_of (first ++ more) ≡ hits_of first ++ hits_of more
+hits_in_two [] more = refl
+hits_in_two (call ∷ first) more = ap (λ (l : List Hit). record { index = call.index; id = call.id } ∷ l) (hits_in_two first more)
+
+pub invocations_in_two : (unit : ℕ) (first more : List Call) → invocations_of unit (first ++ more) ≡ invocations_of unit first ++ invocations_of unit more
+invocations_in_two unit [] more = refl
+invocations_in_two unit (call ∷ first) more = ap (λ (l : List Invocation). record { unit = unit; call = call } ∷ l) (invocations_in_two unit first more)
+
+-- few methods match
+pub few_matching : (pattern : List ℕ) (tree : Registry) → IsLawful tree → IsPermutation (matched pattern tree.methods) (matching pattern tree.methods) → length (matching_ids pattern tree.methods) ≤ tree.method_limit
+few_matching pattern tree lawful same =
+    let test : Method → Bool = λ method. matches pattern method.address in
+    omega (arith, length-map (matching pattern tree.methods) (λ (method : Method). method.id), length_permutation (matched pattern tree.methods) (matching pattern tree.methods) same, length-filter test tree.methods, count_by-le-length test tree.methods, lawful.few_methods)
+
+-- how many calls there are doesn't hang on where the messages stand
+pub same_many : (methods : List Method) (i j : ℕ) (messages : List (List ℕ)) → length (calls_from methods i messages) ≡ length (calls_from methods j messages)
+same_many methods i j [] = refl
+same_many methods i j (message ∷ messages) =
+    omega (arith, length-append (calls_of methods i message) (calls_from methods (i + 1) messages), length-append (calls_of methods j message) (calls_from methods (j + 1) messages), as_many_calls methods i message, as_many_calls methods j message, same_many methods (i + 1) (j + 1) messages)
+
+-- what is last is there
+pub last_there : (methods : List Method) (method : Method) → Contains (methods ++ method ∷ []) method
+last_there [] method = (0, omega arith, refl)
+last_there (first ∷ methods) method = later method first (methods ++ method ∷ []) (last_there methods method)
+
+-- a message with an unknown tag makes no call
+pub no_calls : (methods : List Method) (index : ℕ) (message : List ℕ) → is_some (unknown_of message) ≡ true → calls_of methods index message ≡ []
+no_calls methods index message is = rw is refl

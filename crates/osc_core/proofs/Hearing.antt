@@ -1,17 +1,15 @@
 -- What boxes hear of calls.
-use Rattle.std.proofs.Common.{◌≡◌, ◌≢◌, ℕ, zero, suc, ◌+◌, ◌<◌, ◌≤◌, Bool, true, false, ◌==◌, nat_lt, cond, List, [], ◌∷◌, length, map, drop, get_or, Option, refl, sym, ap, subst, ◌∙◌, arith}
+use Rattle.std.proofs.Common.{◌≡◌, ◌≢◌, ℕ, zero, suc, ◌+◌, ◌<◌, ◌≤◌, Bool, true, false, ◌==◌, nat_lt, cond, List, [], ◌∷◌, ◌++◌, length, map, drop, get_or, Option, refl, sym, ap, subst, ◌∙◌, arith}
 use Rattle.std.specs.List.{list_all, AllByRecursion, slice_set}
 use Rattle.std.proofs.lemmas.Bool.Decides.{nat_tests}
 use Rattle.std.proofs.lemmas.List.{length-map, map-set, get_or-map, set-get_or, drop_more}
 use Rattle.std.proofs.lemmas.Simd.{map-map}
 use Rattle.osc_method.specs.Heard.{after_call}
-use Rattle.osc_method.specs.Calls.{call_text}
-use Rattle.osc_model.specs.Events.{Invocation, Call}
-use Rattle.osc_model.specs.Heard.{Told, bytes_of, hear, hear_all}
-use Rattle.osc_model.specs.Step.{invocations_of}
-use Rattle.osc_core.specs.declared.invocation.Invocation.{Invocation as CodeCall}
-use Rattle.osc_core.specs.Answers.{call_of}
-use Rattle.osc_core.specs.Boxes.{all_hear}
+use Rattle.osc_model.specs.Events.{Invocation}
+use Rattle.osc_model.specs.Heard.{Told, bytes_of, hear, hear_all, all_hear}
+use Rattle.osc_pattern.specs.Methods.{Method}
+use Rattle.osc_method.specs.declared.call.Call.{Call as CodeCall}
+use Rattle.osc_core.specs.Calls.{invocation_by}
 use Rattle.osc_core.specs.Ids.{is_ascending}
 use Rattle.osc_core.proofs.Ascents.{both, behind, rising}
 
@@ -81,26 +79,45 @@ keys_stay key xs place old one within is same =
     ∙ ap (slice_set (map key xs) place) (same ∙ ap key is ∙ sym (get_or-map key xs place old 0 there))
     ∙ set-get_or (map key xs) place 0
 
-pub heard_call : (told : Told) (unit : ℕ) (call : Call) (message : List ℕ) (keep : ℕ) (heard : Option (List ℕ)) → told.id ≡ call.id → message ≡ call.message → keep ≡ told.keep → heard ≡ after_call told.keep (call_text unit call.index message) told.heard → record { id = told.id; keep = keep; heard = heard } ≡ hear told (record { unit = unit; call = call })
-heard_call told unit call message keep heard same m k h =
-    heard_one told (record { unit = unit; call = call }) keep heard same k (h ∙ ap (λ (bytes : List ℕ). after_call told.keep (call_text unit call.index bytes) told.heard) m)
-
-dropped : {X : Type 0} (xs : List X) (n : ℕ) → length xs ≤ n → drop n xs ≡ []
+pub dropped : {X : Type 0} (xs : List X) (n : ℕ) → length xs ≤ n → drop n xs ≡ []
 dropped [] zero le = refl
 dropped [] (suc n) le = refl
 dropped (x ∷ xs) zero le = absurd (omega arith)
 dropped (x ∷ xs) (suc n) le = dropped xs n (omega arith)
 
 -- one call more is made
-pub one_call_more : (unit : ℕ) (calls : List CodeCall) (i : ℕ) (item : CodeCall) (old new : List Told) → i < length calls → item ≡ get_or calls i item → new ≡ map (λ told. hear told (record { unit = unit; call = call_of item })) old → all_hear (invocations_of unit (map call_of (drop (i + 1) calls))) new ≡ all_hear (invocations_of unit (map call_of (drop i calls))) old
-one_call_more unit calls i item old new lt is heard =
-    ap (all_hear (invocations_of unit (map call_of (drop (i + 1) calls)))) heard
-    ∙ all_hear_more (record { unit = unit; call = call_of item }) (invocations_of unit (map call_of (drop (i + 1) calls))) old
-    ∙ ap (λ (l : List CodeCall). all_hear (invocations_of unit (map call_of l)) old) (ap (λ (one : CodeCall). one ∷ drop (i + 1) calls) is ∙ sym (drop_more calls i item lt))
+pub one_call_more : (invocation : Invocation) (invocations : List Invocation) (old new : List Told) → new ≡ map (λ told. hear told invocation) old → all_hear invocations new ≡ all_hear (invocation ∷ invocations) old
+one_call_more invocation invocations old new heard = ap (all_hear invocations) heard ∙ all_hear_more invocation invocations old
 
-pub all_calls_made : (unit : ℕ) (calls : List CodeCall) (i : ℕ) (boxes : List Told) → length calls ≤ i → boxes ≡ all_hear (invocations_of unit (map call_of (drop i calls))) boxes
-all_calls_made unit calls i boxes le =
-    sym (none_to_hear boxes) ∙ ap (λ (l : List CodeCall). all_hear (invocations_of unit (map call_of l)) boxes) (sym (dropped calls i le))
+-- calls in two goes
+hear_on : (first more : List Invocation) (told : Told) → hear_all (first ++ more) told ≡ hear_all more (hear_all first told)
+hear_on [] more told = refl
+hear_on (invocation ∷ first) more told = hear_on first more (hear told invocation)
+
+pub all_hear_on : (first more : List Invocation) (boxes : List Told) → all_hear more (all_hear first boxes) ≡ all_hear (first ++ more) boxes
+all_hear_on first more [] = refl
+all_hear_on first more (told ∷ boxes) =
+    ap (λ (t : Told). t ∷ all_hear more (all_hear first boxes)) (sym (hear_on first more told)) ∙ ap (λ (l : List Told). hear_all (first ++ more) told ∷ l) (all_hear_on first more boxes)
+
+-- ids whose calls are made one after another
+pub call_made : (invocation_of : ℕ → Invocation) (ids : List ℕ) (i : ℕ) (old new : List Told) → i < length ids → new ≡ map (λ told. hear told (invocation_of (get_or ids i 0))) old → all_hear (map invocation_of (drop (i + 1) ids)) new ≡ all_hear (map invocation_of (drop i ids)) old
+call_made invocation_of ids i old new within heard =
+    one_call_more (invocation_of (get_or ids i 0)) (map invocation_of (drop (i + 1) ids)) old new heard ∙ ap (λ (l : List ℕ). all_hear (map invocation_of l) old) (sym (drop_more ids i 0 within))
+
+pub calls_all_made : (invocation_of : ℕ → Invocation) (ids : List ℕ) (i : ℕ) (boxes : List Told) → length ids ≤ i → boxes ≡ all_hear (map invocation_of (drop i ids)) boxes
+calls_all_made invocation_of ids i boxes past = sym (none_to_hear boxes) ∙ ap (λ (l : List ℕ). all_hear (map invocation_of l) boxes) (sym (dropped ids i past))
 
 pub hears_nothing : (invocations : List Invocation) (boxes : List Told) → [] ≡ invocations → boxes ≡ all_hear invocations boxes
 hears_nothing invocations boxes none = sym (none_to_hear boxes) ∙ ap (λ (l : List Invocation). all_hear l boxes) none
+
+-- the element in the place of a key has it
+pub key_there : {X : Type 0} (key : X → ℕ) (xs : List X) (place : ℕ) (old : X) (n : ℕ) → place < length (map key xs) → old ≡ get_or xs place old → get_or (map key xs) place 0 ≡ n → key old ≡ n
+key_there key xs place old n within is at =
+    let there : place < length xs = omega (arith, length-map xs key) in
+    ap key is ∙ sym (get_or-map key xs place old 0 there) ∙ at
+
+pub hear_by : (told : Told) (methods : List Method) (call : CodeCall) (m n : ℕ) → m ≡ n → hear told (invocation_by methods call m) ≡ hear told (invocation_by methods call n)
+hear_by told methods call m n same = ap (λ (k : ℕ). hear told (invocation_by methods call k)) same
+
+pub hear_same : (old new : List Told) (first second : List Invocation) → new ≡ all_hear first old → first ≡ second → new ≡ all_hear second old
+hear_same old new first second heard same = heard ∙ ap (λ (l : List Invocation). all_hear l old) same

@@ -1,12 +1,15 @@
 pub mod Ascents
 pub mod Calling
 pub mod Finding
+pub mod Firsts
 pub mod Framing
 pub mod Hearing
+pub mod Invoking
 pub mod Joins
 pub mod Leaving
-pub mod Same
+pub mod Played
+pub mod Recorded
+pub mod Staying
 pub mod Stocks
 pub mod Storing
 pub mod Submits
-pub mod Young

@@ -1,8 +1,11 @@
 pub mod Answers
-pub mod Boxes
 pub mod Calls
+pub mod Due
 pub mod Frames
 pub mod Ids
 pub mod Kept
+pub mod Leaving
+pub mod Playing
+pub mod Recorded
 pub mod Sections
 pub mod Views

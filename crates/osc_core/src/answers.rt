@@ -1,5 +1,4 @@
 //! What the calls of the server answer.
-use crate::Invocations;
 use osc_atoms::Room;
 use osc_method::Method;
 use osc_pattern::Address;
@@ -9,6 +8,8 @@ use osc_pattern::Address;
 pub enum Enrolled {
     /// The new caller's number.
     Number(u32),
+    /// The entry has more bytes than the recording has left.
+    RecordFull(Room),
     /// There are as many callers as there may be.
     CallersFull,
 }
@@ -18,6 +19,8 @@ pub enum Enrolled {
 pub enum Submitted {
     /// So many units wait, the first of which has this number.
     Queued { first: u64, count: u32 },
+    /// The entry has more bytes than the recording has left.
+    RecordFull(Room),
     /// The packet has more units than places are free.
     UnitsFull(Room),
     /// The packet's units take more blocks of 64 bytes than are free.
@@ -27,6 +30,8 @@ pub enum Submitted {
 /// Why a method isn't added: the first of these that applies.
 #[derive(Clone, Copy, Debug, PartialEq, Eq)]
 pub enum AddRefusal {
+    /// The entry has more bytes than the recording has left.
+    RecordFull(Room),
     /// The method with this id has the address.
     Taken(u32),
     /// The method with this id has an address that is a proper prefix of the new one.
@@ -60,6 +65,8 @@ pub enum Removing {
         id: u32,
         method: Box<dyn Method + Send>,
     },
+    /// The entry has more bytes than the recording has left.
+    RecordFull(Room),
     /// No method has the address.
     NotThere,
 }
@@ -69,22 +76,28 @@ pub enum Removing {
 pub enum Ticking {
     /// The clock stands at the moment.
     Ticked,
+    /// The entry has more bytes than the recording has left.
+    RecordFull(Room),
     /// The moment is before the clock, which stays at this one.
     ClockBack(u64),
 }
 
 /// What a release is answered.
-#[derive(Drop)]
+#[derive(Clone, Copy, Debug, PartialEq, Eq)]
 pub enum Releasing {
-    /// The unit with this number left the queue, and made these calls.
-    Released { unit: u64, calls: Invocations },
+    /// The unit with this number left the queue, and made so many calls.
+    Released { unit: u64, calls: u32 },
     /// No unit is due. `next` is the least due moment in the queue, `None` where the queue is empty.
     NothingDue { next: Option<u64> },
+    /// The entry has more bytes than the recording has left: the unit stays queued, and no box is called.
+    RecordFull(Room),
 }
 
-/// The boxes of a server that is done.
+/// The recording and the boxes of a server that is done.
 #[derive(Drop)]
 pub struct Closed {
+    /// The recording (docs/FORMATS.md, "The recording").
+    pub bytes: Vec<u8>,
     /// The id of each registered method with its box, ascending.
     pub kept: Vec<(u32, Box<dyn Method + Send>)>,
 }

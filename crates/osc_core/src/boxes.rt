@@ -1,13 +1,10 @@
 // The boxes of the registered methods.
-ghost use Rattle.std.specs.Prelude.{◌≡◌, ◌<◌, ◌≤◌, ◌++◌, ◌∷◌, [], map, length, Contains, vec_len, vec_capacity, IsTrue};
-ghost use Rattle.osc_model.specs.Step.{invocations_of};
-ghost use Rattle.osc_model.specs.Heard.{Told, hear, reset};
-ghost use Rattle.osc_core.specs.Answers.{call_of};
-ghost use Rattle.osc_core.specs.Boxes.{all_hear, without_id};
+ghost use Rattle.std.specs.Prelude.{◌≡◌, ◌<◌, ◌≤◌, ◌++◌, ◌∷◌, [], List, map, length, Contains, vec_len, vec_capacity, IsTrue};
+ghost use Rattle.osc_pattern.specs.Methods.{Method as MethodAt};
+ghost use Rattle.osc_model.specs.Heard.{Told, hear, reset, without_id};
+ghost use Rattle.osc_core.specs.Calls.{invocation_by};
 ghost use Rattle.osc_core.specs.Ids.{is_ascending, IsFirstFrom, IsPlaceOf, without};
 
-use crate::invocation::Invocation;
-use osc_message::Message;
 use osc_method::{Call, Method};
 
 /// The id of a registered method, and its box.
@@ -42,46 +39,24 @@ pub(crate) fn hand_out(boxes: &mut Vec<Boxed>, id: u32) -> Box<dyn Method + Send
     }
 }
 
-/// The calls are made one after another.
-pub(crate) fn invoke_all(boxes: &mut Vec<Boxed>, unit: u64, calls: &[Invocation])
-    requires { IsTrue (is_ascending (map (λ one. one.0) boxes.old.items)) }
-    ensures boxes { map (λ one. record { id = one.0; keep = keep one.1; heard = heard one.1 }) boxes.new.items ≡ all_hear (invocations_of unit (map call_of calls.now)) (map (λ one. record { id = one.0; keep = keep one.1; heard = heard one.1 }) boxes.old.items) }
-    ensures ids { map (λ one. one.0) boxes.new.items ≡ map (λ one. one.0) boxes.old.items }
-    ensures capacity { vec_capacity boxes.old ≤ vec_capacity boxes.new }
-{
-    for call in calls {
-        invoke_one(boxes, unit, call);
-    }
-}
-
-/// The box of the call's method hears the call, and no other.
-fn invoke_one(boxes: &mut Vec<Boxed>, unit: u64, call: &Invocation)
+/// The box of the method with this id hears the call, and no other.
+pub(crate) fn invoke_one(boxes: &mut Vec<Boxed>, id: u32, call: &Call<'_>)
     requires { IsTrue (is_ascending (map (λ one. one.0) boxes.old.items)) }
     ensures ids { map (λ one. one.0) boxes.new.items ≡ map (λ one. one.0) boxes.old.items }
     ensures capacity { vec_capacity boxes.old ≤ vec_capacity boxes.new }
-    ensures boxes { map (λ one. record { id = one.0; keep = keep one.1; heard = heard one.1 }) boxes.new.items ≡ map (λ told. hear told (record { unit = unit; call = call_of call.now })) (map (λ one. record { id = one.0; keep = keep one.1; heard = heard one.1 }) boxes.old.items) }
+    ensures boxes { (methods : List MethodAt) → map (λ one. record { id = one.0; keep = keep one.1; heard = heard one.1 }) boxes.new.items ≡ map (λ told. hear told (invocation_by methods call.now id)) (map (λ one. record { id = one.0; keep = keep one.1; heard = heard one.1 }) boxes.old.items) }
 {
-    if let Some(place) = place_of(boxes, call.id) {
-        invoke(&mut boxes[place], unit, call);
+    if let Some(place) = place_of(boxes, id) {
+        invoke(&mut boxes[place], call);
     }
 }
 
 /// A box hears a call.
-fn invoke(boxed: &mut Boxed, unit: u64, call: &Invocation)
-    requires { boxed.old.0 ≡ call.now.id }
+fn invoke(boxed: &mut Boxed, call: &Call<'_>)
     ensures id { boxed.new.0 ≡ boxed.old.0 }
-    ensures told { record { id = boxed.new.0; keep = keep boxed.new.1; heard = heard boxed.new.1 } ≡ hear (record { id = boxed.old.0; keep = keep boxed.old.1; heard = heard boxed.old.1 }) (record { unit = unit; call = call_of call.now }) }
+    ensures told { (methods : List MethodAt) → record { id = boxed.new.0; keep = keep boxed.new.1; heard = heard boxed.new.1 } ≡ hear (record { id = boxed.old.0; keep = keep boxed.old.1; heard = heard boxed.old.1 }) (invocation_by methods call.now boxed.old.0) }
 {
-    match Message::check(call.message.as_slice(), 1_073_741_824) {
-        Ok(message) => {
-            boxed.1.invoke(&Call {
-                unit,
-                index: call.index,
-                message,
-            });
-        }
-        Err(_) => unreachable!(),
-    }
+    boxed.1.invoke(call);
 }
 
 /// The place of the id among the boxes.

@@ -1,82 +1,130 @@
 // The calls that a release makes.
-ghost use Rattle.std.specs.Prelude.{◌≡◌, ◌<◌, ◌≤◌, ◌++◌, map, All, Some, IsSome, IfOk, OnOk};
+ghost use Rattle.std.specs.Prelude.{◌≡◌, ◌<◌, ◌≤◌, ◌^◌, List, length, map, All, Some, IsTrue, vec_capacity};
+ghost use Rattle.osc_pattern.specs.Methods.{Method};
 ghost use Rattle.osc_tree.specs.Registry.{IsLawful, address_by_id};
 ghost use Rattle.osc_tree.specs.Matching.{matching, matching_ids};
-ghost use Rattle.osc_model.specs.Step.{calls_of, calls_from};
-ghost use Rattle.osc_core.specs.Answers.{call_of};
-ghost use Rattle.osc_core.specs.Calls.{call_by};
+ghost use Rattle.osc_model.specs.Heard.{all_hear};
+ghost use Rattle.osc_model.specs.Step.{calls_of, calls_from, hits_of, invocations_of};
+ghost use Rattle.osc_core.specs.Calls.{invocation_by, invoked_ids};
+ghost use Rattle.osc_core.specs.Ids.{is_ascending};
+ghost use Rattle.osc_core.specs.Recorded.{owed_by, with_hits};
 
-use crate::Invocation;
+use crate::boxes::{Boxed, invoke_one};
 use crate::messages::Messages;
-use osc_message::{Bytes, Message};
+use osc_message::Message;
+use osc_method::Call;
 use osc_pattern::{Pattern, Steps};
+use osc_record::Recorder;
 use osc_tree::{Hits, Tree};
-use std::alloc::{AllocError, Global};
 use std::marker::Brand;
 use std::sync::ledger::{Blank, Ledger};
 
-/// The calls of a unit's messages, in order.
-pub(crate) fn calls_of_unit(
-    alloc: Global,
-    tree: &Tree,
-    hits: &mut Hits,
-    messages: Messages<'_>,
-) -> Result<Vec<Invocation>, AllocError>
-    requires { tree.now.method_limit ≤ hits.old.limit }
-    ensures calls { IfOk result (λ calls. map call_of calls.items ≡ calls_from tree.now.methods 0 messages.entry) }
+/// How many calls the messages make.
+pub(crate) fn count_calls(tree: &Tree, hits: &mut Hits, messages: Messages<'_>) -> u64
+    requires limit { tree.now.method_limit ≤ hits.old.limit }
+    requires few { length messages < 2 ^ 32 }
+    requires few_methods { tree.now.method_limit ≤ 65536 }
+    ensures count { result ≡ length (calls_from tree.now.methods 0 messages.entry) }
+    ensures small { result < 2 ^ 48 }
     ensures limit { hits.new.limit ≡ hits.old.limit }
 {
-    let mut calls = Vec::with_capacity(alloc, messages.left() as usize)?;
-    let mut index = 0;
+    let mut count = 0;
     for message in messages {
-        push_calls(alloc, tree, hits, index, &message, &mut calls)?;
-        index += 1;
+        count += count_hits(tree, hits, &message);
     }
-    Ok(calls)
+    count
 }
 
-/// Adds the calls of the message at an index. One with an unknown tag has none.
-fn push_calls(
-    alloc: Global,
-    tree: &Tree,
-    hits: &mut Hits,
-    index: u32,
-    message: &Message<'_>,
-    calls: &mut Vec<Invocation>,
-) -> Result<(), AllocError>
+/// How many calls a message makes.
+fn count_hits(tree: &Tree, hits: &mut Hits, message: &Message<'_>) -> u64
     requires { tree.now.method_limit ≤ hits.old.limit }
-    ensures calls { OnOk result (map call_of calls.new.items ≡ map call_of calls.old.items ++ calls_of tree.now.methods index message.now) }
+    ensures count { result ≡ length (invoked_ids tree.now.methods message.now) }
+    ensures few { result ≤ tree.now.method_limit }
     ensures limit { hits.new.limit ≡ hits.old.limit }
 {
+    // A message with an unknown tag makes none.
     if message.unknown().is_some() {
-        return Ok(());
+        return 0;
     }
     find_hits(tree, hits, &message.pattern());
-    push_hits(alloc, tree, hits.ids(), index, message, calls)
+    hits.ids().len() as u64
 }
 
-/// Adds the calls of the methods with these ids.
-fn push_hits(
-    alloc: Global,
+/// Makes the calls of a unit's messages in order. Each is recorded, and then made.
+pub(crate) fn invoke_unit(
     tree: &Tree,
-    ids: &[u32],
-    index: u32,
-    message: &Message<'_>,
-    calls: &mut Vec<Invocation>,
-) -> Result<(), AllocError>
-    requires { All (λ id. IsSome (address_by_id tree.now.methods id)) ids.now }
-    ensures { OnOk result (map call_of calls.new.items ≡ map call_of calls.old.items ++ map (call_by tree.now.methods index message.now) ids.now) }
+    hits: &mut Hits,
+    unit: u64,
+    messages: Messages<'_>,
+    recorder: &mut Recorder,
+    boxes: &mut Vec<Boxed>,
+)
+    requires limit { tree.now.method_limit ≤ hits.old.limit }
+    requires few { length messages < 2 ^ 32 }
+    requires owed { owed_by recorder.old ≡ length (calls_from tree.now.methods 0 messages) }
+    requires ascending { IsTrue (is_ascending (map (λ one. one.0) boxes.old.items)) }
+    ensures recorder { recorder.new ≡ with_hits recorder.old (hits_of (calls_from tree.now.methods 0 messages.entry)) }
+    ensures boxes { map (λ one. record { id = one.0; keep = keep one.1; heard = heard one.1 }) boxes.new.items ≡ all_hear (invocations_of unit (calls_from tree.now.methods 0 messages.entry)) (map (λ one. record { id = one.0; keep = keep one.1; heard = heard one.1 }) boxes.old.items) }
+    ensures ids { map (λ one. one.0) boxes.new.items ≡ map (λ one. one.0) boxes.old.items }
+    ensures capacity { vec_capacity boxes.old ≤ vec_capacity boxes.new }
+    ensures limit { hits.new.limit ≡ hits.old.limit }
+{
+    let mut index = 0;
+    for message in messages {
+        let call = Call {
+            unit,
+            index,
+            message,
+        };
+        invoke_message(tree, hits, &call, recorder, boxes);
+        index += 1;
+    }
+}
+
+/// Makes the calls of one message. One with an unknown tag makes none.
+fn invoke_message(
+    tree: &Tree,
+    hits: &mut Hits,
+    call: &Call<'_>,
+    recorder: &mut Recorder,
+    boxes: &mut Vec<Boxed>,
+)
+    requires limit { tree.now.method_limit ≤ hits.old.limit }
+    requires owed { length (calls_of tree.now.methods call.now.index call.now.message) ≤ owed_by recorder.old }
+    requires ascending { IsTrue (is_ascending (map (λ one. one.0) boxes.old.items)) }
+    ensures recorder { recorder.new ≡ with_hits recorder.old (hits_of (calls_of tree.now.methods call.now.index call.now.message)) }
+    ensures boxes { map (λ one. record { id = one.0; keep = keep one.1; heard = heard one.1 }) boxes.new.items ≡ all_hear (invocations_of call.now.unit (calls_of tree.now.methods call.now.index call.now.message)) (map (λ one. record { id = one.0; keep = keep one.1; heard = heard one.1 }) boxes.old.items) }
+    ensures ids { map (λ one. one.0) boxes.new.items ≡ map (λ one. one.0) boxes.old.items }
+    ensures capacity { vec_capacity boxes.old ≤ vec_capacity boxes.new }
+    ensures limit { hits.new.limit ≡ hits.old.limit }
+{
+    if call.message.unknown().is_some() {
+        return;
+    }
+    find_hits(tree, hits, &call.message.pattern());
+    invoke_ids(hits.ids(), call, recorder, boxes);
+}
+
+/// Makes the call of each of the methods with these ids.
+fn invoke_ids(ids: &[u32], call: &Call<'_>, recorder: &mut Recorder, boxes: &mut Vec<Boxed>)
+    requires owed { length ids.now ≤ owed_by recorder.old }
+    requires ascending { IsTrue (is_ascending (map (λ one. one.0) boxes.old.items)) }
+    ensures recorder { recorder.new ≡ with_hits recorder.old (map (λ id. record { index = call.now.index; id = id }) ids.now) }
+    ensures boxes { (methods : List Method) → map (λ one. record { id = one.0; keep = keep one.1; heard = heard one.1 }) boxes.new.items ≡ all_hear (map (invocation_by methods call.now) ids.now) (map (λ one. record { id = one.0; keep = keep one.1; heard = heard one.1 }) boxes.old.items) }
+    ensures ids { map (λ one. one.0) boxes.new.items ≡ map (λ one. one.0) boxes.old.items }
+    ensures capacity { vec_capacity boxes.old ≤ vec_capacity boxes.new }
 {
     for id in ids {
-        calls.push(call(alloc, tree, index, *id, message)?)?;
+        recorder.put_hit(call.index, *id);
+        invoke_one(boxes, *id, call);
     }
-    Ok(())
 }
 
 /// Fills `hits` with the ids of the methods that the pattern matches. Steps aren't counted here.
 fn find_hits(tree: &Tree, hits: &mut Hits, pattern: &Pattern<'_>)
     requires { tree.now.method_limit ≤ hits.old.limit }
     ensures ids { hits.new.ids ≡ matching_ids pattern.now tree.now.methods }
+    ensures few { length hits.new.ids ≤ tree.now.method_limit }
     ensures named { All (λ method. address_by_id tree.now.methods method.id ≡ Some method.address) (matching pattern.now tree.now.methods) }
     ensures limit { hits.new.limit ≡ hits.old.limit }
 {
@@ -95,26 +143,4 @@ fn find_uncounted<L: Ledger>(tree: &Tree, hits: &mut Hits, pattern: &Pattern<'_>
 {
     let mut steps = Steps::<L>::new(blank);
     tree.matches(pattern, hits, &mut steps);
-}
-
-/// The call of the method with an id.
-fn call(
-    alloc: Global,
-    tree: &Tree,
-    index: u32,
-    id: u32,
-    message: &Message<'_>,
-) -> Result<Invocation, AllocError>
-    requires { IsSome (address_by_id tree.now.methods id) }
-    ensures { IfOk result (λ call. call_of call ≡ call_by tree.now.methods index message.now id) }
-{
-    let Some(address) = tree.address_of(id) else {
-        unreachable!();
-    };
-    Ok(Invocation {
-        index,
-        id,
-        address: Bytes::copied(alloc, address.bytes())?,
-        message: Bytes::copied(alloc, message.bytes())?,
-    })
 }

@@ -1,5 +1,5 @@
-//! The sequential server: methods by address with their boxes, a queue of units, a clock and callers, and what a release
-//! invokes (docs/SERVER.md).
+//! The sequential server: methods by address with their boxes, a queue of units, a clock and callers, what a release
+//! invokes, and the recording of it all (docs/SERVER.md).
 //!
 //! Each call answers what the rules of `osc_model` give, and leaves the state that they give.
 #![tactic(auto)]
@@ -7,15 +7,17 @@
 mod answers;
 mod boxes;
 mod calls;
-mod invocation;
+mod entry_answers;
 mod messages;
+mod performance;
+mod playing;
 mod sequential;
 mod server;
+mod sizes;
 mod store;
 mod units;
 
 pub use answers::{AddRefusal, Adding, Closed, Enrolled, Releasing, Removing, Submitted, Ticking};
-pub use invocation::{Invocation, Invocations};
 pub use sequential::{Core, Stands};
 
 #[cfg(test)]

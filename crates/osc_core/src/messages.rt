@@ -25,21 +25,15 @@ impl<'a> Model for Messages<'a> {
 }
 
 impl<'a> Messages<'a> {
-    ghost use Rattle.std.specs.Prelude.{◌≡◌, length};
+    ghost use Rattle.std.specs.Prelude.{◌≡◌, ◌<◌, ◌^◌, length};
     ghost use Rattle.osc_core.specs.Frames.{unframed, IsFramed};
 
     pub(crate) fn new(count: u32, bytes: &'a [u8]) -> Messages<'a>
         requires { IsFramed count bytes.now }
-        ensures { result ≡ unframed count bytes.now }
+        ensures value { result ≡ unframed count bytes.now }
+        ensures few { length result < 2 ^ 32 }
     {
         Messages { count, bytes }
-    }
-
-    /// How many messages are left.
-    pub(crate) fn left(&self) -> u32
-        ensures { result ≡ length self.now }
-    {
-        self.count
     }
 }
 

@@ -1,32 +1,39 @@
-// The server but for its boxes.
-ghost use Rattle.std.specs.Prelude.{◌≡◌, ◌+◌, ◌<◌, ◌≤◌, ◌^◌, ◌++◌, ◌∷◌, [], length, map, All, Contains, IfOk, IfErr, OnOk, OnErr, IfSome, IfNone, Some, None};
-ghost use Rattle.std.specs.Option.{option_map};
+// The tables of the server: all but its boxes and its recording.
+ghost use Rattle.std.specs.Prelude.{◌≡◌, ◌+◌, ◌<◌, ◌≤◌, ◌^◌, ◌++◌, ◌∷◌, [], List, length, map, All, Contains, IfOk, IfErr, OnOk, OnErr, IsTrue, Some, IsSome, vec_capacity};
 ghost use Rattle.osc_packet.specs.Reading.{units_read};
-ghost use Rattle.osc_tree.specs.Adding.{refusal_of as tree_refusal_of};
-ghost use Rattle.osc_tree.specs.Registry.{id_at};
-ghost use Rattle.osc_model.specs.State.{AreInRange, opening, registry};
-ghost use Rattle.osc_model.specs.Events.{enrol, submit, add, remove, tick, release, added, refused};
-ghost use Rattle.osc_model.specs.Step.{step};
-ghost use Rattle.osc_core.specs.Ids.{without};
-ghost use Rattle.osc_core.specs.Answers.{enrolled_of, submitted_of, refusal_of, removal_of, added_of, ticking_of, releasing_of, invoked_by};
+ghost use Rattle.osc_tree.specs.Adding.{refusal_of};
+ghost use Rattle.osc_tree.specs.Registry.{address_by_id};
+ghost use Rattle.osc_model.specs.State.{opening};
+ghost use Rattle.osc_model.specs.Events.{enrol, submit, add, remove, tick, release, added, refused, adds_entry, Hit};
+ghost use Rattle.osc_model.specs.Heard.{all_hear};
+ghost use Rattle.osc_model.specs.Step.{decided};
+ghost use Rattle.osc_core.specs.Answers.{enrolled_of, submitted_of, ticking_of};
+ghost use Rattle.osc_core.specs.Calls.{hit_by};
+ghost use Rattle.osc_core.specs.Ids.{is_ascending, without};
+ghost use Rattle.osc_core.specs.Due.{IsDue, TellsDue, CallsAreFew};
+ghost use Rattle.osc_core.specs.Leaving.{leaving_of, OnLeft};
+ghost use Rattle.osc_core.specs.Playing.{tables};
+ghost use Rattle.osc_core.specs.Recorded.{owed_by, with_hits};
 
-use crate::answers::{AddRefusal, Enrolled, Releasing, Submitted, Ticking};
-use crate::calls::calls_of_unit;
-use crate::invocation::Invocations;
+use crate::answers::{Enrolled, Submitted, Ticking};
+use crate::boxes::Boxed;
+use crate::calls::{count_calls, invoke_unit};
+use crate::entry_answers::Leaving;
 use crate::store::Store;
 use crate::units::{blocks_of, enter_all, take_first};
 use osc_atoms::Room;
 use osc_packet::Packet;
 use osc_pattern::Address;
 use osc_queue::Queue;
+use osc_record::{Caps, Recorder};
 use osc_tree::{Hits, Tree, TreeRefusal};
 use std::alloc::{AllocError, Global};
 use std::marker::Model;
 
-/// The methods' addresses, the units with their messages, the clock and the numbers that are given next.
+/// The methods' addresses, the units with their messages, the clock and the numbers that are given next. A contract sees
+/// the server's state, in which nothing is recorded.
 #[derive(Drop)]
 pub(crate) struct Server {
-    alloc: Global,
     tree: Tree,
     hits: Hits,
     /// The tags of the queued units.
@@ -46,40 +53,41 @@ impl Model for Server {
 
     ghost Value = { State };
 
-    ghost view = { λ s. record { caps = record { units = s.queue.limit; blocks = s.store.limit; methods = s.tree.method_limit; nodes = s.tree.node_limit; callers = s.caller_limit }; methods = s.tree.methods; queue = queue_of s.store.kept s.queue.items; clock = s.clock; next_id = s.next_id; next_unit = s.next_unit; callers = s.callers } };
+    ghost view = { λ s. record { caps = record { units = s.queue.limit; blocks = s.store.limit; methods = s.tree.method_limit; nodes = s.tree.node_limit; callers = s.caller_limit; recording = 0 }; methods = s.tree.methods; queue = queue_of s.store.kept s.queue.items; clock = s.clock; next_id = s.next_id; next_unit = s.next_unit; callers = s.callers; recorded = 0 } };
 
     ghost invariant = { λ s. IsRunning s.tree s.hits s.store s.queue s.next_id s.next_unit s.callers s.caller_limit };
 }
 
+/// What is due at the clock.
+#[derive(Clone, Copy)]
+pub(crate) enum Due {
+    /// The first unit, whose messages make so many calls.
+    Unit { unit: u64, calls: u64 },
+    /// No unit. `next` is the least due moment in the queue.
+    Nothing { next: Option<u64> },
+}
+
 impl Server {
-    pub(crate) fn open(
-        alloc: Global,
-        units: u32,
-        blocks: u32,
-        methods: u32,
-        nodes: u32,
-        callers: u32,
-    ) -> Result<Server, AllocError>
-        requires { AreInRange (record { units = units; blocks = blocks; methods = methods; nodes = nodes; callers = callers }) }
-        ensures { IfOk result (λ server. server ≡ opening (record { units = units; blocks = blocks; methods = methods; nodes = nodes; callers = callers })) }
+    pub(crate) fn open(alloc: Global, caps: Caps) -> Result<Server, AllocError>
+        ensures { IfOk result (λ server. server ≡ tables (opening caps)) }
     {
         Ok(Server {
-            alloc,
-            tree: Tree::open(alloc, methods, nodes)?,
-            hits: Hits::open(alloc, methods)?,
-            queue: Queue::open(alloc, units)?,
-            store: Store::open(alloc, units, blocks)?,
+            tree: Tree::open(alloc, caps.methods(), caps.nodes())?,
+            hits: Hits::open(alloc, caps.methods())?,
+            queue: Queue::open(alloc, caps.units())?,
+            store: Store::open(alloc, caps.units(), caps.blocks())?,
             clock: 1,
             next_id: 0,
             next_unit: 0,
             callers: 1,
-            caller_limit: callers,
+            caller_limit: caps.callers(),
         })
     }
 
     pub(crate) fn enrol(&mut self) -> Enrolled
-        ensures answer { enrolled_of result ≡ (step self.old enrol).answer }
-        ensures state { self.new ≡ (step self.old enrol).state }
+        ensures answer { enrolled_of result ≡ (decided self.old enrol).answer }
+        ensures entry { IsTrue (adds_entry (enrolled_of result)) }
+        ensures state { self.new ≡ (decided self.old enrol).state }
     {
         if self.callers == self.caller_limit {
             return Enrolled::CallersFull;
@@ -92,8 +100,9 @@ impl Server {
     /// Queues all of the packet's units, or none of them.
     pub(crate) fn submit(&mut self, packet: &Packet<'_>) -> Submitted
         requires { self.old.next_unit + length (units_read packet.now) < 2 ^ 64 }
-        ensures answer { submitted_of result ≡ (step self.old (submit packet.now)).answer }
-        ensures state { self.new ≡ (step self.old (submit packet.now)).state }
+        ensures answer { submitted_of result ≡ (decided self.old (submit packet.now)).answer }
+        ensures entry { IsTrue (adds_entry (submitted_of result)) }
+        ensures state { self.new ≡ (decided self.old (submit packet.now)).state }
     {
         let count = packet.count();
         let places = self.queue.free();
@@ -112,46 +121,58 @@ impl Server {
     }
 
     /// Adds a method at the address, or hands the address back.
-    pub(crate) fn add(&mut self, address: Address) -> Result<u32, (AddRefusal, Address)>
+    pub(crate) fn add(&mut self, address: Address) -> Result<u32, (TreeRefusal, Address)>
         requires { self.old.next_id + 1 < 2 ^ 32 }
-        ensures answer { added_of result ≡ (step self.old (add address)).answer }
-        ensures state { self.new ≡ (step self.old (add address)).state }
+        ensures added { IfOk result (λ id. (decided self.old (add address)).answer ≡ added id) }
+        ensures refused { IfErr result (λ why. (decided self.old (add address)).answer ≡ refused (refusal_of why.0)) }
+        ensures state { self.new ≡ (decided self.old (add address)).state }
         ensures new { IfOk result (λ id. All (λ method. method.id < id) self.old.methods) }
         ensures ids { IfOk result (λ id. map (λ method. method.id) self.new.methods ≡ map (λ method. method.id) self.old.methods ++ id ∷ []) }
+        ensures found { IfOk result (λ id. address_by_id self.new.methods id ≡ Some address) }
         ensures room { OnOk result (length self.old.methods < self.old.caps.methods) }
-        ensures unchanged { OnErr result (self.new ≡ self.old) }
-        ensures caps { self.new.caps ≡ self.old.caps }
         ensures handed_back { IfErr result (λ refused. refused.1 ≡ address) }
     {
+        osc_model::laws::methods_stay_lawful();
         let id = self.next_id;
         match self.tree.add(address, id) {
             Ok(()) => {
                 self.next_id += 1;
                 Ok(id)
             }
-            Err((refusal, address)) => Err((refusal_in_words(refusal), address)),
+            Err(refused) => Err(refused),
+        }
+    }
+
+    /// The address of the method with the id.
+    pub(crate) fn address_of(&self, id: u32) -> &[u8]
+        requires { IsSome (address_by_id self.now.methods id) }
+        ensures { Some result.now ≡ address_by_id self.now.methods id }
+    {
+        match self.tree.address_of(id) {
+            Some(address) => address.bytes(),
+            None => unreachable!(),
         }
     }
 
     /// Removes the method at the address, and tells its id.
-    pub(crate) fn remove(&mut self, address: &Address) -> Option<u32>
-        ensures answer { removal_of result ≡ (step self.old (remove address.now)).answer }
-        ensures state { self.new ≡ (step self.old (remove address.now)).state }
-        ensures held { IfSome result (λ id. Contains (map (λ method. method.id) self.old.methods) id) }
-        ensures others { IfSome result (λ id. map (λ method. method.id) self.new.methods ≡ without id (map (λ method. method.id) self.old.methods)) }
-        ensures unchanged { IfNone result (self.new ≡ self.old) }
-        ensures caps { self.new.caps ≡ self.old.caps }
+    pub(crate) fn remove(&mut self, address: &Address) -> Leaving
+        ensures answer { leaving_of result ≡ (decided self.old (remove address.now)).answer }
+        ensures entry { IsTrue (adds_entry (leaving_of result)) }
+        ensures state { self.new ≡ (decided self.old (remove address.now)).state }
+        ensures held { OnLeft result (λ id. Contains (map (λ method. method.id) self.old.methods) id) }
+        ensures others { OnLeft result (λ id. map (λ method. method.id) self.new.methods ≡ without id (map (λ method. method.id) self.old.methods)) }
     {
         let Ok(id) = self.tree.remove(address) else {
-            return None;
+            return Leaving::NotThere;
         };
-        Some(id)
+        Leaving::Left(id)
     }
 
     /// Sets the clock, unless the moment is before it.
     pub(crate) fn tick(&mut self, now: u64) -> Ticking
-        ensures answer { ticking_of result ≡ (step self.old (tick now)).answer }
-        ensures state { self.new ≡ (step self.old (tick now)).state }
+        ensures answer { ticking_of result ≡ (decided self.old (tick now)).answer }
+        ensures entry { IsTrue (adds_entry (ticking_of result)) }
+        ensures state { self.new ≡ (decided self.old (tick now)).state }
     {
         if now < self.clock {
             return Ticking::ClockBack(self.clock);
@@ -160,50 +181,44 @@ impl Server {
         Ticking::Ticked
     }
 
-    /// Takes the least unit that is due, and tells its calls.
-    pub(crate) fn release(&mut self) -> Result<Releasing, AllocError>
-        ensures answer { IfOk result (λ releasing. releasing_of releasing ≡ (step self.old release).answer) }
-        ensures calls { IfOk result (λ releasing. invoked_by releasing ≡ (step self.old release).invocations) }
-        ensures state { OnOk result (self.new ≡ (step self.old release).state) }
-        ensures err { OnErr result (self.new ≡ self.old) }
-        ensures methods { self.new.methods ≡ self.old.methods }
-        ensures caps { self.new.caps ≡ self.old.caps }
+    /// The first unit, if it is due, and how many calls its messages make. All stays.
+    pub(crate) fn due(&mut self) -> Due
+        requires { self.old.caps.methods ≤ 65536 }
+        ensures due { TellsDue result self.old }
+        ensures small { CallsAreFew result }
+        ensures unchanged { self.new ≡ self.old }
     {
         let Some((due, unit, _)) = self.queue.first() else {
-            return Ok(Releasing::NothingDue { next: None });
+            return Due::Nothing { next: None };
         };
         if due > self.clock {
-            return Ok(Releasing::NothingDue { next: Some(due) });
+            return Due::Nothing { next: Some(due) };
         }
-        // The list of the calls is made first: without memory for it all stays as it was.
-        let calls = calls_of_unit(
-            self.alloc,
-            &self.tree,
-            &mut self.hits,
-            self.store.messages(unit),
-        )?;
-        take_first(&mut self.queue, &mut self.store, due);
-        Ok(Releasing::Released {
+        let messages = self.store.messages(unit);
+        Due::Unit {
             unit,
-            calls: Invocations::of(calls),
-        })
+            calls: count_calls(&self.tree, &mut self.hits, messages),
+        }
+    }
+
+    /// Makes the calls of the first unit's messages, each of which is recorded and then made, and takes the unit.
+    pub(crate) fn release(&mut self, unit: u64, recorder: &mut Recorder, boxes: &mut Vec<Boxed>)
+        requires due { (hits : List Hit) × IsDue self.old unit hits × (owed_by recorder.old ≡ length hits) }
+        requires ascending { IsTrue (is_ascending (map (λ one. one.0) boxes.old.items)) }
+        ensures state { self.new ≡ (decided self.old release).state }
+        ensures recorder { recorder.new ≡ with_hits recorder.old (map hit_by (decided self.old release).invocations) }
+        ensures boxes { map (λ one. record { id = one.0; keep = keep one.1; heard = heard one.1 }) boxes.new.items ≡ all_hear (decided self.old release).invocations (map (λ one. record { id = one.0; keep = keep one.1; heard = heard one.1 }) boxes.old.items) }
+        ensures ids { map (λ one. one.0) boxes.new.items ≡ map (λ one. one.0) boxes.old.items }
+        ensures capacity { vec_capacity boxes.old ≤ vec_capacity boxes.new }
+    {
+        let messages = self.store.messages(unit);
+        invoke_unit(&self.tree, &mut self.hits, unit, messages, recorder, boxes);
+        take_first(&mut self.queue, &mut self.store, self.clock);
     }
 
     pub(crate) fn clock(&self) -> u64
         ensures { result ≡ self.now.clock }
     {
         self.clock
-    }
-}
-
-fn refusal_in_words(refusal: TreeRefusal) -> AddRefusal
-    ensures { refusal_of result ≡ tree_refusal_of refusal }
-{
-    match refusal {
-        TreeRefusal::Taken(id) => AddRefusal::Taken(id),
-        TreeRefusal::UnderMethod(id) => AddRefusal::UnderMethod(id),
-        TreeRefusal::IsContainer => AddRefusal::IsContainer,
-        TreeRefusal::MethodsFull(limit) => AddRefusal::MethodsFull(limit),
-        TreeRefusal::NodesFull(room) => AddRefusal::NodesFull(room),
     }
 }

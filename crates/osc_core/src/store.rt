@@ -95,7 +95,8 @@ impl Store {
     /// The messages that are kept under a number.
     pub(crate) fn messages(&self, number: u64) -> Messages<'_>
         requires { Contains (map (λ one. one.unit) self.now.kept) number }
-        ensures { result ≡ messages_by self.now.kept number }
+        ensures value { result ≡ messages_by self.now.kept number }
+        ensures few { length result < 2 ^ 32 }
     {
         let found = find(&self.sections, number);
         let bytes = part(&self.bytes, found.start, found.section.size as usize);

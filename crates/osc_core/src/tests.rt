@@ -1,6 +1,6 @@
 // Rows of calls and their answers, and what boxes tell.
-ghost use Rattle.std.specs.Prelude.{◌≡◌, ◌*◌, ◌<◌, ◌≤◌, OnOk};
-ghost use Rattle.osc_model.specs.State.{AreInRange};
+ghost use Rattle.std.specs.Prelude.{◌<◌};
+ghost use Rattle.osc_model.specs.History.{state_of};
 
 use crate::*;
 use osc_atoms::Room;
@@ -8,20 +8,11 @@ use osc_message::Message;
 use osc_method::{Call, Method, Mute, Trace};
 use osc_packet::Packet;
 use osc_pattern::Address;
+use osc_record::Caps;
 use std::alloc::Global;
 use std::test::*;
 
-/// A server that few calls were made of, all by caller 0.
-#[derive(Drop)]
-struct Player {
-    core: Core,
-    calls: u32,
-    ghost some: { 0 < core.state.callers },
-    ghost ids: { core.state.next_id ≤ calls },
-    ghost units: { core.state.next_unit ≤ 65504 * calls },
-}
-
-/// A call but for those with boxes.
+/// A call but for those with boxes, by caller 0.
 #[derive(Clone, Copy)]
 enum Event {
     Enrol,
@@ -33,103 +24,67 @@ enum Event {
 enum Answer {
     Enrolled(Enrolled),
     Submitted(Submitted),
-    Released(u64),
-    NothingDue(Option<u64>),
+    Releasing(Releasing),
 }
 
-impl Player {
-    fn open(
-        alloc: Global,
-        units: u32,
-        blocks: u32,
-        methods: u32,
-        nodes: u32,
-        callers: u32,
-    ) -> Result<Player, Fail>
-        requires { AreInRange (record { units = units; blocks = blocks; methods = methods; nodes = nodes; callers = callers }) }
-    {
-        Ok(Player {
-            core: Core::open(alloc, units, blocks, methods, nodes, callers)?,
-            calls: 0,
-        })
-    }
+/// A server with these limits: of units, blocks, methods, nodes and callers, and of the recording's bytes.
+fn open(alloc: Global, caps: [u32; 6]) -> Result<Core, Fail> {
+    let caps = Caps::new(caps[0], caps[1], caps[2], caps[3], caps[4], caps[5]);
+    Ok(Core::open(alloc, caps.ok().ok_or("limits")?)?)
+}
 
-    /// Few calls were made so far.
-    fn check(&self) -> Result<(), Fail>
-        ensures { OnOk result (self.now.calls < 1000) }
-    {
-        if self.calls >= 1000 {
-            return Err(Fail::new("too many calls"));
-        }
-        Ok(())
-    }
+/// Caller 0 is enrolled in every server.
+fn has_caller(core: &Core)
+    ensures { 0 < (state_of core.now.performance).callers }
+{
+    osc_model::laws::a_server_stays_sound();
+    let _ = core.bytes();
+}
 
-    fn enrol(&mut self) -> Result<Enrolled, Fail> {
-        self.check()?;
-        let enrolled = self.core.enrol(0);
-        self.calls += 1;
-        Ok(enrolled)
-    }
+fn enrol(core: &mut Core) -> Enrolled {
+    has_caller(core);
+    core.enrol(0)
+}
 
-    fn submit(&mut self, bytes: &[u8]) -> Result<Submitted, Fail> {
-        self.check()?;
-        let packet = Packet::check(bytes, 65_504).ok().ok_or("a packet")?;
-        let _few = packet.count();
-        let submitted = self.core.submit(0, &packet);
-        self.calls += 1;
-        Ok(submitted)
-    }
+fn submit(core: &mut Core, bytes: &[u8]) -> Result<Submitted, Fail> {
+    let packet = Packet::check(bytes, 65_504).ok().ok_or("a packet")?;
+    has_caller(core);
+    Ok(core.submit(0, &packet))
+}
 
-    fn release(&mut self) -> Result<Releasing, Fail> {
-        self.check()?;
-        let releasing = self.core.release(0)?;
-        self.calls += 1;
-        Ok(releasing)
-    }
+fn release(core: &mut Core) -> Releasing {
+    has_caller(core);
+    core.release(0)
+}
 
-    fn add(
-        &mut self,
-        alloc: Global,
-        address: &[u8],
-        method: Box<dyn Method + Send>,
-    ) -> Result<Adding, Fail> {
-        self.check()?;
-        let address = Address::read(alloc, address).ok().ok_or("an address")?;
-        let adding = self.core.add(0, address, method);
-        self.calls += 1;
-        Ok(adding)
-    }
+fn add(
+    core: &mut Core,
+    alloc: Global,
+    address: &[u8],
+    method: Box<dyn Method + Send>,
+) -> Result<Adding, Fail> {
+    let address = Address::read(alloc, address).ok().ok_or("an address")?;
+    has_caller(core);
+    Ok(core.add(0, address, method))
+}
 
-    fn remove(&mut self, alloc: Global, address: &[u8]) -> Result<Removing, Fail> {
-        self.check()?;
-        let address = Address::read(alloc, address).ok().ok_or("an address")?;
-        let removing = self.core.remove(0, &address);
-        self.calls += 1;
-        Ok(removing)
-    }
+fn remove(core: &mut Core, alloc: Global, address: &[u8]) -> Result<Removing, Fail> {
+    let address = Address::read(alloc, address).ok().ok_or("an address")?;
+    has_caller(core);
+    Ok(core.remove(0, &address))
+}
 
-    fn tick(&mut self, now: u64) -> Result<Ticking, Fail> {
-        self.check()?;
-        let ticking = self.core.tick(0, now);
-        self.calls += 1;
-        Ok(ticking)
-    }
+fn tick(core: &mut Core, now: u64) -> Ticking {
+    has_caller(core);
+    core.tick(0, now)
+}
 
-    fn close(self) -> Vec<(u32, Box<dyn Method + Send>)> {
-        let Player { core, .. } = self;
-        core.close().kept
-    }
-
-    fn play(&mut self, event: Event) -> Result<Answer, Fail> {
-        Ok(match event {
-            Event::Enrol => Answer::Enrolled(self.enrol()?),
-            Event::Submit(bytes) => Answer::Submitted(self.submit(bytes)?),
-            Event::Release => match self.release()? {
-                Releasing::Released { unit, .. } => Answer::Released(unit),
-                Releasing::NothingDue { next } => Answer::NothingDue(next),
-            },
-        })
-    }
+fn play(core: &mut Core, event: Event) -> Result<Answer, Fail> {
+    Ok(match event {
+        Event::Enrol => Answer::Enrolled(enrol(core)),
+        Event::Submit(bytes) => Answer::Submitted(submit(core, bytes)?),
+        Event::Release => Answer::Releasing(release(core)),
+    })
 }
 
 /// `/a` with the number 1, in one block.
@@ -148,6 +103,10 @@ const fn queued(first: u64) -> Answer {
     Answer::Submitted(Submitted::Queued { first, count: 1 })
 }
 
+const fn released(unit: u64) -> Answer {
+    Answer::Releasing(Releasing::Released { unit, calls: 0 })
+}
+
 fn pool_full(need: u64, free: u64) -> Answer
     requires { free < need }
 {
@@ -161,12 +120,10 @@ fn plays(
     blocks: u32,
     callers: u32,
     calls: &[(Event, Answer)],
-) -> Result<(), Fail>
-    requires { AreInRange (record { units = units; blocks = blocks; methods = 1; nodes = 9; callers = callers }) }
-{
-    let mut player = Player::open(alloc, units, blocks, 1, 9, callers)?;
+) -> Result<(), Fail> {
+    let mut core = open(alloc, [units, blocks, 1, 9, callers, 9999])?;
     for (event, answer) in calls {
-        if player.play(*event)? != *answer {
+        if play(&mut core, *event)? != *answer {
             return Err(Fail::new("another answer"));
         }
     }
@@ -179,7 +136,7 @@ fn a_full_queue_refuses_a_unit(rt: HostRuntime) -> Result<(), Fail> {
     let calls = [
         (Event::Submit(b"/a\0\0"), queued(0)),
         (Event::Submit(b"/a\0\0"), units_full),
-        (Event::Release, Answer::Released(0)),
+        (Event::Release, released(0)),
     ];
     plays(rt.alloc(), 1, 9, 1, &calls)
 }
@@ -189,7 +146,7 @@ fn a_full_store_refuses_a_unit_until_one_leaves(rt: HostRuntime) -> Result<(), F
     let calls = [
         (Event::Submit(ONE), queued(0)),
         (Event::Submit(ONE), pool_full(1, 0)),
-        (Event::Release, Answer::Released(0)),
+        (Event::Release, released(0)),
         (Event::Submit(ONE), queued(1)),
     ];
     plays(rt.alloc(), 9, 1, 1, &calls)
@@ -220,7 +177,10 @@ fn callers_have_a_limit(rt: HostRuntime) -> Result<(), Fail> {
     let calls = [
         (Event::Enrol, Answer::Enrolled(Enrolled::Number(1))),
         (Event::Enrol, Answer::Enrolled(Enrolled::CallersFull)),
-        (Event::Release, Answer::NothingDue(None)),
+        (
+            Event::Release,
+            Answer::Releasing(Releasing::NothingDue { next: None }),
+        ),
     ];
     plays(rt.alloc(), 9, 9, 2, &calls)
 }
@@ -229,14 +189,14 @@ fn callers_have_a_limit(rt: HostRuntime) -> Result<(), Fail> {
 fn the_longest_message_takes_1024_blocks(rt: HostRuntime) -> Result<(), Fail> {
     let mut bytes = [0u8; 65_504];
     bytes[..12].copy_from_slice(b"/a\0\0,b\0\0\0\0\xff\xd4");
-    let mut player = Player::open(rt.alloc(), 9, 1024, 1, 9, 1)?;
+    let mut core = open(rt.alloc(), [9, 1024, 1, 9, 1, 99_999])?;
     assert_eq!(rt;
-        player.submit(&bytes)?,
+        submit(&mut core, &bytes)?,
         Submitted::Queued { first: 0, count: 1 }
     );
-    let mut player = Player::open(rt.alloc(), 9, 1023, 1, 9, 1)?;
+    let mut core = open(rt.alloc(), [9, 1023, 1, 9, 1, 99_999])?;
     assert_eq!(rt;
-        player.submit(&bytes)?,
+        submit(&mut core, &bytes)?,
         Submitted::PoolFull(Room::new(1024, 1023))
     );
     Ok(())
@@ -255,9 +215,9 @@ fn a_full_tree_refuses_an_address(rt: HostRuntime) -> Result<(), Fail> {
         ),
     ];
     for (methods, nodes, first, second, refusal) in rows {
-        let mut player = Player::open(rt.alloc(), 9, 9, methods, nodes, 1)?;
-        let _ = player.add(rt.alloc(), first, Box::new(rt.alloc(), Mute)?)?;
-        match player.add(rt.alloc(), second, Box::new(rt.alloc(), Mute)?)? {
+        let mut core = open(rt.alloc(), [9, 9, methods, nodes, 1, 9999])?;
+        let _ = add(&mut core, rt.alloc(), first, Box::new(rt.alloc(), Mute)?)?;
+        match add(&mut core, rt.alloc(), second, Box::new(rt.alloc(), Mute)?)? {
             Adding::Added(_) => return Err(Fail::new("added")),
             Adding::Refused { why, .. } => assert_eq!(rt; why, refusal),
         }
@@ -266,15 +226,14 @@ fn a_full_tree_refuses_an_address(rt: HostRuntime) -> Result<(), Fail> {
 }
 
 /// Takes all units that are due.
-fn release_all(player: &mut Player) -> Result<(), Fail> {
+fn release_all(core: &mut Core) {
     for _ in 0..9 {
-        player.release()?;
+        release(core);
     }
-    Ok(())
 }
 
-fn add_mute(player: &mut Player, alloc: Global, address: &[u8]) -> Result<(), Fail> {
-    player.add(alloc, address, Box::new(alloc, Mute)?)?;
+fn add_mute(core: &mut Core, alloc: Global, address: &[u8]) -> Result<(), Fail> {
+    add(core, alloc, address, Box::new(alloc, Mute)?)?;
     Ok(())
 }
 
@@ -291,10 +250,10 @@ fn tells(method: &Box<dyn Method + Send>, bytes: &[u8]) -> bool {
 }
 
 /// The method at the address is removed, and its box tells these bytes.
-fn told_at(player: &mut Player, alloc: Global, address: &[u8], bytes: &[u8]) -> Result<bool, Fail> {
-    match player.remove(alloc, address)? {
+fn told_at(core: &mut Core, alloc: Global, address: &[u8], bytes: &[u8]) -> Result<bool, Fail> {
+    match remove(core, alloc, address)? {
         Removing::Removed { method, .. } => Ok(tells(&method, bytes)),
-        Removing::NotThere => Ok(false),
+        _ => Ok(false),
     }
 }
 
@@ -303,32 +262,32 @@ const TIMED: &[u8] =
     b"#bundle\0\0\0\0\0\0\0\0\x02\0\0\0\x04/a\0\0\0\0\0\x18#bundle\0\0\0\0\0\0\0\0\x02\0\0\0\x04/b\0\0\0\0\0\x04/c\0\0";
 
 /// The bundle is released, and the box at `/c` tells these bytes.
-fn hears(player: &mut Player, alloc: Global, bytes: &[u8]) -> Result<bool, Fail> {
-    add_mute(player, alloc, b"/a")?;
-    player.submit(TIMED)?;
-    player.tick(2)?;
-    release_all(player)?;
-    told_at(player, alloc, b"/c", bytes)
+fn hears(core: &mut Core, alloc: Global, bytes: &[u8]) -> Result<bool, Fail> {
+    add_mute(core, alloc, b"/a")?;
+    submit(core, TIMED)?;
+    tick(core, 2);
+    release_all(core);
+    told_at(core, alloc, b"/c", bytes)
 }
 
 #[test]
 fn a_box_tells_the_last_bytes_of_its_calls(rt: HostRuntime) -> Result<(), Fail> {
     let told = b"\0\0\0\0\0\0\0\0\0\0\0\x01\0\0\0\x04/c\0\0";
-    let mut whole = Player::open(rt.alloc(), 9, 9, 9, 9, 1)?;
+    let mut whole = open(rt.alloc(), [9, 9, 9, 9, 1, 9999])?;
     let trace = Box::new(rt.alloc(), Trace::open(rt.alloc(), 64)?)?;
-    whole.add(rt.alloc(), b"/c", trace)?;
+    add(&mut whole, rt.alloc(), b"/c", trace)?;
     assert!(rt; hears(&mut whole, rt.alloc(), told)?);
-    let mut cut = Player::open(rt.alloc(), 9, 9, 9, 9, 1)?;
+    let mut cut = open(rt.alloc(), [9, 9, 9, 9, 1, 9999])?;
     let trace = Box::new(rt.alloc(), Trace::open(rt.alloc(), 16)?)?;
-    cut.add(rt.alloc(), b"/c", trace)?;
+    add(&mut cut, rt.alloc(), b"/c", trace)?;
     assert!(rt; hears(&mut cut, rt.alloc(), &told[4..])?);
     Ok(())
 }
 
 #[test]
 fn a_refused_add_hands_the_box_back_as_it_was(rt: HostRuntime) -> Result<(), Fail> {
-    let mut player = Player::open(rt.alloc(), 9, 9, 9, 9, 1)?;
-    player.add(rt.alloc(), b"/a", Box::new(rt.alloc(), Mute)?)?;
+    let mut core = open(rt.alloc(), [9, 9, 9, 9, 1, 9999])?;
+    add(&mut core, rt.alloc(), b"/a", Box::new(rt.alloc(), Mute)?)?;
     let mut trace = Trace::open(rt.alloc(), 64)?;
     let message = Message::check(b"/c\0\0", 65_504).ok().ok_or("a message")?;
     trace.invoke(&Call {
@@ -336,7 +295,7 @@ fn a_refused_add_hands_the_box_back_as_it_was(rt: HostRuntime) -> Result<(), Fai
         index: 1,
         message,
     });
-    match player.add(rt.alloc(), b"/a", Box::new(rt.alloc(), trace)?)? {
+    match add(&mut core, rt.alloc(), b"/a", Box::new(rt.alloc(), trace)?)? {
         Adding::Added(_) => return Err(Fail::new("added")),
         Adding::Refused { method, .. } => assert_eq!(rt; method.told(), Some(20)),
     }
@@ -345,17 +304,52 @@ fn a_refused_add_hands_the_box_back_as_it_was(rt: HostRuntime) -> Result<(), Fai
 
 #[test]
 fn the_boxes_come_out_ascending_by_id(rt: HostRuntime) -> Result<(), Fail> {
-    let mut player = Player::open(rt.alloc(), 9, 9, 9, 9, 1)?;
-    add_mute(&mut player, rt.alloc(), b"/c")?;
-    add_mute(&mut player, rt.alloc(), b"/b")?;
-    add_mute(&mut player, rt.alloc(), b"/a")?;
-    player.remove(rt.alloc(), b"/b")?;
-    add_mute(&mut player, rt.alloc(), b"/b")?;
+    let mut core = open(rt.alloc(), [9, 9, 9, 9, 1, 9999])?;
+    add_mute(&mut core, rt.alloc(), b"/c")?;
+    add_mute(&mut core, rt.alloc(), b"/b")?;
+    add_mute(&mut core, rt.alloc(), b"/a")?;
+    remove(&mut core, rt.alloc(), b"/b")?;
+    add_mute(&mut core, rt.alloc(), b"/b")?;
     let mut ids = [9; 3];
-    let kept = player.close();
+    let kept = core.close().kept;
     for k in 0..kept.len().min(3) {
         ids[k] = kept[k].0;
     }
     assert_eq!(rt; ids, [0, 2, 3]);
+    Ok(())
+}
+
+/// A message is released to a box at `/a`, where the recording has so many bytes, and then another release is tried:
+/// their answers, how many entries there are, and how many bytes the box tells.
+fn released_within(
+    alloc: Global,
+    recording: u32,
+) -> Result<(Releasing, Releasing, u64, Option<u32>), Fail> {
+    let mut core = open(alloc, [9, 9, 9, 9, 1, recording])?;
+    let trace = Box::new(alloc, Trace::open(alloc, 64)?)?;
+    match add(&mut core, alloc, b"/a", trace)? {
+        Adding::Added(0) => {}
+        _ => return Err(Fail::new("not added")),
+    }
+    if submit(&mut core, b"/a\0\0")? != (Submitted::Queued { first: 0, count: 1 }) {
+        return Err(Fail::new("not queued"));
+    }
+    let first = release(&mut core);
+    let second = release(&mut core);
+    let entries = core.entries();
+    let kept = core.close().kept;
+    let (_, method) = kept.first().ok_or("a box")?;
+    Ok((first, second, entries, method.told()))
+}
+
+#[test]
+fn a_release_without_room_calls_no_box(rt: HostRuntime) -> Result<(), Fail> {
+    let full = Releasing::RecordFull(Room::new(52, 51));
+    let without = released_within(rt.alloc(), 203)?;
+    assert_eq!(rt; without, (full, full, 2, Some(0)));
+    let released = Releasing::Released { unit: 0, calls: 1 };
+    let none = Releasing::NothingDue { next: None };
+    let within = released_within(rt.alloc(), 204)?;
+    assert_eq!(rt; within, (released, none, 3, Some(20)));
     Ok(())
 }

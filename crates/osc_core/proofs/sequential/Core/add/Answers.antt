@@ -1,17 +1,44 @@
-use Rattle.std.proofs.Common.{◌≡◌, ℕ, ◌≤◌, true, List, [], ◌∷◌, ◌++◌, map, vec_capacity, sym, ap, subst, ◌∙◌, arith}
-use Rattle.osc_model.specs.State.{Caps}
+use Rattle.std.proofs.Common.{◌≡◌, ℕ, true, List, [], ◌∷◌, ◌++◌, map, sym, ap, subst, ◌∙◌, arith}
+use Rattle.osc_model.specs.Events.{add}
+use Rattle.osc_model.specs.Refusals.{IsRefusal}
+use Rattle.osc_model.specs.History.{state_of, onward}
 use Rattle.osc_core.specs.Ids.{is_ascending}
 use Rattle.osc_core.proofs.Ascents.{ascending_pushed, ids_below}
+use Rattle.osc_core.proofs.Staying.{heard_on, heard_more, still_alike, still_reserved, refusals_refuse}
 use Rattle.osc_core.proofs.sequential.Core.add.Goals as goal
 
 pub invariant_of-self : goal.invariant_of-self
 invariant_of-self g c =
     let old = c.args.self.now in
     let id = c.in-Ok.id in
+    let methods = (state_of old.performance).methods in
     let ids = c.keep_box.ensures.ids ∙ ap (λ (l : List ℕ). l ++ id ∷ []) old.alike in
     let ascending = subst (λ (l : List ℕ). is_ascending l ≡ true) old.alike old.ascending in
     record {
       alike = ids ∙ sym c.in-Ok.ensures.ids;
-      ascending = subst (λ (l : List ℕ). is_ascending l ≡ true) (sym ids) (ascending_pushed (map (λ method. method.id) old.state.methods) id ascending (ids_below old.state.methods id c.in-Ok.ensures.new));
-      reserved = subst (λ (caps : Caps). caps.methods ≤ vec_capacity c.keep_box.new.boxes) (sym c.in-Ok.ensures.caps) (omega (arith, old.reserved, c.keep_box.ensures.capacity));
+      ascending = subst (λ (l : List ℕ). is_ascending l ≡ true) (sym ids) (ascending_pushed (map (λ method. method.id) methods) id ascending (ids_below methods id c.in-Ok.ensures.new));
+      reserved = still_reserved old.performance c.add.new.self (onward old.performance c.args.caller (add c.args.address)) _ c.add.ensures.performance (c.boxes_stay.ensures.caps old.performance c.args.caller (add c.args.address)) (omega (arith, old.reserved, c.keep_box.ensures.capacity));
     }
+
+pub invariant_of-self-in-Err-1 : goal.invariant_of-self-in-Err-1
+invariant_of-self-in-Err-1 g c =
+    let old = c.args.self.now in
+    let next = onward old.performance c.args.caller (add c.args.address) in
+    let refused = subst IsRefusal (sym c.in-Err.ensures.refused) (refusals_refuse _) in
+    record {
+      alike = still_alike old.performance c.add.new.self next _ c.add.ensures.performance (c.boxes_stay.ensures.refused_methods old.performance c.args.caller (add c.args.address) refused) old.alike;
+      ascending = old.ascending;
+      reserved = still_reserved old.performance c.add.new.self next _ c.add.ensures.performance (c.boxes_stay.ensures.caps old.performance c.args.caller (add c.args.address)) old.reserved;
+    }
+
+pub returns-in-Ok-clause-heard : goal.returns-in-Ok-clause-heard
+returns-in-Ok-clause-heard g c heard =
+    let old = c.args.self.now.performance in
+    let kept = c.boxes_hear_the_history.ensures.added old c.args.caller c.args.address (record { id = c.in-Ok.id; keep = _; heard = _ }) _ c.add.ensures.legal heard c.in-Ok.ensures.added in
+    heard_on c.add.new.self _ _ c.add.ensures.performance (heard_more _ _ _ c.keep_box.ensures.boxes kept)
+
+pub returns-in-Err-clause-heard : goal.returns-in-Err-clause-heard
+returns-in-Err-clause-heard g c heard =
+    let old = c.args.self.now.performance in
+    let refused = subst IsRefusal (sym c.in-Err.ensures.refused) (refusals_refuse _) in
+    heard_on c.add.new.self _ _ c.add.ensures.performance (c.boxes_stay.ensures.refused old c.args.caller (add c.args.address) _ refused heard)

@@ -1,0 +1,90 @@
+// The answers as they are recorded.
+ghost use Rattle.std.specs.Prelude.{◌≡◌, IsTrue};
+ghost use Rattle.osc_tree.specs.Adding.{refusal_of as tree_refusal_of};
+ghost use Rattle.osc_model.specs.Events.{adds_entry, refused};
+ghost use Rattle.osc_record.specs.Shown.{answer_of};
+ghost use Rattle.osc_core.specs.Answers.{enrolled_of, submitted_of, refusal_of, ticking_of};
+ghost use Rattle.osc_core.specs.Leaving.{leaving_of};
+
+use crate::answers::{AddRefusal, Enrolled, Submitted, Ticking};
+use osc_atoms::Room;
+use osc_record::Answer;
+use osc_tree::TreeRefusal;
+
+/// What a removal is answered, without a box.
+#[derive(Clone, Copy)]
+pub(crate) enum Leaving {
+    /// The method with this id left.
+    Left(u32),
+    RecordFull(Room),
+    NotThere,
+}
+
+pub(crate) fn enrol_answer(enrolled: Enrolled) -> Answer<'static>
+    requires { IsTrue (adds_entry (enrolled_of enrolled)) }
+    ensures { answer_of result ≡ enrolled_of enrolled }
+{
+    match enrolled {
+        Enrolled::Number(number) => Answer::Number(number),
+        Enrolled::CallersFull => Answer::CallersFull,
+        Enrolled::RecordFull(_) => unreachable!(),
+    }
+}
+
+pub(crate) fn remove_answer(leaving: Leaving) -> Answer<'static>
+    requires { IsTrue (adds_entry (leaving_of leaving)) }
+    ensures { answer_of result ≡ leaving_of leaving }
+{
+    match leaving {
+        Leaving::Left(id) => Answer::Removed(id),
+        Leaving::NotThere => Answer::NotThere,
+        Leaving::RecordFull(_) => unreachable!(),
+    }
+}
+
+pub(crate) fn submit_answer(submitted: Submitted) -> Answer<'static>
+    requires { IsTrue (adds_entry (submitted_of submitted)) }
+    ensures { answer_of result ≡ submitted_of submitted }
+{
+    match submitted {
+        Submitted::Queued { first, count } => Answer::Queued { first, count },
+        Submitted::UnitsFull(room) => Answer::UnitsFull(room),
+        Submitted::PoolFull(room) => Answer::PoolFull(room),
+        Submitted::RecordFull(_) => unreachable!(),
+    }
+}
+
+pub(crate) fn tick_answer(ticking: Ticking) -> Answer<'static>
+    requires { IsTrue (adds_entry (ticking_of ticking)) }
+    ensures { answer_of result ≡ ticking_of ticking }
+{
+    match ticking {
+        Ticking::Ticked => Answer::Ticked,
+        Ticking::ClockBack(clock) => Answer::ClockBack(clock),
+        Ticking::RecordFull(_) => unreachable!(),
+    }
+}
+
+pub(crate) fn refusal_answer(refusal: TreeRefusal) -> Answer<'static>
+    ensures { answer_of result ≡ refused (tree_refusal_of refusal) }
+{
+    match refusal {
+        TreeRefusal::Taken(id) => Answer::Taken(id),
+        TreeRefusal::UnderMethod(id) => Answer::UnderMethod(id),
+        TreeRefusal::IsContainer => Answer::IsContainer,
+        TreeRefusal::MethodsFull(limit) => Answer::MethodsFull(limit),
+        TreeRefusal::NodesFull(room) => Answer::NodesFull(room),
+    }
+}
+
+pub(crate) fn refusal_in_words(refusal: TreeRefusal) -> AddRefusal
+    ensures { refusal_of result ≡ refused (tree_refusal_of refusal) }
+{
+    match refusal {
+        TreeRefusal::Taken(id) => AddRefusal::Taken(id),
+        TreeRefusal::UnderMethod(id) => AddRefusal::UnderMethod(id),
+        TreeRefusal::IsContainer => AddRefusal::IsContainer,
+        TreeRefusal::MethodsFull(limit) => AddRefusal::MethodsFull(limit),
+        TreeRefusal::NodesFull(room) => AddRefusal::NodesFull(room),
+    }
+}

@@ -1,0 +1,232 @@
+// The server with its recording, but for its boxes.
+ghost use Rattle.std.specs.Prelude.{◌≡◌, ◌+◌, ◌<◌, ◌≤◌, ◌++◌, ◌∷◌, [], length, map, All, Contains, IsTrue, IfOk, IfErr, OnOk, IfSome, IfNone, vec_capacity};
+ghost use Rattle.osc_tree.specs.Adding.{refusal_of as tree_refusal_of};
+ghost use Rattle.osc_model.specs.Events.{enrol, submit, add, remove, tick, release, added, removed};
+ghost use Rattle.osc_model.specs.Recordings.{record_text};
+ghost use Rattle.osc_model.specs.Heard.{all_hear};
+ghost use Rattle.osc_model.specs.History.{Legal, state_of, stepped_in, onward};
+ghost use Rattle.osc_core.specs.Answers.{enrolled_of, submitted_of, refusal_of, ticking_of, room_of, TellsRelease};
+ghost use Rattle.osc_core.specs.Ids.{is_ascending, without};
+ghost use Rattle.osc_core.specs.Leaving.{leaving_of, OnLeft};
+ghost use Rattle.osc_core.specs.Recorded.{TellsRoom};
+
+use crate::answers::{AddRefusal, Enrolled, Releasing, Submitted, Ticking};
+use crate::boxes::Boxed;
+use crate::entry_answers::{
+    Leaving, enrol_answer, refusal_answer, refusal_in_words, remove_answer, submit_answer,
+    tick_answer,
+};
+use crate::playing::a_performance_is_played;
+use crate::server::{Due, Server};
+use crate::sizes::{add_size, remove_size, submit_size};
+use osc_atoms::Room;
+use osc_packet::Packet;
+use osc_pattern::Address;
+use osc_record::{Answer, Caps, Event, Recorder};
+use std::alloc::{AllocError, Global};
+use std::marker::Model;
+
+/// A server's tables, and the recording of what was handed in and answered. A contract sees the limits and the history.
+///
+/// Where the entry of an event has more bytes than are free, all stays. No call but `open` takes memory.
+#[derive(Drop)]
+pub(crate) struct Performance {
+    server: Server,
+    recorder: Recorder,
+    /// How many entries are recorded.
+    entries: u64,
+}
+
+impl Model for Performance {
+    ghost use Rattle.osc_model.specs.History as history;
+    ghost use Rattle.osc_core.specs.Playing.{performance_of, IsPlaying};
+
+    ghost Value = { history.Performance };
+
+    ghost view = { λ p. performance_of p.recorder };
+
+    ghost invariant = { λ p. IsPlaying p.server p.recorder p.entries };
+}
+
+impl Performance {
+    pub(crate) fn open(alloc: Global, caps: Caps) -> Result<Performance, AllocError>
+        ensures { IfOk result (λ performance. performance ≡ record { caps = caps; history = [] }) }
+    {
+        // Limits are in their ranges, as each of them tells.
+        let _ = caps.units();
+        Ok(Performance {
+            server: Server::open(alloc, caps)?,
+            recorder: Recorder::open(alloc, caps)?,
+            entries: 0,
+        })
+    }
+
+    pub(crate) fn enrol(&mut self, caller: u32) -> Enrolled
+        requires { caller < (state_of self.old).callers }
+        ensures answer { enrolled_of result ≡ (stepped_in self.old enrol).answer }
+        ensures performance { self.new ≡ onward self.old caller enrol }
+    {
+        a_performance_is_played();
+        if let Some(room) = shortage(&self.recorder, 28) {
+            return Enrolled::RecordFull(room);
+        }
+        let enrolled = self.server.enrol();
+        self.recorder
+            .put(caller, Event::Enrol, enrol_answer(enrolled));
+        self.entries += 1;
+        enrolled
+    }
+
+    pub(crate) fn submit(&mut self, caller: u32, packet: &Packet<'_>) -> Submitted
+        requires { caller < (state_of self.old).callers }
+        ensures answer { submitted_of result ≡ (stepped_in self.old (submit packet.now)).answer }
+        ensures performance { self.new ≡ onward self.old caller (submit packet.now) }
+    {
+        a_performance_is_played();
+        let bytes = packet.bytes();
+        if let Some(room) = shortage(&self.recorder, submit_size(bytes)) {
+            return Submitted::RecordFull(room);
+        }
+        let submitted = self.server.submit(packet);
+        self.recorder
+            .put(caller, Event::Submit(bytes), submit_answer(submitted));
+        self.entries += 1;
+        submitted
+    }
+
+    /// Adds a method at the address, or hands the address back.
+    pub(crate) fn add(
+        &mut self,
+        caller: u32,
+        address: Address,
+    ) -> Result<u32, (AddRefusal, Address)>
+        requires { caller < (state_of self.old).callers }
+        ensures added { IfOk result (λ id. (stepped_in self.old (add address)).answer ≡ added id) }
+        ensures refused { IfErr result (λ refused. (stepped_in self.old (add address)).answer ≡ refusal_of refused.0) }
+        ensures performance { self.new ≡ onward self.old caller (add address) }
+        ensures new { IfOk result (λ id. All (λ method. method.id < id) (state_of self.old).methods) }
+        ensures ids { IfOk result (λ id. map (λ method. method.id) (state_of self.new).methods ≡ map (λ method. method.id) (state_of self.old).methods ++ id ∷ []) }
+        ensures room { OnOk result (length (state_of self.old).methods < self.old.caps.methods) }
+        ensures handed_back { IfErr result (λ refused. refused.1 ≡ address) }
+        ensures legal { Legal self.old.caps self.old.history }
+    {
+        a_performance_is_played();
+        if let Some(room) = shortage(&self.recorder, add_size(address.bytes())) {
+            return Err((AddRefusal::RecordFull(room), address));
+        }
+        match self.server.add(address) {
+            Ok(id) => {
+                let address = self.server.address_of(id);
+                self.recorder
+                    .put(caller, Event::Add(address), Answer::Added(id));
+                self.entries += 1;
+                Ok(id)
+            }
+            Err((refusal, address)) => {
+                let answer = refusal_answer(refusal);
+                self.recorder
+                    .put(caller, Event::Add(address.bytes()), answer);
+                self.entries += 1;
+                Err((refusal_in_words(refusal), address))
+            }
+        }
+    }
+
+    /// Removes the method at the address, and tells its id.
+    pub(crate) fn remove(&mut self, caller: u32, address: &Address) -> Leaving
+        requires { caller < (state_of self.old).callers }
+        ensures answer { leaving_of result ≡ (stepped_in self.old (remove address.now)).answer }
+        ensures performance { self.new ≡ onward self.old caller (remove address.now) }
+        ensures held { OnLeft result (λ id. Contains (map (λ method. method.id) (state_of self.old).methods) id) }
+        ensures others { OnLeft result (λ id. map (λ method. method.id) (state_of self.new).methods ≡ without id (map (λ method. method.id) (state_of self.old).methods)) }
+        ensures legal { Legal self.old.caps self.old.history }
+    {
+        a_performance_is_played();
+        let bytes = address.bytes();
+        if let Some(room) = shortage(&self.recorder, remove_size(bytes)) {
+            return Leaving::RecordFull(room);
+        }
+        let leaving = self.server.remove(address);
+        self.recorder
+            .put(caller, Event::Remove(bytes), remove_answer(leaving));
+        self.entries += 1;
+        leaving
+    }
+
+    pub(crate) fn tick(&mut self, caller: u32, now: u64) -> Ticking
+        requires { caller < (state_of self.old).callers }
+        ensures answer { ticking_of result ≡ (stepped_in self.old (tick now)).answer }
+        ensures performance { self.new ≡ onward self.old caller (tick now) }
+    {
+        a_performance_is_played();
+        if let Some(room) = shortage(&self.recorder, 48) {
+            return Ticking::RecordFull(room);
+        }
+        let ticking = self.server.tick(now);
+        self.recorder
+            .put(caller, Event::Tick(now), tick_answer(ticking));
+        self.entries += 1;
+        ticking
+    }
+
+    /// Takes the least unit that is due, and makes its calls.
+    pub(crate) fn release(&mut self, caller: u32, boxes: &mut Vec<Boxed>) -> Releasing
+        requires caller { caller < (state_of self.old).callers }
+        requires ascending { IsTrue (is_ascending (map (λ one. one.0) boxes.old.items)) }
+        ensures answer { TellsRelease result (stepped_in self.old release).answer }
+        ensures performance { self.new ≡ onward self.old caller release }
+        ensures boxes { map (λ one. record { id = one.0; keep = keep one.1; heard = heard one.1 }) boxes.new.items ≡ all_hear (stepped_in self.old release).invocations (map (λ one. record { id = one.0; keep = keep one.1; heard = heard one.1 }) boxes.old.items) }
+        ensures ids { map (λ one. one.0) boxes.new.items ≡ map (λ one. one.0) boxes.old.items }
+        ensures capacity { vec_capacity boxes.old ≤ vec_capacity boxes.new }
+    {
+        a_performance_is_played();
+        let (unit, calls) = match self.server.due() {
+            Due::Unit { unit, calls } => (unit, calls),
+            Due::Nothing { next } => return Releasing::NothingDue { next },
+        };
+        if let Some(room) = shortage(&self.recorder, 44 + 8 * calls) {
+            return Releasing::RecordFull(room);
+        }
+        let calls = calls as u32;
+        self.recorder.start_release(caller, unit, calls);
+        self.server.release(unit, &mut self.recorder, boxes);
+        self.entries += 1;
+        Releasing::Released { unit, calls }
+    }
+
+    pub(crate) fn clock(&self) -> u64
+        ensures { result ≡ (state_of self.now).clock }
+    {
+        self.server.clock()
+    }
+
+    pub(crate) fn entries(&self) -> u64
+        ensures { result ≡ length self.now.history }
+    {
+        self.entries
+    }
+
+    pub(crate) fn bytes(&self) -> &[u8]
+        ensures text { result.now ≡ record_text self.now.caps self.now.history }
+        ensures legal { Legal self.now.caps self.now.history }
+    {
+        self.recorder.bytes()
+    }
+
+    pub(crate) fn close(self) -> Vec<u8>
+        ensures text { result.items ≡ record_text self.caps self.history }
+        ensures legal { Legal self.caps self.history }
+    {
+        self.recorder.close()
+    }
+}
+
+/// How much room an entry of so many bytes needs, where fewer bytes are free.
+fn shortage(recorder: &Recorder, size: u64) -> Option<Room>
+    ensures { TellsRoom result recorder.now size }
+{
+    if recorder.fits(size) {
+        return None;
+    }
+    Some(Room::new(size, recorder.free()))
+}
