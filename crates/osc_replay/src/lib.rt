@@ -1,0 +1,19 @@
+//! Recordings, replayed: each answer is computed again by a plain sequential server, and the performance is printed from it
+//! (docs/FORMATS.md, "The recording" and "Printed text").
+#![tactic(auto)]
+
+mod calls;
+mod fault;
+mod forming;
+pub mod laws;
+mod outcome;
+mod replaying;
+mod server;
+mod units;
+
+pub use fault::ReplayFault;
+pub use forming::well_formed;
+pub use replaying::replay;
+
+#[cfg(test)]
+mod tests;

@@ -1,0 +1,306 @@
+// A plain sequential server over lists.
+ghost use Rattle.std.specs.Prelude.{◌≡◌, ◌<◌, ◌++◌, ◌∷◌, [], length, option_map, IsTrue, IfOk, IfSome, IfNone};
+ghost use Rattle.osc_packet.specs.Reading.{is_packet};
+ghost use Rattle.osc_tree.specs.Adding.{refusal_of, add_refusal};
+ghost use Rattle.osc_tree.specs.Registry.{IsNewId};
+ghost use Rattle.osc_atoms.specs.Atoms as atoms;
+ghost use Rattle.osc_model.specs.Events.{release, ticked};
+ghost use Rattle.osc_model.specs.Events as events;
+ghost use Rattle.osc_model.specs.Recordings.{entry_size};
+ghost use Rattle.osc_record.specs.Shown.{event_of, answer_of, HasWholeHits};
+
+use crate::calls::calls_of_unit;
+use crate::outcome::Outcome;
+use crate::units::{Unit, blocks_of, copied_units, enter_all, take_due};
+use osc_atoms::Room;
+use osc_packet::Packet;
+use osc_pattern::Address;
+use osc_queue::Queue;
+use osc_record::{Answer, Caps, Event};
+use osc_tree::{Hits, Tree, TreeRefusal};
+use std::alloc::{AllocError, Global};
+use std::marker::Model;
+
+/// A server: methods by address, units that wait for their moment, a clock, callers, and how many bytes are recorded.
+/// A contract sees its state.
+///
+/// An `Err` of its calls is want of memory. After it, and where no entry is added, the server isn't to be used again.
+#[derive(Drop)]
+pub(crate) struct Server {
+    alloc: Global,
+    tree: Tree,
+    hits: Hits,
+    queue: Queue<Unit>,
+    /// How many blocks there may be, and how many the queued units take.
+    blocks: u32,
+    used: u32,
+    clock: u64,
+    next_id: u32,
+    next_unit: u64,
+    callers: u32,
+    caller_limit: u32,
+    recorded: u32,
+    record_limit: u32,
+}
+
+impl Model for Server {
+    ghost use Rattle.osc_model.specs.State.{State};
+    ghost use Rattle.osc_replay.specs.Playing.{IsRunning};
+
+    ghost Value = { State };
+
+    ghost view = { λ s. record { caps = record { units = s.queue.limit; blocks = s.blocks; methods = s.tree.method_limit; nodes = s.tree.node_limit; callers = s.caller_limit; recording = s.record_limit }; methods = s.tree.methods; queue = s.queue.items; clock = s.clock; next_id = s.next_id; next_unit = s.next_unit; callers = s.callers; recorded = s.recorded } };
+
+    ghost invariant = { λ s. IsRunning s.tree s.hits s.queue s.used };
+}
+
+impl Server {
+    ghost use Rattle.std.specs.Prelude.{◌≡◌, ◌≢◌, ◌+◌, ◌<◌, ◌≤◌, ◌^◌, length, IsTrue, IfOk};
+    ghost use Rattle.osc_pattern.specs.Addresses.{is_address};
+    ghost use Rattle.osc_packet.specs.Reading.{is_packet};
+    ghost use Rattle.osc_model.specs.State.{opening};
+    ghost use Rattle.osc_model.specs.Events.{enrol, submit, add, remove, tick, release};
+    ghost use Rattle.osc_model.specs.History.{IsLawful, IsSound, IsCounted};
+    ghost use Rattle.osc_record.specs.Shown.{event_of, answer_of};
+    ghost use Rattle.osc_replay.specs.Playing.{IsReached, Decides, Does, ComesTo};
+
+    pub(crate) fn open(alloc: Global, caps: Caps) -> Result<Server, AllocError>
+        ensures { IfOk result (λ server. server ≡ opening caps) }
+    {
+        Ok(Server {
+            alloc,
+            tree: Tree::open(alloc, caps.methods(), caps.nodes())?,
+            hits: Hits::open(alloc, caps.methods())?,
+            queue: Queue::open(alloc, caps.units())?,
+            blocks: caps.blocks(),
+            used: 0,
+            clock: 1,
+            next_id: 0,
+            next_unit: 0,
+            callers: 1,
+            caller_limit: caps.callers(),
+            recorded: 56,
+            record_limit: caps.recording(),
+        })
+    }
+
+    /// What a caller's event comes to. It is no entry where the caller isn't enrolled or the rules add none.
+    pub(crate) fn play(&mut self, caller: u32, event: Event<'_>) -> Result<Outcome, AllocError>
+        requires lawful { IsLawful (event_of event) }
+        requires reached { IsReached self.old }
+        ensures { IfOk result (λ outcome. ComesTo outcome caller self.old (event_of event.entry) self.new) }
+    {
+        if caller >= self.callers {
+            return Ok(Outcome::Nothing);
+        }
+        match event {
+            Event::Release => self.release(),
+            _ => self.play_other(event),
+        }
+    }
+
+    /// What an event comes to that isn't a release.
+    fn play_other(&mut self, event: Event<'_>) -> Result<Outcome, AllocError>
+        requires no_release { event_of event ≢ release }
+        requires lawful { IsLawful (event_of event) }
+        requires reached { IsReached self.old }
+        ensures { IfOk result (λ outcome. Does outcome self.old (event_of event.entry) self.new) }
+    {
+        osc_model::laws::a_server_stays_sound();
+        let size = entry_size(event);
+        if size > (self.record_limit - self.recorded) as usize {
+            return Ok(Outcome::Nothing);
+        }
+        let answer = self.decide(event)?;
+        self.recorded += size as u32;
+        Ok(Outcome::Answered(answer))
+    }
+
+    /// The answer to an event that isn't a release, for whose entry there is room.
+    fn decide(&mut self, event: Event<'_>) -> Result<Answer<'static>, AllocError>
+        requires no_release { event_of event ≢ release }
+        requires lawful { IsLawful (event_of event) }
+        requires sound { IsSound self.old }
+        requires counted { IsCounted self.old }
+        ensures { IfOk result (λ answer. Decides answer self.old (event_of event.entry) self.new) }
+    {
+        match event {
+            Event::Enrol => Ok(self.enrol()),
+            Event::Submit(packet) => self.submit(packet),
+            Event::Add(address) => self.add(address),
+            Event::Remove(address) => self.remove(address),
+            Event::Tick(now) => Ok(self.tick(now)),
+            Event::Release => unreachable!(),
+        }
+    }
+
+    fn enrol(&mut self) -> Answer<'static>
+        requires { IsSound self.old }
+        ensures { Decides result self.old enrol self.new }
+    {
+        if self.callers == self.caller_limit {
+            return Answer::CallersFull;
+        }
+        let caller = self.callers;
+        self.callers += 1;
+        Answer::Number(caller)
+    }
+
+    /// Queues all of the packet's units, or none of them.
+    fn submit(&mut self, packet: &[u8]) -> Result<Answer<'static>, AllocError>
+        requires lawful { IsTrue (is_packet 65504 packet.now) }
+        requires sound { IsSound self.old }
+        requires counted { IsCounted self.old }
+        ensures { IfOk result (λ answer. Decides answer self.old (submit packet.now) self.new) }
+    {
+        let packet = as_packet(packet);
+        let count = packet.count();
+        let places = self.queue.free();
+        if count > places {
+            return Ok(Answer::UnitsFull(Room::new(count as u64, places as u64)));
+        }
+        let need = blocks_of(&packet);
+        let free = self.blocks - self.used;
+        if need > free {
+            return Ok(Answer::PoolFull(Room::new(need as u64, free as u64)));
+        }
+        let units = copied_units(self.alloc, &packet)?;
+        let first = self.next_unit;
+        enter_all(&mut self.queue, units, self.clock, first);
+        self.used += need;
+        self.next_unit += count as u64;
+        Ok(Answer::Queued { first, count })
+    }
+
+    fn add(&mut self, address: &[u8]) -> Result<Answer<'static>, AllocError>
+        requires lawful { IsTrue (is_address address.now) }
+        requires sound { IsSound self.old }
+        requires counted { IsCounted self.old }
+        ensures { IfOk result (λ answer. Decides answer self.old (add address.now) self.new) }
+    {
+        let address = read_address(self.alloc, address)?;
+        let id = self.next_id;
+        if let Some(refusal) = add_to(&mut self.tree, address, id) {
+            return Ok(refused(refusal));
+        }
+        self.next_id += 1;
+        Ok(Answer::Added(id))
+    }
+
+    fn remove(&mut self, address: &[u8]) -> Result<Answer<'static>, AllocError>
+        requires { IsTrue (is_address address.now) }
+        ensures { IfOk result (λ answer. Decides answer self.old (remove address.now) self.new) }
+    {
+        let address = read_address(self.alloc, address)?;
+        match self.tree.remove(&address) {
+            Ok(id) => Ok(Answer::Removed(id)),
+            Err(_) => Ok(Answer::NotThere),
+        }
+    }
+
+    fn tick(&mut self, now: u64) -> Answer<'static>
+        ensures { Decides result self.old (tick now) self.new }
+    {
+        if now < self.clock {
+            return Answer::ClockBack(self.clock);
+        }
+        self.clock = now;
+        Answer::Ticked
+    }
+
+    /// Takes the first unit, if it is due and there is room for the entry, and tells its calls.
+    fn release(&mut self) -> Result<Outcome, AllocError>
+        requires { IsReached self.old }
+        ensures { IfOk result (λ outcome. Does outcome self.old release self.new) }
+    {
+        osc_model::laws::a_legal_history_is_recordable();
+        osc_model::laws::a_server_stays_sound();
+        let Some((_, unit, taken)) = take_due(&mut self.queue, self.clock) else {
+            return Ok(Outcome::Nothing);
+        };
+        self.used -= taken.blocks();
+        let calls = calls_of_unit(self.alloc, &self.tree, &mut self.hits, unit, &taken)?;
+        let size = 44 + calls.hits.len();
+        if size > (self.record_limit - self.recorded) as usize {
+            return Ok(Outcome::Nothing);
+        }
+        self.recorded += size as u32;
+        Ok(Outcome::Released { unit, calls })
+    }
+}
+
+/// How many bytes the entry of an event has; that of a release, as long as it has no hits.
+fn entry_size(event: Event<'_>) -> usize
+    ensures { result ≡ entry_size (event_of event.entry) ticked }
+{
+    match event {
+        Event::Enrol => 28,
+        Event::Submit(packet) => 48 + (packet.len() + blob_end(packet.len())),
+        Event::Add(address) => 40 + string_size(address),
+        Event::Remove(address) => 36 + string_size(address),
+        Event::Tick(_) => 48,
+        Event::Release => 44,
+    }
+}
+
+/// How many zero bytes pad a blob of so many bytes.
+fn blob_end(size: usize) -> usize
+    ensures value { result ≡ atoms.blob_end size }
+    ensures below { result < 4 }
+{
+    (4 - size % 4) % 4
+}
+
+/// How many bytes the string of a text has.
+fn string_size(text: &[u8]) -> usize
+    ensures { result ≡ length (atoms.string text.now) }
+{
+    text.len() + (4 - text.len() % 4)
+}
+
+/// The packet that the bytes are.
+fn as_packet(bytes: &[u8]) -> Packet<'_>
+    requires { IsTrue (is_packet 65504 bytes.now) }
+    ensures { result ≡ bytes.now }
+{
+    match Packet::check(bytes, 65_504) {
+        Ok(packet) => packet,
+        Err(_) => unreachable!(),
+    }
+}
+
+/// The address that the bytes are. The `Err` is want of memory.
+fn read_address(alloc: Global, bytes: &[u8]) -> Result<Address, AllocError>
+    ensures { IfOk result (λ address. address ≡ bytes.now) }
+{
+    match Address::read(alloc, bytes) {
+        Ok(address) => Ok(address),
+        Err(_) => Err(AllocError),
+    }
+}
+
+/// Adds a method with an id at the address, unless that is refused.
+fn add_to(tree: &mut Tree, address: Address, id: u32) -> Option<TreeRefusal>
+    requires { IsNewId tree.old.methods id }
+    ensures refusal { option_map refusal_of result ≡ add_refusal tree.old address }
+    ensures added { IfNone result (tree.new ≡ record tree.old { methods = tree.old.methods ++ record { id = id; address = address } ∷ [] }) }
+    ensures unchanged { IfSome result (λ refusal. tree.new ≡ tree.old) }
+{
+    match tree.add(address, id) {
+        Ok(()) => None,
+        Err((refusal, _)) => Some(refusal),
+    }
+}
+
+fn refused(refusal: TreeRefusal) -> Answer<'static>
+    ensures value { answer_of result ≡ events.refused (refusal_of refusal) }
+    ensures whole { HasWholeHits result }
+{
+    match refusal {
+        TreeRefusal::Taken(id) => Answer::Taken(id),
+        TreeRefusal::UnderMethod(id) => Answer::UnderMethod(id),
+        TreeRefusal::IsContainer => Answer::IsContainer,
+        TreeRefusal::MethodsFull(limit) => Answer::MethodsFull(limit),
+        TreeRefusal::NodesFull(room) => Answer::NodesFull(room),
+    }
+}

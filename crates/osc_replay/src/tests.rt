@@ -1,0 +1,146 @@
+// A recording that a server made, and bytes that none made.
+use crate::*;
+use std::alloc::{AllocError, Global};
+use std::process::Abort;
+use std::test::*;
+
+/// The header of 1 unit, 1 block, 1 method, 1 node, 1 caller and up to 255 bytes, but for its last byte.
+const HEADER: [u8; 55] =
+    *b"\0\0\0\x34/osc/rec\0\0\0\0,iiiiiii\0\0\0\0\0\0\0\x01\0\0\0\x01\0\0\0\x01\0\0\0\x01\0\0\0\x01\0\0\0\x01\0\0\0";
+
+/// Caller 0 adds `/a`, submits a message to it, and releases it, which calls the method.
+const ADD: [u8; 44] =
+    *b"\0\0\0\x28/osc/add\0\0\0\0,isiii\0\0\0\0\0\0/a\0\0\0\0\0\0\0\0\0\0\0\0\0\0";
+
+const SUBMIT: [u8; 52] =
+    *b"\0\0\0\x30/osc/submit\0,ibihi\0\0\0\0\0\0\0\0\0\x04/a\0\0\0\0\0\0\0\0\0\0\0\0\0\0\0\0\0\x01";
+
+const RELEASE: [u8; 52] =
+    *b"\0\0\0\x30/osc/release\0\0\0\0,ihb\0\0\0\0\0\0\0\0\0\0\0\0\0\0\0\0\0\0\0\x08\0\0\0\0\0\0\0\0";
+
+/// The same release, but of the method with id 1.
+const OTHER: [u8; 52] =
+    *b"\0\0\0\x30/osc/release\0\0\0\0,ihb\0\0\0\0\0\0\0\0\0\0\0\0\0\0\0\0\0\0\0\x08\0\0\0\0\0\0\0\x01";
+
+/// A tick to 5, by caller 0 and by caller 1.
+const TICK: [u8; 48] =
+    *b"\0\0\0\x2c/osc/tick\0\0\0,itit\0\0\0\0\0\0\0\0\0\0\0\0\0\0\x05\0\0\0\0\0\0\0\0\0\0\0\x05";
+
+const STRANGER: [u8; 48] =
+    *b"\0\0\0\x2c/osc/tick\0\0\0,itit\0\0\0\0\0\0\x01\0\0\0\0\0\0\0\x05\0\0\0\0\0\0\0\0\0\0\0\x05";
+
+const PRINTED: &[u8] = b"add 0 /a id 0\nsubmit 0 queued 0 1\nrelease 0 0 1\ncall 0 0 0 /a -\n";
+
+/// The header with a limit, and three parts.
+fn recording(
+    alloc: Global,
+    limit: u8,
+    first: &[u8],
+    second: &[u8],
+    third: &[u8],
+) -> Result<Vec<u8>, AllocError> {
+    let mut bytes = Vec::from_slice(alloc, &HEADER)?;
+    bytes.push(limit)?;
+    bytes.extend_from_slice(first)?;
+    bytes.extend_from_slice(second)?;
+    bytes.extend_from_slice(third)?;
+    Ok(bytes)
+}
+
+#[test]
+fn a_recording_is_printed(rt: HostRuntime) -> Result<(), AllocError> {
+    let bytes = recording(rt.alloc(), 204, &ADD, &SUBMIT, &RELEASE)?;
+    assert!(rt; bytes.len() <= 204);
+    assert!(rt; well_formed(&bytes).is_ok());
+    let Ok(text) = replay(rt.alloc(), &bytes) else {
+        panic!(rt; "refused");
+    };
+    assert_eq!(rt; text.bytes(), PRINTED);
+    Ok(())
+}
+
+#[test]
+fn the_first_malformed_place_is_told(rt: HostRuntime) -> Result<(), AllocError> {
+    let rows: [(&[u8], &[u8], u32); 7] = [
+        (&TICK[..47], b"", 56),
+        (
+            b"\0\0\0\x2c/osc/tick\0\0\0,itit\0\0\0\xff\xff\xff\xff\0\0\0\0\0\0\0\x05\0\0\0\0\0\0\0\0\0\0\0\x05",
+            b"",
+            56,
+        ),
+        // A packet without a slash.
+        (
+            &TICK,
+            b"\0\0\0\x30/osc/submit\0,ibihi\0\0\0\0\0\0\0\0\0\x04a\0\0\0\0\0\0\0\0\0\0\0\0\0\0\0\0\0\0\x01",
+            104,
+        ),
+        // Addresses with a byte that no name has.
+        (
+            b"\0\0\0\x28/osc/add\0\0\0\0,isiii\0\0\0\0\0\0/#\0\0\0\0\0\0\0\0\0\0\0\0\0\0",
+            b"",
+            56,
+        ),
+        (
+            b"\0\0\0\x24/osc/remove\0,isii\0\0\0\0\0\0\0/#\0\0\0\0\0\x01\0\0\0\0",
+            b"",
+            56,
+        ),
+        // The first of two places, whichever cause it has.
+        (
+            b"\0\0\0\x28/osc/add\0\0\0\0,isiii\0\0\0\0\0\0/#\0\0\0\0\0\0\0\0\0\0\0\0\0\0",
+            b"\0",
+            56,
+        ),
+        (&TICK, b"\0", 104),
+    ];
+    for (first, second, place) in rows {
+        let bytes = recording(rt.alloc(), 204, first, second, b"")?;
+        assert!(rt; bytes.len() <= 204);
+        assert_eq!(rt;
+            well_formed(&bytes).err().map(|malformed| malformed.at),
+            Some(place)
+        );
+        match replay(rt.alloc(), &bytes) {
+            Err(ReplayFault::Malformed { at }) => assert_eq!(rt; at, place),
+            _ => panic!(rt; "accepted"),
+        }
+    }
+    assert_eq!(rt;
+        well_formed(b"").err().map(|malformed| malformed.at),
+        Some(0)
+    );
+    Ok(())
+}
+
+#[test]
+fn the_first_entry_that_disagrees_is_told(rt: HostRuntime) -> Result<(), AllocError> {
+    // A release without its hit; where the limit is 203 there is no room for that.
+    let bare: [u8; 44] =
+        *b"\0\0\0\x28/osc/release\0\0\0\0,ihb\0\0\0\0\0\0\0\0\0\0\0\0\0\0\0\0\0\0\0\0";
+    let rows: [(u8, &[u8], &[u8], &[u8], u32, &[u8], &[u8]); 5] = [
+        (204, &ADD, &SUBMIT, &OTHER, 2, &OTHER, &RELEASE),
+        (204, &STRANGER, &TICK, b"", 0, &STRANGER, b""),
+        (204, &ADD, &RELEASE, b"", 1, &RELEASE, b""),
+        (204, &ADD, &SUBMIT, &bare, 2, &bare, &RELEASE),
+        (203, &ADD, &SUBMIT, &bare, 2, &bare, b""),
+    ];
+    for (limit, first, second, third, number, own, given) in rows {
+        let bytes = recording(rt.alloc(), limit, first, second, third)?;
+        assert!(rt; bytes.len() <= 204);
+        match replay(rt.alloc(), &bytes) {
+            Err(
+                ReplayFault::Disagrees {
+                    entry,
+                    kept,
+                    computed,
+                },
+            ) => {
+                assert_eq!(rt; entry, number);
+                assert_eq!(rt; kept.as_slice(), own);
+                assert_eq!(rt; computed.as_slice(), given);
+            }
+            _ => panic!(rt; "accepted"),
+        }
+    }
+    Ok(())
+}
