@@ -1,131 +1,190 @@
--- What became of a server and the boxes, one add or one removal on, and what each event numbers.
-use Rattle.std.proofs.Common.{◌≡◌, inl, inr, ℕ, ◌+◌, ◌≤◌, cond, nat_lt, List, [], ◌∷◌, ◌++◌, map, length, Option, Some, None, refl, sym, ap, subst, ◌∙◌, arith}
+-- What became of a server and the boxes, one add or one removal on.
+use Rattle.std.proofs.Common.{◌≡◌, ◌⊎◌, inl, inr, ℕ, ◌+◌, true, cond, List, [], ◌∷◌, ◌++◌, map, Option, Some, None, refl, sym, ap, subst, ◌∙◌, append_assoc}
+use Rattle.std.specs.Option.{option_map}
 use Rattle.std.specs.List.{Contains}
 use Rattle.std.specs.declared.alloc.Global.{Global}
 use Rattle.std.specs.declared.dyn_box.DynBox.{DynBox}
 use Rattle.std.proofs.lemmas.List.{append-nil, map-append}
-use Rattle.osc_packet.specs.Units.{Timed}
-use Rattle.osc_packet.specs.Reading.{units_read}
-use Rattle.osc_tree.specs.Registry.{id_at}
-use Rattle.osc_tree.specs.Adding.{Refusal, add_refusal}
-use Rattle.osc_model.specs.State.{State, opening, registry}
-use Rattle.osc_model.specs.Counts.{blocks_of, free_places, free_blocks}
-use Rattle.osc_model.specs.Events.{add, remove, submit, tick, Answer, queued, units_full, pool_full, added, refused, ticked, clock_back, Invocation}
-use Rattle.osc_model.specs.Step.{Stepped, step, leaves, after_submit, add_at, remove_at}
-use Rattle.osc_model.specs.Heard.{Told, reset}
-use Rattle.osc_model.specs.History.{Entry, invocations}
-use Rattle.osc_core.specs.Answers.{adding_of, refusal_of, OnAdded, OnRefused, OnRemoved, OnNotThere}
-use Rattle.osc_core.specs.Boxes.{without_id}
+use Rattle.osc_atoms.specs.declared.room.Room.{Room as CodeRoom}
+use Rattle.osc_tree.specs.Adding.{Refusal, taken, under_method, is_container, methods_full, nodes_full, add_refusal}
+use Rattle.osc_model.specs.State.{State, registry}
+use Rattle.osc_model.specs.Counts.{free_bytes}
+use Rattle.osc_model.specs.Recordings.{entry_size}
+use Rattle.osc_model.specs.Events.{add, remove, Answer, added, refused, record_full, adds_entry, Room, Invocation}
+use Rattle.osc_model.specs.Step.{Stepped, step, decided, add_at}
+use Rattle.osc_model.specs.Heard.{Told, reset, without_id}
+use Rattle.osc_model.specs.History.{Performance, state_of, invoked_in, stepped_in, onward, HaveHeard}
+use Rattle.osc_model.proofs.Stepping.{step_so}
+use Rattle.osc_core.specs.Answers.{room_of, adding_of, refusal_of, OnAdded, OnRefused, OnRemoved, OnKept}
+use Rattle.osc_core.specs.declared.answers.AddRefusal.{AddRefusal}
+use Rattle.osc_core.specs.declared.answers.AddRefusal.TheVariants as why
 use Rattle.osc_core.specs.declared.answers.Adding.{Adding}
 use Rattle.osc_core.specs.declared.answers.Adding.TheVariants.{Added, Refused}
 use Rattle.osc_core.specs.declared.answers.Removing.{Removing}
-use Rattle.osc_core.specs.declared.answers.Removing.TheVariants.{Removed, NotThere}
-use Rattle.osc_top.specs.Plain.{default_caps, entry_of}
-use Rattle.osc_top.specs.Bank.{Meaning, answer_to_add, add_answers}
-use Rattle.osc_top.specs.Tally.{Tally, IsAt, Grows, handed_back, handed_out}
+use Rattle.osc_core.specs.declared.answers.Removing.TheVariants as removing
+use Rattle.osc_top.specs.Plain.{room_in}
+use Rattle.osc_top.specs.Bank.{Meaning, add_answers, boxes_left}
+use Rattle.osc_top.specs.Tally.{Tally, IsAt, IsOver, IsAtUnless, handed_back, handed_out}
 use Rattle.osc_top.proofs.Hearing.{told_at}
+use Rattle.osc_top.proofs.Onward.{onward_none}
 use Rattle.osc_top.proofs.Tallies.{tally_added, tally_refused, tally_removed}
-use Rattle.osc_top.proofs.Places.{either, AddsOne, adds_one, add_prints, remove_quiet, at_more, at_quiet, quiet_tally}
+use Rattle.osc_top.proofs.Places.{given, remove_quiet, at_over, at_unless, at_more, at_quiet}
 
-module _ {Z : Type 0} {Y : Z → Type 0} (meaning : DynBox Z Global Y → Meaning) (history : List Entry) (bank : List (DynBox Z Global Y)) (state state' : State) (address : List ℕ) where
+-- what an add comes to: the next id, a refusal, or no room
+record AddsOne (state : State) (stepped : Stepped) : Type 0 where
+  pub id : stepped.answer ≡ added state.next_id
+  pub next : stepped.state.next_id ≡ state.next_id + 1
+
+record AddsNone (state : State) (stepped : Stepped) : Type 0 where
+  pub why : Refusal
+  pub answer : stepped.answer ≡ refused why
+  pub next : stepped.state.next_id ≡ state.next_id
+
+record HasNoRoom (state : State) (stepped : Stepped) : Type 0 where
+  pub room : Room
+  pub answer : stepped.answer ≡ record_full room
+
+record AddWay (state : State) (stepped : Stepped) : Type 0 where
+  pub silent : stepped.invocations ≡ []
+  pub way : AddsOne state stepped ⊎ (AddsNone state stepped ⊎ HasNoRoom state stepped)
+
+add_way : (state : State) (address : List ℕ) → AddWay state (step state (add address))
+add_way state address =
+    step_so (AddWay state) state (add address)
+    (record {
+      silent = λ none. decides (add_refusal (registry state) address);
+      full = λ adds full. record { silent = refl; way = inr (inr (record { room = record { need = entry_size (add address) (decided state (add address)).answer; free = free_bytes state }; answer = refl })) };
+      room = λ adds fits. noted (add_refusal (registry state) address);
+    })
+  where
+    decides : (refusal : Option Refusal) → AddWay state (add_at state address refusal)
+    decides None = record { silent = refl; way = inl (record { id = refl; next = refl }) }
+    decides (Some refusal) = record { silent = refl; way = inr (inl (record { why = refusal; answer = refl; next = refl })) }
+
+    noted : (refusal : Option Refusal) → AddWay state (record (add_at state address refusal) { state = record (add_at state address refusal).state { recorded = state.recorded + entry_size (add address) (decided state (add address)).answer } })
+    noted None = record { silent = refl; way = inl (record { id = refl; next = refl }) }
+    noted (Some refusal) = record { silent = refl; way = inr (inl (record { why = refusal; answer = refl; next = refl })) }
+
+-- a refusal is for want of room, or another
+refusal_ways : (reason : AddRefusal) → ((room : CodeRoom) × (reason ≡ why.RecordFull room)) ⊎ ((refusal : Refusal) × (refusal_of reason ≡ refused refusal))
+refusal_ways (why.RecordFull room) = inl (room, refl)
+refusal_ways (why.Taken id) = inr (taken id, refl)
+refusal_ways (why.UnderMethod id) = inr (under_method id, refl)
+refusal_ways why.IsContainer = inr (is_container, refl)
+refusal_ways (why.MethodsFull limit) = inr (methods_full limit, refl)
+refusal_ways (why.NodesFull room) = inr (nodes_full room.need room.free, refl)
+
+module _ {Z : Type 0} {Y : Z → Type 0} (meaning : DynBox Z Global Y → Meaning) (bank : List (DynBox Z Global Y)) (performance performance' : Performance) (address : List ℕ) (next : performance' ≡ onward performance 0 (add address)) where
   -- the tally of an add, by its answer
-  add_tally : (answer : Answer) (boxes gone : List Told) (left rest : List (DynBox Z Global Y)) → (step state (add address)).answer ≡ answer
-      → Tally meaning (invocations (opening default_caps) history) (add_answers history ++ answer ∷ []) bank state'.next_id boxes gone left rest
-      → Tally meaning (invocations (opening default_caps) history ++ (step state (add address)).invocations) (add_answers history ++ answer_to_add (add address) (step state (add address)).answer) bank state'.next_id boxes gone left rest
-  add_tally answer boxes gone left rest is tally =
-      let calls = invocations (opening default_caps) history in
-      let answers = add_answers history in
-      let same_calls : calls ++ (step state (add address)).invocations ≡ calls = ap (λ (l : List Invocation). calls ++ l) (add_prints state address) ∙ append-nil calls in
-      subst (λ (l : List Invocation). Tally meaning l (answers ++ (step state (add address)).answer ∷ []) bank state'.next_id boxes gone left rest) (sym same_calls)
-      (subst (λ (a : Answer). Tally meaning calls (answers ++ a ∷ []) bank state'.next_id boxes gone left rest) (sym is) tally)
+  add_tally : (answer : Answer) (count : ℕ) (boxes removed : List Told) (left rest : List (DynBox Z Global Y)) → (stepped_in performance (add address)).answer ≡ answer → adds_entry answer ≡ true
+      → (stepped_in performance (add address)).state.next_id ≡ count → (stepped_in performance (add address)).invocations ≡ []
+      → HaveHeard performance' boxes → Tally meaning (invoked_in performance) (add_answers performance.history ++ answer ∷ []) bank count boxes removed left rest → IsAt meaning bank performance' boxes removed left rest
+  add_tally answer count boxes removed left rest is adds ids silent have tally =
+      let calls : invoked_in performance ++ (stepped_in performance (add address)).invocations ≡ invoked_in performance = ap (λ (l : List Invocation). invoked_in performance ++ l) silent ∙ append-nil (invoked_in performance) in
+      let one : given performance (add address) ≡ answer ∷ [] = ap (λ (a : Answer). cond {A = List Answer} (adds_entry a) (a ∷ []) []) is ∙ ap (λ t. cond {A = List Answer} t (answer ∷ []) []) adds in
+      at_more meaning bank performance performance' (add address) next boxes removed left rest have
+      (subst (λ (l : List Invocation). Tally meaning l (add_answers performance.history ++ given performance (add address)) bank (stepped_in performance (add address)).state.next_id boxes removed left rest) (sym calls)
+      (subst (λ (l : List Answer). Tally meaning (invoked_in performance) (add_answers performance.history ++ l) bank (stepped_in performance (add address)).state.next_id boxes removed left rest) (sym one)
+      (subst (λ (n : ℕ). Tally meaning (invoked_in performance) (add_answers performance.history ++ answer ∷ []) bank n boxes removed left rest) (sym ids) tally)))
 
-  pub at_add : (adding : Adding Z Y) (method : DynBox Z Global Y) (boxes boxes' gone : List Told) (left left' rest more : List (DynBox Z Global Y))
-      → adding_of adding ≡ (step state (add address)).answer
-      → state' ≡ (step state (add address)).state
-      → OnAdded adding (λ id. boxes' ≡ boxes ++ reset (record { id = id; keep = (meaning method).keep; heard = (meaning method).heard }) ∷ [])
+  added_at : (id : ℕ) (method : DynBox Z Global Y) (boxes boxes' removed : List Told) (left rest more : List (DynBox Z Global Y)) → added id ≡ (stepped_in performance (add address)).answer
+      → boxes' ≡ boxes ++ reset (told_at id (meaning method)) ∷ [] → HaveHeard performance' boxes' → rest ≡ method ∷ more → IsAt meaning bank performance boxes removed left rest → IsAt meaning bank performance' boxes' removed left more
+  added_at id method boxes boxes' removed left rest more answer grown have first at = go (add_way (state_of performance) address).way where
+    silent : (stepped_in performance (add address)).invocations ≡ []
+    silent = (add_way (state_of performance) address).silent
+
+    go : AddsOne (state_of performance) (stepped_in performance (add address)) ⊎ (AddsNone (state_of performance) (stepped_in performance (add address)) ⊎ HasNoRoom (state_of performance) (stepped_in performance (add address))) → IsAt meaning bank performance' boxes' removed left more
+    go (inl one) =
+        let count = (state_of performance).next_id in
+        let is : id ≡ count = let both : added id ≡ added count = answer ∙ one.id in cc in
+        let new : boxes' ≡ boxes ++ reset (told_at count (meaning method)) ∷ [] = grown ∙ ap (λ (n : ℕ). boxes ++ reset (told_at n (meaning method)) ∷ []) is in
+        let tally = tally_added meaning (invoked_in performance) (add_answers performance.history) bank count (stepped_in performance (add address)).state.next_id boxes removed left method more one.next (subst (Tally meaning (invoked_in performance) (add_answers performance.history) bank count boxes removed left) first at.tally) in
+        add_tally (added count) (stepped_in performance (add address)).state.next_id boxes' removed left more one.id refl refl silent have
+        (subst (λ (l : List Told). Tally meaning (invoked_in performance) (add_answers performance.history ++ added count ∷ []) bank (stepped_in performance (add address)).state.next_id l removed left more) (sym new) tally)
+    go (inr (inl none)) = let both : added id ≡ refused none.why = answer ∙ none.answer in absurd (cc)
+    go (inr (inr full)) = let both : added id ≡ record_full full.room = answer ∙ full.answer in absurd (cc)
+
+  refused_at : (reason : Refusal) (method : DynBox Z Global Y) (boxes boxes' removed : List Told) (left rest more : List (DynBox Z Global Y)) → refused reason ≡ (stepped_in performance (add address)).answer
+      → boxes' ≡ boxes → HaveHeard performance' boxes' → rest ≡ method ∷ more → IsAt meaning bank performance boxes removed left rest → IsAt meaning bank performance' boxes' removed (left ++ method ∷ []) more
+  refused_at reason method boxes boxes' removed left rest more answer same have first at = go (add_way (state_of performance) address).way where
+    silent : (stepped_in performance (add address)).invocations ≡ []
+    silent = (add_way (state_of performance) address).silent
+
+    go : AddsOne (state_of performance) (stepped_in performance (add address)) ⊎ (AddsNone (state_of performance) (stepped_in performance (add address)) ⊎ HasNoRoom (state_of performance) (stepped_in performance (add address))) → IsAt meaning bank performance' boxes' removed (left ++ method ∷ []) more
+    go (inl one) = let both : refused reason ≡ added (state_of performance).next_id = answer ∙ one.id in absurd (cc)
+    go (inr (inl none)) =
+        let count = (state_of performance).next_id in
+        let tally = tally_refused meaning (invoked_in performance) (add_answers performance.history) (refused none.why) bank count boxes removed left method more (λ b. refl) (λ b. refl) (subst (Tally meaning (invoked_in performance) (add_answers performance.history) bank count boxes removed left) first at.tally) in
+        add_tally (refused none.why) count boxes' removed (left ++ method ∷ []) more none.answer refl none.next silent have
+        (subst (λ (l : List Told). Tally meaning (invoked_in performance) (add_answers performance.history ++ refused none.why ∷ []) bank count l removed (left ++ method ∷ []) more) (sym same) tally)
+    go (inr (inr full)) = let both : refused reason ≡ record_full full.room = answer ∙ full.answer in absurd (cc)
+
+  -- there was no room: the box is among the others
+  full_over : (room : Room) (method : DynBox Z Global Y) (boxes boxes' removed : List Told) (left rest more : List (DynBox Z Global Y)) → record_full room ≡ (stepped_in performance (add address)).answer
+      → boxes' ≡ boxes → rest ≡ method ∷ more → IsAt meaning bank performance boxes removed left rest → IsOver meaning bank performance' boxes' removed (left ++ method ∷ []) more
+  full_over room method boxes boxes' removed left rest more answer same first at =
+      let over = at_over meaning bank performance boxes removed left rest at in
+      let stays : performance' ≡ performance = next ∙ onward_none performance (add address) (ap adds_entry (sym answer)) in
+      let all : (left ++ method ∷ []) ++ more ≡ boxes_left (add_answers performance.history) bank = append_assoc left (method ∷ []) more ∙ ap (λ (l : List (DynBox Z Global Y)). left ++ l) (sym first) ∙ over.others in
+      subst (λ (p : Performance). IsOver meaning bank p boxes' removed (left ++ method ∷ []) more) (sym stays)
+      (subst (λ (l : List Told). IsOver meaning bank performance l removed (left ++ method ∷ []) more) (sym same) (record { others = all; told = over.told; rising = over.rising }))
+
+  -- an add, as the clauses of the server say it
+  pub at_add : (adding : Adding Z Y) (stop : Option CodeRoom) (method : DynBox Z Global Y) (boxes boxes' removed : List Told) (left left' rest more : List (DynBox Z Global Y))
+      → adding_of adding ≡ (stepped_in performance (add address)).answer
+      → option_map room_of stop ≡ room_in (adding_of adding)
+      → OnAdded adding (λ id. boxes' ≡ boxes ++ reset (told_at id (meaning method)) ∷ [])
       → OnRefused adding (λ back untouched. boxes' ≡ boxes)
       → OnRefused adding (λ back untouched. (back ≡ address) × (untouched ≡ method))
+      → (HaveHeard performance boxes → HaveHeard performance' boxes')
       → left' ≡ left ++ handed_back adding
       → rest ≡ method ∷ more
-      → IsAt meaning history bank state boxes gone left rest
-      → IsAt meaning (history ++ entry_of state (add address) ∷ []) bank state' boxes' gone left' more
-  at_add (Added id) method boxes boxes' gone left left' rest more answer next grown same back kept first at = go (adds_one state address) where
-    go : AddsOne state (step state (add address)) → IsAt meaning (history ++ entry_of state (add address) ∷ []) bank state' boxes' gone left' more
-    go (inl one) =
-        let is : id ≡ state.next_id = let both : added id ≡ added state.next_id = answer ∙ one.0 in cc in
-        let ids : state'.next_id ≡ state.next_id + 1 = ap (λ (s : State). s.next_id) next ∙ one.1 in
-        let tally = tally_added meaning (invocations (opening default_caps) history) (add_answers history) bank state.next_id state'.next_id boxes gone left method more ids (subst (Tally meaning (invocations (opening default_caps) history) (add_answers history) bank state.next_id boxes gone left) first at.tally) in
-        let new : boxes ++ reset (told_at state.next_id (meaning method)) ∷ [] ≡ boxes' = sym (grown ∙ ap (λ (n : ℕ). boxes ++ reset (told_at n (meaning method)) ∷ []) is) in
-        subst (λ (l : List (DynBox Z Global Y)). IsAt meaning (history ++ entry_of state (add address) ∷ []) bank state' boxes' gone l more) (sym (kept ∙ append-nil left))
-        (subst (λ (l : List Told). IsAt meaning (history ++ entry_of state (add address) ∷ []) bank state' l gone left more) new
-        (at_more meaning history bank state state' (add address) next boxes gone (boxes ++ reset (told_at state.next_id (meaning method)) ∷ []) gone left rest left more at
-        (add_tally (added state.next_id) (boxes ++ reset (told_at state.next_id (meaning method)) ∷ []) gone left more one.0 tally)))
-    go (inr none) = let both : added id ≡ refused none.0 = answer ∙ none.1 in absurd (cc)
-  at_add (Refused why address' method') method boxes boxes' gone left left' rest more answer next grown same back kept first at = go (adds_one state address) where
-    go : AddsOne state (step state (add address)) → IsAt meaning (history ++ entry_of state (add address) ∷ []) bank state' boxes' gone left' more
-    go (inl one) = let both : refused (refusal_of why) ≡ added state.next_id = answer ∙ one.0 in absurd (cc)
-    go (inr none) =
-        let ids : state'.next_id ≡ state.next_id = ap (λ (s : State). s.next_id) (next ∙ none.2) in
-        let tally = tally_refused meaning (invocations (opening default_caps) history) (add_answers history) (refused none.0) bank state.next_id boxes gone left method more (λ b. refl) (λ b. refl) (subst (Tally meaning (invocations (opening default_caps) history) (add_answers history) bank state.next_id boxes gone left) first at.tally) in
-        subst (λ (l : List (DynBox Z Global Y)). IsAt meaning (history ++ entry_of state (add address) ∷ []) bank state' boxes' gone l more) (sym (kept ∙ ap (λ (b : DynBox Z Global Y). left ++ b ∷ []) back.1))
-        (subst (λ (l : List Told). IsAt meaning (history ++ entry_of state (add address) ∷ []) bank state' l gone (left ++ method ∷ []) more) (sym same)
-        (at_more meaning history bank state state' (add address) next boxes gone boxes gone left rest (left ++ method ∷ []) more at
-        (add_tally (refused none.0) boxes gone (left ++ method ∷ []) more none.1
-        (subst (λ (n : ℕ). Tally meaning (invocations (opening default_caps) history) (add_answers history ++ refused none.0 ∷ []) bank n boxes gone (left ++ method ∷ []) more) (sym ids) tally))))
+      → IsAt meaning bank performance boxes removed left rest
+      → IsAtUnless stop meaning bank performance' boxes' removed left' more
+  at_add (Added id) stop method boxes boxes' removed left left' rest more answer stops grown same back hears kept first at =
+      at_unless meaning bank stop performance' boxes' removed left' more
+      (subst (λ (l : List (DynBox Z Global Y)). IsAt meaning bank performance' boxes' removed l more) (sym (kept ∙ append-nil left)) (added_at id method boxes boxes' removed left rest more answer grown (hears at.have) first at))
+  at_add (Refused reason address' method') stop method boxes boxes' removed left left' rest more answer stops grown same back hears kept first at = go stop stops (refusal_ways reason) where
+    all : left' ≡ left ++ method ∷ []
+    all = kept ∙ ap (λ (b : DynBox Z Global Y). left ++ b ∷ []) back.1
 
-  -- a removed method is told under its id
-  abbrev tell : ℕ × DynBox Z Global Y → Told
-  tell one = told_at one.0 (meaning one.1)
+    go : (stop : Option CodeRoom) → option_map room_of stop ≡ room_in (refusal_of reason) → ((room : CodeRoom) × (reason ≡ why.RecordFull room)) ⊎ ((refusal : Refusal) × (refusal_of reason ≡ refused refusal)) → IsAtUnless stop meaning bank performance' boxes' removed left' more
+    go None stops (inl full) = let both : None ≡ Some (room_of full.0) = stops ∙ ap (λ r. room_in (refusal_of r)) full.1 in absurd (cc)
+    go (Some room) stops (inl full) =
+        subst (λ (l : List (DynBox Z Global Y)). IsOver meaning bank performance' boxes' removed l more) (sym all)
+        (full_over (room_of full.0) method boxes boxes' removed left rest more (sym (ap refusal_of full.1) ∙ answer) same first at)
+    go stop stops (inr other) =
+        at_unless meaning bank stop performance' boxes' removed left' more
+        (subst (λ (l : List (DynBox Z Global Y)). IsAt meaning bank performance' boxes' removed l more) (sym all)
+        (refused_at other.0 method boxes boxes' removed left rest more (sym other.1 ∙ answer) same (hears at.have) first at))
 
-  pub at_remove : (removing : Removing Z Y) (boxes boxes' : List Told) (pairs pairs' : List (ℕ × DynBox Z Global Y)) (left rest : List (DynBox Z Global Y))
-      → state' ≡ (step state (remove address)).state
-      → OnRemoved removing (λ id method. Contains boxes (told_at id (meaning method)))
-      → OnRemoved removing (λ id method. boxes' ≡ without_id id boxes)
-      → OnNotThere removing (boxes' ≡ boxes)
-      → pairs' ≡ pairs ++ handed_out removing
-      → IsAt meaning history bank state boxes (map (λ one. told_at one.0 (meaning one.1)) pairs) left rest
-      → IsAt meaning (history ++ entry_of state (remove address) ∷ []) bank state' boxes' (map (λ one. told_at one.0 (meaning one.1)) pairs') left rest
-  at_remove NotThere boxes boxes' pairs pairs' left rest next there others same kept at =
-      subst (λ (l : List (ℕ × DynBox Z Global Y)). IsAt meaning (history ++ entry_of state (remove address) ∷ []) bank state' boxes' (map tell l) left rest) (sym (kept ∙ append-nil pairs))
-      (at_quiet meaning history bank state state' (remove address) next (remove_quiet state address) boxes boxes' (map tell pairs) left rest same at)
-  at_remove (Removed id method) boxes boxes' pairs pairs' left rest next there others same kept at =
-      let moved = map tell pairs ++ told_at id (meaning method) ∷ [] in
-      let tally = tally_removed meaning (invocations (opening default_caps) history) (add_answers history) bank state.next_id boxes (map tell pairs) left rest (told_at id (meaning method)) there at.tally in
-      let all : moved ≡ map tell pairs' = sym (ap (map tell) kept ∙ map-append tell pairs ((id, method) ∷ [])) in
-      subst (λ (l : List Told). IsAt meaning (history ++ entry_of state (remove address) ∷ []) bank state' boxes' l left rest) all
-      (subst (λ (l : List Told). IsAt meaning (history ++ entry_of state (remove address) ∷ []) bank state' l moved left rest) (sym others)
-      (at_more meaning history bank state state' (remove address) next boxes (map tell pairs) (without_id id boxes) moved left rest left rest at
-      (quiet_tally meaning history bank state state' (remove address) next (remove_quiet state address) (without_id id boxes) moved left rest tally)))
+module _ {Z : Type 0} {Y : Z → Type 0} (meaning : DynBox Z Global Y → Meaning) (bank : List (DynBox Z Global Y)) (performance performance' : Performance) (address : List ℕ) (next : performance' ≡ onward performance 0 (remove address)) where
+  -- a removal, as the clauses of the server say it
+  pub at_remove : (result : Removing Z Y) (stop : Option CodeRoom) (boxes boxes' : List Told) (pairs pairs' : List (ℕ × DynBox Z Global Y)) (left rest : List (DynBox Z Global Y))
+      → OnRemoved result (λ id method. Contains boxes (told_at id (meaning method)))
+      → OnRemoved result (λ id method. boxes' ≡ without_id id boxes)
+      → OnKept result (boxes' ≡ boxes)
+      → (HaveHeard performance boxes → HaveHeard performance' boxes')
+      → pairs' ≡ pairs ++ handed_out result
+      → IsAt meaning bank performance boxes (map (λ one. told_at one.0 (meaning one.1)) pairs) left rest
+      → IsAtUnless stop meaning bank performance' boxes' (map (λ one. told_at one.0 (meaning one.1)) pairs') left rest
+  at_remove result stop boxes boxes' pairs pairs' left rest there others same hears kept at = at_unless meaning bank stop performance' boxes' (map tell pairs') left rest (go result there others same kept) where
+    tell : ℕ × DynBox Z Global Y → Told
+    tell one = told_at one.0 (meaning one.1)
 
--- What an event numbers.
+    stays : boxes' ≡ boxes → pairs' ≡ pairs ++ [] → IsAt meaning bank performance' boxes' (map tell pairs') left rest
+    stays same kept =
+        subst (λ (l : List (ℕ × DynBox Z Global Y)). IsAt meaning bank performance' boxes' (map tell l) left rest) (sym (kept ∙ append-nil pairs))
+        (at_quiet meaning bank performance performance' (remove address) next (remove_quiet (state_of performance) address) boxes' (map tell pairs) left rest (hears at.have)
+        (subst (λ (l : List Told). Tally meaning (invoked_in performance) (add_answers performance.history) bank (state_of performance).next_id l (map tell pairs) left rest) (sym same) at.tally))
 
-abbrev GrowsTo : State → Stepped → Type 0
-GrowsTo state stepped = Grows state stepped.state
-
-grows_none : (state : State) → Grows state state
-grows_none state = record { ids = omega arith; units = omega arith; callers = refl }
-
-pub add_grows : (state : State) (address : List ℕ) → Grows state (step state (add address)).state
-add_grows state address = go (add_refusal (registry state) address) where
-  go : (refusal : Option Refusal) → Grows state (add_at state address refusal).state
-  go None = record { ids = omega arith; units = omega arith; callers = refl }
-  go (Some why) = grows_none state
-
-pub remove_grows : (state : State) (address : List ℕ) → Grows state (step state (remove address)).state
-remove_grows state address = go (id_at state.methods address) where
-  go : (found : Option ℕ) → Grows state (remove_at state address found).state
-  go None = grows_none state
-  go (Some id) = record { ids = omega arith; units = omega arith; callers = refl }
-
-pub tick_grows : (state : State) (now : ℕ) → Grows state (step state (tick now)).state
-tick_grows state now = either (GrowsTo state) (nat_lt now state.clock) (leaves state (clock_back state.clock)) (leaves (record state { clock = now }) ticked) (grows_none state) (record { ids = omega arith; units = omega arith; callers = refl })
-
-pub submit_grows : (state : State) (packet : List ℕ) → length (units_read packet) ≤ 65504 → Grows state (step state (submit packet)).state
-submit_grows state packet few = go (units_read packet) few where
-  go : (units : List Timed) → length units ≤ 65504
-      → Grows state (cond (nat_lt (free_places state) (length units)) (leaves state (units_full (record { need = length units; free = free_places state })))
-      (cond (nat_lt (free_blocks state) (blocks_of units)) (leaves state (pool_full (record { need = blocks_of units; free = free_blocks state }))) (leaves (after_submit state units) (queued state.next_unit (length units))))).state
-  go units short =
-      either (GrowsTo state) (nat_lt (free_places state) (length units)) (leaves state (units_full (record { need = length units; free = free_places state })))
-      (cond (nat_lt (free_blocks state) (blocks_of units)) (leaves state (pool_full (record { need = blocks_of units; free = free_blocks state }))) (leaves (after_submit state units) (queued state.next_unit (length units)))) (grows_none state)
-      (either (GrowsTo state) (nat_lt (free_blocks state) (blocks_of units)) (leaves state (pool_full (record { need = blocks_of units; free = free_blocks state }))) (leaves (after_submit state units) (queued state.next_unit (length units))) (grows_none state) (record { ids = omega arith; units = omega arith; callers = refl }))
+    go : (result : Removing Z Y) → OnRemoved result (λ id method. Contains boxes (told_at id (meaning method))) → OnRemoved result (λ id method. boxes' ≡ without_id id boxes) → OnKept result (boxes' ≡ boxes) → pairs' ≡ pairs ++ handed_out result → IsAt meaning bank performance' boxes' (map tell pairs') left rest
+    go (removing.RecordFull room) there others same kept = stays same kept
+    go removing.NotThere there others same kept = stays same kept
+    go (removing.Removed id method) there others same kept =
+        let moved = map tell pairs ++ told_at id (meaning method) ∷ [] in
+        let tally = tally_removed meaning (invoked_in performance) (add_answers performance.history) bank (state_of performance).next_id boxes (map tell pairs) left rest (told_at id (meaning method)) there at.tally in
+        let all : map tell pairs' ≡ moved = ap (map tell) kept ∙ map-append tell pairs ((id, method) ∷ []) in
+        at_quiet meaning bank performance performance' (remove address) next (remove_quiet (state_of performance) address) boxes' (map tell pairs') left rest (hears at.have)
+        (subst (λ (l : List Told). Tally meaning (invoked_in performance) (add_answers performance.history) bank (state_of performance).next_id boxes' l left rest) (sym all)
+        (subst (λ (l : List Told). Tally meaning (invoked_in performance) (add_answers performance.history) bank (state_of performance).next_id l moved left rest) (sym others) tally))

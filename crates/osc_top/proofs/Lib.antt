@@ -1,12 +1,12 @@
-pub mod Rising
-pub mod Hearing
-pub mod Tallies
-pub mod Histories
-pub mod Places
-pub mod Adds
-pub mod Turns
-pub mod Transfers
-pub mod Endings
-pub mod Lawful
-pub mod Runs
-pub mod Tops
+mod Onward
+mod Rising
+mod Hearing
+mod Tallies
+mod Endings
+mod Places
+mod Adds
+mod Pumps
+mod Runs
+mod Transfers
+mod Tops
+mod Enough

@@ -7,7 +7,7 @@ use Rattle.std.proofs.lemmas.List.Sums.{sum_by-cons}
 use Rattle.std.proofs.lemmas.List.Elements.{All-contains, All-from_recursion}
 use Rattle.std.proofs.lemmas.List.Sorted.{IsPermutation-filter_both, IsPermutation-append_left, IsPermutation-trans, IsPermutation-sym, IsPermutation-to_front, IsNonDecreasingBy-drop}
 use Rattle.osc_model.specs.Heard.{Told}
-use Rattle.osc_core.specs.Boxes.{without_id}
+use Rattle.osc_model.specs.Heard.{without_id}
 use Rattle.osc_top.specs.Tally.{IsRising}
 
 pub all_push : {X : Type 0} (P : X → Type 0) (xs : List X) (x : X) → AllByRecursion P xs → P x → AllByRecursion P (xs ++ x ∷ [])

@@ -8,7 +8,7 @@ use Rattle.std.proofs.lemmas.List.Elements.{All-from_recursion, recursion_from_A
 use Rattle.std.proofs.lemmas.List.Sorted.{IsPermutation-sym, IsPermutation-trans, IsPermutation-map, IsPermutation-append_left, IsPermutation-to_front, IsPermutation-middle, All-permutation, sum_by-IsPermutation}
 use Rattle.osc_model.specs.Events.{Answer, added, Invocation}
 use Rattle.osc_model.specs.Heard.{Told, reset, hear_all}
-use Rattle.osc_core.specs.Boxes.{all_hear, without_id}
+use Rattle.osc_model.specs.Heard.{all_hear, without_id}
 use Rattle.osc_top.specs.Bank.{Meaning, box_left, box_heard, boxes_heard}
 use Rattle.osc_top.specs.Tally.{IsRising, refused_boxes, Tally}
 use Rattle.osc_top.proofs.Rising.{all_weaker, all_append, all_front, count, times, once, id_counted, id_below, one_moved, rising_push}

@@ -1,35 +1,36 @@
--- How a run ends, from how its parts end.
-use Rattle.std.proofs.Common.{◌≡◌, ◌⊎◌, inl, inr, ℕ, ◌<◌, ◌≤◌, Bool, true, false, cond, nat_lt, List, length, Option, Some, None, IfSome, IsOkAnd, Result, Ok, Err, sym, ap, subst, ◌∙◌, arith}
-use Rattle.std.proofs.lemmas.Bool.{lt-ltb}
+-- How a program ends, from how its parts end.
+use Rattle.std.proofs.Common.{◌≡◌, ◌⊎◌, inl, inr, ℕ, ◌<◌, ◌≤◌, List, Option, IsSome, IsOkAnd, Result, Ok, sym, ap, subst, ◌∙◌, arith}
 use Rattle.osc_script.specs.declared.line.Line.{Line}
 use Rattle.osc_script.specs.declared.fault.ScriptFault.{ScriptFault}
 use Rattle.osc_script.specs.declared.mode.Mode.TheVariants.{Plain}
-use Rattle.osc_script.specs.Words.{lines_of}
-use Rattle.osc_script.specs.Scripts.{script_of, script_from}
-use Rattle.osc_top.specs.Plain.{count_adds}
+use Rattle.osc_script.specs.Scripts.{script_of}
+use Rattle.osc_top.specs.declared.command.Output.{Output}
+use Rattle.osc_top.specs.Plain.{default_caps, plain, count_adds}
 use Rattle.osc_top.specs.Printing.{bank_short_text}
-use Rattle.osc_top.specs.Ends.{GainsUnless, IsLegalRun, Gains, GainsFront, run_text, EndsRun, EndsLines, EndsLine}
+use Rattle.osc_top.specs.Ends.{Gains, GainsFront, GainsUnless, IsLegalRun, IsUnstopped, run_output, EndsLines, EndsRun, EndsLine}
 
 pub line_text : (decided status : ℕ) (text text' : List ℕ) (held after : Option (List ℕ)) (faults now : ℕ) → text ≡ text' → EndsLine decided status text held after faults now → EndsLine decided status text' held after faults now
 line_text decided status text text' held after faults now same ends = subst (λ (t : List ℕ). EndsLine decided status t held after faults now) same ends
 
 -- too few boxes
-pub short_ends : (status status' have have' need : ℕ) (lines : List Line) (held after : Option (List ℕ)) (faults now : ℕ) → status' ≡ status → have ≡ have' → need ≡ count_adds lines → have < need → EndsLine 8 status (bank_short_text need have) held after faults now → EndsLines status' have' lines held after faults now
-short_ends status status' have have' need lines held after faults now same boxes adds few ends = go ends.known where
+pub short_ends : (output : Output) (status status' have have' need : ℕ) (lines : List Line) (held after : Option (List ℕ)) (faults now : ℕ) → status' ≡ status → have ≡ have' → need ≡ count_adds lines → have < need → EndsLine 8 status (bank_short_text need have) held after faults now → EndsLines output status' have' lines held after faults now
+short_ends output status status' have have' need lines held after faults now same boxes adds few ends = go ends.known where
   text : bank_short_text need have ≡ bank_short_text (count_adds lines) have'
   text = ap (λ (n : ℕ). bank_short_text n have) adds ∙ ap (bank_short_text (count_adds lines)) boxes
 
-  go : (status ≡ 8) ⊎ (status ≡ 3) → EndsLines status' have' lines held after faults now
+  go : (status ≡ 8) ⊎ (status ≡ 3) → EndsLines output status' have' lines held after faults now
   go (inl is) = record {
-    known = inr (inr (inr (same ∙ is)));
+    known = inr (inr (inr (inr (same ∙ is))));
     done = λ zero_is. absurd (omega (arith, same, is, zero_is));
     cut_short = λ five_is. absurd (omega (arith, same, is, five_is));
+    full = λ six_is. absurd (omega (arith, same, is, six_is));
     bank_short = λ eight_is. (omega (arith, boxes, adds, few), subst (GainsUnless held after faults now) text (ends.written is));
   }
   go (inr is) = record {
     known = inr (inl (same ∙ is));
     done = λ zero_is. absurd (omega (arith, same, is, zero_is));
     cut_short = λ five_is. absurd (omega (arith, same, is, five_is));
+    full = λ six_is. absurd (omega (arith, same, is, six_is));
     bank_short = λ eight_is. absurd (omega (arith, same, is, eight_is));
   }
 
@@ -38,33 +39,22 @@ module _ (script : List ℕ) (lines : List Line) where
   ok_and P is holds = subst (λ (r : Result (List Line) ScriptFault). IsOkAnd r P) (sym is) holds
 
   -- lines that were read end as their script
-  pub lines_end : (status have : ℕ) (held after : Option (List ℕ)) (faults now : ℕ) → script_of Plain script ≡ Ok lines → EndsLines status have lines held after faults now → EndsRun status have script held after faults now
-  lines_end status have held after faults now is ends = record {
+  pub lines_end : (output : Output) (status have : ℕ) (held after : Option (List ℕ)) (faults now : ℕ) → script_of Plain script ≡ Ok lines → EndsLines output status have lines held after faults now → EndsRun output status have script held after faults now
+  lines_end output status have held after faults now is ends = record {
     known = among ends.known;
-    done = λ zero_is. let done = ends.done zero_is in (ok_and (λ (l : List Line). (count_adds l ≤ have) × IsLegalRun l × Gains held after (run_text l)) is (done.0, done.1, done.2), done.3);
+    done = λ zero_is. let done = ends.done zero_is in (ok_and (λ (l : List Line). (count_adds l ≤ have) × IsLegalRun l × IsUnstopped l × Gains held after (run_output output l)) is (done.0, done.1, done.2, done.3), done.4);
     refused = λ one_is. not_one ends.known one_is;
-    cut_short = λ five_is. let short = ends.cut_short five_is in (ok_and (λ (l : List Line). (count_adds l ≤ have) × IsLegalRun l × GainsFront held after (run_text l)) is (short.0, short.1, short.2), short.3);
+    cut_short = λ five_is. let short = ends.cut_short five_is in (ok_and (λ (l : List Line). (count_adds l ≤ have) × IsLegalRun l × GainsFront held after (run_output output l)) is (short.0, short.1, short.2), short.3);
+    full = λ six_is. let full = ends.full six_is in (ok_and (λ (l : List Line). (count_adds l ≤ have) × IsLegalRun l × IsSome (plain default_caps l).stop × Gains held after (run_output output l)) is (full.0, full.1, full.2, full.3), full.4);
     bank_short = λ eight_is. ok_and (λ (l : List Line). (have < count_adds l) × GainsUnless held after faults now (bank_short_text (count_adds l) have)) is (ends.bank_short eight_is);
   } where
-    among : (status ≡ 0) ⊎ (status ≡ 3) ⊎ (status ≡ 5) ⊎ (status ≡ 8) → (status ≡ 0) ⊎ (status ≡ 1) ⊎ (status ≡ 3) ⊎ (status ≡ 5) ⊎ (status ≡ 8)
+    among : (status ≡ 0) ⊎ (status ≡ 3) ⊎ (status ≡ 5) ⊎ (status ≡ 6) ⊎ (status ≡ 8) → (status ≡ 0) ⊎ (status ≡ 1) ⊎ (status ≡ 3) ⊎ (status ≡ 5) ⊎ (status ≡ 6) ⊎ (status ≡ 8)
     among (inl z) = inl z
     among (inr others) = inr (inr others)
 
-    not_one : {A : Type 0} → (status ≡ 0) ⊎ (status ≡ 3) ⊎ (status ≡ 5) ⊎ (status ≡ 8) → status ≡ 1 → A
+    not_one : {A : Type 0} → (status ≡ 0) ⊎ (status ≡ 3) ⊎ (status ≡ 5) ⊎ (status ≡ 6) ⊎ (status ≡ 8) → status ≡ 1 → A
     not_one (inl z) one_is = absurd (omega (arith, z, one_is))
     not_one (inr (inl z)) one_is = absurd (omega (arith, z, one_is))
     not_one (inr (inr (inl z))) one_is = absurd (omega (arith, z, one_is))
-    not_one (inr (inr (inr z))) one_is = absurd (omega (arith, z, one_is))
-
--- what holds of the whole input that was read
-pub of_whole : (left : Option (List ℕ)) (bytes : List ℕ) (few after P : List ℕ → Type 0) → IfSome left (λ all. (bytes ≡ all) × few all × after all) → P bytes → IfSome left P
-of_whole None bytes few after P read holds = tt
-of_whole (Some all) bytes few after P read holds = subst P read.0 holds
-
--- an input that is too long is a script that is refused
-pub long_refused : (left : Option (List ℕ)) (more : List ℕ → Type 0) (P Q R A : Type 0) (fits : List Line → Type 0) → IfSome left (λ all. (67108864 < length all) × more all) → IfSome left (λ script. P → IsOkAnd (script_of Plain script) fits → Q → R → A)
-long_refused None more P Q R A fits long = tt
-long_refused (Some all) more P Q R A fits long = λ p ok q r. go (nat_lt 67108864 (length all)) (lt-ltb 67108864 (length all) long.0) ok where
-  go : (t : Bool) → t ≡ true → IsOkAnd (cond {A = Result (List Line) ScriptFault} t (Err (record { line = 0; kind = 1 })) (script_from Plain 1 (lines_of all))) fits → A
-  go true is ok = absurd ok
-  go false is ok = absurd (cc)
+    not_one (inr (inr (inr (inl z)))) one_is = absurd (omega (arith, z, one_is))
+    not_one (inr (inr (inr (inr z)))) one_is = absurd (omega (arith, z, one_is))

@@ -42,13 +42,13 @@ read_more (Some all) mid after bytes into count so takes within =
     )
 
 -- more than the limit was left
-pub read_long : (left mid : Option (List ℕ)) (bytes : List ℕ) → ReadSoFar left mid bytes → 67108864 < length bytes → length bytes ≤ 67108865 → IfSome left (λ all. (67108864 < length all) × (mid ≡ Some (left_behind all)))
-read_long None mid bytes so long within = tt
-read_long (Some all) mid bytes so long within =
-    let size : length bytes ≡ 67108865 = omega arith in
+pub read_long : (most : ℕ) (left mid : Option (List ℕ)) (bytes : List ℕ) → ReadSoFar left mid bytes → most < length bytes → length bytes ≤ most + 1 → IfSome left (λ all. (most < length all) × (mid ≡ Some (left_behind most all)))
+read_long most None mid bytes so long within = tt
+read_long most (Some all) mid bytes so long within =
+    let size : length bytes ≡ most + 1 = omega arith in
     (omega (arith, so.2), so.0 ∙ ap (λ (n : ℕ). Some (drop n all)) size)
 
 -- behind a whole input nothing is left
-pub left_whole : (left after : Option (List ℕ)) (bytes : List ℕ) (P Q R : Type 0) → IfSome left (λ all. (bytes ≡ all) × (length all ≤ 67108864) × (after ≡ Some [])) → IfSome left (λ all. P → Q → R → after ≡ Some (left_behind all))
-left_whole None after bytes P Q R is = tt
-left_whole (Some all) after bytes P Q R is = λ p q r. is.2 ∙ ap Some (sym (drop_all 67108865 all (omega (arith, is.1))))
+pub left_whole : (most : ℕ) (left after : Option (List ℕ)) (bytes : List ℕ) (P Q : Type 0) → IfSome left (λ all. (bytes ≡ all) × (after ≡ Some [])) → length bytes ≤ most → IfSome left (λ all. P → Q → after ≡ Some (left_behind most all))
+left_whole most None after bytes P Q is few = tt
+left_whole most (Some all) after bytes P Q is few = λ p q. is.1 ∙ ap Some (sym (drop_all (most + 1) all (omega (arith, few, ap (λ (l : List ℕ). length l) is.0))))

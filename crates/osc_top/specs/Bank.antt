@@ -1,10 +1,11 @@
 -- What becomes of the boxes that a program is handed: which were added and what they heard, and which are left.
 use Rattle.std.specs.Prelude.{◌≡◌, ℕ, ◌≤◌, List, [], ◌∷◌, ◌++◌, length, Option}
 use Rattle.std.specs.Option.{option_map}
-use Rattle.osc_model.specs.State.{Caps, opening}
-use Rattle.osc_model.specs.Events.{Event, add, Answer, added, Invocation}
+use Rattle.osc_model.specs.Limits.{Limits}
+use Rattle.osc_model.specs.State.{opening}
+use Rattle.osc_model.specs.Events.{Event, add, Answer, added, Entry, Invocation}
 use Rattle.osc_model.specs.Heard.{Told, heard_of}
-use Rattle.osc_model.specs.History.{Entry, Legal, invocations}
+use Rattle.osc_model.specs.History.{Legal, invocations}
 use Rattle.osc_script.specs.declared.line.Line.{Line}
 use Rattle.osc_top.specs.Plain.{default_caps, plain, count_adds}
 
@@ -46,7 +47,7 @@ module _ {X : Type 0} where
   boxes_left (answer ∷ answers) (box ∷ bank) = box_left answer box ++ boxes_left answers bank
 
 -- what the boxes of a bank have heard after a history of a server with these limits
-abbrev pub heard_after : Caps → List Entry → List Meaning → List Told
+abbrev pub heard_after : Limits → List Entry → List Meaning → List Told
 heard_after caps history bank = boxes_heard (invocations (opening caps) history) (add_answers history) bank
 
 -- What came of a bank: there was a box for each add of the lines, and their history is a legal one; the boxes that were

@@ -1,13 +1,22 @@
 -- How a program ends, and what it has written then.
-use Rattle.std.specs.Prelude.{◌≡◌, ◌⊎◌, ℕ, ◌≤◌, ◌<◌, List, [], ◌∷◌, ◌++◌, take, drop, if◌then◌else◌, Option, Some, None, IfSome, IsOkAnd, IsErrAnd, codes}
-use Rattle.std.specs.Str.{bytes_eq}
+use Rattle.std.specs.Prelude.{◌≡◌, ◌⊎◌, ℕ, ◌+◌, ◌≤◌, ◌<◌, List, ◌++◌, length, take, drop, Option, Some, None, IfSome, IsSome, IsOkAnd, IsErrAnd}
 use Rattle.osc_edge.specs.Faults.{Rose}
+use Rattle.osc_model.specs.Limits.{Limits}
+use Rattle.osc_model.specs.Events.{Room, Entry}
+use Rattle.osc_model.specs.Recordings.{record_text}
 use Rattle.osc_model.specs.History.{Legal}
+use Rattle.osc_replay.specs.Printed.{printed}
+use Rattle.osc_replay.specs.Formed.{IsUnformedAt}
+use Rattle.osc_replay.specs.Disagreeing.{DisagreesAt, IsRecordingOf}
 use Rattle.osc_script.specs.declared.line.Line.{Line}
 use Rattle.osc_script.specs.declared.mode.Mode.TheVariants.{Plain}
 use Rattle.osc_script.specs.Scripts.{script_of}
+use Rattle.osc_top.specs.declared.command.Output.{Output}
+use Rattle.osc_top.specs.declared.command.Output.TheVariants.{Text, Recording}
+use Rattle.osc_top.specs.declared.command.Command.{Command}
+use Rattle.osc_top.specs.declared.command.Command.TheVariants.{Run, Replay}
 use Rattle.osc_top.specs.Plain.{default_caps, plain, count_adds}
-use Rattle.osc_top.specs.Printing.{printed_run, refusal_text, bank_short_text}
+use Rattle.osc_top.specs.Printing.{printed_faults, printed_run, refusal_text, malformed_text, disagrees_text, bank_short_text}
 
 -- what is held is told, and has gained this text
 abbrev pub Gains : Option (List ℕ) → Option (List ℕ) → List ℕ → Type 0
@@ -21,54 +30,98 @@ GainsFront held after text = IfSome held (λ before. (count : ℕ) × (after ≡
 abbrev pub GainsUnless : Option (List ℕ) → Option (List ℕ) → ℕ → ℕ → List ℕ → Type 0
 GainsUnless held after faults now text = Gains held after text ⊎ (GainsFront held after text × Rose faults now)
 
+-- what a whole input leaves: nothing, or what stands behind the first byte that is too many
+abbrev pub left_behind : ℕ → List ℕ → List ℕ
+left_behind most input = drop (most + 1) input
+
 -- the history of a script's lines is one that the server's rules give
 abbrev pub IsLegalRun : List Line → Type 0
 IsLegalRun lines = Legal default_caps (plain default_caps lines).history
 
--- the text of a run
+-- no event of the lines wants more room than is left
+abbrev pub IsUnstopped : List Line → Type 0
+IsUnstopped lines = (plain default_caps lines).stop ≡ None
+
+-- the text of a run: the printed history, the lines of the faults, and where it was stopped the line on that
 abbrev pub run_text : List Line → List ℕ
 run_text lines = printed_run default_caps (plain default_caps lines)
 
--- what a script's whole input leaves: nothing, or what stands behind the first byte that is too many
-abbrev pub left_behind : List ℕ → List ℕ
-left_behind input = drop 67108865 input
+-- what a run writes
+abbrev pub run_output : Output → List Line → List ℕ
+run_output Text lines = run_text lines
+run_output Recording lines = record_text default_caps (plain default_caps lines).history
 
--- The end of a run of a script over so many boxes, by its status: done (0), where the script is lawful, there is a box
--- for each of its adds, its history is one that the server's rules give, and the printed run was gained, which is the
--- printed history and the lines of faults; refused (1), where it has a first fault, and the line on that fault was
--- gained; cut short (5), where the sink failed, and a front of the printed run was gained; bank short (8), where there
--- are fewer boxes than adds, and the line on that was gained. Want of memory (3) promises nothing.
-pub record EndsRun (status have : ℕ) (script : List ℕ) (held after : Option (List ℕ)) (faults now : ℕ) : Type 0 where
-  pub known : (status ≡ 0) ⊎ (status ≡ 1) ⊎ (status ≡ 3) ⊎ (status ≡ 5) ⊎ (status ≡ 8)
-  pub done : status ≡ 0 → IsOkAnd (script_of Plain script) (λ lines. (count_adds lines ≤ have) × IsLegalRun lines × Gains held after (run_text lines)) × (now ≡ faults)
-  pub refused : status ≡ 1 → IsErrAnd (script_of Plain script) (λ fault. GainsUnless held after faults now (refusal_text fault))
-  pub cut_short : status ≡ 5 → IsOkAnd (script_of Plain script) (λ lines. (count_adds lines ≤ have) × IsLegalRun lines × GainsFront held after (run_text lines)) × Rose faults now
-  pub bank_short : status ≡ 8 → IsOkAnd (script_of Plain script) (λ lines. (have < count_adds lines) × GainsUnless held after faults now (bank_short_text (count_adds lines) have))
-
--- the same of lines that were read
-pub record EndsLines (status have : ℕ) (lines : List Line) (held after : Option (List ℕ)) (faults now : ℕ) : Type 0 where
-  pub known : (status ≡ 0) ⊎ (status ≡ 3) ⊎ (status ≡ 5) ⊎ (status ≡ 8)
-  pub done : status ≡ 0 → (count_adds lines ≤ have) × IsLegalRun lines × Gains held after (run_text lines) × (now ≡ faults)
-  pub cut_short : status ≡ 5 → (count_adds lines ≤ have) × IsLegalRun lines × GainsFront held after (run_text lines) × Rose faults now
+-- The end of a run of lines over so many boxes, by its status: done (0), where there is a box for each add, no event wanted
+-- more room than was left, the history is one that the server's rules give, and what the run writes was gained; cut short
+-- (5), where the sink failed, and a front of that was gained; full (6), as done, but where an event wanted more room; bank
+-- short (8), where there are fewer boxes than adds, and the line on that was gained. Want of memory (3) promises nothing.
+pub record EndsLines (output : Output) (status have : ℕ) (lines : List Line) (held after : Option (List ℕ)) (faults now : ℕ) : Type 0 where
+  pub known : (status ≡ 0) ⊎ (status ≡ 3) ⊎ (status ≡ 5) ⊎ (status ≡ 6) ⊎ (status ≡ 8)
+  pub done : status ≡ 0 → (count_adds lines ≤ have) × IsLegalRun lines × IsUnstopped lines × Gains held after (run_output output lines) × (now ≡ faults)
+  pub cut_short : status ≡ 5 → (count_adds lines ≤ have) × IsLegalRun lines × GainsFront held after (run_output output lines) × Rose faults now
+  pub full : status ≡ 6 → (count_adds lines ≤ have) × IsLegalRun lines × IsSome (plain default_caps lines).stop × Gains held after (run_output output lines) × (now ≡ faults)
   pub bank_short : status ≡ 8 → (have < count_adds lines) × GainsUnless held after faults now (bank_short_text (count_adds lines) have)
 
--- the text of a history is written, or a front of it
-pub record EndsHistory (status : ℕ) (text : List ℕ) (held after : Option (List ℕ)) (faults now : ℕ) : Type 0 where
-  pub known : (status ≡ 0) ⊎ (status ≡ 3) ⊎ (status ≡ 5)
-  pub done : status ≡ 0 → Gains held after text × (now ≡ faults)
+-- The end of a run of a script, by its status: refused (1), where it has a first fault, and the line on that fault was
+-- gained; else the script is lawful, and the end is that of a run of its lines.
+pub record EndsRun (output : Output) (status have : ℕ) (script : List ℕ) (held after : Option (List ℕ)) (faults now : ℕ) : Type 0 where
+  pub known : (status ≡ 0) ⊎ (status ≡ 1) ⊎ (status ≡ 3) ⊎ (status ≡ 5) ⊎ (status ≡ 6) ⊎ (status ≡ 8)
+  pub done : status ≡ 0 → IsOkAnd (script_of Plain script) (λ lines. (count_adds lines ≤ have) × IsLegalRun lines × IsUnstopped lines × Gains held after (run_output output lines)) × (now ≡ faults)
+  pub refused : status ≡ 1 → IsErrAnd (script_of Plain script) (λ fault. GainsUnless held after faults now (refusal_text fault))
+  pub cut_short : status ≡ 5 → IsOkAnd (script_of Plain script) (λ lines. (count_adds lines ≤ have) × IsLegalRun lines × GainsFront held after (run_output output lines)) × Rose faults now
+  pub full : status ≡ 6 → IsOkAnd (script_of Plain script) (λ lines. (count_adds lines ≤ have) × IsLegalRun lines × IsSome (plain default_caps lines).stop × Gains held after (run_output output lines)) × (now ≡ faults)
+  pub bank_short : status ≡ 8 → IsOkAnd (script_of Plain script) (λ lines. (have < count_adds lines) × GainsUnless held after faults now (bank_short_text (count_adds lines) have))
+
+-- The lines on bytes that aren't the recording of a server: there are too many; or else the first place where they are
+-- malformed; or else the first entry that the server wouldn't have given.
+abbrev pub RefusesRecording : List ℕ → List ℕ → Type 0
+RefusesRecording bytes lines =
+    ((1073741824 < length bytes) × (lines ≡ malformed_text 1073741824))
+    ⊎ ((at : ℕ) × (length bytes ≤ 1073741824) × IsUnformedAt bytes at × (lines ≡ malformed_text at))
+    ⊎ ((entry : ℕ) × (kept : List ℕ) × (computed : List ℕ) × DisagreesAt bytes entry kept computed × (lines ≡ disagrees_text entry kept computed))
+
+-- the bytes are the recording of a history that the server's rules give, and this is its printed text
+pub record ReplaysTo (bytes printed_text : List ℕ) : Type 0 where
+  pub caps : Limits
+  pub history : List Entry
+  pub recording_of : IsRecordingOf bytes caps history
+  pub text : printed_text ≡ printed caps history
+
+-- The end of a replay of a recording, by its status: done (0), where the bytes are the recording of a legal history, and its
+-- printed text was gained; refused (1), where they aren't, and the lines on that were gained; cut short (5), where the sink
+-- failed, and a front of the printed text was gained. Want of memory (3) promises nothing.
+pub record EndsReplay (status : ℕ) (bytes : List ℕ) (held after : Option (List ℕ)) (faults now : ℕ) : Type 0 where
+  pub known : (status ≡ 0) ⊎ (status ≡ 1) ⊎ (status ≡ 3) ⊎ (status ≡ 5)
+  pub done : status ≡ 0 → ((printed_text : List ℕ) × ReplaysTo bytes printed_text × Gains held after printed_text) × (now ≡ faults)
+  pub refused : status ≡ 1 → (lines : List ℕ) × RefusesRecording bytes lines × GainsUnless held after faults now lines
+  pub cut_short : status ≡ 5 → ((printed_text : List ℕ) × ReplaysTo bytes printed_text × GainsFront held after printed_text) × Rose faults now
+
+-- the end of a command, of which so many boxes and this input were handed in
+abbrev pub EndsCommand : Command → ℕ → ℕ → List ℕ → Option (List ℕ) → Option (List ℕ) → ℕ → ℕ → Type 0
+EndsCommand (Run output) status have input held after faults now = EndsRun output status have input held after faults now
+EndsCommand Replay status have input held after faults now = EndsReplay status input held after faults now
+
+-- what was recorded of a run of lines: its recording, the lines of the faults, and the stop
+pub record IsRunOf (bytes faults : List ℕ) (stop : Option Room) (lines : List Line) : Type 0 where
+  pub recording : IsRecordingOf bytes default_caps (plain default_caps lines).history
+  pub said : faults ≡ printed_faults (plain default_caps lines).faults
+  pub stopped : stop ≡ (plain default_caps lines).stop
+
+-- The end of writing what a run of lines came to: done (0) or full (6) where all was gained, cut short (5) where the sink
+-- failed.
+pub record EndsPlayed (output : Output) (status : ℕ) (lines : List Line) (held after : Option (List ℕ)) (faults now : ℕ) : Type 0 where
+  pub known : (status ≡ 0) ⊎ (status ≡ 3) ⊎ (status ≡ 5) ⊎ (status ≡ 6)
+  pub done : status ≡ 0 → IsUnstopped lines × Gains held after (run_output output lines) × (now ≡ faults)
+  pub cut_short : status ≡ 5 → GainsFront held after (run_output output lines) × Rose faults now
+  pub full : status ≡ 6 → IsSome (plain default_caps lines).stop × Gains held after (run_output output lines) × (now ≡ faults)
+
+-- a text that was made before is written, or a front of it; the status is the decided one where all of it is
+pub record EndsText (decided status : ℕ) (text : List ℕ) (held after : Option (List ℕ)) (faults now : ℕ) : Type 0 where
+  pub known : (status ≡ decided) ⊎ (status ≡ 3) ⊎ (status ≡ 5)
+  pub done : status ≡ decided → Gains held after text × (now ≡ faults)
   pub cut_short : status ≡ 5 → GainsFront held after text × Rose faults now
 
 -- a last line of a status that is decided
 pub record EndsLine (decided status : ℕ) (text : List ℕ) (held after : Option (List ℕ)) (faults now : ℕ) : Type 0 where
   pub known : (status ≡ decided) ⊎ (status ≡ 3)
   pub written : status ≡ decided → GainsUnless held after faults now text
-
--- The commands of the program. Others join here.
-pub data Command : Type 0 where
-  run : Command
-
--- what the words of the command line say
-abbrev pub command_of : List (List ℕ) → Option Command
-command_of [] = None
-command_of (word ∷ []) = if bytes_eq word (codes "run") then Some run else None
-command_of (word ∷ next ∷ words) = None

@@ -1,19 +1,20 @@
 -- What a server that plays a script has come to, some entries on.
-use Rattle.std.specs.Prelude.{◌≡◌, ℕ, ◌+◌, ◌<◌, ◌≤◌, List, [], ◌∷◌, ◌++◌, length, map, drop}
+use Rattle.std.specs.Prelude.{◌≡◌, ℕ, ◌<◌, if◌then◌else◌, List, [], ◌∷◌, ◌++◌, length, map, drop, Option, Some, None}
 use Rattle.std.specs.List.{AllByRecursion}
 use Rattle.std.specs.List.Sorted.{IsPermutation}
 use Rattle.std.specs.declared.alloc.Global.{Global}
 use Rattle.std.specs.declared.dyn_box.DynBox.{DynBox}
+use Rattle.osc_atoms.specs.declared.room.Room.{Room}
 use Rattle.osc_core.specs.declared.answers.Adding.{Adding}
 use Rattle.osc_core.specs.declared.answers.Adding.TheVariants.{Added, Refused}
 use Rattle.osc_core.specs.declared.answers.Removing.{Removing}
-use Rattle.osc_core.specs.declared.answers.Removing.TheVariants.{Removed, NotThere}
-use Rattle.osc_model.specs.State.{State, opening}
-use Rattle.osc_model.specs.Events.{Answer, Invocation}
+use Rattle.osc_core.specs.declared.answers.Removing.TheVariants.{Removed}
+use Rattle.osc_model.specs.Events.{Answer, Entry, Invocation}
 use Rattle.osc_model.specs.Heard.{Told}
-use Rattle.osc_model.specs.History.{Entry, after, invocations}
-use Rattle.osc_top.specs.Plain.{default_caps}
-use Rattle.osc_top.specs.Bank.{Meaning, add_answers, box_left, boxes_heard}
+use Rattle.osc_model.specs.History.{Performance, state_of, invoked_in, HaveHeard}
+use Rattle.osc_script.specs.declared.act.Act.{Act}
+use Rattle.osc_top.specs.Plain.{is_add}
+use Rattle.osc_top.specs.Bank.{Meaning, add_answers, box_left, boxes_left, boxes_heard}
 
 module _ {X : Type 0} {Y : X → Type 0} where
   -- the box of an add that was refused
@@ -24,7 +25,15 @@ module _ {X : Type 0} {Y : X → Type 0} where
   -- the box of a method that was removed, with its id
   abbrev pub handed_out : Removing X Y → List (ℕ × DynBox X Global Y)
   handed_out (Removed id method) = (id, method) ∷ []
-  handed_out NotThere = []
+  handed_out _ = []
+
+-- how many boxes a line takes
+abbrev pub adds_of : Act → ℕ
+adds_of act = if is_add act then 1 else 0
+
+-- a performance, some entries on
+abbrev pub played_on : Performance → List Entry → Performance
+played_on performance entries = record performance { history = performance.history ++ entries }
 
 -- the boxes of the adds that were refused
 abbrev pub refused_boxes : {X : Type 0} → List Answer → List X → List X
@@ -48,13 +57,18 @@ pub record Tally {X : Type 0} (meaning : X → Meaning) (calls : List Invocation
   pub below : AllByRecursion (λ box. box.id < next) (boxes_heard calls answers (map meaning bank))
   pub given : AllByRecursion (λ call. call.call.id < next) calls
 
--- After a history over a bank: the server's state, and what became of the boxes.
-pub record IsAt {X : Type 0} (meaning : X → Meaning) (history : List Entry) (bank : List X) (state : State) (boxes removed : List Told) (left rest : List X) : Type 0 where
-  pub is : state ≡ after (opening default_caps) history
-  pub tally : Tally meaning (invocations (opening default_caps) history) (add_answers history) bank state.next_id boxes removed left rest
+-- What became of a bank after a performance: the boxes of the registered methods have heard it, and the tally is right.
+pub record IsAt {X : Type 0} (meaning : X → Meaning) (bank : List X) (performance : Performance) (boxes removed : List Told) (left rest : List X) : Type 0 where
+  pub have : HaveHeard performance boxes
+  pub tally : Tally meaning (invoked_in performance) (add_answers performance.history) bank (state_of performance).next_id boxes removed left rest
 
--- After a line: at most one id and 65,504 units more were numbered, and there are as many callers.
-pub record Grows (old new : State) : Type 0 where
-  pub ids : new.next_id ≤ old.next_id + 1
-  pub units : new.next_unit ≤ old.next_unit + 65504
-  pub callers : new.callers ≡ old.callers
+-- The same where the last add may have no entry: the box that it was given is among the others.
+pub record IsOver {X : Type 0} (meaning : X → Meaning) (bank : List X) (performance : Performance) (boxes removed : List Told) (left rest : List X) : Type 0 where
+  pub others : left ++ rest ≡ boxes_left (add_answers performance.history) bank
+  pub told : IsPermutation (boxes_heard (invoked_in performance) (add_answers performance.history) (map meaning bank)) (boxes ++ removed)
+  pub rising : IsRising (boxes_heard (invoked_in performance) (add_answers performance.history) (map meaning bank))
+
+-- where a line stops the script, it is over
+abbrev pub IsAtUnless : Option Room → {X : Type 0} → (X → Meaning) → List X → Performance → List Told → List Told → List X → List X → Type 0
+IsAtUnless None meaning bank performance boxes removed left rest = IsAt meaning bank performance boxes removed left rest
+IsAtUnless (Some room) meaning bank performance boxes removed left rest = IsOver meaning bank performance boxes removed left rest

@@ -1,13 +1,12 @@
-//! What the definitions say of every history, and of examples.
-ghost use Rattle.std.specs.Prelude.{◌≡◌, List, IsOkAnd, codes};
-ghost use Rattle.osc_model.specs.State.{Caps};
-ghost use Rattle.osc_model.specs.History.{Entry};
+//! What the definitions say of examples, and of a recording with room enough.
+ghost use Rattle.std.specs.Prelude.{◌≡◌, ◌≤◌, List, IsOkAnd, None, codes};
+ghost use Rattle.osc_model.specs.Limits.{Limits};
+ghost use Rattle.osc_script.specs.declared.line.Line.{Line};
 ghost use Rattle.osc_script.specs.declared.mode.Mode.TheVariants.{Plain};
 ghost use Rattle.osc_script.specs.Scripts.{script_of};
-ghost use Rattle.osc_top.specs.Calls.{PrintsEntry};
+ghost use Rattle.osc_top.specs.Plain.{plain};
+ghost use Rattle.osc_top.specs.Enough.{enough};
 ghost use Rattle.osc_top.specs.Ends.{run_text};
-
-use osc_model::laws::invocations_are_of_registered_methods;
 
 /// A method, a message to it, and its call.
 pub fn first_light()
@@ -19,9 +18,7 @@ pub fn early_tick()
     ensures { IsOkAnd (script_of Plain (codes "tick 0000000000000000\n")) (λ lines. run_text lines ≡ codes "tick 0 0000000000000000 clock-back 0000000000000001\n") }
 {}
 
-/// Each printed call line is of a registered method whose address the pattern of the message matches.
-pub fn printed_calls_are_of_matching_methods()
-    ensures { (caps : Caps) (before behind : List Entry) (entry : Entry) → PrintsEntry caps before entry behind }
-{
-    invocations_are_of_registered_methods();
-}
+/// A recording of as many bytes as `enough` says never stops a script.
+pub fn enough_room_never_stops()
+    ensures { (caps : Limits) (lines : List Line) → enough lines ≤ caps.recording → (plain caps lines).stop ≡ None }
+{}

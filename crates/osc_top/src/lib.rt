@@ -1,13 +1,16 @@
 //! All that the program does, over any source and sink.
 #![tactic(auto)]
 
-mod calls;
-mod entries;
+mod command;
 pub mod laws;
+mod lines;
 mod player;
 mod playing;
+mod recorded;
+mod status;
 mod top;
 mod whole;
+mod writing;
 
 pub use top::{Ended, plain_top};
 

@@ -1,33 +1,28 @@
 // Plays lines on a server, event by event.
-ghost use Rattle.std.specs.Prelude.{◌≡◌, ◌++◌, ◌∷◌, [], ◌+◌, ◌<◌, ◌≤◌, ◌^◌, if◌then◌else◌, ℕ, List, map, length, IfOk, OnOk};
+ghost use Rattle.std.specs.Prelude.{◌≡◌, ◌++◌, ◌+◌, ◌<◌, ◌≤◌, List, map, length, IfOk, OnOk};
+ghost use Rattle.std.specs.Option.{option_map};
 ghost use Rattle.std.specs.Vec.Iter.{into_iter_items};
 ghost use Rattle.osc_packet.specs.Reading.{is_packet, packet_fault};
-ghost use Rattle.osc_script.specs.declared.act.Act.{Act};
-ghost use Rattle.osc_model.specs.State.{opening};
 ghost use Rattle.osc_model.specs.Events.{add, remove, submit, tick, release};
-ghost use Rattle.osc_model.specs.Step.{step};
-ghost use Rattle.osc_model.specs.History.{Entry, after};
 ghost use Rattle.osc_model.specs.Heard.{Told};
-ghost use Rattle.osc_top.specs.Plain.{default_caps, entry_of, entries_of, sent, pumped, is_released, act_faults, fault_at};
-ghost use Rattle.osc_top.specs.Printing.{printed_from, printed_faults, entry_line};
-ghost use Rattle.osc_top.specs.Bank.{add_answers};
-ghost use Rattle.osc_top.specs.Tally.{Grows, IsAt, handed_back, handed_out};
+ghost use Rattle.osc_model.specs.History.{state_of, after};
+ghost use Rattle.osc_record.specs.Shown.{room_of};
+ghost use Rattle.osc_core.specs.Answers.{adding_of, removing_of, submitted_of, ticking_of};
+ghost use Rattle.osc_top.specs.Plain.{entry_if, stop_at, room_in, entries_of, stop_of, sent, stop_sent, pump, act_faults, fault_at, plain_from, count_adds};
+ghost use Rattle.osc_top.specs.Printing.{printed_faults};
+ghost use Rattle.osc_top.specs.Tally.{adds_of, played_on, handed_back, handed_out, IsAt, IsOver, IsAtUnless};
 
-use crate::calls::print_release;
-use crate::entries::{add_front, add_rest, remove_line, submit_line, tick_line};
-use osc_core::{Adding, Core, Releasing, Removing, Stands};
+use osc_atoms::Room;
+use osc_core::{AddRefusal, Adding, Core, Releasing, Removing, Stands, Submitted, Ticking};
 use osc_message::Bytes;
 use osc_method::Method;
 use osc_model::laws::{a_box_hears_its_calls, invocations_are_of_registered_methods};
 use osc_packet::Packet;
 use osc_pattern::Address;
 use osc_print::{Text, fault_line};
-use osc_script::Act;
-use std::alloc::{AllocError, Global};
+use osc_script::{Act, Line};
+use std::alloc::AllocError;
 use std::vec::IntoIter;
-
-/// A packet has fewer units than bytes.
-const MOST_UNITS: u64 = 65_504;
 
 /// What a contract sees of a player's boxes.
 pub(crate) trait Holds {
@@ -35,17 +30,15 @@ pub(crate) trait Holds {
     ghost removed: { Self → List Told };
 }
 
-/// A server that plays lines as caller 0, with the boxes that it doesn't have, and what was printed so far.
+/// A server that plays lines as caller 0, with the boxes that it doesn't have, and the lines of the faults so far.
 #[derive(Drop)]
 pub(crate) struct Player {
-    pub(crate) alloc: Global,
     pub(crate) core: Core,
     /// The boxes that no add has taken yet.
     pub(crate) bank: IntoIter<Box<dyn Method + Send>>,
     pub(crate) removed: Vec<(u32, Box<dyn Method + Send>)>,
     /// The boxes of the adds that were refused.
     pub(crate) left: Vec<Box<dyn Method + Send>>,
-    pub(crate) text: Text,
     pub(crate) faults: Text,
 }
 
@@ -54,131 +47,176 @@ impl Holds for Player {
 }
 
 impl Player {
-    /// Plays what a line says. The number is the line's.
-    pub(crate) fn play_act(&mut self, number: u32, act: Act) -> Result<(), AllocError>
-        requires handed { length (add_answers (entries_of self.old.core.state act)) ≤ length (into_iter_items self.old.bank) }
-        requires caller { 0 < self.old.core.state.callers }
-        requires ids { self.old.core.state.next_id + 1 < 2 ^ 32 }
-        requires units { self.old.core.state.next_unit + MOST_UNITS < 2 ^ 64 }
-        ensures text { OnOk result (self.new.text ≡ self.old.text ++ printed_from self.old.core.state (entries_of self.old.core.state act)) }
+    /// Plays the lines, up to the first event for whose entry there is no room, which is answered.
+    pub(crate) fn play_lines(&mut self, lines: Vec<Line>) -> Result<Option<Room>, AllocError>
+        requires handed { count_adds lines.items ≤ length (into_iter_items self.old.bank) }
+        requires caller { 0 < (state_of self.old.core.performance).callers }
+        ensures performance { OnOk result (self.new.core.performance ≡ played_on self.old.core.performance (plain_from (state_of self.old.core.performance) lines.items).history) }
+        ensures faults { OnOk result (self.new.faults ≡ self.old.faults ++ printed_faults (plain_from (state_of self.old.core.performance) lines.items).faults) }
+        ensures stop { IfOk result (λ stop. option_map room_of stop ≡ (plain_from (state_of self.old.core.performance) lines.items).stop) }
+        ensures caller { OnOk result (0 < (state_of self.new.core.performance).callers) }
+        ensures boxes { OnOk result ((bank : List _) → IsAt (λ box. record { keep = keep box; heard = heard box }) bank self.old.core.performance (⟦<Core as Stands>⟧.boxes self.old.core) (⟦<Player as Holds>⟧.removed self.old) self.old.left.items (into_iter_items self.old.bank) → IsOver (λ box. record { keep = keep box; heard = heard box }) bank self.new.core.performance (⟦<Core as Stands>⟧.boxes self.new.core) (⟦<Player as Holds>⟧.removed self.new) self.new.left.items (into_iter_items self.new.bank)) }
+    {
+        for line in lines {
+            let stop = self.play_act(line.number, line.act)?;
+            if stop.is_some() {
+                return Ok(stop);
+            }
+        }
+        Ok(None)
+    }
+
+    /// Plays what a line says. The number is the line's. The room is told where there is none for an entry.
+    fn play_act(&mut self, number: u32, act: Act) -> Result<Option<Room>, AllocError>
+        requires handed { adds_of act ≤ length (into_iter_items self.old.bank) }
+        requires caller { 0 < (state_of self.old.core.performance).callers }
+        ensures performance { OnOk result (self.new.core.performance ≡ played_on self.old.core.performance (entries_of (state_of self.old.core.performance) act)) }
         ensures faults { OnOk result (self.new.faults ≡ self.old.faults ++ printed_faults (act_faults number act)) }
-        ensures state { OnOk result (self.new.core.state ≡ after self.old.core.state (entries_of self.old.core.state act)) }
-        ensures grows { OnOk result (Grows self.old.core.state self.new.core.state) }
-        ensures boxes { OnOk result ((history : List Entry) (bank : List _) → IsAt (λ box. record { keep = keep box; heard = heard box }) history bank self.old.core.state (⟦<Core as Stands>⟧.boxes self.old.core) (⟦<Player as Holds>⟧.removed self.old) self.old.left.items (into_iter_items self.old.bank) → IsAt (λ box. record { keep = keep box; heard = heard box }) (history ++ entries_of self.old.core.state act) bank self.new.core.state (⟦<Core as Stands>⟧.boxes self.new.core) (⟦<Player as Holds>⟧.removed self.new) self.new.left.items (into_iter_items self.new.bank)) }
+        ensures stop { IfOk result (λ stop. option_map room_of stop ≡ stop_of (state_of self.old.core.performance) act) }
+        ensures waiting { OnOk result (length (into_iter_items self.old.bank) ≤ adds_of act + length (into_iter_items self.new.bank)) }
+        ensures boxes { IfOk result (λ stop. (bank : List _) → IsAt (λ box. record { keep = keep box; heard = heard box }) bank self.old.core.performance (⟦<Core as Stands>⟧.boxes self.old.core) (⟦<Player as Holds>⟧.removed self.old) self.old.left.items (into_iter_items self.old.bank) → IsAtUnless stop (λ box. record { keep = keep box; heard = heard box }) bank self.new.core.performance (⟦<Core as Stands>⟧.boxes self.new.core) (⟦<Player as Holds>⟧.removed self.new) self.new.left.items (into_iter_items self.new.bank)) }
     {
         match act {
             Act::Add(address) => self.play_add(address),
             Act::Remove(address) => self.play_remove(&address),
             Act::Send(bytes) => self.play_send(number, &bytes),
-            Act::Tick(moment) => self.play_tick(moment),
-            Act::Pump => self.play_pump(),
+            Act::Tick(moment) => Ok(self.play_tick(moment)),
+            Act::Pump => Ok(self.play_pump()),
         }
     }
 
-    fn play_add(&mut self, address: Address) -> Result<(), AllocError>
+    fn play_add(&mut self, address: Address) -> Result<Option<Room>, AllocError>
         requires handed { 0 < length (into_iter_items self.old.bank) }
-        requires caller { 0 < self.old.core.state.callers }
-        requires ids { self.old.core.state.next_id + 1 < 2 ^ 32 }
-        ensures text { OnOk result (self.new.text ≡ self.old.text ++ entry_line 0 (add address) (step self.old.core.state (add address)).answer) }
+        requires caller { 0 < (state_of self.old.core.performance).callers }
+        ensures performance { OnOk result (self.new.core.performance ≡ played_on self.old.core.performance (entry_if (state_of self.old.core.performance) (add address))) }
         ensures faults { OnOk result (self.new.faults ≡ self.old.faults) }
-        ensures state { OnOk result (self.new.core.state ≡ (step self.old.core.state (add address)).state) }
-        ensures grows { OnOk result (Grows self.old.core.state self.new.core.state) }
-        ensures boxes { OnOk result ((history : List Entry) (bank : List _) → IsAt (λ box. record { keep = keep box; heard = heard box }) history bank self.old.core.state (⟦<Core as Stands>⟧.boxes self.old.core) (⟦<Player as Holds>⟧.removed self.old) self.old.left.items (into_iter_items self.old.bank) → IsAt (λ box. record { keep = keep box; heard = heard box }) (history ++ entry_of self.old.core.state (add address) ∷ []) bank self.new.core.state (⟦<Core as Stands>⟧.boxes self.new.core) (⟦<Player as Holds>⟧.removed self.new) self.new.left.items (into_iter_items self.new.bank)) }
+        ensures stop { IfOk result (λ stop. option_map room_of stop ≡ stop_at (state_of self.old.core.performance) (add address)) }
+        ensures waiting { OnOk result (length (into_iter_items self.old.bank) ≤ 1 + length (into_iter_items self.new.bank)) }
+        ensures boxes { IfOk result (λ stop. (bank : List _) → IsAt (λ box. record { keep = keep box; heard = heard box }) bank self.old.core.performance (⟦<Core as Stands>⟧.boxes self.old.core) (⟦<Player as Holds>⟧.removed self.old) self.old.left.items (into_iter_items self.old.bank) → IsAtUnless stop (λ box. record { keep = keep box; heard = heard box }) bank self.new.core.performance (⟦<Core as Stands>⟧.boxes self.new.core) (⟦<Player as Holds>⟧.removed self.new) self.new.left.items (into_iter_items self.new.bank)) }
     {
         let Some(method) = self.bank.next() else {
             unreachable!()
         };
-        add_front(&mut self.text, 0, address.bytes())?;
         let adding = self.core.add(0, address, method);
-        add_rest(&mut self.text, &adding)?;
-        keep_refused(&mut self.left, adding)
+        let stop = stop_of_adding(&adding);
+        keep_refused(&mut self.left, adding)?;
+        Ok(stop)
     }
 
-    fn play_remove(&mut self, address: &Address) -> Result<(), AllocError>
-        requires caller { 0 < self.old.core.state.callers }
-        ensures text { OnOk result (self.new.text ≡ self.old.text ++ entry_line 0 (remove address.now) (step self.old.core.state (remove address.now)).answer) }
+    fn play_remove(&mut self, address: &Address) -> Result<Option<Room>, AllocError>
+        requires caller { 0 < (state_of self.old.core.performance).callers }
+        ensures performance { OnOk result (self.new.core.performance ≡ played_on self.old.core.performance (entry_if (state_of self.old.core.performance) (remove address.now))) }
         ensures faults { OnOk result (self.new.faults ≡ self.old.faults) }
-        ensures state { OnOk result (self.new.core.state ≡ (step self.old.core.state (remove address.now)).state) }
-        ensures grows { OnOk result (Grows self.old.core.state self.new.core.state) }
-        ensures boxes { OnOk result ((history : List Entry) (bank : List _) → IsAt (λ box. record { keep = keep box; heard = heard box }) history bank self.old.core.state (⟦<Core as Stands>⟧.boxes self.old.core) (⟦<Player as Holds>⟧.removed self.old) self.old.left.items (into_iter_items self.old.bank) → IsAt (λ box. record { keep = keep box; heard = heard box }) (history ++ entry_of self.old.core.state (remove address.now) ∷ []) bank self.new.core.state (⟦<Core as Stands>⟧.boxes self.new.core) (⟦<Player as Holds>⟧.removed self.new) self.new.left.items (into_iter_items self.new.bank)) }
+        ensures stop { IfOk result (λ stop. option_map room_of stop ≡ stop_at (state_of self.old.core.performance) (remove address.now)) }
+        ensures waiting { OnOk result (into_iter_items self.new.bank ≡ into_iter_items self.old.bank) }
+        ensures boxes { IfOk result (λ stop. (bank : List _) → IsAt (λ box. record { keep = keep box; heard = heard box }) bank self.old.core.performance (⟦<Core as Stands>⟧.boxes self.old.core) (⟦<Player as Holds>⟧.removed self.old) self.old.left.items (into_iter_items self.old.bank) → IsAtUnless stop (λ box. record { keep = keep box; heard = heard box }) bank self.new.core.performance (⟦<Core as Stands>⟧.boxes self.new.core) (⟦<Player as Holds>⟧.removed self.new) self.new.left.items (into_iter_items self.new.bank)) }
     {
         let removing = self.core.remove(0, address);
-        remove_line(&mut self.text, 0, address.bytes(), &removing)?;
-        keep_removed(&mut self.removed, removing)
+        let stop = stop_of_removing(&removing);
+        keep_removed(&mut self.removed, removing)?;
+        Ok(stop)
     }
 
-    fn play_send(&mut self, number: u32, bytes: &Bytes) -> Result<(), AllocError>
-        requires caller { 0 < self.old.core.state.callers }
-        requires units { self.old.core.state.next_unit + MOST_UNITS < 2 ^ 64 }
-        ensures text { OnOk result (self.new.text ≡ self.old.text ++ printed_from self.old.core.state (sent self.old.core.state bytes.now (is_packet 65504 bytes.now))) }
+    fn play_send(&mut self, number: u32, bytes: &Bytes) -> Result<Option<Room>, AllocError>
+        requires caller { 0 < (state_of self.old.core.performance).callers }
+        ensures performance { OnOk result (self.new.core.performance ≡ played_on self.old.core.performance (sent (state_of self.old.core.performance) bytes.now (is_packet 65504 bytes.now))) }
         ensures faults { OnOk result (self.new.faults ≡ self.old.faults ++ printed_faults (fault_at number (packet_fault 65504 bytes.now))) }
-        ensures state { OnOk result (self.new.core.state ≡ after self.old.core.state (sent self.old.core.state bytes.now (is_packet 65504 bytes.now))) }
-        ensures grows { OnOk result (Grows self.old.core.state self.new.core.state) }
-        ensures boxes { OnOk result ((history : List Entry) (bank : List _) → IsAt (λ box. record { keep = keep box; heard = heard box }) history bank self.old.core.state (⟦<Core as Stands>⟧.boxes self.old.core) (⟦<Player as Holds>⟧.removed self.old) self.old.left.items (into_iter_items self.old.bank) → IsAt (λ box. record { keep = keep box; heard = heard box }) (history ++ sent self.old.core.state bytes.now (is_packet 65504 bytes.now)) bank self.new.core.state (⟦<Core as Stands>⟧.boxes self.new.core) (⟦<Player as Holds>⟧.removed self.new) self.new.left.items (into_iter_items self.new.bank)) }
+        ensures stop { IfOk result (λ stop. option_map room_of stop ≡ stop_sent (state_of self.old.core.performance) bytes.now (is_packet 65504 bytes.now)) }
+        ensures waiting { OnOk result (into_iter_items self.new.bank ≡ into_iter_items self.old.bank) }
+        ensures boxes { IfOk result (λ stop. (bank : List _) → IsAt (λ box. record { keep = keep box; heard = heard box }) bank self.old.core.performance (⟦<Core as Stands>⟧.boxes self.old.core) (⟦<Player as Holds>⟧.removed self.old) self.old.left.items (into_iter_items self.old.bank) → IsAtUnless stop (λ box. record { keep = keep box; heard = heard box }) bank self.new.core.performance (⟦<Core as Stands>⟧.boxes self.new.core) (⟦<Player as Holds>⟧.removed self.new) self.new.left.items (into_iter_items self.new.bank)) }
     {
         match Packet::check(bytes.as_slice(), 65_504) {
-            Ok(packet) => self.play_packet(&packet),
-            Err(fault) => fault_line(&mut self.faults, number, fault),
+            Ok(packet) => Ok(self.play_packet(&packet)),
+            Err(fault) => {
+                fault_line(&mut self.faults, number, fault)?;
+                Ok(None)
+            }
         }
     }
 
-    fn play_packet(&mut self, packet: &Packet<'_>) -> Result<(), AllocError>
-        requires caller { 0 < self.old.core.state.callers }
-        requires units { self.old.core.state.next_unit + MOST_UNITS < 2 ^ 64 }
-        ensures text { OnOk result (self.new.text ≡ self.old.text ++ entry_line 0 (submit packet.now) (step self.old.core.state (submit packet.now)).answer) }
-        ensures faults { OnOk result (self.new.faults ≡ self.old.faults) }
-        ensures state { OnOk result (self.new.core.state ≡ (step self.old.core.state (submit packet.now)).state) }
-        ensures grows { OnOk result (Grows self.old.core.state self.new.core.state) }
-        ensures boxes { OnOk result ((history : List Entry) (bank : List _) → IsAt (λ box. record { keep = keep box; heard = heard box }) history bank self.old.core.state (⟦<Core as Stands>⟧.boxes self.old.core) (⟦<Player as Holds>⟧.removed self.old) self.old.left.items (into_iter_items self.old.bank) → IsAt (λ box. record { keep = keep box; heard = heard box }) (history ++ entry_of self.old.core.state (submit packet.now) ∷ []) bank self.new.core.state (⟦<Core as Stands>⟧.boxes self.new.core) (⟦<Player as Holds>⟧.removed self.new) self.new.left.items (into_iter_items self.new.bank)) }
+    fn play_packet(&mut self, packet: &Packet<'_>) -> Option<Room>
+        requires caller { 0 < (state_of self.old.core.performance).callers }
+        ensures performance { self.new.core.performance ≡ played_on self.old.core.performance (entry_if (state_of self.old.core.performance) (submit packet.now)) }
+        ensures faults { self.new.faults ≡ self.old.faults }
+        ensures stop { option_map room_of result ≡ stop_at (state_of self.old.core.performance) (submit packet.now) }
+        ensures waiting { into_iter_items self.new.bank ≡ into_iter_items self.old.bank }
+        ensures boxes { (bank : List _) → IsAt (λ box. record { keep = keep box; heard = heard box }) bank self.old.core.performance (⟦<Core as Stands>⟧.boxes self.old.core) (⟦<Player as Holds>⟧.removed self.old) self.old.left.items (into_iter_items self.old.bank) → IsAtUnless result (λ box. record { keep = keep box; heard = heard box }) bank self.new.core.performance (⟦<Core as Stands>⟧.boxes self.new.core) (⟦<Player as Holds>⟧.removed self.new) self.new.left.items (into_iter_items self.new.bank) }
     {
-        let bytes = packet.bytes();
-        let submitted = self.core.submit(0, packet);
-        submit_line(&mut self.text, 0, bytes, submitted)
+        stop_of_submitted(self.core.submit(0, packet))
     }
 
-    fn play_tick(&mut self, moment: u64) -> Result<(), AllocError>
-        requires caller { 0 < self.old.core.state.callers }
-        ensures text { OnOk result (self.new.text ≡ self.old.text ++ entry_line 0 (tick moment) (step self.old.core.state (tick moment)).answer) }
-        ensures faults { OnOk result (self.new.faults ≡ self.old.faults) }
-        ensures state { OnOk result (self.new.core.state ≡ (step self.old.core.state (tick moment)).state) }
-        ensures grows { OnOk result (Grows self.old.core.state self.new.core.state) }
-        ensures boxes { OnOk result ((history : List Entry) (bank : List _) → IsAt (λ box. record { keep = keep box; heard = heard box }) history bank self.old.core.state (⟦<Core as Stands>⟧.boxes self.old.core) (⟦<Player as Holds>⟧.removed self.old) self.old.left.items (into_iter_items self.old.bank) → IsAt (λ box. record { keep = keep box; heard = heard box }) (history ++ entry_of self.old.core.state (tick moment) ∷ []) bank self.new.core.state (⟦<Core as Stands>⟧.boxes self.new.core) (⟦<Player as Holds>⟧.removed self.new) self.new.left.items (into_iter_items self.new.bank)) }
+    fn play_tick(&mut self, moment: u64) -> Option<Room>
+        requires caller { 0 < (state_of self.old.core.performance).callers }
+        ensures performance { self.new.core.performance ≡ played_on self.old.core.performance (entry_if (state_of self.old.core.performance) (tick moment)) }
+        ensures faults { self.new.faults ≡ self.old.faults }
+        ensures stop { option_map room_of result ≡ stop_at (state_of self.old.core.performance) (tick moment) }
+        ensures waiting { into_iter_items self.new.bank ≡ into_iter_items self.old.bank }
+        ensures boxes { (bank : List _) → IsAt (λ box. record { keep = keep box; heard = heard box }) bank self.old.core.performance (⟦<Core as Stands>⟧.boxes self.old.core) (⟦<Player as Holds>⟧.removed self.old) self.old.left.items (into_iter_items self.old.bank) → IsAtUnless result (λ box. record { keep = keep box; heard = heard box }) bank self.new.core.performance (⟦<Core as Stands>⟧.boxes self.new.core) (⟦<Player as Holds>⟧.removed self.new) self.new.left.items (into_iter_items self.new.bank) }
     {
-        let ticking = self.core.tick(0, moment);
-        tick_line(self.alloc, &mut self.text, 0, moment, ticking)
+        stop_of_ticking(self.core.tick(0, moment))
     }
 
     /// Releases until nothing is due.
-    fn play_pump(&mut self) -> Result<(), AllocError>
-        requires caller { 0 < self.old.core.state.callers }
-        ensures text { OnOk result (self.new.text ≡ self.old.text ++ printed_from self.old.core.state (pumped (length self.old.core.state.queue) self.old.core.state)) }
-        ensures faults { OnOk result (self.new.faults ≡ self.old.faults) }
-        ensures state { OnOk result (self.new.core.state ≡ after self.old.core.state (pumped (length self.old.core.state.queue) self.old.core.state)) }
-        ensures grows { OnOk result (Grows self.old.core.state self.new.core.state) }
-        ensures boxes { OnOk result ((history : List Entry) (bank : List _) → IsAt (λ box. record { keep = keep box; heard = heard box }) history bank self.old.core.state (⟦<Core as Stands>⟧.boxes self.old.core) (⟦<Player as Holds>⟧.removed self.old) self.old.left.items (into_iter_items self.old.bank) → IsAt (λ box. record { keep = keep box; heard = heard box }) (history ++ pumped (length self.old.core.state.queue) self.old.core.state) bank self.new.core.state (⟦<Core as Stands>⟧.boxes self.new.core) (⟦<Player as Holds>⟧.removed self.new) self.new.left.items (into_iter_items self.new.bank)) }
-    {
-        while self.release()? {}
-        Ok(())
-    }
-
-    /// Releases once, and says whether a unit was released.
-    fn release(&mut self) -> Result<bool, AllocError>
-        requires caller { 0 < self.old.core.state.callers }
-        ensures went { IfOk result (λ went. went ≡ is_released (step self.old.core.state release).answer) }
-        ensures text { IfOk result (λ went. self.new.text ≡ self.old.text ++ printed_from self.old.core.state (if went then entry_of self.old.core.state release ∷ [] else [])) }
-        ensures faults { OnOk result (self.new.faults ≡ self.old.faults) }
-        ensures state { IfOk result (λ went. self.new.core.state ≡ after self.old.core.state (if went then entry_of self.old.core.state release ∷ [] else [])) }
-        ensures boxes { IfOk result (λ went. (history : List Entry) (bank : List _) → IsAt (λ box. record { keep = keep box; heard = heard box }) history bank self.old.core.state (⟦<Core as Stands>⟧.boxes self.old.core) (⟦<Player as Holds>⟧.removed self.old) self.old.left.items (into_iter_items self.old.bank) → IsAt (λ box. record { keep = keep box; heard = heard box }) (history ++ (if went then entry_of self.old.core.state release ∷ [] else [])) bank self.new.core.state (⟦<Core as Stands>⟧.boxes self.new.core) (⟦<Player as Holds>⟧.removed self.new) self.new.left.items (into_iter_items self.new.bank)) }
+    fn play_pump(&mut self) -> Option<Room>
+        requires caller { 0 < (state_of self.old.core.performance).callers }
+        ensures performance { self.new.core.performance ≡ played_on self.old.core.performance (pump (state_of self.old.core.performance)) }
+        ensures faults { self.new.faults ≡ self.old.faults }
+        ensures stop { option_map room_of result ≡ stop_at (after (state_of self.old.core.performance) (pump (state_of self.old.core.performance))) release }
+        ensures waiting { into_iter_items self.new.bank ≡ into_iter_items self.old.bank }
+        ensures boxes { (bank : List _) → IsAt (λ box. record { keep = keep box; heard = heard box }) bank self.old.core.performance (⟦<Core as Stands>⟧.boxes self.old.core) (⟦<Player as Holds>⟧.removed self.old) self.old.left.items (into_iter_items self.old.bank) → IsAtUnless result (λ box. record { keep = keep box; heard = heard box }) bank self.new.core.performance (⟦<Core as Stands>⟧.boxes self.new.core) (⟦<Player as Holds>⟧.removed self.new) self.new.left.items (into_iter_items self.new.bank) }
     {
         a_box_hears_its_calls();
         invocations_are_of_registered_methods();
-        match self.core.release(0)? {
-            Releasing::Released { unit, calls } => {
-                print_release(&mut self.text, unit, &calls)?;
-                Ok(true)
+        loop {
+            match self.core.release(0) {
+                Releasing::Released { .. } => {}
+                Releasing::NothingDue { .. } => return None,
+                Releasing::RecordFull(room) => return Some(room),
             }
-            Releasing::NothingDue { .. } => Ok(false),
         }
+    }
+}
+
+/// Where there was no room for the entry of an add.
+fn stop_of_adding(adding: &Adding) -> Option<Room>
+    ensures { option_map room_of result ≡ room_in (adding_of adding.now) }
+{
+    match adding {
+        Adding::Refused {
+            why: AddRefusal::RecordFull(room),
+            ..
+        } => Some(*room),
+        _ => None,
+    }
+}
+
+/// Where there was no room for the entry of a removal.
+fn stop_of_removing(removing: &Removing) -> Option<Room>
+    ensures { option_map room_of result ≡ room_in (removing_of removing.now) }
+{
+    match removing {
+        Removing::RecordFull(room) => Some(*room),
+        _ => None,
+    }
+}
+
+/// Where there was no room for the entry of a submit.
+fn stop_of_submitted(submitted: Submitted) -> Option<Room>
+    ensures { option_map room_of result ≡ room_in (submitted_of submitted) }
+{
+    match submitted {
+        Submitted::RecordFull(room) => Some(room),
+        _ => None,
+    }
+}
+
+/// Where there was no room for the entry of a tick.
+fn stop_of_ticking(ticking: Ticking) -> Option<Room>
+    ensures { option_map room_of result ≡ room_in (ticking_of ticking) }
+{
+    match ticking {
+        Ticking::RecordFull(room) => Some(room),
+        _ => None,
     }
 }
 
@@ -211,6 +249,6 @@ fn keep_removed(
             removed.push((id, method))?;
             Ok(())
         }
-        Removing::NotThere => Ok(()),
+        _ => Ok(()),
     }
 }

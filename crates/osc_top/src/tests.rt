@@ -388,7 +388,7 @@ fn faults_of_the_edges_end_the_run(rt: HostRuntime) -> Result<(), Fail> {
 #[test]
 fn other_words_are_refused(rt: HostRuntime) -> Result<(), Fail> {
     let alloc = rt.alloc();
-    for line in ["", "play", "run x"] {
+    for line in ["", "play", "run x", "--bytes", "run --bytes x", "replay x"] {
         let mut input = source(alloc, FIRST_LIGHT)?;
         let mut out = SteadySink::open(alloc);
         let ended = plain_top(
@@ -401,5 +401,66 @@ fn other_words_are_refused(rt: HostRuntime) -> Result<(), Fail> {
         assert_eq!(rt; ended.status, 2);
         assert_eq!(rt; out.bytes(), b"usage\n".as_slice());
     }
+    Ok(())
+}
+
+/// Does what the words say with the input, and eight mute boxes: the status, and what was written.
+fn ends(alloc: Global, line: &str, input: &[u8]) -> Result<(u8, SteadySink), Fail> {
+    let mut bank: Vec<Box<dyn Method + Send>> = Vec::new(alloc);
+    for _ in 0..8 {
+        bank.push(Box::new(alloc, Mute)?)?;
+    }
+    let mut input = SteadySource::open(Vec::from_slice(alloc, input)?);
+    let mut out = SteadySink::open(alloc);
+    let ended = plain_top(alloc, &words(alloc, line)?, &mut input, &mut out, bank);
+    Ok((ended.status, out))
+}
+
+/// The recording of a script.
+fn recording(alloc: Global, script: &str) -> Result<Vec<u8>, Fail> {
+    let (_, out) = ends(alloc, "run --bytes", script.as_bytes())?;
+    Ok(Vec::from_slice(alloc, out.bytes())?)
+}
+
+#[test]
+fn recordings_are_replayed(rt: HostRuntime) -> Result<(), Fail> {
+    let alloc = rt.alloc();
+    let digits = hex::encode(alloc, &recording(alloc, "")?)?;
+    assert_eq!(rt;
+        digits.as_str(),
+        "000000342f6f73632f726563000000002c696969696969690000000000000001000010000000400000000400000010000000000104000000"
+    );
+    for script in ["", FIRST_LIGHT, NESTED, REMOVED] {
+        let (status, printed) = ends(alloc, "run", script.as_bytes())?;
+        assert_eq!(rt; status, 0);
+        let (status, replayed) = ends(alloc, "replay", &recording(alloc, script)?)?;
+        assert_eq!(rt; status, 0);
+        assert_eq!(rt; replayed.bytes(), printed.bytes(), "{script}");
+    }
+    Ok(())
+}
+
+/// A release of unit 0 with one hit of message 0, without the last digit of the hit's id.
+const RELEASE: &str =
+    "000000302f6f73632f72656c65617365000000002c6968620000000000000000000000000000000000000008000000000000000";
+
+#[test]
+fn other_recordings_are_refused(rt: HostRuntime) -> Result<(), Fail> {
+    let alloc = rt.alloc();
+    let mut cut = recording(alloc, "tick 0000000000000005")?;
+    assert_eq!(rt; cut.len(), 104);
+    cut.pop();
+    let (status, lines) = ends(alloc, "replay", &cut)?;
+    assert_eq!(rt; status, 1);
+    assert_eq!(rt; lines.bytes(), b"malformed 56\n".as_slice());
+
+    // The hit's id.
+    let mut changed = recording(alloc, "add /a\nsend 2f610000\npump")?;
+    assert_eq!(rt; changed.pop(), Some(0));
+    changed.push(1)?;
+    let (status, lines) = ends(alloc, "replay", &changed)?;
+    assert_eq!(rt; status, 1);
+    let expected = format!(in alloc; "disagrees 2\nkept {RELEASE}1\ncomputed {RELEASE}0\n")?;
+    assert_eq!(rt; lines.bytes(), expected.as_bytes());
     Ok(())
 }

@@ -1,29 +1,37 @@
 // The top call.
-ghost use Rattle.std.specs.Prelude.{◌≡◌, ◌≢◌, ◌⊎◌, ◌≤◌, ℕ, List, IsSome, IsOkAnd, IfSome, Some, Ok, [], None, is_some, length, map, string_bytes};
+ghost use Rattle.std.specs.Prelude.{◌≡◌, ◌≢◌, ◌⊎◌, ◌≤◌, ◌<◌, ℕ, List, IsOkAnd, IfSome, Some, Ok, [], None, length, map, string_bytes};
 ghost use Rattle.osc_edge.specs.Faults.{Rose};
+ghost use Rattle.osc_model.specs.Limits.{Limits};
+ghost use Rattle.osc_model.specs.Events.{Entry};
+ghost use Rattle.osc_replay.specs.Disagreeing.{IsRecordingOf};
 ghost use Rattle.osc_script.specs.declared.line.Line.{Line};
 ghost use Rattle.osc_script.specs.declared.mode.Mode.TheVariants.{Plain};
-ghost use Rattle.osc_script.specs.Scripts.{script_of, AreLawful};
-ghost use Rattle.osc_top.specs.Plain;
-ghost use Rattle.osc_top.specs.Plain.{count_adds, is_add};
+ghost use Rattle.osc_script.specs.Scripts.{script_of};
+ghost use Rattle.osc_top.specs.declared.command.Output.{Output};
+ghost use Rattle.osc_top.specs.declared.command.Command.TheVariants.{Run, Replay};
+ghost use Rattle.osc_top.specs.Plain as scripts;
+ghost use Rattle.osc_top.specs.Plain.{is_add};
 ghost use Rattle.osc_top.specs.Bank.{IsAccounted};
-ghost use Rattle.osc_top.specs.Printing.{usage_text, refusal_text, bank_short_text};
-ghost use Rattle.osc_top.specs.Ends.{GainsUnless, EndsRun, EndsLines, EndsHistory, EndsLine, command_of, left_behind};
+ghost use Rattle.osc_top.specs.Printing.{usage_text};
+ghost use Rattle.osc_top.specs.Commands as commands;
+ghost use Rattle.osc_top.specs.Ends.{GainsUnless, IsUnstopped, EndsRun, EndsLines, EndsReplay, EndsCommand, left_behind};
 
-use crate::entries::{bank_short_line, refusal_line};
+use crate::command::{Command, Output, command_of};
 use crate::playing::{Played, play};
-use crate::whole::{Input, Written, read_whole, write_whole};
+use crate::status::{NO_MEMORY, SOURCE_FAILED, USAGE};
+use crate::whole::{Input, read_whole};
+use crate::writing::{bank_short, last_line, malformed, refuse, write_recorded, write_replay};
 use osc_edge::{Sink, Source};
 use osc_method::Method;
-use osc_print::Text;
+use osc_model::laws::a_legal_history_is_recordable;
 use osc_script::{Act, Line, Mode, Script, ScriptFault, ScriptRefusal};
 use std::alloc::Global;
 
 /// How a program ends.
 #[derive(Drop)]
 pub struct Ended {
-    /// The exit status: 0 done, 1 script refused, 2 words refused, 3 want of memory, 4 the source failed, 5 the sink
-    /// failed, 8 more adds than boxes (docs/FORMATS.md, "Programs").
+    /// The exit status: 0 done, 1 script or recording refused, 2 words refused, 3 want of memory, 4 the source failed, 5
+    /// the sink failed, 6 the recording was full, 8 more adds than boxes (docs/FORMATS.md, "Programs").
     pub status: u8,
     /// The id of each method that was added with its box, ascending, the removed ones among them.
     pub heard: Vec<(u32, Box<dyn Method + Send>)>,
@@ -31,26 +39,13 @@ pub struct Ended {
     pub left: Vec<Box<dyn Method + Send>>,
 }
 
-const DONE: u8 = 0;
-
-const REFUSED: u8 = 1;
-
-const USAGE: u8 = 2;
-
-const NO_MEMORY: u8 = 3;
-
-const SOURCE_FAILED: u8 = 4;
-
-const SINK_FAILED: u8 = 5;
-
-const BANK_SHORT: u8 = 8;
-
-/// Does all that the program does: reads a script from `input` to its end, plays it on a new server, and writes the
-/// printed history and the faults of its packets to `out`.
+/// Does all that the program does. `run` reads a script from `input` to its end, plays it on a new server, and writes the
+/// printed history and the faults of its packets to `out`, or with `--bytes` the recording. `replay` reads a recording, and
+/// writes the same printed history, each answer of which it computes again.
 ///
-/// `words` are those of the command line, without the program's name. The k-th add of the script gets the k-th box of
-/// `bank`. Scripts, printed lines and statuses are those of docs/FORMATS.md. What stands in `out`, and what becomes of
-/// the boxes, at want of memory isn't said.
+/// `words` are those of the command line, without the program's name. The k-th add of a script gets the k-th box of
+/// `bank`. Scripts, recordings, printed lines and statuses are those of docs/FORMATS.md. What stands in `out`, and what
+/// becomes of the boxes, at want of memory isn't said.
 pub fn plain_top<S: Source, O: Sink>(
     alloc: Global,
     words: &[String],
@@ -58,71 +53,72 @@ pub fn plain_top<S: Source, O: Sink>(
     out: &mut O,
     bank: Vec<Box<dyn Method + Send>>,
 ) -> Ended
-    ensures known { (result.status ≤ 5) ⊎ (result.status ≡ 8) }
+    ensures known { (result.status ≤ 6) ⊎ (result.status ≡ 8) }
 
     // Words that are no command are answered first, by a line on usage, and nothing is read then.
-    ensures usage { result.status ≡ 2 → command_of (map string_bytes words.now) ≡ None }
-    ensures no_command { command_of (map string_bytes words.now) ≡ None → (result.status ≡ 2) ⊎ (result.status ≡ 3) }
-    ensures unread { command_of (map string_bytes words.now) ≡ None → input.new ≡ input.old }
+    ensures usage { result.status ≡ 2 → commands.command_of (map string_bytes words.now) ≡ None }
+    ensures no_command { commands.command_of (map string_bytes words.now) ≡ None → (result.status ≡ 2) ⊎ (result.status ≡ 3) }
+    ensures unread { commands.command_of (map string_bytes words.now) ≡ None → input.new ≡ input.old }
     ensures usage_text { result.status ≡ 2 →
         GainsUnless (O.held out.old) (O.held out.new) (O.faults out.old) (O.faults out.new) usage_text }
 
     // Then a source that failed, of which nothing is written. Any other answer but want of memory means that the
     // source didn't fail, and that it was read to its end, or to the first byte that is too many.
     ensures source { result.status ≡ 4 → Rose (S.faults input.old) (S.faults input.new) }
-    ensures unwritten { result.status ≡ 4 → O.held out.new ≡ O.held out.old }
+    ensures unwritten { result.status ≡ 4 → out.new ≡ out.old }
     ensures sound { result.status ≢ 3 → result.status ≢ 4 → S.faults input.new ≡ S.faults input.old }
-    ensures read { IfSome (S.left input.old) (λ script. result.status ≢ 2 → result.status ≢ 3 → result.status ≢ 4 →
-        S.left input.new ≡ Some (left_behind script)) }
+    ensures read { IfSome (commands.command_of (map string_bytes words.now)) (λ command. IfSome (S.left input.old) (λ all. result.status ≢ 3 → result.status ≢ 4 →
+        S.left input.new ≡ Some (left_behind (commands.most_bytes command) all))) }
 
-    // Then a script that is refused, or one that adds more methods than there are boxes, or its history, with a sink that
-    // took all of it or failed.
-    ensures script { IfSome (S.left input.old) (λ script. result.status ≢ 2 → result.status ≢ 4 →
-        EndsRun result.status (length bank.items) script (O.held out.old) (O.held out.new) (O.faults out.old) (O.faults out.new)) }
+    // Then a script or a recording that is refused, or a script that adds more methods than there are boxes, or what the
+    // command writes, with a sink that took all of it or failed.
+    ensures command { IfSome (commands.command_of (map string_bytes words.now)) (λ command. IfSome (S.left input.old) (λ all. result.status ≢ 4 →
+        EndsCommand command result.status (length bank.items) all (O.held out.old) (O.held out.new) (O.faults out.old) (O.faults out.new))) }
     ensures sink { result.status ≡ 5 → Rose (O.faults out.old) (O.faults out.new) }
 
     // Done means that nothing failed and that the input was read to its end.
     ensures steady { result.status ≡ 0 → O.faults out.new ≡ O.faults out.old }
-    ensures ended { result.status ≡ 0 → IfSome (S.left input.old) (λ script. S.left input.new ≡ Some []) }
+    ensures ended { result.status ≡ 0 → IfSome (S.left input.old) (λ all. S.left input.new ≡ Some []) }
 
     // Each box that was added has heard what the history says, and each other one comes back as it was; where nothing was
     // played, all of them.
-    ensures accounted { (result.status ≡ 0) ⊎ (result.status ≡ 5) → (lines : List Line) ×
+    ensures accounted { (output : Output) → commands.command_of (map string_bytes words.now) ≡ Some (Run output) → (result.status ≡ 0) ⊎ (result.status ≡ 5) ⊎ (result.status ≡ 6) → (lines : List Line) ×
         IfSome (S.left input.old) (λ script. script_of Plain script ≡ Ok lines) ×
         IsAccounted lines (map (λ one. record { id = one.0; keep = keep one.1; heard = heard one.1 }) result.heard.items) result.left.items (map (λ box. record { keep = keep box; heard = heard box }) bank.items) bank.items }
     ensures none_heard { (result.status ≡ 1) ⊎ (result.status ≡ 2) ⊎ (result.status ≡ 4) ⊎ (result.status ≡ 8) → result.heard.items ≡ [] }
     ensures all_left { (result.status ≡ 1) ⊎ (result.status ≡ 2) ⊎ (result.status ≡ 4) ⊎ (result.status ≡ 8) → result.left.items ≡ bank.items }
+    ensures replay_hears_none { commands.command_of (map string_bytes words.now) ≡ Some Replay → result.status ≢ 3 → result.heard.items ≡ [] }
+    ensures replay_leaves_all { commands.command_of (map string_bytes words.now) ≡ Some Replay → result.status ≢ 3 → result.left.items ≡ bank.items }
 
-    // Lawful words, a lawful script with enough boxes and edges that don't fail are played, unless memory runs out.
-    ensures complete { IfSome (S.left input.old) (λ script.
-        IsSome (command_of (map string_bytes words.now)) → IsOkAnd (script_of Plain script) (λ lines. count_adds lines ≤ length bank.items) →
+    // A lawful script with enough boxes and room for its recording is played, and the recording of each history that the
+    // server's rules give is replayed, over edges that don't fail, unless memory runs out.
+    ensures complete { (output : Output) → commands.command_of (map string_bytes words.now) ≡ Some (Run output) → IfSome (S.left input.old) (λ script.
+        IsOkAnd (script_of Plain script) (λ lines. (scripts.count_adds lines ≤ length bank.items) × IsUnstopped lines) →
+        ¬ Rose (S.faults input.old) (S.faults input.new) → ¬ Rose (O.faults out.old) (O.faults out.new) →
+        (result.status ≡ 0) ⊎ (result.status ≡ 3)) }
+    ensures replayed { commands.command_of (map string_bytes words.now) ≡ Some Replay → IfSome (S.left input.old) (λ recording.
+        (caps : Limits) (history : List Entry) → IsRecordingOf recording caps history →
         ¬ Rose (S.faults input.old) (S.faults input.new) → ¬ Rose (O.faults out.old) (O.faults out.new) →
         (result.status ≡ 0) ⊎ (result.status ≡ 3)) }
 {
-    if !is_run(words) {
+    let Some(command) = command_of(words) else {
         return unplayed(alloc, last_line(USAGE, b"usage\n", out), bank);
-    }
-    match read_whole(alloc, input) {
-        Input::Whole(bytes) => run(alloc, bytes, out, bank),
-        Input::TooLong => {
-            let fault = ScriptFault {
-                line: 0,
-                kind: ScriptFault::TOO_LONG,
-            };
-            unplayed(alloc, refuse(alloc, fault, out), bank)
-        }
+    };
+    match read_whole(alloc, most_bytes(command), input) {
+        Input::Whole(bytes) => perform(alloc, command, bytes, out, bank),
+        Input::TooLong => unplayed(alloc, refuse_long(alloc, command, out), bank),
         Input::Failed => unplayed(alloc, SOURCE_FAILED, bank),
         Input::NoMemory => unplayed(alloc, NO_MEMORY, bank),
     }
 }
 
-/// The words are exactly `run`.
-fn is_run(words: &[String]) -> bool
-    ensures { result ≡ is_some (command_of (map string_bytes words.now)) }
+/// How many bytes a command's input may have.
+fn most_bytes(command: Command) -> usize
+    ensures { result ≡ commands.most_bytes command }
 {
-    match words {
-        [word] => word.as_str() == "run",
-        _ => false,
+    match command {
+        Command::Run(_) => 67_108_864,
+        Command::Replay => 1_073_741_824,
     }
 }
 
@@ -139,37 +135,80 @@ fn unplayed(alloc: Global, status: u8, bank: Vec<Box<dyn Method + Send>>) -> End
     }
 }
 
-/// Reads and plays the script. The memory of the input is given back before anything is played.
-fn run<O: Sink>(
+/// Refuses an input that is too long.
+fn refuse_long<O: Sink>(alloc: Global, command: Command, out: &mut O) -> u8
+    ensures ends { (have : ℕ) (all : List ℕ) → commands.most_bytes command < length all → EndsCommand command result have all (O.held out.old) (O.held out.new) (O.faults out.old) (O.faults out.new) }
+    ensures refused { (result ≡ 1) ⊎ (result ≡ 3) }
+    ensures none { command ≡ Replay → (all : List ℕ) (caps : Limits) (history : List Entry) → commands.most_bytes command < length all → ¬ IsRecordingOf all caps history }
+{
+    a_legal_history_is_recordable();
+    match command {
+        Command::Run(_) => {
+            let fault = ScriptFault {
+                line: 0,
+                kind: ScriptFault::TOO_LONG,
+            };
+            refuse(alloc, fault, out)
+        }
+        Command::Replay => malformed(alloc, 1_073_741_824, out),
+    }
+}
+
+/// Does what the command says with its whole input.
+fn perform<O: Sink>(
     alloc: Global,
+    command: Command,
     bytes: Vec<u8>,
     out: &mut O,
     bank: Vec<Box<dyn Method + Send>>,
 ) -> Ended
-    ensures ends { EndsRun result.status (length bank.items) bytes.items (O.held out.old) (O.held out.new) (O.faults out.old) (O.faults out.new) }
-    ensures accounted { (result.status ≡ 0) ⊎ (result.status ≡ 5) → (lines : List Line) × (script_of Plain bytes.items ≡ Ok lines) × IsAccounted lines (map (λ one. record { id = one.0; keep = keep one.1; heard = heard one.1 }) result.heard.items) result.left.items (map (λ box. record { keep = keep box; heard = heard box }) bank.items) bank.items }
+    requires { length bytes.items ≤ commands.most_bytes command }
+    ensures ends { EndsCommand command result.status (length bank.items) bytes.items (O.held out.old) (O.held out.new) (O.faults out.old) (O.faults out.new) }
+    ensures accounted { (output : Output) → command ≡ Run output → (result.status ≡ 0) ⊎ (result.status ≡ 5) ⊎ (result.status ≡ 6) → (lines : List Line) × (script_of Plain bytes.items ≡ Ok lines) × IsAccounted lines (map (λ one. record { id = one.0; keep = keep one.1; heard = heard one.1 }) result.heard.items) result.left.items (map (λ box. record { keep = keep box; heard = heard box }) bank.items) bank.items }
+    ensures none_heard { (result.status ≡ 1) ⊎ (result.status ≡ 8) → result.heard.items ≡ [] }
+    ensures all_left { (result.status ≡ 1) ⊎ (result.status ≡ 8) → result.left.items ≡ bank.items }
+    ensures replay_hears_none { command ≡ Replay → result.heard.items ≡ [] }
+    ensures replay_leaves_all { command ≡ Replay → result.left.items ≡ bank.items }
+    ensures replayed { command ≡ Replay → (caps : Limits) (history : List Entry) → IsRecordingOf bytes.items caps history → (result.status ≡ 0) ⊎ (result.status ≡ 3) ⊎ (result.status ≡ 5) }
+    ensures sink { result.status ≡ 5 → Rose (O.faults out.old) (O.faults out.new) }
+{
+    match command {
+        Command::Run(output) => run(alloc, output, bytes, out, bank),
+        Command::Replay => unplayed(alloc, write_replay(alloc, &bytes, out), bank),
+    }
+}
+
+/// Reads and plays the script. The memory of the input is given back before anything is played.
+fn run<O: Sink>(
+    alloc: Global,
+    output: Output,
+    bytes: Vec<u8>,
+    out: &mut O,
+    bank: Vec<Box<dyn Method + Send>>,
+) -> Ended
+    ensures ends { EndsRun output result.status (length bank.items) bytes.items (O.held out.old) (O.held out.new) (O.faults out.old) (O.faults out.new) }
+    ensures accounted { (result.status ≡ 0) ⊎ (result.status ≡ 5) ⊎ (result.status ≡ 6) → (lines : List Line) × (script_of Plain bytes.items ≡ Ok lines) × IsAccounted lines (map (λ one. record { id = one.0; keep = keep one.1; heard = heard one.1 }) result.heard.items) result.left.items (map (λ box. record { keep = keep box; heard = heard box }) bank.items) bank.items }
     ensures none_heard { (result.status ≡ 1) ⊎ (result.status ≡ 8) → result.heard.items ≡ [] }
     ensures all_left { (result.status ≡ 1) ⊎ (result.status ≡ 8) → result.left.items ≡ bank.items }
 {
     let read = Script::read(alloc, &bytes, Mode::Plain);
     drop(bytes);
     match read {
-        Ok(script) => play_lines(alloc, script.into_lines(), out, bank),
+        Ok(script) => run_lines(alloc, output, script.into_lines(), out, bank),
         Err(ScriptRefusal::Fault(fault)) => unplayed(alloc, refuse(alloc, fault, out), bank),
         Err(ScriptRefusal::NoMemory) => unplayed(alloc, NO_MEMORY, bank),
     }
 }
 
-fn play_lines<O: Sink>(
+fn run_lines<O: Sink>(
     alloc: Global,
+    output: Output,
     lines: Vec<Line>,
     out: &mut O,
     bank: Vec<Box<dyn Method + Send>>,
 ) -> Ended
-    requires few { length lines.items ≤ 67108864 }
-    requires lawful { AreLawful lines.items }
-    ensures ends { EndsLines result.status (length bank.items) lines.items (O.held out.old) (O.held out.new) (O.faults out.old) (O.faults out.new) }
-    ensures accounted { (result.status ≡ 0) ⊎ (result.status ≡ 5) → IsAccounted lines.items (map (λ one. record { id = one.0; keep = keep one.1; heard = heard one.1 }) result.heard.items) result.left.items (map (λ box. record { keep = keep box; heard = heard box }) bank.items) bank.items }
+    ensures ends { EndsLines output result.status (length bank.items) lines.items (O.held out.old) (O.held out.new) (O.faults out.old) (O.faults out.new) }
+    ensures accounted { (result.status ≡ 0) ⊎ (result.status ≡ 5) ⊎ (result.status ≡ 6) → IsAccounted lines.items (map (λ one. record { id = one.0; keep = keep one.1; heard = heard one.1 }) result.heard.items) result.left.items (map (λ box. record { keep = keep box; heard = heard box }) bank.items) bank.items }
     ensures none_heard { result.status ≡ 8 → result.heard.items ≡ [] }
     ensures all_left { result.status ≡ 8 → result.left.items ≡ bank.items }
 {
@@ -179,8 +218,14 @@ fn play_lines<O: Sink>(
         return unplayed(alloc, status, bank);
     }
     match play(alloc, lines, bank) {
-        Ok(Played { text, heard, left }) => Ended {
-            status: write_history(text.bytes(), out),
+        Ok(
+            Played {
+                recorded,
+                heard,
+                left,
+            },
+        ) => Ended {
+            status: write_recorded(alloc, output, &recorded, out),
             heard,
             left,
         },
@@ -190,7 +235,7 @@ fn play_lines<O: Sink>(
 
 /// How many lines add a method.
 fn count_adds(lines: &[Line]) -> usize
-    ensures { result ≡ Plain.count_adds lines.now }
+    ensures { result ≡ scripts.count_adds lines.now }
 {
     lines.iter().filter(|line| is_add(&line.act)).count()
 }
@@ -199,45 +244,4 @@ fn is_add(act: &Act) -> bool
     ensures { result ≡ is_add act.now }
 {
     matches!(act, Act::Add(_))
-}
-
-fn write_history<O: Sink>(text: &[u8], out: &mut O) -> u8
-    ensures { EndsHistory result text.now (O.held out.old) (O.held out.new) (O.faults out.old) (O.faults out.new) }
-{
-    match write_whole(out, text) {
-        Written::Wrote => DONE,
-        Written::Refused => SINK_FAILED,
-        Written::Short => NO_MEMORY,
-    }
-}
-
-fn refuse<O: Sink>(alloc: Global, fault: ScriptFault, out: &mut O) -> u8
-    ensures { EndsLine 1 result (refusal_text fault) (O.held out.old) (O.held out.new) (O.faults out.old) (O.faults out.new) }
-{
-    let mut text = Text::open(alloc);
-    match refusal_line(&mut text, fault) {
-        Ok(()) => last_line(REFUSED, text.bytes(), out),
-        Err(_) => NO_MEMORY,
-    }
-}
-
-fn bank_short<O: Sink>(alloc: Global, need: usize, have: usize, out: &mut O) -> u8
-    ensures { EndsLine 8 result (bank_short_text need have) (O.held out.old) (O.held out.new) (O.faults out.old) (O.faults out.new) }
-{
-    let mut text = Text::open(alloc);
-    match bank_short_line(&mut text, need, have) {
-        Ok(()) => last_line(BANK_SHORT, text.bytes(), out),
-        Err(_) => NO_MEMORY,
-    }
-}
-
-/// A last line that can't be written changes no status, but for want of memory.
-fn last_line<O: Sink>(status: u8, line: &[u8], out: &mut O) -> u8
-    requires { status ≢ 3 }
-    ensures { EndsLine status result line.now (O.held out.old) (O.held out.new) (O.faults out.old) (O.faults out.new) }
-{
-    match write_whole(out, line) {
-        Written::Short => NO_MEMORY,
-        _ => status,
-    }
 }

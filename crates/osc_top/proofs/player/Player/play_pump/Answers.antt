@@ -1,49 +1,58 @@
-use Rattle.std.proofs.Common.{◌≡◌, true, List, [], ◌∷◌, ◌++◌, length, refl, sym, ap, ◌∙◌, append_assoc}
+use Rattle.std.proofs.Common.{◌<◌, sym, ap, subst, ◌∙◌}
+use Rattle.osc_model.specs.State.{State}
 use Rattle.osc_model.specs.Events.{release}
-use Rattle.osc_model.specs.Step.{step}
-use Rattle.osc_model.specs.History.{Entry}
-use Rattle.osc_top.specs.Plain.{entry_of, is_released, pumped}
-use Rattle.osc_top.proofs.Histories.{pump_step}
-use Rattle.osc_top.proofs.Turns.{at_turn, at_end, turn_text, turn_state, end_entries}
+use Rattle.osc_model.specs.History.{Performance, state_of}
+use Rattle.osc_model.proofs.Onward.{onward_state}
+use Rattle.osc_top.specs.Plain.{pump, room_in, stop_at}
+use Rattle.osc_top.proofs.Hearing.{HearsCalls}
+use Rattle.osc_top.proofs.Onward.{one_caller}
+use Rattle.osc_top.proofs.Places.{at_over}
+use Rattle.osc_top.proofs.Pumps.{pump_on, state_over, not_due, no_room, is_taken, turn_at}
 use Rattle.osc_top.proofs.player.Player.play_pump.Goals as goal
 
-pub loop-init : goal.loop-init
-loop-init g c = record { said = refl; end = refl; faults = refl; ids = refl; units = refl; callers = refl; boxes = λ history bank at. (history, at, refl) }
+pub loop-room-smaller : goal.loop-room-smaller
+loop-room-smaller g c =
+    let performance = c.loop-room.self.core.performance in
+    (pump_on performance c.release.new.self.performance c.release.ensures.performance (is_taken performance c.in-Released.unit c.in-Released.calls c.in-Released.ensures.answer)).shorter
 
-pub loop-preserved : goal.loop-preserved
-loop-preserved g c =
-    let before = c.loop.invariant in
-    let done = c.in_ok-release.ensures in
-    let state = c.loop.self.core.state in
-    let went = c.if-branch.true in
-    let is : is_released (step state release).answer ≡ true = sym done.went ∙ went in
-    let on = pump_step c.loop.self.text state c.release.new.self.text c.release.new.self.core.state is (turn_state state c.release.new.self.core.state c.in_ok-release.field-0 went done.state) (turn_text c.loop.self.text c.release.new.self.text state c.in_ok-release.field-0 went done.text) in
+pub loop-room-preserved : goal.loop-room-preserved
+loop-room-preserved g c =
+    let before = c.loop-room.invariant in
+    let done = c.release.ensures in
+    let performance = c.loop-room.self.core.performance in
+    let law : HearsCalls = record { fresh = c.a_box_hears_its_calls.ensures.fresh; on = c.a_box_hears_its_calls.ensures.on } in
     record {
-      said = on.same_text ∙ before.said;
-      end = on.same_end ∙ before.end;
-      faults = done.faults ∙ before.faults;
-      ids = on.same_ids ∙ before.ids;
-      units = on.same_units ∙ before.units;
-      callers = on.same_callers ∙ before.callers;
-      boxes = λ history bank at.
-          let prior = before.boxes history bank at in (
-            prior.0 ++ entry_of state release ∷ [],
-            at_turn _ prior.0 bank c.release.new.self.core.state (entry_of state release) _ _ _ _ c.in_ok-release.field-0 went (done.boxes prior.0 bank prior.1),
-            append_assoc prior.0 (entry_of state release ∷ []) (pumped (length c.release.new.self.core.state.queue) c.release.new.self.core.state)
-                ∙ ap (λ (l : List Entry). prior.0 ++ l) on.same_entries ∙ prior.2,
-          );
+      caller = subst (λ (s : State). 0 < s.callers) (sym (ap (λ (p : Performance). state_of p) done.performance ∙ onward_state performance 0 release)) (one_caller (state_of performance) release before.caller);
+      end = (pump_on performance c.release.new.self.performance done.performance (is_taken performance c.in-Released.unit c.in-Released.calls c.in-Released.ensures.answer)).same_end ∙ before.end;
+      faults = before.faults;
+      waiting = before.waiting;
+      boxes = λ bank at. turn_at _ bank performance _ law (c.invocations_are_of_registered_methods.ensures.step (state_of performance) release) done.performance _ _ _ _ _ done.boxes done.heard (before.boxes bank at);
     }
 
-pub loop-smaller : goal.loop-smaller
-loop-smaller g c =
-    let done = c.in_ok-release.ensures in
-    let state = c.loop.self.core.state in
-    let went = c.if-branch.true in
-    let is : is_released (step state release).answer ≡ true = sym done.went ∙ went in
-    (pump_step c.loop.self.text state c.release.new.self.text c.release.new.self.core.state is (turn_state state c.release.new.self.core.state c.in_ok-release.field-0 went done.state) (turn_text c.loop.self.text c.release.new.self.text state c.in_ok-release.field-0 went done.text)).shorter
+pub returns-in-NothingDue-clause-stop : goal.returns-in-NothingDue-clause-stop
+returns-in-NothingDue-clause-stop g c =
+    let performance = c.loop-room.self.core.performance in
+    let initial = c.args.self.now.core.performance in
+    sym (ap room_in c.in-NothingDue.ensures.answer)
+    ∙ ap (λ (s : State). stop_at s release) (state_over performance initial (pump (state_of initial)) (not_due performance c.in-NothingDue.next c.in-NothingDue.ensures.answer) c.loop-room.invariant.end)
 
-pub returns-clause-boxes : goal.returns-clause-boxes
-returns-clause-boxes g c = λ history bank at.
-    let prior = c.loop.invariant.boxes history bank at in
-    let done = c.in_ok-release.ensures in
-    at_end _ prior.0 bank _ (entry_of c.loop.self.core.state release) _ _ _ _ c.in_ok-release.field-0 _ c.if-branch.false (end_entries prior.0 _ c.loop.self.core.state c.in_ok-release.field-0 c.if-branch.false done.went prior.2) (done.boxes prior.0 bank prior.1)
+pub returns-in-NothingDue-clause-boxes : goal.returns-in-NothingDue-clause-boxes
+returns-in-NothingDue-clause-boxes g c =
+    let done = c.release.ensures in
+    let performance = c.loop-room.self.core.performance in
+    let law : HearsCalls = record { fresh = c.a_box_hears_its_calls.ensures.fresh; on = c.a_box_hears_its_calls.ensures.on } in
+    λ bank at. turn_at _ bank performance _ law (c.invocations_are_of_registered_methods.ensures.step (state_of performance) release) done.performance _ _ _ _ _ done.boxes done.heard (c.loop-room.invariant.boxes bank at)
+
+pub returns-in-RecordFull-clause-stop : goal.returns-in-RecordFull-clause-stop
+returns-in-RecordFull-clause-stop g c =
+    let performance = c.loop-room.self.core.performance in
+    let initial = c.args.self.now.core.performance in
+    sym (ap room_in c.in-RecordFull.ensures.answer)
+    ∙ ap (λ (s : State). stop_at s release) (state_over performance initial (pump (state_of initial)) (no_room performance _ c.in-RecordFull.ensures.answer) c.loop-room.invariant.end)
+
+pub returns-in-RecordFull-clause-boxes : goal.returns-in-RecordFull-clause-boxes
+returns-in-RecordFull-clause-boxes g c =
+    let done = c.release.ensures in
+    let performance = c.loop-room.self.core.performance in
+    let law : HearsCalls = record { fresh = c.a_box_hears_its_calls.ensures.fresh; on = c.a_box_hears_its_calls.ensures.on } in
+    λ bank at. at_over _ bank _ _ _ _ _ (turn_at _ bank performance _ law (c.invocations_are_of_registered_methods.ensures.step (state_of performance) release) done.performance _ _ _ _ _ done.boxes done.heard (c.loop-room.invariant.boxes bank at))

@@ -1,7 +1,7 @@
-use Rattle.osc_top.proofs.Turns.{ok_remove}
+use Rattle.osc_top.proofs.Adds.{at_remove}
 use Rattle.osc_top.proofs.player.Player.play_remove.Goals as goal
 
 pub returns-clause-boxes : goal.returns-clause-boxes
 returns-clause-boxes g c =
     let done = c.remove-removing.ensures in
-    ok_remove _ _ c.args.self.now.core.state _ c.args.address.now c.remove-removing.result _ _ c.args.self.now.removed.items c.keep_removed.new.removed.items _ _ done.state done.removed done.others done.boxes c.keep_removed.ensures
+    λ bank at. at_remove _ bank c.args.self.now.core.performance _ c.args.address.now done.performance c.remove-removing.result c.stop_of_removing-stop.result _ _ c.args.self.now.removed.items c.keep_removed.new.removed.items _ _ done.removed done.others done.boxes done.heard c.in_ok-keep_removed.ensures at

@@ -1,7 +1,10 @@
 use Rattle.osc_model.specs.Events.{tick}
-use Rattle.osc_top.proofs.Places.{tick_quiet}
-use Rattle.osc_top.proofs.Turns.{ok_quiet}
+use Rattle.osc_model.specs.History.{state_of}
+use Rattle.osc_top.proofs.Places.{tick_quiet, quiet_unless}
 use Rattle.osc_top.proofs.player.Player.play_tick.Goals as goal
 
 pub returns-clause-boxes : goal.returns-clause-boxes
-returns-clause-boxes g c = ok_quiet _ _ c.args.self.now.core.state _ (tick c.args.moment) _ _ _ _ _ c.tick-ticking.ensures.state (tick_quiet c.args.self.now.core.state c.args.moment) c.tick-ticking.ensures.boxes
+returns-clause-boxes g c =
+    let done = c.tick.ensures in
+    let performance = c.args.self.now.core.performance in
+    λ bank at. quiet_unless _ bank performance _ (tick c.args.moment) done.performance (tick_quiet (state_of performance) c.args.moment) c.stop_of_ticking.result _ _ _ _ _ done.boxes done.heard at

@@ -1,11 +1,11 @@
 use Rattle.std.proofs.Common.{◌≡◌, ◌<◌, length, rules}
 use Rattle.osc_top.specs.Plain.{count_adds}
 use Rattle.osc_top.proofs.Tops.{short_ends}
-use Rattle.osc_top.proofs.top.play_lines.Goals as goal
+use Rattle.osc_top.proofs.top.run_lines.Goals as goal
 
 pub returns-then-len-need-clause-ends : goal.returns-then-len-need-clause-ends
 returns-then-len-need-clause-ends g c =
     let have : c.len-then-len-need.result ≡ length c.args.bank.items = search rules in
     let need : c.count_adds-need.result ≡ count_adds c.args.lines.items = search rules in
     let few : c.len-then-len-need.result < c.count_adds-need.result = search rules in
-    short_ends c.bank_short-status.result _ c.len-then-len-need.result _ c.count_adds-need.result c.args.lines.items _ _ _ _ c.unplayed.ensures.status have need few c.bank_short-status.ensures
+    short_ends c.args.output c.bank_short-status.result _ c.len-then-len-need.result _ c.count_adds-need.result c.args.lines.items _ _ _ _ c.unplayed.ensures.status have need few c.bank_short-status.ensures
