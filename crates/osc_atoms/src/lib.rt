@@ -9,8 +9,6 @@ mod number;
 mod padding;
 mod room;
 mod string;
-#[cfg(test)]
-mod tests;
 mod writing;
 
 pub use appending::{put_blob, put_string, put_tag, put_word};

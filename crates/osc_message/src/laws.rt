@@ -1,7 +1,8 @@
 //! What the definitions of messages say of each other. These functions do nothing; their contracts are the laws.
-ghost use Rattle.std.specs.Prelude.{◌≡◌, ◌%◌, ◌<◌, ◌≤◌, ◌↔◌, ℕ, pos, negsuc, IsTrue, List, [], ◌∷◌, ◌++◌, length, map, codes, slice_index, Some, None};
+ghost use Rattle.std.specs.Prelude.{◌≡◌, ◌%◌, ◌<◌, ◌≤◌, ◌↔◌, ℕ, pos, negsuc, IsTrue, List, [], ◌∷◌, ◌++◌, length, map, codes, slice_index, find, Some, None};
 ghost use Rattle.osc_atoms.specs.declared.fault.Fault.{Fault};
 ghost use Rattle.osc_atoms.specs.Atoms.{AreBytes};
+ghost use Rattle.osc_message.specs.Tags.{is_unknown};
 ghost use Rattle.osc_message.specs.Messages.{Argument, tag_of, Form, bare, known, unknown, IsLawful, IsMessage, message_text, integer, float, text};
 ghost use Rattle.osc_message.specs.Faults.{empty, of_pattern, no_tags, brackets, left_over};
 ghost use Rattle.osc_message.specs.Wants.{Want, Leads, FirstFault};
@@ -13,13 +14,14 @@ ghost use Rattle.osc_message.specs.Arguments.{tags_of, unknown_of, message_argum
 pub fn written_is_read_again()
     ensures accepted { (form : Form) (most : ℕ) → IsLawful form → length (message_text form) ≤ most → IsTrue (is_message most (message_text form)) }
     ensures of_bare { (pattern : List ℕ) → IsLawful (bare pattern)
-        → (pattern_of (message_text (bare pattern)) ≡ pattern) × (tags_of (message_text (bare pattern)) ≡ None) × (message_arguments (message_text (bare pattern)) ≡ []) }
+        → (pattern_of (message_text (bare pattern)) ≡ pattern) × (tags_of (message_text (bare pattern)) ≡ None)
+        × (message_arguments (message_text (bare pattern)) ≡ []) × (unknown_of (message_text (bare pattern)) ≡ None) }
     ensures of_known { (pattern : List ℕ) (arguments : List Argument) → IsLawful (known pattern arguments)
         → (pattern_of (message_text (known pattern arguments)) ≡ pattern) × (tags_of (message_text (known pattern arguments)) ≡ Some (map tag_of arguments))
         × (message_arguments (message_text (known pattern arguments)) ≡ arguments) × (unknown_of (message_text (known pattern arguments)) ≡ None) }
     ensures of_unknown { (pattern tags rest : List ℕ) → IsLawful (unknown pattern tags rest)
         → (pattern_of (message_text (unknown pattern tags rest)) ≡ pattern) × (tags_of (message_text (unknown pattern tags rest)) ≡ Some tags)
-        × (message_arguments (message_text (unknown pattern tags rest)) ≡ []) }
+        × (message_arguments (message_text (unknown pattern tags rest)) ≡ []) × (unknown_of (message_text (unknown pattern tags rest)) ≡ find is_unknown tags) }
 {}
 
 /// No two messages have one text.

@@ -15,8 +15,6 @@ pub mod laws;
 mod message;
 mod reading;
 mod tags;
-#[cfg(test)]
-mod tests;
 
 pub use args::Args;
 pub use argument::Arg;

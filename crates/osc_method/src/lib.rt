@@ -11,6 +11,3 @@ pub use call::Call;
 pub use method::Method;
 pub use mute::Mute;
 pub use trace::Trace;
-
-#[cfg(test)]
-mod tests;

@@ -8,8 +8,6 @@ mod checking;
 mod content;
 pub mod laws;
 mod packet;
-#[cfg(test)]
-mod tests;
 mod unit;
 mod unit_messages;
 mod units;

@@ -5,7 +5,7 @@ ghost use Rattle.osc_packet.specs.Reading.{packet_fault};
 
 use crate::Units;
 use crate::checking::check_packet;
-use crate::laws::of_messages;
+use crate::laws::{of_messages, units_are_read_again};
 use osc_atoms::Fault;
 use std::marker::Model;
 
@@ -30,7 +30,8 @@ impl<'a> Packet<'a> {
     ghost use Rattle.std.specs.Prelude.{◌≡◌, ◌≤◌, ◌↔◌, length, IsTrue, IsOk, IfOk, IfErr, is_ok};
     ghost use Rattle.std.specs.Result.{result_err};
     ghost use Rattle.osc_atoms.specs.declared.fault.Fault.{Fault};
-    ghost use Rattle.osc_packet.specs.Packets.{IsPacket};
+    ghost use Rattle.osc_packet.specs.Packets.{Packet as Written, packet_text, IsValid, IsPacket};
+    ghost use Rattle.osc_packet.specs.Units.{units_of};
     ghost use Rattle.osc_packet.specs.Wants.{FirstFault};
     ghost use Rattle.osc_packet.specs.Reading.{packet_fault, is_packet, units_read};
 
@@ -73,8 +74,10 @@ impl<'a> Packet<'a> {
     /// The units in order, the packet's own first, then those of the enclosed bundles in the order of the packet.
     pub fn units(&self) -> Units<'a>
         ensures value { result ≡ units_read self.now }
+        ensures written { (packet : Written) → IsValid 65504 packet → self.now ≡ packet_text packet → result ≡ units_of packet }
         ensures few { length (units_read self.now) ≤ 65504 }
     {
+        units_are_read_again();
         Units::new(self.bytes)
     }
 }

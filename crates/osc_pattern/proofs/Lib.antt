@@ -8,3 +8,4 @@ pub mod PatternLaws
 mod AddressLaws
 mod Parts
 mod PlainPatterns
+mod AddressPatterns

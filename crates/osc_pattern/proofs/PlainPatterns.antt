@@ -32,7 +32,7 @@ plain_lawful (x ∷ xs) special slash =
     let t = neither (is_slash x) (list_any is_slash xs) slash in
     rw (plain_byte x s.0 t.0) (plain_lawful xs s.1 t.1)
 
-plain_part : (part : List ℕ) → HasNoSpecial part → HasNoSlash part → IsPart part (map plain part)
+pub plain_part : (part : List ℕ) → HasNoSpecial part → HasNoSlash part → IsPart part (map plain part)
 plain_part part special slash = record { spelled = plain_spelled part; lawful = plain_lawful part special slash }
 
 plain_cut : (part name : List ℕ) → MatchPart (map plain part) name → part ≡ name
@@ -51,7 +51,7 @@ plain_name part name special slash m =
 own_name : (part : List ℕ) → HasNoSpecial part → HasNoSlash part → MatchesName part part
 own_name part special slash = record { items = map plain part; read = plain_part part special slash; cut = own_cut part }
 
-plain_parts : (parts names : List (List ℕ)) → All HasNoSpecial parts → All HasNoSlash parts → MatchParts parts names → parts ≡ names
+pub plain_parts : (parts names : List (List ℕ)) → All HasNoSpecial parts → All HasNoSlash parts → MatchParts parts names → parts ≡ names
 plain_parts [] [] special slash m = refl
 plain_parts [] (name ∷ names) special slash m = absurd m
 plain_parts (part ∷ parts) [] special slash m = absurd m
@@ -60,7 +60,7 @@ plain_parts (part ∷ parts) (name ∷ names) special slash m =
     let more = plain_parts parts names (All-tail HasNoSpecial part parts special) (All-tail HasNoSlash part parts slash) m.1 in
     rw (first, more) refl
 
-own_parts : (parts : List (List ℕ)) → All HasNoSpecial parts → All HasNoSlash parts → MatchParts parts parts
+pub own_parts : (parts : List (List ℕ)) → All HasNoSpecial parts → All HasNoSlash parts → MatchParts parts parts
 own_parts [] special slash = tt
 own_parts (part ∷ parts) special slash =
     (own_name part (All-head HasNoSpecial part parts special) (All-head HasNoSlash part parts slash), own_parts parts (All-tail HasNoSpecial part parts special) (All-tail HasNoSlash part parts slash))
@@ -83,7 +83,7 @@ parts_of-no_special : (bytes : List ℕ) → HasNoSpecial bytes → All HasNoSpe
 parts_of-no_special [] none = All-nil HasNoSpecial
 parts_of-no_special (x ∷ xs) none = split_no_special xs (neither (is_special x) (list_any is_special xs) none).1
 
-same_bytes : (first second : List ℕ) → begins_with_slash first ≡ true → begins_with_slash second ≡ true → parts_of first ≡ parts_of second → first ≡ second
+pub same_bytes : (first second : List ℕ) → begins_with_slash first ≡ true → begins_with_slash second ≡ true → parts_of first ≡ parts_of second → first ≡ second
 same_bytes [] second a b e = absurd (cc)
 same_bytes (x ∷ xs) [] a b e = absurd (cc)
 same_bytes (x ∷ xs) (y ∷ ys) a b e =

@@ -33,6 +33,12 @@ pub fn plain_pattern()
     ensures { (pattern address : List ℕ) → IsPattern pattern → IsAddress address → list_any is_special pattern ≡ false → (Match pattern address ↔ (pattern ≡ address)) }
 {}
 
+/// An address is a pattern too, and as a pattern it matches itself alone.
+pub fn an_address_is_a_pattern()
+    ensures lawful { (address : List ℕ) → IsAddress address → IsPattern address }
+    ensures itself_alone { (address other : List ℕ) → IsAddress address → IsAddress other → (Match address other ↔ (address ≡ other)) }
+{}
+
 /// The first choice or the longest star isn't enough; a reversed range; a `-` after a range; nodes that methods share.
 pub fn examples()
     ensures choice { matches (codes "/{a,ab}c") (codes "/abc") ≡ true }

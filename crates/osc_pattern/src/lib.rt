@@ -10,8 +10,6 @@ pub mod laws;
 mod matcher;
 mod pattern;
 mod steps;
-#[cfg(test)]
-mod tests;
 
 pub use address::Address;
 pub use faults::{AddressFault, PatternFault};

@@ -6,6 +6,3 @@ pub mod laws;
 mod queue;
 
 pub use queue::{Queue, UnitsFull};
-
-#[cfg(test)]
-mod tests;

@@ -12,3 +12,4 @@ pub mod Sorting
 pub mod Ranges
 pub mod InOrder
 pub mod Leaving
+mod Refusing

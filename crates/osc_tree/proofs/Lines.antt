@@ -137,7 +137,7 @@ not_addable tree address (Taken id) there can = all_at (λ method. method.addres
 not_addable tree address (UnderMethod id) (none, (above, there, is)) can = let no : is_proper_prefix above address ≡ false = all_at (λ method. is_proper_prefix method.address address ≡ false) tree.methods id above can.apart.none_above there in cc
 not_addable tree address IsContainer (none, roof, (id, below, there, is)) can = let no : is_proper_prefix address below ≡ false = all_at (λ method. is_proper_prefix address method.address ≡ false) tree.methods id below can.apart.none_below there in cc
 not_addable tree address (MethodsFull limit) (apart, full, is) can = let room = can.method_room in omega arith
-not_addable tree address (NodesFull room) (apart, more, need, free) can = let enough = can.node_room in let wanting = room.wanting in omega arith
+not_addable tree address (NodesFull room) (apart, more, need, free, short) can = let enough = can.node_room in omega arith
 
 none_past : {X : Type 0} (test : X → Bool) (xs : List X) → length xs ≤ position_or_len test xs → list_any test xs ≡ false
 none_past test [] past = refl

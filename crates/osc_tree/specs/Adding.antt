@@ -21,15 +21,6 @@ pub record IsAddable (tree : Registry) (address : List ℕ) : Type 0 where
   pub method_room : length tree.methods < tree.method_limit
   pub node_room : new_nodes tree.methods address ≤ free_nodes tree
 
--- why an address can't be added: the first of five lines that applies, so each but the first says that none before it does
-abbrev pub IsRefused : Registry → List ℕ → TreeRefusal → Type 0
-IsRefused tree address (Taken id) = IsAt tree.methods id address
-IsRefused tree address (UnderMethod id) = NoneAt tree.methods address × IsAbove tree.methods id address
-IsRefused tree address IsContainer = NoneAt tree.methods address × NoneAbove tree.methods address × HasBelow tree.methods address
-IsRefused tree address (MethodsFull limit) = IsApart tree.methods address × (length tree.methods ≡ tree.method_limit) × (limit ≡ tree.method_limit)
-IsRefused tree address (NodesFull room) =
-    IsApart tree.methods address × (length tree.methods < tree.method_limit) × (room.need ≡ new_nodes tree.methods address) × (room.free ≡ free_nodes tree)
-
 -- the refusals as plain values; the last has the nodes that are needed and those that are free
 pub data Refusal : Type 0 where
   taken : ℕ → Refusal
@@ -45,6 +36,18 @@ refusal_of (UnderMethod id) = under_method id
 refusal_of IsContainer = is_container
 refusal_of (MethodsFull limit) = methods_full limit
 refusal_of (NodesFull room) = nodes_full room.need room.free
+
+-- why an address can't be added: the first of five lines that applies, so each but the first says that none before it does
+abbrev pub Refuses : Registry → List ℕ → Refusal → Type 0
+Refuses tree address (taken id) = IsAt tree.methods id address
+Refuses tree address (under_method id) = NoneAt tree.methods address × IsAbove tree.methods id address
+Refuses tree address is_container = NoneAt tree.methods address × NoneAbove tree.methods address × HasBelow tree.methods address
+Refuses tree address (methods_full limit) = IsApart tree.methods address × (length tree.methods ≡ tree.method_limit) × (limit ≡ tree.method_limit)
+Refuses tree address (nodes_full need free) =
+    IsApart tree.methods address × (length tree.methods < tree.method_limit) × (need ≡ new_nodes tree.methods address) × (free ≡ free_nodes tree) × (free < need)
+
+abbrev pub IsRefused : Registry → List ℕ → TreeRefusal → Type 0
+IsRefused tree address refusal = Refuses tree address (refusal_of refusal)
 
 -- the refusal for want of room, if there is one
 abbrev pub full_refusal : Registry → List ℕ → Option Refusal

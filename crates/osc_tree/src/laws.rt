@@ -1,11 +1,11 @@
 //! What the definitions say, apart from any code.
-ghost use Rattle.std.specs.Prelude.{◌≡◌, ◌+◌, ℕ, List, [], ◌∷◌, ◌++◌, None, Some, codes};
+ghost use Rattle.std.specs.Prelude.{◌≡◌, ◌↔◌, ◌+◌, ◌≤◌, ℕ, List, [], ◌∷◌, ◌++◌, length, None, Some, codes};
 ghost use Rattle.std.specs.List.Sorted.{IsPermutation};
 ghost use Rattle.osc_pattern.specs.Addresses.{IsAddress};
 ghost use Rattle.osc_pattern.specs.Methods.{Method, nodes};
 ghost use Rattle.osc_tree.specs.Registry.{Registry, IsLawful, IsNewId};
 ghost use Rattle.osc_tree.specs.Nodes.{new_nodes};
-ghost use Rattle.osc_tree.specs.Adding.{IsAddable, is_container, nodes_full, add_refusal};
+ghost use Rattle.osc_tree.specs.Adding.{IsAddable, Refusal, Refuses, is_container, nodes_full, add_refusal};
 ghost use Rattle.osc_tree.specs.Matching.{matched, matching, matching_ids, IsAscending};
 
 /// The methods that a pattern matches stand in ascending order of their addresses, and are those that match, each
@@ -24,6 +24,14 @@ pub fn an_address_adds_its_new_nodes()
 /// An address that can be added, with a new id, leaves a tree as lawful as it was.
 pub fn an_added_method_is_lawful()
     ensures { (tree : Registry) (id : ℕ) (address : List ℕ) → IsLawful tree → IsNewId tree.methods id → IsAddress address → IsAddable tree address → IsLawful (record tree { methods = tree.methods ++ record { id = id; address = address } ∷ [] }) }
+{}
+
+/// An address is refused by the first of the five lines that applies, and by none where it can be added.
+pub fn an_address_is_refused_by_the_first_line()
+    ensures refused { (tree : Registry) (address : List ℕ) (refusal : Refusal) → length tree.methods ≤ tree.method_limit →
+        add_refusal tree address ≡ Some refusal → Refuses tree address refusal }
+    ensures added { (tree : Registry) (address : List ℕ) → length tree.methods ≤ tree.method_limit →
+        (add_refusal tree address ≡ None) ↔ IsAddable tree address }
 {}
 
 /// Methods in the order of their bytes and not of their names; a node that two addresses share; a container.

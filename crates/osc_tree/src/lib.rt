@@ -18,6 +18,3 @@ mod tree;
 pub use hits::Hits;
 pub use refusals::{NotThere, TreeRefusal};
 pub use tree::Tree;
-
-#[cfg(test)]
-mod tests;

@@ -33,6 +33,10 @@ added ran = if ran then 1 else 0
 abbrev pub FindsFree : Bool → View → View → Type 0
 FindsFree ran v w = (more : List ℕ) × (word : ℕ) × (w.words ≡ v.words ++ more ++ word ∷ []) × (word % 2 ≡ 0) × (length w.seen ≡ word / 2 + added ran)
 
+-- two words were found and no other: an even one, and at taking the turn the same
+abbrev pub FindsTwice : View → View → Type 0
+FindsTwice v w = (word : ℕ) × (w.words ≡ v.words ++ word ∷ word ∷ []) × (word % 2 ≡ 0)
+
 -- the pass's own entries are the earlier ones
 abbrev pub KeepsOwn : View → View → Type 0
 KeepsOwn v w = own (number_of v) w.seen ≡ own (number_of v) v.seen

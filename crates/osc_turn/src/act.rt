@@ -2,7 +2,7 @@
 ghost use Rattle.std.specs.Prelude.{◌≡◌, ℕ, ◌/◌, List, [], ◌∷◌, ◌++◌, length};
 ghost use Rattle.osc_turn.specs.History.{StartsWith, texts};
 ghost use Rattle.osc_turn.specs.Passes.{view, IsPassOf};
-ghost use Rattle.osc_turn.specs.Answers.{IfDone, IfBusy, TakesOnce, TakesNone, FindsFree, FindsTaken, AddsOwn, KeepsOwn, Ran};
+ghost use Rattle.osc_turn.specs.Answers.{IfDone, IfBusy, TakesOnce, TakesNone, FindsFree, FindsTwice, FindsTaken, AddsOwn, KeepsOwn, Ran};
 
 use crate::job::{Job, Kept};
 use crate::pass::Pass;
@@ -45,6 +45,7 @@ impl<S: Kept> Turn<S> {
         ensures seen { StartsWith (view result.0).seen (view pass).seen }
         ensures once { IfDone result.1 (λ _. TakesOnce (view pass) (view result.0)) }
         ensures counted { IfDone result.1 (λ ran. FindsFree ran (view pass) (view result.0)) }
+        ensures words { IfDone result.1 (λ _. FindsTwice (view pass) (view result.0)) }
         ensures entries { IfDone result.1 (λ ran. AddsOwn ran (view pass) (view result.0)) }
         ensures ran { IfDone result.1 (λ ran. Ran J.did job.old job.new ran (view pass) (view result.0)) }
         ensures not_run { IfBusy result.1 (λ _. job.new ≡ job.old) }

@@ -47,6 +47,19 @@ impl<S: Kept> Turn<S> {
         value
     }
 
+    /// The number of passes that were made, which the first pass knows.
+    pub fn made(&self, pass: Pass) -> (Pass, u32)
+        requires ours { IsPassOf self.now pass }
+        requires first { number_of (view pass) ≡ 0 }
+        ensures ours { IsPassOf self.now result.0 }
+        ensures same { view result.0 ≡ view pass }
+        ensures made { result.1 ≡ (view pass).made }
+    {
+        let mut seat = pass.into_seat::<S>();
+        let made = self.count(&mut seat) as u32;
+        (Pass::of(seat), made)
+    }
+
     /// Gives the value out where all passes that were made are handed in, the first pass in the first place.
     pub fn close(self, mut passes: Vec<Pass>) -> Result<S, StillOut<S>>
         requires ours { All (IsPassOf self) passes.items }

@@ -12,8 +12,6 @@ mod pass;
 mod plays;
 mod seating;
 mod still_out;
-#[cfg(test)]
-mod tests;
 mod tried;
 mod turn;
 mod view;

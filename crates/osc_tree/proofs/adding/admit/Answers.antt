@@ -90,7 +90,7 @@ returns-then-free-need-clause-refused c =
     let room : length methods < c.args.method_limit = omega arith in
     let need : new_nodes methods c.args.address.now ≡ c.new_nodes-need.result = sym c.new_nodes-need.ensures in
     let free : free_nodes tree ≡ c.args.node_limit - c.args.node_count = ap (λ (n : ℕ). c.args.node_limit - n) (sym c.requires.counted) in
-    (apart_is tree c.args.address.now apart, room, omega (arith, c.new.ensures.need), omega (arith, c.new.ensures.free))
+    (apart_is tree c.args.address.now apart, room, omega (arith, c.new.ensures.need), omega (arith, c.new.ensures.free), c.new.result.wanting)
 
 pub returns-then-free-need-clause-read : goal.returns-then-free-need-clause-read
 returns-then-free-need-clause-read c =

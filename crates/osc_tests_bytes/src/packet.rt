@@ -1,0 +1,142 @@
+// Vectors of packets, each with its first fault or the number of its units.
+ghost use Rattle.std.specs.Prelude.{◌≤◌};
+
+use osc_atoms::{Fault, put_string, put_tag, put_word};
+use osc_packet::Packet;
+use std::alloc::{AllocError, Global};
+
+/// A bundle of `/a`, a bundle of `/b`, and `/c`, both tags 2.
+const MIXED: &[u8; 60] =
+    b"#bundle\0\0\0\0\0\0\0\0\x02\0\0\0\x04/a\0\0\0\0\0\x18#bundle\0\0\0\0\0\0\0\0\x02\0\0\0\x04/b\0\0\0\0\0\x04/c\0\0";
+
+/// The number of units, or the first fault.
+fn told(bytes: &[u8]) -> Result<u32, Fault> {
+    Ok(Packet::check(bytes, 65_504)?.count())
+}
+
+fn fault(kind: u8, at: u32) -> Result<u32, Fault> {
+    Err(Fault { kind, at })
+}
+
+/// So many bundles, each the only element of the one before, all with tag 1.
+fn nested(alloc: Global, depth: u32) -> Result<Vec<u8>, AllocError>
+    requires { depth ≤ 17 }
+{
+    let mut out = Vec::new(alloc);
+    for left in (1..depth).rev() {
+        put_string(&mut out, b"#bundle")?;
+        put_tag(&mut out, 1)?;
+        put_word(&mut out, 20 * left - 4)?;
+    }
+    put_string(&mut out, b"#bundle")?;
+    put_tag(&mut out, 1)?;
+    Ok(out)
+}
+
+#[test]
+fn each_vector_has_its_first_fault_or_its_units(rt: HostRuntime) -> Result<(), AllocError> {
+    let rows: [(&[u8], Result<u32, Fault>); 22] = [
+        (b"", fault(1, 0)),
+        (&[0; 30], fault(2, 30)),
+        (b"ab\0\0", fault(4, 0)),
+        (b"#bundle\x01", fault(5, 0)),
+        (b"#bundle\0\0\0\0\0", fault(6, 8)),
+        (
+            b"#bundle\0\0\0\0\0\0\0\0\x01\0\0\0\x06/a\0\0\0\0\0\0",
+            fault(7, 16),
+        ),
+        (b"#bundle\0\0\0\0\0\0\0\0\x01\0\0\0\0", fault(7, 16)),
+        (b"/abc", fault(8, 0)),
+        (b"/a\0\0,s\0\0", fault(8, 8)),
+        (b"/a\0\x01", fault(9, 3)),
+        (b"/a\0\0\0\0\0\x01", fault(12, 4)),
+        (b"/a\0\0,b\0\0\0\0\0\x05\0\0\0\0", fault(13, 8)),
+        (b"/a\0\0,i\0\0", fault(14, 8)),
+        (b"/a\0\0,]\0\0", fault(15, 5)),
+        (b"/a\0\0,[\0\0", fault(15, 5)),
+        (b"/a\0\0,i\0\0\0\0\0\x01\0\0\0\x02", fault(16, 12)),
+        (
+            b"#bundle\0\0\0\0\0\0\0\0\x03\0\0\0\x04/a\0\0\0\0\0\x18#bundle\0\0\0\0\0\0\0\0\x02\0\0\0\x04/b\0\0\0\0\0\x04/c\0\0",
+            fault(18, 36),
+        ),
+        (b"/a\0\0,x]\0abcd", Ok(1)),
+        (MIXED, Ok(2)),
+        (
+            b"#bundle\0\0\0\0\0\0\0\0\x01\0\0\0\x08/a\0\0,x\0\0\0\0\0\x0c/a\0\0,i\0\0\0\0\0\x01",
+            Ok(1),
+        ),
+        (b"#bundle\0\0\0\0\0\0\0\0\x01", Ok(1)),
+        (
+            b"#bundle\0\0\0\0\0\0\0\0\x01\xff\xff\xff\xfc/a\0\0",
+            fault(7, 16),
+        ),
+    ];
+    for (bytes, wanted) in rows {
+        assert_eq!(rt; told(bytes), wanted);
+    }
+    let long = vec![in rt.alloc(); 0; 65_508]?;
+    assert_eq!(rt; told(&long), fault(3, 65_504));
+    assert_eq!(rt; told(&nested(rt.alloc(), 17)?), fault(17, 320));
+    assert_eq!(rt; told(&nested(rt.alloc(), 16)?), Ok(16));
+    Ok(())
+}
+
+#[test]
+fn a_packet_that_is_cut_off_is_read_to_the_cut(rt: HostRuntime) {
+    for size in 0..60 {
+        let wanted = match size {
+            0 => fault(1, 0),
+            4 => fault(5, 0),
+            8 | 12 => fault(6, 8),
+            16 | 24 => Ok(1),
+            20 => fault(7, 16),
+            28 | 32 | 36 | 40 | 44 | 48 => fault(7, 24),
+            52 => Ok(2),
+            56 => fault(7, 52),
+            _ => fault(2, size),
+        };
+        assert_eq!(rt; told(&MIXED[..size as usize]), wanted);
+    }
+}
+
+#[test]
+fn units_stand_outer_first_with_their_own_messages(rt: HostRuntime) {
+    let wanted: [(u64, u32, u32, &[&[u8]]); 2] = [
+        (2, 2, 16, &[b"/a\0\0", b"/c\0\0"]),
+        (2, 1, 8, &[b"/b\0\0"]),
+    ];
+    let packet = Packet::check(MIXED, 65_504).expect(&rt, "more");
+    let mut units = packet.units();
+    for (tag, count, stored, messages) in wanted {
+        let unit = units.next().expect(&rt, "more");
+        assert_eq!(rt;
+            (unit.tag(), unit.count(), unit.stored()),
+            (tag, count, stored)
+        );
+        let mut left = unit.messages();
+        for message in messages {
+            assert_eq!(rt; left.next().expect(&rt, "more").bytes(), *message);
+        }
+        assert!(rt; left.next().is_none());
+    }
+    assert!(rt; units.next().is_none());
+}
+
+#[test]
+fn a_message_alone_is_a_unit_of_tag_1(rt: HostRuntime) {
+    let packet = Packet::check(b"/a\0\0", 65_504).expect(&rt, "a message");
+    let unit = packet.units().next().expect(&rt, "a unit");
+    assert_eq!(rt; (unit.tag(), unit.count(), unit.stored()), (1, 1, 8));
+}
+
+#[test]
+fn units_stand_in_the_order_of_the_bytes(rt: HostRuntime) {
+    let bytes =
+        b"#bundle\0\0\0\0\0\0\0\0\x01\0\0\0\x24#bundle\0\0\0\0\0\0\0\0\x02\0\0\0\x10#bundle\0\0\0\0\0\0\0\0\x01\0\0\0\x10#bundle\0\0\0\0\0\0\0\0\x03";
+    let packet = Packet::check(bytes, 65_504).expect(&rt, "a packet");
+    let mut units = packet.units();
+    for tag in [1, 2, 2, 3] {
+        assert_eq!(rt; units.next().expect(&rt, "more").tag(), tag);
+    }
+    assert!(rt; units.next().is_none());
+}

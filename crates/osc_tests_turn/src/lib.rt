@@ -1,0 +1,5 @@
+//! Tests of the turn that callers share.
+#![tactic(auto)]
+
+#[cfg(test)]
+mod turn;
