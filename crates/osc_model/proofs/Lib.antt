@@ -21,3 +21,4 @@ pub mod Blocks
 pub mod Sizes
 pub mod Fitting
 pub mod Recordable
+pub mod Callers

@@ -1,6 +1,7 @@
 pub mod Limits
 pub mod State
 pub mod Counts
+pub mod Enrolled
 pub mod Events
 pub mod Recordings
 pub mod Step

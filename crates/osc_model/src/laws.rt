@@ -15,6 +15,7 @@ ghost use Rattle.osc_model.specs.State.{State, Queued, AreNumbered, opening};
 ghost use Rattle.osc_model.specs.Counts.{blocks_of, queued_blocks, free_bytes};
 ghost use Rattle.osc_model.specs.Recordings.{IsRecordable, entry_size, record_text};
 ghost use Rattle.osc_model.specs.Events.{Event, submit, add, remove, release, tick, enrol, added, removed, record_full, adds_entry, number, callers_full, units_full, pool_full, ticked, clock_back, Invocation, Entry};
+ghost use Rattle.osc_model.specs.Enrolled.{callers_in};
 ghost use Rattle.osc_model.specs.Step.{step, decided, leaves, waiting, numbered, enter_all};
 ghost use Rattle.osc_model.specs.Releases.{ReleasesLeast, InvokesRegistered};
 ghost use Rattle.osc_model.specs.Refusals.{IsRefusal};
@@ -199,6 +200,16 @@ pub fn a_method_is_called_while_it_is_registered()
     an_id_is_given_once();
     invocations_are_of_registered_methods();
 }
+
+/// As many callers are enrolled as the history says, and no entry makes them fewer. A new caller has the last number.
+pub fn callers_are_counted()
+    ensures after { (caps : Limits) (history : List Entry) → Legal caps history → (after (opening caps) history).callers ≡ callers_in history }
+    ensures grows { (history more : List Entry) → callers_in history ≤ callers_in (history ++ more) }
+    ensures never_fall { (state : State) (history : List Entry) →
+        state.callers ≤ (after state history).callers }
+    ensures enrolled { (caps : Limits) (history : List Entry) (caller n : ℕ) → Legal caps (history ++ record { caller = caller; event = enrol; answer = number n } ∷ []) →
+        (1 ≤ n) × (callers_in (history ++ record { caller = caller; event = enrol; answer = number n } ∷ []) ≡ n + 1) }
+{}
 
 /// The clock never goes back, and stands where a tick before it left it; callers are numbered up to their limit; a message
 /// alone is queued where there is a place for it and blocks for its bytes, of which 64 take two.

@@ -1,5 +1,5 @@
 -- The words of printed lines.
-use Rattle.std.specs.Prelude.{ℕ, Bool, not, ◌&&◌, ◌==◌, nat_le, if◌then◌else◌, List, [], ◌∷◌, ◌++◌, Option, Some, None, codes}
+use Rattle.std.specs.Prelude.{◌≡◌, ℕ, Bool, not, ◌&&◌, ◌==◌, nat_le, if◌then◌else◌, List, [], ◌∷◌, ◌++◌, Option, Some, None, codes}
 use Rattle.std.specs.List.{flat_map}
 use Rattle.std.specs.Fmt.{signed_decimal}
 use Rattle.hex.specs.Hex.{encode_lower}
@@ -43,3 +43,7 @@ argument_word array_end = codes "]"
 abbrev pub tags_word : Option (List ℕ) → List ℕ
 tags_word None = codes "-"
 tags_word (Some tags) = 44 ∷ tags
+
+-- a text begins with an earlier one
+abbrev pub BeginsWith : List ℕ → List ℕ → Type 0
+BeginsWith bytes earlier = (more : List ℕ) × (bytes ≡ earlier ++ more)

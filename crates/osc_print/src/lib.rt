@@ -12,6 +12,3 @@ pub use call::call_line;
 pub use entry::entry_line;
 pub use fault::fault_line;
 pub use text::Text;
-
-#[cfg(test)]
-mod tests;

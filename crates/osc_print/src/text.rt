@@ -1,7 +1,7 @@
 // Text, word by word.
 ghost use Rattle.std.specs.Prelude.{◌≡◌, ◌++◌, ◌∷◌, [], OnOk, OnErr};
 ghost use Rattle.std.specs.Fmt.{decimal};
-ghost use Rattle.osc_print.specs.Words.{spaced};
+ghost use Rattle.osc_print.specs.Words.{spaced, BeginsWith};
 
 use std::alloc::{AllocError, Global};
 use std::marker::Model;
@@ -60,7 +60,8 @@ impl Text {
 
     /// Adds a space and the bytes. After an `Err` the space may stand.
     pub fn space_word(&mut self, word: &[u8]) -> Result<(), AllocError>
-        ensures { OnOk result (self.new ≡ self.old ++ spaced word.now) }
+        ensures ok { OnOk result (self.new ≡ self.old ++ spaced word.now) }
+        ensures err { OnErr result (BeginsWith self.new self.old) }
     {
         self.word(b" ")?;
         self.word(word)
@@ -68,7 +69,8 @@ impl Text {
 
     /// Adds a space and the number in decimal. After an `Err` the space may stand.
     pub fn space_number(&mut self, number: u64) -> Result<(), AllocError>
-        ensures { OnOk result (self.new ≡ self.old ++ spaced (decimal number)) }
+        ensures ok { OnOk result (self.new ≡ self.old ++ spaced (decimal number)) }
+        ensures err { OnErr result (BeginsWith self.new self.old) }
     {
         let digits = number.to_string(self.alloc)?;
         self.space_word(digits.as_bytes())

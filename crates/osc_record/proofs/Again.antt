@@ -11,7 +11,7 @@ use Rattle.osc_message.proofs.MessageLaws.{text_fours, text_some}
 use Rattle.osc_model.specs.Events.{Event, Answer}
 use Rattle.osc_model.specs.Events.{Entry as Recorded}
 use Rattle.osc_model.specs.Recordings.{Row, row_of, row_text, sized, entry_text, FitsRow, IsRecordable}
-use Rattle.osc_record.specs.Reading.{entry_of, bytes_of_size, message_first, entry_first, Placed, onto_read, before_read, entries_read}
+use Rattle.osc_record.specs.Reading.{entry_of, bytes_of_size, message_first, entry_in, entry_first, Placed, onto_read, before_read, entries_read}
 use Rattle.osc_record.proofs.Lawful.{LawfulRow, ReadAs, row_lawful, row_again, entry_again}
 
 pub take_front : (front back : List ℕ) → take (length front) (front ++ back) ≡ front
@@ -164,3 +164,22 @@ entries_more (suc most) (suc more) limit place (byte ∷ bytes) next xs entry re
           ∙ ap (λ l. onto_read (record { at = place; entry = head.0 }) (entries_read more limit (place + head.1) l)) (drop-append-le head.1 (byte ∷ bytes) next size)
           ∙ ap (onto_read (record { at = place; entry = head.0 })) (again head.1 ys rest (subst (λ (p : ℕ). entry_first limit p next ≡ Some (entry, length next)) (sym same) first))
           ∙ (λ i. Ok (all i ++ record { at = same i; entry = entry } ∷ []))
+
+-- the first entry is the one that the bytes begin with
+first_in : (limit place : ℕ) (bytes : List ℕ) (first : Recorded × ℕ) → entry_first limit place bytes ≡ Some first → entry_in bytes ≡ Some first.0
+first_in limit place bytes first is = go (message_first bytes) refl is where
+  go : (o : Option (List ℕ)) → message_first bytes ≡ o → option_and_then (λ m. if nat_le (place + 4 + length m) limit then option_map (λ entry. (entry, 4 + length m)) (entry_of m) else None) o ≡ Some first → entry_in bytes ≡ Some first.0
+  go None found read = absurd (none_some first read)
+  go (Some message) found read =
+      let inner = cond_gives (nat_le (place + 4 + length message) limit) (option_map (λ entry. (entry, 4 + length message)) (entry_of message)) first read in
+      ap (option_and_then entry_of) found ∙ by (entry_of message) inner.1
+    where
+      by : (o : Option Recorded) → option_map (λ entry. (entry, 4 + length message)) o ≡ Some first → o ≡ Some first.0
+      by None e = absurd (none_some first e)
+      by (Some entry) e = ap (λ (p : Recorded × ℕ). Some p.0) (some_is (entry, 4 + length message) first e)
+
+pub entry_in_again : (caller : ℕ) (event : Event) (answer : Answer) (rest : List ℕ) → IsRecordable caller event answer → length (entry_text caller event answer) ≤ 1073741824
+    → entry_in (entry_text caller event answer ++ rest) ≡ Some (record { caller = caller; event = event; answer = answer })
+entry_in_again caller event answer rest is small =
+    first_in 1073741824 0 (entry_text caller event answer ++ rest) (record { caller = caller; event = event; answer = answer }, length (entry_text caller event answer))
+    (entry_first_again caller event answer rest 1073741824 0 is (omega arith) (omega arith))

@@ -11,3 +11,4 @@ pub mod RowsRead
 pub mod EntriesRead
 pub mod Stops
 pub mod Hits
+pub mod Apart

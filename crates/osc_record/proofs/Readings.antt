@@ -1,5 +1,5 @@
 -- A recording that is written is read again, so no two have one text.
-use Rattle.std.proofs.Common.{◌≡◌, ℕ, ◌+◌, ◌<◌, ◌≤◌, true, ◌&&◌, zero, suc, List, [], ◌∷◌, ◌++◌, length, drop, map, Some, None, Ok, Err, Result, refl, sym, ap, ◌∙◌, arith, length-append, codes, le-leb}
+use Rattle.std.proofs.Common.{◌≡◌, ℕ, ◌+◌, ◌<◌, ◌≤◌, true, ◌&&◌, zero, suc, List, [], ◌∷◌, ◌++◌, length, drop, map, Option, Some, None, Ok, Err, Result, refl, sym, ap, ◌∙◌, arith, length-append, codes, le-leb}
 use Rattle.std.specs.Prelude.{option_and_then, is_ok, is_none, if◌then◌else◌}
 use Rattle.std.specs.List.{flat_map, AllByRecursion}
 use Rattle.std.specs.Str.{bytes_eq}
@@ -99,3 +99,9 @@ texts_differ limits other entries others one two same =
   where
     value_is : (x y : Limits × List Placed) → ◌≡◌ {A = Result (Limits × List Placed) ℕ} (Ok x) (Ok y) → x ≡ y
     value_is x y e = cc
+
+-- so no two limits have one header
+pub headers_differ : (limits other : Limits) → AreInRange limits → AreInRange other → header_text limits ≡ header_text other → limits ≡ other
+headers_differ limits other one two same = value_is (sym (header_again limits [] one) ∙ ap (λ (bytes : List ℕ). header_read (bytes ++ [])) same ∙ header_again other [] two) where
+  value_is : ◌≡◌ {A = Option Limits} (Some limits) (Some other) → limits ≡ other
+  value_is e = cc

@@ -173,6 +173,10 @@ entry_first limit place bytes =
     if nat_le (place + 4 + length message) limit then option_map (λ entry. (entry, 4 + length message)) (entry_of message) else None)
     (message_first bytes)
 
+-- the entry that bytes begin with, whatever follows it
+abbrev pub entry_in : List ℕ → Option Recorded
+entry_in bytes = option_and_then entry_of (message_first bytes)
+
 -- an entry at its place
 pub record Placed : Type 0 where
   pub at : ℕ

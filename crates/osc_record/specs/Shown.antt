@@ -1,5 +1,5 @@
 -- What events and answers of the code stand for.
-use Rattle.std.specs.Prelude.{◌≡◌, ◌%◌, List, length, map}
+use Rattle.std.specs.Prelude.{◌≡◌, ℕ, ◌%◌, List, [], length, map}
 use Rattle.osc_atoms.specs.declared.room.Room.{Room as RoomOf}
 use Rattle.osc_message.specs.declared.argument.Arg.{Arg}
 use Rattle.osc_message.specs.Messages.{Argument}
@@ -47,10 +47,14 @@ answer_of Ticked = ticked
 answer_of (ClockBack kept) = clock_back kept
 answer_of (Released unit hits) = released unit (hits_in hits.now)
 
--- the bytes of a release's hits are eights
+-- the bytes in which the hits of a release stand
+abbrev pub hit_bytes : Answer → List ℕ
+hit_bytes (Released unit hits) = hits.now
+hit_bytes _ = []
+
+-- they are eights
 abbrev pub HasWholeHits : Answer → Type 0
-HasWholeHits (Released unit hits) = length hits.now % 8 ≡ 0
-HasWholeHits _ = Unit {0}
+HasWholeHits answer = length (hit_bytes answer) % 8 ≡ 0
 
 -- the arguments of a message
 abbrev pub listed : List Arg → List Argument

@@ -1,13 +1,14 @@
 // What an answer's code and numbers stand for.
-ghost use Rattle.std.specs.Prelude.{◌≡◌, ℤ, option_map};
+ghost use Rattle.std.specs.Prelude.{◌≡◌, ℤ, option_map, IfSome};
 ghost use Rattle.osc_record.specs.Reading;
-ghost use Rattle.osc_record.specs.Shown.{answer_of};
+ghost use Rattle.osc_record.specs.Shown.{answer_of, HasWholeHits};
 
 use crate::event::Answer;
 use osc_atoms::Room;
 
 pub(crate) fn enrol_answer(answer: i32) -> Option<Answer<'static>>
-    ensures { option_map answer_of result ≡ Reading.enrol_answer answer }
+    ensures value { option_map answer_of result ≡ Reading.enrol_answer answer }
+    ensures whole { IfSome result HasWholeHits }
 {
     if answer >= 0 {
         Some(Answer::Number(answer as u32))
@@ -19,7 +20,8 @@ pub(crate) fn enrol_answer(answer: i32) -> Option<Answer<'static>>
 }
 
 pub(crate) fn submit_answer(code: u32, first: u64, second: u32) -> Option<Answer<'static>>
-    ensures { option_map answer_of result ≡ Reading.submit_answer code first second }
+    ensures value { option_map answer_of result ≡ Reading.submit_answer code first second }
+    ensures whole { IfSome result HasWholeHits }
 {
     let need = first;
     let free = second as u64;
@@ -35,7 +37,8 @@ pub(crate) fn submit_answer(code: u32, first: u64, second: u32) -> Option<Answer
 }
 
 pub(crate) fn add_answer(code: u32, first: u32, second: u32) -> Option<Answer<'static>>
-    ensures { option_map answer_of result ≡ Reading.add_answer code first second }
+    ensures value { option_map answer_of result ≡ Reading.add_answer code first second }
+    ensures whole { IfSome result HasWholeHits }
 {
     match code {
         0 if second == 0 => Some(Answer::Added(first)),
@@ -49,7 +52,8 @@ pub(crate) fn add_answer(code: u32, first: u32, second: u32) -> Option<Answer<'s
 }
 
 pub(crate) fn remove_answer(code: u32, id: u32) -> Option<Answer<'static>>
-    ensures { option_map answer_of result ≡ Reading.remove_answer code id }
+    ensures value { option_map answer_of result ≡ Reading.remove_answer code id }
+    ensures whole { IfSome result HasWholeHits }
 {
     match code {
         0 => Some(Answer::Removed(id)),
@@ -59,7 +63,8 @@ pub(crate) fn remove_answer(code: u32, id: u32) -> Option<Answer<'static>>
 }
 
 pub(crate) fn tick_answer(moment: u64, code: u32, clock: u64) -> Option<Answer<'static>>
-    ensures { option_map answer_of result ≡ Reading.tick_answer moment code clock }
+    ensures value { option_map answer_of result ≡ Reading.tick_answer moment code clock }
+    ensures whole { IfSome result HasWholeHits }
 {
     match code {
         0 if clock == moment => Some(Answer::Ticked),
@@ -69,7 +74,8 @@ pub(crate) fn tick_answer(moment: u64, code: u32, clock: u64) -> Option<Answer<'
 }
 
 pub(crate) fn release_answer<'a>(unit: u64, hits: &'a [u8]) -> Option<Answer<'a>>
-    ensures { option_map answer_of result ≡ Reading.release_answer unit hits.now }
+    ensures value { option_map answer_of result ≡ Reading.release_answer unit hits.now }
+    ensures whole { IfSome result HasWholeHits }
 {
     if hits.len() % 8 == 0 {
         Some(Answer::Released { unit, hits })

@@ -1,8 +1,8 @@
 // Entries, read from the messages that they are.
-ghost use Rattle.std.specs.Prelude.{◌≡◌, option_map};
+ghost use Rattle.std.specs.Prelude.{◌≡◌, option_map, IfSome};
 ghost use Rattle.osc_message.specs.Left.{left};
 ghost use Rattle.osc_record.specs.Reading.{enrol_read, submit_read, add_read, remove_read, tick_read, release_read, row_read, entry_of};
-ghost use Rattle.osc_record.specs.Shown.{parts_of};
+ghost use Rattle.osc_record.specs.Shown.{parts_of, HasWholeHits};
 
 use crate::answers::{
     add_answer, enrol_answer, release_answer, remove_answer, submit_answer, tick_answer,
@@ -14,7 +14,8 @@ use osc_message::{Args, Message};
 
 /// The entry that the message is.
 pub(crate) fn read_message(bytes: &[u8]) -> Option<Parts<'_>>
-    ensures { option_map parts_of result ≡ entry_of bytes.now }
+    ensures value { option_map parts_of result ≡ entry_of bytes.now }
+    ensures whole { IfSome result (λ parts. HasWholeHits parts.answer) }
 {
     match Message::check(bytes, 1073741824) {
         Ok(message) => read_row(message.pattern().bytes(), message.args()),
@@ -24,7 +25,8 @@ pub(crate) fn read_message(bytes: &[u8]) -> Option<Parts<'_>>
 
 /// The entry of a message to the address with these arguments.
 fn read_row<'a>(address: &[u8], args: Args<'a>) -> Option<Parts<'a>>
-    ensures { option_map parts_of result ≡ row_read address.now (left args.entry) }
+    ensures value { option_map parts_of result ≡ row_read address.now (left args.entry) }
+    ensures whole { IfSome result (λ parts. HasWholeHits parts.answer) }
 {
     if address == b"/osc/enrol".as_slice() {
         read_enrol(args)
@@ -44,7 +46,8 @@ fn read_row<'a>(address: &[u8], args: Args<'a>) -> Option<Parts<'a>>
 }
 
 fn read_enrol<'a>(mut args: Args<'a>) -> Option<Parts<'a>>
-    ensures { option_map parts_of result ≡ enrol_read (left args.entry) }
+    ensures value { option_map parts_of result ≡ enrol_read (left args.entry) }
+    ensures whole { IfSome result (λ parts. HasWholeHits parts.answer) }
 {
     let caller = next_int(&mut args)?;
     let number = next_signed(&mut args)?;
@@ -60,7 +63,8 @@ fn read_enrol<'a>(mut args: Args<'a>) -> Option<Parts<'a>>
 }
 
 fn read_submit<'a>(mut args: Args<'a>) -> Option<Parts<'a>>
-    ensures { option_map parts_of result ≡ submit_read (left args.entry) }
+    ensures value { option_map parts_of result ≡ submit_read (left args.entry) }
+    ensures whole { IfSome result (λ parts. HasWholeHits parts.answer) }
 {
     let caller = next_int(&mut args)?;
     let packet = next_blob(&mut args)?;
@@ -79,7 +83,8 @@ fn read_submit<'a>(mut args: Args<'a>) -> Option<Parts<'a>>
 }
 
 fn read_add<'a>(mut args: Args<'a>) -> Option<Parts<'a>>
-    ensures { option_map parts_of result ≡ add_read (left args.entry) }
+    ensures value { option_map parts_of result ≡ add_read (left args.entry) }
+    ensures whole { IfSome result (λ parts. HasWholeHits parts.answer) }
 {
     let caller = next_int(&mut args)?;
     let address = next_text(&mut args)?;
@@ -98,7 +103,8 @@ fn read_add<'a>(mut args: Args<'a>) -> Option<Parts<'a>>
 }
 
 fn read_remove<'a>(mut args: Args<'a>) -> Option<Parts<'a>>
-    ensures { option_map parts_of result ≡ remove_read (left args.entry) }
+    ensures value { option_map parts_of result ≡ remove_read (left args.entry) }
+    ensures whole { IfSome result (λ parts. HasWholeHits parts.answer) }
 {
     let caller = next_int(&mut args)?;
     let address = next_text(&mut args)?;
@@ -116,7 +122,8 @@ fn read_remove<'a>(mut args: Args<'a>) -> Option<Parts<'a>>
 }
 
 fn read_tick<'a>(mut args: Args<'a>) -> Option<Parts<'a>>
-    ensures { option_map parts_of result ≡ tick_read (left args.entry) }
+    ensures value { option_map parts_of result ≡ tick_read (left args.entry) }
+    ensures whole { IfSome result (λ parts. HasWholeHits parts.answer) }
 {
     let caller = next_int(&mut args)?;
     let moment = next_time(&mut args)?;
@@ -134,7 +141,8 @@ fn read_tick<'a>(mut args: Args<'a>) -> Option<Parts<'a>>
 }
 
 fn read_release<'a>(mut args: Args<'a>) -> Option<Parts<'a>>
-    ensures { option_map parts_of result ≡ release_read (left args.entry) }
+    ensures value { option_map parts_of result ≡ release_read (left args.entry) }
+    ensures whole { IfSome result (λ parts. HasWholeHits parts.answer) }
 {
     let caller = next_int(&mut args)?;
     let unit = next_long(&mut args)?;

@@ -1,4 +1,5 @@
 // Events, their answers, and entries of the two.
+ghost use Rattle.osc_record.specs.Shown.{HasWholeHits};
 
 use osc_atoms::Room;
 
@@ -54,4 +55,5 @@ pub struct Entry<'a> {
     pub caller: u32,
     pub event: Event<'a>,
     pub answer: Answer<'a>,
+    pub ghost whole: { HasWholeHits answer },
 }

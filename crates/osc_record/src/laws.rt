@@ -1,10 +1,11 @@
 //! What the definitions of recordings say of each other. These functions do nothing; their contracts are the laws.
-ghost use Rattle.std.specs.Prelude.{◌≡◌, ℕ, List, [], ◌∷◌, ◌++◌, length, codes, Ok};
+ghost use Rattle.std.specs.Prelude.{◌≡◌, ℕ, ◌%◌, ◌≤◌, List, [], ◌∷◌, ◌++◌, length, codes, Ok, Some};
+ghost use Rattle.osc_atoms.specs.Atoms.{AreBytes};
 ghost use Rattle.osc_model.specs.Events.{Event, Answer, tick, ticked};
-ghost use Rattle.osc_model.specs.Limits.{Limits};
+ghost use Rattle.osc_model.specs.Limits.{Limits, AreInRange};
 ghost use Rattle.osc_model.specs.Events.{Entry as Recorded};
-ghost use Rattle.osc_model.specs.Recordings.{FitsRow, row_of, entry_size, entry_text, header_text, record_text};
-ghost use Rattle.osc_record.specs.Reading.{record_read, placed_from, IsRecord};
+ghost use Rattle.osc_model.specs.Recordings.{IsRecordable, FitsRow, row_of, entry_size, entry_text, hits_text, hits_in, header_text, record_text};
+ghost use Rattle.osc_record.specs.Reading.{entry_in, record_read, placed_from, IsRecord};
 
 /// A recording that is written is read again: its limits, and its entries, each at its place.
 pub fn written_is_read_again()
@@ -16,10 +17,43 @@ pub fn texts_differ()
     ensures { (limits other : Limits) (entries others : List Recorded) → IsRecord limits entries → IsRecord other others → record_text limits entries ≡ record_text other others → (limits ≡ other) × (entries ≡ others) }
 {}
 
+/// An entry that is written is read again, whatever follows it.
+pub fn a_written_entry_is_read_again()
+    ensures { (caller : ℕ) (event : Event) (answer : Answer) (rest : List ℕ) → IsRecordable caller event answer → length (entry_text caller event answer) ≤ 1073741824 →
+        entry_in (entry_text caller event answer ++ rest) ≡ Some (record { caller = caller; event = event; answer = answer }) }
+{}
+
+/// Each entry has its own text: no two entries have one, and no entry's text is a proper front of another's.
+pub fn entries_have_their_own_texts()
+    ensures same { (one other : Recorded) →
+        IsRecordable one.caller one.event one.answer →
+        IsRecordable other.caller other.event other.answer →
+        entry_text one.caller one.event one.answer ≡
+        entry_text other.caller other.event other.answer →
+        one ≡ other }
+    ensures no_front { (one other : Recorded) (rest : List ℕ) →
+        IsRecordable one.caller one.event one.answer →
+        IsRecordable other.caller other.event other.answer →
+        entry_text one.caller one.event one.answer ≡
+        entry_text other.caller other.event other.answer ++ rest →
+        rest ≡ [] }
+{}
+
+/// No two limits have one header.
+pub fn headers_differ()
+    ensures { (limits other : Limits) → AreInRange limits → AreInRange other → header_text limits ≡ header_text other → limits ≡ other }
+{}
+
 /// How many bytes an entry has, whatever it is answered: but a release's size counts its hits.
 pub fn sizes()
     ensures header { (limits : Limits) → length (header_text limits) ≡ 56 }
     ensures entry { (caller : ℕ) (event : Event) (answer : Answer) → FitsRow (row_of caller event answer) → length (entry_text caller event answer) ≡ entry_size event answer }
+{}
+
+/// Bytes that are eights are the text of the hits that stand in them.
+pub fn whole_hits_are_their_bytes()
+    ensures { (bytes : List ℕ) → AreBytes bytes → length bytes % 8 ≡ 0 →
+        hits_text (hits_in bytes) ≡ bytes }
 {}
 
 /// A header and an entry, byte by byte.

@@ -16,8 +16,6 @@ mod recorder;
 mod rows;
 mod sized_entry;
 mod sized_reading;
-#[cfg(test)]
-mod tests;
 
 pub use caps::{CapFault, Caps};
 pub use entries_left::Entries;

@@ -3,7 +3,7 @@ ghost use Rattle.std.specs.Prelude.{◌≡◌, ◌+◌, ◌-◌, ◌<◌, ◌≤
 ghost use Rattle.std.specs.Str.{bytes_eq};
 ghost use Rattle.osc_message.specs.Left.{left};
 ghost use Rattle.osc_record.specs.Reading.{message_first, entry_first, entries_at, outcome, limits_read, lawful_limits, header_of, header_read};
-ghost use Rattle.osc_record.specs.Shown.{parts_of};
+ghost use Rattle.osc_record.specs.Shown.{parts_of, HasWholeHits};
 
 use crate::arguments::next_int;
 use crate::caps::Caps;
@@ -32,6 +32,7 @@ pub(crate) fn first_entry(limit: u32, place: u32, bytes: &[u8]) -> Option<(Parts
     requires small { place + length bytes.now ≤ 1073741824 }
     ensures value { option_map (λ x. (parts_of x.0, x.1)) result ≡ entry_first limit place bytes.now }
     ensures within { IfSome result (λ x. (x.1 ≤ length bytes.now) × (4 ≤ x.1)) }
+    ensures whole { IfSome result (λ x. HasWholeHits x.0.answer) }
 {
     let message = first_message(bytes)?;
     let size = 4 + message.len() as u32;

@@ -14,6 +14,3 @@ mod units;
 pub use fault::ReplayFault;
 pub use forming::well_formed;
 pub use replaying::replay;
-
-#[cfg(test)]
-mod tests;

@@ -96,8 +96,8 @@ fn kept_bytes(recording: &[u8], at: u32) -> &[u8]
 
 /// The entry with another answer.
 fn with_answer<'a>(entry: &Entry<'a>, answer: Answer<'a>) -> Entry<'a>
-    ensures entry { placed_of result ≡ record { at = entry.now.at; entry = record { caller = entry.now.caller; event = event_of entry.now.event; answer = answer_of answer.entry } } }
-    ensures whole { HasWholeHits answer.entry → HasWholeHits result.answer }
+    requires { HasWholeHits answer }
+    ensures { placed_of result ≡ record { at = entry.now.at; entry = record { caller = entry.now.caller; event = event_of entry.now.event; answer = answer_of answer.entry } } }
 {
     Entry {
         at: entry.at,
@@ -117,7 +117,6 @@ fn print_agreed(
     lines: &[u8],
 ) -> Result<(), ReplayFault>
     requires recordable { IsRecordable computed.now.caller (event_of computed.now.event) (answer_of computed.now.answer) }
-    requires whole { HasWholeHits computed.now.answer }
     requires small { length (entry_text computed.now.caller (event_of computed.now.event) (answer_of computed.now.answer)) ≤ 1073741824 }
     ensures agree { OnOk result (kept.now ≡ entry_text computed.now.caller (event_of computed.now.event) (answer_of computed.now.answer)) }
     ensures text { OnOk result (text.new ≡ text.old ++ (line_of (placed_of computed.now).entry ++ lines.now)) }

@@ -16,6 +16,3 @@ pub use fault::{ScriptFault, ScriptRefusal};
 pub use line::Line;
 pub use mode::Mode;
 pub use script::Script;
-
-#[cfg(test)]
-mod tests;

@@ -1,5 +1,5 @@
 // Scripts, read.
-use crate::{Act, Mode, Script, ScriptFault, ScriptRefusal};
+use osc_script::{Act, Mode, Script, ScriptFault, ScriptRefusal};
 use std::test::Fail;
 
 #[test]

@@ -1,9 +1,9 @@
 // The lines of entries, of a call and of a fault, and words.
-use crate::*;
 use osc_atoms::{Fault, Room};
 use osc_message::Message;
 use osc_method::Call;
 use osc_pattern::Address;
+use osc_print::*;
 use osc_record::{Answer, Entry, Event};
 use std::test::Fail;
 
@@ -91,6 +91,15 @@ fn lines_are_printed_as_the_format_has_them(rt: HostRuntime) -> Result<(), Fail>
         entry_line(&mut text, &entry)?;
         assert_eq!(rt; text.bytes(), want);
     }
+    let mut text = Text::open(rt.alloc());
+    let refused = Entry {
+        at: 56,
+        caller: 0,
+        event: Event::Enrol,
+        answer: Answer::CallersFull,
+    };
+    entry_line(&mut text, &refused)?;
+    assert_eq!(rt; text.bytes(), b"enrol 0 full\n".as_slice());
     Ok(())
 }
 

@@ -1,5 +1,5 @@
 // Limits, the bytes of the format, and what is malformed.
-use crate::*;
+use osc_record::*;
 use std::alloc::AllocError;
 
 /// The header of 4,096 units, 16,384 blocks, 1,024 methods, 4,096 nodes, 1 caller and 67,108,864 bytes.

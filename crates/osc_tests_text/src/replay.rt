@@ -1,5 +1,5 @@
 // A recording that a server made, and bytes that none made.
-use crate::*;
+use osc_replay::*;
 use std::alloc::{AllocError, Global};
 use std::process::Abort;
 use std::test::*;

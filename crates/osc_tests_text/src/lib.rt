@@ -1,0 +1,11 @@
+//! Tests of the recording, of what is printed, and of scripts. Each module is named after the crate that it tries.
+#![tactic(auto)]
+
+#[cfg(test)]
+mod print;
+#[cfg(test)]
+mod record;
+#[cfg(test)]
+mod replay;
+#[cfg(test)]
+mod script;
