@@ -1,0 +1,13 @@
+pub mod ReadOff
+pub mod Units
+pub mod InTime
+pub mod Given
+pub mod Members
+pub mod Places
+pub mod Methods
+pub mod Tallies
+pub mod ExactCalls
+pub mod OrderedCalls
+pub mod Runs
+pub mod Released
+pub mod Exact

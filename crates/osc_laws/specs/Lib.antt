@@ -1,0 +1,5 @@
+pub mod Facts
+pub mod Consecutive
+pub mod Exactly
+pub mod Once
+pub mod Laws
