@@ -2,19 +2,13 @@
 #![tactic(auto)]
 
 use osc_edge::{StdSink, StdSource};
-use osc_method::{Method, Trace};
-use osc_top::plain_top;
+use osc_method::Method;
+use osc_top::{plain_top, traces};
 use std::alloc::AllocError;
 use std::process::ExitCode;
 use std::{env, io};
 
 const NO_MEMORY: u8 = 3;
-
-/// How many methods a script can add.
-const BOXES: usize = 8192;
-
-/// How many bytes each box tells.
-const KEPT: u32 = 64;
 
 fn main(rt: HostRuntime) -> ExitCode {
     match run(&rt) {
@@ -25,9 +19,9 @@ fn main(rt: HostRuntime) -> ExitCode {
 
 fn run(rt: &HostRuntime) -> Result<u8, AllocError> {
     let words = words(rt)?;
-    let mut bank: Vec<Box<dyn Method + Send>> = Vec::with_capacity(rt.alloc(), BOXES)?;
-    for _ in 0..BOXES {
-        bank.push(Box::new(rt.alloc(), Trace::open(rt.alloc(), KEPT)?)?)?;
+    let mut bank: Vec<Box<dyn Method + Send>> = Vec::new(rt.alloc());
+    for trace in traces(rt.alloc())? {
+        bank.push(Box::new(rt.alloc(), trace)?)?;
     }
     let mut input = StdSource::open(rt);
     let mut out = StdSink::open(rt);

@@ -1,3 +1,4 @@
+pub mod Added
 pub mod Ascents
 pub mod Calling
 pub mod Finding
@@ -13,3 +14,4 @@ pub mod Staying
 pub mod Stocks
 pub mod Storing
 pub mod Submits
+pub mod Texts

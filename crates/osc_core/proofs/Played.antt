@@ -89,7 +89,7 @@ some_bytes (remove address) answer = omega arith
 some_bytes (tick now) answer = omega arith
 some_bytes release answer = omega arith
 
-few_entries : (state : State) (history : List Entry) → LegalFrom state history → state.recorded + length history ≤ (after state history).recorded
+pub few_entries : (state : State) (history : List Entry) → LegalFrom state history → state.recorded + length history ≤ (after state history).recorded
 few_entries state [] legal = omega arith
 few_entries state (entry ∷ entries) legal =
     let adds = is_adds (step state entry.event).answer (subst AddsEntry legal.3 legal.2) in

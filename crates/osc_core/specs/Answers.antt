@@ -1,7 +1,5 @@
 -- What the calls' answers stand for.
 use Rattle.std.specs.Prelude.{◌≡◌, ℕ, List, length}
-use Rattle.std.specs.declared.alloc.Global.{Global}
-use Rattle.std.specs.declared.dyn_box.DynBox.{DynBox}
 use Rattle.osc_atoms.specs.declared.room.Room.{Room as CodeRoom}
 use Rattle.osc_tree.specs.Adding.{taken, under_method, is_container, methods_full, nodes_full}
 use Rattle.osc_model.specs.Events.{Answer, Hit, Room, number, callers_full, queued, units_full, pool_full, added, refused, removed, not_there, ticked, clock_back, released, nothing_due, record_full}
@@ -46,35 +44,35 @@ refusal_of adding.IsContainer = refused is_container
 refusal_of (adding.MethodsFull limit) = refused (methods_full limit)
 refusal_of (adding.NodesFull room) = refused (nodes_full room.need room.free)
 
-module _ {X : Type 0} {Y : X → Type 0} where
+module _ {M : Type 0} where
   -- the answer to an add
-  abbrev pub adding_of : Adding X Y → Answer
+  abbrev pub adding_of : Adding M → Answer
   adding_of (Added id) = added id
   adding_of (Refused why address method) = refusal_of why
 
   -- where a method is added, this holds of its id
-  abbrev pub OnAdded : Adding X Y → (ℕ → Type 0) → Type 0
+  abbrev pub OnAdded : Adding M → (ℕ → Type 0) → Type 0
   OnAdded (Added id) holds = holds id
   OnAdded (Refused why address method) holds = Unit {0}
 
   -- where an add is refused, this holds of the address and the box that come back
-  abbrev pub OnRefused : Adding X Y → (List ℕ → DynBox X Global Y → Type 0) → Type 0
+  abbrev pub OnRefused : Adding M → (List ℕ → M → Type 0) → Type 0
   OnRefused (Added id) holds = Unit {0}
   OnRefused (Refused why address method) holds = holds address method
 
   -- the answer to a removal
-  abbrev pub removing_of : Removing X Y → Answer
+  abbrev pub removing_of : Removing M → Answer
   removing_of (removing.Removed id method) = removed id
   removing_of (removing.RecordFull room) = record_full (room_of room)
   removing_of removing.NotThere = not_there
 
   -- where a method is removed, this holds of its id and its box
-  abbrev pub OnRemoved : Removing X Y → (ℕ → DynBox X Global Y → Type 0) → Type 0
+  abbrev pub OnRemoved : Removing M → (ℕ → M → Type 0) → Type 0
   OnRemoved (removing.Removed id method) holds = holds id method
   OnRemoved _ holds = Unit {0}
 
   -- where nothing is removed, this holds
-  abbrev pub OnKept : Removing X Y → Type 0 → Type 0
+  abbrev pub OnKept : Removing M → Type 0 → Type 0
   OnKept (removing.Removed id method) holds = Unit {0}
   OnKept _ holds = holds
 

@@ -2,10 +2,13 @@ pub mod Answers
 pub mod Calls
 pub mod Due
 pub mod Frames
+pub mod Hearing
 pub mod Ids
 pub mod Kept
 pub mod Leaving
 pub mod Playing
 pub mod Recorded
 pub mod Sections
+pub mod Standing
 pub mod Views
+pub mod Telling

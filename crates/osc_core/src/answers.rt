@@ -1,6 +1,5 @@
 //! What the calls of the server answer.
 use osc_atoms::Room;
-use osc_method::Method;
 use osc_pattern::Address;
 
 /// What an enrolment is answered.
@@ -46,25 +45,22 @@ pub enum AddRefusal {
 
 /// What an add is answered.
 #[derive(Drop)]
-pub enum Adding {
+pub enum Adding<M> {
     /// The method was added, with this id.
     Added(u32),
     /// The address and the box come back untouched.
     Refused {
         why: AddRefusal,
         address: Address,
-        method: Box<dyn Method + Send>,
+        method: M,
     },
 }
 
 /// What a removal is answered.
 #[derive(Drop)]
-pub enum Removing {
+pub enum Removing<M> {
     /// The method with this id was removed, and its box comes back with what it heard.
-    Removed {
-        id: u32,
-        method: Box<dyn Method + Send>,
-    },
+    Removed { id: u32, method: M },
     /// The entry has more bytes than the recording has left.
     RecordFull(Room),
     /// No method has the address.
@@ -95,9 +91,9 @@ pub enum Releasing {
 
 /// The recording and the boxes of a server that is done.
 #[derive(Drop)]
-pub struct Closed {
+pub struct Closed<M> {
     /// The recording (docs/FORMATS.md, "The recording").
     pub bytes: Vec<u8>,
     /// The id of each registered method with its box, ascending.
-    pub kept: Vec<(u32, Box<dyn Method + Send>)>,
+    pub kept: Vec<(u32, M)>,
 }

@@ -4,16 +4,14 @@ ghost use Rattle.osc_pattern.specs.Methods.{Method as MethodAt};
 ghost use Rattle.osc_model.specs.Heard.{Told, hear, reset, without_id};
 ghost use Rattle.osc_core.specs.Calls.{invocation_by};
 ghost use Rattle.osc_core.specs.Ids.{is_ascending, IsFirstFrom, IsPlaceOf, without};
+ghost use Rattle.osc_core.specs.Telling.{told};
 
 use osc_method::{Call, Method};
 
-/// The id of a registered method, and its box.
-pub(crate) type Boxed = (u32, Box<dyn Method + Send>);
-
 /// Keeps a box, which is reset, in room that is there.
-pub(crate) fn keep_box(boxes: &mut Vec<Boxed>, id: u32, mut method: Box<dyn Method + Send>)
+pub(crate) fn keep_box<M: Method>(boxes: &mut Vec<(u32, M)>, id: u32, mut method: M)
     requires { vec_len boxes.old < vec_capacity boxes.old }
-    ensures boxes { map (λ one. record { id = one.0; keep = keep one.1; heard = heard one.1 }) boxes.new.items ≡ map (λ one. record { id = one.0; keep = keep one.1; heard = heard one.1 }) boxes.old.items ++ reset (record { id = id; keep = keep method; heard = heard method }) ∷ [] }
+    ensures boxes { told M.keep M.heard boxes.new.items ≡ told M.keep M.heard boxes.old.items ++ reset (record { id = id; keep = M.keep method; heard = M.heard method }) ∷ [] }
     ensures ids { map (λ one. one.0) boxes.new.items ≡ map (λ one. one.0) boxes.old.items ++ id ∷ [] }
     ensures capacity { vec_capacity boxes.old ≤ vec_capacity boxes.new }
 {
@@ -25,11 +23,11 @@ pub(crate) fn keep_box(boxes: &mut Vec<Boxed>, id: u32, mut method: Box<dyn Meth
 }
 
 /// Takes the box of an id out.
-pub(crate) fn hand_out(boxes: &mut Vec<Boxed>, id: u32) -> Box<dyn Method + Send>
+pub(crate) fn hand_out<M: Method>(boxes: &mut Vec<(u32, M)>, id: u32) -> M
     requires ascending { IsTrue (is_ascending (map (λ one. one.0) boxes.old.items)) }
     requires held { Contains (map (λ one. one.0) boxes.old.items) id }
-    ensures removed { Contains {X = Told} (map (λ one. record { id = one.0; keep = keep one.1; heard = heard one.1 }) boxes.old.items) (record { id = id; keep = keep result; heard = heard result }) }
-    ensures others { map (λ one. record { id = one.0; keep = keep one.1; heard = heard one.1 }) boxes.new.items ≡ without_id id (map (λ one. record { id = one.0; keep = keep one.1; heard = heard one.1 }) boxes.old.items) }
+    ensures removed { Contains {X = Told} (map (λ one. record { id = one.0; keep = M.keep one.1; heard = M.heard one.1 }) boxes.old.items) (record { id = id; keep = M.keep result; heard = M.heard result }) }
+    ensures others { told M.keep M.heard boxes.new.items ≡ without_id id (told M.keep M.heard boxes.old.items) }
     ensures ids { map (λ one. one.0) boxes.new.items ≡ without id (map (λ one. one.0) boxes.old.items) }
     ensures capacity { vec_capacity boxes.old ≤ vec_capacity boxes.new }
 {
@@ -40,11 +38,11 @@ pub(crate) fn hand_out(boxes: &mut Vec<Boxed>, id: u32) -> Box<dyn Method + Send
 }
 
 /// The box of the method with this id hears the call, and no other.
-pub(crate) fn invoke_one(boxes: &mut Vec<Boxed>, id: u32, call: &Call<'_>)
+pub(crate) fn invoke_one<M: Method>(boxes: &mut Vec<(u32, M)>, id: u32, call: &Call<'_>)
     requires { IsTrue (is_ascending (map (λ one. one.0) boxes.old.items)) }
     ensures ids { map (λ one. one.0) boxes.new.items ≡ map (λ one. one.0) boxes.old.items }
     ensures capacity { vec_capacity boxes.old ≤ vec_capacity boxes.new }
-    ensures boxes { (methods : List MethodAt) → map (λ one. record { id = one.0; keep = keep one.1; heard = heard one.1 }) boxes.new.items ≡ map (λ told. hear told (invocation_by methods call.now id)) (map (λ one. record { id = one.0; keep = keep one.1; heard = heard one.1 }) boxes.old.items) }
+    ensures boxes { (methods : List MethodAt) → told M.keep M.heard boxes.new.items ≡ map (λ told. hear told (invocation_by methods call.now id)) (told M.keep M.heard boxes.old.items) }
 {
     if let Some(place) = place_of(boxes, id) {
         invoke(&mut boxes[place], call);
@@ -52,15 +50,15 @@ pub(crate) fn invoke_one(boxes: &mut Vec<Boxed>, id: u32, call: &Call<'_>)
 }
 
 /// A box hears a call.
-fn invoke(boxed: &mut Boxed, call: &Call<'_>)
+fn invoke<M: Method>(boxed: &mut (u32, M), call: &Call<'_>)
     ensures id { boxed.new.0 ≡ boxed.old.0 }
-    ensures told { (methods : List MethodAt) → record { id = boxed.new.0; keep = keep boxed.new.1; heard = heard boxed.new.1 } ≡ hear (record { id = boxed.old.0; keep = keep boxed.old.1; heard = heard boxed.old.1 }) (invocation_by methods call.now boxed.old.0) }
+    ensures told { (methods : List MethodAt) → record { id = boxed.new.0; keep = M.keep boxed.new.1; heard = M.heard boxed.new.1 } ≡ hear (record { id = boxed.old.0; keep = M.keep boxed.old.1; heard = M.heard boxed.old.1 }) (invocation_by methods call.now boxed.old.0) }
 {
     boxed.1.invoke(call);
 }
 
 /// The place of the id among the boxes.
-pub(crate) fn place_of(boxes: &[Boxed], id: u32) -> Option<usize>
+pub(crate) fn place_of<M>(boxes: &[(u32, M)], id: u32) -> Option<usize>
     requires { IsTrue (is_ascending (map (λ one. one.0) boxes.now)) }
     ensures { IsPlaceOf result id (map (λ one. one.0) boxes.now) }
 {
@@ -75,7 +73,7 @@ pub(crate) fn place_of(boxes: &[Boxed], id: u32) -> Option<usize>
 }
 
 /// The place of the first box whose id isn't below this one, or how many boxes there are.
-fn first_from(boxes: &[Boxed], id: u32) -> usize
+fn first_from<M>(boxes: &[(u32, M)], id: u32) -> usize
     requires { IsTrue (is_ascending (map (λ one. one.0) boxes.now)) }
     ensures { IsFirstFrom result id (map (λ one. one.0) boxes.now) }
 {

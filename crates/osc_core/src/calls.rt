@@ -7,12 +7,13 @@ ghost use Rattle.osc_model.specs.Heard.{all_hear};
 ghost use Rattle.osc_model.specs.Step.{calls_of, calls_from, hits_of, invocations_of};
 ghost use Rattle.osc_core.specs.Calls.{invocation_by, invoked_ids};
 ghost use Rattle.osc_core.specs.Ids.{is_ascending};
+ghost use Rattle.osc_core.specs.Telling.{told};
 ghost use Rattle.osc_core.specs.Recorded.{owed_by, with_hits};
 
-use crate::boxes::{Boxed, invoke_one};
+use crate::boxes::invoke_one;
 use crate::messages::Messages;
 use osc_message::Message;
-use osc_method::Call;
+use osc_method::{Call, Method as Called};
 use osc_pattern::{Pattern, Steps};
 use osc_record::Recorder;
 use osc_tree::{Hits, Tree};
@@ -51,20 +52,20 @@ fn count_hits(tree: &Tree, hits: &mut Hits, message: &Message<'_>) -> u64
 }
 
 /// Makes the calls of a unit's messages in order. Each is recorded, and then made.
-pub(crate) fn invoke_unit(
+pub(crate) fn invoke_unit<M: Called>(
     tree: &Tree,
     hits: &mut Hits,
     unit: u64,
     messages: Messages<'_>,
     recorder: &mut Recorder,
-    boxes: &mut Vec<Boxed>,
+    boxes: &mut Vec<(u32, M)>,
 )
     requires limit { tree.now.method_limit ≤ hits.old.limit }
     requires few { length messages < 2 ^ 32 }
     requires owed { owed_by recorder.old ≡ length (calls_from tree.now.methods 0 messages) }
     requires ascending { IsTrue (is_ascending (map (λ one. one.0) boxes.old.items)) }
     ensures recorder { recorder.new ≡ with_hits recorder.old (hits_of (calls_from tree.now.methods 0 messages.entry)) }
-    ensures boxes { map (λ one. record { id = one.0; keep = keep one.1; heard = heard one.1 }) boxes.new.items ≡ all_hear (invocations_of unit (calls_from tree.now.methods 0 messages.entry)) (map (λ one. record { id = one.0; keep = keep one.1; heard = heard one.1 }) boxes.old.items) }
+    ensures boxes { told M.keep M.heard boxes.new.items ≡ all_hear (invocations_of unit (calls_from tree.now.methods 0 messages.entry)) (told M.keep M.heard boxes.old.items) }
     ensures ids { map (λ one. one.0) boxes.new.items ≡ map (λ one. one.0) boxes.old.items }
     ensures capacity { vec_capacity boxes.old ≤ vec_capacity boxes.new }
     ensures limit { hits.new.limit ≡ hits.old.limit }
@@ -82,18 +83,18 @@ pub(crate) fn invoke_unit(
 }
 
 /// Makes the calls of one message. One with an unknown tag makes none.
-fn invoke_message(
+fn invoke_message<M: Called>(
     tree: &Tree,
     hits: &mut Hits,
     call: &Call<'_>,
     recorder: &mut Recorder,
-    boxes: &mut Vec<Boxed>,
+    boxes: &mut Vec<(u32, M)>,
 )
     requires limit { tree.now.method_limit ≤ hits.old.limit }
     requires owed { length (calls_of tree.now.methods call.now.index call.now.message) ≤ owed_by recorder.old }
     requires ascending { IsTrue (is_ascending (map (λ one. one.0) boxes.old.items)) }
     ensures recorder { recorder.new ≡ with_hits recorder.old (hits_of (calls_of tree.now.methods call.now.index call.now.message)) }
-    ensures boxes { map (λ one. record { id = one.0; keep = keep one.1; heard = heard one.1 }) boxes.new.items ≡ all_hear (invocations_of call.now.unit (calls_of tree.now.methods call.now.index call.now.message)) (map (λ one. record { id = one.0; keep = keep one.1; heard = heard one.1 }) boxes.old.items) }
+    ensures boxes { told M.keep M.heard boxes.new.items ≡ all_hear (invocations_of call.now.unit (calls_of tree.now.methods call.now.index call.now.message)) (told M.keep M.heard boxes.old.items) }
     ensures ids { map (λ one. one.0) boxes.new.items ≡ map (λ one. one.0) boxes.old.items }
     ensures capacity { vec_capacity boxes.old ≤ vec_capacity boxes.new }
     ensures limit { hits.new.limit ≡ hits.old.limit }
@@ -106,11 +107,16 @@ fn invoke_message(
 }
 
 /// Makes the call of each of the methods with these ids.
-fn invoke_ids(ids: &[u32], call: &Call<'_>, recorder: &mut Recorder, boxes: &mut Vec<Boxed>)
+fn invoke_ids<M: Called>(
+    ids: &[u32],
+    call: &Call<'_>,
+    recorder: &mut Recorder,
+    boxes: &mut Vec<(u32, M)>,
+)
     requires owed { length ids.now ≤ owed_by recorder.old }
     requires ascending { IsTrue (is_ascending (map (λ one. one.0) boxes.old.items)) }
     ensures recorder { recorder.new ≡ with_hits recorder.old (map (λ id. record { index = call.now.index; id = id }) ids.now) }
-    ensures boxes { (methods : List Method) → map (λ one. record { id = one.0; keep = keep one.1; heard = heard one.1 }) boxes.new.items ≡ all_hear (map (invocation_by methods call.now) ids.now) (map (λ one. record { id = one.0; keep = keep one.1; heard = heard one.1 }) boxes.old.items) }
+    ensures boxes { (methods : List Method) → told M.keep M.heard boxes.new.items ≡ all_hear (map (invocation_by methods call.now) ids.now) (told M.keep M.heard boxes.old.items) }
     ensures ids { map (λ one. one.0) boxes.new.items ≡ map (λ one. one.0) boxes.old.items }
     ensures capacity { vec_capacity boxes.old ≤ vec_capacity boxes.new }
 {

@@ -14,11 +14,9 @@ mod playing;
 mod sequential;
 mod server;
 mod sizes;
+mod standing;
 mod store;
 mod units;
 
 pub use answers::{AddRefusal, Adding, Closed, Enrolled, Releasing, Removing, Submitted, Ticking};
-pub use sequential::{Core, Stands};
-
-#[cfg(test)]
-mod tests;
+pub use sequential::Core;

@@ -7,11 +7,11 @@ ghost use Rattle.osc_model.specs.Heard.{all_hear};
 ghost use Rattle.osc_model.specs.History.{Legal, state_of, stepped_in, onward};
 ghost use Rattle.osc_core.specs.Answers.{enrolled_of, submitted_of, refusal_of, ticking_of, room_of, TellsRelease};
 ghost use Rattle.osc_core.specs.Ids.{is_ascending, without};
+ghost use Rattle.osc_core.specs.Telling.{told};
 ghost use Rattle.osc_core.specs.Leaving.{leaving_of, OnLeft};
 ghost use Rattle.osc_core.specs.Recorded.{TellsRoom};
 
 use crate::answers::{AddRefusal, Enrolled, Releasing, Submitted, Ticking};
-use crate::boxes::Boxed;
 use crate::entry_answers::{
     Leaving, enrol_answer, refusal_answer, refusal_in_words, remove_answer, submit_answer,
     tick_answer,
@@ -20,6 +20,7 @@ use crate::playing::a_performance_is_played;
 use crate::server::{Due, Server};
 use crate::sizes::{add_size, remove_size, submit_size};
 use osc_atoms::Room;
+use osc_method::Method;
 use osc_packet::Packet;
 use osc_pattern::Address;
 use osc_record::{Answer, Caps, Event, Recorder};
@@ -170,12 +171,12 @@ impl Performance {
     }
 
     /// Takes the least unit that is due, and makes its calls.
-    pub(crate) fn release(&mut self, caller: u32, boxes: &mut Vec<Boxed>) -> Releasing
+    pub(crate) fn release<M: Method>(&mut self, caller: u32, boxes: &mut Vec<(u32, M)>) -> Releasing
         requires caller { caller < (state_of self.old).callers }
         requires ascending { IsTrue (is_ascending (map (λ one. one.0) boxes.old.items)) }
         ensures answer { TellsRelease result (stepped_in self.old release).answer }
         ensures performance { self.new ≡ onward self.old caller release }
-        ensures boxes { map (λ one. record { id = one.0; keep = keep one.1; heard = heard one.1 }) boxes.new.items ≡ all_hear (stepped_in self.old release).invocations (map (λ one. record { id = one.0; keep = keep one.1; heard = heard one.1 }) boxes.old.items) }
+        ensures boxes { told M.keep M.heard boxes.new.items ≡ all_hear (stepped_in self.old release).invocations (told M.keep M.heard boxes.old.items) }
         ensures ids { map (λ one. one.0) boxes.new.items ≡ map (λ one. one.0) boxes.old.items }
         ensures capacity { vec_capacity boxes.old ≤ vec_capacity boxes.new }
     {
@@ -192,6 +193,13 @@ impl Performance {
         self.server.release(unit, &mut self.recorder, boxes);
         self.entries += 1;
         Releasing::Released { unit, calls }
+    }
+
+    pub(crate) fn callers(&self) -> u32
+        ensures value { result ≡ (state_of self.now).callers }
+        ensures legal { Legal self.now.caps self.now.history }
+    {
+        self.server.callers()
     }
 
     pub(crate) fn clock(&self) -> u64

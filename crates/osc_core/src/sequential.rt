@@ -1,55 +1,53 @@
 //! The server with its recording and its boxes, one event after another.
-ghost use Rattle.std.specs.Prelude.{◌≡◌, ◌<◌, ◌≤◌, ◌++◌, ◌∷◌, [], length, map, IsTrue, List, Contains, vec_capacity, IfOk};
+ghost use Rattle.std.specs.Prelude.{◌≡◌, ◌<◌, ◌≤◌, ◌++◌, ◌∷◌, [], length, map, IsTrue, ℕ, List, Contains, vec_capacity, IfOk};
 ghost use Rattle.osc_model.specs.Events.{enrol, submit, add, remove, tick, release};
 ghost use Rattle.osc_model.specs.Recordings.{record_text};
 ghost use Rattle.osc_model.specs.Heard.{Told, reset, all_hear, without_id};
 ghost use Rattle.osc_model.specs.History.{Legal, state_of, stepped_in, onward, HaveHeard};
+ghost use Rattle.osc_laws.specs.Laws.{KeepsTheLaws};
 ghost use Rattle.osc_core.specs.Answers.{enrolled_of, submitted_of, adding_of, removing_of, ticking_of, TellsRelease, OnAdded, OnRefused, OnRemoved, OnKept};
 ghost use Rattle.osc_core.specs.Ids.{is_ascending};
+ghost use Rattle.osc_core.specs.Telling.{told};
+ghost use Rattle.osc_core.specs.Standing.{StandsFor, GoesOn};
+ghost use Rattle.osc_core.specs.Hearing.{HaveHeard-prop};
 
 use crate::answers::{Adding, Closed, Enrolled, Releasing, Removing, Submitted, Ticking};
-use crate::boxes::{Boxed, hand_out, keep_box};
+use crate::boxes::{hand_out, keep_box};
 use crate::entry_answers::Leaving;
 use crate::performance::Performance;
 use crate::playing::boxes_stay;
+use crate::standing::a_server_stands_for_more;
+use osc_laws::laws::every_history_keeps_the_laws;
 use osc_method::Method;
-use osc_model::laws::{a_performance_goes_on, boxes_hear_the_history};
+use osc_model::laws::{a_performance_goes_on, a_server_stays_sound, boxes_hear_the_history};
 use osc_packet::Packet;
 use osc_pattern::Address;
 use osc_record::Caps;
 use std::alloc::{AllocError, Global};
 
-/// What a contract sees of boxed methods that are kept.
-pub trait Stands {
-    /// Of each registered method, in the order of adding: its id, and what its box keeps and tells.
-    ghost boxes: { Self → List Told };
-}
-
 /// Methods by address with their boxes, units that wait for their moment, a clock and callers (OSC 1.0, "OSC Message
 /// Dispatching and Pattern Matching" and "Temporal Semantics and OSC Time Tags"), and the recording of all that was
 /// handed in and answered. Caller 0 is enrolled from the start.
 ///
-/// A contract sees its limits and its history as `performance`, and its boxes as the member `boxes` of `Stands`. All
+/// A contract sees its limits and its history as `performance`, and what each of its boxes keeps and tells. All
 /// memory is taken at opening. Where a call is answered `RecordFull`, all is as it was.
 #[derive(Drop)]
-pub struct Core {
+pub struct Core<M: Method> {
     performance: Performance,
-    boxes: Vec<Boxed>,
+    boxes: Vec<(u32, M)>,
     ghost alike: { map (λ one. one.0) boxes.items ≡ map (λ method. method.id) (state_of performance).methods },
     ghost ascending: { IsTrue (is_ascending (map (λ one. one.0) boxes.items)) },
     ghost reserved: { performance.caps.methods ≤ vec_capacity boxes },
+    ghost heard: { HaveHeard performance (told M.keep M.heard boxes.items) } by { HaveHeard-prop performance _ },
 }
 
-impl Stands for Core {
-    ghost boxes = { λ core. map (λ one. record { id = one.0; keep = (Method-box one.1).keep one.1.value; heard = (Method-box one.1).heard one.1.value }) core.boxes.items };
-}
-
-impl Core {
+impl<M: Method> Core<M> {
     /// A server with these limits. Its clock stands at 1. The `Err` means that there is no memory for its tables.
-    pub fn open(alloc: Global, caps: Caps) -> Result<Core, AllocError>
+    pub fn open(alloc: Global, caps: Caps) -> Result<Core<M>, AllocError>
         ensures performance { IfOk result (λ core. core.performance ≡ record { caps = caps; history = [] }) }
-        ensures boxes { IfOk result (λ core. ⟦<Core as Stands>⟧.boxes core ≡ []) }
-        ensures heard { IfOk result (λ core. HaveHeard core.performance (⟦<Core as Stands>⟧.boxes core)) }
+        ensures boxes { IfOk result (λ core. told M.keep M.heard core.boxes.items ≡ []) }
+        ensures heard { IfOk result (λ core. HaveHeard core.performance (told M.keep M.heard core.boxes.items)) }
+        ensures stands { IfOk result (λ core. StandsFor core.performance (told M.keep M.heard core.boxes.items) []) }
     {
         boxes_hear_the_history();
         Ok(Core {
@@ -58,35 +56,17 @@ impl Core {
         })
     }
 
-    /// As `open`, over an empty list in which the boxes will be kept. A function that hands boxes out opens the server so:
-    /// then no box can be made out of its caller's sight (docs/DECISIONS.md).
-    pub fn open_in(
-        mut boxes: Vec<(u32, Box<dyn Method + Send>)>,
-        alloc: Global,
-        caps: Caps,
-    ) -> Result<Core, AllocError>
-        requires { boxes.items ≡ [] }
-        ensures performance { IfOk result (λ core. core.performance ≡ record { caps = caps; history = [] }) }
-        ensures boxes { IfOk result (λ core. ⟦<Core as Stands>⟧.boxes core ≡ []) }
-        ensures heard { IfOk result (λ core. HaveHeard core.performance (⟦<Core as Stands>⟧.boxes core)) }
-    {
-        boxes_hear_the_history();
-        boxes.reserve(caps.methods() as usize)?;
-        Ok(Core {
-            performance: Performance::open(alloc, caps)?,
-            boxes,
-        })
-    }
-
     /// Enrols a caller, who gets the number of callers so far.
     pub fn enrol(&mut self, caller: u32) -> Enrolled
         requires { caller < (state_of self.old.performance).callers }
         ensures answer { enrolled_of result ≡ (stepped_in self.old.performance enrol).answer }
         ensures performance { self.new.performance ≡ onward self.old.performance caller enrol }
-        ensures boxes { ⟦<Core as Stands>⟧.boxes self.new ≡ ⟦<Core as Stands>⟧.boxes self.old }
-        ensures heard { HaveHeard self.old.performance (⟦<Core as Stands>⟧.boxes self.old) → HaveHeard self.new.performance (⟦<Core as Stands>⟧.boxes self.new) }
+        ensures boxes { told M.keep M.heard self.new.boxes.items ≡ told M.keep M.heard self.old.boxes.items }
+        ensures stands { GoesOn enrol self.old.performance (told M.keep M.heard self.old.boxes.items)
+            self.new.performance (told M.keep M.heard self.new.boxes.items) }
     {
         boxes_stay();
+        a_server_stands_for_more();
         self.performance.enrol(caller)
     }
 
@@ -95,24 +75,32 @@ impl Core {
         requires { caller < (state_of self.old.performance).callers }
         ensures answer { submitted_of result ≡ (stepped_in self.old.performance (submit packet.now)).answer }
         ensures performance { self.new.performance ≡ onward self.old.performance caller (submit packet.now) }
-        ensures boxes { ⟦<Core as Stands>⟧.boxes self.new ≡ ⟦<Core as Stands>⟧.boxes self.old }
-        ensures heard { HaveHeard self.old.performance (⟦<Core as Stands>⟧.boxes self.old) → HaveHeard self.new.performance (⟦<Core as Stands>⟧.boxes self.new) }
+        ensures boxes { told M.keep M.heard self.new.boxes.items ≡ told M.keep M.heard self.old.boxes.items }
+        ensures stands { GoesOn (submit packet.now) self.old.performance (told M.keep M.heard self.old.boxes.items)
+            self.new.performance (told M.keep M.heard self.new.boxes.items) }
     {
         boxes_stay();
+        a_server_stands_for_more();
+        // The packet is valid, as it tells.
+        let _ = packet.bytes();
         self.performance.submit(caller, packet)
     }
 
     /// Adds a method at the address, and resets and keeps its box. A refusal hands both back.
-    pub fn add(&mut self, caller: u32, address: Address, method: Box<dyn Method + Send>) -> Adding
+    pub fn add(&mut self, caller: u32, address: Address, method: M) -> Adding<M>
         requires { caller < (state_of self.old.performance).callers }
         ensures answer { adding_of result ≡ (stepped_in self.old.performance (add address)).answer }
         ensures performance { self.new.performance ≡ onward self.old.performance caller (add address) }
-        ensures added { OnAdded result (λ id. ⟦<Core as Stands>⟧.boxes self.new ≡ ⟦<Core as Stands>⟧.boxes self.old ++ reset (record { id = id; keep = keep method; heard = heard method }) ∷ []) }
-        ensures boxes { OnRefused result (λ _ _. ⟦<Core as Stands>⟧.boxes self.new ≡ ⟦<Core as Stands>⟧.boxes self.old) }
+        ensures added { OnAdded result (λ id. told M.keep M.heard self.new.boxes.items ≡ told M.keep M.heard self.old.boxes.items ++ reset (record { id = id; keep = M.keep method; heard = M.heard method }) ∷ []) }
+        ensures boxes { OnRefused result (λ _ _. told M.keep M.heard self.new.boxes.items ≡ told M.keep M.heard self.old.boxes.items) }
         ensures handed_back { OnRefused result (λ back untouched. (back ≡ address) × (untouched ≡ method)) }
-        ensures heard { HaveHeard self.old.performance (⟦<Core as Stands>⟧.boxes self.old) → HaveHeard self.new.performance (⟦<Core as Stands>⟧.boxes self.new) }
+        ensures stands { GoesOn (add address) self.old.performance (told M.keep M.heard self.old.boxes.items)
+            self.new.performance (told M.keep M.heard self.new.boxes.items) }
     {
         boxes_stay();
+        a_server_stands_for_more();
+        // The address is lawful, as it tells.
+        let _ = address.bytes();
         boxes_hear_the_history();
         match self.performance.add(caller, address) {
             Ok(id) => {
@@ -128,16 +116,20 @@ impl Core {
     }
 
     /// Removes the method at the address, and hands its box out with what it heard.
-    pub fn remove(&mut self, caller: u32, address: &Address) -> Removing
+    pub fn remove(&mut self, caller: u32, address: &Address) -> Removing<M>
         requires { caller < (state_of self.old.performance).callers }
         ensures answer { removing_of result ≡ (stepped_in self.old.performance (remove address.now)).answer }
         ensures performance { self.new.performance ≡ onward self.old.performance caller (remove address.now) }
-        ensures removed { OnRemoved result (λ id method. Contains {X = Told} (⟦<Core as Stands>⟧.boxes self.old) (record { id = id; keep = keep method; heard = heard method })) }
-        ensures others { OnRemoved result (λ id _. ⟦<Core as Stands>⟧.boxes self.new ≡ without_id id (⟦<Core as Stands>⟧.boxes self.old)) }
-        ensures boxes { OnKept result (⟦<Core as Stands>⟧.boxes self.new ≡ ⟦<Core as Stands>⟧.boxes self.old) }
-        ensures heard { HaveHeard self.old.performance (⟦<Core as Stands>⟧.boxes self.old) → HaveHeard self.new.performance (⟦<Core as Stands>⟧.boxes self.new) }
+        ensures removed { OnRemoved result (λ id method. Contains {X = Told} (told M.keep M.heard self.old.boxes.items) (record { id = id; keep = M.keep method; heard = M.heard method })) }
+        ensures others { OnRemoved result (λ id _. told M.keep M.heard self.new.boxes.items ≡ without_id id (told M.keep M.heard self.old.boxes.items)) }
+        ensures boxes { OnKept result (told M.keep M.heard self.new.boxes.items ≡ told M.keep M.heard self.old.boxes.items) }
+        ensures stands { GoesOn (remove address.now) self.old.performance (told M.keep M.heard self.old.boxes.items)
+            self.new.performance (told M.keep M.heard self.new.boxes.items) }
     {
         boxes_stay();
+        a_server_stands_for_more();
+        // The address is lawful, as it tells.
+        let _ = address.bytes();
         boxes_hear_the_history();
         match self.performance.remove(caller, address) {
             Leaving::Left(id) => Removing::Removed {
@@ -154,10 +146,12 @@ impl Core {
         requires { caller < (state_of self.old.performance).callers }
         ensures answer { ticking_of result ≡ (stepped_in self.old.performance (tick now)).answer }
         ensures performance { self.new.performance ≡ onward self.old.performance caller (tick now) }
-        ensures boxes { ⟦<Core as Stands>⟧.boxes self.new ≡ ⟦<Core as Stands>⟧.boxes self.old }
-        ensures heard { HaveHeard self.old.performance (⟦<Core as Stands>⟧.boxes self.old) → HaveHeard self.new.performance (⟦<Core as Stands>⟧.boxes self.new) }
+        ensures boxes { told M.keep M.heard self.new.boxes.items ≡ told M.keep M.heard self.old.boxes.items }
+        ensures stands { GoesOn (tick now) self.old.performance (told M.keep M.heard self.old.boxes.items)
+            self.new.performance (told M.keep M.heard self.new.boxes.items) }
     {
         boxes_stay();
+        a_server_stands_for_more();
         self.performance.tick(caller, now)
     }
 
@@ -168,12 +162,23 @@ impl Core {
         requires { caller < (state_of self.old.performance).callers }
         ensures answer { TellsRelease result (stepped_in self.old.performance release).answer }
         ensures performance { self.new.performance ≡ onward self.old.performance caller release }
-        ensures boxes { ⟦<Core as Stands>⟧.boxes self.new ≡ all_hear (stepped_in self.old.performance release).invocations (⟦<Core as Stands>⟧.boxes self.old) }
-        ensures heard { HaveHeard self.old.performance (⟦<Core as Stands>⟧.boxes self.old) → HaveHeard self.new.performance (⟦<Core as Stands>⟧.boxes self.new) }
+        ensures boxes { told M.keep M.heard self.new.boxes.items ≡ all_hear (stepped_in self.old.performance release).invocations (told M.keep M.heard self.old.boxes.items) }
+        ensures stands { GoesOn release self.old.performance (told M.keep M.heard self.old.boxes.items)
+            self.new.performance (told M.keep M.heard self.new.boxes.items) }
     {
         boxes_stay();
+        a_server_stands_for_more();
         boxes_hear_the_history();
         self.performance.release(caller, &mut self.boxes)
+    }
+
+    /// How many callers are enrolled: their numbers are those below this one. Caller 0 always is.
+    pub fn callers(&self) -> u32
+        ensures value { result ≡ (state_of self.now.performance).callers }
+        ensures some { 1 ≤ result }
+    {
+        a_server_stays_sound();
+        self.performance.callers()
     }
 
     /// The clock: the last moment that was handed in, or 1.
@@ -199,27 +204,16 @@ impl Core {
     }
 
     /// Ends the server, and hands out its recording, and its boxes with what they heard.
-    pub fn close(self) -> Closed
+    pub fn close(self) -> Closed<M>
         ensures text { result.bytes.items ≡ record_text self.performance.caps self.performance.history }
         ensures legal { Legal self.performance.caps self.performance.history }
-        ensures kept { map (λ one. record { id = one.0; keep = keep one.1; heard = heard one.1 }) result.kept.items ≡ ⟦<Core as Stands>⟧.boxes self }
+        ensures laws { KeepsTheLaws self.performance.caps self.performance.history }
+        ensures kept { told M.keep M.heard result.kept.items ≡ told M.keep M.heard self.boxes.items }
+        ensures heard { HaveHeard self.performance (told M.keep M.heard result.kept.items) }
         ensures ids { map (λ one. one.0) result.kept.items ≡ map (λ method. method.id) (state_of self.performance).methods }
+        ensures ascending { IsTrue (is_ascending (map (λ one. one.0) result.kept.items)) }
     {
-        Closed {
-            bytes: self.performance.close(),
-            kept: self.boxes,
-        }
-    }
-
-    /// As `close`, of a server that has a caller, as each server has. A function that hands boxes out closes the server so
-    /// (docs/DECISIONS.md).
-    pub fn close_enrolled(self) -> Closed
-        requires { 0 < (state_of self.performance).callers }
-        ensures text { result.bytes.items ≡ record_text self.performance.caps self.performance.history }
-        ensures legal { Legal self.performance.caps self.performance.history }
-        ensures kept { map (λ one. record { id = one.0; keep = keep one.1; heard = heard one.1 }) result.kept.items ≡ ⟦<Core as Stands>⟧.boxes self }
-        ensures ids { map (λ one. one.0) result.kept.items ≡ map (λ method. method.id) (state_of self.performance).methods }
-    {
+        every_history_keeps_the_laws();
         Closed {
             bytes: self.performance.close(),
             kept: self.boxes,

@@ -10,18 +10,19 @@ ghost use Rattle.osc_model.specs.Step.{decided};
 ghost use Rattle.osc_core.specs.Answers.{enrolled_of, submitted_of, ticking_of};
 ghost use Rattle.osc_core.specs.Calls.{hit_by};
 ghost use Rattle.osc_core.specs.Ids.{is_ascending, without};
+ghost use Rattle.osc_core.specs.Telling.{told};
 ghost use Rattle.osc_core.specs.Due.{IsDue, TellsDue, CallsAreFew};
 ghost use Rattle.osc_core.specs.Leaving.{leaving_of, OnLeft};
 ghost use Rattle.osc_core.specs.Playing.{tables};
 ghost use Rattle.osc_core.specs.Recorded.{owed_by, with_hits};
 
 use crate::answers::{Enrolled, Submitted, Ticking};
-use crate::boxes::Boxed;
 use crate::calls::{count_calls, invoke_unit};
 use crate::entry_answers::Leaving;
 use crate::store::Store;
 use crate::units::{blocks_of, enter_all, take_first};
 use osc_atoms::Room;
+use osc_method::Method;
 use osc_packet::Packet;
 use osc_pattern::Address;
 use osc_queue::Queue;
@@ -202,18 +203,29 @@ impl Server {
     }
 
     /// Makes the calls of the first unit's messages, each of which is recorded and then made, and takes the unit.
-    pub(crate) fn release(&mut self, unit: u64, recorder: &mut Recorder, boxes: &mut Vec<Boxed>)
+    pub(crate) fn release<M: Method>(
+        &mut self,
+        unit: u64,
+        recorder: &mut Recorder,
+        boxes: &mut Vec<(u32, M)>,
+    )
         requires due { (hits : List Hit) × IsDue self.old unit hits × (owed_by recorder.old ≡ length hits) }
         requires ascending { IsTrue (is_ascending (map (λ one. one.0) boxes.old.items)) }
         ensures state { self.new ≡ (decided self.old release).state }
         ensures recorder { recorder.new ≡ with_hits recorder.old (map hit_by (decided self.old release).invocations) }
-        ensures boxes { map (λ one. record { id = one.0; keep = keep one.1; heard = heard one.1 }) boxes.new.items ≡ all_hear (decided self.old release).invocations (map (λ one. record { id = one.0; keep = keep one.1; heard = heard one.1 }) boxes.old.items) }
+        ensures boxes { told M.keep M.heard boxes.new.items ≡ all_hear (decided self.old release).invocations (told M.keep M.heard boxes.old.items) }
         ensures ids { map (λ one. one.0) boxes.new.items ≡ map (λ one. one.0) boxes.old.items }
         ensures capacity { vec_capacity boxes.old ≤ vec_capacity boxes.new }
     {
         let messages = self.store.messages(unit);
         invoke_unit(&self.tree, &mut self.hits, unit, messages, recorder, boxes);
         take_first(&mut self.queue, &mut self.store, self.clock);
+    }
+
+    pub(crate) fn callers(&self) -> u32
+        ensures { result ≡ self.now.callers }
+    {
+        self.callers
     }
 
     pub(crate) fn clock(&self) -> u64

@@ -71,6 +71,22 @@ pump_ends : (state : State) (n : ℕ) → is_released (step state release).answe
 pump_ends state zero is = refl
 pump_ends state (suc n) is = ap (λ (t : Bool). cond {A = List Entry} t (entry_of state release ∷ pumped n (step state release).state) []) is
 
+not_released : (t : Bool) → (t ≡ true → ⊥) → t ≡ false
+not_released true never = absurd (never refl)
+not_released false never = refl
+
+-- after as many releases as units are queued none is released
+pub drained : (n : ℕ) (state : State) → length state.queue ≡ n → is_released (step (after state (pumped n state)) release).answer ≡ false
+drained zero state is = not_released (is_released (step state release).answer) (λ taken. omega (arith, (release_way state).shorter taken, is))
+drained (suc n) state is = go (is_released (step state release).answer) refl (drained n after_it) where
+  after_it : State
+  after_it = (step state release).state
+
+  go : (t : Bool) → is_released (step state release).answer ≡ t → (length after_it.queue ≡ n → is_released (step (after after_it (pumped n after_it)) release).answer ≡ false)
+      → is_released (step (after state (cond {A = List Entry} t (entry_of state release ∷ pumped n after_it) [])) release).answer ≡ false
+  go true taken more = more (omega (arith, (release_way state).shorter taken, is))
+  go false none more = none
+
 -- a release that takes none: the pump is over
 pub pump_over : (performance performance' : Performance) → performance' ≡ onward performance 0 release → is_released (stepped_in performance release).answer ≡ false → performance' ≡ played_on performance (pump (state_of performance))
 pump_over performance performance' next is =
@@ -94,7 +110,7 @@ is_taken performance unit calls told = ap is_released told.1
 
 -- a release, one turn on
 pub turn_at : {X : Type 0} (meaning : X → Meaning) (bank : List X) (performance performance' : Performance) → HearsCalls → InvokesRegistered (state_of performance) (stepped_in performance release) → performance' ≡ onward performance 0 release
-    → (boxes boxes' removed : List Told) (left rest : List X) → boxes' ≡ all_hear (stepped_in performance release).invocations boxes → (HaveHeard performance boxes → HaveHeard performance' boxes')
+    → (boxes boxes' removed : List Told) (left rest : List X) → boxes' ≡ all_hear (stepped_in performance release).invocations boxes → HaveHeard performance boxes
     → IsAt meaning bank performance boxes removed left rest → IsAt meaning bank performance' boxes' removed left rest
-turn_at meaning bank performance performance' law registered next boxes boxes' removed left rest heard hears at =
-    at_released meaning bank performance performance' release next law registered (λ answer. refl) (release_way (state_of performance)).same_ids boxes boxes' removed left rest heard hears at
+turn_at meaning bank performance performance' law registered next boxes boxes' removed left rest heard have at =
+    at_released meaning bank performance performance' release next law registered (λ answer. refl) (release_way (state_of performance)).same_ids boxes boxes' removed left rest heard have at

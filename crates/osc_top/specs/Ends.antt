@@ -5,6 +5,7 @@ use Rattle.osc_model.specs.Limits.{Limits}
 use Rattle.osc_model.specs.Events.{Room, Entry}
 use Rattle.osc_model.specs.Recordings.{record_text}
 use Rattle.osc_model.specs.History.{Legal}
+use Rattle.osc_laws.specs.Laws.{KeepsTheLaws}
 use Rattle.osc_replay.specs.Printed.{printed}
 use Rattle.osc_replay.specs.Formed.{IsUnformedAt}
 use Rattle.osc_replay.specs.Disagreeing.{DisagreesAt, IsRecordingOf}
@@ -37,6 +38,10 @@ left_behind most input = drop (most + 1) input
 -- the history of a script's lines is one that the server's rules give
 abbrev pub IsLegalRun : List Line → Type 0
 IsLegalRun lines = Legal default_caps (plain default_caps lines).history
+
+-- that history keeps the four laws
+abbrev pub RunsByTheLaws : List Line → Type 0
+RunsByTheLaws lines = KeepsTheLaws default_caps (plain default_caps lines).history
 
 -- no event of the lines wants more room than is left
 abbrev pub IsUnstopped : List Line → Type 0
@@ -86,6 +91,13 @@ pub record ReplaysTo (bytes printed_text : List ℕ) : Type 0 where
   pub history : List Entry
   pub recording_of : IsRecordingOf bytes caps history
   pub text : printed_text ≡ printed caps history
+
+-- the bytes are the recording of a history that the server's rules give, and it keeps the four laws
+pub record RecordsTheLaws (bytes : List ℕ) : Type 0 where
+  pub caps : Limits
+  pub history : List Entry
+  pub recording_of : IsRecordingOf bytes caps history
+  pub laws : KeepsTheLaws caps history
 
 -- The end of a replay of a recording, by its status: done (0), where the bytes are the recording of a legal history, and its
 -- printed text was gained; refused (1), where they aren't, and the lines on that were gained; cut short (5), where the sink

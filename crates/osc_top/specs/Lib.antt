@@ -6,3 +6,4 @@ pub mod Commands
 pub mod Ends
 pub mod Enough
 pub mod Whole
+pub mod Tallied

@@ -2,8 +2,6 @@
 use Rattle.std.specs.Prelude.{◌≡◌, ℕ, ◌<◌, if◌then◌else◌, List, [], ◌∷◌, ◌++◌, length, map, drop, Option, Some, None}
 use Rattle.std.specs.List.{AllByRecursion}
 use Rattle.std.specs.List.Sorted.{IsPermutation}
-use Rattle.std.specs.declared.alloc.Global.{Global}
-use Rattle.std.specs.declared.dyn_box.DynBox.{DynBox}
 use Rattle.osc_atoms.specs.declared.room.Room.{Room}
 use Rattle.osc_core.specs.declared.answers.Adding.{Adding}
 use Rattle.osc_core.specs.declared.answers.Adding.TheVariants.{Added, Refused}
@@ -11,19 +9,19 @@ use Rattle.osc_core.specs.declared.answers.Removing.{Removing}
 use Rattle.osc_core.specs.declared.answers.Removing.TheVariants.{Removed}
 use Rattle.osc_model.specs.Events.{Answer, Entry, Invocation}
 use Rattle.osc_model.specs.Heard.{Told}
-use Rattle.osc_model.specs.History.{Performance, state_of, invoked_in, HaveHeard}
+use Rattle.osc_model.specs.History.{Performance, state_of, invoked_in}
 use Rattle.osc_script.specs.declared.act.Act.{Act}
 use Rattle.osc_top.specs.Plain.{is_add}
 use Rattle.osc_top.specs.Bank.{Meaning, add_answers, box_left, boxes_left, boxes_heard}
 
-module _ {X : Type 0} {Y : X → Type 0} where
+module _ {M : Type 0} where
   -- the box of an add that was refused
-  abbrev pub handed_back : Adding X Y → List (DynBox X Global Y)
+  abbrev pub handed_back : Adding M → List M
   handed_back (Added id) = []
   handed_back (Refused why address method) = method ∷ []
 
   -- the box of a method that was removed, with its id
-  abbrev pub handed_out : Removing X Y → List (ℕ × DynBox X Global Y)
+  abbrev pub handed_out : Removing M → List (ℕ × M)
   handed_out (Removed id method) = (id, method) ∷ []
   handed_out _ = []
 
@@ -57,10 +55,10 @@ pub record Tally {X : Type 0} (meaning : X → Meaning) (calls : List Invocation
   pub below : AllByRecursion (λ box. box.id < next) (boxes_heard calls answers (map meaning bank))
   pub given : AllByRecursion (λ call. call.call.id < next) calls
 
--- What became of a bank after a performance: the boxes of the registered methods have heard it, and the tally is right.
-pub record IsAt {X : Type 0} (meaning : X → Meaning) (bank : List X) (performance : Performance) (boxes removed : List Told) (left rest : List X) : Type 0 where
-  pub have : HaveHeard performance boxes
-  pub tally : Tally meaning (invoked_in performance) (add_answers performance.history) bank (state_of performance).next_id boxes removed left rest
+-- the tally after a performance
+abbrev pub IsAt : {X : Type 0} → (X → Meaning) → List X → Performance → List Told → List Told → List X → List X → Type 0
+IsAt meaning bank performance boxes removed left rest =
+    Tally meaning (invoked_in performance) (add_answers performance.history) bank (state_of performance).next_id boxes removed left rest
 
 -- The same where the last add may have no entry: the box that it was given is among the others.
 pub record IsOver {X : Type 0} (meaning : X → Meaning) (bank : List X) (performance : Performance) (boxes removed : List Told) (left rest : List X) : Type 0 where

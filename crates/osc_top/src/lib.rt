@@ -1,6 +1,7 @@
 //! All that the program does, over any source and sink.
 #![tactic(auto)]
 
+mod boxes;
 mod command;
 pub mod laws;
 mod lines;
@@ -12,7 +13,5 @@ mod top;
 mod whole;
 mod writing;
 
+pub use boxes::traces;
 pub use top::{Ended, plain_top};
-
-#[cfg(test)]
-mod tests;

@@ -4,16 +4,16 @@ ghost use Rattle.std.specs.Option.{option_map};
 ghost use Rattle.std.specs.Vec.Iter.{into_iter_items};
 ghost use Rattle.osc_packet.specs.Reading.{is_packet, packet_fault};
 ghost use Rattle.osc_model.specs.Events.{add, remove, submit, tick, release};
-ghost use Rattle.osc_model.specs.Heard.{Told};
 ghost use Rattle.osc_model.specs.History.{state_of, after};
 ghost use Rattle.osc_record.specs.Shown.{room_of};
 ghost use Rattle.osc_core.specs.Answers.{adding_of, removing_of, submitted_of, ticking_of};
 ghost use Rattle.osc_top.specs.Plain.{entry_if, stop_at, room_in, entries_of, stop_of, sent, stop_sent, pump, act_faults, fault_at, plain_from, count_adds};
 ghost use Rattle.osc_top.specs.Printing.{printed_faults};
-ghost use Rattle.osc_top.specs.Tally.{adds_of, played_on, handed_back, handed_out, IsAt, IsOver, IsAtUnless};
+ghost use Rattle.osc_top.specs.Tally.{adds_of, played_on, handed_back, handed_out};
+ghost use Rattle.osc_top.specs.Tallied.{HasTallied, IsDone, TalliesOn};
 
 use osc_atoms::Room;
-use osc_core::{AddRefusal, Adding, Core, Releasing, Removing, Stands, Submitted, Ticking};
+use osc_core::{AddRefusal, Adding, Core, Releasing, Removing, Submitted, Ticking};
 use osc_message::Bytes;
 use osc_method::Method;
 use osc_model::laws::{a_box_hears_its_calls, invocations_are_of_registered_methods};
@@ -24,29 +24,19 @@ use osc_script::{Act, Line};
 use std::alloc::AllocError;
 use std::vec::IntoIter;
 
-/// What a contract sees of a player's boxes.
-pub(crate) trait Holds {
-    /// Of each method that was removed: its id, and what its box keeps and tells.
-    ghost removed: { Self → List Told };
-}
-
 /// A server that plays lines as caller 0, with the boxes that it doesn't have, and the lines of the faults so far.
 #[derive(Drop)]
-pub(crate) struct Player {
-    pub(crate) core: Core,
+pub(crate) struct Player<M: Method> {
+    pub(crate) core: Core<M>,
     /// The boxes that no add has taken yet.
-    pub(crate) bank: IntoIter<Box<dyn Method + Send>>,
-    pub(crate) removed: Vec<(u32, Box<dyn Method + Send>)>,
+    pub(crate) bank: IntoIter<M>,
+    pub(crate) removed: Vec<(u32, M)>,
     /// The boxes of the adds that were refused.
-    pub(crate) left: Vec<Box<dyn Method + Send>>,
+    pub(crate) left: Vec<M>,
     pub(crate) faults: Text,
 }
 
-impl Holds for Player {
-    ghost removed = { λ player. map (λ one. record { id = one.0; keep = (Method-box one.1).keep one.1.value; heard = (Method-box one.1).heard one.1.value }) player.removed.items };
-}
-
-impl Player {
+impl<M: Method> Player<M> {
     /// Plays the lines, up to the first event for whose entry there is no room, which is answered.
     pub(crate) fn play_lines(&mut self, lines: Vec<Line>) -> Result<Option<Room>, AllocError>
         requires handed { count_adds lines.items ≤ length (into_iter_items self.old.bank) }
@@ -54,8 +44,7 @@ impl Player {
         ensures performance { OnOk result (self.new.core.performance ≡ played_on self.old.core.performance (plain_from (state_of self.old.core.performance) lines.items).history) }
         ensures faults { OnOk result (self.new.faults ≡ self.old.faults ++ printed_faults (plain_from (state_of self.old.core.performance) lines.items).faults) }
         ensures stop { IfOk result (λ stop. option_map room_of stop ≡ (plain_from (state_of self.old.core.performance) lines.items).stop) }
-        ensures caller { OnOk result (0 < (state_of self.new.core.performance).callers) }
-        ensures boxes { OnOk result ((bank : List _) → IsAt (λ box. record { keep = keep box; heard = heard box }) bank self.old.core.performance (⟦<Core as Stands>⟧.boxes self.old.core) (⟦<Player as Holds>⟧.removed self.old) self.old.left.items (into_iter_items self.old.bank) → IsOver (λ box. record { keep = keep box; heard = heard box }) bank self.new.core.performance (⟦<Core as Stands>⟧.boxes self.new.core) (⟦<Player as Holds>⟧.removed self.new) self.new.left.items (into_iter_items self.new.bank)) }
+        ensures boxes { OnOk result ((bank : List M) → HasTallied M.keep M.heard bank self.old → IsDone M.keep M.heard bank self.new) }
     {
         for line in lines {
             let stop = self.play_act(line.number, line.act)?;
@@ -74,7 +63,7 @@ impl Player {
         ensures faults { OnOk result (self.new.faults ≡ self.old.faults ++ printed_faults (act_faults number act)) }
         ensures stop { IfOk result (λ stop. option_map room_of stop ≡ stop_of (state_of self.old.core.performance) act) }
         ensures waiting { OnOk result (length (into_iter_items self.old.bank) ≤ adds_of act + length (into_iter_items self.new.bank)) }
-        ensures boxes { IfOk result (λ stop. (bank : List _) → IsAt (λ box. record { keep = keep box; heard = heard box }) bank self.old.core.performance (⟦<Core as Stands>⟧.boxes self.old.core) (⟦<Player as Holds>⟧.removed self.old) self.old.left.items (into_iter_items self.old.bank) → IsAtUnless stop (λ box. record { keep = keep box; heard = heard box }) bank self.new.core.performance (⟦<Core as Stands>⟧.boxes self.new.core) (⟦<Player as Holds>⟧.removed self.new) self.new.left.items (into_iter_items self.new.bank)) }
+        ensures boxes { IfOk result (λ stop. TalliesOn M.keep M.heard stop self.old self.new) }
     {
         match act {
             Act::Add(address) => self.play_add(address),
@@ -92,7 +81,7 @@ impl Player {
         ensures faults { OnOk result (self.new.faults ≡ self.old.faults) }
         ensures stop { IfOk result (λ stop. option_map room_of stop ≡ stop_at (state_of self.old.core.performance) (add address)) }
         ensures waiting { OnOk result (length (into_iter_items self.old.bank) ≤ 1 + length (into_iter_items self.new.bank)) }
-        ensures boxes { IfOk result (λ stop. (bank : List _) → IsAt (λ box. record { keep = keep box; heard = heard box }) bank self.old.core.performance (⟦<Core as Stands>⟧.boxes self.old.core) (⟦<Player as Holds>⟧.removed self.old) self.old.left.items (into_iter_items self.old.bank) → IsAtUnless stop (λ box. record { keep = keep box; heard = heard box }) bank self.new.core.performance (⟦<Core as Stands>⟧.boxes self.new.core) (⟦<Player as Holds>⟧.removed self.new) self.new.left.items (into_iter_items self.new.bank)) }
+        ensures boxes { IfOk result (λ stop. TalliesOn M.keep M.heard stop self.old self.new) }
     {
         let Some(method) = self.bank.next() else {
             unreachable!()
@@ -109,7 +98,7 @@ impl Player {
         ensures faults { OnOk result (self.new.faults ≡ self.old.faults) }
         ensures stop { IfOk result (λ stop. option_map room_of stop ≡ stop_at (state_of self.old.core.performance) (remove address.now)) }
         ensures waiting { OnOk result (into_iter_items self.new.bank ≡ into_iter_items self.old.bank) }
-        ensures boxes { IfOk result (λ stop. (bank : List _) → IsAt (λ box. record { keep = keep box; heard = heard box }) bank self.old.core.performance (⟦<Core as Stands>⟧.boxes self.old.core) (⟦<Player as Holds>⟧.removed self.old) self.old.left.items (into_iter_items self.old.bank) → IsAtUnless stop (λ box. record { keep = keep box; heard = heard box }) bank self.new.core.performance (⟦<Core as Stands>⟧.boxes self.new.core) (⟦<Player as Holds>⟧.removed self.new) self.new.left.items (into_iter_items self.new.bank)) }
+        ensures boxes { IfOk result (λ stop. TalliesOn M.keep M.heard stop self.old self.new) }
     {
         let removing = self.core.remove(0, address);
         let stop = stop_of_removing(&removing);
@@ -123,7 +112,7 @@ impl Player {
         ensures faults { OnOk result (self.new.faults ≡ self.old.faults ++ printed_faults (fault_at number (packet_fault 65504 bytes.now))) }
         ensures stop { IfOk result (λ stop. option_map room_of stop ≡ stop_sent (state_of self.old.core.performance) bytes.now (is_packet 65504 bytes.now)) }
         ensures waiting { OnOk result (into_iter_items self.new.bank ≡ into_iter_items self.old.bank) }
-        ensures boxes { IfOk result (λ stop. (bank : List _) → IsAt (λ box. record { keep = keep box; heard = heard box }) bank self.old.core.performance (⟦<Core as Stands>⟧.boxes self.old.core) (⟦<Player as Holds>⟧.removed self.old) self.old.left.items (into_iter_items self.old.bank) → IsAtUnless stop (λ box. record { keep = keep box; heard = heard box }) bank self.new.core.performance (⟦<Core as Stands>⟧.boxes self.new.core) (⟦<Player as Holds>⟧.removed self.new) self.new.left.items (into_iter_items self.new.bank)) }
+        ensures boxes { IfOk result (λ stop. TalliesOn M.keep M.heard stop self.old self.new) }
     {
         match Packet::check(bytes.as_slice(), 65_504) {
             Ok(packet) => Ok(self.play_packet(&packet)),
@@ -140,7 +129,7 @@ impl Player {
         ensures faults { self.new.faults ≡ self.old.faults }
         ensures stop { option_map room_of result ≡ stop_at (state_of self.old.core.performance) (submit packet.now) }
         ensures waiting { into_iter_items self.new.bank ≡ into_iter_items self.old.bank }
-        ensures boxes { (bank : List _) → IsAt (λ box. record { keep = keep box; heard = heard box }) bank self.old.core.performance (⟦<Core as Stands>⟧.boxes self.old.core) (⟦<Player as Holds>⟧.removed self.old) self.old.left.items (into_iter_items self.old.bank) → IsAtUnless result (λ box. record { keep = keep box; heard = heard box }) bank self.new.core.performance (⟦<Core as Stands>⟧.boxes self.new.core) (⟦<Player as Holds>⟧.removed self.new) self.new.left.items (into_iter_items self.new.bank) }
+        ensures boxes { TalliesOn M.keep M.heard result self.old self.new }
     {
         stop_of_submitted(self.core.submit(0, packet))
     }
@@ -151,7 +140,7 @@ impl Player {
         ensures faults { self.new.faults ≡ self.old.faults }
         ensures stop { option_map room_of result ≡ stop_at (state_of self.old.core.performance) (tick moment) }
         ensures waiting { into_iter_items self.new.bank ≡ into_iter_items self.old.bank }
-        ensures boxes { (bank : List _) → IsAt (λ box. record { keep = keep box; heard = heard box }) bank self.old.core.performance (⟦<Core as Stands>⟧.boxes self.old.core) (⟦<Player as Holds>⟧.removed self.old) self.old.left.items (into_iter_items self.old.bank) → IsAtUnless result (λ box. record { keep = keep box; heard = heard box }) bank self.new.core.performance (⟦<Core as Stands>⟧.boxes self.new.core) (⟦<Player as Holds>⟧.removed self.new) self.new.left.items (into_iter_items self.new.bank) }
+        ensures boxes { TalliesOn M.keep M.heard result self.old self.new }
     {
         stop_of_ticking(self.core.tick(0, moment))
     }
@@ -163,7 +152,7 @@ impl Player {
         ensures faults { self.new.faults ≡ self.old.faults }
         ensures stop { option_map room_of result ≡ stop_at (after (state_of self.old.core.performance) (pump (state_of self.old.core.performance))) release }
         ensures waiting { into_iter_items self.new.bank ≡ into_iter_items self.old.bank }
-        ensures boxes { (bank : List _) → IsAt (λ box. record { keep = keep box; heard = heard box }) bank self.old.core.performance (⟦<Core as Stands>⟧.boxes self.old.core) (⟦<Player as Holds>⟧.removed self.old) self.old.left.items (into_iter_items self.old.bank) → IsAtUnless result (λ box. record { keep = keep box; heard = heard box }) bank self.new.core.performance (⟦<Core as Stands>⟧.boxes self.new.core) (⟦<Player as Holds>⟧.removed self.new) self.new.left.items (into_iter_items self.new.bank) }
+        ensures boxes { TalliesOn M.keep M.heard result self.old self.new }
     {
         a_box_hears_its_calls();
         invocations_are_of_registered_methods();
@@ -178,7 +167,7 @@ impl Player {
 }
 
 /// Where there was no room for the entry of an add.
-fn stop_of_adding(adding: &Adding) -> Option<Room>
+fn stop_of_adding<M>(adding: &Adding<M>) -> Option<Room>
     ensures { option_map room_of result ≡ room_in (adding_of adding.now) }
 {
     match adding {
@@ -191,7 +180,7 @@ fn stop_of_adding(adding: &Adding) -> Option<Room>
 }
 
 /// Where there was no room for the entry of a removal.
-fn stop_of_removing(removing: &Removing) -> Option<Room>
+fn stop_of_removing<M>(removing: &Removing<M>) -> Option<Room>
     ensures { option_map room_of result ≡ room_in (removing_of removing.now) }
 {
     match removing {
@@ -221,7 +210,7 @@ fn stop_of_ticking(ticking: Ticking) -> Option<Room>
 }
 
 /// Keeps the box of an add that was refused.
-fn keep_refused(left: &mut Vec<Box<dyn Method + Send>>, adding: Adding) -> Result<(), AllocError>
+fn keep_refused<M: Method>(left: &mut Vec<M>, adding: Adding<M>) -> Result<(), AllocError>
     ensures { OnOk result (left.new.items ≡ left.old.items ++ handed_back adding) }
 {
     match adding {
@@ -238,9 +227,9 @@ fn keep_refused(left: &mut Vec<Box<dyn Method + Send>>, adding: Adding) -> Resul
 }
 
 /// Keeps the box of a method that was removed.
-fn keep_removed(
-    removed: &mut Vec<(u32, Box<dyn Method + Send>)>,
-    removing: Removing,
+fn keep_removed<M: Method>(
+    removed: &mut Vec<(u32, M)>,
+    removing: Removing<M>,
 ) -> Result<(), AllocError>
     ensures { OnOk result (removed.new.items ≡ removed.old.items ++ handed_out removing) }
 {

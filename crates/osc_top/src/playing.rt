@@ -1,21 +1,24 @@
 // Plays a script on a server, which records it.
-ghost use Rattle.std.specs.Prelude.{◌≡◌, ◌++◌, [], ◌<◌, ◌≤◌, List, map, length, IfOk, OnOk};
+ghost use Rattle.std.specs.Prelude.{◌≡◌, ◌++◌, [], ◌<◌, ◌≤◌, IsTrue, List, map, length, IfOk, OnOk};
 ghost use Rattle.std.specs.Option.{option_map};
 ghost use Rattle.std.specs.List.Sorted.{IsPermutation, IsNonDecreasingBy};
 ghost use Rattle.std.specs.Vec.Iter.{into_iter_items};
 ghost use Rattle.osc_model.specs.Recordings.{record_text};
-ghost use Rattle.osc_model.specs.History.{Legal, state_of, invoked_in};
+ghost use Rattle.osc_model.specs.History.{Legal};
 ghost use Rattle.osc_record.specs.Shown.{room_of};
+ghost use Rattle.osc_core.specs.Ids.{is_ascending};
+ghost use Rattle.osc_core.specs.Telling.{told};
 ghost use Rattle.osc_top.specs.Plain as scripts;
 ghost use Rattle.osc_top.specs.Plain.{count_adds};
-ghost use Rattle.osc_top.specs.Ends.{IsRunOf};
-ghost use Rattle.osc_top.specs.Bank.{IsAccounted, add_answers, boxes_left, boxes_heard};
-ghost use Rattle.osc_top.specs.Tally.{IsAt, IsOver};
+ghost use Rattle.osc_top.specs.Ends.{IsRunOf, RunsByTheLaws};
+ghost use Rattle.osc_top.specs.Bank.{IsAccounted};
+ghost use Rattle.osc_top.specs.Tallied.{HasTallied, IsDone, AreParted};
 
-use crate::player::{Holds, Player};
+use crate::player::Player;
 use crate::recorded::Recorded;
 use osc_atoms::Room;
-use osc_core::{Closed, Core, Stands};
+use osc_core::{Closed, Core};
+use osc_laws::laws::every_history_keeps_the_laws;
 use osc_method::Method;
 use osc_print::Text;
 use osc_record::Caps;
@@ -25,39 +28,43 @@ use std::vec::IntoIter;
 
 /// What came of a script and of a bank.
 #[derive(Drop)]
-pub(crate) struct Played {
+pub(crate) struct Played<M> {
     pub(crate) recorded: Recorded,
     /// The methods that were added, by ascending ids.
-    pub(crate) heard: Vec<(u32, Box<dyn Method + Send>)>,
+    pub(crate) heard: Vec<(u32, M)>,
     /// The other boxes of the bank.
-    pub(crate) left: Vec<Box<dyn Method + Send>>,
+    pub(crate) left: Vec<M>,
 }
 
 /// Plays the lines on a new server as caller 0, up to the first event for whose entry the recording has no room; the k-th
 /// add gets the k-th box. An `Err` is want of memory.
-pub(crate) fn play(
+pub(crate) fn play<M: Method>(
     alloc: Global,
     lines: Vec<Line>,
-    bank: Vec<Box<dyn Method + Send>>,
-) -> Result<Played, AllocError>
+    bank: Vec<M>,
+) -> Result<Played<M>, AllocError>
     requires enough { count_adds lines.items ≤ length bank.items }
     ensures run { IfOk result (λ played. IsRunOf played.recorded.bytes.items played.recorded.faults (option_map room_of played.recorded.stop) lines.items) }
-    ensures accounted { IfOk result (λ played. IsAccounted lines.items (map (λ one. record { id = one.0; keep = keep one.1; heard = heard one.1 }) played.heard.items) played.left.items (map (λ box. record { keep = keep box; heard = heard box }) bank.items) bank.items) }
+    ensures accounted { IfOk result (λ played. IsAccounted lines.items (told M.keep M.heard played.heard.items) played.left.items (map (λ box. record { keep = M.keep box; heard = M.heard box }) bank.items) bank.items) }
+    ensures ascending { IfOk result (λ played. IsTrue (is_ascending (map (λ one. one.0) played.heard.items))) }
+    ensures laws { OnOk result (RunsByTheLaws lines.items) }
 {
+    every_history_keeps_the_laws();
     let mut player = Player::open(alloc, bank)?;
     let stop = player.play_lines(lines)?;
-    player.finish(stop)
+    let played = player.finish(stop)?;
+    Ok(played)
 }
 
-impl Player {
-    fn open(alloc: Global, bank: Vec<Box<dyn Method + Send>>) -> Result<Player, AllocError>
+impl<M: Method> Player<M> {
+    fn open(alloc: Global, bank: Vec<M>) -> Result<Player<M>, AllocError>
         ensures performance { IfOk result (λ player. player.core.performance ≡ record { caps = scripts.default_caps; history = [] }) }
         ensures faults { IfOk result (λ player. player.faults ≡ []) }
         ensures bank { IfOk result (λ player. into_iter_items player.bank ≡ bank.items) }
-        ensures boxes { IfOk result (λ player. IsAt (λ box. record { keep = keep box; heard = heard box }) bank.items player.core.performance (⟦<Core as Stands>⟧.boxes player.core) (⟦<Player as Holds>⟧.removed player) player.left.items (into_iter_items player.bank)) }
+        ensures boxes { IfOk result (λ player. HasTallied M.keep M.heard bank.items player) }
     {
         Ok(Player {
-            core: Core::open_in(Vec::new(alloc), alloc, default_caps())?,
+            core: Core::open(alloc, default_caps())?,
             bank: bank.into_iter(),
             removed: Vec::new(alloc),
             left: Vec::new(alloc),
@@ -66,14 +73,13 @@ impl Player {
     }
 
     /// Ends the server, and hands out its recording and the boxes.
-    fn finish(self, stop: Option<Room>) -> Result<Played, AllocError>
-        requires { 0 < (state_of self.core.performance).callers }
+    fn finish(self, stop: Option<Room>) -> Result<Played<M>, AllocError>
         ensures text { IfOk result (λ played. played.recorded.bytes.items ≡ record_text self.core.performance.caps self.core.performance.history) }
         ensures legal { OnOk result (Legal self.core.performance.caps self.core.performance.history) }
         ensures faults { IfOk result (λ played. played.recorded.faults ≡ self.faults) }
         ensures stop { IfOk result (λ played. played.recorded.stop ≡ stop) }
-        ensures boxes { IfOk result (λ played. (bank : List _) → IsOver (λ box. record { keep = keep box; heard = heard box }) bank self.core.performance (⟦<Core as Stands>⟧.boxes self.core) (⟦<Player as Holds>⟧.removed self) self.left.items (into_iter_items self.bank) →
-            (map (λ one. record { id = one.0; keep = keep one.1; heard = heard one.1 }) played.heard.items ≡ boxes_heard (invoked_in self.core.performance) (add_answers self.core.performance.history) (map (λ box. record { keep = keep box; heard = heard box }) bank)) × (played.left.items ≡ boxes_left (add_answers self.core.performance.history) bank)) }
+        ensures boxes { IfOk result (λ played. (bank : List M) → IsDone M.keep M.heard bank self →
+            AreParted M.keep M.heard self.core.performance bank played.heard.items played.left.items) }
     {
         let Player {
             core,
@@ -82,7 +88,7 @@ impl Player {
             mut left,
             faults,
         } = self;
-        let Closed { bytes, kept } = core.close_enrolled();
+        let Closed { bytes, kept } = core.close();
         let heard = gather(kept, removed)?;
         keep_rest(&mut left, bank)?;
         let recorded = Recorded {
@@ -109,10 +115,10 @@ fn default_caps() -> Caps
 }
 
 /// The boxes of the registered methods and those of the removed ones, by ascending ids.
-fn gather(
-    mut kept: Vec<(u32, Box<dyn Method + Send>)>,
-    mut removed: Vec<(u32, Box<dyn Method + Send>)>,
-) -> Result<Vec<(u32, Box<dyn Method + Send>)>, AllocError>
+fn gather<M: Method>(
+    mut kept: Vec<(u32, M)>,
+    mut removed: Vec<(u32, M)>,
+) -> Result<Vec<(u32, M)>, AllocError>
     ensures each { IfOk result (λ sorted. IsPermutation (kept.items ++ removed.items) sorted.items) }
     ensures ascending { IfOk result (λ sorted. IsNonDecreasingBy (λ one. one.0) sorted.items) }
 {
@@ -121,12 +127,12 @@ fn gather(
     Ok(kept)
 }
 
-fn sort_by_id(heard: &mut Vec<(u32, Box<dyn Method + Send>)>) -> Result<(), AllocError>
+fn sort_by_id<M: Method>(heard: &mut Vec<(u32, M)>) -> Result<(), AllocError>
     ensures each { IsPermutation heard.old.items heard.new.items }
     ensures ascending { OnOk result (IsNonDecreasingBy (λ one. one.0) heard.new.items) }
 {
     heard.sort_by_key(
-        |one: &(u32, Box<dyn Method + Send>)| -> u32
+        |one: &(u32, M)| -> u32
             ensures { result ≡ one.now.0 }
         { one.0 },
     )?;
@@ -134,10 +140,7 @@ fn sort_by_id(heard: &mut Vec<(u32, Box<dyn Method + Send>)>) -> Result<(), Allo
 }
 
 /// Keeps the boxes that no add has taken.
-fn keep_rest(
-    left: &mut Vec<Box<dyn Method + Send>>,
-    rest: IntoIter<Box<dyn Method + Send>>,
-) -> Result<(), AllocError>
+fn keep_rest<M: Method>(left: &mut Vec<M>, rest: IntoIter<M>) -> Result<(), AllocError>
     ensures { OnOk result (left.new.items ≡ left.old.items ++ into_iter_items rest) }
 {
     for method in rest {

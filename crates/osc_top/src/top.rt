@@ -1,8 +1,9 @@
 // The top call.
-ghost use Rattle.std.specs.Prelude.{◌≡◌, ◌≢◌, ◌⊎◌, ◌≤◌, ◌<◌, ℕ, List, IsOkAnd, IfSome, Some, Ok, [], None, length, map, string_bytes};
+ghost use Rattle.std.specs.Prelude.{◌≡◌, ◌≢◌, ◌⊎◌, ◌≤◌, ◌<◌, ℕ, IsTrue, List, IsOkAnd, IfSome, Some, Ok, [], None, length, map, string_bytes};
 ghost use Rattle.osc_edge.specs.Faults.{Rose};
 ghost use Rattle.osc_model.specs.Limits.{Limits};
 ghost use Rattle.osc_model.specs.Events.{Entry};
+ghost use Rattle.osc_core.specs.Ids.{is_ascending};
 ghost use Rattle.osc_replay.specs.Disagreeing.{IsRecordingOf};
 ghost use Rattle.osc_script.specs.declared.line.Line.{Line};
 ghost use Rattle.osc_script.specs.declared.mode.Mode.TheVariants.{Plain};
@@ -14,7 +15,7 @@ ghost use Rattle.osc_top.specs.Plain.{is_add};
 ghost use Rattle.osc_top.specs.Bank.{IsAccounted};
 ghost use Rattle.osc_top.specs.Printing.{usage_text};
 ghost use Rattle.osc_top.specs.Commands as commands;
-ghost use Rattle.osc_top.specs.Ends.{GainsUnless, IsUnstopped, EndsRun, EndsLines, EndsReplay, EndsCommand, left_behind};
+ghost use Rattle.osc_top.specs.Ends.{GainsUnless, IsUnstopped, RunsByTheLaws, RecordsTheLaws, EndsRun, EndsLines, EndsReplay, EndsCommand, left_behind};
 
 use crate::command::{Command, Output, command_of};
 use crate::playing::{Played, play};
@@ -85,10 +86,17 @@ pub fn plain_top<S: Source, O: Sink>(
     ensures accounted { (output : Output) → commands.command_of (map string_bytes words.now) ≡ Some (Run output) → (result.status ≡ 0) ⊎ (result.status ≡ 5) ⊎ (result.status ≡ 6) → (lines : List Line) ×
         IfSome (S.left input.old) (λ script. script_of Plain script ≡ Ok lines) ×
         IsAccounted lines (map (λ one. record { id = one.0; keep = keep one.1; heard = heard one.1 }) result.heard.items) result.left.items (map (λ box. record { keep = keep box; heard = heard box }) bank.items) bank.items }
+    ensures ascending { IsTrue (is_ascending (map (λ one. one.0) result.heard.items)) }
     ensures none_heard { (result.status ≡ 1) ⊎ (result.status ≡ 2) ⊎ (result.status ≡ 4) ⊎ (result.status ≡ 8) → result.heard.items ≡ [] }
     ensures all_left { (result.status ≡ 1) ⊎ (result.status ≡ 2) ⊎ (result.status ≡ 4) ⊎ (result.status ≡ 8) → result.left.items ≡ bank.items }
     ensures replay_hears_none { commands.command_of (map string_bytes words.now) ≡ Some Replay → result.status ≢ 3 → result.heard.items ≡ [] }
     ensures replay_leaves_all { commands.command_of (map string_bytes words.now) ≡ Some Replay → result.status ≢ 3 → result.left.items ≡ bank.items }
+
+    // The history of each run and of each recording that is replayed keeps the four laws.
+    ensures laws { (output : Output) → commands.command_of (map string_bytes words.now) ≡ Some (Run output) → (result.status ≡ 0) ⊎ (result.status ≡ 5) ⊎ (result.status ≡ 6) → (lines : List Line) ×
+        IfSome (S.left input.old) (λ script. script_of Plain script ≡ Ok lines) × RunsByTheLaws lines }
+    ensures replay_laws { commands.command_of (map string_bytes words.now) ≡ Some Replay → result.status ≡ 0 →
+        IfSome (S.left input.old) (λ recording. RecordsTheLaws recording) }
 
     // A lawful script with enough boxes and room for its recording is played, and the recording of each history that the
     // server's rules give is replayed, over edges that don't fail, unless memory runs out.
@@ -165,6 +173,10 @@ fn perform<O: Sink>(
     requires { length bytes.items ≤ commands.most_bytes command }
     ensures ends { EndsCommand command result.status (length bank.items) bytes.items (O.held out.old) (O.held out.new) (O.faults out.old) (O.faults out.new) }
     ensures accounted { (output : Output) → command ≡ Run output → (result.status ≡ 0) ⊎ (result.status ≡ 5) ⊎ (result.status ≡ 6) → (lines : List Line) × (script_of Plain bytes.items ≡ Ok lines) × IsAccounted lines (map (λ one. record { id = one.0; keep = keep one.1; heard = heard one.1 }) result.heard.items) result.left.items (map (λ box. record { keep = keep box; heard = heard box }) bank.items) bank.items }
+    ensures ascending { IsTrue (is_ascending (map (λ one. one.0) result.heard.items)) }
+    ensures laws { (output : Output) → command ≡ Run output → (result.status ≡ 0) ⊎ (result.status ≡ 5) ⊎ (result.status ≡ 6) →
+        (lines : List Line) × (script_of Plain bytes.items ≡ Ok lines) × RunsByTheLaws lines }
+    ensures replay_laws { command ≡ Replay → result.status ≡ 0 → RecordsTheLaws bytes.items }
     ensures none_heard { (result.status ≡ 1) ⊎ (result.status ≡ 8) → result.heard.items ≡ [] }
     ensures all_left { (result.status ≡ 1) ⊎ (result.status ≡ 8) → result.left.items ≡ bank.items }
     ensures replay_hears_none { command ≡ Replay → result.heard.items ≡ [] }
@@ -188,6 +200,9 @@ fn run<O: Sink>(
 ) -> Ended
     ensures ends { EndsRun output result.status (length bank.items) bytes.items (O.held out.old) (O.held out.new) (O.faults out.old) (O.faults out.new) }
     ensures accounted { (result.status ≡ 0) ⊎ (result.status ≡ 5) ⊎ (result.status ≡ 6) → (lines : List Line) × (script_of Plain bytes.items ≡ Ok lines) × IsAccounted lines (map (λ one. record { id = one.0; keep = keep one.1; heard = heard one.1 }) result.heard.items) result.left.items (map (λ box. record { keep = keep box; heard = heard box }) bank.items) bank.items }
+    ensures ascending { IsTrue (is_ascending (map (λ one. one.0) result.heard.items)) }
+    ensures laws { (result.status ≡ 0) ⊎ (result.status ≡ 5) ⊎ (result.status ≡ 6) →
+        (lines : List Line) × (script_of Plain bytes.items ≡ Ok lines) × RunsByTheLaws lines }
     ensures none_heard { (result.status ≡ 1) ⊎ (result.status ≡ 8) → result.heard.items ≡ [] }
     ensures all_left { (result.status ≡ 1) ⊎ (result.status ≡ 8) → result.left.items ≡ bank.items }
 {
@@ -209,6 +224,8 @@ fn run_lines<O: Sink>(
 ) -> Ended
     ensures ends { EndsLines output result.status (length bank.items) lines.items (O.held out.old) (O.held out.new) (O.faults out.old) (O.faults out.new) }
     ensures accounted { (result.status ≡ 0) ⊎ (result.status ≡ 5) ⊎ (result.status ≡ 6) → IsAccounted lines.items (map (λ one. record { id = one.0; keep = keep one.1; heard = heard one.1 }) result.heard.items) result.left.items (map (λ box. record { keep = keep box; heard = heard box }) bank.items) bank.items }
+    ensures ascending { IsTrue (is_ascending (map (λ one. one.0) result.heard.items)) }
+    ensures laws { (result.status ≡ 0) ⊎ (result.status ≡ 5) ⊎ (result.status ≡ 6) → RunsByTheLaws lines.items }
     ensures none_heard { result.status ≡ 8 → result.heard.items ≡ [] }
     ensures all_left { result.status ≡ 8 → result.left.items ≡ bank.items }
 {

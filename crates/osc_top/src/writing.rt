@@ -8,7 +8,7 @@ ghost use Rattle.osc_replay.specs.Disagreeing.{IsRecordingOf};
 ghost use Rattle.osc_script.specs.declared.line.Line.{Line};
 ghost use Rattle.osc_top.specs.Printing.{refusal_text, malformed_text, disagrees_text, bank_short_text};
 ghost use Rattle.osc_top.specs.Ends as ends;
-ghost use Rattle.osc_top.specs.Ends.{IsRunOf, EndsText, EndsLine, EndsPlayed, EndsReplay};
+ghost use Rattle.osc_top.specs.Ends.{IsRunOf, EndsText, EndsLine, EndsPlayed, EndsReplay, RecordsTheLaws};
 
 use crate::command::Output;
 use crate::lines::{bank_short_line, disagrees_lines, full_line, malformed_line, refusal_line};
@@ -16,6 +16,7 @@ use crate::recorded::Recorded;
 use crate::status::{BANK_SHORT, DONE, NO_MEMORY, RECORDING_FULL, REFUSED, SINK_FAILED};
 use crate::whole::{Written, write_whole};
 use osc_edge::Sink;
+use osc_laws::laws::every_history_keeps_the_laws;
 use osc_message::Bytes;
 use osc_model::laws::a_legal_history_is_recordable;
 use osc_print::Text;
@@ -71,7 +72,9 @@ pub(crate) fn write_replay<O: Sink>(alloc: Global, bytes: &[u8], out: &mut O) ->
     requires { length bytes.now ≤ 1073741824 }
     ensures ends { EndsReplay result bytes.now (O.held out.old) (O.held out.new) (O.faults out.old) (O.faults out.new) }
     ensures replayed { (caps : Limits) (history : List Entry) → IsRecordingOf bytes.now caps history → (result ≡ 0) ⊎ (result ≡ 3) ⊎ (result ≡ 5) }
+    ensures laws { result ≡ 0 → RecordsTheLaws bytes.now }
 {
+    every_history_keeps_the_laws();
     match replay(alloc, bytes) {
         Ok(text) => write_text(DONE, text.bytes(), out),
         Err(ReplayFault::Malformed { at }) => malformed(alloc, at, out),

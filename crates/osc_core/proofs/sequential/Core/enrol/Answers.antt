@@ -1,6 +1,8 @@
+use Rattle.std.proofs.Common.{refl}
 use Rattle.osc_model.specs.Events.{enrol}
 use Rattle.osc_model.specs.History.{onward}
 use Rattle.osc_core.proofs.Staying.{heard_on, still_alike, still_reserved}
+use Rattle.osc_core.proofs.Texts.{stood}
 use Rattle.osc_core.proofs.sequential.Core.enrol.Goals as goal
 
 pub invariant_of-self : goal.invariant_of-self
@@ -10,9 +12,12 @@ invariant_of-self g c =
     record {
       alike = still_alike old.performance c.enrol.new.self next _ c.enrol.ensures.performance (c.boxes_stay.ensures.quiet_methods old.performance c.args.caller enrol tt) old.alike;
       ascending = old.ascending;
+      heard = heard_on c.enrol.new.self next _ c.enrol.ensures.performance (c.boxes_stay.ensures.quiet old.performance c.args.caller enrol _ tt old.heard);
       reserved = still_reserved old.performance c.enrol.new.self next _ c.enrol.ensures.performance (c.boxes_stay.ensures.caps old.performance c.args.caller enrol) old.reserved;
     }
 
-pub returns-clause-heard : goal.returns-clause-heard
-returns-clause-heard g c heard =
-    heard_on c.enrol.new.self _ _ c.enrol.ensures.performance (c.boxes_stay.ensures.quiet c.args.self.now.performance c.args.caller enrol _ tt heard)
+pub returns-clause-stands : goal.returns-clause-stands
+returns-clause-stands g c texts stands =
+    let old = c.args.self.now.performance in
+    let heard = c.boxes_stay.ensures.quiet old c.args.caller enrol _ tt stands.heard in
+    stood _ _ _ _ _ _ c.enrol.ensures.performance refl (c.a_server_stands_for_more.ensures.same old c.args.caller enrol _ texts stands c.requires tt heard)

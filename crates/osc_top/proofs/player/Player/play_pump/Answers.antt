@@ -26,7 +26,7 @@ loop-room-preserved g c =
       end = (pump_on performance c.release.new.self.performance done.performance (is_taken performance c.in-Released.unit c.in-Released.calls c.in-Released.ensures.answer)).same_end ∙ before.end;
       faults = before.faults;
       waiting = before.waiting;
-      boxes = λ bank at. turn_at _ bank performance _ law (c.invocations_are_of_registered_methods.ensures.step (state_of performance) release) done.performance _ _ _ _ _ done.boxes done.heard (before.boxes bank at);
+      boxes = λ bank at. turn_at _ bank performance _ law (c.invocations_are_of_registered_methods.ensures.step (state_of performance) release) done.performance _ _ _ _ _ done.boxes c.loop-room.self.core.heard (before.boxes bank at);
     }
 
 pub returns-in-NothingDue-clause-stop : goal.returns-in-NothingDue-clause-stop
@@ -41,7 +41,7 @@ returns-in-NothingDue-clause-boxes g c =
     let done = c.release.ensures in
     let performance = c.loop-room.self.core.performance in
     let law : HearsCalls = record { fresh = c.a_box_hears_its_calls.ensures.fresh; on = c.a_box_hears_its_calls.ensures.on } in
-    λ bank at. turn_at _ bank performance _ law (c.invocations_are_of_registered_methods.ensures.step (state_of performance) release) done.performance _ _ _ _ _ done.boxes done.heard (c.loop-room.invariant.boxes bank at)
+    λ bank at. turn_at _ bank performance _ law (c.invocations_are_of_registered_methods.ensures.step (state_of performance) release) done.performance _ _ _ _ _ done.boxes c.loop-room.self.core.heard (c.loop-room.invariant.boxes bank at)
 
 pub returns-in-RecordFull-clause-stop : goal.returns-in-RecordFull-clause-stop
 returns-in-RecordFull-clause-stop g c =
@@ -55,4 +55,4 @@ returns-in-RecordFull-clause-boxes g c =
     let done = c.release.ensures in
     let performance = c.loop-room.self.core.performance in
     let law : HearsCalls = record { fresh = c.a_box_hears_its_calls.ensures.fresh; on = c.a_box_hears_its_calls.ensures.on } in
-    λ bank at. at_over _ bank _ _ _ _ _ (turn_at _ bank performance _ law (c.invocations_are_of_registered_methods.ensures.step (state_of performance) release) done.performance _ _ _ _ _ done.boxes done.heard (c.loop-room.invariant.boxes bank at))
+    λ bank at. at_over _ bank _ _ _ _ _ (turn_at _ bank performance _ law (c.invocations_are_of_registered_methods.ensures.step (state_of performance) release) done.performance _ _ _ _ _ done.boxes c.loop-room.self.core.heard (c.loop-room.invariant.boxes bank at))

@@ -1,0 +1,5 @@
+//! Tests of the program's top call.
+#![tactic(auto)]
+
+#[cfg(test)]
+mod top;

@@ -1,0 +1,501 @@
+// Worked scripts and recordings, run over sources and sinks in memory.
+use osc_edge::{MemorySink, MemorySource};
+use osc_message::Builder;
+use osc_method::{Method, Trace};
+use osc_top::{plain_top, traces};
+use std::alloc::{AllocError, Global};
+use std::process::Abort;
+use std::test::Fail;
+
+const FIRST_LIGHT: &str = "add /light/dim\nsend 2f6c696768742f64696d0000 2c690000 00000007\npump\n";
+
+/// A bundle in a bundle, at moment 2.
+const NESTED: &str =
+    "add /a\nadd /b\nadd /c\nsend 2362756e646c6500 0000000000000002 00000004 2f610000 00000018 2362756e646c6500 0000000000000002 00000004 2f620000 00000004 2f630000\ntick 0000000000000002\npump\n";
+
+const REMOVED: &str = "add /a\nsend 2f610000\nremove /a\npump\nsend 2f610000\nadd /a\npump\n";
+
+/// What the program is given beside its words and its input.
+#[derive(Clone, Copy)]
+struct Setting {
+    boxes: u32,
+    /// How many bytes each box tells, at most 64.
+    keep: u32,
+    /// Which call of the source and of the sink fails, counted from 1; 0 where none does.
+    source_fails: u32,
+    sink_fails: u32,
+}
+
+const SETTING: Setting = Setting {
+    boxes: 8,
+    keep: 64,
+    source_fails: 0,
+    sink_fails: 0,
+};
+
+/// What the program came to.
+#[derive(Drop)]
+struct Outcome {
+    status: u8,
+    written: Vec<u8>,
+    /// The id of each method that was added, with the bytes that its box tells.
+    heard: Vec<(u32, Vec<u8>)>,
+    left: usize,
+}
+
+fn words(alloc: Global, line: &str) -> Result<Vec<String>, AllocError> {
+    let mut words = Vec::new(alloc);
+    for word in line.split_whitespace() {
+        words.push(String::from_str(alloc, word)?)?;
+    }
+    Ok(words)
+}
+
+fn bytes_told(alloc: Global, method: &Box<dyn Method + Send>) -> Result<Vec<u8>, AllocError> {
+    let mut bytes = Vec::new(alloc);
+    for k in 0..method.told().unwrap_or(0) {
+        bytes.push(method.byte(k))?;
+    }
+    Ok(bytes)
+}
+
+/// Does what the words say with the input.
+fn perform(
+    rt: &impl Abort,
+    alloc: Global,
+    line: &str,
+    input: &[u8],
+    setting: Setting,
+) -> Result<Outcome, Fail> {
+    assert!(rt; 0 < setting.keep && setting.keep <= 64);
+    let mut bank: Vec<Box<dyn Method + Send>> = Vec::new(alloc);
+    for _ in 0..setting.boxes {
+        bank.push(Box::new(alloc, Trace::open(alloc, setting.keep)?)?)?;
+    }
+    let source_fails = Vec::from_array(alloc, [setting.source_fails])?;
+    let mut source = MemorySource::open(Vec::from_slice(alloc, input)?, source_fails);
+    let mut sink = MemorySink::open(alloc, Vec::from_array(alloc, [setting.sink_fails])?);
+    let words = words(alloc, line)?;
+    let ended = plain_top(alloc, &words, &mut source, &mut sink, bank);
+    let mut heard = Vec::new(alloc);
+    for (id, method) in &ended.heard {
+        heard.push((*id, bytes_told(alloc, method)?))?;
+    }
+    Ok(Outcome {
+        status: ended.status,
+        written: Vec::from_slice(alloc, sink.bytes())?,
+        heard,
+        left: ended.left.len(),
+    })
+}
+
+/// Checks the status and what is written.
+fn writes(
+    rt: &impl Abort,
+    alloc: Global,
+    line: &str,
+    input: &[u8],
+    setting: Setting,
+    expected: (u8, &[u8]),
+) -> Result<(), Fail> {
+    let outcome = perform(rt, alloc, line, input, setting)?;
+    assert_eq!(rt; outcome.status, expected.0, "{line}");
+    assert_eq!(rt; outcome.written.as_slice(), expected.1, "{line}");
+    Ok(())
+}
+
+/// Plays each script.
+fn plays(rt: &impl Abort, alloc: Global, status: u8, rows: &[(&str, &str)]) -> Result<(), Fail> {
+    for (script, printed) in rows {
+        writes(
+            rt,
+            alloc,
+            "run",
+            script.as_bytes(),
+            SETTING,
+            (status, printed.as_bytes()),
+        )?;
+    }
+    Ok(())
+}
+
+#[test]
+fn scripts_print_their_histories(rt: HostRuntime) -> Result<(), Fail> {
+    plays(
+        &rt,
+        rt.alloc(),
+        0,
+        &[
+            (
+                FIRST_LIGHT,
+                "add 0 /light/dim id 0\nsubmit 0 queued 0 1\nrelease 0 0 1\ncall 0 0 0 /light/dim ,i i:7\n",
+            ),
+            ("", ""),
+            ("# show\n\nadd   /a\r\n", "add 0 /a id 0\n"),
+            (
+                "add /a/b\nadd /a\nsend 2F610000 2C000000\npump\npump\n",
+                "add 0 /a/b id 0\nadd 0 /a is-container\nsubmit 0 queued 0 1\nrelease 0 0 0\n",
+            ),
+            (
+                "add /b\nadd /a\nsend 2f610000 2c696900 00000001 ffffffff\nsend 2f620000 2c000000\npump",
+                "add 0 /b id 0\nadd 0 /a id 1\nsubmit 0 queued 0 1\nsubmit 0 queued 1 1\nrelease 0 0 1\ncall 0 0 1 /a ,ii i:1 i:-1\nrelease 0 1 1\ncall 1 0 0 /b ,\n",
+            ),
+            (
+                "send\nsend 000000000000000000000000000000000000000000000000000000000000\n",
+                "fault 1 1 0\nfault 2 2 30\n",
+            ),
+            // An older sender's message without a tag string, one with an unknown tag, and two faults.
+            (
+                "send\nadd /a\nsend 2f610000\nsend 2f610000 2c785d00 61626364\nsend 000000000000000000000000000000000000000000000000000000000000\npump\n",
+                "add 0 /a id 0\nsubmit 0 queued 0 1\nsubmit 0 queued 1 1\nrelease 0 0 1\ncall 0 0 0 /a -\nrelease 0 1 0\nfault 1 1 0\nfault 5 2 30\n",
+            ),
+        ],
+    )
+}
+
+#[test]
+fn methods_come_and_go(rt: HostRuntime) -> Result<(), Fail> {
+    plays(
+        &rt,
+        rt.alloc(),
+        0,
+        &[
+            // What is matched is what stands at the release.
+            (
+                REMOVED,
+                "add 0 /a id 0\nsubmit 0 queued 0 1\nremove 0 /a id 0\nrelease 0 0 0\nsubmit 0 queued 1 1\nadd 0 /a id 1\nrelease 0 1 1\ncall 1 0 1 /a -\n",
+            ),
+            // An id is never given twice, and containers go with their last method.
+            (
+                "add /a\nadd /a/b\nremove /a\nadd /a/b\nadd /a\nadd /a/b\nremove /a/b\nadd /a\nremove /q\n",
+                "add 0 /a id 0\nadd 0 /a/b under-method 0\nremove 0 /a id 0\nadd 0 /a/b id 1\nadd 0 /a is-container\nadd 0 /a/b taken 1\nremove 0 /a/b id 1\nadd 0 /a id 2\nremove 0 /q not-there\n",
+            ),
+        ],
+    )
+}
+
+#[test]
+fn units_wait_for_their_time_tags(rt: HostRuntime) -> Result<(), Fail> {
+    plays(
+        &rt,
+        rt.alloc(),
+        0,
+        &[
+            (
+                "add /a\nsend 2362756e646c6500 83aa7e8000000000 00000008 2f610000 2c000000\npump\ntick 83aa7e7fffffffff\npump\ntick 83aa7e8000000000\npump\n",
+                "add 0 /a id 0\nsubmit 0 queued 0 1\ntick 0 83aa7e7fffffffff ticked\ntick 0 83aa7e8000000000 ticked\nrelease 0 0 1\ncall 0 0 0 /a ,\n",
+            ),
+            // A bundle in a bundle is a unit of its own.
+            (
+                NESTED,
+                "add 0 /a id 0\nadd 0 /b id 1\nadd 0 /c id 2\nsubmit 0 queued 0 2\ntick 0 0000000000000002 ticked\nrelease 0 0 2\ncall 0 0 0 /a -\ncall 0 1 2 /c -\nrelease 0 1 1\ncall 1 0 1 /b -\n",
+            ),
+            // An enclosed bundle that is to be done immediately waits for the one around it.
+            (
+                "add /a\nadd /b\nadd /c\nsend 2362756e646c6500 83aa7e8000000000 00000004 2f610000 00000018 2362756e646c6500 0000000000000001 00000004 2f620000 00000004 2f630000\npump\ntick 83aa7e8000000000\npump\n",
+                "add 0 /a id 0\nadd 0 /b id 1\nadd 0 /c id 2\nsubmit 0 queued 0 2\ntick 0 83aa7e8000000000 ticked\nrelease 0 0 2\ncall 0 0 0 /a -\ncall 0 1 2 /c -\nrelease 0 1 1\ncall 1 0 1 /b -\n",
+            ),
+            (
+                "tick 0000000000000000\ntick 0000000000000005\ntick 0000000000000005\ntick 0000000000000004\n",
+                "tick 0 0000000000000000 clock-back 0000000000000001\ntick 0 0000000000000005 ticked\ntick 0 0000000000000005 ticked\ntick 0 0000000000000004 clock-back 0000000000000005\n",
+            ),
+            // An empty bundle is a unit.
+            (
+                "send 2362756e646c6500 0000000000000001\npump\n",
+                "submit 0 queued 0 1\nrelease 0 0 0\n",
+            ),
+            // A message with an unknown tag in a bundle invokes nothing.
+            (
+                "add /a\nsend 2362756e646c6500 0000000000000001 00000008 2f610000 2c780000 0000000c 2f610000 2c690000 00000001\npump\n",
+                "add 0 /a id 0\nsubmit 0 queued 0 1\nrelease 0 0 1\ncall 0 1 0 /a ,i i:1\n",
+            ),
+            // An enclosed tag before the one around it.
+            (
+                "send 2362756e646c6500 0000000000000003 00000004 2f610000 00000018 2362756e646c6500 0000000000000002 00000004 2f620000 00000004 2f630000",
+                "fault 1 18 36\n",
+            ),
+        ],
+    )
+}
+
+#[test]
+fn patterns_reach_what_they_match(rt: HostRuntime) -> Result<(), Fail> {
+    plays(
+        &rt,
+        rt.alloc(),
+        0,
+        &[
+            // The order is that of the addresses' bytes, and `-` is below `/`.
+            (
+                "add /a/x\nadd /a-b/x\nsend 2f2a2f78 00000000\npump\n",
+                "add 0 /a/x id 0\nadd 0 /a-b/x id 1\nsubmit 0 queued 0 1\nrelease 0 0 2\ncall 0 0 1 /a-b/x -\ncall 0 0 0 /a/x -\n",
+            ),
+            // What is matched is what is registered at the release; two patterns that are none.
+            (
+                "send 2f2a0000\nadd /a\nadd /b/c\npump\nsend 2f61ff00\nsend 2f5b6100",
+                "submit 0 queued 0 1\nadd 0 /a id 0\nadd 0 /b/c id 1\nrelease 0 0 1\ncall 0 0 0 /a -\nfault 5 10 2\nfault 6 11 1\n",
+            ),
+        ],
+    )
+}
+
+/// Sends a message with the pattern and no arguments.
+fn reaches(
+    rt: &impl Abort,
+    alloc: Global,
+    address: &str,
+    pattern: &str,
+    matches: bool,
+) -> Result<(), Fail> {
+    let builder = Builder::open(alloc, pattern.as_bytes())
+        .ok()
+        .ok_or("a pattern")?;
+    let message = builder.finish().ok().ok_or("a message")?;
+    let digits = hex::encode(alloc, message.as_slice())?;
+    let script = format!(in alloc; "add {address}\nsend {digits}\npump\n")?;
+    let call = format!(in alloc; "release 0 0 1\ncall 0 0 0 {address} ,\n")?;
+    let end = if matches {
+        call.as_str()
+    } else {
+        "release 0 0 0\n"
+    };
+    let printed = format!(in alloc; "add 0 {address} id 0\nsubmit 0 queued 0 1\n{end}")?;
+    plays(rt, alloc, 0, &[(script.as_str(), printed.as_str())])
+}
+
+/// The table of matches of docs/FORMATS.md, through the program: the addresses and the patterns.
+#[test]
+fn the_table_of_matches_holds_of_the_program(rt: HostRuntime) -> Result<(), Fail> {
+    for (address, pattern) in [
+        ("/foo/dx", "/{foo,bar}/[!a-c]?*"),
+        ("/bar/zzz", "/{foo,bar}/[!a-c]?*"),
+        ("/b", "/[c-a]"),
+        ("/-", "/[a-c-e]"),
+        ("/q", "/[!]"),
+        ("/a", "/{}a"),
+        ("/abc", "/{a,ab}c"),
+        ("/aab", "/*ab"),
+        ("/acbc", "/*c"),
+        ("/abbc", "/{a,ab}*c"),
+    ] {
+        reaches(&rt, rt.alloc(), address, pattern, true)?;
+    }
+    for (address, pattern) in [
+        ("/bar/ab", "/{foo,bar}/[!a-c]?*"),
+        ("/foo/d", "/{foo,bar}/[!a-c]?*"),
+        ("/baz/dx", "/{foo,bar}/[!a-c]?*"),
+        ("/d", "/[a-c-e]"),
+        ("/x", "/x[]"),
+        ("/a/b", "/a*"),
+        ("/a", "/a/"),
+    ] {
+        reaches(&rt, rt.alloc(), address, pattern, false)?;
+    }
+    Ok(())
+}
+
+#[test]
+fn each_tag_is_printed(rt: HostRuntime) -> Result<(), Fail> {
+    plays(
+        &rt,
+        rt.alloc(),
+        0,
+        &[
+            // The messages that the standard shows, and a usual controller's fader.
+            (
+                "add /oscillator/4/frequency\nsend 2f6f7363696c6c61746f722f342f6672657175656e637900 2c660000 43dc0000\npump\n",
+                "add 0 /oscillator/4/frequency id 0\nsubmit 0 queued 0 1\nrelease 0 0 1\ncall 0 0 0 /oscillator/4/frequency ,f f:43dc0000\n",
+            ),
+            (
+                "add /foo\nsend 2f666f6f00000000 2c69697366660000 000003e8 ffffffff 68656c6c6f000000 3f9df3b6 40b5b22d\npump\n",
+                "add 0 /foo id 0\nsubmit 0 queued 0 1\nrelease 0 0 1\ncall 0 0 0 /foo ,iisff i:1000 i:-1 s:hello f:3f9df3b6 f:40b5b22d\n",
+            ),
+            (
+                "add /1/fader1\nsend 2f312f666164657231000000 2c660000 3f000000\npump\n",
+                "add 0 /1/fader1 id 0\nsubmit 0 queued 0 1\nrelease 0 0 1\ncall 0 0 0 /1/fader1 ,f f:3f000000\n",
+            ),
+            (
+                "add /a\nsend 2f610000 2c696673626874645363726d54464e495b695d00 ffffffff 3f9df3b6 615c20e900000000 00000003 01020300 8000000000000000 0000000000000001 3ff0000000000000 68690000 00000041 ff8000ff 00903c7f 00000007\npump\n",
+                "add 0 /a id 0\nsubmit 0 queued 0 1\nrelease 0 0 1\ncall 0 0 0 /a ,ifsbhtdScrmTFNI[i] i:-1 f:3f9df3b6 s:a\\x5c\\x20\\xe9 b:010203 h:-9223372036854775808 t:0000000000000001 d:3ff0000000000000 S:hi c:00000041 r:ff8000ff m:00903c7f T F N I [ i:7 ]\n",
+            ),
+        ],
+    )
+}
+
+#[test]
+fn the_first_line_at_fault_refuses_the_script(rt: HostRuntime) -> Result<(), Fail> {
+    plays(
+        &rt,
+        rt.alloc(),
+        1,
+        &[
+            ("jump", "script 1 2\n"),
+            ("add", "script 1 3\n"),
+            ("add foo", "script 1 4\n"),
+            ("add /a*\n", "script 1 4\n"),
+            ("send 123", "script 1 5\n"),
+            ("tick 5", "script 1 6\n"),
+            ("add /a\n\nadd /b /c\njump\n", "script 3 3\n"),
+        ],
+    )
+}
+
+#[test]
+fn a_script_with_more_adds_than_boxes_is_not_played(rt: HostRuntime) -> Result<(), Fail> {
+    let alloc = rt.alloc();
+    for (script, boxes, line) in [
+        (FIRST_LIGHT, 0, "bank-short 1 0\n"),
+        ("add /a\nadd /b\n", 1, "bank-short 2 1\n"),
+    ] {
+        let setting = Setting { boxes, ..SETTING };
+        let outcome = perform(&rt, alloc, "run", script.as_bytes(), setting)?;
+        assert_eq!(rt; outcome.status, 8);
+        assert_eq!(rt; outcome.written.as_slice(), line.as_bytes());
+        assert_eq!(rt; outcome.heard.len(), 0);
+        assert_eq!(rt; outcome.left, boxes as usize);
+    }
+    Ok(())
+}
+
+/// The second message of unit 0, `/c` without tags, as a box tells it.
+const TOLD: [u8; 20] = [
+    0, 0, 0, 0, 0, 0, 0, 0, 0, 0, 0, 1, 0, 0, 0, 4, 0x2f, 0x63, 0, 0,
+];
+
+#[test]
+fn a_box_tells_the_last_bytes_of_its_calls(rt: HostRuntime) -> Result<(), Fail> {
+    let alloc = rt.alloc();
+    for (keep, told) in [(64, &TOLD[..]), (16, &TOLD[4..])] {
+        let setting = Setting { keep, ..SETTING };
+        let outcome = perform(&rt, alloc, "run", NESTED.as_bytes(), setting)?;
+        let (id, bytes) = outcome.heard.last().ok_or("a box")?;
+        assert_eq!(rt; *id, 2);
+        assert_eq!(rt; bytes.as_slice(), told);
+    }
+    Ok(())
+}
+
+/// Of each script the ids of the methods that were added, in order, how many bytes the first one's box tells, and how
+/// many of the eight boxes are left.
+#[test]
+fn boxes_come_back_by_the_ids_of_their_methods(rt: HostRuntime) -> Result<(), Fail> {
+    let alloc = rt.alloc();
+    for (script, ids, told, left) in [
+        // The removed box heard nothing.
+        (REMOVED, &[0u32, 1][..], 0, 6),
+        ("add /a\nadd /a\n", &[0], 0, 7),
+        (FIRST_LIGHT, &[0], 36, 7),
+    ] {
+        let outcome = perform(&rt, alloc, "run", script.as_bytes(), SETTING)?;
+        assert_eq!(rt; outcome.heard.len(), ids.len(), "{script}");
+        for ((id, _), expected) in outcome.heard.iter().zip(ids) {
+            assert_eq!(rt; *id, *expected, "{script}");
+        }
+        let (_, bytes) = outcome.heard.first().ok_or("a box")?;
+        assert_eq!(rt; bytes.len(), told, "{script}");
+        assert_eq!(rt; outcome.left, left, "{script}");
+    }
+    Ok(())
+}
+
+#[test]
+fn the_program_has_8192_boxes_of_64_bytes(rt: HostRuntime) -> Result<(), Fail> {
+    let traces = traces(rt.alloc())?;
+    assert_eq!(rt; traces.len(), 8192);
+    Ok(())
+}
+
+#[test]
+fn edges_that_fail_end_the_run(rt: HostRuntime) -> Result<(), Fail> {
+    let alloc = rt.alloc();
+    let script = FIRST_LIGHT.as_bytes();
+    let no_source = Setting {
+        source_fails: 1,
+        ..SETTING
+    };
+    writes(&rt, alloc, "run", script, no_source, (4, b""))?;
+    let no_sink = Setting {
+        sink_fails: 1,
+        ..SETTING
+    };
+    writes(&rt, alloc, "run", script, no_sink, (5, b""))
+}
+
+/// A sink takes at most 4,096 bytes a call, and the text of this script is longer: its one argument has 2,100 bytes.
+#[test]
+fn a_sink_that_fails_half_way_holds_a_front(rt: HostRuntime) -> Result<(), Fail> {
+    let alloc = rt.alloc();
+    let zeros = "0".repeat(alloc, 4200)?;
+    let script = format!(in alloc; "add /a\nsend 2f610000 2c620000 00000834 {zeros}\npump\n")?;
+    let front = "add 0 /a id 0\nsubmit 0 queued 0 1\nrelease 0 0 1\ncall 0 0 0 /a ,b b:";
+    let text = format!(in alloc; "{front}{zeros}\n")?;
+    let half = Setting {
+        sink_fails: 2,
+        ..SETTING
+    };
+    let held = text.as_bytes().get(..4096).ok_or("a longer text")?;
+    writes(&rt, alloc, "run", script.as_bytes(), half, (5, held))?;
+    let all = (0, text.as_bytes());
+    writes(&rt, alloc, "run", script.as_bytes(), SETTING, all)
+}
+
+#[test]
+fn other_words_are_refused(rt: HostRuntime) -> Result<(), Fail> {
+    for line in ["", "play", "run x", "--bytes", "run --bytes x", "replay x"] {
+        let script = FIRST_LIGHT.as_bytes();
+        writes(&rt, rt.alloc(), line, script, SETTING, (2, b"usage\n"))?;
+    }
+    Ok(())
+}
+
+/// The recording of a script.
+fn recording(rt: &impl Abort, alloc: Global, script: &str) -> Result<Vec<u8>, Fail> {
+    let Outcome { written, .. } = perform(rt, alloc, "run --bytes", script.as_bytes(), SETTING)?;
+    Ok(written)
+}
+
+#[test]
+fn recordings_are_replayed(rt: HostRuntime) -> Result<(), Fail> {
+    let alloc = rt.alloc();
+    let digits = hex::encode(alloc, &recording(&rt, alloc, "")?)?;
+    assert_eq!(rt;
+        digits.as_str(),
+        "000000342f6f73632f726563000000002c696969696969690000000000000001000010000000400000000400000010000000000104000000"
+    );
+    for script in ["", FIRST_LIGHT, NESTED, REMOVED] {
+        let printed = perform(&rt, alloc, "run", script.as_bytes(), SETTING)?;
+        assert_eq!(rt; printed.status, 0);
+        let recording = recording(&rt, alloc, script)?;
+        let expected = (0, printed.written.as_slice());
+        writes(&rt, alloc, "replay", &recording, SETTING, expected)?;
+    }
+    Ok(())
+}
+
+/// A release of unit 0 with one hit of message 0, without the last digit of the hit's id.
+const RELEASE: &str =
+    "000000302f6f73632f72656c65617365000000002c6968620000000000000000000000000000000000000008000000000000000";
+
+#[test]
+fn other_recordings_are_refused(rt: HostRuntime) -> Result<(), Fail> {
+    let alloc = rt.alloc();
+    let mut cut = recording(&rt, alloc, "tick 0000000000000005")?;
+    assert_eq!(rt; cut.len(), 104);
+    cut.pop();
+    let malformed: (u8, &[u8]) = (1, b"malformed 56\n");
+    writes(&rt, alloc, "replay", &cut, SETTING, malformed)?;
+
+    // The hit's id.
+    let mut changed = recording(&rt, alloc, "add /a\nsend 2f610000\npump")?;
+    assert_eq!(rt; changed.pop(), Some(0));
+    changed.push(1)?;
+    let lines = format!(in alloc; "disagrees 2\nkept {RELEASE}1\ncomputed {RELEASE}0\n")?;
+    writes(
+        &rt,
+        alloc,
+        "replay",
+        &changed,
+        SETTING,
+        (1, lines.as_bytes()),
+    )
+}
