@@ -1,0 +1,7 @@
+pub mod Asked
+pub mod Calls
+pub mod Closing
+pub mod Enrolments
+pub mod Outs
+pub mod Pumps
+pub mod Seen

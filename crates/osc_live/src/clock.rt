@@ -1,0 +1,101 @@
+//! How the clock is set, and how what is due is released.
+ghost use Rattle.std.specs.Prelude.{◌≡◌, IfOk, IfErr};
+ghost use Rattle.osc_turn.specs.Passes.{view};
+ghost use Rattle.osc_turn.specs.Answers.{FindsTwice};
+ghost use Rattle.osc_model.specs.Events.{Answer, tick, release};
+ghost use Rattle.osc_core.specs.Answers.{ticking_of, TellsRelease};
+ghost use Rattle.osc_live.specs.Seen.{IsTokenOf};
+ghost use Rattle.osc_live.specs.Calls.{Calls, IsBusy};
+ghost use Rattle.osc_live.specs.Pumps.{Pumps};
+
+use crate::busy::Busy;
+use crate::caller::Caller;
+use crate::live::Live;
+use crate::pumped::{PumpEnd, Pumped};
+use crate::releasing::Release;
+use crate::ticking::Tick;
+use osc_core::{Releasing, Ticking};
+use osc_method::Method;
+use std::sync::Wait;
+
+impl<M: Method> Live<M> {
+    /// Sets the clock to the moment, unless it is before the clock.
+    pub fn tick<W: Wait>(&self, rt: &W, caller: Caller, now: u64) -> (Caller, Ticking)
+        requires ours { IsTokenOf self.now.turn self.now.caps caller.pass }
+        ensures ours { IsTokenOf self.now.turn self.now.caps result.0.pass }
+        ensures number { result.0.number ≡ caller.number }
+        ensures call { Calls self.now.caps caller.number (tick now) (ticking_of result.1)
+            (view caller.pass) (view result.0.pass) }
+    {
+        self.play(rt, caller, Tick { now })
+    }
+
+    /// Takes the unit that is least by due moment and number, if it is due, and makes its calls.
+    pub fn release<W: Wait>(&self, rt: &W, caller: Caller) -> (Caller, Releasing)
+        requires ours { IsTokenOf self.now.turn self.now.caps caller.pass }
+        ensures ours { IsTokenOf self.now.turn self.now.caps result.0.pass }
+        ensures number { result.0.number ≡ caller.number }
+        ensures call { (answer : Answer) × TellsRelease result.1 answer
+            × Calls self.now.caps caller.number release answer (view caller.pass) (view result.0.pass) }
+    {
+        self.play(rt, caller, Release)
+    }
+
+    /// As `release`, if the turn is free: it takes one look at the turn, and tries once to take it.
+    pub fn try_release(&self, caller: Caller) -> (Caller, Result<Releasing, Busy>)
+        requires ours { IsTokenOf self.now.turn self.now.caps caller.pass }
+        ensures ours { IsTokenOf self.now.turn self.now.caps result.0.pass }
+        ensures number { result.0.number ≡ caller.number }
+        ensures call { IfOk result.1 (λ releasing. (answer : Answer) × TellsRelease releasing answer
+            × Calls self.now.caps caller.number release answer (view caller.pass) (view result.0.pass)) }
+        ensures words { IfOk result.1 (λ _. FindsTwice (view caller.pass) (view result.0.pass)) }
+        ensures busy { IfErr result.1 (λ busy. IsBusy busy.found (view caller.pass) (view result.0.pass)) }
+    {
+        self.try_play(caller, Release)
+    }
+
+    /// Releases until a release is answered otherwise.
+    pub fn pump<W: Wait>(&self, rt: &W, caller: Caller) -> (Caller, Pumped)
+        requires ours { IsTokenOf self.now.turn self.now.caps caller.pass }
+        ensures ours { IsTokenOf self.now.turn self.now.caps result.0.pass }
+        ensures number { result.0.number ≡ caller.number }
+        ensures calls { Pumps self.now.caps caller.number result.1 (view caller.pass) (view result.0.pass) }
+    {
+        let mut caller = caller;
+        let mut released = 0;
+        let mut calls = 0;
+        for _ in rt.forever() {
+            let (after, answer) = self.release(rt, caller);
+            caller = after;
+            match answer {
+                Releasing::Released { calls: made, .. } => {
+                    released += 1;
+                    calls += u64::from(made);
+                }
+                Releasing::NothingDue { next } => {
+                    let end = PumpEnd::NothingDue { next };
+                    return (
+                        caller,
+                        Pumped {
+                            released,
+                            calls,
+                            end,
+                        },
+                    );
+                }
+                Releasing::RecordFull(room) => {
+                    let end = PumpEnd::RecordFull(room);
+                    return (
+                        caller,
+                        Pumped {
+                            released,
+                            calls,
+                            end,
+                        },
+                    );
+                }
+            }
+        }
+        unreachable!()
+    }
+}

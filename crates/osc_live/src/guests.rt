@@ -1,0 +1,98 @@
+//! How guests come, and how they are enrolled.
+ghost use Rattle.std.specs.Prelude.{◌≡◌, ◌<◌, [], OnOk, OnErr, IfOk, IfErr};
+ghost use Rattle.osc_turn.specs.History.{StartsWith, own};
+ghost use Rattle.osc_turn.specs.Rule.{number_of};
+ghost use Rattle.osc_turn.specs.Passes.{view, one_more, guest_of};
+ghost use Rattle.osc_model.specs.Events.{enrol};
+ghost use Rattle.osc_live.specs.Seen.{IsTokenOf};
+ghost use Rattle.osc_live.specs.Calls.{Calls};
+ghost use Rattle.osc_live.specs.Enrolments.{enrolment_of};
+
+use crate::caller::Caller;
+use crate::enrolling::Enrol;
+use crate::guest::Guest;
+use crate::live::Live;
+use crate::refusal::EnrolRefusal;
+use osc_core::Enrolled;
+use osc_method::Method;
+use osc_model::laws::callers_are_counted;
+use osc_turn::GuestRefusal;
+use std::sync::Wait;
+
+impl<M: Method> Live<M> {
+    /// A guest's token. It has seen what caller 0 has seen, and has no entries of its own.
+    pub fn guest(&self, caller: Caller) -> (Caller, Result<Guest, GuestRefusal>)
+        requires ours { IsTokenOf self.now.turn self.now.caps caller.pass }
+        requires first { caller.number ≡ 0 }
+        ensures ours { IsTokenOf self.now.turn self.now.caps result.0.pass }
+        ensures number { result.0.number ≡ caller.number }
+        ensures guest_ours { IfOk result.1 (λ guest. IsTokenOf self.now.turn self.now.caps guest.pass) }
+        ensures guest { IfOk result.1 (λ guest. view guest.pass ≡ guest_of (view caller.pass)) }
+        ensures no_entries { IfOk result.1 (λ guest. own (number_of (view guest.pass)) (view guest.pass).seen ≡ []) }
+        ensures room { OnOk result.1 ((view caller.pass).made < 65536) }
+        ensures made { OnOk result.1 (view result.0.pass ≡ one_more (view caller.pass)) }
+        ensures full { IfErr result.1 (λ refusal.
+            ((view caller.pass).made ≡ 65536) × (refusal ≡ GuestRefusal.Full 65536)) }
+        ensures none_made { OnErr result.1 (view result.0.pass ≡ view caller.pass) }
+    {
+        let Caller { pass, number } = caller;
+        match self.turn.guest(pass) {
+            (pass, Ok(guest)) => (Caller { pass, number }, Ok(Guest { pass: guest })),
+            (pass, Err(refusal)) => (Caller { pass, number }, Err(refusal)),
+        }
+    }
+
+    /// Enrols a guest, who gets the number of callers so far. The enrolment stands after all that caller and guest had seen,
+    /// and the new caller has seen it.
+    pub fn enrol<W: Wait>(
+        &self,
+        rt: &W,
+        caller: Caller,
+        guest: Guest,
+    ) -> (Caller, Result<Caller, (EnrolRefusal, Guest)>)
+        requires ours { IsTokenOf self.now.turn self.now.caps caller.pass }
+        requires guest_ours { IsTokenOf self.now.turn self.now.caps guest.pass }
+        ensures ours { IsTokenOf self.now.turn self.now.caps result.0.pass }
+        ensures number { result.0.number ≡ caller.number }
+        ensures call { Calls self.now.caps caller.number enrol (enrolment_of result.1)
+            (view caller.pass) (view result.0.pass) }
+        ensures told { StartsWith (view result.0.pass).seen (view guest.pass).seen }
+        ensures new_ours { IfOk result.1 (λ new. IsTokenOf self.now.turn self.now.caps new.pass) }
+        ensures new_number { IfOk result.1 (λ new. number_of (view new.pass) ≡ number_of (view guest.pass)) }
+        ensures new_seen { IfOk result.1 (λ new. (view new.pass).seen ≡ (view result.0.pass).seen) }
+        ensures no_entries { IfOk result.1 (λ new. own (number_of (view new.pass)) (view new.pass).seen ≡ []) }
+        ensures guest_back { IfErr result.1 (λ refused. view refused.1.pass ≡ view guest.pass) }
+        ensures back_ours { IfErr result.1 (λ refused. IsTokenOf self.now.turn self.now.caps refused.1.pass) }
+    {
+        callers_are_counted();
+        let Caller { pass, number } = caller;
+        let Guest { pass: guest } = guest;
+        let (guest, pass) = self.turn.meet(guest, pass);
+        let (caller, answer) = self.play(rt, Caller { pass, number }, Enrol);
+        let Caller { pass, number } = caller;
+        match answer {
+            Enrolled::Number(given) => {
+                let (pass, guest) = self.turn.meet(pass, guest);
+                let new = Caller {
+                    pass: guest,
+                    number: given,
+                };
+                (Caller { pass, number }, Ok(new))
+            }
+            Enrolled::RecordFull(room) => {
+                let refusal = EnrolRefusal::RecordFull(room);
+                (
+                    Caller { pass, number },
+                    Err((refusal, Guest { pass: guest })),
+                )
+            }
+            Enrolled::CallersFull => {
+                let refusal = EnrolRefusal::CallersFull;
+                (
+                    Caller { pass, number },
+                    Err((refusal, Guest { pass: guest })),
+                )
+            }
+        }
+    }
+}

@@ -1,0 +1,52 @@
+//! How packets are handed in.
+ghost use Rattle.std.specs.Prelude.{◌≡◌, IfOk, IfErr};
+ghost use Rattle.osc_turn.specs.Passes.{view};
+ghost use Rattle.osc_turn.specs.Answers.{FindsTwice};
+ghost use Rattle.osc_model.specs.Events.{submit};
+ghost use Rattle.osc_core.specs.Answers.{submitted_of};
+ghost use Rattle.osc_live.specs.Seen.{IsTokenOf};
+ghost use Rattle.osc_live.specs.Calls.{Calls, IsBusy};
+
+use crate::busy::Busy;
+use crate::caller::Caller;
+use crate::live::Live;
+use crate::submitting::Submit;
+use osc_core::Submitted;
+use osc_method::Method;
+use osc_packet::Packet;
+use std::sync::Wait;
+
+impl<M: Method> Live<M> {
+    /// Queues the packet's units, numbered in their order.
+    pub fn submit<W: Wait>(
+        &self,
+        rt: &W,
+        caller: Caller,
+        packet: &Packet<'_>,
+    ) -> (Caller, Submitted)
+        requires ours { IsTokenOf self.now.turn self.now.caps caller.pass }
+        ensures ours { IsTokenOf self.now.turn self.now.caps result.0.pass }
+        ensures number { result.0.number ≡ caller.number }
+        ensures call { Calls self.now.caps caller.number (submit packet.now) (submitted_of result.1)
+            (view caller.pass) (view result.0.pass) }
+    {
+        self.play(rt, caller, Submit { packet })
+    }
+
+    /// As `submit`, if the turn is free: it takes one look at the turn, and tries once to take it.
+    pub fn try_submit(
+        &self,
+        caller: Caller,
+        packet: &Packet<'_>,
+    ) -> (Caller, Result<Submitted, Busy>)
+        requires ours { IsTokenOf self.now.turn self.now.caps caller.pass }
+        ensures ours { IsTokenOf self.now.turn self.now.caps result.0.pass }
+        ensures number { result.0.number ≡ caller.number }
+        ensures call { IfOk result.1 (λ submitted. Calls self.now.caps caller.number (submit packet.now)
+            (submitted_of submitted) (view caller.pass) (view result.0.pass)) }
+        ensures words { IfOk result.1 (λ _. FindsTwice (view caller.pass) (view result.0.pass)) }
+        ensures busy { IfErr result.1 (λ busy. IsBusy busy.found (view caller.pass) (view result.0.pass)) }
+    {
+        self.try_play(caller, Submit { packet })
+    }
+}

@@ -1,0 +1,11 @@
+//! Tests of the sequential server and of the server of many callers, over their public calls.
+#![tactic(auto)]
+
+#[cfg(test)]
+mod core_calls;
+#[cfg(test)]
+mod live_calls;
+#[cfg(test)]
+mod live_threads;
+#[cfg(test)]
+mod tokens;
