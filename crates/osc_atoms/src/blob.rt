@@ -1,5 +1,5 @@
 // Blobs, read.
-ghost use Rattle.std.specs.Prelude.{◌≡◌, ◌+◌, ◌%◌, ◌<◌, ◌≤◌, ℕ, List, length, IfOk, IfErr, IsOkAnd};
+ghost use Rattle.std.specs.Prelude.{◌≡◌, ◌+◌, ◌%◌, ◌<◌, ◌≤◌, ℕ, List, length, IfOk, IfErr, IsOkAnd, IsTrue, is_ok, Ok};
 ghost use Rattle.std.specs.Result.{result_map_both};
 ghost use Rattle.osc_atoms.specs.declared.fault.Fault.{Fault};
 ghost use Rattle.osc_atoms.specs.Atoms.{blob};
@@ -7,8 +7,9 @@ ghost use Rattle.osc_atoms.specs.Reading.{blob_read, content_read};
 ghost use Rattle.osc_atoms.specs.Standing.{StartsWithBlob, NamesBlobFault};
 
 use crate::fault::Fault;
-use crate::number::word_at;
+use crate::number::{known_word_at, word_at};
 use crate::padding::{blob_end, skip_padding};
+use crate::sizes::blob_size;
 
 /// The bytes of a blob, and the place after its padding (OSC 1.0, "Atomic Data Types", OSC-blob).
 pub fn blob_at(bytes: &[u8], at: u32) -> Result<(&[u8], u32), Fault>
@@ -25,6 +26,22 @@ pub fn blob_at(bytes: &[u8], at: u32) -> Result<(&[u8], u32), Fault>
     ensures exact { (fault : Fault) → NamesBlobFault bytes.now at fault → result ≡ Err fault }
 {
     read_blob(bytes, at)
+}
+
+/// The bytes of a blob that was checked before, and the place after its padding. Looks at its count alone.
+pub fn known_blob_at(bytes: &[u8], at: u32) -> (&[u8], u32)
+    requires whole { length bytes.now % 4 ≡ 0 }
+    requires aligned { at % 4 ≡ 0 }
+    requires known { IsTrue (is_ok (blob_read bytes.now at)) }
+    requires inside { at ≤ length bytes.now }
+    requires small { length bytes.now ≤ 1073741824 }
+    ensures read { Ok (result.0.now, result.1) ≡ blob_read bytes.now at }
+    ensures next { (at < result.1) × (result.1 ≤ length bytes.now) × (result.1 % 4 ≡ 0) }
+{
+    let (count, start) = known_word_at(bytes, at);
+    let size = count as usize;
+    let rest = &bytes[start as usize..];
+    (&rest[..size], at + blob_size(size) as u32)
 }
 
 fn read_blob(bytes: &[u8], at: u32) -> Result<(&[u8], u32), Fault>

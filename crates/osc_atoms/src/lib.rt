@@ -8,13 +8,17 @@ pub mod laws;
 mod number;
 mod padding;
 mod room;
+mod sizes;
 mod string;
 mod writing;
 
-pub use appending::{put_blob, put_string, put_tag, put_word};
-pub use blob::blob_at;
+pub use appending::{
+    append_blob, append_string, append_tag, append_word, put_blob, put_string, put_tag, put_word,
+};
+pub use blob::{blob_at, known_blob_at};
 pub use fault::Fault;
-pub use number::{tag_at, word_at};
+pub use number::{known_tag_at, known_word_at, tag_at, word_at};
 pub use room::Room;
-pub use string::string_at;
+pub use sizes::{blob_size, string_size};
+pub use string::{known_string_at, string_at};
 pub use writing::{write_blob, write_string, write_tag, write_word};

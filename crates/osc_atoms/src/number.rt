@@ -1,5 +1,6 @@
 // Words and time tags, read.
-ghost use Rattle.std.specs.Prelude.{◌≡◌, ◌+◌, ◌%◌, ◌<◌, ◌≤◌, ℕ, length, IfOk, IfErr};
+ghost use Rattle.std.specs.Prelude.{◌≡◌, ◌+◌, ◌%◌, ◌<◌, ◌≤◌, ℕ, length, take, IfOk, IfErr, IsTrue, is_ok, Ok};
+ghost use Rattle.std.specs.Int.{w32, w64, from_be_bytes};
 ghost use Rattle.osc_atoms.specs.declared.fault.Fault.{Fault};
 ghost use Rattle.osc_atoms.specs.Reading.{word_read, tag_read};
 ghost use Rattle.osc_atoms.specs.Standing.{StartsWithWord, StartsWithTag, NamesShort};
@@ -26,8 +27,20 @@ pub fn word_at(bytes: &[u8], at: u32) -> Result<(u32, u32), Fault>
             at,
         });
     }
-    let word = u32::from_be_bytes([rest[0], rest[1], rest[2], rest[3]]);
-    Ok((word, at + 4))
+    Ok((first_word(rest), at + 4))
+}
+
+/// A word that was checked before, and the place after it.
+pub fn known_word_at(bytes: &[u8], at: u32) -> (u32, u32)
+    requires whole { length bytes.now % 4 ≡ 0 }
+    requires aligned { at % 4 ≡ 0 }
+    requires inside { at ≤ length bytes.now }
+    requires known { IsTrue (is_ok (word_read bytes.now at)) }
+    requires small { length bytes.now ≤ 1073741824 }
+    ensures read { Ok result ≡ word_read bytes.now at }
+    ensures next { (at < result.1) × (result.1 ≤ length bytes.now) × (result.1 % 4 ≡ 0) }
+{
+    (first_word(&bytes[at as usize..]), at + 4)
 }
 
 /// A time tag of 8 bytes, and the place after it (OSC 1.0, "Atomic Data Types", OSC-timetag).
@@ -50,8 +63,36 @@ pub fn tag_at(bytes: &[u8], at: u32) -> Result<(u64, u32), Fault>
             at,
         });
     }
-    let tag = u64::from_be_bytes([
-        rest[0], rest[1], rest[2], rest[3], rest[4], rest[5], rest[6], rest[7],
-    ]);
-    Ok((tag, at + 8))
+    Ok((first_tag(rest), at + 8))
+}
+
+/// A time tag that was checked before, and the place after it.
+pub fn known_tag_at(bytes: &[u8], at: u32) -> (u64, u32)
+    requires whole { length bytes.now % 4 ≡ 0 }
+    requires aligned { at % 4 ≡ 0 }
+    requires inside { at ≤ length bytes.now }
+    requires known { IsTrue (is_ok (tag_read bytes.now at)) }
+    requires small { length bytes.now ≤ 1073741824 }
+    ensures read { Ok result ≡ tag_read bytes.now at }
+    ensures next { (at < result.1) × (result.1 ≤ length bytes.now) × (result.1 % 4 ≡ 0) }
+{
+    (first_tag(&bytes[at as usize..]), at + 8)
+}
+
+/// The word that the bytes begin with.
+fn first_word(bytes: &[u8]) -> u32
+    requires { 4 ≤ length bytes.now }
+    ensures { result ≡ from_be_bytes w32 (take 4 bytes.now) }
+{
+    u32::from_be_bytes([bytes[0], bytes[1], bytes[2], bytes[3]])
+}
+
+/// The time tag that the bytes begin with.
+fn first_tag(bytes: &[u8]) -> u64
+    requires { 8 ≤ length bytes.now }
+    ensures { result ≡ from_be_bytes w64 (take 8 bytes.now) }
+{
+    u64::from_be_bytes([
+        bytes[0], bytes[1], bytes[2], bytes[3], bytes[4], bytes[5], bytes[6], bytes[7],
+    ])
 }

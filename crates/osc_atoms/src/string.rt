@@ -1,5 +1,5 @@
 // Strings, read.
-ghost use Rattle.std.specs.Prelude.{◌≡◌, ◌+◌, ◌%◌, ◌<◌, ◌≤◌, ℕ, List, length, position, IfOk, IfErr, IsOkAnd};
+ghost use Rattle.std.specs.Prelude.{◌≡◌, ◌+◌, ◌%◌, ◌<◌, ◌≤◌, ℕ, List, length, position, IfOk, IfErr, IsOkAnd, IsTrue, is_ok, Ok};
 ghost use Rattle.std.specs.Result.{result_map_both};
 ghost use Rattle.osc_atoms.specs.declared.fault.Fault.{Fault};
 ghost use Rattle.osc_atoms.specs.Atoms.{string};
@@ -24,6 +24,23 @@ pub fn string_at(bytes: &[u8], at: u32) -> Result<(&[u8], u32), Fault>
     ensures exact { (fault : Fault) → NamesStringFault bytes.now at fault → result ≡ Err fault }
 {
     read_string(bytes, at)
+}
+
+/// The bytes of a string that was checked before, and the place after it. Looks for its end and at no padding.
+pub fn known_string_at(bytes: &[u8], at: u32) -> (&[u8], u32)
+    requires whole { length bytes.now % 4 ≡ 0 }
+    requires aligned { at % 4 ≡ 0 }
+    requires known { IsTrue (is_ok (string_read bytes.now at)) }
+    requires inside { at ≤ length bytes.now }
+    requires small { length bytes.now ≤ 1073741824 }
+    ensures read { Ok (result.0.now, result.1) ≡ string_read bytes.now at }
+    ensures next { (at < result.1) × (result.1 ≤ length bytes.now) × (result.1 % 4 ≡ 0) }
+{
+    let rest = &bytes[at as usize..];
+    let Some(size) = first_zero(rest) else {
+        unreachable!();
+    };
+    (&rest[..size], at + (size + string_end(size)) as u32)
 }
 
 fn read_string(bytes: &[u8], at: u32) -> Result<(&[u8], u32), Fault>

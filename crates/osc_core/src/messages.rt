@@ -1,6 +1,5 @@
 // The kept messages of a unit, one after another.
-ghost use Rattle.std.specs.Prelude.{◌≡◌, IsTrue, length};
-ghost use Rattle.osc_message.specs.Reading.{is_message};
+ghost use Rattle.std.specs.Prelude.{◌≡◌, length};
 ghost use Rattle.osc_core.specs.Frames.{first_framed, after_framed, unframed, IsFramed};
 
 use osc_message::Message;
@@ -66,16 +65,5 @@ fn split_first(bytes: &[u8]) -> (Message<'_>, &[u8])
     let (word, rest) = bytes.split_at(4);
     let size = u32::from_be_bytes([word[0], word[1], word[2], word[3]]);
     let (message, rest) = rest.split_at(size as usize);
-    (as_message(message), rest)
-}
-
-/// The message that the bytes are.
-fn as_message(bytes: &[u8]) -> Message<'_>
-    requires { IsTrue (is_message 1073741824 bytes.now) }
-    ensures { result ≡ bytes.now }
-{
-    match Message::check(bytes, 1_073_741_824) {
-        Ok(message) => message,
-        Err(_) => unreachable!(),
-    }
+    (Message::known(message), rest)
 }

@@ -11,3 +11,4 @@ pub mod WantLaws
 pub mod Buildings
 pub mod Readable
 pub mod Openings
+pub mod UnknownTags

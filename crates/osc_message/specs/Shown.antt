@@ -1,7 +1,4 @@
 -- What an argument of the code stands for.
-use Rattle.std.specs.Prelude.{ℕ, Result}
-use Rattle.std.specs.Result.{result_map_both}
-use Rattle.osc_atoms.specs.declared.fault.Fault.{Fault}
 use Rattle.osc_message.specs.declared.argument.Arg.{Arg}
 use Rattle.osc_message.specs.declared.argument.Arg.TheVariants.{Int, Float, Str, Blob, Long, Time, Double, Symbol, Char, Rgba, Midi, True, False, Nil, Infinitum, ArrayStart, ArrayEnd}
 use Rattle.osc_message.specs.Messages.{Argument, integer, float, text, content, long, time, double, symbol, character, rgba, midi, true_, false_, nil, infinitum, array_start, array_end}
@@ -25,7 +22,3 @@ shown Nil = nil
 shown Infinitum = infinitum
 shown ArrayStart = array_start
 shown ArrayEnd = array_end
-
--- a reading of an argument and the place after it
-abbrev pub reading_shown : Result (Arg × ℕ) Fault → Result (Argument × ℕ) Fault
-reading_shown result = result_map_both (λ x. (shown x.0, x.1)) (λ fault. fault) result

@@ -3,7 +3,7 @@ ghost use Rattle.std.specs.Prelude.{◌≡◌, ◌%◌, ◌≤◌, length, IsTru
 ghost use Rattle.osc_message.specs.ArgumentReading.{arguments_end, arguments_of};
 
 use crate::Arg;
-use crate::argument_reading::read_argument;
+use crate::argument_reading::known_argument;
 
 /// The arguments of a message that are left, in order.
 #[derive(Drop)]
@@ -49,13 +49,9 @@ impl<'a> Iterator for Args<'a> {
 
     fn next(&mut self) -> Option<Arg<'a>> {
         let (tag, tags) = self.tags.split_first()?;
-        match read_argument(*tag, self.bytes, self.place) {
-            Ok((argument, place)) => {
-                self.tags = tags;
-                self.place = place;
-                Some(argument)
-            }
-            Err(_) => unreachable!(),
-        }
+        let (argument, place) = known_argument(*tag, self.bytes, self.place);
+        self.tags = tags;
+        self.place = place;
+        Some(argument)
     }
 }

@@ -1,5 +1,6 @@
 // An argument's tag, and its bytes.
-ghost use Rattle.std.specs.Prelude.{◌≡◌, ◌++◌, ◌≤◌, ◌<◌, ◌^◌, ◌+◌, ◌-◌, ◌%◌, None, length, take, position, OnOk, OnErr, IfSome};
+ghost use Rattle.std.specs.Prelude.{◌≡◌, ◌++◌, ◌≤◌, ◌^◌, ◌+◌, None, length, take, position, OnOk, OnErr, IfSome};
+ghost use Rattle.std.specs.Vec.{vec_len, vec_capacity};
 ghost use Rattle.osc_atoms.specs.Reading.{is_zero};
 ghost use Rattle.osc_message.specs.Messages;
 ghost use Rattle.osc_message.specs.Messages.{atom_of, Fits};
@@ -7,7 +8,7 @@ ghost use Rattle.osc_message.specs.Building.{null_in, null_of};
 ghost use Rattle.osc_message.specs.Shown.{shown};
 
 use crate::Arg;
-use osc_atoms::{put_blob, put_string, put_tag, put_word};
+use osc_atoms::{append_blob, append_string, append_tag, append_word, blob_size, string_size};
 use std::alloc::AllocError;
 
 /// The type tag of the argument.
@@ -75,24 +76,37 @@ fn first_zero(bytes: &[u8]) -> Option<usize>
 }
 
 /// How many bytes the argument has behind its tag.
-pub(crate) fn atom_size(arg: Arg<'_>) -> usize
+pub fn argument_size(arg: Arg<'_>) -> usize
     ensures { result ≡ length (atom_of (shown arg.entry)) }
 {
     match arg {
         Arg::Int(_) | Arg::Float(_) | Arg::Char(_) | Arg::Rgba(_) | Arg::Midi(_) => 4,
         Arg::Long(_) | Arg::Time(_) | Arg::Double(_) => 8,
         Arg::Str(text) | Arg::Symbol(text) => string_size(text.len()),
-        Arg::Blob(blob) => 4 + blob.len() + (4 - blob.len() % 4) % 4,
+        Arg::Blob(blob) => blob_size(blob.len()),
         _ => 0,
     }
 }
 
-/// How many bytes a string of `size` bytes has with its end.
-pub(crate) fn string_size(size: usize) -> usize
-    requires { size < 2 ^ 63 }
-    ensures { result ≡ size + (4 - size % 4) }
+/// Appends the argument's bytes, for which there is room.
+pub fn append_argument(out: &mut Vec<u8>, arg: Arg<'_>)
+    requires fits { Fits (shown arg) }
+    requires small { length (atom_of (shown arg)) ≤ 1073741824 }
+    requires room { vec_len out.old + length (atom_of (shown arg)) ≤ vec_capacity out.old }
+    ensures out { out.new.items ≡ out.old.items ++ atom_of (shown arg.entry) }
+    ensures capacity { vec_capacity out.old ≤ vec_capacity out.new }
 {
-    size + (4 - size % 4)
+    match arg {
+        Arg::Int(number) => append_word(out, number.cast_unsigned()),
+        Arg::Long(number) => append_tag(out, number.cast_unsigned()),
+        Arg::Float(word) | Arg::Char(word) | Arg::Rgba(word) | Arg::Midi(word) => {
+            append_word(out, word)
+        }
+        Arg::Time(word) | Arg::Double(word) => append_tag(out, word),
+        Arg::Str(text) | Arg::Symbol(text) => append_string(out, text),
+        Arg::Blob(blob) => append_blob(out, blob),
+        _ => {}
+    }
 }
 
 /// Appends the argument's bytes, whole or not at all.
@@ -103,16 +117,7 @@ pub(crate) fn put_argument(out: &mut Vec<u8>, arg: Arg<'_>) -> Result<(), AllocE
     ensures err { OnErr result (out.new.items ≡ out.old.items) }
     ensures fits { Fits (shown arg.entry) }
 {
-    match arg {
-        Arg::Int(number) => put_word(out, number.cast_unsigned()),
-        Arg::Long(number) => put_tag(out, number.cast_unsigned()),
-        Arg::Float(word) | Arg::Char(word) | Arg::Rgba(word) | Arg::Midi(word) => {
-            put_word(out, word)
-        }
-        Arg::Time(word) | Arg::Double(word) => put_tag(out, word),
-        Arg::Str(text) => put_string(out, text),
-        Arg::Symbol(text) => put_string(out, text),
-        Arg::Blob(blob) => put_blob(out, blob),
-        _ => Ok(()),
-    }
+    out.reserve(argument_size(arg))?;
+    append_argument(out, arg);
+    Ok(())
 }

@@ -6,10 +6,10 @@ ghost use Rattle.osc_message.specs.Building.{null_in};
 ghost use Rattle.osc_message.specs.Reading.{brackets_read};
 ghost use Rattle.osc_message.specs.Shown.{shown};
 
-use crate::argument_writing::{atom_size, find_null, null_at, put_argument, string_size};
+use crate::argument_writing::{argument_size, find_null, null_at, put_argument};
 use crate::tags::check_brackets;
 use crate::{Arg, BuildFault, Bytes, argument_writing};
-use osc_atoms::put_string;
+use osc_atoms::{put_string, string_size};
 use osc_pattern::Pattern;
 use std::alloc::{AllocError, Global};
 use std::marker::Model;
@@ -117,7 +117,7 @@ fn finished_size(pattern: &[u8], tags: &[u8], atoms: &[u8], arg: Arg<'_>) -> usi
     requires kept { length (string pattern.now) + length (string tags.now) + length atoms.now ≤ 65504 }
     ensures { result ≡ length (string pattern.now) + length (string (tags.now ++ tag_of (shown arg.entry) ∷ [])) + length atoms.now + length (atom_of (shown arg.entry)) }
 {
-    string_size(pattern.len()) + string_size(tags.len() + 1) + atoms.len() + atom_size(arg)
+    string_size(pattern.len()) + string_size(tags.len() + 1) + atoms.len() + argument_size(arg)
 }
 
 /// Adds the argument's tag and its bytes, or neither.

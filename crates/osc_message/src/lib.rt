@@ -18,6 +18,7 @@ mod tags;
 
 pub use args::Args;
 pub use argument::Arg;
+pub use argument_writing::{append_argument, argument_size};
 pub use build_fault::BuildFault;
 pub use builder::Builder;
 pub use bytes::Bytes;

@@ -4,12 +4,11 @@ ghost use Rattle.osc_atoms.specs.declared.fault.Fault.{Fault};
 ghost use Rattle.osc_message.specs.Messages.{IsMessage};
 ghost use Rattle.osc_message.specs.Wants.{FirstFault};
 ghost use Rattle.osc_message.specs.Reading.{limited_read, is_message, IsReadable};
-ghost use Rattle.osc_message.specs.Seen.{seen};
+ghost use Rattle.osc_message.specs.Seen.{seen, KeepsUnknown};
 ghost use Rattle.std.specs.Result.{result_map_both, result_err};
 
 use crate::Args;
-use crate::reading::{Slices, read_message};
-use crate::tags::{first_unknown, has_unknown};
+use crate::reading::{Slices, known_message, read_message};
 use osc_atoms::Fault;
 use osc_pattern::Pattern;
 use std::marker::Model;
@@ -25,13 +24,13 @@ pub struct Message<'a> {
 impl<'a> Model for Message<'a> {
     ghost use Rattle.std.specs.Prelude.{List, ℕ};
     ghost use Rattle.osc_message.specs.Reading.{IsReadable};
-    ghost use Rattle.osc_message.specs.Seen.{seen};
+    ghost use Rattle.osc_message.specs.Seen.{seen, KeepsUnknown};
 
     ghost Value = { List ℕ };
 
     ghost view = { λ m. m.bytes.now };
 
-    ghost invariant = { λ m. IsReadable m.bytes.now (seen m.slices) };
+    ghost invariant = { λ m. IsReadable m.bytes.now (seen m.slices) × KeepsUnknown m.slices };
 }
 
 impl<'a> Message<'a> {
@@ -60,6 +59,18 @@ impl<'a> Message<'a> {
         Ok(Message { bytes, slices })
     }
 
+    /// The message that the bytes were checked to be. Looks for the ends of the pattern and of the tag string, and at the
+    /// tags, and at nothing else.
+    pub fn known(bytes: &'a [u8]) -> Message<'a>
+        requires { IsTrue (is_message 1073741824 bytes.now) }
+        ensures { result ≡ bytes.now }
+    {
+        Message {
+            bytes,
+            slices: known_message(bytes),
+        }
+    }
+
     /// The whole message.
     pub fn bytes(&self) -> &'a [u8]
         ensures value { result.now ≡ self.now }
@@ -74,10 +85,7 @@ impl<'a> Message<'a> {
     pub fn pattern(&self) -> Pattern<'a>
         ensures { result ≡ pattern_of self.now }
     {
-        match Pattern::check(self.slices.pattern) {
-            Ok(pattern) => pattern,
-            Err(_) => unreachable!(),
-        }
+        Pattern::known(self.slices.pattern)
     }
 
     /// The type tags without the comma, `None` where there is no tag string.
@@ -91,7 +99,7 @@ impl<'a> Message<'a> {
     pub fn unknown(&self) -> Option<u8>
         ensures { result ≡ unknown_of self.now }
     {
-        first_unknown(self.slices.tags?)
+        self.slices.unknown
     }
 
     /// The arguments, in order. A message with an unknown tag has none that are read.
@@ -99,7 +107,7 @@ impl<'a> Message<'a> {
         ensures { left result ≡ message_arguments self.now }
     {
         match self.slices.tags {
-            Some(tags) if !has_unknown(tags) => Args::new(tags, self.bytes, self.slices.place),
+            Some(tags) if self.slices.unknown.is_none() => Args::new(tags, self.bytes, self.slices.place),
             _ => Args::new(&[], self.bytes, self.slices.place),
         }
     }
@@ -110,6 +118,7 @@ fn read_limited(bytes: &[u8], max: u32) -> Result<Slices<'_>, Fault>
     requires { max ≤ 1073741824 }
     ensures read { result_map_both seen (λ fault. fault) result ≡ limited_read max bytes.now }
     ensures readable { IfOk result (λ slices. IsReadable bytes.now (seen slices)) }
+    ensures unknown { IfOk result KeepsUnknown }
 {
     if bytes.is_empty() {
         return Err(Fault {

@@ -1,20 +1,23 @@
 // A message: its parts, or its first fault.
-ghost use Rattle.std.specs.Prelude.{◌≡◌, ◌+◌, ◌%◌, ◌≤◌, IsTrue, IfOk, drop, length};
+ghost use Rattle.std.specs.Prelude.{◌≡◌, ◌+◌, ◌%◌, ◌≤◌, IsTrue, IfOk, drop, length, is_ok, Ok};
+ghost use Rattle.std.specs.List.{list_any};
 ghost use Rattle.std.specs.Result.{result_map_both};
-ghost use Rattle.osc_message.specs.Reading.{message_read, lawful_read, comma_read, tagged_read, tags_read, arguments_read, begins, has_arguments};
-ghost use Rattle.osc_message.specs.Seen.{seen};
+ghost use Rattle.osc_message.specs.Tags.{is_unknown};
+ghost use Rattle.osc_message.specs.Reading.{message_read, lawful_read, comma_read, tagged_read, tags_read, arguments_read, begins, has_arguments, is_message, IsReadable};
+ghost use Rattle.osc_message.specs.Seen.{seen, KeepsUnknown};
 
 use crate::argument_reading::end_of_arguments;
-use crate::tags::{check_brackets, has_unknown};
-use osc_atoms::{Fault, string_at};
+use crate::tags::{check_brackets, first_unknown};
+use osc_atoms::{Fault, known_string_at, string_at};
 use osc_pattern::Pattern;
 
-/// The parts of a message. Its arguments begin at `place`.
+/// The parts of a message, and its first unknown tag. Its arguments begin at `place`.
 #[derive(Clone, Copy)]
 pub(crate) struct Slices<'a> {
     pub(crate) pattern: &'a [u8],
     pub(crate) tags: Option<&'a [u8]>,
     pub(crate) place: u32,
+    pub(crate) unknown: Option<u8>,
 }
 
 /// Reads the message that the bytes are.
@@ -25,6 +28,7 @@ pub(crate) fn read_message(bytes: &[u8]) -> Result<Slices<'_>, Fault>
     ensures read { result_map_both seen (λ fault. fault) result ≡ message_read bytes.now 0 }
     ensures place { IfOk result (λ slices. (slices.place % 4 ≡ 0) × (slices.place ≤ length bytes.now)) }
     ensures arguments { IfOk result (λ slices. IsTrue (has_arguments bytes.now (seen slices))) }
+    ensures unknown { IfOk result KeepsUnknown }
 {
     if !begins_with(b'/', bytes) {
         return Err(Fault {
@@ -46,6 +50,7 @@ fn read_pattern<'a>(bytes: &'a [u8], pattern: &'a [u8], end: u32) -> Result<Slic
     ensures read { result_map_both seen (λ fault. fault) result ≡ lawful_read bytes.now 0 pattern.now end }
     ensures place { IfOk result (λ slices. (slices.place % 4 ≡ 0) × (slices.place ≤ length bytes.now)) }
     ensures arguments { IfOk result (λ slices. IsTrue (has_arguments bytes.now (seen slices))) }
+    ensures unknown { IfOk result KeepsUnknown }
 {
     if let Err(fault) = Pattern::check(pattern) {
         return Err(Fault {
@@ -64,12 +69,14 @@ fn read_after_pattern<'a>(bytes: &'a [u8], pattern: &'a [u8], at: u32) -> Result
     ensures read { result_map_both seen (λ fault. fault) result ≡ comma_read bytes.now pattern.now at }
     ensures place { IfOk result (λ slices. (slices.place % 4 ≡ 0) × (slices.place ≤ length bytes.now)) }
     ensures arguments { IfOk result (λ slices. IsTrue (has_arguments bytes.now (seen slices))) }
+    ensures unknown { IfOk result KeepsUnknown }
 {
     if at as usize == bytes.len() {
         return Ok(Slices {
             pattern,
             tags: None,
             place: at,
+            unknown: None,
         });
     }
     if !begins_with(b',', &bytes[at as usize..]) {
@@ -91,29 +98,32 @@ fn read_tag_string<'a>(bytes: &'a [u8], pattern: &'a [u8], at: u32) -> Result<Sl
     ensures read { result_map_both seen (λ fault. fault) result ≡ tagged_read bytes.now pattern.now at }
     ensures place { IfOk result (λ slices. (slices.place % 4 ≡ 0) × (slices.place ≤ length bytes.now)) }
     ensures arguments { IfOk result (λ slices. IsTrue (has_arguments bytes.now (seen slices))) }
+    ensures unknown { IfOk result KeepsUnknown }
 {
     let (text, place) = string_at(bytes, at)?;
     let tags = &text[1..];
-    check_tags(bytes, at + 1, tags, place)?;
+    let unknown = first_unknown(tags);
+    if unknown.is_none() {
+        check_tags(bytes, at + 1, tags, place)?;
+    }
     Ok(Slices {
         pattern,
         tags: Some(tags),
         place,
+        unknown,
     })
 }
 
-/// Checks the tags, which stand from `place` on, and their arguments, which stand from `start` on.
+/// Checks known tags, which stand from `place` on, and their arguments, which stand from `start` on.
 fn check_tags(bytes: &[u8], place: u32, tags: &[u8], start: u32) -> Result<(), Fault>
     requires whole { length bytes.now % 4 ≡ 0 }
     requires aligned { start % 4 ≡ 0 }
     requires inside { start ≤ length bytes.now }
     requires before { place + length tags.now ≤ length bytes.now }
+    requires known { list_any is_unknown tags.now ≡ false }
     requires small { length bytes.now ≤ 1073741824 }
     ensures { result ≡ tags_read bytes.now place tags.now start }
 {
-    if has_unknown(tags) {
-        return Ok(());
-    }
     check_brackets(tags, place)?;
     check_arguments(bytes, tags, start)
 }
@@ -133,6 +143,47 @@ fn check_arguments(bytes: &[u8], tags: &[u8], start: u32) -> Result<(), Fault>
         });
     }
     Ok(())
+}
+
+/// The parts of the message that the bytes were checked to be. Looks for the ends of the pattern and of the tag string,
+/// and at the tags.
+#[tactic(auto, unfolding(crate::specs::Reading::message_read))]
+pub(crate) fn known_message(bytes: &[u8]) -> Slices<'_>
+    requires { IsTrue (is_message 1073741824 bytes.now) }
+    ensures readable { IsReadable bytes.now (seen result) }
+    ensures unknown { KeepsUnknown result }
+{
+    let (pattern, end) = known_string_at(bytes, 0);
+    known_after_pattern(bytes, pattern, end)
+}
+
+fn known_after_pattern<'a>(bytes: &'a [u8], pattern: &'a [u8], at: u32) -> Slices<'a>
+    requires whole { length bytes.now % 4 ≡ 0 }
+    requires aligned { at % 4 ≡ 0 }
+    requires inside { at ≤ length bytes.now }
+    requires small { length bytes.now ≤ 1073741824 }
+    requires known { IsTrue (is_ok (comma_read bytes.now pattern.now at)) }
+    ensures read { Ok (seen result) ≡ comma_read bytes.now pattern.now at }
+    ensures place { (result.place % 4 ≡ 0) × (result.place ≤ length bytes.now) }
+    ensures arguments { IsTrue (has_arguments bytes.now (seen result)) }
+    ensures unknown { KeepsUnknown result }
+{
+    if at as usize == bytes.len() {
+        return Slices {
+            pattern,
+            tags: None,
+            place: at,
+            unknown: None,
+        };
+    }
+    let (text, place) = known_string_at(bytes, at);
+    let tags = &text[1..];
+    Slices {
+        pattern,
+        tags: Some(tags),
+        place,
+        unknown: first_unknown(tags),
+    }
 }
 
 fn begins_with(byte: u8, bytes: &[u8]) -> bool

@@ -1,5 +1,5 @@
 // Type tags: which are known, and whether the array brackets among them balance.
-ghost use Rattle.std.specs.Prelude.{◌≡◌, ◌+◌, ◌<◌, ◌^◌, length, find};
+ghost use Rattle.std.specs.Prelude.{◌≡◌, ◌+◌, ◌<◌, ◌^◌, length, find, is_some};
 ghost use Rattle.std.specs.List.{list_any};
 ghost use Rattle.osc_message.specs.Tags;
 ghost use Rattle.osc_message.specs.Tags.{is_unknown};
@@ -42,15 +42,10 @@ fn is_unknown_tag(tag: u8) -> bool
     !(is_word_tag(tag) || is_long_tag(tag) || is_text_tag(tag) || tag == b'b' || is_bare_tag(tag))
 }
 
-pub(crate) fn has_unknown(tags: &[u8]) -> bool
-    ensures { result ≡ list_any is_unknown tags.now }
-{
-    tags.iter().any(|tag| is_unknown_tag(*tag))
-}
-
 /// The first unknown tag.
 pub(crate) fn first_unknown(tags: &[u8]) -> Option<u8>
-    ensures { result ≡ find is_unknown tags.now }
+    ensures value { result ≡ find is_unknown tags.now }
+    ensures any { is_some result ≡ list_any is_unknown tags.now }
 {
     tags.iter().copied().find(|tag| is_unknown_tag(*tag))
 }

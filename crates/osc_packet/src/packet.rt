@@ -53,6 +53,14 @@ impl<'a> Packet<'a> {
         Ok(Packet { bytes })
     }
 
+    /// The packet that the bytes were checked to be. Looks at none of them.
+    pub fn known(bytes: &'a [u8]) -> Packet<'a>
+        requires { IsTrue (is_packet 65504 bytes.now) }
+        ensures { result ≡ bytes.now }
+    {
+        Packet { bytes }
+    }
+
     /// The whole packet.
     pub fn bytes(&self) -> &'a [u8]
         ensures value { result.now ≡ self.now }

@@ -58,8 +58,5 @@ fn as_message(bytes: &[u8]) -> Message<'_>
     requires small { length bytes.now ≤ 65504 }
     ensures { result ≡ bytes.now }
 {
-    match Message::check(bytes, bytes.len() as u32) {
-        Ok(message) => message,
-        Err(_) => unreachable!(),
-    }
+    Message::known(bytes)
 }

@@ -51,10 +51,20 @@ impl Address {
         if let Some(fault) = first_fault(bytes) {
             return Err(fault);
         }
-        match Vec::from_slice(alloc, bytes) {
-            Ok(bytes) => Ok(Address { bytes }),
+        match Address::known(alloc, bytes) {
+            Ok(address) => Ok(address),
             Err(_) => Err(AddressFault::NoMemory),
         }
+    }
+
+    /// The address that the bytes were checked to be, in memory of its own. An `Err` is want of memory.
+    pub fn known(alloc: Global, bytes: &[u8]) -> Result<Address, AllocError>
+        requires { IsTrue (is_address bytes.now) }
+        ensures { IfOk result (λ address. address ≡ bytes.now) }
+    {
+        Ok(Address {
+            bytes: Vec::from_slice(alloc, bytes)?,
+        })
     }
 
     /// Whether the bytes are an address. Takes no memory.
@@ -78,9 +88,7 @@ impl Address {
     pub fn copied(&self, alloc: Global) -> Result<Address, AllocError>
         ensures { IfOk result (λ copy. copy ≡ self.now) }
     {
-        Ok(Address {
-            bytes: Vec::from_slice(alloc, &self.bytes)?,
-        })
+        Address::known(alloc, self.bytes())
     }
 }
 

@@ -58,6 +58,15 @@ impl<'a> Pattern<'a> {
         }
     }
 
+    /// The pattern that the bytes were checked to be. Looks at none of them.
+    pub fn known(bytes: &'a [u8]) -> Pattern<'a>
+        requires test { IsTrue (is_pattern bytes.now) }
+        requires small { length bytes.now ≤ 1073741824 }
+        ensures { result ≡ bytes.now }
+    {
+        Pattern { bytes }
+    }
+
     /// The pattern's bytes.
     #[tactic(auto, using(crate::proofs::PatternLaws::laws))]
     pub fn bytes(&self) -> &'a [u8]

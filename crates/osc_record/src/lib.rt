@@ -16,6 +16,7 @@ mod recorder;
 mod rows;
 mod sized_entry;
 mod sized_reading;
+mod sizes;
 
 pub use caps::{CapFault, Caps};
 pub use entries_left::Entries;
@@ -23,3 +24,4 @@ pub use event::{Answer, Entry, Event};
 pub use reader::{Malformed, Reader};
 pub use recorder::Recorder;
 pub use sized_entry::entry_bytes;
+pub use sizes::{ENROL_SIZE, TICK_SIZE, add_size, release_size, remove_size, submit_size};

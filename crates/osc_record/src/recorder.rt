@@ -7,8 +7,8 @@ ghost use Rattle.osc_record.specs.Writing.{release_head};
 use crate::caps::Caps;
 use crate::entries::append_entry;
 use crate::event::{Answer, Event};
-use crate::message::{append_string, append_tag, append_word};
 use crate::rows::append_header;
+use osc_atoms::{append_string, append_tag, append_word};
 use std::alloc::{AllocError, Global};
 use std::marker::Model;
 

@@ -9,7 +9,8 @@ ghost use Rattle.osc_record.specs.Shown.{event_of, answer_of, HasWholeHits};
 
 use crate::entries::append_entry;
 use crate::event::{Answer, Event};
-use crate::message::{append_message, blob_size, string_size};
+use crate::message::append_message;
+use crate::sizes::{ENROL_SIZE, TICK_SIZE, add_size, release_size, remove_size, submit_size};
 use osc_message::{Arg, Bytes};
 use std::alloc::{AllocError, Global};
 
@@ -25,7 +26,7 @@ pub fn entry_bytes(
     requires small { length (entry_text caller (event_of event) (answer_of answer)) ≤ 1073741824 }
     ensures { IfOk result (λ bytes. bytes ≡ entry_text caller (event_of event.entry) (answer_of answer.entry)) }
 {
-    let mut out = Vec::with_capacity(alloc, entry_size(event, answer))?;
+    let mut out = Vec::with_capacity(alloc, entry_size(event, answer) as usize)?;
     match event {
         Event::Release => release_entry(&mut out, caller, answer),
         _ => append_entry(&mut out, caller, event, answer),
@@ -34,26 +35,26 @@ pub fn entry_bytes(
 }
 
 /// How many bytes an entry has.
-fn entry_size(event: Event<'_>, answer: Answer<'_>) -> usize
+fn entry_size(event: Event<'_>, answer: Answer<'_>) -> u64
     requires { entry_size (event_of event) (answer_of answer) ≤ 1073741824 }
     ensures { result ≡ entry_size (event_of event.entry) (answer_of answer.entry) }
 {
     match event {
-        Event::Enrol => 28,
-        Event::Submit(packet) => 44 + blob_size(packet.len()),
-        Event::Add(address) => 40 + string_size(address.len()),
-        Event::Remove(address) => 36 + string_size(address.len()),
-        Event::Tick(_) => 48,
-        Event::Release => 44 + 8 * hits(answer),
+        Event::Enrol => ENROL_SIZE,
+        Event::Submit(packet) => submit_size(packet),
+        Event::Add(address) => add_size(address),
+        Event::Remove(address) => remove_size(address),
+        Event::Tick(_) => TICK_SIZE,
+        Event::Release => release_size(hits(answer)),
     }
 }
 
 /// How many hits a release has.
-fn hits(answer: Answer<'_>) -> usize
+fn hits(answer: Answer<'_>) -> u64
     ensures { result ≡ length (option_map_or (λ r. r.1) (releasing (answer_of answer.entry)) []) }
 {
     match answer {
-        Answer::Released { hits, .. } => hits.len() / 8,
+        Answer::Released { hits, .. } => hits.len() as u64 / 8,
         _ => 0,
     }
 }
