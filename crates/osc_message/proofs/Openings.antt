@@ -10,14 +10,20 @@ use Rattle.osc_pattern.specs.declared.faults.PatternFault.{PatternFault}
 use Rattle.osc_pattern.specs.Patterns.{IsPattern, pattern_fault}
 use Rattle.osc_message.specs.declared.build_fault.BuildFault.{BuildFault}
 use Rattle.osc_message.specs.declared.build_fault.BuildFault.TheVariants.{Pattern, HasNull, TooLong}
-use Rattle.osc_message.specs.Building.{null_of, refused_null, open_refusal, IsKept}
+use Rattle.osc_message.specs.Messages.{Argument, text, symbol, atom_of, HasNoZero}
+use Rattle.osc_message.specs.Building.{null_of, null_in, refused_null, open_refusal, IsKept}
 use Rattle.osc_message.proofs.ArgumentAtoms.{length-string}
 use Rattle.osc_message.proofs.Buildings.{kept_of}
 
 -- a short text in which no zero byte is found has none
-pub text_nonzero : (text : List ℕ) → length (string text) ≤ 65504 → null_of text ≡ None → has_no_zero text ≡ true
-text_nonzero text short none =
-    not_found is_zero text (ap (position is_zero) (sym (take_all (2 ^ 32) text (omega (arith, length-string text)))) ∙ none)
+text_nonzero : (bytes : List ℕ) → length (string bytes) ≤ 65504 → null_of bytes ≡ None → has_no_zero bytes ≡ true
+text_nonzero bytes short none =
+    not_found is_zero bytes (ap (position is_zero) (sym (take_all (2 ^ 32) bytes (omega (arith, length-string bytes)))) ∙ none)
+
+pub argument_nonzero : (argument : Argument) → length (atom_of argument) ≤ 65504 → null_in argument ≡ None → HasNoZero argument
+argument_nonzero (text bytes) short none = text_nonzero bytes short none
+argument_nonzero (symbol bytes) short none = text_nonzero bytes short none
+argument_nonzero _ short none = tt
 
 -- what is refused where the pattern isn't too long
 refused_next : (pattern : List ℕ) → length pattern ≤ 65000 → open_refusal pattern ≡ refused_null (null_of pattern) (option_map (λ fault. Pattern fault) (pattern_fault pattern))

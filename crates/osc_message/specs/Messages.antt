@@ -86,6 +86,12 @@ Fits infinitum = Unit {0}
 Fits array_start = Unit {0}
 Fits array_end = Unit {0}
 
+-- no zero byte ends a string before its text does
+abbrev pub HasNoZero : Argument → Type 0
+HasNoZero (text bytes) = IsTrue (has_no_zero bytes)
+HasNoZero (symbol bytes) = IsTrue (has_no_zero bytes)
+HasNoZero _ = Unit {0}
+
 -- each argument fits its atom
 abbrev pub AllFit : List Argument → Type 0
 AllFit [] = Unit {0}

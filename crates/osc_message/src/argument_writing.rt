@@ -1,9 +1,9 @@
 // An argument's tag, and its bytes.
-ghost use Rattle.std.specs.Prelude.{◌≡◌, ◌++◌, ◌≤◌, ◌^◌, ◌+◌, None, length, take, position, OnOk, OnErr, IfSome};
+ghost use Rattle.std.specs.Prelude.{◌≡◌, ◌++◌, ◌≤◌, ◌<◌, ◌^◌, ◌+◌, None, length, take, position, OnOk, OnErr, IfSome};
 ghost use Rattle.std.specs.Vec.{vec_len, vec_capacity};
 ghost use Rattle.osc_atoms.specs.Reading.{is_zero};
 ghost use Rattle.osc_message.specs.Messages;
-ghost use Rattle.osc_message.specs.Messages.{atom_of, Fits};
+ghost use Rattle.osc_message.specs.Messages.{atom_of, Fits, HasNoZero};
 ghost use Rattle.osc_message.specs.Building.{null_in, null_of};
 ghost use Rattle.osc_message.specs.Shown.{shown};
 
@@ -90,10 +90,11 @@ pub fn argument_size(arg: Arg<'_>) -> usize
 
 /// Appends the argument's bytes, for which there is room.
 pub fn append_argument(out: &mut Vec<u8>, arg: Arg<'_>)
-    requires fits { Fits (shown arg) }
+    requires no_zero { HasNoZero (shown arg) }
     requires small { length (atom_of (shown arg)) ≤ 1073741824 }
     requires room { vec_len out.old + length (atom_of (shown arg)) ≤ vec_capacity out.old }
     ensures out { out.new.items ≡ out.old.items ++ atom_of (shown arg.entry) }
+    ensures fits { Fits (shown arg.entry) }
     ensures capacity { vec_capacity out.old ≤ vec_capacity out.new }
 {
     match arg {
@@ -115,7 +116,7 @@ pub(crate) fn put_argument(out: &mut Vec<u8>, arg: Arg<'_>) -> Result<(), AllocE
     requires small { length (atom_of (shown arg)) ≤ 65504 }
     ensures ok { OnOk result (out.new.items ≡ out.old.items ++ atom_of (shown arg.entry)) }
     ensures err { OnErr result (out.new.items ≡ out.old.items) }
-    ensures fits { Fits (shown arg.entry) }
+    ensures fits { OnOk result (Fits (shown arg.entry)) }
 {
     out.reserve(argument_size(arg))?;
     append_argument(out, arg);

@@ -106,10 +106,11 @@ impl<'a> Message<'a> {
     pub fn args(&self) -> Args<'a>
         ensures { left result ≡ message_arguments self.now }
     {
-        match self.slices.tags {
-            Some(tags) if self.slices.unknown.is_none() => Args::new(tags, self.bytes, self.slices.place),
-            _ => Args::new(&[], self.bytes, self.slices.place),
+        if self.slices.unknown.is_some() {
+            return Args::new(&[], self.bytes, self.slices.place);
         }
+        let tags = self.slices.tags.unwrap_or(&[]);
+        Args::new(tags, self.bytes, self.slices.place)
     }
 }
 

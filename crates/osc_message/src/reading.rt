@@ -1,5 +1,5 @@
 // A message: its parts, or its first fault.
-ghost use Rattle.std.specs.Prelude.{◌≡◌, ◌+◌, ◌%◌, ◌≤◌, IsTrue, IfOk, drop, length, is_ok, Ok};
+ghost use Rattle.std.specs.Prelude.{◌≡◌, ◌+◌, ◌%◌, ◌≤◌, IsTrue, IfOk, drop, length, false, is_ok, Ok};
 ghost use Rattle.std.specs.List.{list_any};
 ghost use Rattle.std.specs.Result.{result_map_both};
 ghost use Rattle.osc_message.specs.Tags.{is_unknown};

@@ -47,6 +47,12 @@ pub(crate) fn first_unknown(tags: &[u8]) -> Option<u8>
     ensures value { result ≡ find is_unknown tags.now }
     ensures any { is_some result ≡ list_any is_unknown tags.now }
 {
+    find_unknown(tags)
+}
+
+fn find_unknown(tags: &[u8]) -> Option<u8>
+    ensures { result ≡ find is_unknown tags.now }
+{
     tags.iter().copied().find(|tag| is_unknown_tag(*tag))
 }
 
