@@ -13,7 +13,6 @@ mod performance;
 mod playing;
 mod sequential;
 mod server;
-mod sizes;
 mod standing;
 mod store;
 mod units;

@@ -18,12 +18,13 @@ use crate::entry_answers::{
 };
 use crate::playing::a_performance_is_played;
 use crate::server::{Due, Server};
-use crate::sizes::{add_size, remove_size, submit_size};
 use osc_atoms::Room;
 use osc_method::Method;
 use osc_packet::Packet;
 use osc_pattern::Address;
-use osc_record::{Answer, Caps, Event, Recorder};
+use osc_record::{
+    Answer, Caps, ENROL_SIZE, Event, Recorder, TICK_SIZE, add_size, remove_size, submit_size,
+};
 use std::alloc::{AllocError, Global};
 use std::marker::Model;
 
@@ -68,7 +69,7 @@ impl Performance {
         ensures performance { self.new ≡ onward self.old caller enrol }
     {
         a_performance_is_played();
-        if let Some(room) = shortage(&self.recorder, 28) {
+        if let Some(room) = shortage(&self.recorder, ENROL_SIZE) {
             return Enrolled::RecordFull(room);
         }
         let enrolled = self.server.enrol();
@@ -160,7 +161,7 @@ impl Performance {
         ensures performance { self.new ≡ onward self.old caller (tick now) }
     {
         a_performance_is_played();
-        if let Some(room) = shortage(&self.recorder, 48) {
+        if let Some(room) = shortage(&self.recorder, TICK_SIZE) {
             return Ticking::RecordFull(room);
         }
         let ticking = self.server.tick(now);
