@@ -32,6 +32,13 @@ impl Text {
         }
     }
 
+    /// Takes all bytes out, and keeps the memory.
+    pub fn clear(&mut self)
+        ensures { self.new ≡ [] }
+    {
+        self.bytes.clear();
+    }
+
     /// The whole text.
     pub fn bytes(&self) -> &[u8]
         ensures { result.now ≡ self.now }
