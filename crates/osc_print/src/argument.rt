@@ -1,20 +1,23 @@
 // Arguments, as words.
-ghost use Rattle.std.specs.Prelude.{◌≡◌, ◌++◌, OnOk};
+ghost use Rattle.std.specs.Prelude.{◌≡◌, ◌++◌, OnOk, OnErr};
 ghost use Rattle.std.specs.Fmt.{signed_decimal};
-ghost use Rattle.std.specs.List.{flat_map};
+ghost use Rattle.std.specs.List.{flat_map, list_all};
 ghost use Rattle.hex.specs.Hex.{encode_lower};
 ghost use Rattle.osc_atoms.specs.Atoms;
 ghost use Rattle.osc_message.specs.Shown.{shown};
-ghost use Rattle.osc_print.specs.Words.{argument_word, spaced, shown_byte, is_shown};
+ghost use Rattle.osc_print.specs.Words.{argument_word, spaced, shown_byte, is_shown, BeginsWith};
 
 use crate::Text;
+use itoa::Buffer;
 use osc_message::Arg;
 use std::alloc::AllocError;
 
 impl Text {
     /// Adds a space and the word of an argument.
     pub(crate) fn space_argument(&mut self, argument: Arg<'_>) -> Result<(), AllocError>
-        ensures { OnOk result (self.new ≡ self.old ++ spaced (argument_word (shown argument.entry))) }
+        ensures ok { OnOk result (self.new
+            ≡ self.old ++ spaced (argument_word (shown argument.entry))) }
+        ensures err { OnErr result (BeginsWith self.new self.old) }
     {
         match argument {
             Arg::Int(number) => self.space_signed(b"i:", i64::from(number)),
@@ -38,30 +41,28 @@ impl Text {
     }
 
     fn space_signed(&mut self, tag: &[u8], number: i64) -> Result<(), AllocError>
-        ensures { OnOk result (self.new ≡ self.old ++ spaced (tag.now ++ signed_decimal number)) }
+        ensures ok { OnOk result (self.new
+            ≡ self.old ++ spaced (tag.now ++ signed_decimal number)) }
+        ensures err { OnErr result (BeginsWith self.new self.old) }
     {
         self.space_word(tag)?;
-        let digits = number.to_string(self.alloc())?;
-        self.word(digits.as_bytes())
+        self.word(Buffer::new().format(number).as_bytes())
     }
 
     /// Adds the bytes in lower-case hexadecimal digits.
     pub(crate) fn space_hex(&mut self, tag: &[u8], bytes: &[u8]) -> Result<(), AllocError>
-        ensures { OnOk result (self.new ≡ self.old ++ spaced (tag.now ++ encode_lower bytes.now)) }
+        ensures ok { OnOk result (self.new
+            ≡ self.old ++ spaced (tag.now ++ encode_lower bytes.now)) }
+        ensures err { OnErr result (BeginsWith self.new self.old) }
     {
         self.space_word(tag)?;
         self.hex(bytes)
     }
 
-    fn hex(&mut self, bytes: &[u8]) -> Result<(), AllocError>
-        ensures { OnOk result (self.new ≡ self.old ++ encode_lower bytes.now) }
-    {
-        let digits = hex::encode(self.alloc(), bytes)?;
-        self.word(digits.as_bytes())
-    }
-
     fn space_text(&mut self, tag: &[u8], text: &[u8]) -> Result<(), AllocError>
-        ensures { OnOk result (self.new ≡ self.old ++ spaced (tag.now ++ flat_map shown_byte text.now)) }
+        ensures ok { OnOk result (self.new
+            ≡ self.old ++ spaced (tag.now ++ flat_map shown_byte text.now)) }
+        ensures err { OnErr result (BeginsWith self.new self.old) }
     {
         self.space_word(tag)?;
         self.shown(text)
@@ -69,7 +70,18 @@ impl Text {
 
     /// Adds bytes that can be read as they are, and any other as `\x` and two digits.
     fn shown(&mut self, text: &[u8]) -> Result<(), AllocError>
-        ensures { OnOk result (self.new ≡ self.old ++ flat_map shown_byte text.now) }
+        ensures ok { OnOk result (self.new ≡ self.old ++ flat_map shown_byte text.now) }
+        ensures err { OnErr result (BeginsWith self.new self.old) }
+    {
+        if is_all_shown(text) {
+            return self.word(text);
+        }
+        self.shown_bytes(text)
+    }
+
+    fn shown_bytes(&mut self, text: &[u8]) -> Result<(), AllocError>
+        ensures ok { OnOk result (self.new ≡ self.old ++ flat_map shown_byte text.now) }
+        ensures err { OnErr result (BeginsWith self.new self.old) }
     {
         for byte in text {
             self.shown_byte(*byte)?;
@@ -78,7 +90,8 @@ impl Text {
     }
 
     fn shown_byte(&mut self, byte: u8) -> Result<(), AllocError>
-        ensures { OnOk result (self.new ≡ self.old ++ shown_byte byte) }
+        ensures ok { OnOk result (self.new ≡ self.old ++ shown_byte byte) }
+        ensures err { OnErr result (BeginsWith self.new self.old) }
     {
         if is_shown(byte) {
             return self.word(&[byte]);
@@ -86,6 +99,13 @@ impl Text {
         self.word(b"\\x")?;
         self.hex(&[byte])
     }
+}
+
+/// Whether the whole text is shown as it is.
+fn is_all_shown(text: &[u8]) -> bool
+    ensures { result ≡ list_all is_shown text.now }
+{
+    text.iter().all(|byte| is_shown(*byte))
 }
 
 /// A byte from `!` to `~` that isn't a backslash.

@@ -3,8 +3,8 @@ ghost use Rattle.std.specs.Prelude.{◌≡◌, ◌++◌, OnOk, OnErr};
 ghost use Rattle.std.specs.Option.{option_copied};
 ghost use Rattle.std.specs.List.{flat_map};
 ghost use Rattle.osc_message.specs.Arguments.{tags_of, message_arguments};
-ghost use Rattle.osc_print.specs.Words.{argument_word, spaced, tags_word};
-ghost use Rattle.osc_print.specs.Lines.{call_head};
+ghost use Rattle.osc_print.specs.Words.{argument_word, spaced, tags_word, BeginsWith};
+ghost use Rattle.osc_print.specs.Lines.{call_head, call_text};
 ghost use Rattle.osc_print.specs.Entries.{invocation_text};
 
 use crate::Text;
@@ -25,14 +25,22 @@ pub fn call_line(
     ensures ok { OnOk result (text.new ≡ text.old ++ invocation_text (record { unit = call.now.unit; call = record { index = call.now.index; id = id; address = address.now; message = call.now.message } })) }
     ensures err { OnErr result (text.new ≡ text.old) }
 {
-    let mut line = text.empty();
-    line.call_head(call.unit, call.index, id, address.bytes())?;
-    line.message_words(&call.message)?;
-    line.end_line()?;
-    text.word(line.bytes())
+    let start = text.bytes().len();
+    let added = text.call_words(call, id, address.bytes());
+    text.whole_line(start, added)
 }
 
 impl Text {
+    fn call_words(&mut self, call: &Call<'_>, id: u32, address: &[u8]) -> Result<(), AllocError>
+        ensures ok { OnOk result (self.new ≡ self.old
+            ++ call_text call.now.unit call.now.index id address.now call.now.message) }
+        ensures err { OnErr result (BeginsWith self.new self.old) }
+    {
+        self.call_head(call.unit, call.index, id, address)?;
+        self.message_words(&call.message)?;
+        self.end_line()
+    }
+
     fn call_head(
         &mut self,
         unit: u64,
@@ -40,7 +48,8 @@ impl Text {
         id: u32,
         address: &[u8],
     ) -> Result<(), AllocError>
-        ensures { OnOk result (self.new ≡ self.old ++ call_head unit index id address.now) }
+        ensures ok { OnOk result (self.new ≡ self.old ++ call_head unit index id address.now) }
+        ensures err { OnErr result (BeginsWith self.new self.old) }
     {
         self.word(b"call")?;
         self.space_number(unit)?;
@@ -50,7 +59,10 @@ impl Text {
     }
 
     fn message_words(&mut self, message: &Message<'_>) -> Result<(), AllocError>
-        ensures { OnOk result (self.new ≡ self.old ++ (spaced (tags_word (tags_of message.now)) ++ flat_map (λ argument. spaced (argument_word argument)) (message_arguments message.now))) }
+        ensures ok { OnOk result (self.new
+            ≡ self.old ++ (spaced (tags_word (tags_of message.now))
+            ++ flat_map (λ argument. spaced (argument_word argument)) (message_arguments message.now))) }
+        ensures err { OnErr result (BeginsWith self.new self.old) }
     {
         self.space_tags(message.tags())?;
         for argument in message.args() {
@@ -60,7 +72,9 @@ impl Text {
     }
 
     fn space_tags(&mut self, tags: Option<&[u8]>) -> Result<(), AllocError>
-        ensures { OnOk result (self.new ≡ self.old ++ spaced (tags_word (option_copied tags.entry))) }
+        ensures ok { OnOk result (self.new
+            ≡ self.old ++ spaced (tags_word (option_copied tags.entry))) }
+        ensures err { OnErr result (BeginsWith self.new self.old) }
     {
         match tags {
             Some(tags) => {

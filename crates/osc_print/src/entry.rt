@@ -4,7 +4,7 @@ ghost use Rattle.osc_model.specs.Events.{tick, clock_back, released};
 ghost use Rattle.osc_model.specs.Recordings.{hits_in};
 ghost use Rattle.osc_record.specs.Shown.{event_of, answer_of};
 ghost use Rattle.osc_record.specs.Left.{placed_of};
-ghost use Rattle.osc_print.specs.Words.{spaced};
+ghost use Rattle.osc_print.specs.Words.{spaced, BeginsWith};
 ghost use Rattle.osc_print.specs.Entries.{named, named_room, moment_word, event_words, answer_words, entry_text};
 
 use crate::Text;
@@ -18,16 +18,25 @@ pub fn entry_line(text: &mut Text, entry: &Entry<'_>) -> Result<(), AllocError>
     ensures ok { OnOk result (text.new ≡ text.old ++ entry_text (placed_of entry.now).entry) }
     ensures err { OnErr result (text.new ≡ text.old) }
 {
-    let mut line = text.empty();
-    line.event_words(entry.caller, entry.event)?;
-    line.space_answer(entry.answer)?;
-    line.end_line()?;
-    text.word(line.bytes())
+    let start = text.bytes().len();
+    let added = text.entry_words(entry);
+    text.whole_line(start, added)
 }
 
 impl Text {
+    fn entry_words(&mut self, entry: &Entry<'_>) -> Result<(), AllocError>
+        ensures ok { OnOk result (self.new ≡ self.old ++ entry_text (placed_of entry.now).entry) }
+        ensures err { OnErr result (BeginsWith self.new self.old) }
+    {
+        self.event_words(entry.caller, entry.event)?;
+        self.space_answer(entry.answer)?;
+        self.end_line()
+    }
+
     fn event_words(&mut self, caller: u32, event: Event<'_>) -> Result<(), AllocError>
-        ensures { OnOk result (self.new ≡ self.old ++ event_words caller (event_of event.entry)) }
+        ensures ok { OnOk result (self.new
+            ≡ self.old ++ event_words caller (event_of event.entry)) }
+        ensures err { OnErr result (BeginsWith self.new self.old) }
     {
         match event {
             Event::Enrol => self.named(b"enrol", caller),
@@ -40,7 +49,9 @@ impl Text {
     }
 
     fn space_answer(&mut self, answer: Answer<'_>) -> Result<(), AllocError>
-        ensures { OnOk result (self.new ≡ self.old ++ spaced (answer_words (answer_of answer.entry))) }
+        ensures ok { OnOk result (self.new
+            ≡ self.old ++ spaced (answer_words (answer_of answer.entry))) }
+        ensures err { OnErr result (BeginsWith self.new self.old) }
     {
         match answer {
             Answer::Number(number) => self.space_number(u64::from(number)),
@@ -64,28 +75,33 @@ impl Text {
 
     /// Adds a word and a number behind it.
     fn named(&mut self, name: &[u8], number: u32) -> Result<(), AllocError>
-        ensures { OnOk result (self.new ≡ self.old ++ named name.now number) }
+        ensures ok { OnOk result (self.new ≡ self.old ++ named name.now number) }
+        ensures err { OnErr result (BeginsWith self.new self.old) }
     {
         self.word(name)?;
         self.space_number(u64::from(number))
     }
 
     fn named_address(&mut self, name: &[u8], number: u32, address: &[u8]) -> Result<(), AllocError>
-        ensures { OnOk result (self.new ≡ self.old ++ (named name.now number ++ spaced address.now)) }
+        ensures ok { OnOk result (self.new
+            ≡ self.old ++ (named name.now number ++ spaced address.now)) }
+        ensures err { OnErr result (BeginsWith self.new self.old) }
     {
         self.named(name, number)?;
         self.space_word(address)
     }
 
     fn tick_words(&mut self, caller: u32, moment: u64) -> Result<(), AllocError>
-        ensures { OnOk result (self.new ≡ self.old ++ event_words caller (tick moment)) }
+        ensures ok { OnOk result (self.new ≡ self.old ++ event_words caller (tick moment)) }
+        ensures err { OnErr result (BeginsWith self.new self.old) }
     {
         self.named(b"tick", caller)?;
         self.space_moment(moment)
     }
 
     fn space_named(&mut self, name: &[u8], number: u32) -> Result<(), AllocError>
-        ensures { OnOk result (self.new ≡ self.old ++ spaced (named name.now number)) }
+        ensures ok { OnOk result (self.new ≡ self.old ++ spaced (named name.now number)) }
+        ensures err { OnErr result (BeginsWith self.new self.old) }
     {
         self.space_word(name)?;
         self.space_number(u64::from(number))
@@ -93,13 +109,17 @@ impl Text {
 
     /// Adds a word, how much is needed, and how much is free.
     fn space_room(&mut self, name: &[u8], room: Room) -> Result<(), AllocError>
-        ensures { OnOk result (self.new ≡ self.old ++ spaced (named_room name.now room.need room.free)) }
+        ensures ok { OnOk result (self.new
+            ≡ self.old ++ spaced (named_room name.now room.need room.free)) }
+        ensures err { OnErr result (BeginsWith self.new self.old) }
     {
         self.space_pair(name, room.need, room.free)
     }
 
     fn space_pair(&mut self, name: &[u8], first: u64, second: u64) -> Result<(), AllocError>
-        ensures { OnOk result (self.new ≡ self.old ++ spaced (named_room name.now first second)) }
+        ensures ok { OnOk result (self.new
+            ≡ self.old ++ spaced (named_room name.now first second)) }
+        ensures err { OnErr result (BeginsWith self.new self.old) }
     {
         self.space_word(name)?;
         self.space_number(first)?;
@@ -107,7 +127,8 @@ impl Text {
     }
 
     fn space_clock_back(&mut self, clock: u64) -> Result<(), AllocError>
-        ensures { OnOk result (self.new ≡ self.old ++ spaced (answer_words (clock_back clock))) }
+        ensures ok { OnOk result (self.new ≡ self.old ++ spaced (answer_words (clock_back clock))) }
+        ensures err { OnErr result (BeginsWith self.new self.old) }
     {
         self.space_word(b"clock-back")?;
         self.space_moment(clock)
@@ -115,14 +136,17 @@ impl Text {
 
     /// Adds a moment in 16 digits.
     fn space_moment(&mut self, moment: u64) -> Result<(), AllocError>
-        ensures { OnOk result (self.new ≡ self.old ++ spaced (moment_word moment)) }
+        ensures ok { OnOk result (self.new ≡ self.old ++ spaced (moment_word moment)) }
+        ensures err { OnErr result (BeginsWith self.new self.old) }
     {
         self.space_hex(b"", &moment.to_be_bytes())
     }
 
     /// Adds a unit's number and how many hits the bytes have.
     fn space_released(&mut self, unit: u64, hits: &[u8]) -> Result<(), AllocError>
-        ensures { OnOk result (self.new ≡ self.old ++ spaced (answer_words (released unit (hits_in hits.now)))) }
+        ensures ok { OnOk result (self.new
+            ≡ self.old ++ spaced (answer_words (released unit (hits_in hits.now)))) }
+        ensures err { OnErr result (BeginsWith self.new self.old) }
     {
         self.space_number(unit)?;
         self.space_number(hit_count(hits))

@@ -1,15 +1,16 @@
 // Text, word by word.
-ghost use Rattle.std.specs.Prelude.{◌≡◌, ◌++◌, ◌∷◌, [], OnOk, OnErr};
+ghost use Rattle.std.specs.Prelude.{◌≡◌, ◌++◌, ◌∷◌, [], take, OnOk, OnErr};
 ghost use Rattle.std.specs.Fmt.{decimal};
+ghost use Rattle.hex.specs.Hex.{encode_lower};
 ghost use Rattle.osc_print.specs.Words.{spaced, BeginsWith};
 
+use itoa::Buffer;
 use std::alloc::{AllocError, Global};
 use std::marker::Model;
 
 /// A list of bytes, to whose end words and lines are added. An `Err` of its calls is want of memory.
 #[derive(Drop)]
 pub struct Text {
-    alloc: Global,
     bytes: Vec<u8>,
 }
 
@@ -27,7 +28,6 @@ impl Text {
         ensures { result ≡ [] }
     {
         Text {
-            alloc,
             bytes: Vec::new(alloc),
         }
     }
@@ -44,17 +44,6 @@ impl Text {
         ensures { result.now ≡ self.now }
     {
         self.bytes.as_slice()
-    }
-
-    /// An empty text that takes its memory from where this one does.
-    pub(crate) fn empty(&self) -> Text
-        ensures { result ≡ [] }
-    {
-        Text::open(self.alloc)
-    }
-
-    pub(crate) fn alloc(&self) -> Global {
-        self.alloc
     }
 
     /// Adds the bytes.
@@ -79,8 +68,7 @@ impl Text {
         ensures ok { OnOk result (self.new ≡ self.old ++ spaced (decimal number)) }
         ensures err { OnErr result (BeginsWith self.new self.old) }
     {
-        let digits = number.to_string(self.alloc)?;
-        self.space_word(digits.as_bytes())
+        self.space_word(Buffer::new().format(number).as_bytes())
     }
 
     /// Adds a line feed.
@@ -89,5 +77,51 @@ impl Text {
         ensures err { OnErr result (self.new ≡ self.old) }
     {
         self.word(b"\n")
+    }
+
+    /// Adds two lower-case hexadecimal digits for each byte.
+    pub(crate) fn hex(&mut self, bytes: &[u8]) -> Result<(), AllocError>
+        ensures ok { OnOk result (self.new ≡ self.old ++ encode_lower bytes.now) }
+        ensures err { OnErr result (self.new ≡ self.old) }
+    {
+        append_hex(&mut self.bytes, bytes)
+    }
+
+    /// Answers what became of a line, and cuts the text back to where the line began if it wasn't added whole.
+    pub(crate) fn whole_line(
+        &mut self,
+        start: usize,
+        added: Result<(), AllocError>,
+    ) -> Result<(), AllocError>
+        ensures answer { result ≡ added }
+        ensures ok { OnOk result (self.new ≡ self.old) }
+        ensures err { OnErr result (self.new ≡ take start self.old) }
+    {
+        match added {
+            Ok(()) => Ok(()),
+            Err(refused) => {
+                self.bytes.truncate(start);
+                Err(refused)
+            }
+        }
+    }
+}
+
+/// Adds two lower-case hexadecimal digits for each byte.
+fn append_hex(text: &mut Vec<u8>, bytes: &[u8]) -> Result<(), AllocError>
+    ensures ok { OnOk result (text.new.items ≡ text.old.items ++ encode_lower bytes.now) }
+    ensures err { OnErr result (text.new.items ≡ text.old.items) }
+{
+    let start = text.len();
+    let Some(size) = bytes.len().checked_mul(2) else {
+        return Err(AllocError);
+    };
+    let Some(end) = start.checked_add(size) else {
+        return Err(AllocError);
+    };
+    text.resize(end, 0)?;
+    match hex::encode_to_slice(bytes, &mut text[start..]) {
+        Ok(()) => Ok(()),
+        Err(_) => unreachable!(),
     }
 }

@@ -107,7 +107,7 @@ fn lines_are_printed_as_the_format_has_them(rt: HostRuntime) -> Result<(), Fail>
 fn calls_faults_and_words_are_printed(rt: HostRuntime) -> Result<(), Fail> {
     let mut text = Text::open(rt.alloc());
     let bytes =
-        b"/l*\0,ihsb[T]\0\0\0\0\xff\xff\xff\xff\0\0\0\0\0\0\0\x07 \\a\0\0\0\0\x02\xab\xcd\0\0";
+        b"/l*\0,ihssb[T]\0\0\0\xff\xff\xff\xff\0\0\0\0\0\0\0\x07 \\a\0~!\0\0\0\0\0\x02\xab\xcd\0\0";
     let message = Message::check(bytes, 65_504).ok().ok_or("a message")?;
     let call = Call {
         unit: 12,
@@ -132,7 +132,10 @@ fn calls_faults_and_words_are_printed(rt: HostRuntime) -> Result<(), Fail> {
     text.end_line()?;
     assert_eq!(rt;
         text.bytes(),
-        b"call 12 1 4 /light ,ihsb[T] i:-1 h:7 s:\\x20\\x5ca b:abcd [ T ]\ncall 13 0 4 /light -\nfault 2 16 12\nunits full 0\n".as_slice()
+        b"call 12 1 4 /light ,ihssb[T] i:-1 h:7 s:\\x20\\x5ca s:~! b:abcd [ T ]\ncall 13 0 4 /light -\nfault 2 16 12\nunits full 0\n".as_slice()
     );
+    text.clear();
+    text.word(b"units")?;
+    assert_eq!(rt; text.bytes(), b"units".as_slice());
     Ok(())
 }

@@ -1,7 +1,7 @@
 use Rattle.std.proofs.Common.{◌≡◌, ◌++◌, take}
 use Rattle.std.specs.List.{flat_map}
 use Rattle.osc_print.specs.Words.{shown_byte}
-use Rattle.osc_print.proofs.text.Text.shown.Given as goal
+use Rattle.osc_print.proofs.text.Text.shown_bytes.Given as goal
 
 abbrev pub invariant-loop-byte : goal.invariant-loop-byte
 invariant-loop-byte l = l.self ≡ l.initial.self ++ flat_map shown_byte (take l.byte-index l.text)
