@@ -3,7 +3,9 @@ ghost use Rattle.std.specs.Prelude.{◌≡◌, IfOk};
 ghost use Rattle.std.specs.List.{concat};
 ghost use Rattle.std.specs.Option.{option_copied};
 ghost use Rattle.osc_script.specs.Words.{words_of};
-ghost use Rattle.osc_script.specs.Acts.{act_of, only_one, address_of, packet_of, moment_of, pump_of};
+ghost use Rattle.hex.specs.Hex.{decode_of};
+ghost use Rattle.osc_script.specs.Kinds.{hex_kind};
+ghost use Rattle.osc_script.specs.Acts.{act_of, only_one, address_of, decoded, packet_of, moment_of, pump_of};
 ghost use Rattle.osc_script.specs.Scripts.{line_says};
 ghost use Rattle.osc_script.specs.Answers.{Says};
 
@@ -65,8 +67,17 @@ fn read_address(alloc: Global, operands: &[u8]) -> Result<Address, LineRefusal>
 fn read_packet(alloc: Global, operands: &[u8]) -> Result<Bytes, LineRefusal>
     ensures { Says result (packet_of (words_of operands.now)) }
 {
-    let digits = joined(alloc, operands)?;
-    match hex::decode(alloc, digits.as_slice()) {
+    match only_word(operands) {
+        Some(digits) => decoded(alloc, digits),
+        None => decoded(alloc, joined(alloc, operands)?.as_slice()),
+    }
+}
+
+/// The bytes of hexadecimal digits.
+fn decoded(alloc: Global, digits: &[u8]) -> Result<Bytes, LineRefusal>
+    ensures { Says result (decoded hex_kind (decode_of digits.now)) }
+{
+    match hex::decode(alloc, digits) {
         Ok(bytes) => Ok(Bytes::of(bytes)),
         Err(FromHexError::OutOfMemory) => Err(LineRefusal::NoMemory),
         Err(_) => Err(LineRefusal::Kind(ScriptFault::HEX)),
