@@ -4,6 +4,7 @@ mod Readings
 mod Openings
 mod Cuts
 mod Matches
+mod Reaches
 pub mod PatternLaws
 mod AddressLaws
 mod Parts

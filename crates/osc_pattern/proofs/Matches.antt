@@ -2,8 +2,8 @@
 use Rattle.std.proofs.Common.{◌≡◌, ◌⊎◌, inl, inr, Bor, ℕ, Bool, true, false, ◌||◌, ◌&&◌, ◌==◌, Some, None, Result, Ok, Err, List, [], ◌∷◌, length, refl, arith, sym, ap, ◌∙◌}
 use Rattle.std.specs.List.{list_any}
 use Rattle.std.proofs.lemmas.Bool.Decides.{nat_tests}
-use Rattle.osc_pattern.specs.Items.{Item, star}
-use Rattle.osc_pattern.specs.Cuts.{rests, after_byte, after_item}
+use Rattle.osc_pattern.specs.Items.{Item}
+use Rattle.osc_pattern.specs.Cuts.{has_byte, after_byte, after_item}
 use Rattle.osc_pattern.specs.Reading.{first_item, with_first, read_part, match_read, match_part}
 use Rattle.osc_pattern.specs.declared.item.Item.{Item as Borrowed}
 use Rattle.osc_pattern.specs.declared.item.Item.TheVariants.{Any, Set, Plain}
@@ -28,32 +28,32 @@ match_part-stuck [] [] e = ap (λ r. match_read r []) read_part-nil
 match_part-stuck [] (b ∷ name) e = ap (λ r. match_read r (b ∷ name)) read_part-nil ∙ (let t : (length (b ∷ name) == 0) ≡ false = grind (arith, nat_tests) in sym t)
 match_part-stuck (x ∷ xs) name e = ap (λ r. match_read r name) (read_part-stuck x xs e) ∙ (let t : (length (x ∷ xs) == 0) ≡ false = grind (arith, nat_tests) in rw t refl)
 
-list_any-same : (f g : List ℕ → Bool) (xs : List (List ℕ)) → ((x : List ℕ) → f x ≡ g x) → list_any f xs ≡ list_any g xs
-list_any-same f g [] same = refl
-list_any-same f g (x ∷ xs) same = rw (same x, list_any-same f g xs same) refl
-
-or_again : (a b : Bool) → ((a || b) || b) ≡ (a || b)
-or_again true b = refl
-or_again false true = refl
-or_again false false = refl
-
--- a star after a star adds nothing
-rests-rests : (f : List ℕ → Bool) (name : List ℕ) → list_any (λ left. list_any f (rests left)) (rests name) ≡ list_any f (rests name)
-rests-rests f [] = or_again (f []) false
-rests-rests f (b ∷ name) = rw (rests-rests f name) (or_again (f (b ∷ name)) (list_any f (rests name)))
-
-pub match_part-star : (part rest name : List ℕ) → first_item part ≡ Some (star, rest) → list_any (match_part rest) (rests name) ≡ list_any (match_part part) (rests name)
-match_part-star part rest name e =
-    sym (list_any-same (match_part part) (λ left. list_any (match_part rest) (rests left)) (rests name) (λ left. match_part-item part star rest left e) ∙ rests-rests (match_part rest) name)
-
--- the name is the first of its rests
-pub list_any-rests_first : (f : List ℕ → Bool) (name : List ℕ) → f name ≡ true → list_any f (rests name) ≡ true
-list_any-rests_first f [] e = rw e refl
-list_any-rests_first f (b ∷ name) e = rw e refl
-
 -- an item that matches single bytes
 pub after_item-byte : (item : Borrowed) (name : List ℕ) → (item ≡ Any) ⊎ (((list : Bor (List ℕ)) × (item ≡ Set list)) ⊎ ((byte : ℕ) × (item ≡ Plain byte)))
     → after_byte (item_of item) name ≡ after_item (item_of item) name
 after_item-byte item name (inl e) = rw e refl
 after_item-byte item name (inr (inl (list, e))) = rw e refl
 after_item-byte item name (inr (inr (byte, e))) = rw e refl
+
+-- a part that begins with an item of single bytes
+byte_item : (part : List ℕ) (item : Borrowed) (others name : List ℕ) → first_item part ≡ Some (item_of item, others) → (item ≡ Any) ⊎ (((list : Bor (List ℕ)) × (item ≡ Set list)) ⊎ ((byte : ℕ) × (item ≡ Plain byte)))
+    → match_part part name ≡ list_any (match_part others) (after_byte (item_of item) name)
+byte_item part item others name found single = match_part-item part (item_of item) others name found ∙ ap (list_any (match_part others)) (sym (after_item-byte item name single))
+
+pub own_byte : (part : List ℕ) (item : Borrowed) (others name : List ℕ) (byte : ℕ) (rest : List ℕ) → first_item part ≡ Some (item_of item, others)
+    → (item ≡ Any) ⊎ (((list : Bor (List ℕ)) × (item ≡ Set list)) ⊎ ((own : ℕ) × (item ≡ Plain own))) → name ≡ byte ∷ rest → has_byte (item_of item) byte ≡ true → match_part part name ≡ match_part others rest
+own_byte part item others name byte rest found single spelled has =
+    byte_item part item others name found single ∙ ap (λ n. list_any (match_part others) (after_byte (item_of item) n)) spelled ∙ rw has (go (match_part others rest))
+  where
+    go : (t : Bool) → (t || false) ≡ t
+    go true = refl
+    go false = refl
+
+pub other_byte : (part : List ℕ) (item : Borrowed) (others name : List ℕ) (byte : ℕ) (rest : List ℕ) → first_item part ≡ Some (item_of item, others)
+    → (item ≡ Any) ⊎ (((list : Bor (List ℕ)) × (item ≡ Set list)) ⊎ ((own : ℕ) × (item ≡ Plain own))) → name ≡ byte ∷ rest → has_byte (item_of item) byte ≡ false → match_part part name ≡ false
+other_byte part item others name byte rest found single spelled has =
+    byte_item part item others name found single ∙ ap (λ n. list_any (match_part others) (after_byte (item_of item) n)) spelled ∙ rw has refl
+
+pub no_byte : (part : List ℕ) (item : Borrowed) (others name : List ℕ) → first_item part ≡ Some (item_of item, others) → (item ≡ Any) ⊎ (((list : Bor (List ℕ)) × (item ≡ Set list)) ⊎ ((own : ℕ) × (item ≡ Plain own)))
+    → name ≡ [] → match_part part name ≡ false
+no_byte part item others name found single empty = byte_item part item others name found single ∙ ap (λ n. list_any (match_part others) (after_byte (item_of item) n)) empty

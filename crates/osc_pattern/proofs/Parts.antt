@@ -1,5 +1,7 @@
 -- Patterns and addresses matched part by part, where one of them has ended.
-use Rattle.std.proofs.Common.{◌≡◌, ℕ, Bool, true, false, cond, ◌&&◌, List, [], ◌∷◌, refl, ap, ◌∙◌}
+use Rattle.std.proofs.Common.{◌≡◌, ℕ, ◌+◌, ◌*◌, ◌≤◌, Bor, Bool, true, false, cond, ◌&&◌, Option, Some, None, List, [], ◌∷◌, length, refl, arith, ap, ◌∙◌}
+use Rattle.std.specs.Prelude.{MatchOption}
+use Rattle.std.proofs.lemmas.Nat.{mul-le}
 use Rattle.std.specs.List.{slice_split, onto_first}
 use Rattle.std.proofs.Math.Bool.{and-false}
 use Rattle.osc_pattern.specs.Items.{is_slash}
@@ -28,3 +30,12 @@ pub parts_ended : (bytes names part rest name : List ℕ) → slice_split is_sla
 parts_ended bytes names part rest name e f =
     let more = split-cons rest in
     rw (e, f) (ap (λ others. match_part part name && match_parts [] others) more.2 ∙ and-false (match_part part name))
+
+-- a part is no longer than the parts together
+pub piece_within : (rest : Option (Bor (List ℕ))) (piece whole : ℕ) → MatchOption rest (piece ≡ whole) (λ others. piece + (1 + length others.now) ≡ whole) → piece ≤ whole
+piece_within None piece whole size = omega arith
+piece_within (Some others) piece whole size = omega arith
+
+-- the steps of one part
+pub part_steps : (name part : ℕ) → name ≤ 63 → (name + 1) * part ≤ 64 * part
+part_steps name part short = mul-le (name + 1) part 64 part (omega arith) (omega arith)

@@ -1,5 +1,5 @@
 -- The plain matcher, which tries each way to cut a name.
-use Rattle.std.specs.Prelude.{ℕ, Bool, true, false, ◌==◌, if◌then◌else◌, List, [], ◌∷◌, drop, take, length}
+use Rattle.std.specs.Prelude.{ℕ, ◌+◌, Bool, true, false, ◌&&◌, ◌||◌, ◌==◌, if◌then◌else◌, List, [], ◌∷◌, drop, take, length}
 use Rattle.std.specs.List.{list_any, slice_split, flat_map}
 use Rattle.std.specs.Str.{bytes_eq}
 use Rattle.osc_pattern.specs.Items.{Item, any, star, set, choice, plain, is_comma, is_in_set}
@@ -39,3 +39,8 @@ abbrev pub match_items : List Item → List ℕ → Bool
 match_items [] [] = true
 match_items [] (byte ∷ name) = false
 match_items (item ∷ items) name = list_any (match_items items) (after_item item name)
+
+-- whether what is left of a name passes the test at one of the places; the name begins at this one
+abbrev pub any_rest : (List ℕ → Bool) → (ℕ → Bool) → ℕ → List ℕ → Bool
+any_rest test places at [] = places at && test []
+any_rest test places at (byte ∷ name) = (places at && test (byte ∷ name)) || any_rest test places (at + 1) name

@@ -1,6 +1,9 @@
--- How the code's items stand for items.
+-- How the code's items stand for items, and its sets for places of a name.
+use Rattle.std.specs.Prelude.{ℕ, Bool, ◌==◌}
+use Rattle.std.specs.Int.{bit_at}
 use Rattle.osc_pattern.specs.declared.item.Item.{Item as Borrowed}
 use Rattle.osc_pattern.specs.declared.item.Item.TheVariants.{Any, Star, Set, Choice, Plain}
+use Rattle.osc_pattern.specs.declared.places.Places.{Places}
 use Rattle.osc_pattern.specs.Items.{Item, any, star, set, choice, plain}
 
 abbrev pub item_of : Borrowed → Item
@@ -9,3 +12,7 @@ item_of Star = star
 item_of (Set list) = set list.now
 item_of (Choice texts) = choice texts.now
 item_of (Plain byte) = plain byte
+
+-- whether the place is one of the set
+abbrev pub is_place_of : Places → ℕ → Bool
+is_place_of places place = bit_at places.bits place == 1

@@ -1,11 +1,13 @@
 //! Items of a pattern, borrowed from its bytes.
-ghost use Rattle.std.specs.Prelude.{◌≡◌, ◌<◌, length, option_map, IfSome};
-ghost use Rattle.osc_pattern.specs.Items.{stands_for, is_in_set, is_between};
+ghost use Rattle.std.specs.Prelude.{◌≡◌, ◌<◌, ◌≤◌, ◌+◌, length, option_map, IfSome};
+ghost use Rattle.osc_pattern.specs.Items.{item_text, stands_for, is_in_set, is_between};
 ghost use Rattle.osc_pattern.specs.Cuts.{has_byte};
 ghost use Rattle.osc_pattern.specs.Reading.{first_item, first_range};
 ghost use Rattle.osc_pattern.specs.Views.{item_of};
 
 use crate::cut::cut_at;
+use crate::steps::Steps;
+use std::sync::ledger::Ledger;
 
 /// One item. `Set` and `Choice` have the bytes between the brackets.
 #[derive(Clone, Copy)]
@@ -36,21 +38,26 @@ pub(crate) fn first_item(part: &[u8]) -> Option<(Item<'_>, &[u8])>
 }
 
 /// Whether a set with this list matches the byte.
-fn is_in_set(list: &[u8], byte: u8) -> bool
-    ensures { result ≡ is_in_set list.now byte }
+fn is_in_set<L: Ledger>(list: &[u8], byte: u8, steps: &mut Steps<L>) -> bool
+    ensures value { result ≡ is_in_set list.now byte }
+    ensures counted { steps.old ≤ steps.new }
+    ensures bounded { steps.new ≤ steps.old + length list.now }
 {
     match list {
-        [b'!', rest @ ..] => !stands_for(rest, byte),
-        _ => stands_for(list, byte),
+        [b'!', rest @ ..] => !stands_for(rest, byte, steps),
+        _ => stands_for(list, byte, steps),
     }
 }
 
-/// Whether the byte is one of those that the list stands for.
-fn stands_for(list: &[u8], byte: u8) -> bool
-    ensures { result ≡ stands_for list.now byte }
+/// Whether the byte is one of those that the list stands for. It takes a step for each range.
+fn stands_for<L: Ledger>(list: &[u8], byte: u8, steps: &mut Steps<L>) -> bool
+    ensures value { result ≡ stands_for list.now byte }
+    ensures counted { steps.old ≤ steps.new }
+    ensures bounded { steps.new ≤ steps.old + length list.now }
 {
     let mut rest = list;
     while let Some(((first, last), after)) = first_range(rest) {
+        steps.tick();
         if is_between(first, last, byte) {
             return true;
         }
@@ -78,12 +85,16 @@ fn is_between(first: u8, last: u8, byte: u8) -> bool
 }
 
 /// Whether the byte alone is a text of the item: of `?`, a set or a plain byte.
-pub(crate) fn has_byte(item: Item<'_>, byte: u8) -> bool
-    ensures { result ≡ has_byte (item_of item.entry) byte }
+///
+/// The item's first byte has had its step. Each range of a set takes another.
+pub(crate) fn has_byte<L: Ledger>(item: Item<'_>, byte: u8, steps: &mut Steps<L>) -> bool
+    ensures value { result ≡ has_byte (item_of item.entry) byte }
+    ensures counted { steps.old ≤ steps.new }
+    ensures bounded { steps.new + 1 ≤ steps.old + length (item_text (item_of item.entry)) }
 {
     match item {
         Item::Any => true,
-        Item::Set(list) => is_in_set(list, byte),
+        Item::Set(list) => is_in_set(list, byte, steps),
         Item::Plain(own) => byte == own,
         Item::Star | Item::Choice(_) => false,
     }

@@ -9,6 +9,7 @@ mod item;
 pub mod laws;
 mod matcher;
 mod pattern;
+mod places;
 mod steps;
 
 pub use address::Address;

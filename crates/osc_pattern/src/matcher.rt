@@ -1,111 +1,219 @@
-//! The plain matcher: it tries each way to cut a name, by recursion.
-ghost use Rattle.std.specs.Prelude.{◌≡◌, ◌≤◌, ℕ, List, length};
+//! The matcher. It takes one item of a part after another, and keeps the places of the name that they reach.
+ghost use Rattle.std.specs.Prelude.{◌≡◌, ◌≤◌, ◌<◌, ◌+◌, ◌*◌, ◌||◌, ℕ, Bool, IsTrue, List, length, take, drop};
 ghost use Rattle.std.specs.List.{flat_map, list_any, slice_split};
-ghost use Rattle.osc_pattern.specs.Items.{is_comma, is_slash};
-ghost use Rattle.osc_pattern.specs.Cuts.{rests, after_text, after_byte};
+ghost use Rattle.std.specs.Str.{bytes_eq};
+ghost use Rattle.osc_pattern.specs.Items.{is_comma, item_text};
+ghost use Rattle.osc_pattern.specs.Cuts.{rests, after_text, after_byte, after_item, any_rest};
 ghost use Rattle.osc_pattern.specs.Reading.{match_part};
-ghost use Rattle.osc_pattern.specs.Patterns.{match_parts};
-ghost use Rattle.osc_pattern.specs.Views.{item_of};
+ghost use Rattle.osc_pattern.specs.Views.{item_of, is_place_of};
 
 use crate::cut::first_piece;
 use crate::item::{Item, first_item, has_byte};
+use crate::places::Places;
 use crate::steps::Steps;
 use std::sync::ledger::Ledger;
 
-/// Whether a part matches a name. One step is one item of the part tried at one place of the name.
-#[cycle(matching)]
+/// Whether a part matches a name.
+///
+/// Until the first star or choice there is one place, so it goes on in both together.
 pub(crate) fn match_part<L: Ledger>(part: &[u8], name: &[u8], steps: &mut Steps<L>) -> bool
+    requires { length name.now ≤ 63 }
+    ensures value { result ≡ match_part part.now name.now }
+    ensures begun { steps.old < steps.new }
+    ensures bounded { steps.new ≤ steps.old + (length name.now + 1) * length part.now + 1 }
+{
+    let mut part = part;
+    let mut name = name;
+    loop {
+        steps.tick();
+        let Some((item, others)) = first_item(part) else {
+            return part.is_empty() && name.is_empty();
+        };
+        match item {
+            Item::Star | Item::Choice(_) => return match_places(part, name, steps),
+            Item::Any | Item::Set(_) | Item::Plain(_) => {
+                let [byte, rest @ ..] = name else {
+                    return false;
+                };
+                if !has_byte(item, *byte, steps) {
+                    return false;
+                }
+                part = others;
+                name = rest;
+            }
+        }
+    }
+}
+
+/// Whether a part matches a name, by the places that its items reach.
+fn match_places<L: Ledger>(part: &[u8], name: &[u8], steps: &mut Steps<L>) -> bool
+    requires { length name.now ≤ 63 }
     ensures value { result ≡ match_part part.now name.now }
     ensures counted { steps.old ≤ steps.new }
+    ensures bounded { steps.new ≤ steps.old + (length name.now + 1) * length part.now }
 {
-    steps.tick();
-    let Some((item, rest)) = first_item(part) else {
-        return part.is_empty() && name.is_empty();
-    };
-    match item {
-        Item::Star => match_after_star(without_stars(rest), name, steps),
-        Item::Choice(texts) => match_after_choice(texts, rest, name, steps),
-        Item::Any | Item::Set(_) | Item::Plain(_) => match_after_byte(item, rest, name, steps),
+    let mut reached = Places::none();
+    reached.add(0);
+    let mut part = part;
+    while let Some((item, others)) = first_item(part) {
+        reached = places_after(item, &reached, name, steps);
+        part = others;
     }
+    part.is_empty() && reached.has(name.len())
 }
 
-/// Whether the part matches what is left of the name after a first byte that is a text of the item.
-#[cycle(matching)]
-fn match_after_byte<L: Ledger>(
+/// The places that stand after a text of the item from one of these.
+fn places_after<L: Ledger>(
     item: Item<'_>,
-    part: &[u8],
+    reached: &Places,
     name: &[u8],
     steps: &mut Steps<L>,
-) -> bool
-    ensures value { result ≡ list_any (match_part part.now) (after_byte (item_of item.entry) name.now) }
+) -> Places
+    requires { length name.now ≤ 63 }
+    ensures value { (test : List ℕ → Bool) → any_rest test (is_place_of result) 0 name.now
+        ≡ any_rest (λ rest. list_any test (after_item (item_of item.entry) rest)) (is_place_of reached.now) 0 name.now }
     ensures counted { steps.old ≤ steps.new }
+    ensures bounded { steps.new ≤ steps.old + (length name.now + 1) * length (item_text (item_of item.entry)) }
 {
-    match name {
-        [byte, rest @ ..] if has_byte(item, *byte) => match_part(part, rest, steps),
-        _ => false,
+    match item {
+        Item::Star => after_star(reached, name, steps),
+        Item::Choice(texts) => after_choice(texts, reached, name, steps),
+        Item::Any | Item::Set(_) | Item::Plain(_) => after_byte(item, reached, name, steps),
     }
 }
 
-/// Whether the part matches the name, or what is left of it after some of its bytes.
-#[cycle(matching)]
-fn match_after_star<L: Ledger>(part: &[u8], name: &[u8], steps: &mut Steps<L>) -> bool
-    ensures value { result ≡ list_any (match_part part.now) (rests name.now) }
+/// The places that stand one byte after one of these, where the byte is a text of the item.
+fn after_byte<L: Ledger>(
+    item: Item<'_>,
+    reached: &Places,
+    name: &[u8],
+    steps: &mut Steps<L>,
+) -> Places
+    requires { length name.now ≤ 63 }
+    ensures value { (test : List ℕ → Bool) → any_rest test (is_place_of result) 0 name.now
+        ≡ any_rest (λ rest. list_any test (after_byte (item_of item.entry) rest)) (is_place_of reached.now) 0 name.now }
     ensures counted { steps.old ≤ steps.new }
+    ensures bounded { steps.new ≤ steps.old + (length name.now + 1) * length (item_text (item_of item.entry)) }
 {
+    let mut next = Places::none();
+    let mut place = 0;
     let mut rest = name;
-    while !match_part(part, rest, steps) {
-        match rest {
-            [_, after @ ..] => rest = after,
-            [] => return false,
+    loop {
+        steps.tick();
+        let [byte, after @ ..] = rest else {
+            return next;
+        };
+        if reached.has(place) && has_byte(item, *byte, steps) {
+            next.add(place + 1);
+        }
+        place += 1;
+        rest = after;
+    }
+}
+
+/// The first of the places, and all after it.
+fn after_star<L: Ledger>(reached: &Places, name: &[u8], steps: &mut Steps<L>) -> Places
+    requires { length name.now ≤ 63 }
+    ensures value { (test : List ℕ → Bool) → any_rest test (is_place_of result) 0 name.now
+        ≡ any_rest (λ rest. list_any test (rests rest)) (is_place_of reached.now) 0 name.now }
+    ensures counted { steps.old ≤ steps.new }
+    ensures bounded { steps.new ≤ steps.old + (length name.now + 1) }
+{
+    let mut next = Places::none();
+    let mut place = 0;
+    let mut rest = name;
+    let mut begun = false;
+    loop {
+        steps.tick();
+        begun = begun || reached.has(place);
+        if begun {
+            next.add(place);
+        }
+        let [_, after @ ..] = rest else {
+            return next;
+        };
+        place += 1;
+        rest = after;
+    }
+}
+
+/// The places that stand after one of the texts from one of these.
+fn after_choice<L: Ledger>(
+    texts: &[u8],
+    reached: &Places,
+    name: &[u8],
+    steps: &mut Steps<L>,
+) -> Places
+    requires { length name.now ≤ 63 }
+    ensures value { (test : List ℕ → Bool) → any_rest test (is_place_of result) 0 name.now
+        ≡ any_rest (λ rest. list_any test (flat_map (after_text rest) (slice_split is_comma texts.now))) (is_place_of reached.now) 0 name.now }
+    ensures counted { steps.old ≤ steps.new }
+    ensures bounded { steps.new ≤ steps.old + (length name.now + 1) * (length texts.now + 2) }
+{
+    let mut next = Places::none();
+    let mut place = 0;
+    let mut rest = name;
+    loop {
+        steps.tick();
+        if reached.has(place) {
+            add_texts(texts, name, place, &mut next, steps);
+        }
+        let [_, after @ ..] = rest else {
+            return next;
+        };
+        place += 1;
+        rest = after;
+    }
+}
+
+/// Adds the places that stand after one of the texts from this place.
+fn add_texts<L: Ledger>(
+    texts: &[u8],
+    name: &[u8],
+    place: usize,
+    next: &mut Places,
+    steps: &mut Steps<L>,
+)
+    requires name { length name.now ≤ 63 }
+    requires place { place ≤ length name.now }
+    ensures value { (test : List ℕ → Bool) → any_rest test (is_place_of next.new) 0 name.now
+        ≡ (any_rest test (is_place_of next.old) 0 name.now || list_any test (flat_map (after_text (drop place name.now)) (slice_split is_comma texts.now))) }
+    ensures counted { steps.old ≤ steps.new }
+    ensures bounded { steps.new ≤ steps.old + (length texts.now + 1) }
+{
+    let left = &name[place..];
+    let mut texts = texts;
+    loop {
+        steps.tick();
+        let (text, others) = first_piece(texts, b',');
+        if begins_with(left, text, steps) {
+            next.add(place + text.len());
+        }
+        match others {
+            Some(others) => texts = others,
+            None => return,
+        }
+    }
+}
+
+/// Whether the name begins with the text.
+fn begins_with<L: Ledger>(name: &[u8], text: &[u8], steps: &mut Steps<L>) -> bool
+    ensures value { result ≡ bytes_eq (take (length text.now) name.now) text.now }
+    ensures fits { IsTrue result → length text.now ≤ length name.now }
+    ensures counted { steps.old ≤ steps.new }
+    ensures bounded { steps.new ≤ steps.old + length text.now }
+{
+    let mut name = name;
+    let mut text = text;
+    while let [own, others @ ..] = text {
+        steps.tick();
+        match name {
+            [byte, rest @ ..] if *byte == *own => {
+                name = rest;
+                text = others;
+            }
+            _ => return false,
         }
     }
     true
-}
-
-/// Whether the part matches what is left of the name after one of the texts.
-#[cycle(matching)]
-fn match_after_choice<L: Ledger>(
-    texts: &[u8],
-    part: &[u8],
-    name: &[u8],
-    steps: &mut Steps<L>,
-) -> bool
-    ensures value { result ≡ list_any (match_part part.now) (flat_map (after_text name.now) (slice_split is_comma texts.now)) }
-    ensures counted { steps.old ≤ steps.new }
-{
-    let mut rest = texts;
-    loop {
-        let (text, others) = first_piece(rest, b',');
-        if match_after_text(text, part, name, steps) {
-            return true;
-        }
-        match others {
-            Some(others) => rest = others,
-            None => return false,
-        }
-    }
-}
-
-/// Whether the name begins with the text, and the part matches what is left.
-#[cycle(matching)]
-fn match_after_text<L: Ledger>(text: &[u8], part: &[u8], name: &[u8], steps: &mut Steps<L>) -> bool
-    ensures value { result ≡ list_any (match_part part.now) (after_text name.now text.now) }
-    ensures counted { steps.old ≤ steps.new }
-{
-    match name.strip_prefix(text) {
-        Some(rest) => match_part(part, rest, steps),
-        None => false,
-    }
-}
-
-/// The part without the stars that it begins with: after a star they match nothing more.
-fn without_stars(part: &[u8]) -> &[u8]
-    ensures same { (name : List ℕ) → list_any (match_part result.now) (rests name) ≡ list_any (match_part part.now) (rests name) }
-    ensures shorter { length result.now ≤ length part.now }
-{
-    let mut rest = part;
-    while let Some((Item::Star, after)) = first_item(rest) {
-        rest = after;
-    }
-    rest
 }

@@ -1,6 +1,6 @@
 //! Patterns.
-ghost use Rattle.std.specs.Prelude.{◌≡◌, ◌≤◌, ◌<◌, ◌↔◌, ℕ, length, count_by, IsTrue, IsOk, IfOk, IfErr, Err, slice_get, unwrap_or, is_ok, []};
-ghost use Rattle.std.specs.List.{slice_split};
+ghost use Rattle.std.specs.Prelude.{◌≡◌, ◌≤◌, ◌<◌, ◌+◌, ◌*◌, ◌↔◌, ℕ, length, count_by, nat_lt, false, IsTrue, IsOk, IfOk, IfErr, Err, slice_get, unwrap_or, is_ok, []};
+ghost use Rattle.std.specs.List.{list_any, slice_split};
 ghost use Rattle.std.specs.Result.{result_err};
 ghost use Rattle.osc_pattern.specs.Items.{is_slash};
 ghost use Rattle.osc_pattern.specs.Parts.{MatchesName};
@@ -89,8 +89,7 @@ impl<'a> Pattern<'a> {
 
     /// Whether the part at this place, counted from 0, matches the name. It takes no memory.
     ///
-    /// A step is to examine one byte of the part for one place of the name. This matcher takes at least one for each
-    /// item that it tries at a place; no bound is promised.
+    /// A step is to examine one byte of the part, or its end, for one place of the name.
     #[tactic(auto, using(crate::proofs::PatternLaws::laws))]
     pub fn matches_part<L: Ledger>(&self, part: u32, name: &[u8], steps: &mut Steps<L>) -> bool
         requires part { part < length (parts_of self.now) }
@@ -98,6 +97,8 @@ impl<'a> Pattern<'a> {
         ensures exact { IsTrue result ↔ MatchesName (part_at self.now part) name.now }
         ensures test { result ≡ match_part (part_at self.now part) name.now }
         ensures counted { steps.old ≤ steps.new }
+        ensures begun { 0 < length (part_at self.now part) → steps.old < steps.new }
+        ensures bounded { steps.new ≤ steps.old + (length (part_at self.now part) + 1) * (length name.now + 1) }
     {
         match_part(nth_part(after_slash(self.bytes), part), name, steps)
     }
@@ -105,12 +106,13 @@ impl<'a> Pattern<'a> {
     /// Whether the pattern matches the address: both have as many parts, and each part matches the name at its
     /// place. It takes no memory.
     ///
-    /// Steps are counted as in `matches_part`, and no bound is promised.
+    /// Steps are counted as in `matches_part`.
     #[tactic(auto, using(crate::proofs::PatternLaws::laws))]
     pub fn matches<L: Ledger>(&self, address: &Address, steps: &mut Steps<L>) -> bool
         ensures exact { IsTrue result ↔ Match self.now address.now }
         ensures test { result ≡ matches self.now address.now }
         ensures counted { steps.old ≤ steps.new }
+        ensures bounded { steps.new ≤ steps.old + 64 * length self.now }
     {
         match_parts(after_slash(self.bytes), after_slash(address.bytes()), steps)
     }
@@ -119,7 +121,8 @@ impl<'a> Pattern<'a> {
 /// What follows the first slash.
 fn after_slash(bytes: &[u8]) -> &[u8]
     requires { IsTrue (begins_with_slash bytes.now) }
-    ensures { slice_split is_slash result.now ≡ parts_of bytes.now }
+    ensures parts { slice_split is_slash result.now ≡ parts_of bytes.now }
+    ensures size { length result.now + 1 ≡ length bytes.now }
 {
     &bytes[1..]
 }
@@ -147,8 +150,10 @@ fn nth_part(parts: &[u8], place: u32) -> &[u8]
 
 /// Whether there are as many parts as names, and each part matches the name at its place.
 fn match_parts<L: Ledger>(parts: &[u8], names: &[u8], steps: &mut Steps<L>) -> bool
+    requires { list_any (λ name. nat_lt 63 (length name)) (slice_split is_slash names.now) ≡ false }
     ensures value { result ≡ match_parts (slice_split is_slash parts.now) (slice_split is_slash names.now) }
     ensures counted { steps.old ≤ steps.new }
+    ensures bounded { steps.new ≤ steps.old + 64 * (length parts.now + 1) }
 {
     let mut parts = parts;
     let mut names = names;

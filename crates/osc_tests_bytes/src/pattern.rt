@@ -16,7 +16,7 @@ fn is_match<L: Ledger>(pattern: &Pattern<'_>, address: &Address, blank: Blank) -
     pattern.matches(address, &mut steps)
 }
 
-const MATCHES: [(&[u8], &[u8], bool); 17] = [
+const MATCHES: [(&[u8], &[u8], bool); 23] = [
     (b"/{foo,bar}/[!a-c]?*", b"/foo/dx", true),
     (b"/{foo,bar}/[!a-c]?*", b"/bar/zzz", true),
     (b"/{foo,bar}/[!a-c]?*", b"/bar/ab", false),
@@ -34,6 +34,36 @@ const MATCHES: [(&[u8], &[u8], bool); 17] = [
     (b"/*ab", b"/aab", true),
     (b"/*c", b"/acbc", true),
     (b"/{a,ab}*c", b"/abbc", true),
+    (
+        b"/*a*a*a*a*a*ab",
+        b"/aaaaaaaaaaaaaaaaaaaaaaaaaaaaaaaaaaaaaaaaaaaaaaaaaaaaaaaaaaaaaaa",
+        false,
+    ),
+    (
+        b"/*a*a*a*a*a*a*a*a*a*a*a*a*a*a*a*a*a*a*a*a*a*a*a*a*a*a*a*a*a*a*ab",
+        b"/aaaaaaaaaaaaaaaaaaaaaaaaaaaaaaaaaaaaaaaaaaaaaaaaaaaaaaaaaaaaaaa",
+        false,
+    ),
+    (
+        b"/*a*a*a*a*a*a*a*a*a*a*a*a*a*a*a*a*a*a*a*a*a*a*a*a*a*a*a*a*a*a*ab",
+        b"/aaaaaaaaaaaaaaaaaaaaaaaaaaaaaaaaaaaaaaaaaaaaaaaaaaaaaaaaaaaaaab",
+        true,
+    ),
+    (
+        b"/{a,aa}{a,aa}{a,aa}{a,aa}{a,aa}{a,aa}{a,aa}{a,aa}{a,aa}{a,aa}{a,aa}{a,aa}{a,aa}{a,aa}{a,aa}{a,aa}{a,aa}{a,aa}{a,aa}{a,aa}b",
+        b"/aaaaaaaaaaaaaaaaaaaaaaaaaaaaaaaaaaaaaaaaaaaaaaaaaaaaaaaaaaaaaaa",
+        false,
+    ),
+    (
+        b"/{,a}{,a}{,a}{,a}{,a}{,a}{,a}{,a}{,a}{,a}{,a}{,a}{,a}{,a}{,a}{,a}{,a}{,a}{,a}{,a}{,a}{,a}{,a}{,a}{,a}{,a}{,a}{,a}{,a}{,a}{,a}{,a}{,a}{,a}{,a}{,a}{,a}{,a}{,a}{,a}b",
+        b"/aaaaaaaaaaaaaaaaaaaaaaaaaaaaaaaaaaaaaaaaaaaaaaaaaaaaaaaaaaaaaaa",
+        false,
+    ),
+    (
+        b"/*[a-b]*[a-b]*[a-b]*[a-b]*[a-b]*[a-b]*[a-b]*[a-b]*[a-b]*[a-b]*[a-b]*[a-b]*[a-b]*[a-b]*[a-b]*[a-b]*[a-b]*[a-b]*[a-b]*[a-b]c",
+        b"/aaaaaaaaaaaaaaaaaaaaaaaaaaaaaaaaaaaaaaaaaaaaaaaaaaaaaaaaaaaaaaa",
+        false,
+    ),
 ];
 
 #[test]
