@@ -18,9 +18,11 @@ source_bytes source = drop source.at source.bytes.items
 abbrev pub source_calls : MemorySource → CallsToCome
 source_calls source = source.calls
 
--- a call that fails gives nothing; any other gives all that is left and has room, at most 4,096 bytes
+-- a call that fails gives nothing; any other gives all that is left and has room, at most 4,096
+-- bytes
 abbrev pub taken_of : CallsToCome → List ℕ → List ℕ → Taken
-taken_of calls left into = if fails_next calls then Failed else Bytes (min 4096 (min (length left) (length into)))
+taken_of calls left into = if fails_next calls then Failed
+    else Bytes (min 4096 (min (length left) (length into)))
 
 -- the bytes that a sink holds
 abbrev pub memory_bytes : MemorySink → List ℕ
@@ -30,7 +32,8 @@ memory_bytes sink = sink.bytes.items
 abbrev pub sink_calls : MemorySink → CallsToCome
 sink_calls sink = sink.calls
 
--- a call that fails takes nothing; any other takes the piece, at most 4,096 bytes of it, or finds no memory
+-- a call that fails takes nothing; any other takes the piece, at most 4,096 bytes of it, or finds
+-- no memory
 abbrev pub PutIs : CallsToCome → List ℕ → Put → Type 0
 PutIs calls piece (Took count) = (fails_next calls ≡ false) × (count ≡ min 4096 (length piece))
 PutIs calls piece FailedToTake = IsTrue (fails_next calls)

@@ -50,7 +50,8 @@ impl Sink for MemorySink {
     /// Fails at the calls in the list, and takes the front of the piece at every other, where there is memory.
     fn write(&mut self, piece: &[u8]) -> Put
         ensures within { IsTookWithin result piece.now }
-        ensures bytes { AddsToEnd (Some (memory_bytes self.old)) (Some (memory_bytes self.new)) result piece.now }
+        ensures bytes { AddsToEnd (Some (memory_bytes self.old))
+            (Some (memory_bytes self.new)) result piece.now }
         ensures cause { HasWriteCause self.old.faults self.new.faults result }
         ensures answer { PutIs (sink_calls self.old) piece.now result }
         ensures calls { sink_calls self.new ≡ one_more (sink_calls self.old) }

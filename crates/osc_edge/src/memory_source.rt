@@ -47,9 +47,11 @@ impl Source for MemorySource {
     /// Fails at the calls in the list, and gives the next bytes at every other.
     fn read(&mut self, into: &mut [u8]) -> Taken
         ensures within { IsTakenWithin result into.new }
-        ensures bytes { TakesFront (Some (source_bytes self.old)) (Some (source_bytes self.new)) result into.new }
+        ensures bytes { TakesFront (Some (source_bytes self.old))
+            (Some (source_bytes self.new)) result into.new }
         ensures cause { HasReadCause self.old.faults self.new.faults result }
-        ensures answer { result ≡ taken_of (source_calls self.old) (source_bytes self.old) into.old }
+        ensures answer { result
+            ≡ taken_of (source_calls self.old) (source_bytes self.old) into.old }
         ensures calls { source_calls self.new ≡ one_more (source_calls self.old) }
     {
         if self.calls.next_fails() {

@@ -32,8 +32,10 @@ impl Source for SteadySource {
 
     fn read(&mut self, into: &mut [u8]) -> Taken
         ensures within { IsTakenWithin result into.new }
-        ensures bytes { TakesFront (Some (steady_left self.old)) (Some (steady_left self.new)) result into.new }
-        ensures answer { result ≡ Taken.Bytes (min (length (steady_left self.old)) (length into.old)) }
+        ensures bytes { TakesFront (Some (steady_left self.old))
+            (Some (steady_left self.new)) result into.new }
+        ensures answer { result
+            ≡ Taken.Bytes (min (length (steady_left self.old)) (length into.old)) }
     {
         let most = into.len();
         let count = move_front(&self.bytes[self.at..], into, most);
@@ -78,7 +80,8 @@ impl Sink for SteadySink {
 
     fn write(&mut self, piece: &[u8]) -> Put
         ensures within { IsTookWithin result piece.now }
-        ensures bytes { AddsToEnd (Some (steady_bytes self.old)) (Some (steady_bytes self.new)) result piece.now }
+        ensures bytes { AddsToEnd (Some (steady_bytes self.old))
+            (Some (steady_bytes self.new)) result piece.now }
         ensures answer { IsWholeOrNoMemory piece.now result }
     {
         match self.bytes.extend_from_slice(piece) {

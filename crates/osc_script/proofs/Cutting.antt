@@ -8,7 +8,8 @@ use Rattle.std.proofs.lemmas.List.Splits.{slice_split_first, slice_split_at, sli
 use Rattle.osc_script.specs.Words.{is_space, is_no_space, is_line_feed, is_word, words_of, without_return, lines_from, lines_of}
 use Rattle.osc_script.proofs.Places.{position_some, position_none}
 
-onto_parts : {X : Type 0} (x : X) (t : Bool) (parts : List (List X)) → (first : List X) × (rest : List (List X)) × (cond t ([] ∷ parts) (onto_first x parts) ≡ first ∷ rest)
+onto_parts : {X : Type 0} (x : X) (t : Bool) (parts : List (List X))
+    → (first : List X) × (rest : List (List X)) × (cond t ([] ∷ parts) (onto_first x parts) ≡ first ∷ rest)
 onto_parts x true parts = ([], parts, refl)
 onto_parts x false [] = (x ∷ [], [], refl)
 onto_parts x false (part ∷ parts) = (x ∷ part, parts, refl)
@@ -21,17 +22,20 @@ parts_are p (x ∷ xs) = onto_parts x (p x) (slice_split p xs)
 split_none : {X : Type 0} (p : X → Bool) (xs : List X) → length xs ≤ position_or_len p xs → slice_split p xs ≡ xs ∷ []
 split_none p [] none = refl
 split_none {X} p (x ∷ xs) none = go (p x) none (split_none p xs) where
-  go : (t : Bool) → suc (length xs) ≤ cond (not t) (1 + position_or_len p xs) 0 → (length xs ≤ position_or_len p xs → slice_split p xs ≡ xs ∷ []) → cond {A = List (List X)} t ([] ∷ slice_split p xs) (onto_first x (slice_split p xs)) ≡ (x ∷ xs) ∷ []
+  go : (t : Bool) → suc (length xs) ≤ cond (not t) (1 + position_or_len p xs) 0 → (length xs ≤ position_or_len p xs → slice_split p xs ≡ xs ∷ [])
+      → cond {A = List (List X)} t ([] ∷ slice_split p xs) (onto_first x (slice_split p xs)) ≡ (x ∷ xs) ∷ []
   go true long more = absurd (omega arith)
   go false long more = ap (onto_first x) (more (omega arith))
 
 -- the parts around the first place that passes
-split_found : {X : Type 0} (p : X → Bool) (xs : List X) (k : ℕ) (d : X) → position p xs ≡ Some k → slice_split p xs ≡ take k xs ∷ slice_split p (drop (k + 1) xs)
+split_found : {X : Type 0} (p : X → Bool) (xs : List X) (k : ℕ) (d : X) → position p xs ≡ Some k
+    → slice_split p xs ≡ take k xs ∷ slice_split p (drop (k + 1) xs)
 split_found p xs k d is =
     let found = position_some p xs k is in
     slice_split_first p xs d (omega (arith, found.0, found.1)) ∙ ap (λ n. take n xs ∷ slice_split p (drop (n + 1) xs)) found.0
 
-more_lines : (part : List ℕ) (parts : List (List ℕ)) (first : List ℕ) (rest : List (List ℕ)) → parts ≡ first ∷ rest → lines_from (part ∷ parts) ≡ without_return part ∷ lines_from parts
+more_lines : (part : List ℕ) (parts : List (List ℕ)) (first : List ℕ) (rest : List (List ℕ)) → parts ≡ first ∷ rest
+    → lines_from (part ∷ parts) ≡ without_return part ∷ lines_from parts
 more_lines part parts first rest is = ap (λ l. lines_from (part ∷ l)) is ∙ ap (λ l. without_return part ∷ lines_from l) (sym is)
 
 line_ended : (bytes : List ℕ) (k : ℕ) → position is_line_feed bytes ≡ Some k → lines_of bytes ≡ without_return (take k bytes) ∷ lines_of (drop (k + 1) bytes)
@@ -52,7 +56,8 @@ line_unended bytes none some = ap lines_from (split_none is_line_feed bytes (pos
 to_end : (n : ℕ) (xs : List ℕ) → take (length xs - n) (drop n xs) ≡ drop n xs
 to_end n xs = take_all (length xs - n) (drop n xs) (omega (arith, length-drop n xs))
 
-pub line_cut : (bytes line : List ℕ) (k : ℕ) → Some k ≡ position is_line_feed bytes → line ≡ without_return (take k bytes) → lines_of bytes ≡ line ∷ lines_of (take (length bytes - (k + 1)) (drop (k + 1) bytes))
+pub line_cut : (bytes line : List ℕ) (k : ℕ) → Some k ≡ position is_line_feed bytes → line ≡ without_return (take k bytes)
+    → lines_of bytes ≡ line ∷ lines_of (take (length bytes - (k + 1)) (drop (k + 1) bytes))
 line_cut bytes line k is cut = rw (to_end (k + 1) bytes) (line_ended bytes k (sym is) ∙ ap (λ l. l ∷ lines_of (drop (k + 1) bytes)) (sym cut))
 
 pub ruleset lines = (line_unended)
@@ -64,7 +69,8 @@ space_dropped byte bytes is = ap (λ t. filter is_word (cond t ([] ∷ slice_spl
 spaces_dropped : (bytes : List ℕ) → words_of (drop (position_or_len is_no_space bytes) bytes) ≡ words_of bytes
 spaces_dropped [] = refl
 spaces_dropped (byte ∷ bytes) = go (is_space byte) refl (spaces_dropped bytes) where
-  go : (t : Bool) → is_space byte ≡ t → words_of (drop (position_or_len is_no_space bytes) bytes) ≡ words_of bytes → words_of (drop (cond (not (not t)) (1 + position_or_len is_no_space bytes) 0) (byte ∷ bytes)) ≡ words_of (byte ∷ bytes)
+  go : (t : Bool) → is_space byte ≡ t → words_of (drop (position_or_len is_no_space bytes) bytes) ≡ words_of bytes
+      → words_of (drop (cond (not (not t)) (1 + position_or_len is_no_space bytes) 0) (byte ∷ bytes)) ≡ words_of (byte ∷ bytes)
   go true is more = rw one-add (more ∙ sym (space_dropped byte bytes is))
   go false is more = refl
 
@@ -72,7 +78,9 @@ spaces_dropped (byte ∷ bytes) = go (is_space byte) refl (spaces_dropped bytes)
 begins : (bytes : List ℕ) → position_or_len is_no_space bytes < length bytes → 0 < position_or_len is_space (drop (position_or_len is_no_space bytes) bytes)
 begins [] some = absurd (omega arith)
 begins (byte ∷ bytes) some = go (is_space byte) refl some (begins bytes) where
-  go : (t : Bool) → is_space byte ≡ t → cond (not (not t)) (1 + position_or_len is_no_space bytes) 0 < suc (length bytes) → (position_or_len is_no_space bytes < length bytes → 0 < position_or_len is_space (drop (position_or_len is_no_space bytes) bytes)) → 0 < position_or_len is_space (drop (cond (not (not t)) (1 + position_or_len is_no_space bytes) 0) (byte ∷ bytes))
+  go : (t : Bool) → is_space byte ≡ t → cond (not (not t)) (1 + position_or_len is_no_space bytes) 0 < suc (length bytes)
+      → (position_or_len is_no_space bytes < length bytes → 0 < position_or_len is_space (drop (position_or_len is_no_space bytes) bytes))
+      → 0 < position_or_len is_space (drop (cond (not (not t)) (1 + position_or_len is_no_space bytes) 0) (byte ∷ bytes))
   go true is less more = rw one-add (more (omega arith))
   go false is less more = rw is (omega arith)
 
@@ -92,24 +100,31 @@ begun text k is =
     let some : position_or_len is_no_space text < length text = omega (arith, found.0, found.1) in
     (sym (spaces_dropped text) ∙ ap (λ n. words_of (drop n text)) found.0, subst (λ n. 0 < position_or_len is_space (drop n text)) found.0 (begins text some))
 
-word_ended : (text : List ℕ) (k e : ℕ) → position is_no_space text ≡ Some k → position is_space (drop k text) ≡ Some e → words_of text ≡ take e (drop k text) ∷ words_of (drop (e + 1) (drop k text))
+word_ended : (text : List ℕ) (k e : ℕ) → position is_no_space text ≡ Some k → position is_space (drop k text) ≡ Some e
+    → words_of text ≡ take e (drop k text) ∷ words_of (drop (e + 1) (drop k text))
 word_ended text k e is ends =
     let from = begun text k is in
     let end = position_some is_space (drop k text) e ends in
-    from.0 ∙ ap (filter is_word) (split_found is_space (drop k text) e 0 ends) ∙ word_kept (take e (drop k text)) (slice_split is_space (drop (e + 1) (drop k text))) (omega (arith, length-take e (drop k text), from.1, end.0, end.1))
+    from.0 ∙ ap (filter is_word) (split_found is_space (drop k text) e 0 ends)
+    ∙ word_kept (take e (drop k text)) (slice_split is_space (drop (e + 1) (drop k text)))
+    (omega (arith, length-take e (drop k text), from.1, end.0, end.1))
 
 word_unended : (text : List ℕ) (k : ℕ) → position is_no_space text ≡ Some k → position is_space (drop k text) ≡ None → words_of text ≡ drop k text ∷ words_of []
 word_unended text k is ends =
     let from = begun text k is in
     let found = position_some is_no_space text k is in
-    from.0 ∙ ap (filter is_word) (split_none is_space (drop k text) (position_none is_space (drop k text) ends)) ∙ word_kept (drop k text) [] (omega (arith, length-drop k text, found.1))
+    from.0 ∙ ap (filter is_word) (split_none is_space (drop k text) (position_none is_space (drop k text) ends))
+    ∙ word_kept (drop k text) [] (omega (arith, length-drop k text, found.1))
 
-pub word_cut : (text word : List ℕ) (k e : ℕ) → Some k ≡ position is_no_space text → word ≡ take (length text - k) (drop k text) → Some e ≡ position is_space word → words_of text ≡ take e word ∷ words_of (take (length word - (e + 1)) (drop (e + 1) word))
+pub word_cut : (text word : List ℕ) (k e : ℕ) → Some k ≡ position is_no_space text → word ≡ take (length text - k) (drop k text)
+    → Some e ≡ position is_space word → words_of text ≡ take e word ∷ words_of (take (length word - (e + 1)) (drop (e + 1) word))
 word_cut text word k e is cut ends =
     let same : word ≡ drop k text = cut ∙ to_end k text in
-    rw (to_end (e + 1) word) (word_ended text k e (sym is) (ap (position is_space) (sym same) ∙ sym ends) ∙ ap (λ l. take e l ∷ words_of (drop (e + 1) l)) (sym same))
+    rw (to_end (e + 1) word)
+    (word_ended text k e (sym is) (ap (position is_space) (sym same) ∙ sym ends) ∙ ap (λ l. take e l ∷ words_of (drop (e + 1) l)) (sym same))
 
-pub word_last : (text word : List ℕ) (k : ℕ) → Some k ≡ position is_no_space text → word ≡ take (length text - k) (drop k text) → None ≡ position is_space word → words_of text ≡ word ∷ []
+pub word_last : (text word : List ℕ) (k : ℕ) → Some k ≡ position is_no_space text → word ≡ take (length text - k) (drop k text) → None ≡ position is_space word
+    → words_of text ≡ word ∷ []
 word_last text word k is cut ends =
     let same : word ≡ drop k text = cut ∙ to_end k text in
     word_unended text k (sym is) (ap (position is_space) (sym same) ∙ sym ends) ∙ ap (λ l. l ∷ []) (sym same)

@@ -23,7 +23,8 @@ record IsFirstFrom (number : ℕ) (texts : List (List ℕ)) (fault : ScriptFault
   lawful : AllByRecursion (λ text. IsOk (line_says text)) before
   kind : line_says text ≡ Err fault.kind
 
-later : (number : ℕ) (text : List ℕ) (texts : List (List ℕ)) (fault : ScriptFault) → IsOk (line_says text) → IsFirstFrom (number + 1) texts fault → IsFirstFrom number (text ∷ texts) fault
+later : (number : ℕ) (text : List ℕ) (texts : List (List ℕ)) (fault : ScriptFault) → IsOk (line_says text) → IsFirstFrom (number + 1) texts fault
+    → IsFirstFrom number (text ∷ texts) fault
 later number text texts fault good first = record {
   before = text ∷ first.before;
   text = first.text;
@@ -34,7 +35,8 @@ later number text texts fault good first = record {
   kind = first.kind;
 }
 
-here : (number : ℕ) (text : List ℕ) (texts : List (List ℕ)) (kind : ℕ) (fault : ScriptFault) → line_says text ≡ Err kind → record { line = number; kind = kind } ≡ fault → IsFirstFrom number (text ∷ texts) fault
+here : (number : ℕ) (text : List ℕ) (texts : List (List ℕ)) (kind : ℕ) (fault : ScriptFault) → line_says text ≡ Err kind
+    → record { line = number; kind = kind } ≡ fault → IsFirstFrom number (text ∷ texts) fault
 here number text texts kind fault said same = subst (λ f. IsFirstFrom number (text ∷ texts) f) same (record {
   before = [];
   text = text;
@@ -45,14 +47,18 @@ here number text texts kind fault said same = subst (λ f. IsFirstFrom number (t
   kind = said;
 })
 
-first_from : (mode : Mode) (number : ℕ) (texts : List (List ℕ)) (fault : ScriptFault) → script_from mode number texts ≡ Err fault → IsFirstFrom number texts fault
+first_from : (mode : Mode) (number : ℕ) (texts : List (List ℕ)) (fault : ScriptFault) → script_from mode number texts ≡ Err fault
+    → IsFirstFrom number texts fault
 first_from Plain number [] fault is = absurd (cc)
-first_from Plain number (text ∷ texts) fault is = go (line_says text) refl (script_from Plain (number + 1) texts) (first_from Plain (number + 1) texts fault) is where
-  go : (said : Result (Option Act) ℕ) → line_says text ≡ said → (others : Result (List Line) ScriptFault) → (others ≡ Err fault → IsFirstFrom (number + 1) texts fault) → onto (line_from Plain number said) others ≡ Err fault → IsFirstFrom number (text ∷ texts) fault
-  go (Err kind) said others rest so = let same : record { line = number; kind = kind } ≡ fault = cc in here number text texts kind fault said same
-  go (Ok None) said others rest so = later number text texts fault (rw said refl) (rest so)
-  go (Ok (Some act)) said (Err other) rest so = later number text texts fault (rw said refl) (rest so)
-  go (Ok (Some act)) said (Ok lines) rest so = absurd (cc)
+first_from Plain number (text ∷ texts) fault is =
+    go (line_says text) refl (script_from Plain (number + 1) texts) (first_from Plain (number + 1) texts fault) is where
+      go : (said : Result (Option Act) ℕ) → line_says text ≡ said → (others : Result (List Line) ScriptFault)
+          → (others ≡ Err fault → IsFirstFrom (number + 1) texts fault) → onto (line_from Plain number said) others ≡ Err fault
+          → IsFirstFrom number (text ∷ texts) fault
+      go (Err kind) said others rest so = let same : record { line = number; kind = kind } ≡ fault = cc in here number text texts kind fault said same
+      go (Ok None) said others rest so = later number text texts fault (rw said refl) (rest so)
+      go (Ok (Some act)) said (Err other) rest so = later number text texts fault (rw said refl) (rest so)
+      go (Ok (Some act)) said (Ok lines) rest so = absurd (cc)
 
 first_of_lines : (mode : Mode) (bytes : List ℕ) (fault : ScriptFault) → script_from mode 1 (lines_of bytes) ≡ Err fault → IsFirstFault bytes fault
 first_of_lines mode bytes fault is = let first = first_from mode 1 (lines_of bytes) fault is in record {
@@ -67,12 +73,15 @@ first_of_lines mode bytes fault is = let first = first_from mode 1 (lines_of byt
 
 pub first_fault : (mode : Mode) (bytes : List ℕ) (fault : ScriptFault) → script_of mode bytes ≡ Err fault → 0 < fault.line → IsFirstFault bytes fault
 first_fault mode bytes fault is some = go (nat_lt 67108864 (length bytes)) is where
-  go : (t : Bool) → cond {A = Result (List Line) ScriptFault} t (Err (record { line = 0; kind = 1 })) (script_from mode 1 (lines_of bytes)) ≡ Err fault → IsFirstFault bytes fault
-  go true so = let same : record { line = 0; kind = 1 } ≡ fault = cc in let none : 0 ≡ fault.line = ap (λ (f : ScriptFault). f.line) same in absurd (omega (arith, none, some))
+  go : (t : Bool) → cond {A = Result (List Line) ScriptFault} t (Err (record { line = 0; kind = 1 })) (script_from mode 1 (lines_of bytes)) ≡ Err fault
+      → IsFirstFault bytes fault
+  go true so = let same : record { line = 0; kind = 1 } ≡ fault = cc in let none : 0 ≡ fault.line = ap (λ (f : ScriptFault). f.line) same in
+      absurd (omega (arith, none, some))
   go false so = first_of_lines mode bytes fault so
 
 -- the same of what is answered
-pub first_answered : (mode : Mode) (bytes : List ℕ) (result : Result (List Line) ScriptRefusal) → Reads result (script_from mode 1 (lines_of bytes)) → (fault : ScriptFault) → result ≡ Err (Fault fault) → IsFirstFault bytes fault
+pub first_answered : (mode : Mode) (bytes : List ℕ) (result : Result (List Line) ScriptRefusal) → Reads result (script_from mode 1 (lines_of bytes))
+    → (fault : ScriptFault) → result ≡ Err (Fault fault) → IsFirstFault bytes fault
 first_answered mode bytes (Ok lines) reads fault is = absurd (cc)
 first_answered mode bytes (Err NoMemory) reads fault is = absurd (cc)
 first_answered mode bytes (Err (Fault other)) reads fault is =

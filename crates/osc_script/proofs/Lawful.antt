@@ -26,7 +26,8 @@ step_ok : {X Y : Type 0} (read : Result X ℕ) (next : X → Result Y ℕ) (valu
 step_ok (Ok x) next value is = (x, refl, is)
 step_ok (Err kind) next value is = absurd (cc)
 
-lawful_operand : (operand address : List ℕ) → cond {A = Result (List ℕ) ℕ} (is_address operand) (Ok operand) (Err address_kind) ≡ Ok address → IsTrue (is_address address)
+lawful_operand : (operand address : List ℕ) → cond {A = Result (List ℕ) ℕ} (is_address operand) (Ok operand) (Err address_kind) ≡ Ok address
+    → IsTrue (is_address address)
 lawful_operand operand address is = go (is_address operand) refl is where
   go : (t : Bool) → is_address operand ≡ t → cond {A = Result (List ℕ) ℕ} t (Ok operand) (Err address_kind) ≡ Ok address → IsTrue (is_address address)
   go true lawful so = let same : operand ≡ address = cc in subst (λ a. IsTrue (is_address a)) same lawful
@@ -63,26 +64,33 @@ pump_lawful (word ∷ words) act is = absurd (cc)
 
 act_lawful : (word : List ℕ) (words : List (List ℕ)) (act : Act) → act_of word words ≡ Ok act → IsLawfulAct act
 unfolding act_of
-act_lawful word words act said = go (bytes_eq word (codes "add")) (bytes_eq word (codes "remove")) (bytes_eq word (codes "send")) (bytes_eq word (codes "tick")) (bytes_eq word (codes "pump")) said where
-  go : (adds removes sends ticks pumps : Bool) → cond adds (and_then (address_of words) (λ address. Ok (Add address))) (cond removes (and_then (address_of words) (λ address. Ok (Remove address))) (cond sends (and_then (packet_of words) (λ packet. Ok (Send packet))) (cond ticks (and_then (moment_of words) (λ moment. Ok (Tick moment))) (cond {A = Result Act ℕ} pumps (pump_of words) (Err word_kind))))) ≡ Ok act → IsLawfulAct act
-  go true removes sends ticks pumps so =
-      let got = step_ok (address_of words) (λ address. Ok (Add address)) act so in
-      let same : Add got.0 ≡ act = cc in
-      subst IsLawfulAct same (address_lawful got.0 words got.1)
-  go false true sends ticks pumps so =
-      let got = step_ok (address_of words) (λ address. Ok (Remove address)) act so in
-      let same : Remove got.0 ≡ act = cc in
-      subst IsLawfulAct same (address_lawful got.0 words got.1)
-  go false false true ticks pumps so =
-      let got = step_ok (packet_of words) (λ packet. Ok (Send packet)) act so in
-      let same : Send got.0 ≡ act = cc in
-      subst IsLawfulAct same tt
-  go false false false true pumps so =
-      let got = step_ok (moment_of words) (λ moment. Ok (Tick moment)) act so in
-      let same : Tick got.0 ≡ act = cc in
-      subst IsLawfulAct same (moment_small words got.0 got.1)
-  go false false false false true so = pump_lawful words act so
-  go false false false false false so = absurd (cc)
+act_lawful word words act said =
+    go (bytes_eq word (codes "add")) (bytes_eq word (codes "remove")) (bytes_eq word (codes "send")) (bytes_eq word (codes "tick"))
+    (bytes_eq word (codes "pump")) said where
+      go : (adds removes sends ticks pumps : Bool)
+          → cond adds (and_then (address_of words) (λ address. Ok (Add address)))
+          (cond removes (and_then (address_of words) (λ address. Ok (Remove address)))
+          (cond sends (and_then (packet_of words) (λ packet. Ok (Send packet)))
+          (cond ticks (and_then (moment_of words) (λ moment. Ok (Tick moment))) (cond {A = Result Act ℕ} pumps (pump_of words) (Err word_kind))))) ≡ Ok act
+          → IsLawfulAct act
+      go true removes sends ticks pumps so =
+          let got = step_ok (address_of words) (λ address. Ok (Add address)) act so in
+          let same : Add got.0 ≡ act = cc in
+          subst IsLawfulAct same (address_lawful got.0 words got.1)
+      go false true sends ticks pumps so =
+          let got = step_ok (address_of words) (λ address. Ok (Remove address)) act so in
+          let same : Remove got.0 ≡ act = cc in
+          subst IsLawfulAct same (address_lawful got.0 words got.1)
+      go false false true ticks pumps so =
+          let got = step_ok (packet_of words) (λ packet. Ok (Send packet)) act so in
+          let same : Send got.0 ≡ act = cc in
+          subst IsLawfulAct same tt
+      go false false false true pumps so =
+          let got = step_ok (moment_of words) (λ moment. Ok (Tick moment)) act so in
+          let same : Tick got.0 ≡ act = cc in
+          subst IsLawfulAct same (moment_small words got.0 got.1)
+      go false false false false true so = pump_lawful words act so
+      go false false false false false so = absurd (cc)
 
 words_lawful : (words : List (List ℕ)) (act : Act) → words_say words ≡ Ok (Some act) → IsLawfulAct act
 words_lawful [] act is = absurd (cc)
@@ -98,7 +106,9 @@ text_lawful text act is = go (starts_with eqb text (codes "#")) is where
   go false so = words_lawful (words_of text) act so
 
 -- one line more
-onto_lawful : (mode : Mode) (number : ℕ) (said : Result (Option Act) ℕ) (others : Result (List Line) ScriptFault) (lines : List Line) → ((act : Act) → said ≡ Ok (Some act) → IsLawfulAct act) → ((more : List Line) → others ≡ Ok more → AreLawful more) → onto (line_from mode number said) others ≡ Ok lines → AreLawful lines
+onto_lawful : (mode : Mode) (number : ℕ) (said : Result (Option Act) ℕ) (others : Result (List Line) ScriptFault) (lines : List Line)
+    → ((act : Act) → said ≡ Ok (Some act) → IsLawfulAct act) → ((more : List Line) → others ≡ Ok more → AreLawful more)
+    → onto (line_from mode number said) others ≡ Ok lines → AreLawful lines
 onto_lawful Plain number (Err kind) others lines one rest is = absurd (cc)
 onto_lawful Plain number (Ok None) others lines one rest is = rest lines is
 onto_lawful Plain number (Ok (Some act)) (Err fault) lines one rest is = absurd (cc)
@@ -108,16 +118,19 @@ onto_lawful Plain number (Ok (Some act)) (Ok more) lines one rest is =
 
 texts_lawful : (mode : Mode) (number : ℕ) (texts : List (List ℕ)) (lines : List Line) → script_from mode number texts ≡ Ok lines → AreLawful lines
 texts_lawful mode number [] lines is = let same : [] ≡ lines = cc in subst AreLawful same tt
-texts_lawful mode number (text ∷ texts) lines is = onto_lawful mode number (line_says text) (script_from mode (number + 1) texts) lines (text_lawful text) (texts_lawful mode (number + 1) texts) is
+texts_lawful mode number (text ∷ texts) lines is =
+    onto_lawful mode number (line_says text) (script_from mode (number + 1) texts) lines (text_lawful text) (texts_lawful mode (number + 1) texts) is
 
 -- the lines that were read when nothing is left are lawful
-pub lines_lawful : (mode : Mode) (lines : List Line) (number : ℕ) (rest : List ℕ) (texts : List (List ℕ)) → length rest ≡ 0 → behind lines (script_from mode number (lines_of rest)) ≡ script_from mode 1 texts → AreLawful lines
+pub lines_lawful : (mode : Mode) (lines : List Line) (number : ℕ) (rest : List ℕ) (texts : List (List ℕ)) → length rest ≡ 0
+    → behind lines (script_from mode number (lines_of rest)) ≡ script_from mode 1 texts → AreLawful lines
 lines_lawful mode lines number [] texts none is = texts_lawful mode 1 texts lines (sym is ∙ ap Ok (append-nil lines))
 lines_lawful mode lines number (byte ∷ rest) texts none is = absurd (omega arith)
 
 -- how many lines there are
 
-onto_few : (mode : Mode) (number : ℕ) (said : Result (Option Act) ℕ) (others : Result (List Line) ScriptFault) (lines : List Line) (most : ℕ) → ((more : List Line) → others ≡ Ok more → length more ≤ most) → onto (line_from mode number said) others ≡ Ok lines → length lines ≤ 1 + most
+onto_few : (mode : Mode) (number : ℕ) (said : Result (Option Act) ℕ) (others : Result (List Line) ScriptFault) (lines : List Line) (most : ℕ)
+    → ((more : List Line) → others ≡ Ok more → length more ≤ most) → onto (line_from mode number said) others ≡ Ok lines → length lines ≤ 1 + most
 onto_few Plain number (Err kind) others lines most rest is = absurd (cc)
 onto_few Plain number (Ok None) others lines most rest is = omega (arith, rest lines is)
 onto_few Plain number (Ok (Some act)) (Err fault) lines most rest is = absurd (cc)
@@ -127,14 +140,16 @@ onto_few Plain number (Ok (Some act)) (Ok more) lines most rest is =
 
 texts_few : (mode : Mode) (number : ℕ) (texts : List (List ℕ)) (lines : List Line) → script_from mode number texts ≡ Ok lines → length lines ≤ length texts
 texts_few mode number [] lines is = let same : [] ≡ lines = cc in omega (arith, ap length same)
-texts_few mode number (text ∷ texts) lines is = omega (arith, onto_few mode number (line_says text) (script_from mode (number + 1) texts) lines (length texts) (texts_few mode (number + 1) texts) is)
+texts_few mode number (text ∷ texts) lines is =
+    omega (arith, onto_few mode number (line_says text) (script_from mode (number + 1) texts) lines (length texts) (texts_few mode (number + 1) texts) is)
 
 -- the bytes of parts
 abbrev size : List (List ℕ) → ℕ
 size [] = 0
 size (part ∷ parts) = length part + size parts
 
-sized_first : (byte bytes : ℕ) (parts : List (List ℕ)) (t : Bool) → size parts + length parts ≡ bytes + 1 → size (cond t ([] ∷ parts) (onto_first byte parts)) + length (cond t ([] ∷ parts) (onto_first byte parts)) ≡ 1 + bytes + 1
+sized_first : (byte bytes : ℕ) (parts : List (List ℕ)) (t : Bool) → size parts + length parts ≡ bytes + 1
+    → size (cond t ([] ∷ parts) (onto_first byte parts)) + length (cond t ([] ∷ parts) (onto_first byte parts)) ≡ 1 + bytes + 1
 sized_first byte bytes parts true is = omega (arith, is)
 sized_first byte bytes [] false is = absurd (omega (arith, is))
 sized_first byte bytes (part ∷ parts) false is = omega (arith, is)
@@ -159,9 +174,12 @@ lines_few : (bytes : List ℕ) → length (lines_of bytes) ≤ length bytes
 lines_few bytes = at_most (slice_split is_line_feed bytes) (length bytes) (split_sized bytes)
 
 -- a script that isn't refused isn't too long, and its lines are read
-script_ok : (mode : Mode) (bytes : List ℕ) (lines : List Line) → script_of mode bytes ≡ Ok lines → (length bytes ≤ 67108864) × (script_from mode 1 (lines_of bytes) ≡ Ok lines)
+script_ok : (mode : Mode) (bytes : List ℕ) (lines : List Line) → script_of mode bytes ≡ Ok lines
+    → (length bytes ≤ 67108864) × (script_from mode 1 (lines_of bytes) ≡ Ok lines)
 script_ok mode bytes lines is = go (nat_lt 67108864 (length bytes)) refl is where
-  go : (t : Bool) → nat_lt 67108864 (length bytes) ≡ t → cond {A = Result (List Line) ScriptFault} t (Err (record { line = 0; kind = 1 })) (script_from mode 1 (lines_of bytes)) ≡ Ok lines → (length bytes ≤ 67108864) × (script_from mode 1 (lines_of bytes) ≡ Ok lines)
+  go : (t : Bool) → nat_lt 67108864 (length bytes) ≡ t
+      → cond {A = Result (List Line) ScriptFault} t (Err (record { line = 0; kind = 1 })) (script_from mode 1 (lines_of bytes)) ≡ Ok lines
+      → (length bytes ≤ 67108864) × (script_from mode 1 (lines_of bytes) ≡ Ok lines)
   go true long so = absurd (cc)
   go false long so = (ltb-false 67108864 (length bytes) long, so)
 
@@ -173,4 +191,6 @@ pub script_lawful : (mode : Mode) (bytes : List ℕ) → IfOk (script_of mode by
 script_lawful mode bytes = if_ok (script_of mode bytes) AreLawful (λ lines is. texts_lawful mode 1 (lines_of bytes) lines (script_ok mode bytes lines is).1)
 
 pub script_few : (mode : Mode) (bytes : List ℕ) → IfOk (script_of mode bytes) (λ lines. length lines ≤ length bytes)
-script_few mode bytes = if_ok (script_of mode bytes) (λ lines. length lines ≤ length bytes) (λ lines is. omega (arith, texts_few mode 1 (lines_of bytes) lines (script_ok mode bytes lines is).1, lines_few bytes))
+script_few mode bytes =
+    if_ok (script_of mode bytes) (λ lines. length lines ≤ length bytes)
+    (λ lines is. omega (arith, texts_few mode 1 (lines_of bytes) lines (script_ok mode bytes lines is).1, lines_few bytes))

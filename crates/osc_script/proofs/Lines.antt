@@ -12,20 +12,24 @@ abbrev pub behind : List Line → Result (List Line) ScriptFault → Result (Lis
 behind front (Ok lines) = Ok (front ++ lines)
 behind front (Err fault) = Err fault
 
-behind_step : (lines : List Line) (said : Option Line) (read : Result (List Line) ScriptFault) → behind (lines ++ option_to_list said) read ≡ behind lines (onto (Ok said) read)
+behind_step : (lines : List Line) (said : Option Line) (read : Result (List Line) ScriptFault)
+    → behind (lines ++ option_to_list said) read ≡ behind lines (onto (Ok said) read)
 behind_step lines None read = ap (λ l. behind l read) (append-nil lines)
 behind_step lines (Some line) (Ok more) = ap Ok (append_assoc lines (line ∷ []) more)
 behind_step lines (Some line) (Err fault) = refl
 
 -- a line that is read is behind those before it, and the rest is read on
-pub line_read : (mode : Mode) (number : ℕ) (bytes text rest : List ℕ) (lines new : List Line) (said : Option Line) → lines_of bytes ≡ text ∷ lines_of rest → line_of mode number text ≡ Ok said → new ≡ lines ++ option_to_list said → behind new (script_from mode (number + 1) (lines_of rest)) ≡ behind lines (script_from mode number (lines_of bytes))
+pub line_read : (mode : Mode) (number : ℕ) (bytes text rest : List ℕ) (lines new : List Line) (said : Option Line) → lines_of bytes ≡ text ∷ lines_of rest
+    → line_of mode number text ≡ Ok said → new ≡ lines ++ option_to_list said
+    → behind new (script_from mode (number + 1) (lines_of rest)) ≡ behind lines (script_from mode number (lines_of bytes))
 line_read mode number bytes text rest lines new said cut is added =
     let others = script_from mode (number + 1) (lines_of rest) in
     ap (λ (l : List Line). behind l others) added ∙ behind_step lines said others
     ∙ ap (λ (o : Result (Option Line) ScriptFault). behind lines (onto o others)) (sym is)
     ∙ ap (λ (texts : List (List ℕ)). behind lines (script_from mode number texts)) (sym cut)
 
-pub line_refused : (mode : Mode) (number : ℕ) (bytes text rest : List ℕ) (lines : List Line) (fault : ScriptFault) → lines_of bytes ≡ text ∷ lines_of rest → line_of mode number text ≡ Err fault → behind lines (script_from mode number (lines_of bytes)) ≡ Err fault
+pub line_refused : (mode : Mode) (number : ℕ) (bytes text rest : List ℕ) (lines : List Line) (fault : ScriptFault) → lines_of bytes ≡ text ∷ lines_of rest
+    → line_of mode number text ≡ Err fault → behind lines (script_from mode number (lines_of bytes)) ≡ Err fault
 line_refused mode number bytes text rest lines fault cut is =
     let others = script_from mode (number + 1) (lines_of rest) in
     ap (λ (texts : List (List ℕ)). behind lines (script_from mode number texts)) cut

@@ -15,14 +15,21 @@ use Rattle.osc_script.specs.Acts.{and_then, only_of, pump_of, decoded, address_o
 
 pub unknown_word : (word : List ℕ) (operands : List (List ℕ)) → is_known word ≡ false → act_of word operands ≡ Err word_kind
 unfolding act_of
-unknown_word word operands unknown = go (bytes_eq word (codes "add")) (bytes_eq word (codes "remove")) (bytes_eq word (codes "send")) (bytes_eq word (codes "tick")) (bytes_eq word (codes "pump")) unknown where
-  go : (adds removes sends ticks pumps : Bool) → (adds || (removes || (sends || (ticks || (pumps || false))))) ≡ false → cond adds (and_then (address_of operands) (λ address. Ok (Add address))) (cond removes (and_then (address_of operands) (λ address. Ok (Remove address))) (cond sends (and_then (packet_of operands) (λ packet. Ok (Send packet))) (cond ticks (and_then (moment_of operands) (λ moment. Ok (Tick moment))) (cond {A = Result Act ℕ} pumps (pump_of operands) (Err word_kind))))) ≡ Err word_kind
-  go false false false false false known = refl
-  go true removes sends ticks pumps known = absurd (cc)
-  go false true sends ticks pumps known = absurd (cc)
-  go false false true ticks pumps known = absurd (cc)
-  go false false false true pumps known = absurd (cc)
-  go false false false false true known = absurd (cc)
+unknown_word word operands unknown =
+    go (bytes_eq word (codes "add")) (bytes_eq word (codes "remove")) (bytes_eq word (codes "send")) (bytes_eq word (codes "tick"))
+    (bytes_eq word (codes "pump")) unknown where
+      go : (adds removes sends ticks pumps : Bool) → (adds || (removes || (sends || (ticks || (pumps || false))))) ≡ false
+          → cond adds (and_then (address_of operands) (λ address. Ok (Add address)))
+          (cond removes (and_then (address_of operands) (λ address. Ok (Remove address)))
+          (cond sends (and_then (packet_of operands) (λ packet. Ok (Send packet)))
+          (cond ticks (and_then (moment_of operands) (λ moment. Ok (Tick moment))) (cond {A = Result Act ℕ} pumps (pump_of operands) (Err word_kind)))))
+          ≡ Err word_kind
+      go false false false false false known = refl
+      go true removes sends ticks pumps known = absurd (cc)
+      go false true sends ticks pumps known = absurd (cc)
+      go false false true ticks pumps known = absurd (cc)
+      go false false false true pumps known = absurd (cc)
+      go false false false false true known = absurd (cc)
 
 not_one : (operands : List (List ℕ)) → eqb (length operands) 1 ≡ false → only_of operands ≡ Err count_kind
 not_one [] many = refl
@@ -37,16 +44,29 @@ stays : {X Y : Type 0} (read : Result X ℕ) (next : X → Result Y ℕ) (kind :
 stays (Ok x) next kind is = absurd (cc)
 stays (Err other) next kind is = let same : other ≡ kind = cc in ap Err same
 
-pub wrong_count : (word : List ℕ) (operands : List (List ℕ)) → is_known word ≡ true → has_count word (length operands) ≡ false → act_of word operands ≡ Err count_kind
+pub wrong_count : (word : List ℕ) (operands : List (List ℕ)) → is_known word ≡ true → has_count word (length operands) ≡ false
+    → act_of word operands ≡ Err count_kind
 unfolding act_of
-wrong_count word operands known many = go (bytes_eq word (codes "add")) (bytes_eq word (codes "remove")) (bytes_eq word (codes "send")) (bytes_eq word (codes "tick")) (bytes_eq word (codes "pump")) known many where
-  go : (adds removes sends ticks pumps : Bool) → (adds || (removes || (sends || (ticks || (pumps || false))))) ≡ true → cond adds (eqb (length operands) 1) (cond removes (eqb (length operands) 1) (cond sends true (cond ticks (eqb (length operands) 1) (eqb (length operands) 0)))) ≡ false → cond adds (and_then (address_of operands) (λ address. Ok (Add address))) (cond removes (and_then (address_of operands) (λ address. Ok (Remove address))) (cond sends (and_then (packet_of operands) (λ packet. Ok (Send packet))) (cond ticks (and_then (moment_of operands) (λ moment. Ok (Tick moment))) (cond {A = Result Act ℕ} pumps (pump_of operands) (Err word_kind))))) ≡ Err count_kind
-  go true removes sends ticks pumps is other = stays (address_of operands) (λ address. Ok (Add address)) count_kind (stays (only_of operands) _ count_kind (not_one operands other))
-  go false true sends ticks pumps is other = stays (address_of operands) (λ address. Ok (Remove address)) count_kind (stays (only_of operands) _ count_kind (not_one operands other))
-  go false false true ticks pumps is other = absurd (cc)
-  go false false false true pumps is other = stays (moment_of operands) (λ moment. Ok (Tick moment)) count_kind (stays (only_of operands) _ count_kind (not_one operands other))
-  go false false false false true is other = some_for_pump operands other
-  go false false false false false is other = absurd (cc)
+wrong_count word operands known many =
+    go (bytes_eq word (codes "add")) (bytes_eq word (codes "remove")) (bytes_eq word (codes "send")) (bytes_eq word (codes "tick"))
+    (bytes_eq word (codes "pump")) known many where
+      go : (adds removes sends ticks pumps : Bool) → (adds || (removes || (sends || (ticks || (pumps || false))))) ≡ true
+          → cond adds (eqb (length operands) 1)
+          (cond removes (eqb (length operands) 1) (cond sends true (cond ticks (eqb (length operands) 1) (eqb (length operands) 0)))) ≡ false
+          → cond adds (and_then (address_of operands) (λ address. Ok (Add address)))
+          (cond removes (and_then (address_of operands) (λ address. Ok (Remove address)))
+          (cond sends (and_then (packet_of operands) (λ packet. Ok (Send packet)))
+          (cond ticks (and_then (moment_of operands) (λ moment. Ok (Tick moment))) (cond {A = Result Act ℕ} pumps (pump_of operands) (Err word_kind)))))
+          ≡ Err count_kind
+      go true removes sends ticks pumps is other =
+          stays (address_of operands) (λ address. Ok (Add address)) count_kind (stays (only_of operands) _ count_kind (not_one operands other))
+      go false true sends ticks pumps is other =
+          stays (address_of operands) (λ address. Ok (Remove address)) count_kind (stays (only_of operands) _ count_kind (not_one operands other))
+      go false false true ticks pumps is other = absurd (cc)
+      go false false false true pumps is other =
+          stays (moment_of operands) (λ moment. Ok (Tick moment)) count_kind (stays (only_of operands) _ count_kind (not_one operands other))
+      go false false false false true is other = some_for_pump operands other
+      go false false false false false is other = absurd (cc)
 
 -- digits are decoded where they are read
 decoded_is_ok : (kind : ℕ) (read : Result (List ℕ) FromHexError) → IsOk (decoded kind read) ↔ ((bytes : List ℕ) × (read ≡ Ok bytes))
@@ -92,5 +112,6 @@ high_first_bytes (suc k) n = byte_before (byte_at k n) (bytes_high_first k n) (b
 
 pub moment_again : (moment : ℕ) → moment < 2 ^ 64 → moment_of (encode_lower (to_be_bytes w64 moment) ∷ []) ≡ Ok moment
 moment_again moment small =
-    ap (λ read. and_then (decoded tag_kind read) (λ bytes. Ok (from_be_bytes w64 bytes))) (decode_sized-encode_lower (to_be_bytes w64 moment) 8 refl (high_first_bytes 8 moment))
+    ap (λ read. and_then (decoded tag_kind read) (λ bytes. Ok (from_be_bytes w64 bytes)))
+    (decode_sized-encode_lower (to_be_bytes w64 moment) 8 refl (high_first_bytes 8 moment))
     ∙ ap Ok (from_be_bytes-to_be_bytes_8 moment small)

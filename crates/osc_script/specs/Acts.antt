@@ -35,7 +35,9 @@ decoded kind (Err fault) = Err kind
 
 -- one lawful address
 abbrev pub address_of : List (List ℕ) → Result (List ℕ) ℕ
-address_of operands = and_then (only_of operands) (λ operand. if is_address operand then Ok operand else Err address_kind)
+address_of operands =
+    and_then (only_of operands)
+    (λ operand. if is_address operand then Ok operand else Err address_kind)
 
 -- words of hexadecimal digits, joined, two digits a byte
 abbrev pub packet_of : List (List ℕ) → Result (List ℕ) ℕ
@@ -44,23 +46,31 @@ packet_of operands = decoded hex_kind (decode_of (concat operands))
 -- one word of the digits of eight bytes, which are a number, the first byte the highest
 abbrev pub moment_of : List (List ℕ) → Result ℕ ℕ
 moment_of operands =
-    and_then (only_of operands) (λ digits. and_then (decoded tag_kind (decode_sized digits 8)) (λ bytes. Ok (from_be_bytes w64 bytes)))
+    and_then (only_of operands)
+    (λ digits. and_then (decoded tag_kind (decode_sized digits 8))
+    (λ bytes. Ok (from_be_bytes w64 bytes)))
 
 -- what a word and its operands say
 unfoldable pub act_of : List ℕ → List (List ℕ) → Result Act ℕ
 act_of word operands =
     if bytes_eq word (codes "add") then and_then (address_of operands) (λ address. Ok (Add address))
-    else (if bytes_eq word (codes "remove") then and_then (address_of operands) (λ address. Ok (Remove address))
-    else (if bytes_eq word (codes "send") then and_then (packet_of operands) (λ packet. Ok (Send packet))
-    else (if bytes_eq word (codes "tick") then and_then (moment_of operands) (λ moment. Ok (Tick moment))
+    else (if bytes_eq word (codes "remove")
+    then and_then (address_of operands) (λ address. Ok (Remove address))
+    else (if bytes_eq word (codes "send")
+    then and_then (packet_of operands) (λ packet. Ok (Send packet))
+    else (if bytes_eq word (codes "tick")
+    then and_then (moment_of operands) (λ moment. Ok (Tick moment))
     else (if bytes_eq word (codes "pump") then pump_of operands
     else Err word_kind))))
 
 -- a word that begins lines
 abbrev pub is_known : List ℕ → Bool
-is_known word = list_any (bytes_eq word) (codes "add" ∷ codes "remove" ∷ codes "send" ∷ codes "tick" ∷ codes "pump" ∷ [])
+is_known word =
+    list_any (bytes_eq word)
+    (codes "add" ∷ codes "remove" ∷ codes "send" ∷ codes "tick" ∷ codes "pump" ∷ [])
 
--- how many operands a known word has: one for `add`, `remove` and `tick`, any number for `send`, none for `pump`
+-- how many operands a known word has: one for `add`, `remove` and `tick`, any number for `send`,
+-- none for `pump`
 abbrev pub has_count : List ℕ → ℕ → Bool
 has_count word many =
     if bytes_eq word (codes "add") then many == 1

@@ -20,7 +20,9 @@ Says (Err (Kind kind)) said = said ≡ Err kind
 Says (Err NoLineMemory) said = Unit {0}
 
 -- the lines before, and those with what a line says
-abbrev pub AddsLine : Result (Unit {0}) ScriptRefusal → Result (Option Line) ScriptFault → List Line → List Line → Type 0
-AddsLine (Ok done) read old new = (said : Option Line) × (read ≡ Ok said) × (new ≡ old ++ option_to_list said)
+abbrev pub AddsLine : Result (Unit {0}) ScriptRefusal → Result (Option Line) ScriptFault → List Line
+    → List Line → Type 0
+AddsLine (Ok done) read old new =
+    (said : Option Line) × (read ≡ Ok said) × (new ≡ old ++ option_to_list said)
 AddsLine (Err (Fault fault)) read old new = read ≡ Err fault
 AddsLine (Err NoMemory) read old new = Unit {0}

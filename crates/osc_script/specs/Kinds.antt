@@ -17,7 +17,8 @@ count_kind = 3
 abbrev pub address_kind : ℕ
 address_kind = 4
 
--- the joined words of a `send` have a byte that is no hexadecimal digit, or are an odd number of digits
+-- the joined words of a `send` have a byte that is no hexadecimal digit, or are an odd number of
+-- digits
 abbrev pub hex_kind : ℕ
 hex_kind = 5
 

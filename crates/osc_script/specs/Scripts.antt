@@ -29,7 +29,8 @@ abbrev pub line_of : Mode → ℕ → List ℕ → Result (Option Line) ScriptFa
 line_of mode number text = line_from mode number (line_says text)
 
 -- a line before others: nothing of one that is skipped, and a fault decides alone
-abbrev pub onto : Result (Option Line) ScriptFault → Result (List Line) ScriptFault → Result (List Line) ScriptFault
+abbrev pub onto : Result (Option Line) ScriptFault → Result (List Line) ScriptFault
+    → Result (List Line) ScriptFault
 onto (Err fault) others = Err fault
 onto (Ok None) others = others
 onto (Ok (Some line)) (Err fault) = Err fault
@@ -38,12 +39,14 @@ onto (Ok (Some line)) (Ok lines) = Ok (line ∷ lines)
 -- the lines, counted from a number on
 abbrev pub script_from : Mode → ℕ → List (List ℕ) → Result (List Line) ScriptFault
 script_from mode number [] = Ok []
-script_from mode number (text ∷ texts) = onto (line_of mode number text) (script_from mode (number + 1) texts)
+script_from mode number (text ∷ texts) =
+    onto (line_of mode number text) (script_from mode (number + 1) texts)
 
 -- an input that is too long is a fault in no line
 abbrev pub script_of : Mode → List ℕ → Result (List Line) ScriptFault
 script_of mode bytes =
-    if nat_lt 67108864 (length bytes) then Err (record { line = 0; kind = too_long_kind }) else script_from mode 1 (lines_of bytes)
+    if nat_lt 67108864 (length bytes) then Err (record { line = 0; kind = too_long_kind })
+    else script_from mode 1 (lines_of bytes)
 
 -- each line's act is lawful
 abbrev pub AreLawful : List Line → Type 0

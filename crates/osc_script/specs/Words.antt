@@ -23,7 +23,8 @@ words_of text = filter is_word (slice_split is_space text)
 abbrev pub without_return : List ℕ → List ℕ
 without_return line = if ends_with nat_eq line (13 ∷ []) then take (length line - 1) line else line
 
--- each part but the last was ended by a line feed; the last is a line only if it has a byte, and stands as it is
+-- each part but the last was ended by a line feed; the last is a line only if it has a byte, and
+-- stands as it is
 abbrev pub lines_from : List (List ℕ) → List (List ℕ)
 lines_from [] = []
 lines_from (part ∷ []) = if length part == 0 then [] else part ∷ []

@@ -34,8 +34,10 @@ impl Script {
     /// The lines of the bytes, or the first fault; `NoMemory` where memory runs out before one is found.
     pub fn read(alloc: Global, bytes: &[u8], mode: Mode) -> Result<Script, ScriptRefusal>
         ensures reads { Reads result (script_of mode bytes.now) }
-        ensures first { (fault : ScriptFault) → result ≡ Err (ScriptRefusal.Fault fault) → 0 < fault.line → IsFirstFault bytes.now fault }
-        ensures long { 67108864 < length bytes.now → result ≡ Err (ScriptRefusal.Fault (record { line = 0; kind = too_long_kind })) }
+        ensures first { (fault : ScriptFault) → result ≡ Err (ScriptRefusal.Fault fault)
+            → 0 < fault.line → IsFirstFault bytes.now fault }
+        ensures long { 67108864 < length bytes.now
+            → result ≡ Err (ScriptRefusal.Fault (record { line = 0; kind = too_long_kind })) }
         ensures lawful { IfOk result AreLawful }
         ensures few { IfOk result (λ lines. length lines ≤ length bytes.now) }
         ensures short { IfOk result (λ _. length bytes.now ≤ 67108864) }

@@ -37,8 +37,11 @@ pub waits_rests : (v w : View) → Rests v → Waits v w → Rests w
 waits_rests v w a b = subst Rests (sym b.1) a
 
 pub gives_rests : (v w w1 w2 : View) (word : ℕ) (ran : Bool) → Rests v → Waits v w → Takes w word w1 → Gives w1 ran w2 → Rests w2
-gives_rests v w w1 w2 word true a b c d = subst Rests (sym (d.1 ∙ ap (λ z. given z (w1.seen ++ entry (number_of w1) d.0 ∷ [])) (c.0 ∙ ap (λ z. holding z w1.seen word) b.1))) (a.0, a.1, refl, a.3, a.4)
-gives_rests v w w1 w2 word false a b c d = subst Rests (sym (d ∙ ap (λ z. given z w1.seen) (c.0 ∙ ap (λ z. holding z w1.seen word) b.1))) (a.0, a.1, refl, a.3, a.4)
+gives_rests v w w1 w2 word true a b c d =
+    subst Rests (sym (d.1 ∙ ap (λ z. given z (w1.seen ++ entry (number_of w1) d.0 ∷ [])) (c.0 ∙ ap (λ z. holding z w1.seen word) b.1)))
+    (a.0, a.1, refl, a.3, a.4)
+gives_rests v w w1 w2 word false a b c d =
+    subst Rests (sym (d ∙ ap (λ z. given z w1.seen) (c.0 ∙ ap (λ z. holding z w1.seen word) b.1))) (a.0, a.1, refl, a.3, a.4)
 
 pub has_one : (v : View) → Rests v → 0 < length v.numbers
 has_one v a = omega (arith, ap length a.0)
@@ -63,7 +66,8 @@ pub record Acts (v : View) (log : List Entry) (ran : Bool) (w : View) : Type 0 w
 acted : (v w w1 w2 : View) (word : ℕ) (log : List Entry) → v.holds ≡ false → (b : Waits v w) → Takes w word w1 → w2 ≡ given w1 log
     → w2 ≡ record v { seen = w2.seen; words = (v.words ++ b.0) ++ word ∷ []; taken = v.taken + 1 }
 acted v w w1 w2 word log free b c d = let e = d ∙ ap (λ z. given z log) (c.0 ∙ ap (λ z. holding z w1.seen word) b.1) in
-    e ∙ ap (λ (z : List Entry × Bool). record v { seen = z.0; words = (v.words ++ b.0) ++ word ∷ []; taken = v.taken + 1; holds = z.1 }) (λ k. (sym (ap (λ (z : View). z.seen) e) k, sym free k))
+    e ∙ ap (λ (z : List Entry × Bool). record v { seen = z.0; words = (v.words ++ b.0) ++ word ∷ []; taken = v.taken + 1; holds = z.1 })
+        (λ k. (sym (ap (λ (z : View). z.seen) e) k, sym free k))
 
 pub acts : (v w w1 w2 : View) (word : ℕ) (ran : Bool) → Rests v → Waits v w → word % 2 ≡ 0 → Takes w word w1 → Gives w1 ran w2 → Acts v w1.seen ran w2
 acts v w w1 w2 word true a b even c d = record {
@@ -89,10 +93,13 @@ once : (v : View) (log : List Entry) (ran : Bool) (w : View) → Acts v log ran 
 once v log ran w a = a.view_is ∙ ap (λ ws. record v { seen = w.seen; words = ws; taken = v.taken + 1 }) (sym (ap (λ (z : View). z.words) a.view_is))
 
 -- own entries are the earlier ones and this one
-own_once : (v : View) (log : List Entry) (text : List ℕ) (seen : List Entry) → own (number_of v) log ≡ own (number_of v) v.seen → seen ≡ log ++ entry (number_of v) text ∷ []
+own_once : (v : View) (log : List Entry) (text : List ℕ) (seen : List Entry) → own (number_of v) log ≡ own (number_of v) v.seen
+    → seen ≡ log ++ entry (number_of v) text ∷ []
     → own (number_of v) seen ≡ own (number_of v) v.seen ++ entry (number_of v) text ∷ []
 own_once v log text seen same is = let e = entry (number_of v) text in
-    ap (own (number_of v)) is ∙ (own_append (number_of v) log (e ∷ []) ∙ (ap (λ l. l ++ own (number_of v) (e ∷ [])) same ∙ ap (λ l. own (number_of v) v.seen ++ l) (own_of_mine (number_of v) e refl)))
+    ap (own (number_of v)) is
+        ∙ (own_append (number_of v) log (e ∷ [])
+        ∙ (ap (λ l. l ++ own (number_of v) (e ∷ [])) same ∙ ap (λ l. own (number_of v) v.seen ++ l) (own_of_mine (number_of v) e refl)))
 
 -- the clauses of a call that took the turn
 pub record Took {J : Type 0} (did : J → J → List (List ℕ) → List (List ℕ) → Type 0) (old new : J) (ran : Bool) (v w : View) : Type 0 where
@@ -102,7 +109,8 @@ pub record Took {J : Type 0} (did : J → J → List (List ℕ) → List (List �
   pub entries : AddsOwn ran v w
   pub ran_so : Ran did old new ran v w
 
-took : {J : Type 0} (did : J → J → List (List ℕ) → List (List ℕ) → Type 0) (old new : J) (v : View) (log : List Entry) (ran : Bool) (w : View) → Rests v → Acts v log ran w → did old new (texts log) (texts w.seen)
+took : {J : Type 0} (did : J → J → List (List ℕ) → List (List ℕ) → Type 0) (old new : J) (v : View) (log : List Entry) (ran : Bool) (w : View) → Rests v
+    → Acts v log ran w → did old new (texts log) (texts w.seen)
     → Took did old new ran v w
 took did old new v log true w a b c = let e = entry (number_of v) b.added.0 in record {
   seen = starts_on w.seen log v.seen (e ∷ [], b.added.1) b.grows.0;
@@ -120,9 +128,11 @@ took did old new v log false w a b c = record {
 }
 
 -- a call waited, took the turn, ran its job and gave the turn back, and its pass is then `z`
-pub took_turn : {J : Type 0} (did : J → J → List (List ℕ) → List (List ℕ) → Type 0) (old new : J) (v w w1 w2 z : View) (word : ℕ) (ran : Bool) → Rests v → Waits v w → word % 2 ≡ 0 → Takes w word w1 → Gives w1 ran w2 → z ≡ w2
+pub took_turn : {J : Type 0} (did : J → J → List (List ℕ) → List (List ℕ) → Type 0) (old new : J) (v w w1 w2 z : View) (word : ℕ) (ran : Bool) → Rests v
+    → Waits v w → word % 2 ≡ 0 → Takes w word w1 → Gives w1 ran w2 → z ≡ w2
     → did old new (texts w1.seen) (texts w2.seen) → Took did old new ran v z
-took_turn did old new v w w1 w2 z word ran a b even c d is e = subst (Took did old new ran v) (sym is) (took did old new v w1.seen ran w2 a (acts v w w1 w2 word ran a b even c d) e)
+took_turn did old new v w w1 w2 z word ran a b even c d is e =
+    subst (Took did old new ran v) (sym is) (took did old new v w1.seen ran w2 a (acts v w w1 w2 word ran a b even c d) e)
 
 -- the clauses of a call that did not take the turn
 pub waits_none : (v w : View) → Waits v w → TakesNone v w

@@ -21,18 +21,21 @@ module _ {S : Type 0} (stands : S → List (List ℕ) → Type 0) (kind_of : S �
     me.0,
     keeps,
     tt,
-    stays stands kind_of s r 1 id me.1 me.0 (view_changes stands kind_of s.homes s.views r.log r.kind r.holder (get_or s.words 0 0) (get_or s.words 1 0) r.standing id me.0 me.0 at f refl refl),
+    stays stands kind_of s r 1 id me.1 me.0
+        (view_changes stands kind_of s.homes s.views r.log r.kind r.holder (get_or s.words 0 0) (get_or s.words 1 0) r.standing id me.0 me.0 at f refl refl),
     (
       refl,
       λ p. sym (f.first p),
       r.standing.few,
-      λ n. omega (arith, total_at (λ u. times n (numbers_of u)) s.views id me.0 at, r.standing.numbered (only n), one_below n (get_or s.words 1 0), weigh_append (only n) me.0.numbers me.0.spare),
+      λ n. omega (arith, total_at (λ u. times n (numbers_of u)) s.views id me.0 at, r.standing.numbered (only n), one_below n (get_or s.words 1 0), weigh_append
+          (only n) me.0.numbers me.0.spare),
       (f.olds, f.covers),
     ),
   )
 
   -- the rule after the number of passes becomes x
-  drawn : (s : State (Option S) View) (r : Rule stands kind_of s) (x : ℕ) (views : List View) → Stands stands kind_of s.homes views r.log r.kind r.holder (get_or s.words 0 0) x
+  drawn : (s : State (Option S) View) (r : Rule stands kind_of s) (x : ℕ) (views : List View)
+      → Stands stands kind_of s.homes views r.log r.kind r.holder (get_or s.words 0 0) x
       → Rule stands kind_of record { words = set s.words 1 x; homes = s.homes; views = views }
   drawn s r x views r' = let wide = r.two_words in record {
     log = r.log;
@@ -43,8 +46,10 @@ module _ {S : Type 0} (stands : S → List (List ℕ) → Type 0) (kind_of : S �
         (λ k. (sym (get_or-set_other s.words 1 0 x 0 (λ e. omega arith)) k, sym (get_or-set_same s.words 1 x 0 (omega arith)) k)) r';
   }
 
-  drawn_stands : (homes : List (maybe.Option (Option S))) (views : List View) (log : List Entry) (kind : List ℕ) (holder t d : ℕ) → Stands stands kind_of homes views log kind holder t d
-      → (i : ℕ) (v : View) → get_elem? views i ≡ some v → v.holds ≡ false → v.spare ≡ [] → 0 < times 0 v.numbers → d < 65536 → Stands stands kind_of homes (set views i (drew v d)) log kind holder t (d + 1)
+  drawn_stands : (homes : List (maybe.Option (Option S))) (views : List View) (log : List Entry) (kind : List ℕ) (holder t d : ℕ)
+      → Stands stands kind_of homes views log kind holder t d
+      → (i : ℕ) (v : View) → get_elem? views i ≡ some v → v.holds ≡ false → v.spare ≡ [] → 0 < times 0 v.numbers → d < 65536
+          → Stands stands kind_of homes (set views i (drew v d)) log kind holder t (d + 1)
   drawn_stands homes views log kind holder t d r i v at free bare first few = let f = r.each_view i v at in let w = drew v d in record {
     counted = r.counted;
     at_home = r.at_home;
@@ -70,22 +75,28 @@ module _ {S : Type 0} (stands : S → List (List ℕ) → Type 0) (kind_of : S �
           holder = g.holder;
           olds = g.olds;
           covers = g.covers;
-          first = λ p. absurd (apart stands kind_of homes views log kind holder t d r i j v u at a (λ e. other (sym e)) 0 (omega (arith, weigh_append (only 0) v.numbers v.spare)) (omega (arith, weigh_append (only 0) u.numbers u.spare)));
+          first = λ p.
+              absurd (apart stands kind_of homes views log kind holder t d r i j v u at a (λ e. other (sym e)) 0
+              (omega (arith, weigh_append (only 0) v.numbers v.spare)) (omega (arith, weigh_append (only 0) u.numbers u.spare)));
           later = g.later;
           alike = g.alike;
         });
-    numbered = λ h. omega (arith, below_more h d, total_set (λ u. weigh h (numbers_of u)) views i v w at, r.numbered h, weigh_append h v.numbers v.spare, weigh_append h v.numbers (d ∷ []), ap (weigh h) bare);
+    numbered = λ h.
+        omega (arith, below_more h d, total_set (λ u. weigh h (numbers_of u)) views i v w at, r.numbered h, weigh_append h v.numbers v.spare, weigh_append h
+        v.numbers (d ∷ []), ap (weigh h) bare);
     few = omega arith;
     named = λ n far. r.named n (omega arith);
   }
 
-  pub draws : (slots id : ℕ) (me : Me (Option S) View) → me.0.holds ≡ false → me.0.spare ≡ [] → 0 < times 0 me.0.numbers → me.0.made < 65536 → Allows (Rule stands kind_of) slots id me 1 (λ n. (n + 1) % 2 ^ 64) (Draws me)
+  pub draws : (slots id : ℕ) (me : Me (Option S) View) → me.0.holds ≡ false → me.0.spare ≡ [] → 0 < times 0 me.0.numbers → me.0.made < 65536
+      → Allows (Rule stands kind_of) slots id me 1 (λ n. (n + 1) % 2 ^ 64) (Draws me)
   draws slots id me free bare first few s r _ at _ = (
     drew me.0 d,
     keeps,
     tt,
     subst (λ (x : ℕ). Rule stands kind_of record { words = set s.words 1 x; homes = s.homes; views = set s.views id (drew me.0 d) }) (sym small)
-        (drawn s r (d + 1) (set s.views id (drew me.0 d)) (drawn_stands s.homes s.views r.log r.kind r.holder (get_or s.words 0 0) d r.standing id me.0 at free bare first (omega (arith, made)))),
+        (drawn s r (d + 1) (set s.views id (drew me.0 d))
+            (drawn_stands s.homes s.views r.log r.kind r.holder (get_or s.words 0 0) d r.standing id me.0 at free bare first (omega (arith, made)))),
     (sym made, none_begun d r.log me.0.seen (r.standing.each_view id me.0 at).seen (r.standing.named d (le_refl d)), refl),
   )
     where
@@ -99,7 +110,8 @@ module _ {S : Type 0} (stands : S → List (List ℕ) → Type 0) (kind_of : S �
       small = omega arith
 
   -- what is split off fits, since no entry has a number that was spare
-  split_fits : (log : List Entry) (kind : List ℕ) (t d : ℕ) (v : View) → Fits log kind t d v → 0 < length v.numbers → times 0 (numbers_of v) ≤ 1 → Fits log kind t d (split_off v)
+  split_fits : (log : List Entry) (kind : List ℕ) (t d : ℕ) (v : View) → Fits log kind t d v → 0 < length v.numbers → times 0 (numbers_of v) ≤ 1
+      → Fits log kind t d (split_off v)
   split_fits log kind t d v f some_number once = record {
     seen = f.seen;
     own_seen = λ n p. none_begun n log v.seen f.seen (f.fresh n p) ∙ sym (f.fresh n p);
@@ -126,19 +138,26 @@ module _ {S : Type 0} (stands : S → List (List ℕ) → Type 0) (kind_of : S �
     alike = inr (lives log kind t d v f some_number);
   }
 
-  split_stands : (homes : List (maybe.Option (Option S))) (views : List View) (log : List Entry) (kind : List ℕ) (holder t d : ℕ) → Stands stands kind_of homes views log kind holder t d
-      → (i : ℕ) (v : View) → get_elem? views i ≡ some v → 0 < length v.numbers → Stands stands kind_of homes (set views i (kept_of v) ++ split_off v ∷ []) log kind holder t d
+  split_stands : (homes : List (maybe.Option (Option S))) (views : List View) (log : List Entry) (kind : List ℕ) (holder t d : ℕ)
+      → Stands stands kind_of homes views log kind holder t d
+      → (i : ℕ) (v : View) → get_elem? views i ≡ some v → 0 < length v.numbers
+          → Stands stands kind_of homes (set views i (kept_of v) ++ split_off v ∷ []) log kind holder t d
   split_stands homes views log kind holder t d r i v at some_number = let f = r.each_view i v at in let w = kept_of v in let u' = split_off v in record {
     counted = r.counted;
     at_home = r.at_home;
     away = r.away;
     held = λ odd. let h = still_held views i v w holder at refl (r.held odd) in (h.0, at_longer (set views i w) (u' ∷ []) holder h.0 h.1, h.2);
-    one_holder = λ j u a. ⊎_elim (λ b. views_stay (λ k x. x.holds ≡ true → k ≡ holder) views i w (λ h. r.one_holder i v at h) (λ k x _ c. r.one_holder k x c) j u b)
+    one_holder =
+        λ j u a. ⊎_elim (λ b. views_stay (λ k x. x.holds ≡ true → k ≡ holder) views i w (λ h. r.one_holder i v at h) (λ k x _ c. r.one_holder k x c) j u b)
         (λ (e : u' ≡ u) h. absurd (let no = ap (λ (x : View). x.holds) e in cc)) (at_snoc (set views i w) u' u j a);
-    each_view = λ j u a. ⊎_elim (λ b. views_stay (λ _ x. Fits log kind t d x) views i w (kept_fits log kind t d v f some_number) (λ k x _ c. r.each_view k x c) j u b)
-        (λ (e : u' ≡ u). subst (Fits log kind t d) e (split_fits log kind t d v f some_number (omega (arith, total_at (λ x. times 0 (numbers_of x)) views i v at, r.numbered (only 0), one_below 0 d))))
+    each_view = λ j u a.
+        ⊎_elim (λ b. views_stay (λ _ x. Fits log kind t d x) views i w (kept_fits log kind t d v f some_number) (λ k x _ c. r.each_view k x c) j u b)
+        (λ (e : u' ≡ u). subst (Fits log kind t d) e
+            (split_fits log kind t d v f some_number (omega (arith, total_at (λ x. times 0 (numbers_of x)) views i v at, r.numbered (only 0), one_below 0 d))))
         (at_snoc (set views i w) u' u j a);
-    numbered = λ h. omega (arith, total_snoc (λ u. weigh h (numbers_of u)) (set views i w) u', total_set (λ u. weigh h (numbers_of u)) views i v w at, r.numbered h, weigh_append h v.numbers v.spare, weigh_append h v.numbers [], weigh_append h v.spare []);
+    numbered = λ h.
+        omega (arith, total_snoc (λ u. weigh h (numbers_of u)) (set views i w) u', total_set
+        (λ u. weigh h (numbers_of u)) views i v w at, r.numbered h, weigh_append h v.numbers v.spare, weigh_append h v.numbers [], weigh_append h v.spare []);
     few = r.few;
     named = r.named;
   }

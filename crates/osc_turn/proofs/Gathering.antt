@@ -38,18 +38,21 @@ gathered_first v w done a e g = omega (arith, g.numbers (only 0), has_first v a 
 absorbs_on : (w u z : View) → Absorbs w z → Grows w u.seen → ((n : ℕ) → 0 < times n w.numbers → 0 < times n u.numbers) → Absorbs u z
 absorbs_on w u z a b more = ((starts_on u.seen w.seen z.seen b.0 a.0.0, λ n p. b.1 n (a.1 n p) ∙ a.0.1 n p), λ n p. more n (a.1 n p))
 
-pub gathered_one : (v w u : View) (p : Pass) (done : List Pass) → Rests v → number_of v ≡ 0 → Gathers v done w → Rests (view p) → u ≡ joined w (view p) → Remembers u → ((n : ℕ) → times n u.numbers ≤ 1)
+pub gathered_one : (v w u : View) (p : Pass) (done : List Pass) → Rests v → number_of v ≡ 0 → Gathers v done w → Rests (view p) → u ≡ joined w (view p)
+    → Remembers u → ((n : ℕ) → times n u.numbers ≤ 1)
     → Gathers v (p ∷ done) u
 gathered_one v w u p done a e g b is m once = record {
   free = ap (λ (z : View). z.holds) is ∙ g.free;
   bare = ap (λ (z : View). z.spare) is ∙ g.bare;
-  same_made = let mine : (view p).made ≡ 0 = b.4 (λ z. omega (arith, once 0, weighs (only 0), gathered_first v w done a e g, times_one 0 (view p).numbers (b.0 ∙ ap (λ n. n ∷ []) z))) in
+  same_made = let mine : (view p).made ≡ 0 =
+      b.4 (λ z. omega (arith, once 0, weighs (only 0), gathered_first v w done a e g, times_one 0 (view p).numbers (b.0 ∙ ap (λ n. n ∷ []) z))) in
       let now = ap (λ (z : View). z.made) is in let before = g.same_made in omega arith;
   same_kind = ap (λ (z : View). z.kind) is ∙ g.same_kind;
   numbers = λ h. omega (arith, weighs h, g.numbers h, ap (weigh h) b.0);
   first = absorbs_on w u v g.first told.0 (λ n q. omega (arith, weighs (only n)));
   others = all_cons (λ q. Absorbs u (view q)) p done (told.1, λ n q. omega (arith, weighs (only n)))
-      (all_map (λ q. Absorbs w (view q)) (λ q. Absorbs u (view q)) done (λ q x. absorbs_on w u (view q) x told.0 (λ n y. omega (arith, weighs (only n)))) g.others);
+      (all_map (λ q. Absorbs w (view q)) (λ q. Absorbs u (view q)) done
+          (λ q x. absorbs_on w u (view q) x told.0 (λ n y. omega (arith, weighs (only n)))) g.others);
 }
   where
     told : Grows w u.seen × Grows (view p) u.seen
@@ -58,24 +61,28 @@ gathered_one v w u p done a e g b is m once = record {
     weighs : (h : ℕ → ℕ) → weigh h u.numbers ≡ weigh h w.numbers + weigh h (view p).numbers
     weighs h = ap (λ (z : View). weigh h z.numbers) is ∙ weigh_append h w.numbers (view p).numbers
 
-pub gathered_whole : (v w : View) (others : List Pass) → Rests v → number_of v ≡ 0 → Gathers v others w → v.made ≡ suc (length others) → (w.holds ≡ false) × (w.spare ≡ []) × (0 < times 0 w.numbers) × (length w.numbers ≡ w.made)
+pub gathered_whole : (v w : View) (others : List Pass) → Rests v → number_of v ≡ 0 → Gathers v others w → v.made ≡ suc (length others)
+    → (w.holds ≡ false) × (w.spare ≡ []) × (0 < times 0 w.numbers) × (length w.numbers ≡ w.made)
 gathered_whole v w others a e g made = (
   g.free,
   g.bare,
   gathered_first v w others a e g,
-  omega (arith, weigh_ones w.numbers, g.numbers (λ _. 1), weigh_ones v.numbers, weigh_ones (map number others), length-map others number, ap length a.0, g.same_made),
+  omega (arith, weigh_ones w.numbers, g.numbers (λ _. 1), weigh_ones v.numbers, weigh_ones
+      (map number others), length-map others number, ap length a.0, g.same_made),
 )
 
 carries : (w : View) (p : Pass) → Absorbs w (view p) → Carries w.seen p
 carries w p a = (a.0.0, a.0.1 (number p) (omega (arith, times_one (number p) (view p).numbers p.rests.0)))
 
-pub closes : {S : Type 0} (stands : S → List (List ℕ) → Type 0) (x : S) (passes : List Pass) (p : Pass) (others : List Pass) (w : View) → passes ≡ p ∷ others → Gathers (view p) others w → stands x (texts w.seen)
+pub closes : {S : Type 0} (stands : S → List (List ℕ) → Type 0) (x : S) (passes : List Pass) (p : Pass) (others : List Pass) (w : View) → passes ≡ p ∷ others
+    → Gathers (view p) others w → stands x (texts w.seen)
     → All (λ e. times e.number w.numbers ≡ 1) w.seen → Closes stands x passes
 closes stands x passes p others w is g stands_now each = subst (Closes stands x) (sym is) record {
   history = w.seen;
   stands_for = stands_now;
   carried = all_cons (Carries w.seen) p others (carries w p g.first) (all_map (λ q. Absorbs w (view q)) (Carries w.seen) others (λ q. carries w q) g.others);
-  each_once = all_map (λ (e : Entry). times e.number w.numbers ≡ 1) (IsOwnOfOne (p ∷ others)) w.seen (λ e one. omega (arith, one, g.numbers (only e.number), ap (times e.number) p.rests.0)) each;
+  each_once = all_map (λ (e : Entry). times e.number w.numbers ≡ 1) (IsOwnOfOne (p ∷ others)) w.seen
+      (λ e one. omega (arith, one, g.numbers (only e.number), ap (times e.number) p.rests.0)) each;
 }
 
 pub parted : {X : Type 0} (xs ys : List X) (r : X) → 0 < length xs → r ≡ get_or xs 0 r → ys ≡ remove xs 0 → xs ≡ r ∷ ys

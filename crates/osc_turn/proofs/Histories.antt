@@ -55,7 +55,8 @@ total_at f [] i v e = absurd (some-ne-none v (sym e))
 total_at f (x ∷ xs) zero v e = let p = ap f (some-injective x v e) in omega arith
 total_at f (x ∷ xs) (suc i) v e = omega (arith, total_at f xs i v e)
 
-pub total_two : (f : View → ℕ) (views : List View) (i j : ℕ) (v w : View) → i ≢ j → get_elem? views i ≡ some v → get_elem? views j ≡ some w → f v + f w ≤ total f views
+pub total_two : (f : View → ℕ) (views : List View) (i j : ℕ) (v w : View) → i ≢ j → get_elem? views i ≡ some v → get_elem? views j ≡ some w
+    → f v + f w ≤ total f views
 total_two f [] i j v w other a b = absurd (some-ne-none v (sym a))
 total_two f (x ∷ xs) zero zero v w other a b = absurd (other refl)
 total_two f (x ∷ xs) zero (suc j) v w other a b = let p = ap f (some-injective x v a) in omega (arith, total_at f xs j w b)
@@ -74,7 +75,8 @@ none_below n (suc m) h = omega (arith, none_below n m (omega arith), only_other 
 
 pub one_below : (n m : ℕ) → weigh_below (only n) m ≤ 1
 one_below n zero = omega arith
-one_below n (suc m) = dite (ℕ_discrete m n) (λ e. omega (arith, none_below n m (omega arith), only_same n m e)) (λ other. omega (arith, one_below n m, only_other n m other))
+one_below n (suc m) =
+    dite (ℕ_discrete m n) (λ e. omega (arith, none_below n m (omega arith), only_same n m e)) (λ other. omega (arith, one_below n m, only_other n m other))
 
 pub times_one : (n : ℕ) (xs : List ℕ) → xs ≡ n ∷ [] → times n xs ≡ 1
 times_one n xs e = ap (times n) e ∙ omega (arith, only_same n n refl)
@@ -115,7 +117,8 @@ pub starts_order : {A : Type 0} (log a b : List A) → StartsWith log a → Star
 starts_order log [] b p q h = (b, refl)
 starts_order log (x ∷ a) [] p q h = absurd (omega arith)
 starts_order [] (x ∷ a) (y ∷ b) p q h = absurd (cc (p.1))
-starts_order (z ∷ log) (x ∷ a) (y ∷ b) p q h = let here_p : z ≡ x = cc (p.1) in let here_q : z ≡ y = cc (q.1) in let more_p : log ≡ a ++ p.0 = cc (p.1) in let more_q : log ≡ b ++ q.0 = cc (q.1) in
+starts_order (z ∷ log) (x ∷ a) (y ∷ b) p q h = let here_p : z ≡ x = cc (p.1) in let here_q : z ≡ y = cc (q.1) in let more_p : log ≡ a ++ p.0 = cc (p.1) in
+    let more_q : log ≡ b ++ q.0 = cc (q.1) in
     let r = starts_order log a b (p.0, more_p) (q.0, more_q) (omega arith) in (r.0, ap (λ l. y ∷ l) r.1 ∙ ap (λ w. w ∷ (a ++ r.0)) (sym here_q ∙ here_p))
 
 pub none_long : {A : Type 0} (xs : List A) → length xs ≡ 0 → xs ≡ []
@@ -125,11 +128,13 @@ none_long (x ∷ xs) e = absurd (omega arith)
 -- a list between two that have the same entries of a number has them too
 pub same_between : (n : ℕ) (log long short : List Entry) → StartsWith log long → StartsWith long short → own n short ≡ own n log → own n long ≡ own n log
 same_between n log long short a b e = let x = starts_own n log long a in let y = starts_own n long short b in
-    let none : x.0 ≡ [] = none_long x.0 (omega (arith, ap length x.1, length-append (own n long) x.0, ap length y.1, length-append (own n short) y.0, ap length e)) in
+    let none : x.0 ≡ [] =
+        none_long x.0 (omega (arith, ap length x.1, length-append (own n long) x.0, ap length y.1, length-append (own n short) y.0, ap length e)) in
     sym (x.1 ∙ (ap (λ l. own n long ++ l) none ∙ append-nil (own n long)))
 
 pub same_both : {A : Type 0} (a b : List A) → StartsWith a b → StartsWith b a → a ≡ b
-same_both a b p q = let none : p.0 ≡ [] = none_long p.0 (omega (arith, ap length p.1, length-append b p.0, ap length q.1, length-append a q.0)) in p.1 ∙ (ap (λ l. b ++ l) none ∙ append-nil b)
+same_both a b p q = let none : p.0 ≡ [] = none_long p.0 (omega (arith, ap length p.1, length-append b p.0, ap length q.1, length-append a q.0)) in
+    p.1 ∙ (ap (λ l. b ++ l) none ∙ append-nil b)
 
 pub weigh_ones : (xs : List ℕ) → weigh (λ _. 1) xs ≡ length xs
 weigh_ones [] = refl
@@ -141,14 +146,18 @@ ones_below (suc n) = omega (arith, ones_below n)
 
 pub some_below : (n m : ℕ) → n < m → weigh_below (only n) m ≡ 1
 some_below n zero h = absurd (omega arith)
-some_below n (suc m) h = dite (ℕ_discrete m n) (λ e. omega (arith, none_below n m (omega arith), only_same n m e)) (λ other. omega (arith, some_below n m (omega arith), only_other n m other))
+some_below n (suc m) h =
+    dite (ℕ_discrete m n) (λ e. omega (arith, none_below n m (omega arith), only_same n m e))
+    (λ other. omega (arith, some_below n m (omega arith), only_other n m other))
 
 total_nothing : (f : View → ℕ) (views : List View) → ((j : ℕ) (u : View) → get_elem? views j ≡ some u → f u ≡ 0) → total f views ≡ 0
 total_nothing f [] none = refl
 total_nothing f (x ∷ xs) none = omega (arith, none 0 x refl, total_nothing f xs (λ j u a. none (suc j) u a))
 
 -- where all other views weigh nothing, one view has the total
-pub total_alone : (f : View → ℕ) (views : List View) (i : ℕ) (v : View) → get_elem? views i ≡ some v → ((j : ℕ) (u : View) → j ≢ i → get_elem? views j ≡ some u → f u ≡ 0) → total f views ≡ f v
+pub total_alone : (f : View → ℕ) (views : List View) (i : ℕ) (v : View) → get_elem? views i ≡ some v
+    → ((j : ℕ) (u : View) → j ≢ i → get_elem? views j ≡ some u → f u ≡ 0) → total f views ≡ f v
 total_alone f [] i v e none = absurd (some-ne-none v (sym e))
 total_alone f (x ∷ xs) zero v e none = let p = ap f (some-injective x v e) in omega (arith, total_nothing f xs (λ j u a. none (suc j) u (λ z. omega arith) a))
-total_alone f (x ∷ xs) (suc i) v e none = omega (arith, none 0 x (λ z. omega arith) refl, total_alone f xs i v e (λ j u other a. none (suc j) u (λ z. other (omega arith)) a))
+total_alone f (x ∷ xs) (suc i) v e none =
+    omega (arith, none 0 x (λ z. omega arith) refl, total_alone f xs i v e (λ j u other a. none (suc j) u (λ z. other (omega arith)) a))

@@ -33,13 +33,16 @@ two_cases P p q one two (suc (suc k)) a e = absurd (some-ne-none a (sym e))
 covers_from : (log : List Entry) (a b : Past) → ((n : ℕ) → 0 < times n a.numbers → own n a.seen ≡ own n log) → StartsWith log b.seen → Covers a b
 covers_from log a b mine s n p = subst (λ z. StartsWith z (own n b.seen)) (sym (mine n p)) (starts_own n log b.seen s)
 
-own_of_longer : (n : ℕ) (log a b : List Entry) → StartsWith log a → StartsWith log b → (own n a ≡ own n log) ⊎ (own n b ≡ own n log) → own n (longer a b) ≡ own n log
+own_of_longer : (n : ℕ) (log a b : List Entry) → StartsWith log a → StartsWith log b → (own n a ≡ own n log) ⊎ (own n b ≡ own n log)
+    → own n (longer a b) ≡ own n log
 own_of_longer n log a b p q e = longer_cases (λ l. own n l ≡ own n log) a b
     (λ le. ⊎_elim (λ x. same_between n log b a q (starts_order log a b p q le) x) (λ y. y) e)
     (λ le. ⊎_elim (λ x. x) (λ y. same_between n log a b p (starts_order log b a q p le) y) e)
 
 pub starts_longer : (log a b : List Entry) → StartsWith log a → StartsWith log b → StartsWith (longer a b) a × StartsWith (longer a b) b
-starts_longer log a b p q = longer_cases (λ l. StartsWith l a × StartsWith l b) a b (λ le. (starts_order log a b p q le, starts_here b)) (λ le. (starts_here a, starts_order log b a q p le))
+starts_longer log a b p q =
+    longer_cases (λ l. StartsWith l a × StartsWith l b) a b (λ le. (starts_order log a b p q le, starts_here b))
+    (λ le. (starts_here a, starts_order log b a q p le))
 
 spent_fits : (log : List Entry) (kind : List ℕ) (t d : ℕ) → Fits log kind t d spent
 spent_fits log kind t d = record {
@@ -54,7 +57,8 @@ spent_fits log kind t d = record {
   alike = inl refl;
 }
 
-joined_fits : (log : List Entry) (kind : List ℕ) (t d : ℕ) (v w : View) → Fits log kind t d v → Fits log kind t d w → 0 < length v.numbers → v.holds ≡ false → v.spare ≡ [] → w.spare ≡ []
+joined_fits : (log : List Entry) (kind : List ℕ) (t d : ℕ) (v w : View) → Fits log kind t d v → Fits log kind t d w → 0 < length v.numbers → v.holds ≡ false
+    → v.spare ≡ [] → w.spare ≡ []
     → times 0 v.numbers + times 0 w.numbers ≤ 1 → Fits log kind t d (joined v w)
 joined_fits log kind t d v w f g some_number free bare bare' once = record {
   seen = longer_cases (StartsWith log) v.seen w.seen (λ _. g.seen) (λ _. f.seen);
@@ -64,34 +68,42 @@ joined_fits log kind t d v w f g some_number free bare bare' once = record {
   holder = λ h. absurd (cc);
   olds = let s = starts_longer log v.seen w.seen f.seen g.seen in two_cases (λ a. StartsWith (longer v.seen w.seen) a.seen) (past v) (past w) s.0 s.1;
   covers = λ k l a b e e'. two_cases (λ x. Covers x b) (past v) (past w)
-      (two_cases (λ y. Covers (past v) y) (past v) (past w) (covers_from log (past v) (past v) f.own_seen f.seen) (covers_from log (past v) (past w) f.own_seen g.seen) l b e')
-      (two_cases (λ y. Covers (past w) y) (past v) (past w) (covers_from log (past w) (past v) g.own_seen f.seen) (covers_from log (past w) (past w) g.own_seen g.seen) l b e') k a e;
+      (two_cases (λ y. Covers (past v) y) (past v) (past w) (covers_from log (past v) (past v) f.own_seen f.seen)
+          (covers_from log (past v) (past w) f.own_seen g.seen) l b e')
+      (two_cases (λ y. Covers (past w) y) (past v) (past w) (covers_from log (past w) (past v) g.own_seen f.seen)
+          (covers_from log (past w) (past w) g.own_seen g.seen) l b e') k a e;
   first = λ p. dite (ℕ_discrete (times 0 v.numbers) 0)
       (λ e. let made = (f.later e).0 in let made' = g.first (omega (arith, weigh_append (only 0) v.numbers w.numbers)) in omega arith)
       (λ other. let made = f.first (omega arith) in let made' = (g.later (omega arith)).0 in omega arith);
-  later = λ e. let sum = weigh_append (only 0) v.numbers w.numbers in let made = (f.later (omega arith)).0 in let made' = (g.later (omega arith)).0 in (omega arith, bare);
+  later = λ e. let sum = weigh_append (only 0) v.numbers w.numbers in let made = (f.later (omega arith)).0 in let made' = (g.later (omega arith)).0 in
+      (omega arith, bare);
   alike = inr (lives log kind t d v f some_number);
 }
 
 -- what a look tells after a join
 pub remembered : (v w u : View) → u ≡ joined v w → Remembers u → Grows v u.seen × Grows w u.seen
 remembered v w u is m = subst (λ (z : View). Remembers z → Grows v z.seen × Grows w z.seen) (sym is) (λ r.
-    let starts_v : StartsWith (longer v.seen w.seen) v.seen = r.0 0 (past v) refl in let starts_w : StartsWith (longer v.seen w.seen) w.seen = r.0 1 (past w) refl in (
+    let starts_v : StartsWith (longer v.seen w.seen) v.seen = r.0 0 (past v) refl in
+        let starts_w : StartsWith (longer v.seen w.seen) w.seen = r.0 1 (past w) refl in (
       (
         starts_v,
         λ n p. same_both (own n (longer v.seen w.seen)) (own n v.seen) (starts_own n (longer v.seen w.seen) v.seen starts_v)
-            (longer_cases (λ l. StartsWith (own n v.seen) (own n l)) v.seen w.seen (λ _. r.1 0 1 (past v) (past w) refl refl n p) (λ _. r.1 0 0 (past v) (past v) refl refl n p)),
+            (longer_cases (λ l. StartsWith (own n v.seen) (own n l)) v.seen w.seen (λ _. r.1 0 1 (past v) (past w) refl refl n p)
+                (λ _. r.1 0 0 (past v) (past v) refl refl n p)),
       ),
       (
         starts_w,
         λ n p. same_both (own n (longer v.seen w.seen)) (own n w.seen) (starts_own n (longer v.seen w.seen) w.seen starts_w)
-            (longer_cases (λ l. StartsWith (own n w.seen) (own n l)) v.seen w.seen (λ _. r.1 1 1 (past w) (past w) refl refl n p) (λ _. r.1 1 0 (past w) (past v) refl refl n p)),
+            (longer_cases (λ l. StartsWith (own n w.seen) (own n l)) v.seen w.seen (λ _. r.1 1 1 (past w) (past w) refl refl n p)
+                (λ _. r.1 1 0 (past w) (past v) refl refl n p)),
       ),
     )) m
 
 module _ {S : Type 0} (stands : S → List (List ℕ) → Type 0) (kind_of : S → List ℕ) where
-  joined_stands : (homes : List (maybe.Option (Option S))) (views : List View) (log : List Entry) (kind : List ℕ) (holder t d : ℕ) → Stands stands kind_of homes views log kind holder t d
-      → (i j : ℕ) (v w : View) → get_elem? views i ≡ some v → get_elem? views j ≡ some w → j ≢ i → 0 < length v.numbers → v.holds ≡ false → w.holds ≡ false → v.spare ≡ [] → w.spare ≡ []
+  joined_stands : (homes : List (maybe.Option (Option S))) (views : List View) (log : List Entry) (kind : List ℕ) (holder t d : ℕ)
+      → Stands stands kind_of homes views log kind holder t d
+      → (i j : ℕ) (v w : View) → get_elem? views i ≡ some v → get_elem? views j ≡ some w → j ≢ i → 0 < length v.numbers → v.holds ≡ false → w.holds ≡ false
+          → v.spare ≡ [] → w.spare ≡ []
       → Stands stands kind_of homes (set (set views i (joined v w)) j spent) log kind holder t d
   joined_stands homes views log kind holder t d r i j v w at at' other some_number free free' bare bare' = record {
     counted = r.counted;
@@ -103,7 +115,8 @@ module _ {S : Type 0} (stands : S → List (List ℕ) → Type 0) (kind_of : S �
     each_view = views_stay (λ _ x. Fits log kind t d x) (set views i u) j spent (spent_fits log kind t d)
         (λ k x _ a. views_stay (λ _ x'. Fits log kind t d x') views i u
         (joined_fits log kind t d v w (r.each_view i v at) (r.each_view j w at') some_number free bare bare'
-        (omega (arith, total_two (λ x. times 0 (numbers_of x)) views i j v w (λ e. other (sym e)) at at', r.numbered (only 0), one_below 0 d, weigh_append (only 0) v.numbers v.spare, weigh_append (only 0) w.numbers w.spare)))
+        (omega (arith, total_two (λ x. times 0 (numbers_of x)) views i j v w (λ e. other (sym e)) at at', r.numbered (only 0), one_below 0 d, weigh_append
+            (only 0) v.numbers v.spare, weigh_append (only 0) w.numbers w.spare)))
         (λ k' x' _ b. r.each_view k' x' b) k x a);
     numbered = λ h. omega (
       arith,
@@ -127,11 +140,13 @@ module _ {S : Type 0} (stands : S → List (List ℕ) → Type 0) (kind_of : S �
       at_then : get_elem? (set views i (joined v w)) j ≡ some w
       at_then = set_else views i j (joined v w) other ∙ at'
 
-  pub joins : (id other : ℕ) (v w : View) → 0 < length v.numbers → v.holds ≡ false → w.holds ≡ false → v.spare ≡ [] → w.spare ≡ [] → Joins (Rule stands kind_of) id v other w (joined v w) spent
+  pub joins : (id other : ℕ) (v w : View) → 0 < length v.numbers → v.holds ≡ false → w.holds ≡ false → v.spare ≡ [] → w.spare ≡ []
+      → Joins (Rule stands kind_of) id v other w (joined v w) spent
   joins id other v w some_number free free' bare bare' s r at apart at_then = record {
     log = r.log;
     kind = r.kind;
     holder = r.holder;
     two_words = r.two_words;
-    standing = joined_stands s.homes s.views r.log r.kind r.holder (get_or s.words 0 0) (get_or s.words 1 0) r.standing id other v w at (sym (set_else s.views id other (joined v w) apart) ∙ at_then) apart some_number free free' bare bare';
+    standing = joined_stands s.homes s.views r.log r.kind r.holder (get_or s.words 0 0) (get_or s.words 1 0) r.standing id other v w at
+        (sym (set_else s.views id other (joined v w) apart) ∙ at_then) apart some_number free free' bare bare';
   }

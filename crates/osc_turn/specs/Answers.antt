@@ -29,9 +29,11 @@ TakesNone v w = w ≡ record v { seen = w.seen; words = w.words }
 abbrev pub added : Bool → ℕ
 added ran = if ran then 1 else 0
 
--- the last word that was found is even, and the pass has seen half as many entries, and then its own one
+-- the last word that was found is even, and the pass has seen half as many entries, and then its
+-- own one
 abbrev pub FindsFree : Bool → View → View → Type 0
-FindsFree ran v w = (more : List ℕ) × (word : ℕ) × (w.words ≡ v.words ++ more ++ word ∷ []) × (word % 2 ≡ 0) × (length w.seen ≡ word / 2 + added ran)
+FindsFree ran v w = (more : List ℕ) × (word : ℕ) × (w.words ≡ v.words ++ more ++ word ∷ [])
+    × (word % 2 ≡ 0) × (length w.seen ≡ word / 2 + added ran)
 
 -- two words were found and no other: an even one, and at taking the turn the same
 abbrev pub FindsTwice : View → View → Type 0
@@ -44,19 +46,25 @@ KeepsOwn v w = own (number_of v) w.seen ≡ own (number_of v) v.seen
 -- the pass's own entries are the earlier ones and the one that the call added, each once
 abbrev pub AddsOwn : Bool → View → View → Type 0
 AddsOwn ran v w = MatchBool ran
-    ((text : List ℕ) × (own (number_of v) w.seen ≡ own (number_of v) v.seen ++ entry (number_of v) text ∷ []))
+    ((text : List ℕ)
+        × (own (number_of v) w.seen ≡ own (number_of v) v.seen ++ entry (number_of v) text ∷ []))
     (KeepsOwn v w)
 
--- One word was found, and it is odd: the turn was another's. Or a free turn was found and then a greater word: another call took it first.
+-- One word was found, and it is odd: the turn was another's. Or a free turn was found and then a
+-- greater word: another call took it first.
 abbrev pub FindsTaken : ℕ → View → View → Type 0
 FindsTaken found v w = ((w.words ≡ v.words ++ found ∷ []) × (found % 2 ≡ 1))
     ⊎ ((first : ℕ) × (w.words ≡ v.words ++ first ∷ found ∷ []) × (first % 2 ≡ 0) × (first < found))
 
--- The job was run once, on a value that stood for the list `found`. That list goes on from what the pass had seen, with no further own entry.
--- What the pass has seen then is that list, and after it the one entry that the job added, under the pass's number.
-pub record Ran {J : Type 0} (did : J → J → List (List ℕ) → List (List ℕ) → Type 0) (old new : J) (ran : Bool) (v w : View) : Type 0 where
+-- The job was run once, on a value that stood for the list `found`. That list goes on from what the
+-- pass had seen, with no further own entry.
+-- What the pass has seen then is that list, and after it the one entry that the job added, under
+-- the pass's number.
+pub record Ran {J : Type 0} (did : J → J → List (List ℕ) → List (List ℕ) → Type 0) (old new : J)
+    (ran : Bool) (v w : View) : Type 0 where
   pub found : List Entry
   pub goes_on : StartsWith found v.seen
   pub no_other_own : own (number_of v) found ≡ own (number_of v) v.seen
-  pub then_seen : MatchBool ran ((text : List ℕ) × (w.seen ≡ found ++ entry (number_of v) text ∷ [])) (w.seen ≡ found)
+  pub then_seen : MatchBool ran
+      ((text : List ℕ) × (w.seen ≡ found ++ entry (number_of v) text ∷ [])) (w.seen ≡ found)
   pub did_so : did old new (texts found) (texts w.seen)

@@ -19,20 +19,24 @@ first_view (p ∷ ps) = view p
 
 -- the history begins with what the pass has seen, and all its own entries are among these
 abbrev pub Carries : List Entry → Pass → Type 0
-Carries history p = StartsWith history (view p).seen × (own (number p) history ≡ own (number p) (view p).seen)
+Carries history p = StartsWith history (view p).seen
+    × (own (number p) history ≡ own (number p) (view p).seen)
 
 -- the entry is an own one of exactly one of the passes
 abbrev pub IsOwnOfOne : List Pass → Entry → Type 0
 IsOwnOfOne passes e = times e.number (map number passes) ≡ 1
 
--- the value stands for a history that carries each pass, and each entry of it is an own one of exactly one of them
-pub record Closes {S : Type 0} (stands : S → List (List ℕ) → Type 0) (value : S) (passes : List Pass) : Type 0 where
+-- the value stands for a history that carries each pass, and each entry of it is an own one of
+-- exactly one of them
+pub record Closes {S : Type 0} (stands : S → List (List ℕ) → Type 0) (value : S)
+    (passes : List Pass) : Type 0 where
   pub history : List Entry
   pub stands_for : stands value (texts history)
   pub carried : All (Carries history) passes
   pub each_once : All (IsOwnOfOne passes) history
 
--- one view has the numbers of another, has seen all that that one had seen, and no further own entry of it
+-- one view has the numbers of another, has seen all that that one had seen, and no further own
+-- entry of it
 abbrev pub Absorbs : View → View → Type 0
 Absorbs w v = Grows v w.seen × ((n : ℕ) → 0 < times n v.numbers → 0 < times n w.numbers)
 

@@ -1,4 +1,5 @@
--- The turn's history, which all passes share: a list of entries, each under the number of the pass that made it.
+-- The turn's history, which all passes share: a list of entries, each under the number of the pass
+-- that made it.
 use Rattle.std.specs.Prelude.{◌≡◌, ℕ, ◌==◌, if◌then◌else◌, List, [], ◌∷◌, ◌++◌, map}
 use Rattle.osc_turn.specs.declared.view.Entry.{Entry}
 

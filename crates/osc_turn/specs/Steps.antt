@@ -24,7 +24,8 @@ Finds v r w = (w ≡ found_at v w.seen r) × Grows v w.seen × (length w.seen �
 
 -- the view after the turn was taken
 abbrev pub holding : View → List Entry → ℕ → View
-holding v log r = record v { seen = log; words = v.words ++ r ∷ []; taken = v.taken + 1; holds = true }
+holding v log r =
+    record v { seen = log; words = v.words ++ r ∷ []; taken = v.taken + 1; holds = true }
 
 -- the word r was found, and the turn was taken
 abbrev pub Takes : View → ℕ → View → Type 0
@@ -36,7 +37,9 @@ given v log = record v { seen = log; holds = false }
 
 -- the turn was given back, with an own entry or with none
 abbrev pub Gives : View → Bool → View → Type 0
-Gives v ran w = MatchBool ran ((text : List ℕ) × (w ≡ given v (v.seen ++ entry (number_of v) text ∷ []))) (w ≡ given v v.seen)
+Gives v ran w =
+    MatchBool ran ((text : List ℕ) × (w ≡ given v (v.seen ++ entry (number_of v) text ∷ [])))
+    (w ≡ given v v.seen)
 
 -- a view, and the slots that its seat holds
 abbrev Sat : Type 0 → Type 0
@@ -56,16 +59,20 @@ module _ {S : Type 0} where
 
     -- the turn and the value were taken where this word was found
     abbrev pub Tries : ℕ → Sat S → ℕ → Sat S → Type 0
-    Tries word m r m' = (r ≡ word → Takes m.0 r m'.0 × ((x : S) × Has x m'.0 m'.1)) × (r ≢ word → Looks m r m')
+    Tries word m r m' = (r ≡ word → Takes m.0 r m'.0 × ((x : S) × Has x m'.0 m'.1))
+        × (r ≢ word → Looks m r m')
 
     abbrev pub GivesEntry : Sat S → Sat S → Type 0
-    GivesEntry m m' = (text : List ℕ) × (m'.0 ≡ given m.0 (m.0.seen ++ entry (number_of m.0) text ∷ [])) × (m'.1 ≡ [])
+    GivesEntry m m' = (text : List ℕ)
+        × (m'.0 ≡ given m.0 (m.0.seen ++ entry (number_of m.0) text ∷ [])) × (m'.1 ≡ [])
         × ((x : S) → m.1 ≡ (0, Some x) ∷ [] → stands x (texts m'.0.seen))
 
--- the lists of the last join begin what is seen now, and each has the own entries that came with the other
+-- the lists of the last join begin what is seen now, and each has the own entries that came with
+-- the other
 abbrev pub Remembers : View → Type 0
 Remembers v = ((k : ℕ) (a : Past) → get_elem? v.olds k ≡ some a → StartsWith v.seen a.seen)
-    × ((k l : ℕ) (a b : Past) → get_elem? v.olds k ≡ some a → get_elem? v.olds l ≡ some b → Covers a b)
+    × ((k l : ℕ) (a b : Past) → get_elem? v.olds k ≡ some a → get_elem? v.olds l ≡ some b
+        → Covers a b)
 
 -- the view after a number was drawn
 abbrev pub drew : View → ℕ → View
@@ -74,18 +81,22 @@ drew v n = record v { spare = n ∷ []; made = n + 1 }
 module _ {S : Type 0} where
   -- the number of passes was read, and the first pass knew it
   abbrev pub Counts : Sat S → ℕ → Sat S → Type 0
-  Counts m r m' = (m' ≡ m) × (0 < times 0 m.0.numbers → r ≡ m.0.made) × (r ≤ 65536) × ((n : ℕ) → times n m.0.numbers ≤ 1) × Remembers m.0
+  Counts m r m' = (m' ≡ m) × (0 < times 0 m.0.numbers → r ≡ m.0.made) × (r ≤ 65536)
+      × ((n : ℕ) → times n m.0.numbers ≤ 1) × Remembers m.0
 
   -- a number was drawn that no entry has
   abbrev pub Draws : Sat S → ℕ → Sat S → Type 0
   Draws m r m' = (r ≡ m.0.made) × (own r m.0.seen ≡ []) × (m' ≡ (drew m.0 r, m.1))
 
--- the two views after a split: the second one has seen the same, and gets the number that was drawn, or none
+-- the two views after a split: the second one has seen the same, and gets the number that was
+-- drawn, or none
 abbrev pub kept_of : View → View
 kept_of v = record v { spare = [] }
 
 abbrev pub split_off : View → View
-split_off v = record { numbers = v.spare; spare = []; made = 0; seen = v.seen; olds = []; words = []; taken = 0; holds = false; kind = v.kind }
+split_off v =
+    record { numbers = v.spare; spare = []; made = 0; seen = v.seen; olds = []; words = [];
+    taken = 0; holds = false; kind = v.kind }
 
 abbrev pub longer : List Entry → List Entry → List Entry
 longer a b = if nat_le (length a) (length b) then b else a
@@ -93,6 +104,9 @@ longer a b = if nat_le (length a) (length b) then b else a
 abbrev pub past : View → Past
 past v = record { numbers = v.numbers; seen = v.seen }
 
--- the view after another was joined into it: it has the numbers of both, has seen the longer list, and knows which two lists these were
+-- the view after another was joined into it: it has the numbers of both, has seen the longer list,
+-- and knows which two lists these were
 abbrev pub joined : View → View → View
-joined v w = record v { numbers = v.numbers ++ w.numbers; made = max v.made w.made; seen = longer v.seen w.seen; olds = past v ∷ past w ∷ [] }
+joined v w =
+    record v { numbers = v.numbers ++ w.numbers; made = max v.made w.made;
+    seen = longer v.seen w.seen; olds = past v ∷ past w ∷ [] }

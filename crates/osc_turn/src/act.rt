@@ -47,7 +47,8 @@ impl<S: Kept> Turn<S> {
         ensures counted { IfDone result.1 (λ ran. FindsFree ran (view pass) (view result.0)) }
         ensures words { IfDone result.1 (λ _. FindsTwice (view pass) (view result.0)) }
         ensures entries { IfDone result.1 (λ ran. AddsOwn ran (view pass) (view result.0)) }
-        ensures ran { IfDone result.1 (λ ran. Ran J.did job.old job.new ran (view pass) (view result.0)) }
+        ensures ran { IfDone result.1
+            (λ ran. Ran J.did job.old job.new ran (view pass) (view result.0)) }
         ensures not_run { IfBusy result.1 (λ _. job.new ≡ job.old) }
         ensures not_taken { IfBusy result.1 (λ _. TakesNone (view pass) (view result.0)) }
         ensures found { IfBusy result.1 (λ found. FindsTaken found (view pass) (view result.0)) }
@@ -73,7 +74,8 @@ impl<S: Kept> Turn<S> {
         ensures ours { IsPassOf self.now result.0 }
         ensures seen { StartsWith (view result.0).seen (view pass).seen }
         ensures not_taken { TakesNone (view pass) (view result.0) }
-        ensures found { (word : ℕ) × ((view result.0).words ≡ (view pass).words ++ word ∷ []) × (result.1 ≡ word / 2) }
+        ensures found { (word : ℕ) × ((view result.0).words ≡ (view pass).words ++ word ∷ [])
+            × (result.1 ≡ word / 2) }
         ensures then_seen { length (view result.0).seen ≡ result.1 }
         ensures none_added { KeepsOwn (view pass) (view result.0) }
     {

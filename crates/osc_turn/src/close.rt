@@ -34,7 +34,8 @@ impl<S: Kept> Turn<S> {
     // Takes the value out, where the seat has every number that was drawn.
     fn into_value(self, seat: Seat<Option<S>, View>) -> S
         requires ours { seat.table_id ≡ self.table.shared.table_id }
-        requires whole { (seat.me.0.holds ≡ false) × (seat.me.0.spare ≡ []) × (0 < times 0 seat.me.0.numbers)
+        requires whole { (seat.me.0.holds ≡ false) × (seat.me.0.spare ≡ [])
+            × (0 < times 0 seat.me.0.numbers)
             × (length seat.me.0.numbers ≡ seat.me.0.made) }
         ensures stands { S.stands result (texts seat.me.0.seen) }
         ensures kind { S.kind result ≡ seat.me.0.kind }

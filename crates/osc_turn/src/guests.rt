@@ -39,10 +39,12 @@ impl<S: Kept> Turn<S> {
         ensures ours { IsPassOf self.now result.0 }
         ensures guest_ours { IfOk result.1 (λ guest. IsPassOf self.now guest) }
         ensures guest { IfOk result.1 (λ guest. view guest ≡ guest_of (view pass)) }
-        ensures no_entries { IfOk result.1 (λ guest. own (number_of (view guest)) (view guest).seen ≡ []) }
+        ensures no_entries { IfOk result.1
+            (λ guest. own (number_of (view guest)) (view guest).seen ≡ []) }
         ensures room { OnOk result.1 ((view pass).made < 65536) }
         ensures made { OnOk result.1 (view result.0 ≡ one_more (view pass)) }
-        ensures full { IfErr result.1 (λ refusal. ((view pass).made ≡ 65536) × (refusal ≡ GuestRefusal.Full 65536)) }
+        ensures full { IfErr result.1
+            (λ refusal. ((view pass).made ≡ 65536) × (refusal ≡ GuestRefusal.Full 65536)) }
         ensures none_made { OnErr result.1 (view result.0 ≡ view pass) }
     {
         let mut seat = pass.into_seat::<S>();

@@ -23,7 +23,8 @@ impl<S: Kept> Turn<S> {
 
     // Takes the turn and its value if the turn's word is still `word`. Returns the word that was found.
     pub(crate) fn take(&self, seat: &mut Seat<Option<S>, View>, word: u64) -> u64
-        requires ours { (seat.old.table_id ≡ self.now.table.shared.table_id) × (seat.old.me.1 ≡ []) }
+        requires ours { (seat.old.table_id ≡ self.now.table.shared.table_id)
+            × (seat.old.me.1 ≡ []) }
         requires rests { Rests seat.old.me.0 }
         requires free { word % 2 ≡ 0 }
         ensures same { seat.new.table_id ≡ seat.old.table_id }
@@ -41,7 +42,8 @@ impl<S: Kept> Turn<S> {
         job: &mut J,
     ) -> bool
         requires ours { seat.old.table_id ≡ self.now.table.shared.table_id }
-        requires holds { (seat.old.me.0.holds ≡ true) × ((x : S) × Has S.stands S.kind x seat.old.me.0 seat.old.me.1) }
+        requires holds { (seat.old.me.0.holds ≡ true)
+            × ((x : S) × Has S.stands S.kind x seat.old.me.0 seat.old.me.1) }
         requires word { (length seat.old.me.0.seen ≡ word / 2) × (word % 2 ≡ 0) }
         requires base { (J.base_kind job.old ≡ seat.old.me.0.kind)
             × StartsWith (texts seat.old.me.0.seen) (J.base job.old) }

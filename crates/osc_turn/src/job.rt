@@ -20,7 +20,8 @@ pub trait Kept {
         ensures count { result ≡ length (history self.now) };
 
     /// All lists that the value stands for have one length.
-    ghost one_length: { (x : Self) (g h : List (List ℕ)) → stands x g → stands x h → length g ≡ length h };
+    ghost one_length: { (x : Self) (g h : List (List ℕ)) → stands x g → stands x h
+        → length g ≡ length h };
 
     /// So many entries can be counted by the turn's word.
     ghost short: { (x : Self) (h : List (List ℕ)) → stands x h → length h < 2 ^ 62 };
@@ -43,10 +44,14 @@ pub trait Job<S: Kept> {
     /// Adds one entry and answers true, or adds none and answers false.
     fn run(&mut self, state: &mut S) -> bool
         requires kind { S.kind state.old ≡ base_kind self.old }
-        requires base { (before : List (List ℕ)) × S.stands state.old before × StartsWith before (base self.old) }
+        requires base { (before : List (List ℕ)) × S.stands state.old before
+            × StartsWith before (base self.old) }
         ensures kind { S.kind state.new ≡ S.kind state.old }
-        ensures stands { (before : List (List ℕ)) → S.stands state.old before → StartsWith before (base self.old)
+        ensures stands { (before : List (List ℕ)) → S.stands state.old before
+            → StartsWith before (base self.old)
             → StandsNext (S.stands state.new) result before }
-        ensures did { (before after : List (List ℕ)) → S.stands state.old before → StartsWith before (base self.old)
-            → S.stands state.new after → IsNext result before after → did self.old self.new before after };
+        ensures did { (before after : List (List ℕ)) → S.stands state.old before
+            → StartsWith before (base self.old)
+            → S.stands state.new after → IsNext result before after
+            → did self.old self.new before after };
 }

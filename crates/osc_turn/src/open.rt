@@ -46,7 +46,8 @@ impl<S: Kept> Turn<S> {
     /// A turn over a value that may have entries, and its first pass, which has seen them. They are its own entries.
     pub fn reopen(alloc: Global, state: S) -> Result<(Turn<S>, Pass), (AllocError, S)>
         ensures ours { IfOk result (λ opened. IsPassOf opened.0 opened.1) }
-        ensures first { IfOk result (λ opened. view opened.1 ≡ reopening (S.kind state) (S.history state)) }
+        ensures first { IfOk result
+            (λ opened. view opened.1 ≡ reopening (S.kind state) (S.history state)) }
         ensures stands { S.stands state (S.history state) }
         ensures err { IfErr result (λ refused. refused.1 ≡ state) }
     {

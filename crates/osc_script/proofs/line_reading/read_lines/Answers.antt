@@ -8,4 +8,5 @@ use Rattle.osc_script.proofs.line_reading.read_lines.Goals as goal
 pub returns-clause-lawful : goal.returns-clause-lawful
 returns-clause-lawful c =
     let none : length c.loop-rest.rest.now ≡ 0 = grind (arith, nat_tests) in
-    subst AreLawful (sym c.of.ensures) (lines_lawful c.args.mode c.loop-rest.lines.items c.loop-rest.number c.loop-rest.rest.now (lines_of c.args.bytes.now) none c.loop-rest.invariant.read)
+    subst AreLawful (sym c.of.ensures)
+    (lines_lawful c.args.mode c.loop-rest.lines.items c.loop-rest.number c.loop-rest.rest.now (lines_of c.args.bytes.now) none c.loop-rest.invariant.read)

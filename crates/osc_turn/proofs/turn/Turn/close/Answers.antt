@@ -18,7 +18,8 @@ record Gathered (passes : List Pass) (p : Pass) (others : List Pass) (w : View) 
   made : (view p).made ≡ length passes
   whole : (w.holds ≡ false) × (w.spare ≡ []) × (0 < times 0 w.numbers) × (length w.numbers ≡ w.made)
 
-gathered : {S : Type 0} (passes : List Pass) (p : Pass) (others : List Pass) (m m' : Me (Option S) View) (r : ℕ) (w : View) → passes ≡ p ∷ others → number_of (first_view passes) ≡ 0 → m ≡ (view p, []) → Counts m r m'
+gathered : {S : Type 0} (passes : List Pass) (p : Pass) (others : List Pass) (m m' : Me (Option S) View) (r : ℕ) (w : View) → passes ≡ p ∷ others
+    → number_of (first_view passes) ≡ 0 → m ≡ (view p, []) → Counts m r m'
     → r ≡ length passes → Gathers m'.0 others w → Gathered passes p others w
 gathered passes p others m m' r w is zero_is at c counted g = record {
   is = is;
@@ -37,24 +38,32 @@ gathered passes p others m m' r w is zero_is at c counted g = record {
     made = sym (ap (λ n. n.0.made) at) ∙ sym (c.1 (subst (λ (u : View). 0 < times 0 u.numbers) (sym (ap (λ n. n.0) at)) (has_first (view p) p.rests first)))
 
 pub into_value-requires-clause-whole : goal.into_value-requires-clause-whole
-into_value-requires-clause-whole g c = let is = parted c.args.passes.items c.remove.new.self.items c.remove.result c.requires.few.0 c.remove.ensures.value c.remove.ensures.items in
+into_value-requires-clause-whole g c =
+    let is = parted c.args.passes.items c.remove.new.self.items c.remove.result c.requires.few.0 c.remove.ensures.value c.remove.ensures.items in
     (gathered c.args.passes.items c.remove.result c.remove.new.self.items c.into_seat-seat.result.me c.count-made.new.seat.me c.count-made.result c.gather.new.seat.me.0 is c.requires.first c.into_seat-seat.ensures.1
     c.count-made.ensures.counts (search rules) c.gather.ensures.gathers).whole
 
 pub returns-clause-closes : goal.returns-clause-closes
-returns-clause-closes g c = let is = parted c.args.passes.items c.remove.new.self.items c.remove.result c.requires.few.0 c.remove.ensures.value c.remove.ensures.items in
-    let all = gathered c.args.passes.items c.remove.result c.remove.new.self.items c.into_seat-seat.result.me c.count-made.new.seat.me c.count-made.result c.gather.new.seat.me.0 is c.requires.first c.into_seat-seat.ensures.1
+returns-clause-closes g c =
+    let is = parted c.args.passes.items c.remove.new.self.items c.remove.result c.requires.few.0 c.remove.ensures.value c.remove.ensures.items in
+    let all = gathered c.args.passes.items c.remove.result c.remove.new.self.items c.into_seat-seat.result.me c.count-made.new.seat.me c.count-made.result
+        c.gather.new.seat.me.0 is c.requires.first c.into_seat-seat.ensures.1
     c.count-made.ensures.counts (search rules) c.gather.ensures.gathers in
-    closes g.S.Kept.stands c.into_value.result c.args.passes.items c.remove.result c.remove.new.self.items c.gather.new.seat.me.0 is all.gathers c.into_value.ensures.stands c.into_value.ensures.each
+    closes g.S.Kept.stands c.into_value.result c.args.passes.items c.remove.result c.remove.new.self.items c.gather.new.seat.me.0 is all.gathers
+        c.into_value.ensures.stands c.into_value.ensures.each
 
 pub returns-clause-all_in : goal.returns-clause-all_in
-returns-clause-all_in g c = let is = parted c.args.passes.items c.remove.new.self.items c.remove.result c.requires.few.0 c.remove.ensures.value c.remove.ensures.items in
-    let all = gathered c.args.passes.items c.remove.result c.remove.new.self.items c.into_seat-seat.result.me c.count-made.new.seat.me c.count-made.result c.gather.new.seat.me.0 is c.requires.first c.into_seat-seat.ensures.1
+returns-clause-all_in g c =
+    let is = parted c.args.passes.items c.remove.new.self.items c.remove.result c.requires.few.0 c.remove.ensures.value c.remove.ensures.items in
+    let all = gathered c.args.passes.items c.remove.result c.remove.new.self.items c.into_seat-seat.result.me c.count-made.new.seat.me c.count-made.result
+        c.gather.new.seat.me.0 is c.requires.first c.into_seat-seat.ensures.1
     c.count-made.ensures.counts (search rules) c.gather.ensures.gathers in
     ap (λ ps. (first_view ps).made) is ∙ all.made
 
 pub returns-clause-kind : goal.returns-clause-kind
-returns-clause-kind g c = let is = parted c.args.passes.items c.remove.new.self.items c.remove.result c.requires.few.0 c.remove.ensures.value c.remove.ensures.items in
-    let all = gathered c.args.passes.items c.remove.result c.remove.new.self.items c.into_seat-seat.result.me c.count-made.new.seat.me c.count-made.result c.gather.new.seat.me.0 is c.requires.first c.into_seat-seat.ensures.1
+returns-clause-kind g c =
+    let is = parted c.args.passes.items c.remove.new.self.items c.remove.result c.requires.few.0 c.remove.ensures.value c.remove.ensures.items in
+    let all = gathered c.args.passes.items c.remove.result c.remove.new.self.items c.into_seat-seat.result.me c.count-made.new.seat.me c.count-made.result
+        c.gather.new.seat.me.0 is c.requires.first c.into_seat-seat.ensures.1
     c.count-made.ensures.counts (search rules) c.gather.ensures.gathers in
     c.into_value.ensures.kind ∙ (all.gathers.same_kind ∙ ap (λ ps. (first_view ps).kind) (sym is))
