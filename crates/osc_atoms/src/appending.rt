@@ -1,4 +1,5 @@
 // Atoms, appended to a vector.
+ghost use Rattle.osc_atoms.specs.declared.limits.TheConstants.{MAX_BYTES};
 ghost use Rattle.std.specs.Prelude.{◌≡◌, ◌+◌, ◌++◌, ◌≤◌, length, replicate, IsTrue, IsOk, OnOk, OnErr};
 ghost use Rattle.std.specs.Vec.{vec_len, vec_capacity};
 ghost use Rattle.osc_atoms.specs.Atoms;
@@ -43,7 +44,7 @@ pub fn put_string(out: &mut Vec<u8>, text: &[u8]) -> Result<(), AllocError>
 
 /// Appends the blob of some bytes, whole or not at all.
 pub fn put_blob(out: &mut Vec<u8>, blob: &[u8]) -> Result<(), AllocError>
-    requires { length blob.now ≤ 1073741824 }
+    requires { length blob.now ≤ MAX_BYTES }
     ensures ok { OnOk result (out.new.items ≡ out.old.items ++ Atoms.blob blob.now) }
     ensures err { OnErr result (out.new.items ≡ out.old.items) }
     ensures succeeds { vec_len out.old + length (Atoms.blob blob.now) ≤ vec_capacity out.old → IsOk result }
@@ -84,7 +85,7 @@ pub fn append_string(out: &mut Vec<u8>, text: &[u8])
 
 /// Appends the blob of some bytes, for which there is room.
 pub fn append_blob(out: &mut Vec<u8>, blob: &[u8])
-    requires counted { length blob.now ≤ 1073741824 }
+    requires counted { length blob.now ≤ MAX_BYTES }
     requires room { vec_len out.old + length (Atoms.blob blob.now) ≤ vec_capacity out.old }
     ensures out { out.new.items ≡ out.old.items ++ Atoms.blob blob.now }
     ensures capacity { vec_capacity out.old ≤ vec_capacity out.new }

@@ -1,4 +1,5 @@
 // Blobs, read.
+ghost use Rattle.osc_atoms.specs.declared.limits.TheConstants.{MAX_BYTES};
 ghost use Rattle.std.specs.Prelude.{◌≡◌, ◌+◌, ◌%◌, ◌<◌, ◌≤◌, ℕ, List, length, IfOk, IfErr, IsOkAnd, IsTrue, is_ok, Ok};
 ghost use Rattle.std.specs.Result.{result_map_both};
 ghost use Rattle.osc_atoms.specs.declared.fault.Fault.{Fault};
@@ -16,7 +17,7 @@ pub fn blob_at(bytes: &[u8], at: u32) -> Result<(&[u8], u32), Fault>
     requires whole { length bytes.now % 4 ≡ 0 }
     requires aligned { at % 4 ≡ 0 }
     requires inside { at ≤ length bytes.now }
-    requires small { length bytes.now ≤ 1073741824 }
+    requires small { length bytes.now ≤ MAX_BYTES }
     ensures read { result_map_both (λ x. (x.0.now, x.1)) (λ fault. fault) result ≡ blob_read bytes.now at }
     ensures ok { IfOk result (λ x. StartsWithBlob bytes.now at x.0.now × (x.1 ≡ at + length (blob x.0.now))) }
     ensures next { IfOk result (λ x. (at < x.1) × (x.1 ≤ length bytes.now) × (x.1 % 4 ≡ 0)) }
@@ -34,7 +35,7 @@ pub fn known_blob_at(bytes: &[u8], at: u32) -> (&[u8], u32)
     requires aligned { at % 4 ≡ 0 }
     requires known { IsTrue (is_ok (blob_read bytes.now at)) }
     requires inside { at ≤ length bytes.now }
-    requires small { length bytes.now ≤ 1073741824 }
+    requires small { length bytes.now ≤ MAX_BYTES }
     ensures read { Ok (result.0.now, result.1) ≡ blob_read bytes.now at }
     ensures next { (at < result.1) × (result.1 ≤ length bytes.now) × (result.1 % 4 ≡ 0) }
 {
@@ -48,7 +49,7 @@ fn read_blob(bytes: &[u8], at: u32) -> Result<(&[u8], u32), Fault>
     requires whole { length bytes.now % 4 ≡ 0 }
     requires aligned { at % 4 ≡ 0 }
     requires inside { at ≤ length bytes.now }
-    requires small { length bytes.now ≤ 1073741824 }
+    requires small { length bytes.now ≤ MAX_BYTES }
     ensures { result_map_both (λ x. (x.0.now, x.1)) (λ fault. fault) result ≡ blob_read bytes.now at }
 {
     let (count, _) = word_at(bytes, at)?;
@@ -58,7 +59,7 @@ fn read_blob(bytes: &[u8], at: u32) -> Result<(&[u8], u32), Fault>
 /// The bytes after the count at `at`.
 fn read_content(bytes: &[u8], at: u32, count: u32) -> Result<(&[u8], u32), Fault>
     requires inside { at + 4 ≤ length bytes.now }
-    requires small { length bytes.now ≤ 1073741824 }
+    requires small { length bytes.now ≤ MAX_BYTES }
     ensures { result_map_both (λ x. (x.0.now, x.1)) (λ fault. fault) result ≡ content_read bytes.now at count }
 {
     let rest = &bytes[at as usize + 4..];

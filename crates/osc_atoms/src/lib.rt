@@ -5,6 +5,7 @@ mod appending;
 mod blob;
 mod fault;
 pub mod laws;
+mod limits;
 mod number;
 mod padding;
 mod room;
@@ -17,6 +18,7 @@ pub use appending::{
 };
 pub use blob::{blob_at, known_blob_at};
 pub use fault::Fault;
+pub use limits::MAX_BYTES;
 pub use number::{known_tag_at, known_word_at, tag_at, word_at};
 pub use room::Room;
 pub use sizes::{blob_size, string_size};

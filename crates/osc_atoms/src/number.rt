@@ -1,4 +1,5 @@
 // Words and time tags, read.
+ghost use Rattle.osc_atoms.specs.declared.limits.TheConstants.{MAX_BYTES};
 ghost use Rattle.std.specs.Prelude.{◌≡◌, ◌+◌, ◌%◌, ◌<◌, ◌≤◌, ℕ, length, take, IfOk, IfErr, IsTrue, is_ok, Ok};
 ghost use Rattle.std.specs.Int.{w32, w64, from_be_bytes};
 ghost use Rattle.osc_atoms.specs.declared.fault.Fault.{Fault};
@@ -12,7 +13,7 @@ pub fn word_at(bytes: &[u8], at: u32) -> Result<(u32, u32), Fault>
     requires whole { length bytes.now % 4 ≡ 0 }
     requires aligned { at % 4 ≡ 0 }
     requires inside { at ≤ length bytes.now }
-    requires small { length bytes.now ≤ 1073741824 }
+    requires small { length bytes.now ≤ MAX_BYTES }
     ensures read { result ≡ word_read bytes.now at }
     ensures ok { IfOk result (λ x. StartsWithWord bytes.now at x.0 × (x.1 ≡ at + 4)) }
     ensures next { IfOk result (λ x. (at < x.1) × (x.1 ≤ length bytes.now) × (x.1 % 4 ≡ 0)) }
@@ -36,7 +37,7 @@ pub fn known_word_at(bytes: &[u8], at: u32) -> (u32, u32)
     requires aligned { at % 4 ≡ 0 }
     requires inside { at ≤ length bytes.now }
     requires known { IsTrue (is_ok (word_read bytes.now at)) }
-    requires small { length bytes.now ≤ 1073741824 }
+    requires small { length bytes.now ≤ MAX_BYTES }
     ensures read { Ok result ≡ word_read bytes.now at }
     ensures next { (at < result.1) × (result.1 ≤ length bytes.now) × (result.1 % 4 ≡ 0) }
 {
@@ -48,7 +49,7 @@ pub fn tag_at(bytes: &[u8], at: u32) -> Result<(u64, u32), Fault>
     requires whole { length bytes.now % 4 ≡ 0 }
     requires aligned { at % 4 ≡ 0 }
     requires inside { at ≤ length bytes.now }
-    requires small { length bytes.now ≤ 1073741824 }
+    requires small { length bytes.now ≤ MAX_BYTES }
     ensures read { result ≡ tag_read bytes.now at }
     ensures ok { IfOk result (λ x. StartsWithTag bytes.now at x.0 × (x.1 ≡ at + 8)) }
     ensures next { IfOk result (λ x. (at < x.1) × (x.1 ≤ length bytes.now) × (x.1 % 4 ≡ 0)) }
@@ -72,7 +73,7 @@ pub fn known_tag_at(bytes: &[u8], at: u32) -> (u64, u32)
     requires aligned { at % 4 ≡ 0 }
     requires inside { at ≤ length bytes.now }
     requires known { IsTrue (is_ok (tag_read bytes.now at)) }
-    requires small { length bytes.now ≤ 1073741824 }
+    requires small { length bytes.now ≤ MAX_BYTES }
     ensures read { Ok result ≡ tag_read bytes.now at }
     ensures next { (at < result.1) × (result.1 ≤ length bytes.now) × (result.1 % 4 ≡ 0) }
 {

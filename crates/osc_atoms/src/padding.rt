@@ -1,4 +1,5 @@
 // The zero bytes that bring an atom to a multiple of 4.
+ghost use Rattle.osc_atoms.specs.declared.limits.TheConstants.{MAX_BYTES};
 ghost use Rattle.std.specs.Prelude.{◌≡◌, ◌+◌, ◌<◌, ◌≤◌, length, position};
 ghost use Rattle.osc_atoms.specs.Atoms;
 ghost use Rattle.osc_atoms.specs.Reading.{padding_read, is_other};
@@ -25,7 +26,7 @@ pub(crate) fn blob_end(size: usize) -> usize
 /// The place after `size` zero bytes from `from` on.
 pub(crate) fn skip_padding(bytes: &[u8], from: u32, size: u32) -> Result<u32, Fault>
     requires inside { from + size ≤ length bytes.now }
-    requires small { length bytes.now ≤ 1073741824 }
+    requires small { length bytes.now ≤ MAX_BYTES }
     ensures { result ≡ padding_read bytes.now from size }
 {
     let end = from + size;

@@ -1,4 +1,5 @@
 // Atoms, written over bytes.
+ghost use Rattle.osc_atoms.specs.declared.limits.TheConstants.{MAX_BYTES};
 ghost use Rattle.std.specs.Prelude.{◌≡◌, ◌+◌, ◌≤◌, length, IsTrue};
 ghost use Rattle.osc_atoms.specs.Atoms;
 ghost use Rattle.osc_atoms.specs.Atoms.{string, has_no_zero, with_atom};
@@ -36,7 +37,7 @@ pub fn write_string(out: &mut [u8], at: usize, text: &[u8]) -> usize
 
 /// Writes the blob of some bytes at `at`, and answers the place after it.
 pub fn write_blob(out: &mut [u8], at: usize, blob: &[u8]) -> usize
-    requires counted { length blob.now ≤ 1073741824 }
+    requires counted { length blob.now ≤ MAX_BYTES }
     requires fits { at + length (Atoms.blob blob.now) ≤ length out.old }
     ensures out { out.new ≡ with_atom out.old at (Atoms.blob blob.now) }
     ensures next { result ≡ at + length (Atoms.blob blob.now) }
