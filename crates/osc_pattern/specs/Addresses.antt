@@ -1,4 +1,5 @@
 -- Addresses of methods: a slash before each name.
+use Rattle.osc_pattern.specs.declared.limits.TheConstants.{MAX_ADDRESS, MAX_NAME, MAX_NAMES}
 use Rattle.std.specs.Prelude.{◌≡◌, ℕ, ◌≤◌, Bool, false, not, ◌&&◌, ◌||◌, ◌==◌, nat_le, nat_lt, nat_eq, IsTrue, List, [], ◌∷◌, ◌++◌, length, All, find, codes, Option, is_none}
 use Rattle.std.specs.List.{list_any, starts_with}
 use Rattle.osc_pattern.specs.declared.faults.AddressFault.{AddressFault}
@@ -15,18 +16,18 @@ pub record IsAddress (bytes : List ℕ) : Type 0 where
   pub slash : IsTrue (begins_with_slash bytes)
   pub named : All (λ name. 1 ≤ length name) (parts_of bytes)
   pub spelled : All (λ name. list_any is_bad_byte name ≡ false) (parts_of bytes)
-  pub names_short : All (λ name. length name ≤ 63) (parts_of bytes)
-  pub short : length bytes ≤ 255
-  pub few : length (parts_of bytes) ≤ 16
+  pub names_short : All (λ name. length name ≤ MAX_NAME) (parts_of bytes)
+  pub short : length bytes ≤ MAX_ADDRESS
+  pub few : length (parts_of bytes) ≤ MAX_NAMES
 
 -- whether the text breaks the rule that the fault names
 abbrev pub breaks : List ℕ → AddressFault → Bool
 breaks bytes NoSlash = not (begins_with_slash bytes)
 breaks bytes EmptyName = list_any (λ name. nat_lt (length name) 1) (parts_of bytes)
 breaks bytes BadByte = list_any (list_any is_bad_byte) (parts_of bytes)
-breaks bytes NameLong = list_any (λ name. nat_lt 63 (length name)) (parts_of bytes)
-breaks bytes AddressLong = nat_lt 255 (length bytes)
-breaks bytes TooManyParts = nat_lt 16 (length (parts_of bytes))
+breaks bytes NameLong = list_any (λ name. nat_lt MAX_NAME (length name)) (parts_of bytes)
+breaks bytes AddressLong = nat_lt MAX_ADDRESS (length bytes)
+breaks bytes TooManyParts = nat_lt MAX_NAMES (length (parts_of bytes))
 breaks bytes NoMemory = false
 
 -- the rules in the order in which they are tried, each over the whole text before the next

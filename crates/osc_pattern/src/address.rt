@@ -1,4 +1,5 @@
 //! Addresses of methods.
+ghost use Rattle.osc_pattern.specs.declared.limits.TheConstants.{MAX_NAME, MAX_NAMES};
 ghost use Rattle.std.specs.Prelude.{◌≡◌, ◌↔◌, IsTrue, IsOk, IfOk, IfSome, IsOkUnless, Some, nat_lt, length};
 ghost use Rattle.std.specs.List.{list_any, slice_split};
 ghost use Rattle.std.specs.Str.{bytes_eq};
@@ -12,6 +13,7 @@ ghost use Rattle.osc_pattern.specs.Addresses.{IsAddress, is_address, address_fau
 
 use crate::cut::count;
 use crate::faults::AddressFault;
+use crate::limits::{MAX_ADDRESS, MAX_NAME, MAX_NAMES};
 use std::alloc::{AllocError, Global};
 use std::cmp::Ordering;
 use std::marker::Model;
@@ -146,7 +148,7 @@ fn first_fault(bytes: &[u8]) -> Option<AddressFault>
     if has_long_name(names) {
         return Some(AddressFault::NameLong);
     }
-    if bytes.len() > 255 {
+    if bytes.len() > MAX_ADDRESS {
         return Some(AddressFault::AddressLong);
     }
     if has_many_names(names) {
@@ -170,17 +172,17 @@ fn has_bad_byte(names: &[u8]) -> bool
 }
 
 fn has_long_name(names: &[u8]) -> bool
-    ensures { result ≡ list_any (λ name. nat_lt 63 (length name)) (slice_split is_slash names.now) }
+    ensures { result ≡ list_any (λ name. nat_lt MAX_NAME (length name)) (slice_split is_slash names.now) }
 {
     names
         .split(|byte| *byte == b'/')
-        .any(|name| name.len() > 63)
+        .any(|name| name.len() > MAX_NAME)
 }
 
 fn has_many_names(names: &[u8]) -> bool
-    ensures { result ≡ nat_lt 16 (length (slice_split is_slash names.now)) }
+    ensures { result ≡ nat_lt MAX_NAMES (length (slice_split is_slash names.now)) }
 {
-    count(names, b'/') >= 16
+    count(names, b'/') >= MAX_NAMES
 }
 
 fn is_bad_name(name: &[u8]) -> bool

@@ -1,4 +1,5 @@
 //! The faults of a pattern, in the order in which they are tried.
+ghost use Rattle.osc_pattern.specs.declared.limits.TheConstants.{MAX_PATTERN};
 ghost use Rattle.std.specs.Prelude.{◌≡◌, ◌≤◌, ◌<◌, length, position, IfSome};
 ghost use Rattle.std.specs.List.{slice_split};
 ghost use Rattle.std.specs.Result.{result_err};
@@ -12,7 +13,7 @@ use crate::item::first_item;
 
 /// The first fault of a pattern.
 pub(crate) fn first_fault(bytes: &[u8]) -> Option<PatternFault>
-    requires { length bytes.now ≤ 1073741824 }
+    requires { length bytes.now ≤ MAX_PATTERN }
     ensures { result ≡ pattern_fault bytes.now }
 {
     let [b'/', parts @ ..] = bytes else {
@@ -52,7 +53,7 @@ fn is_outside(byte: u8) -> bool
 
 /// The place of the first bracket that isn't closed, counted from the slash before the first part.
 fn first_open(parts: &[u8]) -> Option<usize>
-    requires { length parts.now ≤ 1073741824 }
+    requires { length parts.now ≤ MAX_PATTERN }
     ensures value { result ≡ open_place (slice_split is_slash parts.now) }
     ensures within { IfSome result (λ at. at ≤ length parts.now) }
 {

@@ -7,6 +7,7 @@ mod cut;
 mod faults;
 mod item;
 pub mod laws;
+mod limits;
 mod matcher;
 mod pattern;
 mod places;
@@ -14,5 +15,6 @@ mod steps;
 
 pub use address::Address;
 pub use faults::{AddressFault, PatternFault};
+pub use limits::{MAX_ADDRESS, MAX_NAME, MAX_NAMES, MAX_PATTERN};
 pub use pattern::Pattern;
 pub use steps::Steps;

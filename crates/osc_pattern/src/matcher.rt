@@ -1,4 +1,5 @@
 //! The matcher. It takes one item of a part after another, and keeps the places of the name that they reach.
+ghost use Rattle.osc_pattern.specs.declared.limits.TheConstants.{MAX_NAME};
 ghost use Rattle.std.specs.Prelude.{◌≡◌, ◌≤◌, ◌<◌, ◌+◌, ◌*◌, ◌||◌, ℕ, Bool, IsTrue, List, length, take, drop};
 ghost use Rattle.std.specs.List.{flat_map, list_any, slice_split};
 ghost use Rattle.std.specs.Str.{bytes_eq};
@@ -17,7 +18,7 @@ use std::sync::ledger::Ledger;
 ///
 /// Until the first star or choice there is one place, so it goes on in both together.
 pub(crate) fn match_part<L: Ledger>(part: &[u8], name: &[u8], steps: &mut Steps<L>) -> bool
-    requires { length name.now ≤ 63 }
+    requires { length name.now ≤ MAX_NAME }
     ensures value { result ≡ match_part part.now name.now }
     ensures begun { steps.old < steps.new }
     ensures bounded { steps.new ≤ steps.old + (length name.now + 1) * length part.now + 1 }
@@ -47,7 +48,7 @@ pub(crate) fn match_part<L: Ledger>(part: &[u8], name: &[u8], steps: &mut Steps<
 
 /// Whether a part matches a name, by the places that its items reach.
 fn match_places<L: Ledger>(part: &[u8], name: &[u8], steps: &mut Steps<L>) -> bool
-    requires { length name.now ≤ 63 }
+    requires { length name.now ≤ MAX_NAME }
     ensures value { result ≡ match_part part.now name.now }
     ensures counted { steps.old ≤ steps.new }
     ensures bounded { steps.new ≤ steps.old + (length name.now + 1) * length part.now }
@@ -69,7 +70,7 @@ fn places_after<L: Ledger>(
     name: &[u8],
     steps: &mut Steps<L>,
 ) -> Places
-    requires { length name.now ≤ 63 }
+    requires { length name.now ≤ MAX_NAME }
     ensures value { (test : List ℕ → Bool) → any_rest test (is_place_of result) 0 name.now
         ≡ any_rest (λ rest. list_any test (after_item (item_of item.entry) rest)) (is_place_of reached.now) 0 name.now }
     ensures counted { steps.old ≤ steps.new }
@@ -89,7 +90,7 @@ fn after_byte<L: Ledger>(
     name: &[u8],
     steps: &mut Steps<L>,
 ) -> Places
-    requires { length name.now ≤ 63 }
+    requires { length name.now ≤ MAX_NAME }
     ensures value { (test : List ℕ → Bool) → any_rest test (is_place_of result) 0 name.now
         ≡ any_rest (λ rest. list_any test (after_byte (item_of item.entry) rest)) (is_place_of reached.now) 0 name.now }
     ensures counted { steps.old ≤ steps.new }
@@ -113,7 +114,7 @@ fn after_byte<L: Ledger>(
 
 /// The first of the places, and all after it.
 fn after_star<L: Ledger>(reached: &Places, name: &[u8], steps: &mut Steps<L>) -> Places
-    requires { length name.now ≤ 63 }
+    requires { length name.now ≤ MAX_NAME }
     ensures value { (test : List ℕ → Bool) → any_rest test (is_place_of result) 0 name.now
         ≡ any_rest (λ rest. list_any test (rests rest)) (is_place_of reached.now) 0 name.now }
     ensures counted { steps.old ≤ steps.new }
@@ -144,7 +145,7 @@ fn after_choice<L: Ledger>(
     name: &[u8],
     steps: &mut Steps<L>,
 ) -> Places
-    requires { length name.now ≤ 63 }
+    requires { length name.now ≤ MAX_NAME }
     ensures value { (test : List ℕ → Bool) → any_rest test (is_place_of result) 0 name.now
         ≡ any_rest (λ rest. list_any test (flat_map (after_text rest) (slice_split is_comma texts.now))) (is_place_of reached.now) 0 name.now }
     ensures counted { steps.old ≤ steps.new }
@@ -174,7 +175,7 @@ fn add_texts<L: Ledger>(
     next: &mut Places,
     steps: &mut Steps<L>,
 )
-    requires name { length name.now ≤ 63 }
+    requires name { length name.now ≤ MAX_NAME }
     requires place { place ≤ length name.now }
     ensures value { (test : List ℕ → Bool) → any_rest test (is_place_of next.new) 0 name.now
         ≡ (any_rest test (is_place_of next.old) 0 name.now || list_any test (flat_map (after_text (drop place name.now)) (slice_split is_comma texts.now))) }

@@ -1,4 +1,5 @@
 //! Patterns.
+ghost use Rattle.osc_pattern.specs.declared.limits.TheConstants.{MAX_NAME, MAX_PATTERN};
 ghost use Rattle.std.specs.Prelude.{◌≡◌, ◌≤◌, ◌<◌, ◌+◌, ◌*◌, ◌↔◌, ℕ, length, count_by, nat_lt, false, IsTrue, IsOk, IfOk, IfErr, Err, slice_get, unwrap_or, is_ok, []};
 ghost use Rattle.std.specs.List.{list_any, slice_split};
 ghost use Rattle.std.specs.Result.{result_err};
@@ -26,6 +27,7 @@ pub struct Pattern<'a> {
 }
 
 impl<'a> Model for Pattern<'a> {
+    ghost use Rattle.osc_pattern.specs.declared.limits.TheConstants.{MAX_PATTERN};
     ghost use Rattle.std.specs.Prelude.{ℕ, ◌≤◌, List, length, IsTrue};
     ghost use Rattle.osc_pattern.specs.Patterns.{is_pattern};
 
@@ -33,7 +35,7 @@ impl<'a> Model for Pattern<'a> {
 
     ghost view = { λ p. p.bytes.now };
 
-    ghost invariant = { λ p. IsTrue (is_pattern p.bytes.now) × (length p.bytes.now ≤ 1073741824) };
+    ghost invariant = { λ p. IsTrue (is_pattern p.bytes.now) × (length p.bytes.now ≤ MAX_PATTERN) };
 }
 
 impl<'a> Pattern<'a> {
@@ -42,7 +44,7 @@ impl<'a> Pattern<'a> {
     /// The faults are tried in this order, each over the whole text before the next: no `/` first, a byte out of
     /// range, a bracket that isn't closed.
     pub fn check(bytes: &'a [u8]) -> Result<Pattern<'a>, PatternFault>
-        requires { length bytes.now ≤ 1073741824 }
+        requires { length bytes.now ≤ MAX_PATTERN }
         ensures ok { IfOk result (λ pattern. pattern ≡ bytes.now) }
         ensures exact { IsOk result ↔ IsPattern bytes.now }
         ensures test { is_ok result ≡ is_pattern bytes.now }
@@ -61,7 +63,7 @@ impl<'a> Pattern<'a> {
     /// The pattern that the bytes were checked to be. Looks at none of them.
     pub fn known(bytes: &'a [u8]) -> Pattern<'a>
         requires test { IsTrue (is_pattern bytes.now) }
-        requires small { length bytes.now ≤ 1073741824 }
+        requires small { length bytes.now ≤ MAX_PATTERN }
         ensures { result ≡ bytes.now }
     {
         Pattern { bytes }
@@ -73,7 +75,7 @@ impl<'a> Pattern<'a> {
         ensures value { result.now ≡ self.now }
         ensures lawful { IsPattern result.now }
         ensures test { IsTrue (is_pattern result.now) }
-        ensures short { length result.now ≤ 1073741824 }
+        ensures short { length result.now ≤ MAX_PATTERN }
     {
         self.bytes
     }
@@ -93,7 +95,7 @@ impl<'a> Pattern<'a> {
     #[tactic(auto, using(crate::proofs::PatternLaws::laws))]
     pub fn matches_part<L: Ledger>(&self, part: u32, name: &[u8], steps: &mut Steps<L>) -> bool
         requires part { part < length (parts_of self.now) }
-        requires name { length name.now ≤ 63 }
+        requires name { length name.now ≤ MAX_NAME }
         ensures exact { IsTrue result ↔ MatchesName (part_at self.now part) name.now }
         ensures test { result ≡ match_part (part_at self.now part) name.now }
         ensures counted { steps.old ≤ steps.new }
@@ -150,7 +152,7 @@ fn nth_part(parts: &[u8], place: u32) -> &[u8]
 
 /// Whether there are as many parts as names, and each part matches the name at its place.
 fn match_parts<L: Ledger>(parts: &[u8], names: &[u8], steps: &mut Steps<L>) -> bool
-    requires { list_any (λ name. nat_lt 63 (length name)) (slice_split is_slash names.now) ≡ false }
+    requires { list_any (λ name. nat_lt MAX_NAME (length name)) (slice_split is_slash names.now) ≡ false }
     ensures value { result ≡ match_parts (slice_split is_slash parts.now) (slice_split is_slash names.now) }
     ensures counted { steps.old ≤ steps.new }
     ensures bounded { steps.new ≤ steps.old + 64 * (length parts.now + 1) }

@@ -1,0 +1,13 @@
+//! The limits of patterns and addresses.
+
+/// The most bytes of a pattern, 1 GiB.
+pub const MAX_PATTERN: usize = 1_073_741_824;
+
+/// The most bytes of a name.
+pub const MAX_NAME: usize = 63;
+
+/// The most bytes of an address.
+pub const MAX_ADDRESS: usize = 255;
+
+/// The most names of an address.
+pub const MAX_NAMES: usize = 16;
