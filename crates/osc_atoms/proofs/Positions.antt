@@ -25,16 +25,19 @@ pub record CutAt (p : ℕ → Bool) (xs : List ℕ) (k : ℕ) : Type 0 where
 pub cut : (p : ℕ → Bool) (xs : List ℕ) → position_or_len p xs < length xs → CutAt p xs (position_or_len p xs)
 cut p [] lt = absurd (omega arith)
 cut p (x ∷ xs) lt = go (p x) refl lt (cut p xs) where
-  go : (t : Bool) → p x ≡ t → cond (not t) (1 + position_or_len p xs) 0 < suc (length xs) → (position_or_len p xs < length xs → CutAt p xs (position_or_len p xs)) → CutAt p (x ∷ xs) (cond (not t) (1 + position_or_len p xs) 0)
+  go : (t : Bool) → p x ≡ t → cond (not t) (1 + position_or_len p xs) 0 < suc (length xs)
+      → (position_or_len p xs < length xs → CutAt p xs (position_or_len p xs)) → CutAt p (x ∷ xs) (cond (not t) (1 + position_or_len p xs) 0)
   go true e lt more = record { front = []; item = x; back = xs; parts = refl; size = refl; before = refl; here = e }
   go false e lt more =
       let rest = more (omega arith) in
-      record { front = x ∷ rest.front; item = rest.item; back = rest.back; parts = ap (λ (l : List ℕ). x ∷ l) rest.parts; size = omega (arith, rest.size); before = rw e rest.before; here = rest.here }
+      record { front = x ∷ rest.front; item = rest.item; back = rest.back; parts = ap (λ (l : List ℕ). x ∷ l) rest.parts; size = omega (arith, rest.size);
+          before = rw e rest.before; here = rest.here }
 
 pub place_behind : (p : ℕ → Bool) (xs ys : List ℕ) → fails_on p xs ≡ true → position_or_len p (xs ++ ys) ≡ length xs + position_or_len p ys
 place_behind p [] ys none = omega arith
 place_behind p (x ∷ xs) ys none = go (p x) refl none (place_behind p xs ys) where
-  go : (t : Bool) → p x ≡ t → (not t && fails_on p xs) ≡ true → (fails_on p xs ≡ true → position_or_len p (xs ++ ys) ≡ length xs + position_or_len p ys) → cond (not t) (1 + position_or_len p (xs ++ ys)) 0 ≡ suc (length xs) + position_or_len p ys
+  go : (t : Bool) → p x ≡ t → (not t && fails_on p xs) ≡ true → (fails_on p xs ≡ true → position_or_len p (xs ++ ys) ≡ length xs + position_or_len p ys)
+      → cond (not t) (1 + position_or_len p (xs ++ ys)) 0 ≡ suc (length xs) + position_or_len p ys
   go true e none more = absurd (cc)
   go false e none more = omega (arith, more none)
 
@@ -68,7 +71,8 @@ no_later a n is = grind (arith, nat_tests)
 pub not_found : (p : ℕ → Bool) (xs : List ℕ) → position p xs ≡ None → fails_on p xs ≡ true
 not_found p [] is = refl
 not_found p (x ∷ xs) is = go (p x) refl is (not_found p xs) where
-  go : (t : Bool) → p x ≡ t → cond (ltb (cond (not t) (1 + position_or_len p xs) 0) (suc (length xs))) (Some (cond (not t) (1 + position_or_len p xs) 0)) None ≡ None → (position p xs ≡ None → fails_on p xs ≡ true) → (not t && fails_on p xs) ≡ true
+  go : (t : Bool) → p x ≡ t → cond (ltb (cond (not t) (1 + position_or_len p xs) 0) (suc (length xs))) (Some (cond (not t) (1 + position_or_len p xs) 0)) None
+      ≡ None → (position p xs ≡ None → fails_on p xs ≡ true) → (not t && fails_on p xs) ≡ true
   go true e is more = absurd (not_first (length xs) is)
   go false e is more = more (no_later (position_or_len p xs) (length xs) is)
 

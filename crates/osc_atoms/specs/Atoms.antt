@@ -1,4 +1,5 @@
--- Atoms: what stands in the bytes of a packet, written. Every atom has a size that is a multiple of 4.
+-- Atoms: what stands in the bytes of a packet, written. Every atom has a size that is a multiple of
+-- 4.
 use Rattle.std.specs.Prelude.{ℕ, ◌+◌, ◌-◌, ◌%◌, ◌<◌, Bool, not, ◌==◌, List, ◌++◌, length, slice_index, take, drop, replicate}
 use Rattle.std.specs.List.{list_all}
 use Rattle.std.specs.Int.{w32, w64, to_be_bytes}
@@ -15,7 +16,8 @@ word number = to_be_bytes w32 number
 abbrev pub tag : ℕ → List ℕ
 tag number = to_be_bytes w64 number
 
--- how many zero bytes end a string of so many bytes: one, and then the fewest that reach a multiple of 4
+-- how many zero bytes end a string of so many bytes: one, and then the fewest that reach a multiple
+-- of 4
 abbrev pub string_end : ℕ → ℕ
 string_end size = 4 - size % 4
 

@@ -1,4 +1,5 @@
--- Atoms, read: the value at a place and the place after the atom, or the first fault. `laws` ties them to what is written.
+-- Atoms, read: the value at a place and the place after the atom, or the first fault. `laws` ties
+-- them to what is written.
 use Rattle.std.specs.Prelude.{ℕ, ◌+◌, ◌-◌, ◌^◌, Bool, not, ◌&&◌, ◌==◌, nat_lt, nat_le, if◌then◌else◌, List, length, take, drop, Option, Some, None, position, Result, Ok, Err}
 use Rattle.std.specs.Int.{w32, w64, from_be_bytes}
 use Rattle.osc_atoms.specs.declared.fault.Fault.{Fault}
@@ -12,11 +13,13 @@ and_then (Err fault) next = Err fault
 
 -- four bytes, big-endian
 abbrev pub word_read : List ℕ → ℕ → Result (ℕ × ℕ) Fault
-word_read bytes at = if nat_le (at + 4) (length bytes) then Ok (from_be_bytes w32 (take 4 (drop at bytes)), at + 4) else Err (short at)
+word_read bytes at = if nat_le (at + 4) (length bytes)
+    then Ok (from_be_bytes w32 (take 4 (drop at bytes)), at + 4) else Err (short at)
 
 -- eight bytes, big-endian
 abbrev pub tag_read : List ℕ → ℕ → Result (ℕ × ℕ) Fault
-tag_read bytes at = if nat_le (at + 8) (length bytes) then Ok (from_be_bytes w64 (take 8 (drop at bytes)), at + 8) else Err (short at)
+tag_read bytes at = if nat_le (at + 8) (length bytes)
+    then Ok (from_be_bytes w64 (take 8 (drop at bytes)), at + 8) else Err (short at)
 
 -- a byte that ends a string or pads an atom
 abbrev pub is_zero : ℕ → Bool
@@ -31,14 +34,18 @@ abbrev pub past_padding : ℕ → ℕ → Option ℕ → Result ℕ Fault
 past_padding from size None = Ok (from + size)
 past_padding from size (Some other) = Err (padding (from + other))
 
--- the place after so many zero bytes from a place on, or the fault at the first other byte among them
+-- the place after so many zero bytes from a place on, or the fault at the first other byte among
+-- them
 abbrev pub padding_read : List ℕ → ℕ → ℕ → Result ℕ Fault
-padding_read bytes from size = past_padding from size (position is_other (take size (drop from bytes)))
+padding_read bytes from size =
+    past_padding from size (position is_other (take size (drop from bytes)))
 
 -- how long the text is, if a zero byte ends it
 abbrev pub text_read : List ℕ → ℕ → Option ℕ → Result (List ℕ × ℕ) Fault
 text_read bytes at None = Err (unterminated at)
-text_read bytes at (Some size) = and_then (padding_read bytes (at + size) (string_end size)) (λ next. Ok (take size (drop at bytes), next))
+text_read bytes at (Some size) =
+    and_then (padding_read bytes (at + size) (string_end size))
+    (λ next. Ok (take size (drop at bytes), next))
 
 -- the text before the first zero byte from a place on, and its end
 abbrev pub string_read : List ℕ → ℕ → Result (List ℕ × ℕ) Fault
@@ -47,7 +54,9 @@ string_read bytes at = text_read bytes at (position is_zero (drop at bytes))
 -- the bytes after their count, and their padding
 abbrev pub content_read : List ℕ → ℕ → ℕ → Result (List ℕ × ℕ) Fault
 content_read bytes at count =
-    if nat_lt count (2 ^ 31) && nat_le (count + blob_end count) (length bytes - (at + 4)) then and_then (padding_read bytes (at + 4 + count) (blob_end count)) (λ next. Ok (take count (drop (at + 4) bytes), next)) else Err (blob_size at)
+    if nat_lt count (2 ^ 31) && nat_le (count + blob_end count) (length bytes - (at + 4))
+        then and_then (padding_read bytes (at + 4 + count) (blob_end count))
+        (λ next. Ok (take count (drop (at + 4) bytes), next)) else Err (blob_size at)
 
 -- a count, so many bytes, and their padding
 abbrev pub blob_read : List ℕ → ℕ → Result (List ℕ × ℕ) Fault

@@ -54,9 +54,11 @@ pub record NamesStringPadding (bytes : List ℕ) (at : ℕ) (fault : Fault) : Ty
 
 -- the first fault of a string at the place
 abbrev pub NamesStringFault : List ℕ → ℕ → Fault → Type 0
-NamesStringFault bytes at fault = NamesUnterminated bytes at fault ⊎ NamesStringPadding bytes at fault
+NamesStringFault bytes at fault = NamesUnterminated bytes at fault
+    ⊎ NamesStringPadding bytes at fault
 
--- a count that is negative as an int32, or whose bytes and padding are more than what is left after it
+-- a count that is negative as an int32, or whose bytes and padding are more than what is left after
+-- it
 pub record NamesBlobSize (bytes : List ℕ) (at : ℕ) (fault : Fault) : Type 0 where
   pub count : ℕ
   pub rest : List ℕ
@@ -65,7 +67,8 @@ pub record NamesBlobSize (bytes : List ℕ) (at : ℕ) (fault : Fault) : Type 0 
   pub beyond : (2 ^ 31 ≤ count) ⊎ (length rest < count + blob_end count)
   pub named : fault ≡ blob_size at
 
--- a count whose bytes and padding are left, the bytes, fewer zero bytes than pad them, and a byte that isn't zero
+-- a count whose bytes and padding are left, the bytes, fewer zero bytes than pad them, and a byte
+-- that isn't zero
 pub record NamesBlobPadding (bytes : List ℕ) (at : ℕ) (fault : Fault) : Type 0 where
   pub content : List ℕ
   pub zeros : ℕ
@@ -74,9 +77,11 @@ pub record NamesBlobPadding (bytes : List ℕ) (at : ℕ) (fault : Fault) : Type
   pub fits : length content < 2 ^ 31
   pub within : zeros < blob_end (length content)
   pub other : byte ≢ 0
-  pub parts : drop at bytes ≡ word (length content) ++ (content ++ (replicate zeros 0 ++ byte ∷ rest))
+  pub parts : drop at bytes ≡ word (length content)
+      ++ (content ++ (replicate zeros 0 ++ byte ∷ rest))
   pub named : fault ≡ padding (at + 4 + length content + zeros)
 
 -- the first fault of a blob at the place
 abbrev pub NamesBlobFault : List ℕ → ℕ → Fault → Type 0
-NamesBlobFault bytes at fault = NamesShort 4 bytes at fault ⊎ NamesBlobSize bytes at fault ⊎ NamesBlobPadding bytes at fault
+NamesBlobFault bytes at fault = NamesShort 4 bytes at fault ⊎ NamesBlobSize bytes at fault
+    ⊎ NamesBlobPadding bytes at fault

@@ -34,7 +34,8 @@ pub fn put_string(out: &mut Vec<u8>, text: &[u8]) -> Result<(), AllocError>
     requires { IsTrue (has_no_zero text.now) }
     ensures ok { OnOk result (out.new.items ≡ out.old.items ++ string text.now) }
     ensures err { OnErr result (out.new.items ≡ out.old.items) }
-    ensures succeeds { vec_len out.old + length (string text.now) ≤ vec_capacity out.old → IsOk result }
+    ensures succeeds { vec_len out.old + length (string text.now) ≤ vec_capacity out.old
+        → IsOk result }
     ensures capacity { vec_capacity out.old ≤ vec_capacity out.new }
 {
     out.reserve(text.len() + string_end(text.len()))?;
@@ -47,7 +48,8 @@ pub fn put_blob(out: &mut Vec<u8>, blob: &[u8]) -> Result<(), AllocError>
     requires { length blob.now ≤ MAX_BYTES }
     ensures ok { OnOk result (out.new.items ≡ out.old.items ++ Atoms.blob blob.now) }
     ensures err { OnErr result (out.new.items ≡ out.old.items) }
-    ensures succeeds { vec_len out.old + length (Atoms.blob blob.now) ≤ vec_capacity out.old → IsOk result }
+    ensures succeeds { vec_len out.old + length (Atoms.blob blob.now) ≤ vec_capacity out.old
+        → IsOk result }
     ensures capacity { vec_capacity out.old ≤ vec_capacity out.new }
 {
     out.reserve(blob_size(blob.len()))?;

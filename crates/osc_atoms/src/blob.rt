@@ -18,10 +18,13 @@ pub fn blob_at(bytes: &[u8], at: u32) -> Result<(&[u8], u32), Fault>
     requires aligned { at % 4 ≡ 0 }
     requires inside { at ≤ length bytes.now }
     requires small { length bytes.now ≤ MAX_BYTES }
-    ensures read { result_map_both (λ x. (x.0.now, x.1)) (λ fault. fault) result ≡ blob_read bytes.now at }
-    ensures ok { IfOk result (λ x. StartsWithBlob bytes.now at x.0.now × (x.1 ≡ at + length (blob x.0.now))) }
+    ensures read { result_map_both (λ x. (x.0.now, x.1)) (λ fault. fault) result
+        ≡ blob_read bytes.now at }
+    ensures ok { IfOk result
+        (λ x. StartsWithBlob bytes.now at x.0.now × (x.1 ≡ at + length (blob x.0.now))) }
     ensures next { IfOk result (λ x. (at < x.1) × (x.1 ≤ length bytes.now) × (x.1 % 4 ≡ 0)) }
-    ensures complete { (content : List ℕ) → StartsWithBlob bytes.now at content → IsOkAnd result (λ x. (x.0.now ≡ content) × (x.1 ≡ at + length (blob content))) }
+    ensures complete { (content : List ℕ) → StartsWithBlob bytes.now at content
+        → IsOkAnd result (λ x. (x.0.now ≡ content) × (x.1 ≡ at + length (blob content))) }
     // A missing count goes before a bad one, and that before a bad padding byte.
     ensures fault { IfErr result (λ fault. NamesBlobFault bytes.now at fault) }
     ensures exact { (fault : Fault) → NamesBlobFault bytes.now at fault → result ≡ Err fault }
@@ -50,7 +53,8 @@ fn read_blob(bytes: &[u8], at: u32) -> Result<(&[u8], u32), Fault>
     requires aligned { at % 4 ≡ 0 }
     requires inside { at ≤ length bytes.now }
     requires small { length bytes.now ≤ MAX_BYTES }
-    ensures { result_map_both (λ x. (x.0.now, x.1)) (λ fault. fault) result ≡ blob_read bytes.now at }
+    ensures { result_map_both (λ x. (x.0.now, x.1)) (λ fault. fault) result
+        ≡ blob_read bytes.now at }
 {
     let (count, _) = word_at(bytes, at)?;
     read_content(bytes, at, count)
@@ -60,7 +64,8 @@ fn read_blob(bytes: &[u8], at: u32) -> Result<(&[u8], u32), Fault>
 fn read_content(bytes: &[u8], at: u32, count: u32) -> Result<(&[u8], u32), Fault>
     requires inside { at + 4 ≤ length bytes.now }
     requires small { length bytes.now ≤ MAX_BYTES }
-    ensures { result_map_both (λ x. (x.0.now, x.1)) (λ fault. fault) result ≡ content_read bytes.now at count }
+    ensures { result_map_both (λ x. (x.0.now, x.1)) (λ fault. fault) result
+        ≡ content_read bytes.now at count }
 {
     let rest = &bytes[at as usize + 4..];
     let size = count as usize;

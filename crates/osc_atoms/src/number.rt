@@ -17,7 +17,8 @@ pub fn word_at(bytes: &[u8], at: u32) -> Result<(u32, u32), Fault>
     ensures read { result ≡ word_read bytes.now at }
     ensures ok { IfOk result (λ x. StartsWithWord bytes.now at x.0 × (x.1 ≡ at + 4)) }
     ensures next { IfOk result (λ x. (at < x.1) × (x.1 ≤ length bytes.now) × (x.1 % 4 ≡ 0)) }
-    ensures complete { (number : ℕ) → StartsWithWord bytes.now at number → result ≡ Ok (number, at + 4) }
+    ensures complete { (number : ℕ) → StartsWithWord bytes.now at number
+        → result ≡ Ok (number, at + 4) }
     ensures fault { IfErr result (λ fault. NamesShort 4 bytes.now at fault) }
     ensures exact { (fault : Fault) → NamesShort 4 bytes.now at fault → result ≡ Err fault }
 {
@@ -53,7 +54,8 @@ pub fn tag_at(bytes: &[u8], at: u32) -> Result<(u64, u32), Fault>
     ensures read { result ≡ tag_read bytes.now at }
     ensures ok { IfOk result (λ x. StartsWithTag bytes.now at x.0 × (x.1 ≡ at + 8)) }
     ensures next { IfOk result (λ x. (at < x.1) × (x.1 ≤ length bytes.now) × (x.1 % 4 ≡ 0)) }
-    ensures complete { (number : ℕ) → StartsWithTag bytes.now at number → result ≡ Ok (number, at + 8) }
+    ensures complete { (number : ℕ) → StartsWithTag bytes.now at number
+        → result ≡ Ok (number, at + 8) }
     ensures fault { IfErr result (λ fault. NamesShort 8 bytes.now at fault) }
     ensures exact { (fault : Fault) → NamesShort 8 bytes.now at fault → result ≡ Err fault }
 {

@@ -16,10 +16,13 @@ pub fn string_at(bytes: &[u8], at: u32) -> Result<(&[u8], u32), Fault>
     requires aligned { at % 4 ≡ 0 }
     requires inside { at ≤ length bytes.now }
     requires small { length bytes.now ≤ MAX_BYTES }
-    ensures read { result_map_both (λ x. (x.0.now, x.1)) (λ fault. fault) result ≡ string_read bytes.now at }
-    ensures ok { IfOk result (λ x. StartsWithString bytes.now at x.0.now × (x.1 ≡ at + length (string x.0.now))) }
+    ensures read { result_map_both (λ x. (x.0.now, x.1)) (λ fault. fault) result
+        ≡ string_read bytes.now at }
+    ensures ok { IfOk result
+        (λ x. StartsWithString bytes.now at x.0.now × (x.1 ≡ at + length (string x.0.now))) }
     ensures next { IfOk result (λ x. (at < x.1) × (x.1 ≤ length bytes.now) × (x.1 % 4 ≡ 0)) }
-    ensures complete { (text : List ℕ) → StartsWithString bytes.now at text → IsOkAnd result (λ x. (x.0.now ≡ text) × (x.1 ≡ at + length (string text))) }
+    ensures complete { (text : List ℕ) → StartsWithString bytes.now at text
+        → IsOkAnd result (λ x. (x.0.now ≡ text) × (x.1 ≡ at + length (string text))) }
     // A missing end goes before a bad padding byte.
     ensures fault { IfErr result (λ fault. NamesStringFault bytes.now at fault) }
     ensures exact { (fault : Fault) → NamesStringFault bytes.now at fault → result ≡ Err fault }
@@ -49,7 +52,8 @@ fn read_string(bytes: &[u8], at: u32) -> Result<(&[u8], u32), Fault>
     requires aligned { at % 4 ≡ 0 }
     requires inside { at ≤ length bytes.now }
     requires small { length bytes.now ≤ MAX_BYTES }
-    ensures { result_map_both (λ x. (x.0.now, x.1)) (λ fault. fault) result ≡ string_read bytes.now at }
+    ensures { result_map_both (λ x. (x.0.now, x.1)) (λ fault. fault) result
+        ≡ string_read bytes.now at }
 {
     let rest = &bytes[at as usize..];
     let Some(size) = first_zero(rest) else {

@@ -90,7 +90,8 @@ data Kind (tag : ℕ) : Type 0 where
 
 kind_of : (tag : ℕ) → is_unknown tag ≡ false → Kind tag
 kind_of tag known = go (is_word_tag tag) refl (is_long_tag tag) refl (is_text_tag tag) refl (is_blob_tag tag) refl (is_bare_tag tag) refl known where
-  go : (a : Bool) → is_word_tag tag ≡ a → (b : Bool) → is_long_tag tag ≡ b → (c : Bool) → is_text_tag tag ≡ c → (d : Bool) → is_blob_tag tag ≡ d → (e : Bool) → is_bare_tag tag ≡ e → not (a || b || c || d || e) ≡ false → Kind tag
+  go : (a : Bool) → is_word_tag tag ≡ a → (b : Bool) → is_long_tag tag ≡ b → (c : Bool) → is_text_tag tag ≡ c → (d : Bool) → is_blob_tag tag ≡ d → (e : Bool)
+      → is_bare_tag tag ≡ e → not (a || b || c || d || e) ≡ false → Kind tag
   go true p b q c r d s e t is = a_word p
   go false p true q c r d s e t is = a_long q
   go false p false q true r d s e t is = a_text r
@@ -100,7 +101,8 @@ kind_of tag known = go (is_word_tag tag) refl (is_long_tag tag) refl (is_text_ta
 
 -- every atom has a size that is a multiple of 4
 pub length-string : (bytes : List ℕ) → length (string bytes) ≡ length bytes + string_end (length bytes)
-length-string bytes = length-append bytes (replicate (string_end (length bytes)) 0) ∙ ap (λ (n : ℕ). length bytes + n) (length-replicate {A = ℕ} (string_end (length bytes)) 0)
+length-string bytes = length-append bytes (replicate (string_end (length bytes)) 0)
+    ∙ ap (λ (n : ℕ). length bytes + n) (length-replicate {A = ℕ} (string_end (length bytes)) 0)
 
 pub string_fours : (bytes : List ℕ) → length (string bytes) % 4 ≡ 0
 string_fours bytes = omega (arith, length-string bytes)
@@ -132,16 +134,19 @@ abbrev kept : {X : Type 0} → (X → Argument) → Result (X × ℕ) Fault → 
 kept make r = and_then r (λ x. Ok (make x.0, x.1))
 
 -- what stands is read
-word_case : (make : ℕ → Argument) (bytes : List ℕ) (at number : ℕ) → number < 2 ^ 32 → StartsWith bytes at (word number) → kept make (word_read bytes at) ≡ Ok (make number, at + 4)
+word_case : (make : ℕ → Argument) (bytes : List ℕ) (at number : ℕ) → number < 2 ^ 32 → StartsWith bytes at (word number)
+    → kept make (word_read bytes at) ≡ Ok (make number, at + 4)
 word_case make bytes at number fits written = ap (kept make) (word_again bytes at number (record { fits = fits; written = written }))
 
-long_case : (make : ℕ → Argument) (bytes : List ℕ) (at number : ℕ) → number < 2 ^ 64 → StartsWith bytes at (tag number) → kept make (tag_read bytes at) ≡ Ok (make number, at + 8)
+long_case : (make : ℕ → Argument) (bytes : List ℕ) (at number : ℕ) → number < 2 ^ 64 → StartsWith bytes at (tag number)
+    → kept make (tag_read bytes at) ≡ Ok (make number, at + 8)
 long_case make bytes at number fits written = ap (kept make) (tag_again bytes at number (record { fits = fits; written = written }))
 
 bare_case : (argument : Argument) (at : ℕ) → ◌≡◌ {A = Result (Argument × ℕ) Fault} (Ok (argument, at)) (Ok (argument, at + 0))
 bare_case argument at = ap (λ (n : ℕ). Ok (argument, n)) (sym (add-zero at))
 
-pub argument_again : (bytes : List ℕ) (at : ℕ) (argument : Argument) → StartsWithArgument bytes at argument → argument_read (tag_of argument) bytes at ≡ Ok (argument, at + length (atom_of argument))
+pub argument_again : (bytes : List ℕ) (at : ℕ) (argument : Argument) → StartsWithArgument bytes at argument
+    → argument_read (tag_of argument) bytes at ≡ Ok (argument, at + length (atom_of argument))
 argument_again bytes at (integer number) stands =
     word_case (λ n. integer (cast_signed w32 n)) bytes at (cast_unsigned w32 number) (Fits-lt-pow (Fits-of_z {w = w32} {z = number} stands.fits)) stands.written
     ∙ ap (λ (z : ℤ). Ok (integer z, at + 4)) (to_z-of_z w32 number stands.fits)
@@ -166,7 +171,8 @@ argument_again bytes at array_end stands = bare_case array_end at
 
 -- what doesn't stand is named
 
-pub argument_fault_again : (tag : ℕ) (bytes : List ℕ) (at : ℕ) (fault : Fault) → length (drop at bytes) % 4 ≡ 0 → NamesArgumentFault tag bytes at fault → argument_read tag bytes at ≡ Err fault
+pub argument_fault_again : (tag : ℕ) (bytes : List ℕ) (at : ℕ) (fault : Fault) → length (drop at bytes) % 4 ≡ 0 → NamesArgumentFault tag bytes at fault
+    → argument_read tag bytes at ≡ Err fault
 argument_fault_again tag bytes at fault whole (of_word is names) = go tag (word_tag tag is) where
   go : (t : ℕ) → WordTag t → argument_read t bytes at ≡ Err fault
   go t i_tag = ap (kept (λ n. integer (cast_signed w32 n))) (word_fault_again bytes at fault names)
@@ -206,24 +212,36 @@ signed_tag : (bytes : List ℕ) (at number : ℕ) → StartsWithTag bytes at num
 signed_tag bytes at number stands = subst (λ (n : ℕ). StartsWith bytes at (tag n)) (sym (of_z-to_z w64 number stands.fits)) stands.written
 
 standing_word : (t : ℕ) (bytes : List ℕ) (at number : ℕ) → WordTag t → StartsWithWord bytes at number → Standing t bytes at
-standing_word t bytes at number i_tag s = record { argument = integer (cast_signed w32 number); tagged = refl; stands = record { fits = read_sfits w32 number; written = signed_word bytes at number s } }
+standing_word t bytes at number i_tag s =
+    record {
+      argument = integer (cast_signed w32 number);
+      tagged = refl;
+      stands = record { fits = read_sfits w32 number; written = signed_word bytes at number s };
+    }
 standing_word t bytes at number f_tag s = record { argument = float number; tagged = refl; stands = record { fits = s.fits; written = s.written } }
 standing_word t bytes at number c_tag s = record { argument = character number; tagged = refl; stands = record { fits = s.fits; written = s.written } }
 standing_word t bytes at number r_tag s = record { argument = rgba number; tagged = refl; stands = record { fits = s.fits; written = s.written } }
 standing_word t bytes at number m_tag s = record { argument = midi number; tagged = refl; stands = record { fits = s.fits; written = s.written } }
 
 standing_long : (t : ℕ) (bytes : List ℕ) (at number : ℕ) → LongTag t → StartsWithTag bytes at number → Standing t bytes at
-standing_long t bytes at number h_tag s = record { argument = long (cast_signed w64 number); tagged = refl; stands = record { fits = read_sfits w64 number; written = signed_tag bytes at number s } }
+standing_long t bytes at number h_tag s =
+    record { argument = long (cast_signed w64 number); tagged = refl; stands = record { fits = read_sfits w64 number; written = signed_tag bytes at number s } }
 standing_long t bytes at number t_tag s = record { argument = time number; tagged = refl; stands = record { fits = s.fits; written = s.written } }
 standing_long t bytes at number d_tag s = record { argument = double number; tagged = refl; stands = record { fits = s.fits; written = s.written } }
 
 standing_bare : (t : ℕ) (bytes : List ℕ) (at : ℕ) → BareTag t → Standing t bytes at
-standing_bare t bytes at true_tag = record { argument = true_; tagged = refl; stands = record { fits = tt; written = record { rest = drop at bytes; parts = refl } } }
-standing_bare t bytes at false_tag = record { argument = false_; tagged = refl; stands = record { fits = tt; written = record { rest = drop at bytes; parts = refl } } }
-standing_bare t bytes at nil_tag = record { argument = nil; tagged = refl; stands = record { fits = tt; written = record { rest = drop at bytes; parts = refl } } }
-standing_bare t bytes at infinitum_tag = record { argument = infinitum; tagged = refl; stands = record { fits = tt; written = record { rest = drop at bytes; parts = refl } } }
-standing_bare t bytes at start_tag = record { argument = array_start; tagged = refl; stands = record { fits = tt; written = record { rest = drop at bytes; parts = refl } } }
-standing_bare t bytes at end_tag = record { argument = array_end; tagged = refl; stands = record { fits = tt; written = record { rest = drop at bytes; parts = refl } } }
+standing_bare t bytes at true_tag =
+    record { argument = true_; tagged = refl; stands = record { fits = tt; written = record { rest = drop at bytes; parts = refl } } }
+standing_bare t bytes at false_tag =
+    record { argument = false_; tagged = refl; stands = record { fits = tt; written = record { rest = drop at bytes; parts = refl } } }
+standing_bare t bytes at nil_tag =
+    record { argument = nil; tagged = refl; stands = record { fits = tt; written = record { rest = drop at bytes; parts = refl } } }
+standing_bare t bytes at infinitum_tag =
+    record { argument = infinitum; tagged = refl; stands = record { fits = tt; written = record { rest = drop at bytes; parts = refl } } }
+standing_bare t bytes at start_tag =
+    record { argument = array_start; tagged = refl; stands = record { fits = tt; written = record { rest = drop at bytes; parts = refl } } }
+standing_bare t bytes at end_tag =
+    record { argument = array_end; tagged = refl; stands = record { fits = tt; written = record { rest = drop at bytes; parts = refl } } }
 
 pub argument_seen : (tag : ℕ) (bytes : List ℕ) (at : ℕ) → is_unknown tag ≡ false → AreBytes bytes → length (drop at bytes) % 4 ≡ 0 → ArgumentSeen tag bytes at
 argument_seen tag bytes at known small whole = go (kind_of tag known) where
@@ -245,7 +263,12 @@ argument_seen tag bytes at known small whole = go (kind_of tag known) where
       standing_text t s_tag s stands = record { argument = text s; tagged = refl; stands = stands }
       standing_text t big_s_tag s stands = record { argument = symbol s; tagged = refl; stands = record { fits = stands.fits; written = stands.written } }
   go (a_blob is) = elim (blob_seen bytes at small whole) [
-    | inl given ↦ inl (record { argument = content given.value; tagged = sym (eqb-true tag 98 is); stands = record { fits = given.stands.fits; written = given.stands.written } })
+    | inl given ↦ inl
+        (record {
+          argument = content given.value;
+          tagged = sym (eqb-true tag 98 is);
+          stands = record { fits = given.stands.fits; written = given.stands.written };
+        })
     | inr refused ↦ inr (record { fault = refused.fault; names = of_blob is refused.names })
   ]
   go (a_bare is) = inl (standing_bare tag bytes at (bare_tag tag is))

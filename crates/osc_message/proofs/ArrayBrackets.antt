@@ -47,10 +47,16 @@ nested_off depth tag more tags turn nested front back is =
     omega (arith, closes_more tag front, opens_more tag front)
 
 balanced_onto : (depth tag more : ℕ) (tags : List ℕ) → Turn depth tag more → BalancedFrom more tags → BalancedFrom depth (tag ∷ tags)
-balanced_onto depth tag more tags turn b = record { nested = nested_onto depth tag more tags turn b.nested; even = let e = b.even in omega (arith, closes_more tag tags, opens_more tag tags) }
+balanced_onto depth tag more tags turn b =
+    record { nested = nested_onto depth tag more tags turn b.nested; even = let e = b.even in omega (arith, closes_more tag tags, opens_more tag tags) }
 
 balanced_off : (depth tag more : ℕ) (tags : List ℕ) → Turn depth tag more → BalancedFrom depth (tag ∷ tags) → BalancedFrom more tags
-balanced_off depth tag more tags turn b = record { nested = nested_off depth tag more tags turn b.nested; even = let e : closes (tag ∷ tags) ≡ depth + opens (tag ∷ tags) = b.even in omega (arith, closes_more tag tags, opens_more tag tags) }
+balanced_off depth tag more tags turn b =
+    record {
+      nested = nested_off depth tag more tags turn b.nested;
+      even = let e : closes (tag ∷ tags) ≡ depth + opens (tag ∷ tags) = b.even in
+          omega (arith, closes_more tag tags, opens_more tag tags);
+    }
 
 nested_nil : (depth : ℕ) → NestedFrom depth []
 nested_nil depth [] back is = omega arith
@@ -122,7 +128,8 @@ balanced_again depth outer (tag ∷ tags) place b = elim (onward depth outer tag
 ]
 
 -- a bracket that is open before the tags, and that they never close
-pending_again : (rest depth outer : ℕ) (tags : List ℕ) (place : ℕ) → depth ≡ rest + 1 → NestedFrom rest tags → brackets_read depth outer tags place ≡ Err (brackets outer)
+pending_again : (rest depth outer : ℕ) (tags : List ℕ) (place : ℕ) → depth ≡ rest + 1 → NestedFrom rest tags
+    → brackets_read depth outer tags place ≡ Err (brackets outer)
 pending_again rest depth outer [] place is nested = cond-false _ _ _ (ne_eqb depth 0 (λ e. omega arith))
 pending_again rest depth outer (tag ∷ tags) place is nested = elim (onward depth outer tag tags place) [
   | inl on ↦
@@ -132,26 +139,31 @@ pending_again rest depth outer (tag ∷ tags) place is nested = elim (onward dep
       let one_opens : opens (tag ∷ []) ≡ cond (tag == 91) 1 0 + 0 = opens_more tag [] in
       let some : on.more ≡ (on.more - 1) + 1 = omega arith in
       let less : Turn rest tag (on.more - 1) = omega arith in
-      on.is ∙ pending_again (on.more - 1) on.more on.out tags (place + 1) some (nested_off rest tag (on.more - 1) tags less nested) ∙ ap (λ (n : ℕ). Err (brackets n)) (on.kept (omega arith))
+      on.is ∙ pending_again (on.more - 1) on.more on.out tags (place + 1) some (nested_off rest tag (on.more - 1) tags less nested)
+      ∙ ap (λ (n : ℕ). Err (brackets n)) (on.kept (omega arith))
   | inr stray ↦ absurd (omega (arith, stray.0))
 ]
 
 none_open : (depth : ℕ) → BalancedFrom depth [] → depth ≡ 0
 none_open depth b = let e : 0 ≡ depth + 0 = b.even in omega arith
 
-stray_again : (depth outer : ℕ) (before after : List ℕ) (place : ℕ) → BalancedFrom depth before → brackets_read depth outer (before ++ 93 ∷ after) place ≡ Err (brackets (place + length before))
+stray_again : (depth outer : ℕ) (before after : List ℕ) (place : ℕ) → BalancedFrom depth before
+    → brackets_read depth outer (before ++ 93 ∷ after) place ≡ Err (brackets (place + length before))
 stray_again depth outer [] after place b = cond-true _ _ _ (eq-eqb depth 0 (none_open depth b)) ∙ ap (λ (n : ℕ). Err (brackets n)) (sym (add-zero place))
 stray_again depth outer (tag ∷ before) after place b = elim (onward depth outer tag (before ++ 93 ∷ after) place) [
-  | inl on ↦ on.is ∙ stray_again on.more on.out before after (place + 1) (balanced_off depth tag on.more before on.turn b) ∙ ap (λ (n : ℕ). Err (brackets n)) (omega arith)
+  | inl on ↦ on.is ∙ stray_again on.more on.out before after (place + 1) (balanced_off depth tag on.more before on.turn b)
+      ∙ ap (λ (n : ℕ). Err (brackets n)) (omega arith)
   | inr stray ↦ absurd (no_stray depth tag before stray.0 stray.1 b.nested)
 ]
 
-open_again : (depth outer : ℕ) (before after : List ℕ) (place : ℕ) → BalancedFrom depth before → NestedFrom 0 after → brackets_read depth outer (before ++ 91 ∷ after) place ≡ Err (brackets (place + length before))
+open_again : (depth outer : ℕ) (before after : List ℕ) (place : ℕ) → BalancedFrom depth before → NestedFrom 0 after
+    → brackets_read depth outer (before ++ 91 ∷ after) place ≡ Err (brackets (place + length before))
 open_again depth outer [] after place b nested =
     pending_again 0 (depth + 1) (cond (depth == 0) place outer) after (place + 1) (let e = none_open depth b in omega arith) nested
     ∙ ap (λ (n : ℕ). Err (brackets n)) (cond-true _ _ _ (eq-eqb depth 0 (none_open depth b)) ∙ sym (add-zero place))
 open_again depth outer (tag ∷ before) after place b nested = elim (onward depth outer tag (before ++ 91 ∷ after) place) [
-  | inl on ↦ on.is ∙ open_again on.more on.out before after (place + 1) (balanced_off depth tag on.more before on.turn b) nested ∙ ap (λ (n : ℕ). Err (brackets n)) (omega arith)
+  | inl on ↦ on.is ∙ open_again on.more on.out before after (place + 1) (balanced_off depth tag on.more before on.turn b) nested
+      ∙ ap (λ (n : ℕ). Err (brackets n)) (omega arith)
   | inr stray ↦ absurd (no_stray depth tag before stray.0 stray.1 b.nested)
 ]
 
@@ -164,8 +176,10 @@ data Seen (depth : ℕ) (tags : List ℕ) : Type 0 where
 
 seen_onto : (depth tag : ℕ) (tags : List ℕ) (on : Onward depth 0 tag tags 0) → Seen on.more tags → Seen depth (tag ∷ tags)
 seen_onto depth tag tags on (even_out b) = even_out (balanced_onto depth tag on.more tags on.turn b)
-seen_onto depth tag tags on (stray before after b is) = stray (tag ∷ before) after (balanced_onto depth tag on.more before on.turn b) (ap (λ (l : List ℕ). tag ∷ l) is)
-seen_onto depth tag tags on (unclosed before after b is nested) = unclosed (tag ∷ before) after (balanced_onto depth tag on.more before on.turn b) (ap (λ (l : List ℕ). tag ∷ l) is) nested
+seen_onto depth tag tags on (stray before after b is) =
+    stray (tag ∷ before) after (balanced_onto depth tag on.more before on.turn b) (ap (λ (l : List ℕ). tag ∷ l) is)
+seen_onto depth tag tags on (unclosed before after b is nested) =
+    unclosed (tag ∷ before) after (balanced_onto depth tag on.more before on.turn b) (ap (λ (l : List ℕ). tag ∷ l) is) nested
 seen_onto zero tag tags on (pending rest is nested) = elim (on.fresh refl) [
   | inl none ↦ absurd (omega arith)
   | inr new ↦
@@ -203,14 +217,24 @@ balance_seen place tags = go (brackets_seen 0 tags) where
   go : Seen 0 tags → Balanced tags ⊎ ((fault : Fault) × (ClosesNothing place tags fault ⊎ NeverCloses place tags fault))
   go (even_out b) = inl (balanced_from_zero tags b)
   go (pending rest is nested) = absurd (omega arith)
-  go (stray before after b is) = inr (brackets (place + length before), inl (record { before = before; after = after; balanced = balanced_from_zero before b; parts = is; named = refl }))
-  go (unclosed before after b is nested) = inr (brackets (place + length before), inr (record { before = before; after = after; balanced = balanced_from_zero before b; parts = is; unclosed = from_zero after nested; named = refl }))
+  go (stray before after b is) =
+      inr (brackets (place + length before), inl (record { before = before; after = after; balanced = balanced_from_zero before b; parts = is; named = refl }))
+  go (unclosed before after b is nested) =
+      inr (
+        brackets (place + length before),
+        inr
+            (record { before = before; after = after; balanced = balanced_from_zero before b; parts = is; unclosed = from_zero after nested; named = refl }),
+      )
 
 pub balance_again : (place : ℕ) (tags : List ℕ) → Balanced tags → brackets_read 0 place tags place ≡ Ok tt
 balance_again place tags b = balanced_again 0 place tags place (balanced_to_zero tags b)
 
-pub bracket_fault_again : (place : ℕ) (tags : List ℕ) (fault : Fault) → ClosesNothing place tags fault ⊎ NeverCloses place tags fault → brackets_read 0 place tags place ≡ Err fault
+pub bracket_fault_again : (place : ℕ) (tags : List ℕ) (fault : Fault) → ClosesNothing place tags fault ⊎ NeverCloses place tags fault
+    → brackets_read 0 place tags place ≡ Err fault
 bracket_fault_again place tags fault (inl names) =
-    ap (λ (l : List ℕ). brackets_read 0 place l place) names.parts ∙ stray_again 0 place names.before names.after place (balanced_to_zero names.before names.balanced) ∙ ap (λ (f : Fault). Err f) (sym names.named)
+    ap (λ (l : List ℕ). brackets_read 0 place l place) names.parts
+    ∙ stray_again 0 place names.before names.after place (balanced_to_zero names.before names.balanced) ∙ ap (λ (f : Fault). Err f) (sym names.named)
 bracket_fault_again place tags fault (inr names) =
-    ap (λ (l : List ℕ). brackets_read 0 place l place) names.parts ∙ open_again 0 place names.before names.after place (balanced_to_zero names.before names.balanced) (to_zero names.after names.unclosed) ∙ ap (λ (f : Fault). Err f) (sym names.named)
+    ap (λ (l : List ℕ). brackets_read 0 place l place) names.parts
+    ∙ open_again 0 place names.before names.after place (balanced_to_zero names.before names.balanced) (to_zero names.after names.unclosed)
+    ∙ ap (λ (f : Fault). Err f) (sym names.named)

@@ -23,18 +23,21 @@ no_fault most bytes message = ap result_err (limited_again most bytes message.fo
 pub fault_read : (most : ℕ) (bytes : List ℕ) (fault : Fault) → FirstFault bytes most fault → result_err (limited_read most bytes) ≡ Some fault
 fault_read most bytes fault found = fault_is_read bytes (some_byte most) fault tt found
 
-pub first_of : {X : Type 0} (r : Result X Fault) (most : ℕ) (bytes : List ℕ) → result_err r ≡ result_err (limited_read most bytes) → (fault : Fault) → FirstFault bytes most fault → r ≡ Err fault
+pub first_of : {X : Type 0} (r : Result X Fault) (most : ℕ) (bytes : List ℕ) → result_err r ≡ result_err (limited_read most bytes) → (fault : Fault)
+    → FirstFault bytes most fault → r ≡ Err fault
 first_of (Ok x) most bytes same fault found = absurd (none_some fault (same ∙ fault_read most bytes fault found))
 first_of (Err f) most bytes same fault found = ap (λ (g : Fault). Err g) (some_is f fault (same ∙ fault_read most bytes fault found))
 
-pub fault_of : {X : Type 0} (r : Result X Fault) (most : ℕ) (bytes : List ℕ) → AreBytes bytes → result_err r ≡ result_err (limited_read most bytes) → IfErr r (λ fault. FirstFault bytes most fault)
+pub fault_of : {X : Type 0} (r : Result X Fault) (most : ℕ) (bytes : List ℕ) → AreBytes bytes → result_err r ≡ result_err (limited_read most bytes)
+    → IfErr r (λ fault. FirstFault bytes most fault)
 fault_of (Ok x) most bytes small same = tt
 fault_of (Err f) most bytes small same = elim (message_seen most bytes small) [
   | inl found ↦ subst (FirstFault bytes most) (sym (some_is f found.fault (same ∙ fault_read most bytes found.fault found.found))) found.found
   | inr message ↦ absurd (none_some f (sym (no_fault most bytes message) ∙ sym same))
 ]
 
-pub exact_of : {X : Type 0} (r : Result X Fault) (most : ℕ) (bytes : List ℕ) → AreBytes bytes → result_err r ≡ result_err (limited_read most bytes) → IsOk r ↔ IsMessage most bytes
+pub exact_of : {X : Type 0} (r : Result X Fault) (most : ℕ) (bytes : List ℕ) → AreBytes bytes → result_err r ≡ result_err (limited_read most bytes)
+    → IsOk r ↔ IsMessage most bytes
 exact_of (Ok x) most bytes small same = (λ _. message (message_seen most bytes small), λ _. refl) where
   message : Found bytes (some_byte most) ⊎ IsMessage most bytes → IsMessage most bytes
   message (inl found) = absurd (none_some found.fault (same ∙ fault_read most bytes found.fault found.found))
@@ -42,7 +45,11 @@ exact_of (Ok x) most bytes small same = (λ _. message (message_seen most bytes 
 exact_of (Err f) most bytes small same = (λ e. absurd (cc), λ message. absurd (none_some f (sym (no_fault most bytes message) ∙ sym same)))
 
 pub none_is : (most : ℕ) (bytes : List ℕ) → AreBytes bytes → IsMessage most bytes ↔ ((fault : Fault) → FirstFault bytes most fault → ⊥)
-none_is most bytes small = (λ message fault found. none_some fault (sym (no_fault most bytes message) ∙ fault_read most bytes fault found), λ none. go none (message_seen most bytes small)) where
+none_is most bytes small = (
+  λ message fault found. none_some fault (sym (no_fault most bytes message) ∙ fault_read most bytes fault found),
+  λ none.
+      go none (message_seen most bytes small),
+) where
   go : ((fault : Fault) → FirstFault bytes most fault → ⊥) → Found bytes (some_byte most) ⊎ IsMessage most bytes → IsMessage most bytes
   go none (inl found) = absurd (none found.fault found.found)
   go none (inr message) = message
@@ -51,10 +58,11 @@ pub one_is : (most : ℕ) (bytes : List ℕ) (fault other : Fault) → FirstFaul
 one_is most bytes fault other one two = some_is fault other (sym (fault_read most bytes fault one) ∙ fault_read most bytes other two)
 
 pub told_is : (most : ℕ) (bytes : List ℕ) (fault : Fault) → AreBytes bytes → message_fault most bytes ≡ Some fault ↔ FirstFault bytes most fault
-told_is most bytes fault small = (λ read. told (limited_read most bytes) read (fault_of (limited_read most bytes) most bytes small refl), fault_read most bytes fault) where
-  told : (r : Result Parts Fault) → result_err r ≡ Some fault → IfErr r (λ f. FirstFault bytes most f) → FirstFault bytes most fault
-  told (Ok x) e h = absurd (none_some fault e)
-  told (Err f) e h = subst (FirstFault bytes most) (some_is f fault e) h
+told_is most bytes fault small =
+    (λ read. told (limited_read most bytes) read (fault_of (limited_read most bytes) most bytes small refl), fault_read most bytes fault) where
+      told : (r : Result Parts Fault) → result_err r ≡ Some fault → IfErr r (λ f. FirstFault bytes most f) → FirstFault bytes most fault
+      told (Ok x) e h = absurd (none_some fault e)
+      told (Err f) e h = subst (FirstFault bytes most) (some_is f fault e) h
 
 pub silent_is : (most : ℕ) (bytes : List ℕ) → AreBytes bytes → message_fault most bytes ≡ None ↔ IsMessage most bytes
 silent_is most bytes small = (λ none. go none (message_seen most bytes small), no_fault most bytes) where
@@ -62,7 +70,8 @@ silent_is most bytes small = (λ none. go none (message_seen most bytes small), 
   go none (inl found) = absurd (none_some found.fault (sym none ∙ fault_read most bytes found.fault found.found))
   go none (inr message) = message
 
-pub within_of : {X : Type 0} (r : Result X Fault) (most : ℕ) (bytes : List ℕ) → AreBytes bytes → result_err r ≡ result_err (limited_read most bytes) → IfErr r (λ fault. fault.at ≤ length bytes)
+pub within_of : {X : Type 0} (r : Result X Fault) (most : ℕ) (bytes : List ℕ) → AreBytes bytes → result_err r ≡ result_err (limited_read most bytes)
+    → IfErr r (λ fault. fault.at ≤ length bytes)
 within_of (Ok x) most bytes small same = tt
 within_of {X} (Err f) most bytes small same = fault_within bytes (some_byte most) f tt (fault_of {X = X} (Err f) most bytes small same)
 

@@ -44,12 +44,18 @@ pub record Found (bytes : List ℕ) (from : Want) : Type 0 where
 
 here : (bytes : List ℕ) (want : Want) (fault : Fault) → Ready bytes want → Names bytes want fault → Found bytes want
 here bytes want fault ready names =
-    record { fault = fault; found = record { want = want; reached = first; fails = λ stands. named_fails bytes want stands.0 fault ready names stands.1; named = names } }
+    record {
+      fault = fault;
+      found = record { want = want; reached = first; fails = λ stands. named_fails bytes want stands.0 fault ready names stands.1; named = names };
+    }
 
 onward : (bytes : List ℕ) (from next : Want) → Leads bytes from next → Found bytes next → Found bytes from
 onward bytes from next leads later_on =
     let f = later_on.found in
-    record { fault = later_on.fault; found = record { want = f.want; reached = prepended bytes from next f.want leads f.reached; fails = f.fails; named = f.named } }
+    record {
+      fault = later_on.fault;
+      found = record { want = f.want; reached = prepended bytes from next f.want leads f.reached; fails = f.fails; named = f.named };
+    }
 
 -- the arguments that stand under tags at a place, up to the end
 pub record ArgumentsStand (bytes tags : List ℕ) (at : ℕ) : Type 0 where
@@ -58,7 +64,8 @@ pub record ArgumentsStand (bytes tags : List ℕ) (at : ℕ) : Type 0 where
   pub fit : AllFit listed
   pub parts : drop at bytes ≡ flat_map atom_of listed
 
-pub arguments_end_in : (bytes : List ℕ) → AreBytes bytes → (tags : List ℕ) (at : ℕ) → Ready bytes (arguments tags at) → Found bytes (arguments tags at) ⊎ ArgumentsStand bytes tags at
+pub arguments_end_in : (bytes : List ℕ) → AreBytes bytes → (tags : List ℕ) (at : ℕ) → Ready bytes (arguments tags at)
+    → Found bytes (arguments tags at) ⊎ ArgumentsStand bytes tags at
 arguments_end_in bytes small [] at ready = go (drop at bytes) refl where
   go : (l : List ℕ) → drop at bytes ≡ l → Found bytes (arguments [] at) ⊎ ArgumentsStand bytes [] at
   go [] is = inr (record { listed = []; tagged = refl; fit = tt; parts = is })
@@ -73,7 +80,8 @@ arguments_end_in bytes small (tag ∷ tags) at ready = elim (argument_seen tag b
         | inl found ↦ inl (onward bytes (arguments (tag ∷ tags) at) (arguments tags next) leads found)
         | inr all ↦
             let rest = standing.stands.written.rest in
-            let behind : rest ≡ flat_map atom_of all.listed = sym (after_place bytes at (length (atom_of argument)) (atom_of argument) rest standing.stands.written.parts refl) ∙ all.parts in
+            let behind : rest ≡ flat_map atom_of all.listed =
+            sym (after_place bytes at (length (atom_of argument)) (atom_of argument) rest standing.stands.written.parts refl) ∙ all.parts in
             inr (record {
               listed = argument ∷ all.listed;
               tagged = λ i. standing.tagged i ∷ all.tagged i;
@@ -86,13 +94,16 @@ arguments_end_in bytes small (tag ∷ tags) at ready = elim (argument_seen tag b
 -- what stands after a pattern
 data After (bytes : List ℕ) (at : ℕ) : Type 0 where
   nothing : drop at bytes ≡ [] → After bytes at
-  all_known : (listed : List Argument) → AllFit listed → Balanced (map tag_of listed) → drop at bytes ≡ tag_string (map tag_of listed) ++ flat_map atom_of listed → After bytes at
-  some_unknown : (tags rest : List ℕ) → has_no_zero tags ≡ true → list_any is_unknown tags ≡ true → length rest % 4 ≡ 0 → drop at bytes ≡ tag_string tags ++ rest → After bytes at
+  all_known : (listed : List Argument) → AllFit listed → Balanced (map tag_of listed)
+      → drop at bytes ≡ tag_string (map tag_of listed) ++ flat_map atom_of listed → After bytes at
+  some_unknown : (tags rest : List ℕ) → has_no_zero tags ≡ true → list_any is_unknown tags ≡ true → length rest % 4 ≡ 0
+      → drop at bytes ≡ tag_string tags ++ rest → After bytes at
 
 no_zero_tail : (tags : List ℕ) → has_no_zero (44 ∷ tags) ≡ true → has_no_zero tags ≡ true
 no_zero_tail tags is = is
 
-tagged_in : (bytes : List ℕ) → AreBytes bytes → (at : ℕ) (tags : List ℕ) → Placed bytes at → StartsWithString bytes at (44 ∷ tags) → Found bytes (tag_text at) ⊎ After bytes at
+tagged_in : (bytes : List ℕ) → AreBytes bytes → (at : ℕ) (tags : List ℕ) → Placed bytes at → StartsWithString bytes at (44 ∷ tags)
+    → Found bytes (tag_text at) ⊎ After bytes at
 tagged_in bytes small at tags placed stands = go (list_any is_unknown tags) refl where
   after : Placed bytes (at + length (tag_string tags))
   after = placed_on bytes at (tag_string tags) stands.written.rest placed stands.written.parts (string_fours (44 ∷ tags))
@@ -101,24 +112,36 @@ tagged_in bytes small at tags placed stands = go (list_any is_unknown tags) refl
   rest_is = after_place bytes at (length (tag_string tags)) (tag_string tags) stands.written.rest stands.written.parts refl
 
   go : (b : Bool) → list_any is_unknown tags ≡ b → Found bytes (tag_text at) ⊎ After bytes at
-  go true is = inr (some_unknown tags stands.written.rest (no_zero_tail tags stands.no_zero) is (subst (λ (l : List ℕ). length l % 4 ≡ 0) rest_is after.whole) stands.written.parts)
+  go true is =
+      inr (some_unknown tags stands.written.rest (no_zero_tail tags stands.no_zero) is
+      (subst (λ (l : List ℕ). length l % 4 ≡ 0) rest_is after.whole) stands.written.parts)
   go false is = elim (balance_seen (at + 1) tags) [
-    | inr fault ↦ inl (to_brackets is (here bytes (brackets_balance (at + 1) tags (at + length (tag_string tags))) fault.0 (is, after, tags_before at tags) fault.1))
+    | inr fault ↦ inl
+        (to_brackets is (here bytes (brackets_balance (at + 1) tags (at + length (tag_string tags))) fault.0 (is, after, tags_before at tags) fault.1))
     | inl balanced ↦ elim (arguments_end_in bytes small tags (at + length (tag_string tags)) (is, after)) [
-      | inl found ↦ inl (to_brackets is (onward bytes (brackets_balance (at + 1) tags (at + length (tag_string tags))) (arguments tags (at + length (tag_string tags))) (balanced, refl) found))
-      | inr all ↦ inr (all_known all.listed all.fit (subst Balanced (sym all.tagged) balanced) (stands.written.parts ∙ ap (λ (l : List ℕ). tag_string tags ++ l) (sym rest_is ∙ all.parts) ∙ ap (λ (l : List ℕ). tag_string l ++ flat_map atom_of all.listed) (sym all.tagged)))
+      | inl found ↦ inl
+          (to_brackets is
+          (onward bytes (brackets_balance (at + 1) tags (at + length (tag_string tags))) (arguments tags (at + length (tag_string tags)))
+          (balanced, refl) found))
+      | inr all ↦ inr
+          (all_known all.listed all.fit (subst Balanced (sym all.tagged) balanced)
+          (stands.written.parts ∙ ap (λ (l : List ℕ). tag_string tags ++ l) (sym rest_is ∙ all.parts)
+          ∙ ap (λ (l : List ℕ). tag_string l ++ flat_map atom_of all.listed) (sym all.tagged)))
     ]
   ]
     where
       to_brackets : list_any is_unknown tags ≡ false → Found bytes (brackets_balance (at + 1) tags (at + length (tag_string tags))) → Found bytes (tag_text at)
-      to_brackets isnt found = onward bytes (tag_text at) (brackets_balance (at + 1) tags (at + length (tag_string tags))) (tags, stands, sym (cond-false (list_any is_unknown tags) done (brackets_balance (at + 1) tags (at + length (tag_string tags))) isnt)) found
+      to_brackets isnt found =
+          onward bytes (tag_text at) (brackets_balance (at + 1) tags (at + length (tag_string tags)))
+          (tags, stands, sym (cond-false (list_any is_unknown tags) done (brackets_balance (at + 1) tags (at + length (tag_string tags))) isnt)) found
 
 -- the first byte of a string that begins with a comma
 comma_first : (text rest tail : List ℕ) → string text ++ rest ≡ 44 ∷ tail → (tags : List ℕ) × (text ≡ 44 ∷ tags)
 comma_first [] rest tail is = absurd (cc)
 comma_first (x ∷ tags) rest tail is = (tags, ap (λ (n : ℕ). n ∷ tags) (cc))
 
-tag_text_in : (bytes : List ℕ) → AreBytes bytes → (at : ℕ) (tail : List ℕ) → Placed bytes at → drop at bytes ≡ 44 ∷ tail → Found bytes (tag_text at) ⊎ After bytes at
+tag_text_in : (bytes : List ℕ) → AreBytes bytes → (at : ℕ) (tail : List ℕ) → Placed bytes at → drop at bytes ≡ 44 ∷ tail
+    → Found bytes (tag_text at) ⊎ After bytes at
 tag_text_in bytes small at tail placed parts = elim (string_seen bytes at placed.whole) [
   | inr refused ↦ inl (here bytes (tag_text at) refused.fault placed refused.names)
   | inl given ↦
@@ -146,7 +169,8 @@ pub record MessageStands (bytes : List ℕ) (at : ℕ) : Type 0 where
   pub lawful : IsLawful form
   pub parts : drop at bytes ≡ message_text form
 
-whole_of : (bytes : List ℕ) (at : ℕ) (text rest : List ℕ) → IsPattern text → drop at bytes ≡ string text ++ rest → After bytes (at + length (string text)) → MessageStands bytes at
+whole_of : (bytes : List ℕ) (at : ℕ) (text rest : List ℕ) → IsPattern text → drop at bytes ≡ string text ++ rest → After bytes (at + length (string text))
+    → MessageStands bytes at
 whole_of bytes at text rest is parts after = go after where
   behind : (l : List ℕ) → drop (at + length (string text)) bytes ≡ l → drop at bytes ≡ string text ++ l
   behind l e = parts ∙ ap (λ (r : List ℕ). string text ++ r) (sym (after_place bytes at (length (string text)) (string text) rest parts refl) ∙ e)
@@ -171,9 +195,14 @@ pattern_in bytes small at placed = elim (string_seen bytes at placed.whole) [
       after = placed_on bytes at (string text) stands.written.rest placed stands.written.parts (string_fours text)
 
       go : (o : Option PatternFault) → IsFound text o → Found bytes (pattern at) ⊎ MessageStands bytes at
-      go (Some f) is = inl (onward bytes (pattern at) (lawful at text (at + length (string text))) (text, stands, refl) (here bytes (lawful at text (at + length (string text))) (of_pattern at f.kind f.at) (after, text_before bytes at text after) (record { kind = f.kind; place = f.at; first = is; named = refl })))
+      go (Some f) is =
+          inl (onward bytes (pattern at) (lawful at text (at + length (string text))) (text, stands, refl)
+          (here bytes (lawful at text (at + length (string text))) (of_pattern at f.kind f.at) (after, text_before bytes at text after)
+          (record { kind = f.kind; place = f.at; first = is; named = refl })))
       go None is = elim (comma_in bytes small (at + length (string text)) after) [
-        | inl found ↦ inl (onward bytes (pattern at) (lawful at text (at + length (string text))) (text, stands, refl) (onward bytes (lawful at text (at + length (string text))) (comma (at + length (string text))) (is, refl) found))
+        | inl found ↦ inl
+            (onward bytes (pattern at) (lawful at text (at + length (string text))) (text, stands, refl)
+            (onward bytes (lawful at text (at + length (string text))) (comma (at + length (string text))) (is, refl) found))
         | inr rest ↦ inr (whole_of bytes at text stands.written.rest is stands.written.parts rest)
       ]
 

@@ -53,7 +53,8 @@ parts_again (x ∷ rest) slash =
     (λ i. first i ∷ rest) ∙ ap (λ (l : List ℕ). 47 ∷ l) (sym (join_with_byte-slice_split 47 rest)) ∙ joined (slice_split is_slash rest) (omega (arith, many))
 
 -- a part ends within the whole
-part_within : (before : List (List ℕ)) (part : List ℕ) (behind : List (List ℕ)) → length (spelled before) + (1 + length part) ≤ length (spelled (before ++ part ∷ behind))
+part_within : (before : List (List ℕ)) (part : List ℕ) (behind : List (List ℕ))
+    → length (spelled before) + (1 + length part) ≤ length (spelled (before ++ part ∷ behind))
 part_within [] part behind = omega (arith, length-append part (spelled behind))
 part_within (first ∷ before) part behind =
     omega (arith, part_within before part behind, length-append first (spelled before), length-append first (spelled (before ++ part ∷ behind)))
@@ -63,7 +64,8 @@ open_within text at slash there =
     let items : List ℕ = flat_map item_text there.items in
     let part : List ℕ = items ++ there.first ∷ there.rest in
     let size : length part ≡ length items + suc (length there.rest) = length-append items (there.first ∷ there.rest) in
-    let whole : length text ≡ length (spelled (there.before ++ part ∷ there.behind)) = ap length (parts_again text slash) ∙ ap (λ (l : List (List ℕ)). length (spelled l)) there.cut in
+    let whole : length text ≡ length (spelled (there.before ++ part ∷ there.behind)) =
+    ap length (parts_again text slash) ∙ ap (λ (l : List (List ℕ)). length (spelled l)) there.cut in
     let within = part_within there.before part there.behind in
     let place = there.place in
     omega arith

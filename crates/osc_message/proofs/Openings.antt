@@ -26,7 +26,8 @@ argument_nonzero (symbol bytes) short none = text_nonzero bytes short none
 argument_nonzero _ short none = tt
 
 -- what is refused where the pattern isn't too long
-refused_next : (pattern : List ℕ) → length pattern ≤ 65000 → open_refusal pattern ≡ refused_null (null_of pattern) (option_map (λ fault. Pattern fault) (pattern_fault pattern))
+refused_next : (pattern : List ℕ) → length pattern ≤ 65000
+    → open_refusal pattern ≡ refused_null (null_of pattern) (option_map (λ fault. Pattern fault) (pattern_fault pattern))
 refused_next pattern short = cond-true _ _ _ (le-leb (length pattern) 65000 short)
 
 pub open_long : (pattern : List ℕ) → 65000 < length pattern → open_refusal pattern ≡ Some TooLong
@@ -36,21 +37,25 @@ pub open_null : (pattern : List ℕ) (at : ℕ) → length pattern ≤ 65000 →
 open_null pattern at short null =
     refused_next pattern short ∙ ap (λ (o : Option ℕ). refused_null o (option_map (λ fault. Pattern fault) (pattern_fault pattern))) null
 
-pub open_pattern : (pattern : List ℕ) (o : Option PatternFault) → length pattern ≤ 65000 → null_of pattern ≡ None → pattern_fault pattern ≡ o → open_refusal pattern ≡ option_map (λ fault. Pattern fault) o
+pub open_pattern : (pattern : List ℕ) (o : Option PatternFault) → length pattern ≤ 65000 → null_of pattern ≡ None → pattern_fault pattern ≡ o
+    → open_refusal pattern ≡ option_map (λ fault. Pattern fault) o
 open_pattern pattern o short none fault =
-    refused_next pattern short ∙ ap (λ (n : Option ℕ). refused_null n (option_map (λ fault. Pattern fault) (pattern_fault pattern))) none ∙ ap (option_map (λ fault. Pattern fault)) fault
+    refused_next pattern short ∙ ap (λ (n : Option ℕ). refused_null n (option_map (λ fault. Pattern fault) (pattern_fault pattern))) none
+    ∙ ap (option_map (λ fault. Pattern fault)) fault
 
 some_same : (a b : BuildFault) → ◌≡◌ {A = Option BuildFault} (Some a) (Some b) → a ≡ b
 some_same a b e = cc
 
 -- one fault is refused
-pub only : {X : Type 0} (pattern : List ℕ) (told fault : BuildFault) → open_refusal pattern ≡ Some told → open_refusal pattern ≡ Some fault → ◌≡◌ {A = Result X BuildFault} (Err told) (Err fault)
+pub only : {X : Type 0} (pattern : List ℕ) (told fault : BuildFault) → open_refusal pattern ≡ Some told → open_refusal pattern ≡ Some fault
+    → ◌≡◌ {A = Result X BuildFault} (Err told) (Err fault)
 only pattern told fault a b = ap (λ (f : BuildFault). Err f) (some_same told fault (sym a ∙ b))
 
 pub none_refused : (pattern : List ℕ) (fault : BuildFault) → open_refusal pattern ≡ None → open_refusal pattern ≡ Some fault → ⊥
 none_refused pattern fault a b = cc
 
 -- a pattern alone is kept
-pub opened : (pattern kept tags atoms : List ℕ) → kept ≡ pattern → tags ≡ 44 ∷ [] → atoms ≡ [] → IsPattern pattern → length pattern ≤ 65000 → IsKept kept tags atoms
+pub opened : (pattern kept tags atoms : List ℕ) → kept ≡ pattern → tags ≡ 44 ∷ [] → atoms ≡ [] → IsPattern pattern → length pattern ≤ 65000
+    → IsKept kept tags atoms
 opened pattern kept tags atoms k t a lawful short =
     rw (k, t, a) (kept_of pattern [] lawful tt (λ i. omega arith) (omega (arith, length-string pattern)))

@@ -15,26 +15,34 @@ use Rattle.osc_message.specs.Reading.{Parts, begins, tags_read, tagged_read, com
 ok_is : {X : Type 0} (a b : X) → ◌≡◌ {A = Result X Fault} (Ok a) (Ok b) → a ≡ b
 ok_is a b e = cc
 
-pattern_kept_tags : (bytes pattern : List ℕ) (at : ℕ) (parts : Parts) (r : Result (List ℕ × ℕ) Fault) → and_then r (λ string. and_then (tags_read bytes (at + 1) (drop 1 string.0) string.1) (λ _. Ok (record { pattern = pattern; tags = Some (drop 1 string.0); place = string.1 }))) ≡ Ok parts → parts.pattern ≡ pattern
+pattern_kept_tags : (bytes pattern : List ℕ) (at : ℕ) (parts : Parts) (r : Result (List ℕ × ℕ) Fault)
+    → and_then r
+    (λ string. and_then (tags_read bytes (at + 1) (drop 1 string.0) string.1)
+    (λ _. Ok (record { pattern = pattern; tags = Some (drop 1 string.0); place = string.1 }))) ≡ Ok parts → parts.pattern ≡ pattern
 pattern_kept_tags bytes pattern at parts (Err f) is = absurd (cc)
 pattern_kept_tags bytes pattern at parts (Ok string) is = go (tags_read bytes (at + 1) (drop 1 string.0) string.1) is where
-  go : (r : Result (Unit {0}) Fault) → and_then {Y = Parts} r (λ _. Ok (record { pattern = pattern; tags = Some (drop 1 string.0); place = string.1 })) ≡ Ok parts → parts.pattern ≡ pattern
+  go : (r : Result (Unit {0}) Fault) → and_then {Y = Parts} r (λ _. Ok (record { pattern = pattern; tags = Some (drop 1 string.0); place = string.1 }))
+      ≡ Ok parts → parts.pattern ≡ pattern
   go (Err f) e = absurd (cc)
   go (Ok u) e = sym (ap (λ (p : Parts). p.pattern) (ok_is _ parts e))
 
-pattern_kept : (bytes pattern : List ℕ) (at : ℕ) (parts : Parts) (a b : Bool) → cond a (Ok (record { pattern = pattern; tags = None; place = at })) (cond b (tagged_read bytes pattern at) (Err (no_tags at))) ≡ Ok parts → parts.pattern ≡ pattern
+pattern_kept : (bytes pattern : List ℕ) (at : ℕ) (parts : Parts) (a b : Bool)
+    → cond a (Ok (record { pattern = pattern; tags = None; place = at })) (cond b (tagged_read bytes pattern at) (Err (no_tags at))) ≡ Ok parts
+    → parts.pattern ≡ pattern
 pattern_kept bytes pattern at parts true b is = sym (ap (λ (p : Parts). p.pattern) (ok_is _ parts is))
 pattern_kept bytes pattern at parts false true is = pattern_kept_tags bytes pattern at parts (string_read bytes at) is
 pattern_kept bytes pattern at parts false false is = absurd (cc)
 
-lawful_kept : (bytes pattern : List ℕ) (at end : ℕ) (parts : Parts) (o : Option PatternFault) → pattern_fault pattern ≡ o → unless_fault at o (comma_read bytes pattern end) ≡ Ok parts → (parts.pattern ≡ pattern) × (pattern_fault parts.pattern ≡ None)
+lawful_kept : (bytes pattern : List ℕ) (at end : ℕ) (parts : Parts) (o : Option PatternFault) → pattern_fault pattern ≡ o
+    → unless_fault at o (comma_read bytes pattern end) ≡ Ok parts → (parts.pattern ≡ pattern) × (pattern_fault parts.pattern ≡ None)
 lawful_kept bytes pattern at end parts None none is =
     let kept = pattern_kept bytes pattern end parts (end == length bytes) (begins 44 (drop end bytes)) is in
     (kept, ap pattern_fault kept ∙ none)
 lawful_kept bytes pattern at end parts (Some f) some is = absurd (cc)
 
 -- the text of a string at the front is what stands before the first zero byte
-text_first : (bytes : List ℕ) (read : List ℕ × ℕ) (o : Option ℕ) → position is_zero bytes ≡ o → text_read bytes 0 o ≡ Ok read → read.0 ≡ before_first is_zero bytes
+text_first : (bytes : List ℕ) (read : List ℕ × ℕ) (o : Option ℕ) → position is_zero bytes ≡ o → text_read bytes 0 o ≡ Ok read
+    → read.0 ≡ before_first is_zero bytes
 text_first bytes read None place is = absurd (cc)
 text_first bytes read (Some size) place is = go (padding_read bytes (0 + size) (string_end size)) is where
   go : (r : Result ℕ Fault) → and_then {Y = List ℕ × ℕ} r (λ next. Ok (take size bytes, next)) ≡ Ok read → read.0 ≡ before_first is_zero bytes
@@ -42,16 +50,19 @@ text_first bytes read (Some size) place is = go (padding_read bytes (0 + size) (
   go (Ok next) e = sym (ap (λ (p : List ℕ × ℕ). p.0) (ok_is _ read e)) ∙ ap (λ (n : ℕ). take n bytes) (sym (cond_some _ _ _ place).1)
 
 -- the pattern that is read has no fault, and stands before the first zero byte
-read_pattern : (bytes : List ℕ) (parts : Parts) → parts_of bytes ≡ Some parts → (parts.pattern ≡ before_first is_zero bytes) × (pattern_fault parts.pattern ≡ None)
+read_pattern : (bytes : List ℕ) (parts : Parts) → parts_of bytes ≡ Some parts
+    → (parts.pattern ≡ before_first is_zero bytes) × (pattern_fault parts.pattern ≡ None)
 unfolding message_read
 read_pattern bytes parts is = go (length bytes % 4 == 0) is where
-  with_string : (r : Result (List ℕ × ℕ) Fault) → string_read bytes 0 ≡ r → and_then r (λ string. lawful_read bytes 0 string.0 string.1) ≡ Ok parts → (parts.pattern ≡ before_first is_zero bytes) × (pattern_fault parts.pattern ≡ None)
+  with_string : (r : Result (List ℕ × ℕ) Fault) → string_read bytes 0 ≡ r → and_then r (λ string. lawful_read bytes 0 string.0 string.1) ≡ Ok parts
+      → (parts.pattern ≡ before_first is_zero bytes) × (pattern_fault parts.pattern ≡ None)
   with_string (Err f) same e = absurd (cc)
   with_string (Ok read) same e =
       let kept = lawful_kept bytes read.0 0 read.1 parts (pattern_fault read.0) refl e in
       (kept.0 ∙ text_first bytes read (position is_zero bytes) refl same, kept.1)
 
-  with_slash : (b : Bool) → cond b (and_then (string_read bytes 0) (λ string. lawful_read bytes 0 string.0 string.1)) (Err (start 0)) ≡ Ok parts → (parts.pattern ≡ before_first is_zero bytes) × (pattern_fault parts.pattern ≡ None)
+  with_slash : (b : Bool) → cond b (and_then (string_read bytes 0) (λ string. lawful_read bytes 0 string.0 string.1)) (Err (start 0)) ≡ Ok parts
+      → (parts.pattern ≡ before_first is_zero bytes) × (pattern_fault parts.pattern ≡ None)
   with_slash true e = with_string (string_read bytes 0) refl e
   with_slash false e = absurd (cc)
 
@@ -61,7 +72,8 @@ read_pattern bytes parts is = go (length bytes % 4 == 0) is where
     some_is a b e = cc
   ok_of (Err f) e = absurd (cc)
 
-  go : (b : Bool) → cond b (result_ok (message_read bytes 0)) None ≡ Some parts → (parts.pattern ≡ before_first is_zero bytes) × (pattern_fault parts.pattern ≡ None)
+  go : (b : Bool) → cond b (result_ok (message_read bytes 0)) None ≡ Some parts
+      → (parts.pattern ≡ before_first is_zero bytes) × (pattern_fault parts.pattern ≡ None)
   go true e = with_slash (begins 47 bytes) (ok_of (message_read bytes 0) e)
   go false e = absurd (cc)
 

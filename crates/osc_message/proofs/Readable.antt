@@ -10,11 +10,13 @@ read_ok : (read : Result Parts Fault) (parts : Parts) → result_ok read ≡ Som
 read_ok (Ok found) parts is = refl
 read_ok (Err fault) parts is = absurd (cc)
 
-whole_ok : (whole : Bool) (size : ℕ) (read : Result Parts Fault) (parts : Parts) → cond whole (result_ok read) None ≡ Some parts → is_ok (cond {A = Result Parts Fault} whole read (Err (not_four size))) ≡ true
+whole_ok : (whole : Bool) (size : ℕ) (read : Result Parts Fault) (parts : Parts) → cond whole (result_ok read) None ≡ Some parts
+    → is_ok (cond {A = Result Parts Fault} whole read (Err (not_four size))) ≡ true
 whole_ok true size read parts is = read_ok read parts is
 whole_ok false size read parts is = absurd (cc)
 
-within_ok : (none within : Bool) (size : ℕ) (read : Result Parts Fault) → none ≡ false → within ≡ true → is_ok read ≡ true → is_ok (cond {A = Result Parts Fault} none (Err empty) (cond {A = Result Parts Fault} within read (Err (too_long size)))) ≡ true
+within_ok : (none within : Bool) (size : ℕ) (read : Result Parts Fault) → none ≡ false → within ≡ true → is_ok read ≡ true
+    → is_ok (cond {A = Result Parts Fault} none (Err empty) (cond {A = Result Parts Fault} within read (Err (too_long size)))) ≡ true
 within_ok true within size read some few is = absurd (cc)
 within_ok false true size read some few is = is
 within_ok false false size read some few is = absurd (cc)
@@ -25,6 +27,7 @@ readable_message [] parts is = let read = is.read in absurd (cc)
 readable_message (byte ∷ bytes) parts is =
     let all : List ℕ = byte ∷ bytes in
     let small = is.small in
-    within_ok (length all == 0) (nat_le (length all) 1073741824) 1073741824 (cond {A = Result Parts Fault} (length all % 4 == 0) (message_read all 0) (Err (not_four (length all))))
+    within_ok (length all == 0) (nat_le (length all) 1073741824) 1073741824
+    (cond {A = Result Parts Fault} (length all % 4 == 0) (message_read all 0) (Err (not_four (length all))))
     (grind (arith, nat_tests)) (grind (arith, nat_tests))
     (whole_ok (length all % 4 == 0) (length all) (message_read all 0) parts is.read)

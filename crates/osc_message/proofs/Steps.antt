@@ -27,7 +27,8 @@ pub record Placed (bytes : List ℕ) (at : ℕ) : Type 0 where
   pub inside : at ≤ length bytes
   pub whole : length (drop at bytes) % 4 ≡ 0
 
-pub placed_on : (bytes : List ℕ) (at : ℕ) (front back : List ℕ) → Placed bytes at → drop at bytes ≡ front ++ back → length front % 4 ≡ 0 → Placed bytes (at + length front)
+pub placed_on : (bytes : List ℕ) (at : ℕ) (front back : List ℕ) → Placed bytes at → drop at bytes ≡ front ++ back → length front % 4 ≡ 0
+    → Placed bytes (at + length front)
 placed_on bytes at front back placed parts fours =
     let here = placed.whole in
     let inside = placed.inside in
@@ -79,7 +80,8 @@ err_kept : {X Y : Type 0} (r : Result X Fault) (value : X → Y) → result_err 
 err_kept (Ok x) value = refl
 err_kept (Err f) value = refl
 
-pub message_slash : (bytes : List ℕ) (at : ℕ) → begins 47 (drop at bytes) ≡ true → message_read bytes at ≡ and_then (string_read bytes at) (λ string. lawful_read bytes at string.0 string.1)
+pub message_slash : (bytes : List ℕ) (at : ℕ) → begins 47 (drop at bytes) ≡ true
+    → message_read bytes at ≡ and_then (string_read bytes at) (λ string. lawful_read bytes at string.0 string.1)
 unfolding message_read
 message_slash bytes at is = cond-true _ _ _ is
 
@@ -127,25 +129,31 @@ comma_same bytes a b at = go (at == length bytes) (begins 44 (drop at bytes)) wh
   go false true = tagged_same bytes a b at
 
 -- a tag string that stands
-pub tagged_again : (bytes text : List ℕ) (at : ℕ) (tags : List ℕ) → StartsWithString bytes at (44 ∷ tags) → tagged_read bytes text at ≡ and_then (tags_read bytes (at + 1) tags (at + length (tag_string tags))) (λ _. Ok (record { pattern = text; tags = Some tags; place = at + length (tag_string tags) }))
+pub tagged_again : (bytes text : List ℕ) (at : ℕ) (tags : List ℕ) → StartsWithString bytes at (44 ∷ tags)
+    → tagged_read bytes text at ≡ and_then (tags_read bytes (at + 1) tags (at + length (tag_string tags)))
+    (λ _. Ok (record { pattern = text; tags = Some tags; place = at + length (tag_string tags) }))
 tagged_again bytes text at tags stands =
     ap (tagged_from bytes text at) (string_again bytes at (44 ∷ tags) stands)
 
-pub arguments_step : (bytes : List ℕ) (tag : ℕ) (tags : List ℕ) (at next : ℕ) (argument : Argument) → argument_read tag bytes at ≡ Ok (argument, next) → arguments_read bytes (tag ∷ tags) at ≡ arguments_read bytes tags next
+pub arguments_step : (bytes : List ℕ) (tag : ℕ) (tags : List ℕ) (at next : ℕ) (argument : Argument) → argument_read tag bytes at ≡ Ok (argument, next)
+    → arguments_read bytes (tag ∷ tags) at ≡ arguments_read bytes tags next
 arguments_step bytes tag tags at next argument is =
     ap (λ r. and_then (and_then r (λ x. arguments_end tags bytes x.1)) (λ end. cond (end == length bytes) (Ok tt) (Err (left_over end)))) is
 
-arguments_stop : (bytes : List ℕ) (tag : ℕ) (tags : List ℕ) (at : ℕ) (fault : Fault) → argument_read tag bytes at ≡ Err fault → arguments_read bytes (tag ∷ tags) at ≡ Err fault
+arguments_stop : (bytes : List ℕ) (tag : ℕ) (tags : List ℕ) (at : ℕ) (fault : Fault) → argument_read tag bytes at ≡ Err fault
+    → arguments_read bytes (tag ∷ tags) at ≡ Err fault
 arguments_stop bytes tag tags at fault is =
     ap (λ r. and_then (and_then r (λ x. arguments_end tags bytes x.1)) (λ end. cond (end == length bytes) (Ok tt) (Err (left_over end)))) is
 
-argument_stands : (bytes : List ℕ) (tag at : ℕ) (argument : Argument) → tag_of argument ≡ tag → StartsWithArgument bytes at argument → argument_read tag bytes at ≡ Ok (argument, at + length (atom_of argument))
+argument_stands : (bytes : List ℕ) (tag at : ℕ) (argument : Argument) → tag_of argument ≡ tag → StartsWithArgument bytes at argument
+    → argument_read tag bytes at ≡ Ok (argument, at + length (atom_of argument))
 argument_stands bytes tag at argument tagged stands = ap (λ (t : ℕ). argument_read t bytes at) (sym tagged) ∙ argument_again bytes at argument stands
 
 after_tags_same : (bytes : List ℕ) (place : ℕ) (tags : List ℕ) (at : ℕ) → result_err (tags_read bytes place tags at) ≡ fault_at bytes (after_tags place tags at)
 after_tags_same bytes place tags at = elim (cases_Bool (list_any is_unknown tags)) [
   | inl is ↦ ap result_err (cond-true _ _ _ is) ∙ sym (ap (fault_at bytes) (cond-true (list_any is_unknown tags) done (brackets_balance place tags at) is))
-  | inr isnt ↦ ap result_err (cond-false _ _ _ isnt) ∙ sym (ap (fault_at bytes) (cond-false (list_any is_unknown tags) done (brackets_balance place tags at) isnt))
+  | inr isnt ↦ ap result_err (cond-false _ _ _ isnt)
+      ∙ sym (ap (fault_at bytes) (cond-false (list_any is_unknown tags) done (brackets_balance place tags at) isnt))
 ]
 
 -- a want that stands gives the fault of the next
@@ -156,10 +164,14 @@ leads_same bytes (some_byte most) next ready leads =
 leads_same bytes (within most) next ready leads = ap result_err (cond-true _ _ _ (le-leb (length bytes) most leads.0)) ∙ sym (ap (fault_at bytes) leads.1)
 leads_same bytes fourfold next ready leads = ap result_err (cond-true _ _ _ (eq-eqb (length bytes % 4) 0 leads.0)) ∙ sym (ap (fault_at bytes) leads.1)
 leads_same bytes (slash at) next ready leads = ap result_err (message_slash bytes at (ap (begins 47) leads.1)) ∙ sym (ap (fault_at bytes) leads.2)
-leads_same bytes (pattern at) next ready leads = ap (λ r. result_err (and_then r (λ string. lawful_read bytes at string.0 string.1))) (string_again bytes at leads.0 leads.1) ∙ sym (ap (fault_at bytes) leads.2)
+leads_same bytes (pattern at) next ready leads =
+    ap (λ r. result_err (and_then r (λ string. lawful_read bytes at string.0 string.1))) (string_again bytes at leads.0 leads.1)
+    ∙ sym (ap (fault_at bytes) leads.2)
 leads_same bytes (lawful at text end) next ready leads =
-    ap (λ (o : Option PatternFault). result_err (unless_fault at o (comma_read bytes text end))) (IsPattern-read text leads.0) ∙ comma_same bytes text [] end ∙ sym (ap (fault_at bytes) leads.1)
-leads_same bytes (comma at) next ready (inl leads) = ap result_err (comma_ends bytes [] at (ends_there bytes at ready leads.0)) ∙ sym (ap (fault_at bytes) leads.1)
+    ap (λ (o : Option PatternFault). result_err (unless_fault at o (comma_read bytes text end))) (IsPattern-read text leads.0) ∙ comma_same bytes text [] end
+    ∙ sym (ap (fault_at bytes) leads.1)
+leads_same bytes (comma at) next ready (inl leads) =
+    ap result_err (comma_ends bytes [] at (ends_there bytes at ready leads.0)) ∙ sym (ap (fault_at bytes) leads.1)
 leads_same bytes (comma at) next ready (inr leads) = ap result_err (comma_goes_on bytes [] at leads.0 leads.1) ∙ sym (ap (fault_at bytes) leads.2)
 leads_same bytes (tag_text at) next ready leads =
     let tags = leads.0 in
@@ -169,31 +181,39 @@ leads_same bytes (tag_text at) next ready leads =
     ∙ sym (ap (fault_at bytes) leads.2)
 leads_same bytes (brackets_balance place tags at) next ready leads =
     ap (λ r. result_err (and_then r (λ _. arguments_read bytes tags at))) (balance_again place tags leads.0) ∙ sym (ap (fault_at bytes) leads.1)
-leads_same bytes (arguments [] at) next ready leads = ap result_err (cond-true _ _ _ (eq-eqb at (length bytes) (ends_there bytes at ready.1 leads.0))) ∙ sym (ap (fault_at bytes) leads.1)
+leads_same bytes (arguments [] at) next ready leads =
+    ap result_err (cond-true _ _ _ (eq-eqb at (length bytes) (ends_there bytes at ready.1 leads.0))) ∙ sym (ap (fault_at bytes) leads.1)
 leads_same bytes (arguments (tag ∷ tags) at) next ready leads =
-    ap result_err (arguments_step bytes tag tags at (at + length (atom_of leads.0)) leads.0 (argument_stands bytes tag at leads.0 leads.1 leads.2)) ∙ sym (ap (fault_at bytes) leads.3)
+    ap result_err (arguments_step bytes tag tags at (at + length (atom_of leads.0)) leads.0 (argument_stands bytes tag at leads.0 leads.1 leads.2))
+    ∙ sym (ap (fault_at bytes) leads.3)
 leads_same bytes done next ready leads = absurd leads
 
 -- a want that is named gives its fault
 pub names_told : (bytes : List ℕ) (want : Want) (fault : Fault) → Ready bytes want → Names bytes want fault → fault_at bytes want ≡ Some fault
-names_told bytes (some_byte most) fault ready names = ap result_err (cond-true _ _ _ (eq-eqb (length bytes) 0 (ap length names.0))) ∙ ap (λ (f : Fault). Some f) (sym names.1)
-names_told bytes (within most) fault ready names = ap result_err (cond-false _ _ _ (lt-leb (length bytes) most names.0)) ∙ ap (λ (f : Fault). Some f) (sym names.1)
+names_told bytes (some_byte most) fault ready names =
+    ap result_err (cond-true _ _ _ (eq-eqb (length bytes) 0 (ap length names.0))) ∙ ap (λ (f : Fault). Some f) (sym names.1)
+names_told bytes (within most) fault ready names =
+    ap result_err (cond-false _ _ _ (lt-leb (length bytes) most names.0)) ∙ ap (λ (f : Fault). Some f) (sym names.1)
 names_told bytes fourfold fault ready names = ap result_err (cond-false _ _ _ (ne_eqb (length bytes % 4) 0 names.0)) ∙ ap (λ (f : Fault). Some f) (sym names.1)
 names_told bytes (slash at) fault ready names = ap result_err (message_other bytes at (other names.0)) ∙ ap (λ (f : Fault). Some f) (sym names.1) where
   other : (drop at bytes ≡ []) ⊎ NamesOtherByte 47 bytes at → begins 47 (drop at bytes) ≡ false
   other (inl none) = ap (begins 47) none
   other (inr byte) = begins_other 47 bytes at byte
-names_told bytes (pattern at) fault ready names = ap (λ r. result_err (and_then r (λ string. lawful_read bytes at string.0 string.1))) (string_fault_again bytes at fault names)
+names_told bytes (pattern at) fault ready names =
+    ap (λ r. result_err (and_then r (λ string. lawful_read bytes at string.0 string.1))) (string_fault_again bytes at fault names)
 names_told bytes (lawful at text end) fault ready names =
-    ap (λ (o : Option PatternFault). result_err (unless_fault at o (comma_read bytes text end))) (IsFault-read text names.kind names.place names.first) ∙ ap (λ (f : Fault). Some f) (sym names.named)
+    ap (λ (o : Option PatternFault). result_err (unless_fault at o (comma_read bytes text end))) (IsFault-read text names.kind names.place names.first)
+    ∙ ap (λ (f : Fault). Some f) (sym names.named)
 names_told bytes (comma at) fault ready names = ap result_err (comma_other bytes [] at names.0) ∙ ap (λ (f : Fault). Some f) (sym names.1)
 names_told bytes (tag_text at) fault ready names =
     ap (λ r. result_err (tagged_from bytes [] at r)) (string_fault_again bytes at fault names)
-names_told bytes (brackets_balance place tags at) fault ready names = ap (λ r. result_err (and_then r (λ _. arguments_read bytes tags at))) (bracket_fault_again place tags fault names)
+names_told bytes (brackets_balance place tags at) fault ready names =
+    ap (λ r. result_err (and_then r (λ _. arguments_read bytes tags at))) (bracket_fault_again place tags fault names)
 names_told bytes (arguments [] at) fault ready names =
     let some = names.0 in
     ap result_err (cond-false _ _ _ (ne_eqb at (length bytes) (λ e. omega (arith, length-drop at bytes)))) ∙ ap (λ (f : Fault). Some f) (sym names.1)
-names_told bytes (arguments (tag ∷ tags) at) fault ready names = ap result_err (arguments_stop bytes tag tags at fault (argument_fault_again tag bytes at fault ready.1.whole names))
+names_told bytes (arguments (tag ∷ tags) at) fault ready names =
+    ap result_err (arguments_stop bytes tag tags at fault (argument_fault_again tag bytes at fault ready.1.whole names))
 names_told bytes done fault ready names = absurd names
 
 clash : {X : Type 0} (r : Result X Fault) (x : X) (f : Fault) → r ≡ Ok x → r ≡ Err f → ⊥
@@ -217,15 +237,21 @@ named_fails bytes (slash at) next fault ready names leads = other names.0 where
   other : (drop at bytes ≡ []) ⊎ NamesOtherByte 47 bytes at → ⊥
   other (inl none) = empty_not 47 leads.0 (drop at bytes) none leads.1
   other (inr byte) = byte.other (heads byte.byte 47 byte.rest leads.0 (drop at bytes) byte.parts leads.1)
-named_fails bytes (pattern at) next fault ready names leads = clash (string_read bytes at) _ fault (string_again bytes at leads.0 leads.1) (string_fault_again bytes at fault names)
-named_fails bytes (lawful at text end) next fault ready names leads = one_fault _ (pattern_fault text) (IsPattern-read text leads.0) (IsFault-read text names.kind names.place names.first)
+named_fails bytes (pattern at) next fault ready names leads =
+    clash (string_read bytes at) _ fault (string_again bytes at leads.0 leads.1) (string_fault_again bytes at fault names)
+named_fails bytes (lawful at text end) next fault ready names leads =
+    one_fault _ (pattern_fault text) (IsPattern-read text leads.0) (IsFault-read text names.kind names.place names.first)
 named_fails bytes (comma at) next fault ready names (inl leads) = empty_not names.0.byte names.0.rest (drop at bytes) leads.0 names.0.parts
-named_fails bytes (comma at) next fault ready names (inr leads) = names.0.other (heads names.0.byte 44 names.0.rest leads.0 (drop at bytes) names.0.parts leads.1)
-named_fails bytes (tag_text at) next fault ready names leads = clash (string_read bytes at) _ fault (string_again bytes at (44 ∷ leads.0) leads.1) (string_fault_again bytes at fault names)
-named_fails bytes (brackets_balance place tags at) next fault ready names leads = clash (brackets_read 0 place tags place) _ fault (balance_again place tags leads.0) (bracket_fault_again place tags fault names)
+named_fails bytes (comma at) next fault ready names (inr leads) =
+    names.0.other (heads names.0.byte 44 names.0.rest leads.0 (drop at bytes) names.0.parts leads.1)
+named_fails bytes (tag_text at) next fault ready names leads =
+    clash (string_read bytes at) _ fault (string_again bytes at (44 ∷ leads.0) leads.1) (string_fault_again bytes at fault names)
+named_fails bytes (brackets_balance place tags at) next fault ready names leads =
+    clash (brackets_read 0 place tags place) _ fault (balance_again place tags leads.0) (bracket_fault_again place tags fault names)
 named_fails bytes (arguments [] at) next fault ready names leads = let some = names.0 in omega (arith, ap length leads.0)
 named_fails bytes (arguments (tag ∷ tags) at) next fault ready names leads =
-    clash (argument_read tag bytes at) _ fault (argument_stands bytes tag at leads.0 leads.1 leads.2) (argument_fault_again tag bytes at fault ready.1.whole names)
+    clash (argument_read tag bytes at) _ fault (argument_stands bytes tag at leads.0 leads.1 leads.2)
+    (argument_fault_again tag bytes at fault ready.1.whole names)
 named_fails bytes done next fault ready names leads = leads
 
 pub known_head : (tag : ℕ) (tags : List ℕ) → list_any is_unknown (tag ∷ tags) ≡ false → (is_unknown tag ≡ false) × (list_any is_unknown tags ≡ false)
@@ -247,7 +273,8 @@ text_before bytes at text after = let inside = after.inside in omega (arith, len
 pub ready_next : (bytes : List ℕ) (want next : Want) → Ready bytes want → Leads bytes want next → Ready bytes next
 ready_next bytes (some_byte most) next ready leads = subst (Ready bytes) (sym leads.1) tt
 ready_next bytes (within most) next ready leads = subst (Ready bytes) (sym leads.1) tt
-ready_next bytes fourfold next ready leads = let start : Placed bytes 0 = record { inside = omega arith; whole = leads.0 } in subst (Ready bytes) (sym leads.1) start
+ready_next bytes fourfold next ready leads = let start : Placed bytes 0 = record { inside = omega arith; whole = leads.0 } in
+    subst (Ready bytes) (sym leads.1) start
 ready_next bytes (slash at) next ready leads = subst (Ready bytes) (sym leads.2) ready
 ready_next bytes (pattern at) next ready leads =
     let after = placed_on bytes at (string leads.0) leads.1.written.rest ready leads.1.written.parts (string_fours leads.0) in
@@ -257,14 +284,18 @@ ready_next bytes (comma at) next ready (inl leads) = subst (Ready bytes) (sym le
 ready_next bytes (comma at) next ready (inr leads) = subst (Ready bytes) (sym leads.2) ready
 ready_next bytes (tag_text at) next ready leads = subst (Ready bytes) (sym leads.2) (after (list_any is_unknown leads.0) refl) where
   after : (b : Bool) → list_any is_unknown leads.0 ≡ b → Ready bytes (after_tags (at + 1) leads.0 (at + length (tag_string leads.0)))
-  after true is = subst (Ready bytes) (sym (cond-true (list_any is_unknown leads.0) done (brackets_balance (at + 1) leads.0 (at + length (tag_string leads.0))) is)) tt
+  after true is =
+      subst (Ready bytes) (sym (cond-true (list_any is_unknown leads.0) done (brackets_balance (at + 1) leads.0 (at + length (tag_string leads.0))) is)) tt
   after false is =
-      let there : Ready bytes (brackets_balance (at + 1) leads.0 (at + length (tag_string leads.0))) = (is, placed_on bytes at (tag_string leads.0) leads.1.written.rest ready leads.1.written.parts (string_fours (44 ∷ leads.0)), tags_before at leads.0) in
+      let there : Ready bytes (brackets_balance (at + 1) leads.0 (at + length (tag_string leads.0))) =
+      (is, placed_on bytes at (tag_string leads.0) leads.1.written.rest ready leads.1.written.parts (string_fours (44 ∷ leads.0)), tags_before at leads.0)
+      in
       subst (Ready bytes) (sym (cond-false (list_any is_unknown leads.0) done (brackets_balance (at + 1) leads.0 (at + length (tag_string leads.0))) is)) there
 ready_next bytes (brackets_balance place tags at) next ready leads = subst (Ready bytes) (sym leads.1) (ready.0, ready.1)
 ready_next bytes (arguments [] at) next ready leads = subst (Ready bytes) (sym leads.1) tt
 ready_next bytes (arguments (tag ∷ tags) at) next ready leads =
-    let there : Ready bytes (arguments tags (at + length (atom_of leads.0))) = ((known_head tag tags ready.0).1, placed_on bytes at (atom_of leads.0) leads.2.written.rest ready.1 leads.2.written.parts (atom_fours leads.0)) in
+    let there : Ready bytes (arguments tags (at + length (atom_of leads.0))) =
+    ((known_head tag tags ready.0).1, placed_on bytes at (atom_of leads.0) leads.2.written.rest ready.1 leads.2.written.parts (atom_fours leads.0)) in
     subst (Ready bytes) (sym leads.3) there
 ready_next bytes done next ready leads = absurd leads
 
@@ -274,7 +305,9 @@ string_within bytes at fault inside (inl names) = subst (λ (f : Fault). f.at �
 string_within bytes at fault inside (inr names) =
     let tail : List ℕ = replicate names.zeros 0 ++ names.byte ∷ names.rest in
     let long : length bytes - at ≡ length names.text + length tail = sym (length-drop at bytes) ∙ ap length names.parts ∙ length-append names.text tail in
-    let zeros : length tail ≡ names.zeros + suc (length names.rest) = length-append (replicate names.zeros 0) (names.byte ∷ names.rest) ∙ ap (λ (n : ℕ). n + suc (length names.rest)) (length-replicate {A = ℕ} names.zeros 0) in
+    let zeros : length tail ≡ names.zeros + suc (length names.rest) =
+    length-append (replicate names.zeros 0) (names.byte ∷ names.rest)
+    ∙ ap (λ (n : ℕ). n + suc (length names.rest)) (length-replicate {A = ℕ} names.zeros 0) in
     let within_them : at + length names.text + names.zeros ≤ length bytes = omega arith in
     subst (λ (f : Fault). f.at ≤ length bytes) (sym names.named) within_them
 
@@ -283,13 +316,16 @@ blob_within bytes at fault inside (inl names) = subst (λ (f : Fault). f.at ≤ 
 blob_within bytes at fault inside (inr (inl names)) = subst (λ (f : Fault). f.at ≤ length bytes) (sym names.named) inside
 blob_within bytes at fault inside (inr (inr names)) =
     let tail : List ℕ = replicate names.zeros 0 ++ names.byte ∷ names.rest in
-    let zeros : length tail ≡ names.zeros + suc (length names.rest) = length-append (replicate names.zeros 0) (names.byte ∷ names.rest) ∙ ap (λ (n : ℕ). n + suc (length names.rest)) (length-replicate {A = ℕ} names.zeros 0) in
+    let zeros : length tail ≡ names.zeros + suc (length names.rest) =
+    length-append (replicate names.zeros 0) (names.byte ∷ names.rest)
+    ∙ ap (λ (n : ℕ). n + suc (length names.rest)) (length-replicate {A = ℕ} names.zeros 0) in
     let content : length (names.content ++ tail) ≡ length names.content + length tail = length-append names.content tail in
     let long : length bytes - at ≡ 4 + length (names.content ++ tail) = sym (length-drop at bytes) ∙ ap length names.parts ∙ omega arith in
     let within_them : at + 4 + length names.content + names.zeros ≤ length bytes = omega arith in
     subst (λ (f : Fault). f.at ≤ length bytes) (sym names.named) within_them
 
-bracket_within : (bytes : List ℕ) (place : ℕ) (tags before after : List ℕ) (byte : ℕ) (fault : Fault) → place + length tags ≤ length bytes → tags ≡ before ++ byte ∷ after → fault ≡ brackets (place + length before) → fault.at ≤ length bytes
+bracket_within : (bytes : List ℕ) (place : ℕ) (tags before after : List ℕ) (byte : ℕ) (fault : Fault) → place + length tags ≤ length bytes
+    → tags ≡ before ++ byte ∷ after → fault ≡ brackets (place + length before) → fault.at ≤ length bytes
 bracket_within bytes place tags before after byte fault inside parts named =
     let long : length tags ≡ length before + suc (length after) = ap length parts ∙ length-append before (byte ∷ after) in
     let within_them : place + length before ≤ length bytes = omega arith in
@@ -303,7 +339,8 @@ argument_within tag bytes at fault inside (of_blob is names) = blob_within bytes
 
 pub names_within : (bytes : List ℕ) (want : Want) (fault : Fault) → Ready bytes want → Names bytes want fault → fault.at ≤ length bytes
 names_within bytes (some_byte most) fault ready names = subst (λ (f : Fault). f.at ≤ length bytes) (sym names.1) (omega arith)
-names_within bytes (within most) fault ready names = let long : most ≤ length bytes = let l = names.0 in omega arith in subst (λ (f : Fault). f.at ≤ length bytes) (sym names.1) long
+names_within bytes (within most) fault ready names = let long : most ≤ length bytes = let l = names.0 in omega arith in
+    subst (λ (f : Fault). f.at ≤ length bytes) (sym names.1) long
 names_within bytes fourfold fault ready names = subst (λ (f : Fault). f.at ≤ length bytes) (sym names.1) (omega arith)
 names_within bytes (slash at) fault ready names = subst (λ (f : Fault). f.at ≤ length bytes) (sym names.1) ready.inside
 names_within bytes (pattern at) fault ready names = string_within bytes at fault ready.inside names

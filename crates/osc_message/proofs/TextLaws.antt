@@ -23,7 +23,8 @@ none_unknown [] none = refl
 none_unknown (tag ∷ tags) none = let both = known_head tag tags none in cond-false _ _ _ both.0 ∙ none_unknown tags both.1
 
 pub unknown_again : (pattern : List ℕ) (listed : List Argument) → IsLawful (known pattern listed) → unknown_of (message_text (known pattern listed)) ≡ None
-unknown_again pattern listed lawful = ap (option_and_then (λ tags. find is_unknown tags)) (tags_again (known pattern listed) lawful) ∙ none_unknown (map tag_of listed) (known_tags listed)
+unknown_again pattern listed lawful =
+    ap (option_and_then (λ tags. find is_unknown tags)) (tags_again (known pattern listed) lawful) ∙ none_unknown (map tag_of listed) (known_tags listed)
 
 arguments_from : (form : Form) → IsLawful form → message_arguments (message_text form) ≡ arguments_in (message_text form) (parts_in 0 form)
 arguments_from form lawful = ap (λ p. option_map_or (arguments_in (message_text form)) p []) (parts_again form lawful)
@@ -31,7 +32,8 @@ arguments_from form lawful = ap (λ p. option_map_or (arguments_in (message_text
 pub bare_arguments : (pattern : List ℕ) → IsLawful (bare pattern) → message_arguments (message_text (bare pattern)) ≡ []
 bare_arguments pattern lawful = arguments_from (bare pattern) lawful
 
-pub known_arguments_again : (pattern : List ℕ) (listed : List Argument) → IsLawful (known pattern listed) → message_arguments (message_text (known pattern listed)) ≡ listed
+pub known_arguments_again : (pattern : List ℕ) (listed : List Argument) → IsLawful (known pattern listed)
+    → message_arguments (message_text (known pattern listed)) ≡ listed
 known_arguments_again pattern listed lawful =
     let bytes : List ℕ = message_text (known pattern listed) in
     let start = placed_first bytes (text_fours (known pattern listed) lawful) in
@@ -40,7 +42,8 @@ known_arguments_again pattern listed lawful =
     ∙ cond-false _ _ _ (known_tags listed)
     ∙ (arguments_again bytes (parts_in 0 (known pattern listed)).place listed last.0 lawful.1 last.1).1
 
-pub unknown_arguments_again : (pattern tags rest : List ℕ) → IsLawful (unknown pattern tags rest) → message_arguments (message_text (unknown pattern tags rest)) ≡ []
+pub unknown_arguments_again : (pattern tags rest : List ℕ) → IsLawful (unknown pattern tags rest)
+    → message_arguments (message_text (unknown pattern tags rest)) ≡ []
 unknown_arguments_again pattern tags rest lawful = arguments_from (unknown pattern tags rest) lawful ∙ cond-true _ _ _ lawful.2
 
 -- the bytes after the tags
@@ -72,7 +75,8 @@ texts_differ one other lawful_one lawful_other same = go one other lawful_one la
   tags : (parts_in 0 one).tags ≡ (parts_in 0 other).tags
   tags = sym (tags_again one lawful_one) ∙ ap tags_of same ∙ tags_again other lawful_other
 
-  go : (a b : Form) → IsLawful a → IsLawful b → message_text a ≡ message_text b → (parts_in 0 a).pattern ≡ (parts_in 0 b).pattern → (parts_in 0 a).tags ≡ (parts_in 0 b).tags → a ≡ b
+  go : (a b : Form) → IsLawful a → IsLawful b → message_text a ≡ message_text b → (parts_in 0 a).pattern ≡ (parts_in 0 b).pattern
+      → (parts_in 0 a).tags ≡ (parts_in 0 b).tags → a ≡ b
   go (bare p) (bare q) la lb s ps ts = ap bare ps
   go (bare p) (known q m) la lb s ps ts = absurd (none_some (map tag_of m) ts)
   go (bare p) (unknown q t r) la lb s ps ts = absurd (none_some t ts)
@@ -80,9 +84,11 @@ texts_differ one other lawful_one lawful_other same = go one other lawful_one la
   go (known p l) (known q m) la lb s ps ts =
       let listed : l ≡ m = sym (known_arguments_again p l la) ∙ ap message_arguments s ∙ known_arguments_again q m lb in
       λ i. known (ps i) (listed i)
-  go (known p l) (unknown q t r) la lb s ps ts = absurd (true_false (list_any is_unknown t) lb.2 (ap (list_any is_unknown) (sym (some_is (map tag_of l) t ts)) ∙ known_tags l))
+  go (known p l) (unknown q t r) la lb s ps ts =
+      absurd (true_false (list_any is_unknown t) lb.2 (ap (list_any is_unknown) (sym (some_is (map tag_of l) t ts)) ∙ known_tags l))
   go (unknown p t r) (bare q) la lb s ps ts = absurd (none_some t (sym ts))
-  go (unknown p t r) (known q m) la lb s ps ts = absurd (true_false (list_any is_unknown t) la.2 (ap (list_any is_unknown) (some_is t (map tag_of m) ts) ∙ known_tags m))
+  go (unknown p t r) (known q m) la lb s ps ts =
+      absurd (true_false (list_any is_unknown t) la.2 (ap (list_any is_unknown) (some_is t (map tag_of m) ts) ∙ known_tags m))
   go (unknown p t r) (unknown q u v) la lb s ps ts =
       let tagged : t ≡ u = some_is t u ts in
       let rests : r ≡ v = sym (rest_again p t r la) ∙ ap rest_of s ∙ rest_again q u v lb in

@@ -20,9 +20,12 @@ text_is bytes at one other a b = first_is one other _ _ (sym (string_again bytes
 tail_is : (x : ℕ) (xs ys : List ℕ) → x ∷ xs ≡ x ∷ ys → xs ≡ ys
 tail_is x xs ys e = cc
 
-argument_is : (bytes : List ℕ) (tag at : ℕ) (one other : Argument) → tag_of one ≡ tag → tag_of other ≡ tag → StartsWithArgument bytes at one → StartsWithArgument bytes at other → one ≡ other
+argument_is : (bytes : List ℕ) (tag at : ℕ) (one other : Argument) → tag_of one ≡ tag → tag_of other ≡ tag → StartsWithArgument bytes at one
+    → StartsWithArgument bytes at other → one ≡ other
 argument_is bytes tag at one other p q a b =
-    first_is one other _ _ (sym (ap (λ (t : ℕ). argument_read t bytes at) (sym p) ∙ argument_again bytes at one a) ∙ ap (λ (t : ℕ). argument_read t bytes at) (sym q) ∙ argument_again bytes at other b)
+    first_is one other _ _
+    (sym (ap (λ (t : ℕ). argument_read t bytes at) (sym p) ∙ argument_again bytes at one a) ∙ ap (λ (t : ℕ). argument_read t bytes at) (sym q)
+    ∙ argument_again bytes at other b)
   where
     first_is : (x y : Argument) (m n : ℕ) → ◌≡◌ {A = Result (Argument × ℕ) Fault} (Ok (x, m)) (Ok (y, n)) → x ≡ y
     first_is x y m n e = ap (λ (p : Argument × ℕ). p.0) (ok_is (x, m) (y, n) e)
@@ -42,7 +45,8 @@ lead_on bytes (comma at) next other (inl a) (inr b) = absurd (empty_not 44 b.0 (
 lead_on bytes (comma at) next other (inr a) (inl b) = absurd (empty_not 44 a.0 (drop at bytes) b.0 a.1)
 lead_on bytes (comma at) next other (inr a) (inr b) = a.2 ∙ sym b.2
 lead_on bytes (tag_text at) next other a b =
-    a.2 ∙ ap (λ (t : List ℕ). after_tags (at + 1) t (at + length (tag_string t))) (tail_is 44 a.0 b.0 (text_is bytes at (44 ∷ a.0) (44 ∷ b.0) a.1 b.1)) ∙ sym b.2
+    a.2 ∙ ap (λ (t : List ℕ). after_tags (at + 1) t (at + length (tag_string t))) (tail_is 44 a.0 b.0 (text_is bytes at (44 ∷ a.0) (44 ∷ b.0) a.1 b.1))
+    ∙ sym b.2
 lead_on bytes (brackets_balance place tags at) next other a b = a.1 ∙ sym b.1
 lead_on bytes (arguments [] at) next other a b = a.1 ∙ sym b.1
 lead_on bytes (arguments (tag ∷ tags) at) next other a b =

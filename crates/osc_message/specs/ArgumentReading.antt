@@ -9,7 +9,8 @@ use Rattle.osc_message.specs.Messages.{Argument, integer, float, text, content, 
 -- the argument of a word under i f c r m
 abbrev pub word_argument : ℕ → ℕ → Argument
 word_argument tag number =
-    if tag == 105 then integer (cast_signed w32 number) else if tag == 102 then float number else if tag == 99 then character number else if tag == 114 then rgba number else midi number
+    if tag == 105 then integer (cast_signed w32 number) else if tag == 102 then float number else if tag == 99 then character number
+    else if tag == 114 then rgba number else midi number
 
 -- the argument of eight bytes under h t d
 abbrev pub long_argument : ℕ → ℕ → Argument
@@ -22,7 +23,8 @@ text_argument tag bytes = if tag == 115 then text bytes else symbol bytes
 -- the argument under T F N I [ ]
 abbrev pub bare_argument : ℕ → Argument
 bare_argument tag =
-    if tag == 84 then true_ else if tag == 70 then false_ else if tag == 78 then nil else if tag == 73 then infinitum else if tag == 91 then array_start else array_end
+    if tag == 84 then true_ else if tag == 70 then false_ else if tag == 78 then nil else if tag == 73 then infinitum else if tag == 91 then array_start
+    else array_end
 
 -- the argument of a known tag, and the place after it
 abbrev pub argument_read : ℕ → List ℕ → ℕ → Result (Argument × ℕ) Fault

@@ -1,4 +1,5 @@
 -- Messages in the making.
+use Rattle.osc_message.specs.declared.limits.TheConstants.{MAX_BUILT, MAX_BUILT_PATTERN}
 use Rattle.std.specs.Prelude.{◌≡◌, ℕ, ◌+◌, ◌%◌, ◌^◌, ◌≤◌, false, nat_le, if◌then◌else◌, IsTrue, List, [], ◌∷◌, ◌++◌, length, take, drop, position, Option, Some, None, option_map, is_ok}
 use Rattle.std.specs.List.{list_any}
 use Rattle.osc_atoms.specs.Atoms.{AreBytes, string}
@@ -42,12 +43,13 @@ refused_null (Some at) next = Some (HasNull at)
 -- a pattern of over 65,000 bytes is refused first, then one with a zero byte, and then one that has a fault of its own
 abbrev pub open_refusal : List ℕ → Option BuildFault
 open_refusal pattern =
-    if nat_le (length pattern) 65000 then refused_null (null_of pattern) (option_map (λ fault. Pattern fault) (pattern_fault pattern)) else Some TooLong
+    if nat_le (length pattern) MAX_BUILT_PATTERN then refused_null (null_of pattern) (option_map (λ fault. Pattern fault) (pattern_fault pattern))
+    else Some TooLong
 
 -- a zero byte is refused first, and then an argument with which the finished message would be over 65,504 bytes
 abbrev pub push_refusal : Building → Argument → Option BuildFault
 push_refusal building argument =
-    refused_null (null_in argument) (if nat_le (length (message_text (finished (pushed building argument)))) 65504 then None else Some TooLong)
+    refused_null (null_in argument) (if nat_le (length (message_text (finished (pushed building argument)))) MAX_BUILT then None else Some TooLong)
 
 -- the bytes that are kept: the pattern, the tags behind their comma, and the arguments' atoms
 pub record IsKept (pattern tags atoms : List ℕ) : Type 0 where
@@ -57,7 +59,7 @@ pub record IsKept (pattern tags atoms : List ℕ) : Type 0 where
   pub bytes : AreBytes atoms
   pub whole : length atoms % 4 ≡ 0
   pub readable : IsTrue (is_ok (arguments_read atoms (drop 1 tags) 0))
-  pub short : length (string pattern) + length (string tags) + length atoms ≤ 65504
+  pub short : length (string pattern) + length (string tags) + length atoms ≤ MAX_BUILT
 
 -- what the kept bytes stand for
 abbrev pub building_of : List ℕ → List ℕ → List ℕ → Building

@@ -1,4 +1,5 @@
 -- Messages, read: their parts, or the first fault. `laws` ties them to what is written.
+use Rattle.osc_atoms.specs.declared.limits.TheConstants.{MAX_BYTES}
 use Rattle.std.specs.Prelude.{◌≡◌, ℕ, ◌+◌, ◌-◌, ◌%◌, ◌≤◌, Bool, true, false, ◌||◌, ◌==◌, ⊤, IsTrue, nat_le, if◌then◌else◌, List, [], ◌∷◌, length, drop, Option, Some, None, Result, Ok, Err, is_ok}
 use Rattle.std.specs.List.{list_any, before_first}
 use Rattle.std.specs.Option.{option_map_or}
@@ -98,7 +99,7 @@ has_arguments bytes parts = option_map_or (λ tags. are_read bytes tags parts.pl
 pub record IsReadable (bytes : List ℕ) (parts : Parts) : Type 0 where
   pub read : parts_of bytes ≡ Some parts
   pub whole : length bytes % 4 ≡ 0
-  pub small : length bytes ≤ 1073741824
+  pub small : length bytes ≤ MAX_BYTES
   pub aligned : parts.place % 4 ≡ 0
   pub inside : parts.place ≤ length bytes
   pub arguments : IsTrue (has_arguments bytes parts)

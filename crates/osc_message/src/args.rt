@@ -1,4 +1,5 @@
 // The arguments of a message, one after another.
+ghost use Rattle.osc_atoms.specs.declared.limits.TheConstants.{MAX_BYTES};
 ghost use Rattle.std.specs.Prelude.{◌≡◌, ◌%◌, ◌≤◌, length, IsTrue, is_ok};
 ghost use Rattle.osc_message.specs.ArgumentReading.{arguments_end, arguments_of};
 
@@ -12,13 +13,14 @@ pub struct Args<'a> {
     bytes: &'a [u8],
     place: u32,
     ghost whole: { length bytes.now % 4 ≡ 0 },
-    ghost small: { length bytes.now ≤ 1073741824 },
+    ghost small: { length bytes.now ≤ MAX_BYTES },
     ghost aligned: { place % 4 ≡ 0 },
     ghost inside: { place ≤ length bytes.now },
     ghost readable: { IsTrue (is_ok (arguments_end tags.now bytes.now place)) },
 }
 
 impl<'a> Args<'a> {
+    ghost use Rattle.osc_atoms.specs.declared.limits.TheConstants.{MAX_BYTES};
     ghost use Rattle.osc_message.specs.Left.{left};
     ghost use Rattle.std.specs.Prelude.{◌≡◌, ◌%◌, ◌≤◌, length, IsTrue, is_ok};
     ghost use Rattle.osc_message.specs.ArgumentReading.{arguments_end, arguments_of};
@@ -26,7 +28,7 @@ impl<'a> Args<'a> {
     /// The arguments of these tags, from `place` on.
     pub(crate) fn new(tags: &'a [u8], bytes: &'a [u8], place: u32) -> Self
         requires whole { length bytes.now % 4 ≡ 0 }
-        requires small { length bytes.now ≤ 1073741824 }
+        requires small { length bytes.now ≤ MAX_BYTES }
         requires aligned { place % 4 ≡ 0 }
         requires inside { place ≤ length bytes.now }
         requires readable { IsTrue (is_ok (arguments_end tags.now bytes.now place)) }

@@ -1,4 +1,5 @@
 // The argument at a place, under its tag.
+ghost use Rattle.osc_atoms.specs.declared.limits.TheConstants.{MAX_BYTES};
 ghost use Rattle.std.specs.Prelude.{◌≡◌, ◌%◌, ◌≤◌, length, IfOk, IsTrue, is_ok, Ok};
 ghost use Rattle.osc_atoms.specs.Reading.{and_then};
 ghost use Rattle.osc_message.specs.ArgumentReading.{argument_read, arguments_end, word_argument, long_argument, text_argument, bare_argument};
@@ -17,7 +18,7 @@ pub(crate) fn known_argument(tag: u8, bytes: &[u8], at: u32) -> (Arg<'_>, u32)
     requires aligned { at % 4 ≡ 0 }
     requires known { IsTrue (is_ok (argument_read tag bytes.now at)) }
     requires inside { at ≤ length bytes.now }
-    requires small { length bytes.now ≤ 1073741824 }
+    requires small { length bytes.now ≤ MAX_BYTES }
     ensures read { Ok (shown result.0, result.1) ≡ argument_read tag bytes.now at }
     ensures next { (result.1 % 4 ≡ 0) × (result.1 ≤ length bytes.now) }
 {
@@ -88,7 +89,7 @@ pub(crate) fn end_of_arguments(tags: &[u8], bytes: &[u8], start: u32) -> Result<
     requires whole { length bytes.now % 4 ≡ 0 }
     requires aligned { start % 4 ≡ 0 }
     requires inside { start ≤ length bytes.now }
-    requires small { length bytes.now ≤ 1073741824 }
+    requires small { length bytes.now ≤ MAX_BYTES }
     ensures { result ≡ arguments_end tags.now bytes.now start }
 {
     let mut at = start;
@@ -105,7 +106,7 @@ fn end_of_argument(tag: u8, bytes: &[u8], at: u32) -> Result<u32, Fault>
     requires whole { length bytes.now % 4 ≡ 0 }
     requires aligned { at % 4 ≡ 0 }
     requires inside { at ≤ length bytes.now }
-    requires small { length bytes.now ≤ 1073741824 }
+    requires small { length bytes.now ≤ MAX_BYTES }
     ensures read { result ≡ and_then (argument_read tag bytes.now at) (λ argument. Ok argument.1) }
     ensures next { IfOk result (λ next. (next % 4 ≡ 0) × (next ≤ length bytes.now)) }
 {

@@ -1,4 +1,6 @@
 // An argument's tag, and its bytes.
+ghost use Rattle.osc_atoms.specs.declared.limits.TheConstants.{MAX_BYTES};
+ghost use Rattle.osc_message.specs.declared.limits.TheConstants.{MAX_BUILT};
 ghost use Rattle.std.specs.Prelude.{◌≡◌, ◌++◌, ◌≤◌, ◌<◌, ◌^◌, ◌+◌, None, length, take, position, OnOk, OnErr, IfSome};
 ghost use Rattle.std.specs.Vec.{vec_len, vec_capacity};
 ghost use Rattle.osc_atoms.specs.Reading.{is_zero};
@@ -91,7 +93,7 @@ pub fn argument_size(arg: Arg<'_>) -> usize
 /// Appends the argument's bytes, for which there is room.
 pub fn append_argument(out: &mut Vec<u8>, arg: Arg<'_>)
     requires no_zero { HasNoZero (shown arg) }
-    requires small { length (atom_of (shown arg)) ≤ 1073741824 }
+    requires small { length (atom_of (shown arg)) ≤ MAX_BYTES }
     requires room { vec_len out.old + length (atom_of (shown arg)) ≤ vec_capacity out.old }
     ensures out { out.new.items ≡ out.old.items ++ atom_of (shown arg.entry) }
     ensures fits { Fits (shown arg.entry) }
@@ -113,7 +115,7 @@ pub fn append_argument(out: &mut Vec<u8>, arg: Arg<'_>)
 /// Appends the argument's bytes, whole or not at all.
 pub(crate) fn put_argument(out: &mut Vec<u8>, arg: Arg<'_>) -> Result<(), AllocError>
     requires no_null { null_in (shown arg) ≡ None }
-    requires small { length (atom_of (shown arg)) ≤ 65504 }
+    requires small { length (atom_of (shown arg)) ≤ MAX_BUILT }
     ensures ok { OnOk result (out.new.items ≡ out.old.items ++ atom_of (shown arg.entry)) }
     ensures err { OnErr result (out.new.items ≡ out.old.items) }
     ensures fits { OnOk result (Fits (shown arg.entry)) }

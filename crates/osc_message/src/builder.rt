@@ -1,4 +1,5 @@
 // Messages that are built argument by argument.
+ghost use Rattle.osc_message.specs.declared.limits.TheConstants.{MAX_BUILT};
 ghost use Rattle.std.specs.Prelude.{◌≡◌, ◌++◌, ◌∷◌, [], ◌<◌, ◌≤◌, ◌+◌, None, IsTrue, is_ok, drop, length, IfOk, OnOk, OnErr};
 ghost use Rattle.osc_atoms.specs.Atoms.{AreBytes, string, has_no_zero};
 ghost use Rattle.osc_message.specs.Messages.{atom_of, tag_of, Fits};
@@ -7,18 +8,13 @@ ghost use Rattle.osc_message.specs.Reading.{brackets_read};
 ghost use Rattle.osc_message.specs.Shown.{shown};
 
 use crate::argument_writing::{argument_size, find_null, null_at, put_argument};
+use crate::limits::{MAX_BUILT, MAX_BUILT_PATTERN};
 use crate::tags::check_brackets;
 use crate::{Arg, BuildFault, Bytes, argument_writing};
 use osc_atoms::{put_string, string_size};
 use osc_pattern::Pattern;
 use std::alloc::{AllocError, Global};
 use std::marker::Model;
-
-/// The greatest size of a finished message.
-const MOST: usize = 65504;
-
-/// The greatest size of a pattern. It leaves room for a tag string.
-const MOST_PATTERN: usize = 65000;
 
 /// A message in the making: a pattern, and the arguments that were pushed (OSC 1.0, "OSC Messages"). A contract sees the
 /// two.
@@ -41,6 +37,7 @@ impl Model for Builder {
 }
 
 impl Builder {
+    ghost use Rattle.osc_message.specs.declared.limits.TheConstants.{MAX_BUILT, MAX_BUILT_PATTERN};
     ghost use Rattle.std.specs.Prelude.{◌≡◌, ◌≤◌, ◌⊎◌, [], Err, Some, None, map, length, IsOk, IfOk, IfErr, OnOk, OnErr};
     ghost use Rattle.osc_pattern.specs.declared.faults.PatternFault.{PatternFault};
     ghost use Rattle.osc_pattern.specs.Patterns.{IsPattern, IsFault};
@@ -53,13 +50,18 @@ impl Builder {
     /// A message to this pattern without arguments. Refuses `TooLong` for a pattern of over 65,000 bytes, then
     /// `HasNull`, then `Pattern` with the pattern's first fault, then `NoMemory`.
     pub fn open(alloc: Global, pattern: &[u8]) -> Result<Builder, BuildFault>
-        ensures ok { IfOk result (λ builder. builder ≡ record { pattern = pattern.now; arguments = [] }) }
-        ensures lawful { IsOk result → IsPattern pattern.now × (length pattern.now ≤ 65000) }
-        ensures refused { (fault : BuildFault) → open_refusal pattern.now ≡ Some fault → result ≡ Err fault }
-        ensures first { (fault : PatternFault) → result ≡ Err (BuildFault.Pattern fault) → IsFault pattern.now fault.kind fault.at }
-        ensures cause { IfErr result (λ fault. (open_refusal pattern.now ≡ Some fault) ⊎ (fault ≡ BuildFault.NoMemory)) }
+        ensures ok { IfOk result
+            (λ builder. builder ≡ record { pattern = pattern.now; arguments = [] }) }
+        ensures lawful { IsOk result → IsPattern pattern.now
+            × (length pattern.now ≤ MAX_BUILT_PATTERN) }
+        ensures refused { (fault : BuildFault) → open_refusal pattern.now ≡ Some fault
+            → result ≡ Err fault }
+        ensures first { (fault : PatternFault) → result ≡ Err (BuildFault.Pattern fault)
+            → IsFault pattern.now fault.kind fault.at }
+        ensures cause { IfErr result
+            (λ fault. (open_refusal pattern.now ≡ Some fault) ⊎ (fault ≡ BuildFault.NoMemory)) }
     {
-        if pattern.len() > MOST_PATTERN {
+        if pattern.len() > MAX_BUILT_PATTERN {
             return Err(BuildFault::TooLong);
         }
         if let Some(at) = null_at(pattern) {
@@ -81,13 +83,16 @@ impl Builder {
     pub fn push(&mut self, arg: Arg<'_>) -> Result<(), BuildFault>
         ensures ok { OnOk result (self.new ≡ pushed self.old (shown arg.entry)) }
         ensures err { OnErr result (self.new ≡ self.old) }
-        ensures refused { (fault : BuildFault) → push_refusal self.old (shown arg.entry) ≡ Some fault → result ≡ Err fault }
-        ensures cause { IfErr result (λ fault. (push_refusal self.old (shown arg.entry) ≡ Some fault) ⊎ (fault ≡ BuildFault.NoMemory)) }
+        ensures refused { (fault : BuildFault)
+            → push_refusal self.old (shown arg.entry) ≡ Some fault → result ≡ Err fault }
+        ensures cause { IfErr result
+            (λ fault. (push_refusal self.old (shown arg.entry) ≡ Some fault)
+            ⊎ (fault ≡ BuildFault.NoMemory)) }
     {
         if let Some(at) = find_null(arg) {
             return Err(BuildFault::HasNull { at });
         }
-        if finished_size(&self.pattern, &self.tags, &self.atoms, arg) > MOST {
+        if finished_size(&self.pattern, &self.tags, &self.atoms, arg) > MAX_BUILT {
             return Err(BuildFault::TooLong);
         }
         add_argument(&mut self.tags, &mut self.atoms, arg)?;
@@ -98,9 +103,12 @@ impl Builder {
     /// `NoMemory`.
     pub fn finish(&self) -> Result<Bytes, BuildFault>
         ensures ok { IfOk result (λ bytes. bytes ≡ message_text (finished self.now)) }
-        ensures message { IfOk result (λ bytes. IsMessage 65504 bytes) }
-        ensures refused { (Balanced (map tag_of self.now.arguments) → ⊥) → result ≡ Err BuildFault.Brackets }
-        ensures cause { IfErr result (λ fault. ((fault ≡ BuildFault.Brackets) × (Balanced (map tag_of self.now.arguments) → ⊥)) ⊎ (fault ≡ BuildFault.NoMemory)) }
+        ensures message { IfOk result (λ bytes. IsMessage MAX_BUILT bytes) }
+        ensures refused { (Balanced (map tag_of self.now.arguments) → ⊥)
+            → result ≡ Err BuildFault.Brackets }
+        ensures cause { IfErr result
+            (λ fault. ((fault ≡ BuildFault.Brackets)
+            × (Balanced (map tag_of self.now.arguments) → ⊥)) ⊎ (fault ≡ BuildFault.NoMemory)) }
     {
         let pattern = self.pattern.as_slice();
         let tags = self.tags.as_slice();
@@ -114,8 +122,11 @@ impl Builder {
 
 /// How many bytes the message has with one more argument.
 fn finished_size(pattern: &[u8], tags: &[u8], atoms: &[u8], arg: Arg<'_>) -> usize
-    requires kept { length (string pattern.now) + length (string tags.now) + length atoms.now ≤ 65504 }
-    ensures { result ≡ length (string pattern.now) + length (string (tags.now ++ tag_of (shown arg.entry) ∷ [])) + length atoms.now + length (atom_of (shown arg.entry)) }
+    requires kept { length (string pattern.now) + length (string tags.now) + length atoms.now
+        ≤ MAX_BUILT }
+    ensures { result ≡ length (string pattern.now)
+        + length (string (tags.now ++ tag_of (shown arg.entry) ∷ [])) + length atoms.now
+        + length (atom_of (shown arg.entry)) }
 {
     string_size(pattern.len()) + string_size(tags.len() + 1) + atoms.len() + argument_size(arg)
 }
@@ -123,7 +134,7 @@ fn finished_size(pattern: &[u8], tags: &[u8], atoms: &[u8], arg: Arg<'_>) -> usi
 /// Adds the argument's tag and its bytes, or neither.
 fn add_argument(tags: &mut Vec<u8>, atoms: &mut Vec<u8>, arg: Arg<'_>) -> Result<(), AllocError>
     requires no_null { null_in (shown arg) ≡ None }
-    requires small { length (atom_of (shown arg)) ≤ 65504 }
+    requires small { length (atom_of (shown arg)) ≤ MAX_BUILT }
     ensures tags { OnOk result (tags.new.items ≡ tags.old.items ++ tag_of (shown arg.entry) ∷ []) }
     ensures atoms { OnOk result (atoms.new.items ≡ atoms.old.items ++ atom_of (shown arg.entry)) }
     ensures fits { OnOk result (Fits (shown arg.entry)) }
@@ -142,7 +153,7 @@ fn add_argument(tags: &mut Vec<u8>, atoms: &mut Vec<u8>, arg: Arg<'_>) -> Result
 /// The array brackets among the tags behind their comma balance.
 fn are_balanced(tags: &[u8]) -> bool
     requires comma { 0 < length tags.now }
-    requires small { length tags.now ≤ 65504 }
+    requires small { length tags.now ≤ MAX_BUILT }
     ensures { result ≡ is_ok (brackets_read 0 0 (drop 1 tags.now) 0) }
 {
     check_brackets(&tags[1..], 0).is_ok()
@@ -152,7 +163,8 @@ fn are_balanced(tags: &[u8]) -> bool
 fn joined(alloc: Global, pattern: &[u8], tags: &[u8], atoms: &[u8]) -> Result<Vec<u8>, AllocError>
     requires pattern { IsTrue (has_no_zero pattern.now) }
     requires tags { IsTrue (has_no_zero tags.now) }
-    ensures { IfOk result (λ bytes. bytes.items ≡ string pattern.now ++ (string tags.now ++ atoms.now)) }
+    ensures { IfOk result
+        (λ bytes. bytes.items ≡ string pattern.now ++ (string tags.now ++ atoms.now)) }
 {
     let mut bytes = Vec::new(alloc);
     put_string(&mut bytes, pattern)?;

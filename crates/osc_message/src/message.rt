@@ -1,4 +1,5 @@
 // Messages, borrowed from their bytes.
+ghost use Rattle.osc_atoms.specs.declared.limits.TheConstants.{MAX_BYTES};
 ghost use Rattle.std.specs.Prelude.{◌≡◌, ◌↔◌, ◌≤◌, ℕ, length, IsOk, IfOk, IfErr, Option, List, Err, option_map, is_ok};
 ghost use Rattle.osc_atoms.specs.declared.fault.Fault.{Fault};
 ghost use Rattle.osc_message.specs.Messages.{IsMessage};
@@ -34,6 +35,7 @@ impl<'a> Model for Message<'a> {
 }
 
 impl<'a> Message<'a> {
+    ghost use Rattle.osc_atoms.specs.declared.limits.TheConstants.{MAX_BYTES};
     ghost use Rattle.osc_message.specs.Left.{left};
     ghost use Rattle.std.specs.Prelude.{◌≡◌, ◌↔◌, ◌≤◌, ℕ, length, IsTrue, IsOk, IfOk, IfErr, Some, Err, IsSome, is_ok, option_map};
     ghost use Rattle.std.specs.Result.{result_err};
@@ -46,7 +48,7 @@ impl<'a> Message<'a> {
     /// Accepts exactly one message of at most `max` bytes, and borrows it. Else tells its first fault, of the kinds 1 to
     /// 4 and 8 to 16; docs/FORMATS.md has the order of the checks. Takes no memory.
     pub fn check(bytes: &'a [u8], max: u32) -> Result<Message<'a>, Fault>
-        requires { max ≤ 1073741824 }
+        requires { max ≤ MAX_BYTES }
         ensures ok { IfOk result (λ message. message ≡ bytes.now) }
         ensures exact { IsOk result ↔ IsMessage max bytes.now }
         ensures read { is_ok result ≡ is_message max bytes.now }
@@ -62,7 +64,7 @@ impl<'a> Message<'a> {
     /// The message that the bytes were checked to be. Looks for the ends of the pattern and of the tag string, and at the
     /// tags, and at nothing else.
     pub fn known(bytes: &'a [u8]) -> Message<'a>
-        requires { IsTrue (is_message 1073741824 bytes.now) }
+        requires { IsTrue (is_message MAX_BYTES bytes.now) }
         ensures { result ≡ bytes.now }
     {
         Message {
@@ -75,8 +77,8 @@ impl<'a> Message<'a> {
     pub fn bytes(&self) -> &'a [u8]
         ensures value { result.now ≡ self.now }
         ensures read { IsSome (parts_of self.now) }
-        ensures small { length self.now ≤ 1073741824 }
-        ensures message { IsTrue (is_message 1073741824 self.now) }
+        ensures small { length self.now ≤ MAX_BYTES }
+        ensures message { IsTrue (is_message MAX_BYTES self.now) }
     {
         self.bytes
     }
@@ -116,7 +118,7 @@ impl<'a> Message<'a> {
 
 /// The parts of bytes that are a message of at most `max` bytes.
 fn read_limited(bytes: &[u8], max: u32) -> Result<Slices<'_>, Fault>
-    requires { max ≤ 1073741824 }
+    requires { max ≤ MAX_BYTES }
     ensures read { result_map_both seen (λ fault. fault) result ≡ limited_read max bytes.now }
     ensures readable { IfOk result (λ slices. IsReadable bytes.now (seen slices)) }
     ensures unknown { IfOk result KeepsUnknown }

@@ -1,4 +1,5 @@
 // A message: its parts, or its first fault.
+ghost use Rattle.osc_atoms.specs.declared.limits.TheConstants.{MAX_BYTES};
 ghost use Rattle.std.specs.Prelude.{◌≡◌, ◌+◌, ◌%◌, ◌≤◌, IsTrue, IfOk, drop, length, false, is_ok, Ok};
 ghost use Rattle.std.specs.List.{list_any};
 ghost use Rattle.std.specs.Result.{result_map_both};
@@ -24,9 +25,10 @@ pub(crate) struct Slices<'a> {
 #[tactic(auto, unfolding(crate::specs::Reading::message_read))]
 pub(crate) fn read_message(bytes: &[u8]) -> Result<Slices<'_>, Fault>
     requires whole { length bytes.now % 4 ≡ 0 }
-    requires small { length bytes.now ≤ 1073741824 }
+    requires small { length bytes.now ≤ MAX_BYTES }
     ensures read { result_map_both seen (λ fault. fault) result ≡ message_read bytes.now 0 }
-    ensures place { IfOk result (λ slices. (slices.place % 4 ≡ 0) × (slices.place ≤ length bytes.now)) }
+    ensures place { IfOk result
+        (λ slices. (slices.place % 4 ≡ 0) × (slices.place ≤ length bytes.now)) }
     ensures arguments { IfOk result (λ slices. IsTrue (has_arguments bytes.now (seen slices))) }
     ensures unknown { IfOk result KeepsUnknown }
 {
@@ -42,13 +44,15 @@ pub(crate) fn read_message(bytes: &[u8]) -> Result<Slices<'_>, Fault>
 
 /// Checks the pattern that the bytes begin with, and reads what follows it.
 fn read_pattern<'a>(bytes: &'a [u8], pattern: &'a [u8], end: u32) -> Result<Slices<'a>, Fault>
-    requires pattern { length pattern.now ≤ 1073741824 }
+    requires pattern { length pattern.now ≤ MAX_BYTES }
     requires whole { length bytes.now % 4 ≡ 0 }
     requires aligned { end % 4 ≡ 0 }
     requires inside { end ≤ length bytes.now }
-    requires small { length bytes.now ≤ 1073741824 }
-    ensures read { result_map_both seen (λ fault. fault) result ≡ lawful_read bytes.now 0 pattern.now end }
-    ensures place { IfOk result (λ slices. (slices.place % 4 ≡ 0) × (slices.place ≤ length bytes.now)) }
+    requires small { length bytes.now ≤ MAX_BYTES }
+    ensures read { result_map_both seen (λ fault. fault) result
+        ≡ lawful_read bytes.now 0 pattern.now end }
+    ensures place { IfOk result
+        (λ slices. (slices.place % 4 ≡ 0) × (slices.place ≤ length bytes.now)) }
     ensures arguments { IfOk result (λ slices. IsTrue (has_arguments bytes.now (seen slices))) }
     ensures unknown { IfOk result KeepsUnknown }
 {
@@ -65,9 +69,11 @@ fn read_after_pattern<'a>(bytes: &'a [u8], pattern: &'a [u8], at: u32) -> Result
     requires whole { length bytes.now % 4 ≡ 0 }
     requires aligned { at % 4 ≡ 0 }
     requires inside { at ≤ length bytes.now }
-    requires small { length bytes.now ≤ 1073741824 }
-    ensures read { result_map_both seen (λ fault. fault) result ≡ comma_read bytes.now pattern.now at }
-    ensures place { IfOk result (λ slices. (slices.place % 4 ≡ 0) × (slices.place ≤ length bytes.now)) }
+    requires small { length bytes.now ≤ MAX_BYTES }
+    ensures read { result_map_both seen (λ fault. fault) result
+        ≡ comma_read bytes.now pattern.now at }
+    ensures place { IfOk result
+        (λ slices. (slices.place % 4 ≡ 0) × (slices.place ≤ length bytes.now)) }
     ensures arguments { IfOk result (λ slices. IsTrue (has_arguments bytes.now (seen slices))) }
     ensures unknown { IfOk result KeepsUnknown }
 {
@@ -93,10 +99,12 @@ fn read_tag_string<'a>(bytes: &'a [u8], pattern: &'a [u8], at: u32) -> Result<Sl
     requires whole { length bytes.now % 4 ≡ 0 }
     requires aligned { at % 4 ≡ 0 }
     requires inside { at ≤ length bytes.now }
-    requires small { length bytes.now ≤ 1073741824 }
+    requires small { length bytes.now ≤ MAX_BYTES }
     requires comma { IsTrue (begins 44 (drop at bytes.now)) }
-    ensures read { result_map_both seen (λ fault. fault) result ≡ tagged_read bytes.now pattern.now at }
-    ensures place { IfOk result (λ slices. (slices.place % 4 ≡ 0) × (slices.place ≤ length bytes.now)) }
+    ensures read { result_map_both seen (λ fault. fault) result
+        ≡ tagged_read bytes.now pattern.now at }
+    ensures place { IfOk result
+        (λ slices. (slices.place % 4 ≡ 0) × (slices.place ≤ length bytes.now)) }
     ensures arguments { IfOk result (λ slices. IsTrue (has_arguments bytes.now (seen slices))) }
     ensures unknown { IfOk result KeepsUnknown }
 {
@@ -121,7 +129,7 @@ fn check_tags(bytes: &[u8], place: u32, tags: &[u8], start: u32) -> Result<(), F
     requires inside { start ≤ length bytes.now }
     requires before { place + length tags.now ≤ length bytes.now }
     requires known { list_any is_unknown tags.now ≡ false }
-    requires small { length bytes.now ≤ 1073741824 }
+    requires small { length bytes.now ≤ MAX_BYTES }
     ensures { result ≡ tags_read bytes.now place tags.now start }
 {
     check_brackets(tags, place)?;
@@ -132,7 +140,7 @@ fn check_arguments(bytes: &[u8], tags: &[u8], start: u32) -> Result<(), Fault>
     requires whole { length bytes.now % 4 ≡ 0 }
     requires aligned { start % 4 ≡ 0 }
     requires inside { start ≤ length bytes.now }
-    requires small { length bytes.now ≤ 1073741824 }
+    requires small { length bytes.now ≤ MAX_BYTES }
     ensures { result ≡ arguments_read bytes.now tags.now start }
 {
     let end = end_of_arguments(tags, bytes, start)?;
@@ -149,7 +157,7 @@ fn check_arguments(bytes: &[u8], tags: &[u8], start: u32) -> Result<(), Fault>
 /// and at the tags.
 #[tactic(auto, unfolding(crate::specs::Reading::message_read))]
 pub(crate) fn known_message(bytes: &[u8]) -> Slices<'_>
-    requires { IsTrue (is_message 1073741824 bytes.now) }
+    requires { IsTrue (is_message MAX_BYTES bytes.now) }
     ensures readable { IsReadable bytes.now (seen result) }
     ensures unknown { KeepsUnknown result }
 {
@@ -161,7 +169,7 @@ fn known_after_pattern<'a>(bytes: &'a [u8], pattern: &'a [u8], at: u32) -> Slice
     requires whole { length bytes.now % 4 ≡ 0 }
     requires aligned { at % 4 ≡ 0 }
     requires inside { at ≤ length bytes.now }
-    requires small { length bytes.now ≤ 1073741824 }
+    requires small { length bytes.now ≤ MAX_BYTES }
     requires known { IsTrue (is_ok (comma_read bytes.now pattern.now at)) }
     ensures read { Ok (seen result) ≡ comma_read bytes.now pattern.now at }
     ensures place { (result.place % 4 ≡ 0) × (result.place ≤ length bytes.now) }

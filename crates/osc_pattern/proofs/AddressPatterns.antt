@@ -33,7 +33,8 @@ none_of p q less [] none = refl
 none_of p q less (x ∷ xs) none =
     let both = neither (p x) (list_any p xs) none in rw (less x both.0) (none_of p q less xs both.1)
 
-each_none : (p q : ℕ → Bool) → ((x : ℕ) → p x ≡ false → q x ≡ false) → (parts : List (List ℕ)) → All (λ part. list_any p part ≡ false) parts → All (λ part. list_any q part ≡ false) parts
+each_none : (p q : ℕ → Bool) → ((x : ℕ) → p x ≡ false → q x ≡ false) → (parts : List (List ℕ)) → All (λ part. list_any p part ≡ false) parts
+    → All (λ part. list_any q part ≡ false) parts
 each_none p q less [] all = All-nil (λ part. list_any q part ≡ false)
 each_none p q less (part ∷ parts) all =
     All-cons (λ part. list_any q part ≡ false) part parts (none_of p q less part (All-head (λ part. list_any p part ≡ false) part parts all))
@@ -50,7 +51,8 @@ first_inside x (part ∷ parts) rest more all =
 joined_inside : (xs : List ℕ) → All IsInside (slice_split is_slash xs) → IsInside xs
 joined_inside [] all = refl
 joined_inside (x ∷ xs) all = go (is_slash x) refl (joined_inside xs) all where
-  go : (t : Bool) → is_slash x ≡ t → (All IsInside (slice_split is_slash xs) → IsInside xs) → All IsInside (cond t ([] ∷ slice_split is_slash xs) (onto_first x (slice_split is_slash xs))) → IsInside (x ∷ xs)
+  go : (t : Bool) → is_slash x ≡ t → (All IsInside (slice_split is_slash xs) → IsInside xs)
+      → All IsInside (cond t ([] ∷ slice_split is_slash xs) (onto_first x (slice_split is_slash xs))) → IsInside (x ∷ xs)
   go true slash more all = rw (slash_inside x slash) (more (All-tail IsInside [] (slice_split is_slash xs) all))
   go false other more all = first_inside x (slice_split is_slash xs) xs more all
 

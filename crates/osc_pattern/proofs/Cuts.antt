@@ -31,7 +31,8 @@ In-Contains (x ∷ xs) y (inr h) = let found = In-Contains xs y h in (suc found.
 pub any-In : (f : List ℕ → Bool) (xs : List (List ℕ)) → list_any f xs ≡ true → (x : List ℕ) × In xs x × (f x ≡ true)
 any-In f [] h = absurd (cc)
 any-In f (x ∷ xs) h = go (f x) refl h (any-In f xs) where
-  go : (t : Bool) → f x ≡ t → (t || list_any f xs) ≡ true → (list_any f xs ≡ true → (x : List ℕ) × In xs x × (f x ≡ true)) → (y : List ℕ) × In (x ∷ xs) y × (f y ≡ true)
+  go : (t : Bool) → f x ≡ t → (t || list_any f xs) ≡ true → (list_any f xs ≡ true → (x : List ℕ) × In xs x × (f x ≡ true))
+      → (y : List ℕ) × In (x ∷ xs) y × (f y ≡ true)
   go true e h more = (x, inl refl, e)
   go false e h more = let found = more h in (found.0, inr found.1, found.2)
 
@@ -126,7 +127,8 @@ after_item-sound (plain own) (b ∷ name) rest h = go (b == own) refl h where
 after_item-complete : (item : Item) (piece rest : List ℕ) → IsText item piece → In (after_item item (piece ++ rest)) rest
 after_item-complete star piece rest text = rests-complete piece rest
 after_item-complete (choice texts) piece rest (k, below, at) =
-    flat_map-In (after_text (piece ++ rest)) (slice_split is_comma texts) piece rest (Contains-In (slice_split is_comma texts) piece k below at) (after_text-complete piece rest)
+    flat_map-In (after_text (piece ++ rest)) (slice_split is_comma texts) piece rest (Contains-In (slice_split is_comma texts) piece k below at)
+        (after_text-complete piece rest)
 after_item-complete any [] rest text = absurd (omega arith)
 after_item-complete any (b ∷ []) rest text = inl refl
 after_item-complete any (b ∷ c ∷ piece) rest text = absurd (omega arith)

@@ -24,7 +24,8 @@ All-none p (x ∷ xs) none (suc k) d below = All-none p xs (neither (p x) (list_
 none_before : (p : ℕ → Bool) (xs : List ℕ) → list_any p (take (position_or_len p xs) xs) ≡ false
 none_before p [] = refl
 none_before p (x ∷ xs) = go (p x) refl (none_before p xs) where
-  go : (t : Bool) → p x ≡ t → list_any p (take (position_or_len p xs) xs) ≡ false → list_any p (take (cond (not t) (1 + position_or_len p xs) 0) (x ∷ xs)) ≡ false
+  go : (t : Bool) → p x ≡ t → list_any p (take (position_or_len p xs) xs) ≡ false
+      → list_any p (take (cond (not t) (1 + position_or_len p xs) 0) (x ∷ xs)) ≡ false
   go true e more = refl
   go false e more = rw one-add (rw e more)
 

@@ -15,11 +15,13 @@ pub read_part-here : (part : List ℕ) → first_item part ≡ None → 1 ≤ le
 read_part-here [] e long = absurd (omega arith)
 read_part-here (x ∷ xs) e long = ap result_err (read_part-stuck x xs e)
 
-past_item : (item : Item) (r : Result (List Item) ℕ) (size : ℕ) → size ≡ length (item_text item) → result_err (with_first (Some (item, r))) ≡ option_map (λ at. size + at) (result_err r)
+past_item : (item : Item) (r : Result (List Item) ℕ) (size : ℕ) → size ≡ length (item_text item)
+    → result_err (with_first (Some (item, r))) ≡ option_map (λ at. size + at) (result_err r)
 past_item item (Ok items) size e = refl
 past_item item (Err at) size e = ap (λ n. Some (n + at)) (omega arith)
 
-past_first : (part : List ℕ) (item : Item) (rest : List ℕ) → first_item part ≡ Some (item, rest) → result_err (read_part part) ≡ option_map (λ at. (length part - length rest) + at) (result_err (read_part rest))
+past_first : (part : List ℕ) (item : Item) (rest : List ℕ) → first_item part ≡ Some (item, rest)
+    → result_err (read_part part) ≡ option_map (λ at. (length part - length rest) + at) (result_err (read_part rest))
 past_first part item rest e =
     let found : FirstItem part (Some (item, rest)) = subst (FirstItem part) e (first_item-found part) in
     let size : length part - length rest ≡ length (item_text item) = omega (arith, ap length found.0, length-append (item_text item) rest) in
@@ -30,7 +32,8 @@ map_twice a b c None e = refl
 map_twice a b c (Some n) e = ap Some (omega arith)
 
 -- what is read after so many bytes is read after one item more
-pub read_part-past : (whole : ℕ) (part : List ℕ) (item : Item) (rest : List ℕ) → first_item part ≡ Some (item, rest) → length part ≤ whole → length rest ≤ length part
+pub read_part-past : (whole : ℕ) (part : List ℕ) (item : Item) (rest : List ℕ) → first_item part ≡ Some (item, rest) → length part ≤ whole
+    → length rest ≤ length part
     → option_map (λ at. (whole - length part) + at) (result_err (read_part part)) ≡ option_map (λ at. (whole - length rest) + at) (result_err (read_part rest))
 read_part-past whole part item rest e within shorter =
     ap (option_map (λ at. (whole - length part) + at)) (past_first part item rest e)

@@ -32,7 +32,8 @@ parts_ended bytes names part rest name e f =
     rw (e, f) (ap (λ others. match_part part name && match_parts [] others) more.2 ∙ and-false (match_part part name))
 
 -- a part is no longer than the parts together
-pub piece_within : (rest : Option (Bor (List ℕ))) (piece whole : ℕ) → MatchOption rest (piece ≡ whole) (λ others. piece + (1 + length others.now) ≡ whole) → piece ≤ whole
+pub piece_within : (rest : Option (Bor (List ℕ))) (piece whole : ℕ) → MatchOption rest (piece ≡ whole) (λ others. piece + (1 + length others.now) ≡ whole)
+    → piece ≤ whole
 piece_within None piece whole size = omega arith
 piece_within (Some others) piece whole size = omega arith
 

@@ -31,7 +31,8 @@ map-None f (Some n) e = absurd (cc)
 open_place-none : (parts : List (List ℕ)) → open_place parts ≡ None → All IsLawfulPart parts
 open_place-none [] e = All-nil IsLawfulPart
 open_place-none (part ∷ parts) e = go (read_part part) (read_part-read part) e (open_place-none parts) where
-  go : (r : Result (List Item) ℕ) → IsRead part r → open_in r (length part) (open_place parts) ≡ None → (open_place parts ≡ None → All IsLawfulPart parts) → All IsLawfulPart (part ∷ parts)
+  go : (r : Result (List Item) ℕ) → IsRead part r → open_in r (length part) (open_place parts) ≡ None → (open_place parts ≡ None → All IsLawfulPart parts)
+      → All IsLawfulPart (part ∷ parts)
   go (Ok items) read e more = All-cons IsLawfulPart part parts (items, read) (more (map-None _ (open_place parts) e))
   go (Err at) read e more = absurd (cc)
 
@@ -54,7 +55,8 @@ onto_no_slash x (part ∷ parts) other all =
 split_no_slash : (bytes : List ℕ) → All HasNoSlash (slice_split is_slash bytes)
 split_no_slash [] = All-cons HasNoSlash [] [] refl (All-nil HasNoSlash)
 split_no_slash (x ∷ xs) = go (is_slash x) refl (split_no_slash xs) where
-  go : (t : Bool) → is_slash x ≡ t → All HasNoSlash (slice_split is_slash xs) → All HasNoSlash (cond t ([] ∷ slice_split is_slash xs) (onto_first x (slice_split is_slash xs)))
+  go : (t : Bool) → is_slash x ≡ t → All HasNoSlash (slice_split is_slash xs)
+      → All HasNoSlash (cond t ([] ∷ slice_split is_slash xs) (onto_first x (slice_split is_slash xs)))
   go true e all = All-cons HasNoSlash [] (slice_split is_slash xs) refl all
   go false e all = onto_no_slash x (slice_split is_slash xs) e all
 
@@ -74,7 +76,8 @@ open_place-some : (parts : List (List ℕ)) (at : ℕ) → All HasNoSlash parts 
 open_place-some [] at clean e = absurd (cc)
 open_place-some (part ∷ parts) at clean e =
     go (read_part part) (read_part-read part) e (λ n. open_place-some parts n (All-tail HasNoSlash part parts clean)) where
-      opened : (items : List Item) (rest : List ℕ) → part ≡ flat_map item_text items ++ rest → IsTrue (list_all is_item items) → first_item rest ≡ None → 1 ≤ length rest → IsStuck rest → at ≡ 1 + length (flat_map item_text items) → IsOpenAt (part ∷ parts) at
+      opened : (items : List Item) (rest : List ℕ) → part ≡ flat_map item_text items ++ rest → IsTrue (list_all is_item items) → first_item rest ≡ None
+          → 1 ≤ length rest → IsStuck rest → at ≡ 1 + length (flat_map item_text items) → IsOpenAt (part ∷ parts) at
       opened items [] spelled lawful none long stuck place = absurd (omega arith)
       opened items (first ∷ rest) spelled lawful none long (inl unshut) place = record {
         before = [];
@@ -89,11 +92,14 @@ open_place-some (part ∷ parts) at clean e =
         place = omega arith;
       }
       opened items (first ∷ rest) spelled lawful none long (inr slash) place =
-          let clear = sym (list_any-append is_slash (flat_map item_text items) (first ∷ rest)) ∙ ap (list_any is_slash) (sym spelled) ∙ All-head HasNoSlash part parts clean in
-          let none = (neither (is_slash first) (list_any is_slash rest) (neither (list_any is_slash (flat_map item_text items)) (list_any is_slash (first ∷ rest)) clear).1).0 in
+          let clear = sym (list_any-append is_slash (flat_map item_text items) (first ∷ rest)) ∙ ap (list_any is_slash) (sym spelled)
+              ∙ All-head HasNoSlash part parts clean in
+          let none = (neither (is_slash first) (list_any is_slash rest)
+              (neither (list_any is_slash (flat_map item_text items)) (list_any is_slash (first ∷ rest)) clear).1).0 in
           absurd (cc)
 
-      go : (r : Result (List Item) ℕ) → IsRead part r → open_in r (length part) (open_place parts) ≡ Some at → ((n : ℕ) → open_place parts ≡ Some n → IsOpenAt parts n) → IsOpenAt (part ∷ parts) at
+      go : (r : Result (List Item) ℕ) → IsRead part r → open_in r (length part) (open_place parts) ≡ Some at
+          → ((n : ℕ) → open_place parts ≡ Some n → IsOpenAt parts n) → IsOpenAt (part ∷ parts) at
       go (Ok items) read e more =
           let found = map-Some _ (open_place parts) at e in
           let there = more found.0 found.1 in
@@ -144,8 +150,10 @@ read_part-open (item ∷ items) first rest lawful unshut =
     ∙ ap Err (sym (length-append (item_text item) (flat_map item_text items)))
 
 -- a bracket that isn't closed is read at its place
-open_place-open : (before : List (List ℕ)) (items : List Item) (first : ℕ) (rest : List ℕ) (behind : List (List ℕ)) → All IsLawfulPart before → list_all is_item items ≡ true → IsUnclosed first rest
-    → open_place (before ++ (flat_map item_text items ++ first ∷ rest) ∷ behind) ≡ Some (length (flat_map (λ part. 47 ∷ part) before) + (1 + length (flat_map item_text items)))
+open_place-open : (before : List (List ℕ)) (items : List Item) (first : ℕ) (rest : List ℕ) (behind : List (List ℕ)) → All IsLawfulPart before
+    → list_all is_item items ≡ true → IsUnclosed first rest
+    → open_place (before ++ (flat_map item_text items ++ first ∷ rest) ∷ behind)
+        ≡ Some (length (flat_map (λ part. 47 ∷ part) before) + (1 + length (flat_map item_text items)))
 open_place-open [] items first rest behind whole lawful unshut = rw (read_part-open items first rest lawful unshut) (ap Some (omega arith))
 open_place-open (part ∷ before) items first rest behind whole lawful unshut =
     let head = All-head IsLawfulPart part before whole in
@@ -154,7 +162,8 @@ open_place-open (part ∷ before) items first rest behind whole lawful unshut =
 
 IsOpenAt-read : (parts : List (List ℕ)) (at : ℕ) → IsOpenAt parts at → open_place parts ≡ Some at
 IsOpenAt-read parts at there =
-    ap open_place there.cut ∙ open_place-open there.before there.items there.first there.rest there.behind there.whole there.lawful there.unclosed ∙ ap Some (sym there.place)
+    ap open_place there.cut ∙ open_place-open there.before there.items there.first there.rest there.behind there.whole there.lawful there.unclosed
+        ∙ ap Some (sym there.place)
 
 position-None : (p : ℕ → Bool) (xs : List ℕ) → list_any p xs ≡ false → position p xs ≡ None
 position-None p xs none = go (nat_lt (position_or_len p xs) (length xs)) refl where
@@ -183,7 +192,8 @@ IsFound bytes (Some fault) = IsFault bytes fault.kind fault.at
 
 pub pattern_fault-found : (bytes : List ℕ) → IsFound bytes (pattern_fault bytes)
 pattern_fault-found bytes = by_slash (begins_with_slash bytes) refl where
-  by_open : (o : Option ℕ) → open_place (parts_of bytes) ≡ o → begins_with_slash bytes ≡ true → list_any is_outside bytes ≡ false → IsFound bytes (option_map (λ at. record { kind = 11; at = at }) o)
+  by_open : (o : Option ℕ) → open_place (parts_of bytes) ≡ o → begins_with_slash bytes ≡ true → list_any is_outside bytes ≡ false
+      → IsFound bytes (option_map (λ at. record { kind = 11; at = at }) o)
   by_open None e slash inside = record { slash = slash; inside = inside; parts = open_place-none (parts_of bytes) e }
   by_open (Some at) e slash inside = unclosed at slash inside (open_place-some (parts_of bytes) at (parts_of-no_slash bytes) e)
 
@@ -191,7 +201,8 @@ pattern_fault-found bytes = by_slash (begins_with_slash bytes) refl where
   by_byte None e slash = by_open (open_place (parts_of bytes)) refl slash (None-position is_outside bytes e)
   by_byte (Some at) e slash = byte at slash e
 
-  by_slash : (t : Bool) → begins_with_slash bytes ≡ t → IsFound bytes (if t then fault_after (position is_outside bytes) (open_place (parts_of bytes)) else Some (record { kind = 4; at = 0 }))
+  by_slash : (t : Bool) → begins_with_slash bytes ≡ t
+      → IsFound bytes (if t then fault_after (position is_outside bytes) (open_place (parts_of bytes)) else Some (record { kind = 4; at = 0 }))
   by_slash true e = by_byte (position is_outside bytes) refl e
   by_slash false e = start e
 
@@ -245,7 +256,9 @@ is_pattern-exact bytes = (is_pattern-sound bytes, λ lawful. ap is_none (IsPatte
 -- how many parts there are
 parts_of-length : (bytes : List ℕ) → begins_with_slash bytes ≡ true → length (parts_of bytes) ≡ count_by is_slash bytes
 parts_of-length [] e = absurd (cc)
-parts_of-length (x ∷ xs) e = length-slice_split is_slash xs ∙ (let one : cond {A = ℕ} (is_slash x) 1 0 ≡ 1 = rw e refl in omega (arith, sum_by-cons (λ y. cond {A = ℕ} (is_slash y) 1 0) x xs))
+parts_of-length (x ∷ xs) e =
+    length-slice_split is_slash xs
+    ∙ (let one : cond {A = ℕ} (is_slash x) 1 0 ≡ 1 = rw e refl in omega (arith, sum_by-cons (λ y. cond {A = ℕ} (is_slash y) 1 0) x xs))
 
 pub parts_of-count : (bytes : List ℕ) → is_pattern bytes ≡ true → length (parts_of bytes) ≡ count_by is_slash bytes
 parts_of-count bytes h = parts_of-length bytes (is_pattern-sound bytes h).slash

@@ -63,7 +63,8 @@ plain_parts (part ∷ parts) (name ∷ names) special slash m =
 pub own_parts : (parts : List (List ℕ)) → All HasNoSpecial parts → All HasNoSlash parts → MatchParts parts parts
 own_parts [] special slash = tt
 own_parts (part ∷ parts) special slash =
-    (own_name part (All-head HasNoSpecial part parts special) (All-head HasNoSlash part parts slash), own_parts parts (All-tail HasNoSpecial part parts special) (All-tail HasNoSlash part parts slash))
+    (own_name part (All-head HasNoSpecial part parts special) (All-head HasNoSlash part parts slash), own_parts parts (All-tail HasNoSpecial part parts special)
+        (All-tail HasNoSlash part parts slash))
 
 onto_no_special : (x : ℕ) (parts : List (List ℕ)) → is_special x ≡ false → All HasNoSpecial parts → All HasNoSpecial (onto_first x parts)
 onto_no_special x [] other all = let alone : HasNoSpecial (x ∷ []) = rw other refl in All-cons HasNoSpecial (x ∷ []) [] alone all
@@ -75,7 +76,8 @@ split_no_special : (bytes : List ℕ) → HasNoSpecial bytes → All HasNoSpecia
 split_no_special [] none = All-cons HasNoSpecial [] [] refl (All-nil HasNoSpecial)
 split_no_special (x ∷ xs) none =
     let both = neither (is_special x) (list_any is_special xs) none in go (is_slash x) both.0 (split_no_special xs both.1) where
-      go : (t : Bool) → is_special x ≡ false → All HasNoSpecial (slice_split is_slash xs) → All HasNoSpecial (cond t ([] ∷ slice_split is_slash xs) (onto_first x (slice_split is_slash xs)))
+      go : (t : Bool) → is_special x ≡ false → All HasNoSpecial (slice_split is_slash xs)
+          → All HasNoSpecial (cond t ([] ∷ slice_split is_slash xs) (onto_first x (slice_split is_slash xs)))
       go true other all = All-cons HasNoSpecial [] (slice_split is_slash xs) refl all
       go false other all = onto_no_special x (slice_split is_slash xs) other all
 
@@ -92,7 +94,8 @@ same_bytes (x ∷ xs) (y ∷ ys) a b e =
     let rest : xs ≡ ys = sym (join_with_byte-slice_split 47 xs) ∙ ap (join_with_byte 47) e ∙ join_with_byte-slice_split 47 ys in
     rw (p, q, rest) refl
 
-pub plain_pattern : (pattern address : List ℕ) → IsPattern pattern → IsAddress address → list_any is_special pattern ≡ false → (Match pattern address ↔ (pattern ≡ address))
+pub plain_pattern : (pattern address : List ℕ) → IsPattern pattern → IsAddress address → list_any is_special pattern ≡ false
+    → (Match pattern address ↔ (pattern ≡ address))
 plain_pattern pattern address lawful there none =
     let special = parts_of-no_special pattern none in
     let slash = parts_of-no_slash pattern in (

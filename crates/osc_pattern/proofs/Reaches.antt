@@ -20,7 +20,8 @@ use Rattle.osc_pattern.proofs.Matches.{match_part-item, match_part-stuck}
 abbrev pub Added : ℕ → (ℕ → Bool) → (ℕ → Bool) → Type 0
 Added place old new = (other : ℕ) → new other ≡ (other == place || old other)
 
-pub bits-added : (bits place : ℕ) → place < 64 → Added place (λ other. bit_at bits other == 1) (λ other. bit_at (bit_or bits (1 * 2 ^ place % 2 ^ 64)) other == 1)
+pub bits-added : (bits place : ℕ) → place < 64
+    → Added place (λ other. bit_at bits other == 1) (λ other. bit_at (bit_or bits (1 * 2 ^ place % 2 ^ 64)) other == 1)
 bits-added bits place within other = go (other == place) refl where
   go : (t : Bool) → (other == place) ≡ t → (bit_at (bit_or bits (1 * 2 ^ place % 2 ^ 64)) other == 1) ≡ (t || bit_at bits other == 1)
   go true e =
@@ -52,12 +53,14 @@ own_more false true false = refl
 own_more false false true = refl
 own_more false false false = refl
 
-pub any_rest-none : (test : List ℕ → Bool) (places : ℕ → Bool) → ((place : ℕ) → places place ≡ false) → (at : ℕ) (name : List ℕ) → any_rest test places at name ≡ false
+pub any_rest-none : (test : List ℕ → Bool) (places : ℕ → Bool) → ((place : ℕ) → places place ≡ false) → (at : ℕ) (name : List ℕ)
+    → any_rest test places at name ≡ false
 any_rest-none test places none at [] = rw (none at) refl
 any_rest-none test places none at (byte ∷ name) = rw (none at, any_rest-none test places none (at + 1) name) refl
 
 -- a place before these changes nothing
-any_rest-before : (test : List ℕ → Bool) (old new : ℕ → Bool) (place : ℕ) → Added place old new → (at : ℕ) (name : List ℕ) → place < at → any_rest test new at name ≡ any_rest test old at name
+any_rest-before : (test : List ℕ → Bool) (old new : ℕ → Bool) (place : ℕ) → Added place old new → (at : ℕ) (name : List ℕ) → place < at
+    → any_rest test new at name ≡ any_rest test old at name
 any_rest-before test old new place added at [] before =
     let apart : (at == place) ≡ false = grind (arith, nat_tests) in rw (other_place old new place at added apart) refl
 any_rest-before test old new place added at (byte ∷ name) before =
@@ -72,7 +75,8 @@ any_rest-within test old new place added [] rest at e = go rest where
 
   go : (rest : List ℕ) → any_rest test new at rest ≡ (any_rest test old at rest || test rest)
   go [] = rw here (own_end (old at) (test []))
-  go (byte ∷ rest) = rw (here, any_rest-before test old new place added (at + 1) rest (omega arith)) (own_more (old at) (test (byte ∷ rest)) (any_rest test old (at + 1) rest))
+  go (byte ∷ rest) =
+      rw (here, any_rest-before test old new place added (at + 1) rest (omega arith)) (own_more (old at) (test (byte ∷ rest)) (any_rest test old (at + 1) rest))
 any_rest-within test old new place added (byte ∷ front) rest at e =
     let apart : (at == place) ≡ false = grind (arith, nat_tests) in
     rw (other_place old new place at added apart, any_rest-within test old new place added front rest (at + 1) (omega arith))
@@ -91,13 +95,16 @@ any_rest-added test old new place name added within =
     length-take-within (suc n) (x ∷ xs) h = omega (arith, length-take-within n xs (omega arith))
 
 -- tests that agree
-pub any_rest-same : (f g : List ℕ → Bool) → ((rest : List ℕ) → f rest ≡ g rest) → (places : ℕ → Bool) (at : ℕ) (name : List ℕ) → any_rest f places at name ≡ any_rest g places at name
+pub any_rest-same : (f g : List ℕ → Bool) → ((rest : List ℕ) → f rest ≡ g rest) → (places : ℕ → Bool) (at : ℕ) (name : List ℕ)
+    → any_rest f places at name ≡ any_rest g places at name
 any_rest-same f g same places at [] = rw (same []) refl
 any_rest-same f g same places at (byte ∷ name) = rw (same (byte ∷ name), any_rest-same f g same places (at + 1) name) refl
 
 -- the start: the first place alone
-pub any_rest-first : (test : List ℕ → Bool) (none first : ℕ → Bool) → ((place : ℕ) → none place ≡ false) → Added 0 none first → (name : List ℕ) → any_rest test first 0 name ≡ test name
-any_rest-first test none first empty added name = any_rest-added test none first 0 name added (omega arith) ∙ ap (λ t. t || test name) (any_rest-none test none empty 0 name)
+pub any_rest-first : (test : List ℕ → Bool) (none first : ℕ → Bool) → ((place : ℕ) → none place ≡ false) → Added 0 none first → (name : List ℕ)
+    → any_rest test first 0 name ≡ test name
+any_rest-first test none first empty added name =
+    any_rest-added test none first 0 name added (omega arith) ∙ ap (λ t. t || test name) (any_rest-none test none empty 0 name)
 
 -- the end: the last place
 and_true : (t : Bool) → (t && true) ≡ t
@@ -116,11 +123,15 @@ any_rest-last : (places : ℕ → Bool) (at : ℕ) (name : List ℕ) → any_res
 any_rest-last places at [] = and_true (places at) ∙ (let e : at ≡ at + 0 = omega arith in ap places e)
 any_rest-last places at (byte ∷ name) =
     let filled : (length (byte ∷ name) == 0) ≡ false = grind (arith, nat_tests) in
-    rw filled (rw (and_false (places at)) (any_rest-last places (at + 1) name ∙ (let e : at + 1 + length name ≡ at + length (byte ∷ name) = omega arith in ap places e)))
+    rw filled (rw (and_false (places at))
+        (any_rest-last places (at + 1) name ∙ (let e : at + 1 + length name ≡ at + length (byte ∷ name) = omega arith in ap places e)))
 
 -- where a part begins with no item, the last place decides
-pub any_rest-end : (part : List ℕ) (places : ℕ → Bool) (name : List ℕ) → first_item part ≡ None → any_rest (match_part part) places 0 name ≡ (length part == 0 && places (length name))
-any_rest-end part places name e = any_rest-same (match_part part) (λ rest. length part == 0 && length rest == 0) (λ rest. match_part-stuck part rest e) places 0 name ∙ go (length part == 0) where
+pub any_rest-end : (part : List ℕ) (places : ℕ → Bool) (name : List ℕ) → first_item part ≡ None
+    → any_rest (match_part part) places 0 name ≡ (length part == 0 && places (length name))
+any_rest-end part places name e =
+    any_rest-same (match_part part) (λ rest. length part == 0 && length rest == 0) (λ rest. match_part-stuck part rest e) places 0 name
+    ∙ go (length part == 0) where
   go : (t : Bool) → any_rest (λ rest. t && length rest == 0) places 0 name ≡ (t && places (length name))
   go true = any_rest-last places 0 name ∙ (let e : 0 + length name ≡ length name = omega arith in ap places e)
   go false = any_rest-never places 0 name
@@ -128,9 +139,12 @@ any_rest-end part places name e = any_rest-same (match_part part) (λ rest. leng
 -- one item of a part
 pub any_rest-item : (part : List ℕ) (item : Item) (others : List ℕ) (places : ℕ → Bool) (name : List ℕ) → first_item part ≡ Some (item, others)
     → any_rest (match_part part) places 0 name ≡ any_rest (λ rest. list_any (match_part others) (after_item item rest)) places 0 name
-any_rest-item part item others places name e = any_rest-same (match_part part) (λ rest. list_any (match_part others) (after_item item rest)) (λ rest. match_part-item part item others rest e) places 0 name
+any_rest-item part item others places name e =
+    any_rest-same (match_part part) (λ rest. list_any (match_part others) (after_item item rest))
+    (λ rest. match_part-item part item others rest e) places 0 name
 
-pub first_item-size : (part : List ℕ) (item : Item) (others : List ℕ) → first_item part ≡ Some (item, others) → length (item_text item) + length others ≡ length part
+pub first_item-size : (part : List ℕ) (item : Item) (others : List ℕ) → first_item part ≡ Some (item, others)
+    → length (item_text item) + length others ≡ length part
 first_item-size part item others e =
     let found = subst (FirstItem part) e (first_item-found part) in
     sym (ap length found.0 ∙ length-append (item_text item) others)
@@ -140,7 +154,8 @@ pub drop-next : (place : ℕ) (name : List ℕ) (byte : ℕ) (after : List ℕ) 
 drop-next place name byte after e = sym (drop-drop 1 place name) ∙ ap (drop 1) e
 
 -- one place has been gone through, and the rest of the name is next
-pub any_rest-next : (test : List ℕ → Bool) (places : ℕ → Bool) (at byte : ℕ) (after : List ℕ) (done more whole : Bool) → (done || any_rest test places at (byte ∷ after)) ≡ whole → more ≡ (done || (places at && test (byte ∷ after)))
+pub any_rest-next : (test : List ℕ → Bool) (places : ℕ → Bool) (at byte : ℕ) (after : List ℕ) (done more whole : Bool)
+    → (done || any_rest test places at (byte ∷ after)) ≡ whole → more ≡ (done || (places at && test (byte ∷ after)))
     → (more || any_rest test places (at + 1) after) ≡ whole
 any_rest-next test places at byte after done more whole so_far e =
     ap (λ t. t || any_rest test places (at + 1) after) e ∙ sym (or_assoc done (places at && test (byte ∷ after)) (any_rest test places (at + 1) after)) ∙ so_far
@@ -154,12 +169,15 @@ or_false true = refl
 or_false false = refl
 
 -- a byte that is a text of the item
-pub any_rest-byte : (item : Item) (test : List ℕ → Bool) (old new : ℕ → Bool) (here : Bool) (place : ℕ) (name : List ℕ) (byte : ℕ) (after : List ℕ) → drop (place + 1) name ≡ after → place + 1 ≤ length name
-    → here ≡ true → has_byte item byte ≡ true → Added (place + 1) old new → any_rest test new 0 name ≡ (any_rest test old 0 name || (here && list_any test (after_byte item (byte ∷ after))))
+pub any_rest-byte : (item : Item) (test : List ℕ → Bool) (old new : ℕ → Bool) (here : Bool) (place : ℕ) (name : List ℕ) (byte : ℕ) (after : List ℕ)
+    → drop (place + 1) name ≡ after → place + 1 ≤ length name
+    → here ≡ true → has_byte item byte ≡ true → Added (place + 1) old new
+        → any_rest test new 0 name ≡ (any_rest test old 0 name || (here && list_any test (after_byte item (byte ∷ after))))
 any_rest-byte item test old new here place name byte after left within reached has added =
     any_rest-added test old new (place + 1) name added within ∙ rw (reached, has, left) (ap (λ t. any_rest test old 0 name || t) (sym (or_false (test after))))
 
-pub other_byte : (item : Item) (test : List ℕ → Bool) (done here : Bool) (byte : ℕ) (after : List ℕ) → has_byte item byte ≡ false → done ≡ (done || (here && list_any test (after_byte item (byte ∷ after))))
+pub other_byte : (item : Item) (test : List ℕ → Bool) (done here : Bool) (byte : ℕ) (after : List ℕ) → has_byte item byte ≡ false
+    → done ≡ (done || (here && list_any test (after_byte item (byte ∷ after))))
 other_byte item test true here byte after e = refl
 other_byte item test false true byte after e = rw e refl
 other_byte item test false false byte after e = refl
@@ -180,7 +198,8 @@ first_and_rest [] d some = absurd (omega arith)
 first_and_rest (x ∷ xs) d some = ap (λ rest. x ∷ rest) (sym (take_rest (x ∷ xs) 1))
 
 -- a star goes on from the first place
-pub star_place : (test : List ℕ → Bool) (old new : ℕ → Bool) (begun : Bool) (place : ℕ) (name rest : List ℕ) → drop place name ≡ rest → place ≤ length name → begun ≡ true → Added place old new
+pub star_place : (test : List ℕ → Bool) (old new : ℕ → Bool) (begun : Bool) (place : ℕ) (name rest : List ℕ) → drop place name ≡ rest → place ≤ length name
+    → begun ≡ true → Added place old new
     → any_rest test new 0 name ≡ (any_rest test old 0 name || (begun && test rest))
 star_place test old new begun place name rest left within e added = any_rest-added test old new place name added within ∙ rw (e, left) refl
 
@@ -196,7 +215,8 @@ by_star false false true m false true = refl
 by_star false false false m false true = refl
 by_star false false l m false false = refl
 
-pub star_next : (n t l m b r n' b' whole : Bool) → b' ≡ (b || r) → n' ≡ (n || (b' && t)) → (n || ((b && (t || l)) || ((r && (t || l)) || m))) ≡ whole → (n' || ((b' && l) || m)) ≡ whole
+pub star_next : (n t l m b r n' b' whole : Bool) → b' ≡ (b || r) → n' ≡ (n || (b' && t)) → (n || ((b && (t || l)) || ((r && (t || l)) || m))) ≡ whole
+    → (n' || ((b' && l) || m)) ≡ whole
 star_next n t l m b r n' b' whole eb en so_far = rw (en, eb) (by_star n t l m b r ∙ so_far)
 
 pub star_end : (n t b r n' b' whole : Bool) → b' ≡ (b || r) → n' ≡ (n || (b' && t)) → (n || ((b && (t || false)) || (r && (t || false)))) ≡ whole → n' ≡ whole
@@ -212,21 +232,27 @@ star_end n t b r n' b' whole eb en so_far = rw (en, eb) (go n t b r ∙ so_far) 
 
 -- a text that the rest of the name begins with
 text_place : (test : List ℕ → Bool) (old new : ℕ → Bool) (place : ℕ) (name text : List ℕ) → place ≤ length name → Added (place + length text) old new
-    → length text ≤ length (drop place name) → bytes_eq (take (length text) (drop place name)) text ≡ true → any_rest test new 0 name ≡ (any_rest test old 0 name || list_any test (after_text (drop place name) text))
+    → length text ≤ length (drop place name) → bytes_eq (take (length text) (drop place name)) text ≡ true
+        → any_rest test new 0 name ≡ (any_rest test old 0 name || list_any test (after_text (drop place name) text))
 text_place test old new place name text within added fits begins =
     any_rest-added test old new (place + length text) name added (omega (arith, length-drop place name))
     ∙ rw begins (rw (drop-drop (length text) place name) (ap (λ t. any_rest test old 0 name || t) (sym (or_false (test (drop (place + length text) name))))))
 
-pub own_text : (test : List ℕ → Bool) (old new : ℕ → Bool) (place : ℕ) (name text left : List ℕ) → left ≡ drop place name → place ≤ length name → Added (place + length text) old new
-    → length text ≤ length left → bytes_eq (take (length text) left) text ≡ true → any_rest test new 0 name ≡ (any_rest test old 0 name || list_any test (after_text left text))
+pub own_text : (test : List ℕ → Bool) (old new : ℕ → Bool) (place : ℕ) (name text left : List ℕ) → left ≡ drop place name → place ≤ length name
+    → Added (place + length text) old new
+    → length text ≤ length left → bytes_eq (take (length text) left) text ≡ true
+        → any_rest test new 0 name ≡ (any_rest test old 0 name || list_any test (after_text left text))
 own_text test old new place name text left whole within added =
-    subst (λ rest. length text ≤ length rest → bytes_eq (take (length text) rest) text ≡ true → any_rest test new 0 name ≡ (any_rest test old 0 name || list_any test (after_text rest text))) (sym whole)
+    subst (λ rest. length text ≤ length rest → bytes_eq (take (length text) rest) text ≡ true
+        → any_rest test new 0 name ≡ (any_rest test old 0 name || list_any test (after_text rest text))) (sym whole)
     (text_place test old new place name text within added)
 
-pub other_text : (test : List ℕ → Bool) (done : Bool) (left text : List ℕ) → bytes_eq (take (length text) left) text ≡ false → done ≡ (done || list_any test (after_text left text))
+pub other_text : (test : List ℕ → Bool) (done : Bool) (left text : List ℕ) → bytes_eq (take (length text) left) text ≡ false
+    → done ≡ (done || list_any test (after_text left text))
 other_text test done left text begins = rw begins (sym (or_false done))
 
-pub texts_next : (test : List ℕ → Bool) (left text : List ℕ) (texts more : List (List ℕ)) (n n' whole : Bool) → texts ≡ text ∷ more → n' ≡ (n || list_any test (after_text left text)) → (n || list_any test (flat_map (after_text left) texts)) ≡ whole
+pub texts_next : (test : List ℕ → Bool) (left text : List ℕ) (texts more : List (List ℕ)) (n n' whole : Bool) → texts ≡ text ∷ more
+    → n' ≡ (n || list_any test (after_text left text)) → (n || list_any test (flat_map (after_text left) texts)) ≡ whole
     → (n' || list_any test (flat_map (after_text left) more)) ≡ whole
 texts_next test left text texts more n n' whole cut e so_far =
     ap (λ t. t || list_any test (flat_map (after_text left) more)) e
@@ -235,7 +261,8 @@ texts_next test left text texts more n n' whole cut e so_far =
     ∙ sym (ap (λ all. n || list_any test (flat_map (after_text left) all)) cut)
     ∙ so_far
 
-pub texts_end : (test : List ℕ → Bool) (left text : List ℕ) (texts : List (List ℕ)) (n n' whole : Bool) → texts ≡ text ∷ [] → n' ≡ (n || list_any test (after_text left text)) → (n || list_any test (flat_map (after_text left) texts)) ≡ whole → n' ≡ whole
+pub texts_end : (test : List ℕ → Bool) (left text : List ℕ) (texts : List (List ℕ)) (n n' whole : Bool) → texts ≡ text ∷ []
+    → n' ≡ (n || list_any test (after_text left text)) → (n || list_any test (flat_map (after_text left) texts)) ≡ whole → n' ≡ whole
 texts_end test left text texts n n' whole cut e so_far = sym (or_false n') ∙ texts_next test left text texts [] n n' whole cut e so_far
 
 pub reached : (n n' here more : Bool) → here ≡ true → n' ≡ (n || more) → n' ≡ (n || (here && more))

@@ -39,27 +39,37 @@ first_item-found (x ∷ xs) = by_any (x == 63) refl where
       let b : byte ≡ 125 = by_eq byte 125 at in
       (rw (e, spelled, b) (ap (λ t. 123 ∷ t) (sym (append_assoc texts (125 ∷ []) rest))), ap not none)
 
-  by_slash : (t : Bool) → is_slash x ≡ t → (x == 63) ≡ false → (x == 42) ≡ false → (x == 91) ≡ false → (x == 123) ≡ false → FirstItem (x ∷ xs) (if t then None else Some (plain x, xs))
+  by_slash : (t : Bool) → is_slash x ≡ t → (x == 63) ≡ false → (x == 42) ≡ false → (x == 91) ≡ false → (x == 123) ≡ false
+      → FirstItem (x ∷ xs) (if t then None else Some (plain x, xs))
   by_slash true s a b c d = inr s
   by_slash false s a b c d = (refl, rw (a, b, c, d, s) refl)
 
   by_brace : (t : Bool) → (x == 123) ≡ t → (x == 63) ≡ false → (x == 42) ≡ false → (x == 91) ≡ false
-      → FirstItem (x ∷ xs) (if t then option_map (λ cut. (choice cut.0, cut.1)) (cut_at is_choice_end xs) else (if is_slash x then None else Some (plain x, xs)))
+      → FirstItem (x ∷ xs) (if t then option_map (λ cut. (choice cut.0, cut.1)) (cut_at is_choice_end xs)
+          else (if is_slash x then None else Some (plain x, xs)))
   by_brace true d a b c = by_choice (cut_at is_choice_end xs) (cut_at-cuts is_choice_end xs) (by_eq x 123 d)
   by_brace false d a b c = by_slash (is_slash x) refl a b c d
 
   by_bracket : (t : Bool) → (x == 91) ≡ t → (x == 63) ≡ false → (x == 42) ≡ false
-      → FirstItem (x ∷ xs) (if t then option_map (λ cut. (set cut.0, cut.1)) (cut_at is_list_end xs) else (if x == 123 then option_map (λ cut. (choice cut.0, cut.1)) (cut_at is_choice_end xs) else (if is_slash x then None else Some (plain x, xs))))
+      → FirstItem (x ∷ xs) (if t then option_map (λ cut. (set cut.0, cut.1)) (cut_at is_list_end xs)
+          else (if x == 123 then option_map (λ cut. (choice cut.0, cut.1)) (cut_at is_choice_end xs) else (if is_slash x then None else Some (plain x, xs))))
   by_bracket true c a b = by_set (cut_at is_list_end xs) (cut_at-cuts is_list_end xs) (by_eq x 91 c)
   by_bracket false c a b = by_brace (x == 123) refl a b c
 
   by_star : (t : Bool) → (x == 42) ≡ t → (x == 63) ≡ false
-      → FirstItem (x ∷ xs) (if t then Some (star, xs) else (if x == 91 then option_map (λ cut. (set cut.0, cut.1)) (cut_at is_list_end xs) else (if x == 123 then option_map (λ cut. (choice cut.0, cut.1)) (cut_at is_choice_end xs) else (if is_slash x then None else Some (plain x, xs)))))
+      → FirstItem (x ∷ xs)
+          (if t then Some (star, xs)
+          else (if x == 91 then option_map (λ cut. (set cut.0, cut.1)) (cut_at is_list_end xs)
+          else (if x == 123 then option_map (λ cut. (choice cut.0, cut.1)) (cut_at is_choice_end xs) else (if is_slash x then None else Some (plain x, xs)))))
   by_star true b a = (ap (λ y. y ∷ xs) (by_eq x 42 b), refl)
   by_star false b a = by_bracket (x == 91) refl a b
 
   by_any : (t : Bool) → (x == 63) ≡ t
-      → FirstItem (x ∷ xs) (if t then Some (any, xs) else (if x == 42 then Some (star, xs) else (if x == 91 then option_map (λ cut. (set cut.0, cut.1)) (cut_at is_list_end xs) else (if x == 123 then option_map (λ cut. (choice cut.0, cut.1)) (cut_at is_choice_end xs) else (if is_slash x then None else Some (plain x, xs))))))
+      → FirstItem (x ∷ xs)
+          (if t then Some (any, xs)
+          else (if x == 42 then Some (star, xs)
+          else (if x == 91 then option_map (λ cut. (set cut.0, cut.1)) (cut_at is_list_end xs)
+          else (if x == 123 then option_map (λ cut. (choice cut.0, cut.1)) (cut_at is_choice_end xs) else (if is_slash x then None else Some (plain x, xs))))))
   by_any true a = (ap (λ y. y ∷ xs) (by_eq x 63 a), refl)
   by_any false a = by_star (x == 42) refl a
 
@@ -109,8 +119,10 @@ read_within-enough : (m n : ℕ) (part : List ℕ) → length part ≤ m → len
 read_within-enough m n [] l h = refl
 read_within-enough zero n (x ∷ xs) l h = absurd (omega arith)
 read_within-enough (suc m) zero (x ∷ xs) l h = absurd (omega arith)
-read_within-enough (suc m) (suc n) (x ∷ xs) l h = ap with_first (go (first_item (x ∷ xs)) (first_item-shorter (x ∷ xs)) (λ part. read_within-enough m n part)) where
-  go : (o : Option (Item × List ℕ)) → Shorter (length (x ∷ xs)) o → ((part : List ℕ) → length part ≤ m → length part ≤ n → read_within m part ≡ read_within n part)
+read_within-enough (suc m) (suc n) (x ∷ xs) l h =
+    ap with_first (go (first_item (x ∷ xs)) (first_item-shorter (x ∷ xs)) (λ part. read_within-enough m n part)) where
+  go : (o : Option (Item × List ℕ)) → Shorter (length (x ∷ xs)) o
+      → ((part : List ℕ) → length part ≤ m → length part ≤ n → read_within m part ≡ read_within n part)
       → option_map {U = Item × Result (List Item) ℕ} (λ cut. (cut.0, read_within m cut.1)) o ≡ option_map (λ cut. (cut.0, read_within n cut.1)) o
   go None short same = refl
   go (Some (item, rest)) short same = ap (λ r. Some (item, r)) (same rest (omega arith) (omega arith))
@@ -124,11 +136,13 @@ pub read_part-first : (x : ℕ) (xs : List ℕ) → read_part (x ∷ xs) ≡ wit
 unfolding read_part
 read_part-first x xs = ap with_first (go (first_item (x ∷ xs)) (first_item-shorter (x ∷ xs))) where
   go : (o : Option (Item × List ℕ)) → Shorter (length (x ∷ xs)) o
-      → option_map {U = Item × Result (List Item) ℕ} (λ cut. (cut.0, read_within (length xs) cut.1)) o ≡ option_map (λ cut. (cut.0, read_within (length cut.1) cut.1)) o
+      → option_map {U = Item × Result (List Item) ℕ} (λ cut. (cut.0, read_within (length xs) cut.1)) o
+          ≡ option_map (λ cut. (cut.0, read_within (length cut.1) cut.1)) o
   go None short = refl
   go (Some (item, rest)) short = ap (λ r. Some (item, r)) (read_within-enough (length xs) (length rest) rest (omega arith) (omega arith))
 
-pub read_part-item : (part : List ℕ) (item : Item) (rest : List ℕ) → first_item part ≡ Some (item, rest) → read_part part ≡ with_first (Some (item, read_part rest))
+pub read_part-item : (part : List ℕ) (item : Item) (rest : List ℕ) → first_item part ≡ Some (item, rest)
+    → read_part part ≡ with_first (Some (item, read_part rest))
 read_part-item [] item rest e = absurd (cc)
 read_part-item (x ∷ xs) item rest e = read_part-first x xs ∙ ap (λ o. with_first (option_map (λ cut. (cut.0, read_part cut.1)) o)) e
 
@@ -152,9 +166,11 @@ IsPart-read part items lawful = ap read_part lawful.spelled ∙ read_part-writte
 -- what the reading of a part says: its items, or items before a bracket that isn't closed
 abbrev pub IsRead : List ℕ → Result (List Item) ℕ → Type 0
 IsRead part (Ok items) = IsPart part items
-IsRead part (Err at) = (items : List Item) × (rest : List ℕ) × (part ≡ flat_map item_text items ++ rest) × IsTrue (list_all is_item items) × (at ≡ length (flat_map item_text items)) × (first_item rest ≡ None) × (1 ≤ length rest)
+IsRead part (Err at) = (items : List Item) × (rest : List ℕ) × (part ≡ flat_map item_text items ++ rest) × IsTrue (list_all is_item items)
+    × (at ≡ length (flat_map item_text items)) × (first_item rest ≡ None) × (1 ≤ length rest)
 
-read_first : (part : List ℕ) (item : Item) (rest : List ℕ) → part ≡ item_text item ++ rest → is_item item ≡ true → (r : Result (List Item) ℕ) → IsRead rest r → IsRead part (with_first (Some (item, r)))
+read_first : (part : List ℕ) (item : Item) (rest : List ℕ) → part ≡ item_text item ++ rest → is_item item ≡ true → (r : Result (List Item) ℕ) → IsRead rest r
+    → IsRead part (with_first (Some (item, r)))
 read_first part item rest spelled lawful (Ok items) read = record {
   spelled = spelled ∙ ap (λ t. item_text item ++ t) read.spelled;
   lawful = rw lawful read.lawful;
@@ -172,8 +188,10 @@ read_first part item rest spelled lawful (Err at) (items, after, more, all, plac
 read_within-read : (most : ℕ) (part : List ℕ) → length part ≤ most → IsRead part (read_within most part)
 read_within-read most [] short = record { spelled = refl; lawful = refl }
 read_within-read zero (x ∷ xs) short = absurd (omega arith)
-read_within-read (suc most) (x ∷ xs) short = go (first_item (x ∷ xs)) refl (first_item-found (x ∷ xs)) (first_item-shorter (x ∷ xs)) (read_within-read most) where
-  go : (o : Option (Item × List ℕ)) → first_item (x ∷ xs) ≡ o → FirstItem (x ∷ xs) o → Shorter (length (x ∷ xs)) o → ((part : List ℕ) → length part ≤ most → IsRead part (read_within most part))
+read_within-read (suc most) (x ∷ xs) short =
+    go (first_item (x ∷ xs)) refl (first_item-found (x ∷ xs)) (first_item-shorter (x ∷ xs)) (read_within-read most) where
+  go : (o : Option (Item × List ℕ)) → first_item (x ∷ xs) ≡ o → FirstItem (x ∷ xs) o → Shorter (length (x ∷ xs)) o
+      → ((part : List ℕ) → length part ≤ most → IsRead part (read_within most part))
       → IsRead (x ∷ xs) (with_first (option_map {U = Item × Result (List Item) ℕ} (λ cut. (cut.0, read_within most cut.1)) o))
   go None stuck found shorter more = ([], x ∷ xs, refl, refl, refl, stuck, omega arith)
   go (Some (item, rest)) e found shorter more = read_first (x ∷ xs) item rest found.0 found.1 (read_within most rest) (more rest (omega arith))

@@ -172,7 +172,8 @@ fn has_bad_byte(names: &[u8]) -> bool
 }
 
 fn has_long_name(names: &[u8]) -> bool
-    ensures { result ≡ list_any (λ name. nat_lt MAX_NAME (length name)) (slice_split is_slash names.now) }
+    ensures { result ≡ list_any (λ name. nat_lt MAX_NAME (length name))
+        (slice_split is_slash names.now) }
 {
     names
         .split(|byte| *byte == b'/')

@@ -21,7 +21,8 @@ pub(crate) enum Item<'a> {
 
 /// The first item of a part, and what follows it. `None` comes for an empty part, and where a bracket isn't closed.
 pub(crate) fn first_item(part: &[u8]) -> Option<(Item<'_>, &[u8])>
-    ensures value { option_map (λ found. (item_of found.0, found.1.now)) result ≡ first_item part.now }
+    ensures value { option_map (λ found. (item_of found.0, found.1.now)) result
+        ≡ first_item part.now }
     ensures shorter { IfSome result (λ found. length found.1.now < length part.now) }
 {
     let [first, rest @ ..] = part else {

@@ -72,9 +72,11 @@ fn places_after<L: Ledger>(
 ) -> Places
     requires { length name.now ≤ MAX_NAME }
     ensures value { (test : List ℕ → Bool) → any_rest test (is_place_of result) 0 name.now
-        ≡ any_rest (λ rest. list_any test (after_item (item_of item.entry) rest)) (is_place_of reached.now) 0 name.now }
+        ≡ any_rest (λ rest. list_any test (after_item (item_of item.entry) rest))
+        (is_place_of reached.now) 0 name.now }
     ensures counted { steps.old ≤ steps.new }
-    ensures bounded { steps.new ≤ steps.old + (length name.now + 1) * length (item_text (item_of item.entry)) }
+    ensures bounded { steps.new
+        ≤ steps.old + (length name.now + 1) * length (item_text (item_of item.entry)) }
 {
     match item {
         Item::Star => after_star(reached, name, steps),
@@ -92,9 +94,11 @@ fn after_byte<L: Ledger>(
 ) -> Places
     requires { length name.now ≤ MAX_NAME }
     ensures value { (test : List ℕ → Bool) → any_rest test (is_place_of result) 0 name.now
-        ≡ any_rest (λ rest. list_any test (after_byte (item_of item.entry) rest)) (is_place_of reached.now) 0 name.now }
+        ≡ any_rest (λ rest. list_any test (after_byte (item_of item.entry) rest))
+        (is_place_of reached.now) 0 name.now }
     ensures counted { steps.old ≤ steps.new }
-    ensures bounded { steps.new ≤ steps.old + (length name.now + 1) * length (item_text (item_of item.entry)) }
+    ensures bounded { steps.new
+        ≤ steps.old + (length name.now + 1) * length (item_text (item_of item.entry)) }
 {
     let mut next = Places::none();
     let mut place = 0;
@@ -147,7 +151,9 @@ fn after_choice<L: Ledger>(
 ) -> Places
     requires { length name.now ≤ MAX_NAME }
     ensures value { (test : List ℕ → Bool) → any_rest test (is_place_of result) 0 name.now
-        ≡ any_rest (λ rest. list_any test (flat_map (after_text rest) (slice_split is_comma texts.now))) (is_place_of reached.now) 0 name.now }
+        ≡ any_rest (λ rest. list_any test
+        (flat_map (after_text rest) (slice_split is_comma texts.now)))
+        (is_place_of reached.now) 0 name.now }
     ensures counted { steps.old ≤ steps.new }
     ensures bounded { steps.new ≤ steps.old + (length name.now + 1) * (length texts.now + 2) }
 {
@@ -178,7 +184,9 @@ fn add_texts<L: Ledger>(
     requires name { length name.now ≤ MAX_NAME }
     requires place { place ≤ length name.now }
     ensures value { (test : List ℕ → Bool) → any_rest test (is_place_of next.new) 0 name.now
-        ≡ (any_rest test (is_place_of next.old) 0 name.now || list_any test (flat_map (after_text (drop place name.now)) (slice_split is_comma texts.now))) }
+        ≡ (any_rest test (is_place_of next.old) 0 name.now
+        || list_any test
+        (flat_map (after_text (drop place name.now)) (slice_split is_comma texts.now))) }
     ensures counted { steps.old ≤ steps.new }
     ensures bounded { steps.new ≤ steps.old + (length texts.now + 1) }
 {

@@ -51,7 +51,8 @@ impl<'a> Pattern<'a> {
 
         // The first fault and its place, in both directions.
         ensures fault { IfErr result (λ fault. IsFault bytes.now fault.kind fault.at) }
-        ensures refuses { (kind at : ℕ) → IsFault bytes.now kind at → result_err result ≡ Some (record { kind = kind; at = at }) }
+        ensures refuses { (kind at : ℕ) → IsFault bytes.now kind at
+            → result_err result ≡ Some (record { kind = kind; at = at }) }
         ensures read { result_err result ≡ pattern_fault bytes.now }
     {
         match first_fault(bytes) {
@@ -100,7 +101,8 @@ impl<'a> Pattern<'a> {
         ensures test { result ≡ match_part (part_at self.now part) name.now }
         ensures counted { steps.old ≤ steps.new }
         ensures begun { 0 < length (part_at self.now part) → steps.old < steps.new }
-        ensures bounded { steps.new ≤ steps.old + (length (part_at self.now part) + 1) * (length name.now + 1) }
+        ensures bounded { steps.new
+            ≤ steps.old + (length (part_at self.now part) + 1) * (length name.now + 1) }
     {
         match_part(nth_part(after_slash(self.bytes), part), name, steps)
     }
@@ -152,8 +154,10 @@ fn nth_part(parts: &[u8], place: u32) -> &[u8]
 
 /// Whether there are as many parts as names, and each part matches the name at its place.
 fn match_parts<L: Ledger>(parts: &[u8], names: &[u8], steps: &mut Steps<L>) -> bool
-    requires { list_any (λ name. nat_lt MAX_NAME (length name)) (slice_split is_slash names.now) ≡ false }
-    ensures value { result ≡ match_parts (slice_split is_slash parts.now) (slice_split is_slash names.now) }
+    requires { list_any (λ name. nat_lt MAX_NAME (length name)) (slice_split is_slash names.now)
+        ≡ false }
+    ensures value { result
+        ≡ match_parts (slice_split is_slash parts.now) (slice_split is_slash names.now) }
     ensures counted { steps.old ≤ steps.new }
     ensures bounded { steps.new ≤ steps.old + 64 * (length parts.now + 1) }
 {

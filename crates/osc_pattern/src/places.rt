@@ -27,7 +27,8 @@ impl Places {
     /// Adds the place.
     pub(crate) fn add(&mut self, place: usize)
         requires { place < 64 }
-        ensures { (other : ℕ) → is_place_of self.new other ≡ (other == place || is_place_of self.old other) }
+        ensures { (other : ℕ) → is_place_of self.new other
+            ≡ (other == place || is_place_of self.old other) }
     {
         self.bits |= 1 << place;
     }

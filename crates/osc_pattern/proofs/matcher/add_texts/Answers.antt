@@ -21,14 +21,18 @@ loop-next-preserved g c =
     let more = begins.counted in
     let most = begins.bounded in
     let before : (List ℕ → Bool) → Bool = λ test. any_rest test (is_place_of c.loop-next.next) 0 name in
-    let added : (test : List ℕ → Bool) → any_rest test (is_place_of c.if-begins_with.next) 0 name ≡ (before test || list_any test (after_text left text)) = λ test.
+    let added : (test : List ℕ → Bool) → any_rest test (is_place_of c.if-begins_with.next) 0 name ≡ (before test || list_any test (after_text left text)) =
+        λ test.
     elim c.if-begins_with.branch [
       | then-begins_with w ↦
           ap (λ p. any_rest test (is_place_of p) 0 name) w.next-is
-          ∙ own_text test (is_place_of c.loop-next.next) (is_place_of w.add.new.self) place name text left (take_rest name place) c.requires.place w.add.ensures (begins.fits w.if-begins_with.true) (sym begins.value ∙ w.if-begins_with.true)
-      | else-begins_with w ↦ ap (λ p. any_rest test (is_place_of p) 0 name) w.next-is ∙ other_text test (before test) left text (sym begins.value ∙ w.if-begins_with.false)
+          ∙ own_text test (is_place_of c.loop-next.next) (is_place_of w.add.new.self) place name text left (take_rest name place) c.requires.place w.add.ensures
+              (begins.fits w.if-begins_with.true) (sym begins.value ∙ w.if-begins_with.true)
+      | else-begins_with w ↦ ap (λ p. any_rest test (is_place_of p) 0 name) w.next-is
+          ∙ other_text test (before test) left text (sym begins.value ∙ w.if-begins_with.false)
     ] in (
-      λ test. texts_next test left text (slice_split is_comma c.loop-next.texts.now) (slice_split is_comma c.in-Some.others.now) (before test) _ _ cut (added test) (c.loop-next.invariant.0 test),
+      λ test. texts_next test left text (slice_split is_comma c.loop-next.texts.now) (slice_split is_comma c.in-Some.others.now) (before test) _ _ cut
+          (added test) (c.loop-next.invariant.0 test),
       omega arith,
       omega arith,
     )
@@ -46,8 +50,12 @@ returns-in-None-clause-value g c = λ test.
     elim c.if-begins_with.branch [
       | then-begins_with w ↦
           ap (λ p. any_rest test (is_place_of p) 0 name) w.next-is
-          ∙ own_text test (is_place_of c.loop-next.next) (is_place_of w.add.new.self) place name text left (take_rest name place) c.requires.place w.add.ensures (begins.fits w.if-begins_with.true) (sym begins.value ∙ w.if-begins_with.true)
-      | else-begins_with w ↦ ap (λ p. any_rest test (is_place_of p) 0 name) w.next-is ∙ other_text test before left text (sym begins.value ∙ w.if-begins_with.false)
+          ∙ own_text test (is_place_of c.loop-next.next) (is_place_of w.add.new.self) place name text left (take_rest name place) c.requires.place w.add.ensures
+              (begins.fits w.if-begins_with.true) (sym begins.value ∙ w.if-begins_with.true)
+      | else-begins_with w ↦ ap (λ p. any_rest test (is_place_of p) 0 name) w.next-is
+          ∙ other_text test before left text (sym begins.value ∙ w.if-begins_with.false)
     ] in
-    subst (λ rest. any_rest test (is_place_of c.if-begins_with.next) 0 name ≡ (any_rest test (is_place_of c.args.next.now) 0 name || list_any test (flat_map (after_text rest) (slice_split is_comma c.args.texts.now)))) (take_rest name place)
+    subst (λ rest. any_rest test (is_place_of c.if-begins_with.next) 0 name
+        ≡ (any_rest test (is_place_of c.args.next.now) 0 name || list_any test (flat_map (after_text rest) (slice_split is_comma c.args.texts.now))))
+        (take_rest name place)
     (texts_end test left text (slice_split is_comma c.loop-next.texts.now) before _ _ cut added (c.loop-next.invariant.0 test))

@@ -7,7 +7,10 @@ use Rattle.osc_pattern.proofs.matcher.after_byte.Given as goal
 
 abbrev pub invariant-loop-rest : goal.invariant-loop-rest
 invariant-loop-rest g l =
-    ((test : List ℕ → Bool) → (any_rest test (is_place_of l.next) 0 l.name || any_rest (λ rest. list_any test (after_byte (item_of l.item) rest)) (is_place_of l.reached) l.place l.rest) ≡ any_rest (λ rest. list_any test (after_byte (item_of l.item) rest)) (is_place_of l.reached) 0 l.name)
+    ((test : List ℕ → Bool)
+        → (any_rest test (is_place_of l.next) 0 l.name
+        || any_rest (λ rest. list_any test (after_byte (item_of l.item) rest)) (is_place_of l.reached) l.place l.rest)
+        ≡ any_rest (λ rest. list_any test (after_byte (item_of l.item) rest)) (is_place_of l.reached) 0 l.name)
     × (drop l.place l.name ≡ l.rest) × (l.place + length l.rest ≡ length l.name) × (l.initial.steps ≤ l.steps)
     × (l.steps ≤ l.initial.steps + l.place * length (item_text (item_of l.item)))
 

@@ -11,7 +11,8 @@ use Rattle.osc_pattern.proofs.matcher.after_choice.Goals as goal
 pub loop-next-init : goal.loop-next-init
 loop-next-init g c = (
   λ test.
-      ap (λ t. t || any_rest (λ rest. list_any test (flat_map (after_text rest) (slice_split is_comma c.args.texts.now))) (is_place_of c.args.reached.now) 0 c.args.name.now)
+      ap (λ t. t || any_rest (λ rest. list_any test (flat_map (after_text rest) (slice_split is_comma c.args.texts.now)))
+          (is_place_of c.args.reached.now) 0 c.args.name.now)
       (any_rest-none test (is_place_of c.none-next.result) c.none-next.ensures 0 c.args.name.now),
   refl,
   omega arith,
@@ -35,7 +36,8 @@ loop-next-preserved g c =
     let ticked = c.tick.ensures in
     let rows = next_row place (length c.args.texts.now + 2) in
     let before : (List ℕ → Bool) → Bool = λ test. any_rest test (is_place_of c.loop-next.next) 0 name in
-    let added : (test : List ℕ → Bool) → any_rest test (is_place_of c.if-has.next) 0 name ≡ (before test || (places place && list_any test (flat_map (after_text (byte ∷ after)) texts))) = λ test.
+    let added : (test : List ℕ → Bool) → any_rest test (is_place_of c.if-has.next) 0 name
+        ≡ (before test || (places place && list_any test (flat_map (after_text (byte ∷ after)) texts))) = λ test.
     elim c.if-has.branch [
       | then-has w ↦
           ap (λ p. any_rest test (is_place_of p) 0 name) w.next-is
@@ -53,7 +55,8 @@ loop-next-preserved g c =
     ] in (
       λ test.
           any_rest-next (λ rest. list_any test (flat_map (after_text rest) texts)) places place byte after (before test) _ _
-          (subst (λ r. (before test || any_rest (λ rest. list_any test (flat_map (after_text rest) texts)) places place r) ≡ any_rest (λ rest. list_any test (flat_map (after_text rest) texts)) places 0 name) spelled (c.loop-next.invariant.0 test))
+          (subst (λ r. (before test || any_rest (λ rest. list_any test (flat_map (after_text rest) texts)) places place r)
+              ≡ any_rest (λ rest. list_any test (flat_map (after_text rest) texts)) places 0 name) spelled (c.loop-next.invariant.0 test))
           (added test),
       drop-next place name byte after here_left,
       omega arith,

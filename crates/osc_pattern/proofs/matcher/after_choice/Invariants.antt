@@ -7,7 +7,10 @@ use Rattle.osc_pattern.proofs.matcher.after_choice.Given as goal
 
 abbrev pub invariant-loop-next : goal.invariant-loop-next
 invariant-loop-next g l =
-    ((test : List ℕ → Bool) → (any_rest test (is_place_of l.next) 0 l.name || any_rest (λ rest. list_any test (flat_map (after_text rest) (slice_split is_comma l.texts))) (is_place_of l.reached) l.place l.rest) ≡ any_rest (λ rest. list_any test (flat_map (after_text rest) (slice_split is_comma l.texts))) (is_place_of l.reached) 0 l.name)
+    ((test : List ℕ → Bool)
+        → (any_rest test (is_place_of l.next) 0 l.name
+        || any_rest (λ rest. list_any test (flat_map (after_text rest) (slice_split is_comma l.texts))) (is_place_of l.reached) l.place l.rest)
+        ≡ any_rest (λ rest. list_any test (flat_map (after_text rest) (slice_split is_comma l.texts))) (is_place_of l.reached) 0 l.name)
     × (drop l.place l.name ≡ l.rest) × (l.place + length l.rest ≡ length l.name) × (l.initial.steps ≤ l.steps)
     × (l.steps ≤ l.initial.steps + l.place * (length l.texts + 2))
 

@@ -9,7 +9,8 @@ use Rattle.osc_pattern.proofs.matcher.after_star.Goals as goal
 
 pub loop-begun-init : goal.loop-begun-init
 loop-begun-init g c = (
-  λ test. ap (λ t. t || any_rest (λ rest. list_any test (rests rest)) (is_place_of c.args.reached.now) 0 c.args.name.now) (any_rest-none test (is_place_of c.none-next.result) c.none-next.ensures 0 c.args.name.now),
+  λ test. ap (λ t. t || any_rest (λ rest. list_any test (rests rest)) (is_place_of c.args.reached.now) 0 c.args.name.now)
+      (any_rest-none test (is_place_of c.none-next.result) c.none-next.ensures 0 c.args.name.now),
   refl,
   omega arith,
   omega arith,
@@ -29,11 +30,13 @@ returns-in_default-clause-value g c = λ test.
       | then-begun w ↦ w.begun-is ∙ w.if-begun.true ∙ sym (ap (λ t. t || reached place) w.if-begun.true)
       | else-begun w ↦ w.begun-is ∙ w.has-begun.ensures ∙ sym (ap (λ t. t || reached place) w.if-begun.false)
     ] in
-    let added : any_rest test (is_place_of c.if-begun-2.next) 0 name ≡ (any_rest test (is_place_of c.loop-begun.next) 0 name || (c.if-begun.begun && test rest)) =
+    let added : any_rest test (is_place_of c.if-begun-2.next) 0 name
+        ≡ (any_rest test (is_place_of c.loop-begun.next) 0 name || (c.if-begun.begun && test rest)) =
     elim c.if-begun-2.branch [
       | then-begun-2 w ↦
           ap (λ p. any_rest test (is_place_of p) 0 name) w.next-is
-          ∙ star_place test (is_place_of c.loop-begun.next) (is_place_of w.add.new.self) c.if-begun.begun place name rest c.loop-begun.invariant.1 within w.if-begun-2.true w.add.ensures
+          ∙ star_place test (is_place_of c.loop-begun.next) (is_place_of w.add.new.self) c.if-begun.begun place name rest c.loop-begun.invariant.1
+              within w.if-begun-2.true w.add.ensures
       | else-begun-2 w ↦
           ap (λ p. any_rest test (is_place_of p) 0 name) w.next-is
           ∙ not_reached (any_rest test (is_place_of c.loop-begun.next) 0 name) c.if-begun.begun (test rest) w.if-begun-2.false
@@ -41,8 +44,12 @@ returns-in_default-clause-value g c = λ test.
     let empty : rest ≡ [] = no_rest rest c.in_default.len_below in
     let so_far = c.loop-begun.invariant.0 test in
     star_end (any_rest test (is_place_of c.loop-begun.next) 0 name) (test []) c.loop-begun.begun (reached place) _ c.if-begun.begun _ began
-    (subst (λ r. any_rest test (is_place_of c.if-begun-2.next) 0 name ≡ (any_rest test (is_place_of c.loop-begun.next) 0 name || (c.if-begun.begun && test r))) empty added)
-    (subst (λ r. (any_rest test (is_place_of c.loop-begun.next) 0 name || ((c.loop-begun.begun && list_any test (rests r)) || any_rest (λ rest. list_any test (rests rest)) reached place r)) ≡ any_rest (λ rest. list_any test (rests rest)) reached 0 name) empty so_far)
+    (subst (λ r. any_rest test (is_place_of c.if-begun-2.next) 0 name ≡ (any_rest test (is_place_of c.loop-begun.next) 0 name || (c.if-begun.begun && test r)))
+        empty added)
+    (subst (λ r.
+        (any_rest test (is_place_of c.loop-begun.next) 0 name
+        || ((c.loop-begun.begun && list_any test (rests r)) || any_rest (λ rest. list_any test (rests rest)) reached place r))
+        ≡ any_rest (λ rest. list_any test (rests rest)) reached 0 name) empty so_far)
 
 pub loop-begun-preserved : goal.loop-begun-preserved
 loop-begun-preserved g c =
@@ -63,20 +70,27 @@ loop-begun-preserved g c =
       | then-begun w ↦ w.begun-is ∙ w.if-begun.true ∙ sym (ap (λ t. t || reached place) w.if-begun.true)
       | else-begun w ↦ w.begun-is ∙ w.has-begun.ensures ∙ sym (ap (λ t. t || reached place) w.if-begun.false)
     ] in
-    let added : (test : List ℕ → Bool) → any_rest test (is_place_of c.if-begun-2.next) 0 name ≡ (any_rest test (is_place_of c.loop-begun.next) 0 name || (c.if-begun.begun && test rest)) = λ test.
+    let added : (test : List ℕ → Bool) → any_rest test (is_place_of c.if-begun-2.next) 0 name
+        ≡ (any_rest test (is_place_of c.loop-begun.next) 0 name || (c.if-begun.begun && test rest)) = λ test.
     elim c.if-begun-2.branch [
       | then-begun-2 w ↦
           ap (λ p. any_rest test (is_place_of p) 0 name) w.next-is
-          ∙ star_place test (is_place_of c.loop-begun.next) (is_place_of w.add.new.self) c.if-begun.begun place name rest c.loop-begun.invariant.1 within w.if-begun-2.true w.add.ensures
+          ∙ star_place test (is_place_of c.loop-begun.next) (is_place_of w.add.new.self) c.if-begun.begun place name rest c.loop-begun.invariant.1
+              within w.if-begun-2.true w.add.ensures
       | else-begun-2 w ↦
           ap (λ p. any_rest test (is_place_of p) 0 name) w.next-is
           ∙ not_reached (any_rest test (is_place_of c.loop-begun.next) 0 name) c.if-begun.begun (test rest) w.if-begun-2.false
     ] in (
       λ test.
-          star_next (any_rest test (is_place_of c.loop-begun.next) 0 name) (test (byte ∷ after)) (list_any test (rests after)) (any_rest (λ rest. list_any test (rests rest)) reached (place + 1) after) c.loop-begun.begun (reached place)
+          star_next (any_rest test (is_place_of c.loop-begun.next) 0 name) (test (byte ∷ after)) (list_any test (rests after))
+              (any_rest (λ rest. list_any test (rests rest)) reached (place + 1) after) c.loop-begun.begun (reached place)
           _ c.if-begun.begun _ began
-          (subst (λ r. any_rest test (is_place_of c.if-begun-2.next) 0 name ≡ (any_rest test (is_place_of c.loop-begun.next) 0 name || (c.if-begun.begun && test r))) spelled (added test))
-          (subst (λ r. (any_rest test (is_place_of c.loop-begun.next) 0 name || ((c.loop-begun.begun && list_any test (rests r)) || any_rest (λ rest. list_any test (rests rest)) reached place r)) ≡ any_rest (λ rest. list_any test (rests rest)) reached 0 name) spelled (c.loop-begun.invariant.0 test)),
+          (subst (λ r. any_rest test (is_place_of c.if-begun-2.next) 0 name
+              ≡ (any_rest test (is_place_of c.loop-begun.next) 0 name || (c.if-begun.begun && test r))) spelled (added test))
+          (subst (λ r.
+              (any_rest test (is_place_of c.loop-begun.next) 0 name
+              || ((c.loop-begun.begun && list_any test (rests r)) || any_rest (λ rest. list_any test (rests rest)) reached place r))
+              ≡ any_rest (λ rest. list_any test (rests rest)) reached 0 name) spelled (c.loop-begun.invariant.0 test)),
       left,
       omega arith,
       omega arith,

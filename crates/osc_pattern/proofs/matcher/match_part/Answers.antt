@@ -48,7 +48,8 @@ returns-then-not-has_byte g c =
     let most = c.has_byte.ensures.bounded in
     let row = row_step (length name) (length (item_text item)) (length others) (length part) (first_item-size part item others found) in
     record {
-      value = sym (other_byte part c.in-Some.item others name (get_or name 0 0) (take (length name - 1) (drop 1 name)) found c.in-Any.is spelled differs) ∙ so_far.0;
+      value = sym (other_byte part c.in-Some.item others name (get_or name 0 0) (take (length name - 1) (drop 1 name)) found c.in-Any.is spelled differs)
+          ∙ so_far.0;
       begun = omega arith;
       bounded = omega arith;
     }

@@ -7,7 +7,8 @@ use Rattle.osc_pattern.proofs.matcher.match_places.Goals as goal
 
 pub loop-item-init : goal.loop-item-init
 loop-item-init g c = (
-  any_rest-first (match_part c.args.part.now) (is_place_of c.none-reached.result) (is_place_of c.add.new.self) c.none-reached.ensures c.add.ensures c.args.name.now,
+  any_rest-first (match_part c.args.part.now) (is_place_of c.none-reached.result)
+      (is_place_of c.add.new.self) c.none-reached.ensures c.add.ensures c.args.name.now,
   omega arith,
   omega arith,
 )
@@ -22,7 +23,8 @@ loop-item-preserved g c =
     let more = c.places_after-reached.ensures.counted in
     let most = c.places_after-reached.ensures.bounded in
     let rows = rows_split (length name + 1) (length (item_text item)) (length others) (length part) (first_item-size part item others found) in (
-      c.places_after-reached.ensures.value (match_part others) ∙ sym (any_rest-item part item others (is_place_of c.loop-item.reached) name found) ∙ c.loop-item.invariant.0,
+      c.places_after-reached.ensures.value (match_part others) ∙ sym (any_rest-item part item others (is_place_of c.loop-item.reached) name found)
+          ∙ c.loop-item.invariant.0,
       omega arith,
       omega arith,
     )

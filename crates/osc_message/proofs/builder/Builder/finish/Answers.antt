@@ -10,19 +10,24 @@ returns-then-not-are_balanced-clause-cause c =
     inl (refl, rw (← c.self.view_is) (unbalanced c.self.inside.pattern.items c.self.inside.tags.items c.self.inside.atoms.items c.self.invariant failed))
 
 pub joined-requires-clause-pattern : goal.joined-requires-clause-pattern
-joined-requires-clause-pattern c = rw c.as_slice-pattern.ensures.value (nonzero_pattern c.self.inside.pattern.items c.self.inside.tags.items c.self.inside.atoms.items c.self.invariant)
+joined-requires-clause-pattern c =
+    rw c.as_slice-pattern.ensures.value (nonzero_pattern c.self.inside.pattern.items c.self.inside.tags.items c.self.inside.atoms.items c.self.invariant)
 
 pub joined-requires-clause-tags : goal.joined-requires-clause-tags
-joined-requires-clause-tags c = rw c.as_slice-tags.ensures.value (nonzero_kept c.self.inside.pattern.items c.self.inside.tags.items c.self.inside.atoms.items c.self.invariant)
+joined-requires-clause-tags c =
+    rw c.as_slice-tags.ensures.value (nonzero_kept c.self.inside.pattern.items c.self.inside.tags.items c.self.inside.atoms.items c.self.invariant)
 
 pub returns-in_err-joined-clause-refused : goal.returns-in_err-joined-clause-refused
 returns-in_err-joined-clause-refused c =
     let passed : is_ok (brackets_read 0 0 (drop 1 c.self.inside.tags.items) 0) ≡ true = search rules in
-    rw (← c.self.view_is) (λ not. absurd (not (balanced c.self.inside.pattern.items c.self.inside.tags.items c.self.inside.atoms.items c.self.invariant passed)))
+    rw (← c.self.view_is)
+    (λ not. absurd (not (balanced c.self.inside.pattern.items c.self.inside.tags.items c.self.inside.atoms.items c.self.invariant passed)))
 
 pub returns-clause-ok : goal.returns-clause-ok
 returns-clause-ok c =
-    rw (← c.self.view_is) (c.of.ensures ∙ c.in_ok-joined.ensures ∙ rw (c.as_slice-pattern.ensures.value, c.as_slice-tags.ensures.value, c.as_slice-atoms.ensures.value) (finished_text c.self.inside.pattern.items c.self.inside.tags.items c.self.inside.atoms.items c.self.invariant))
+    rw (← c.self.view_is)
+    (c.of.ensures ∙ c.in_ok-joined.ensures ∙ rw (c.as_slice-pattern.ensures.value, c.as_slice-tags.ensures.value, c.as_slice-atoms.ensures.value)
+    (finished_text c.self.inside.pattern.items c.self.inside.tags.items c.self.inside.atoms.items c.self.invariant))
 
 pub returns-clause-message : goal.returns-clause-message
 returns-clause-message c =
@@ -33,4 +38,5 @@ returns-clause-message c =
 pub returns-clause-refused : goal.returns-clause-refused
 returns-clause-refused c =
     let passed : is_ok (brackets_read 0 0 (drop 1 c.self.inside.tags.items) 0) ≡ true = search rules in
-    rw (← c.self.view_is) (λ not. absurd (not (balanced c.self.inside.pattern.items c.self.inside.tags.items c.self.inside.atoms.items c.self.invariant passed)))
+    rw (← c.self.view_is)
+    (λ not. absurd (not (balanced c.self.inside.pattern.items c.self.inside.tags.items c.self.inside.atoms.items c.self.invariant passed)))

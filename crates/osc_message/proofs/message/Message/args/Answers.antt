@@ -11,7 +11,8 @@ pub returns-then-is_some : goal.returns-then-is_some
 returns-then-is_some c =
     let slices = c.self.inside.slices in
     let some : is_some slices.unknown ≡ true = search rules in
-    let none : message_arguments c.self.inside.bytes.now ≡ [] = none_under_unknown c.self.inside.bytes.now (seen slices) slices.unknown c.self.invariant.0.read c.self.invariant.1 some in
+    let none : message_arguments c.self.inside.bytes.now ≡ [] =
+    none_under_unknown c.self.inside.bytes.now (seen slices) slices.unknown c.self.invariant.0.read c.self.invariant.1 some in
     rw (← c.self.view_is) (c.new.ensures ∙ sym none)
 
 pub new-requires-2-clause-readable : goal.new-requires-2-clause-readable
@@ -27,5 +28,6 @@ returns c =
     let slices = c.self.inside.slices in
     let none : is_some slices.unknown ≡ false = search rules in
     let tags : c.unwrap_or-tags.result.now ≡ unwrap_or (seen slices).tags [] = search rules in
-    let all : message_arguments c.self.inside.bytes.now ≡ arguments_of (unwrap_or (seen slices).tags []) c.self.inside.bytes.now slices.place = all_under_known c.self.inside.bytes.now (seen slices) slices.unknown c.self.invariant.0.read c.self.invariant.1 none in
+    let all : message_arguments c.self.inside.bytes.now ≡ arguments_of (unwrap_or (seen slices).tags []) c.self.inside.bytes.now slices.place =
+    all_under_known c.self.inside.bytes.now (seen slices) slices.unknown c.self.invariant.0.read c.self.invariant.1 none in
     rw (← c.self.view_is) (c.new-2.ensures ∙ ap (λ (l : List ℕ). arguments_of l c.self.inside.bytes.now slices.place) tags ∙ sym all)

@@ -9,7 +9,8 @@ known-requires-clause-test c = pattern_lawful c.self.inside.bytes.now (seen c.se
 
 pub known-requires-clause-small : goal.known-requires-clause-small
 known-requires-clause-small c =
-    let short : length c.self.inside.slices.pattern.now ≤ length c.self.inside.bytes.now = pattern_short c.self.inside.bytes.now (seen c.self.inside.slices) c.self.invariant.0.read in
+    let short : length c.self.inside.slices.pattern.now ≤ length c.self.inside.bytes.now =
+    pattern_short c.self.inside.bytes.now (seen c.self.inside.slices) c.self.invariant.0.read in
     let small = c.self.invariant.0.small in
     omega arith
 
