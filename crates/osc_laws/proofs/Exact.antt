@@ -41,7 +41,8 @@ pub record OfServer : Type 0 where
 
 -- The calls of a number.
 
-calls_append : (number : ℕ) (first more : List Invocation) → calls_of_number number (first ++ more) ≡ calls_of_number number first ++ calls_of_number number more
+calls_append : (number : ℕ) (first more : List Invocation)
+    → calls_of_number number (first ++ more) ≡ calls_of_number number first ++ calls_of_number number more
 calls_append number first more =
     let mine : Invocation → Bool = λ (i : Invocation). i.unit == number in
     ap (map (λ (i : Invocation). i.call)) (filter-append mine first more) ∙ map-append (λ (i : Invocation). i.call) (filter mine first) (filter mine more)
@@ -52,30 +53,36 @@ calls_none number (one ∷ others) none = rw none.0 (calls_none number others no
 
 calls_one : (number : ℕ) (calls : List Call) → calls_of_number number (invocations_of number calls) ≡ calls
 calls_one number [] = refl
-calls_one number (call ∷ calls) = let itself : (number == number) ≡ true = grind (arith, nat_tests) in rw itself (ap (λ (l : List Call). call ∷ l) (calls_one number calls))
+calls_one number (call ∷ calls) = let itself : (number == number) ≡ true = grind (arith, nat_tests) in
+    rw itself (ap (λ (l : List Call). call ∷ l) (calls_one number calls))
 
 numbers_append : (first more : List Entry) → numbers_released (first ++ more) ≡ numbers_released first ++ numbers_released more
 numbers_append [] more = refl
-numbers_append (entry ∷ first) more = ap (λ (l : List ℕ). released_in entry.answer ++ l) (numbers_append first more) ∙ sym (append_assoc (released_in entry.answer) (numbers_released first) (numbers_released more))
+numbers_append (entry ∷ first) more =
+    ap (λ (l : List ℕ). released_in entry.answer ++ l) (numbers_append first more)
+    ∙ sym (append_assoc (released_in entry.answer) (numbers_released first) (numbers_released more))
 
 -- a unit that is released at one place is released nowhere else
 record IsOnlyHere (before later : List Entry) (number : ℕ) : Type 0 where
   not_before : times (λ m. m == number) (numbers_released before) ≡ 0
   not_later : times (λ m. m == number) (numbers_released later) ≡ 0
 
-only_here : (before later : List Entry) (caller number : ℕ) (hits : List Hit) → AreOnce (before ++ record { caller = caller; event = release; answer = released number hits } ∷ later) → IsOnlyHere before later number
+only_here : (before later : List Entry) (caller number : ℕ) (hits : List Hit)
+    → AreOnce (before ++ record { caller = caller; event = release; answer = released number hits } ∷ later) → IsOnlyHere before later number
 only_here before later caller number hits once =
     let test : ℕ → Bool = λ (m : ℕ). m == number in
     let entry : Entry = record { caller = caller; event = release; answer = released number hits } in
     let few = once number in
-    let parts : times test (numbers_released (before ++ entry ∷ later)) ≡ times test (numbers_released before) + (tally test number + times test (numbers_released later)) =
+    let parts : times test (numbers_released (before ++ entry ∷ later))
+        ≡ times test (numbers_released before) + (tally test number + times test (numbers_released later)) =
     ap (times test) (numbers_append before (entry ∷ later)) ∙ times_append test (numbers_released before) (number ∷ numbers_released later) in
     let itself : (number == number) ≡ true = grind (arith, nat_tests) in
     let counts : tally test number ≡ 1 = rw itself refl in
     record { not_before = omega (arith, few, parts, counts); not_later = omega (arith, few, parts, counts) }
 
 -- the calls of a unit that is released at a place are those of that release
-calls_there : (state : State) (before later : List Entry) (caller number : ℕ) (hits : List Hit) (calls : List Call) → LegalFrom state (before ++ record { caller = caller; event = release; answer = released number hits } ∷ later)
+calls_there : (state : State) (before later : List Entry) (caller number : ℕ) (hits : List Hit) (calls : List Call)
+    → LegalFrom state (before ++ record { caller = caller; event = release; answer = released number hits } ∷ later)
     → IsOnlyHere before later number → (step (after state before) release).invocations ≡ invocations_of number calls
     → calls_of_number number (invocations state (before ++ record { caller = caller; event = release; answer = released number hits } ∷ later)) ≡ calls
 calls_there state before later caller number hits calls legal only invoked =
@@ -83,8 +90,10 @@ calls_there state before later caller number hits calls legal only invoked =
     let here = (step (after state before) release).invocations in
     let next = (step (after state before) release).state in
     let parts = legal_split state before (entry ∷ later) legal in
-    let first : calls_of_number number (invocations state before) ≡ [] = calls_none number (invocations state before) (none_invoked number state before parts.0 only.not_before) in
-    let last : calls_of_number number (invocations next later) ≡ [] = calls_none number (invocations next later) (none_invoked number next later parts.1.4 only.not_later) in
+    let first : calls_of_number number (invocations state before) ≡ [] =
+        calls_none number (invocations state before) (none_invoked number state before parts.0 only.not_before) in
+    let last : calls_of_number number (invocations next later) ≡ [] =
+        calls_none number (invocations next later) (none_invoked number next later parts.1.4 only.not_later) in
     let middle : calls_of_number number here ≡ calls = ap (calls_of_number number) invoked ∙ calls_one number calls in
     ap (calls_of_number number) (invoked_more state before (entry ∷ later))
     ∙ calls_append number (invocations state before) (here ++ invocations next later)
@@ -97,7 +106,8 @@ calls_there state before later caller number hits calls legal only invoked =
 
 unit_calls_exactly : OfServer → (caps : Limits) (history : List Entry) → Legal caps history → (unit : Queued) (call : Call)
     → Contains (calls_of_unit (after (opening caps) history).methods unit) call ↔ IsCallOf history unit.2 call
-unit_calls_exactly of caps history legal unit call = (λ held. there (calls_are of.exactly methods 0 unit.2.messages call held), λ is. are_calls of.exactly methods 0 unit.2.messages call (back is)) where
+unit_calls_exactly of caps history legal unit call =
+    (λ held. there (calls_are of.exactly methods 0 unit.2.messages call held), λ is. are_calls of.exactly methods 0 unit.2.messages call (back is)) where
   methods : List Method
   methods = (after (opening caps) history).methods
 
@@ -108,14 +118,18 @@ unit_calls_exactly of caps history legal unit call = (λ held. there (calls_are 
   there is =
       let index_is = is.index_is in
       let place : is.place ≡ call.index = omega (arith, index_is) in
-      record { message = subst (λ (n : ℕ). slice_get unit.2.messages n ≡ Some call.message) place is.message_is; known = is.known; registered = read.0 is.registered; matched = is.matched }
+      record { message = subst (λ (n : ℕ). slice_get unit.2.messages n ≡ Some call.message) place is.message_is; known = is.known;
+          registered = read.0 is.registered; matched = is.matched }
 
   back : IsCallOf history unit.2 call → IsCallFrom methods 0 unit.2.messages call
-  back is = record { place = call.index; index_is = omega arith; message_is = is.message; known = is.known; registered = read.1 is.registered; matched = is.matched }
+  back is = record { place = call.index; index_is = omega arith; message_is = is.message; known = is.known; registered = read.1 is.registered;
+      matched = is.matched }
 
-taken_exactly : OfServer → (caps : Limits) (before later : List Entry) (caller number : ℕ) (hits : List Hit) → Legal caps (before ++ record { caller = caller; event = release; answer = released number hits } ∷ later)
+taken_exactly : OfServer → (caps : Limits) (before later : List Entry) (caller number : ℕ) (hits : List Hit)
+    → Legal caps (before ++ record { caller = caller; event = release; answer = released number hits } ∷ later)
     → TakesLeast (after (opening caps) before) (step (after (opening caps) before) release)
-    → CallsExactly before number hits (calls_of_number number (invocations (opening caps) (before ++ record { caller = caller; event = release; answer = released number hits } ∷ later)))
+    → CallsExactly before number hits
+        (calls_of_number number (invocations (opening caps) (before ++ record { caller = caller; event = release; answer = released number hits } ∷ later)))
 taken_exactly of caps before later caller number hits legal taken =
     let state = after (opening caps) before in
     let entry : Entry = record { caller = caller; event = release; answer = released number hits } in
@@ -142,8 +156,10 @@ taken_exactly of caps before later caller number hits legal taken =
     in_time : (tag due clock read : ℕ) → tag ≤ due → due ≤ clock → clock ≡ read → tag ≤ read
     in_time tag due clock read one two three = omega arith
 
-release_exactly : OfServer → (caps : Limits) (before later : List Entry) (caller number : ℕ) (hits : List Hit) → Legal caps (before ++ record { caller = caller; event = release; answer = released number hits } ∷ later)
-    → CallsExactly before number hits (calls_of_number number (invocations (opening caps) (before ++ record { caller = caller; event = release; answer = released number hits } ∷ later)))
+release_exactly : OfServer → (caps : Limits) (before later : List Entry) (caller number : ℕ) (hits : List Hit)
+    → Legal caps (before ++ record { caller = caller; event = release; answer = released number hits } ∷ later)
+    → CallsExactly before number hits
+        (calls_of_number number (invocations (opening caps) (before ++ record { caller = caller; event = release; answer = released number hits } ∷ later)))
 release_exactly of caps before later caller number hits legal = go (of.least caps before (legal.0, parts.0)) where
   entry : Entry
   entry = record { caller = caller; event = release; answer = released number hits }
@@ -151,7 +167,8 @@ release_exactly of caps before later caller number hits legal = go (of.least cap
   parts : LegalFrom (opening caps) before × LegalFrom (after (opening caps) before) (entry ∷ later)
   parts = legal_split (opening caps) before (entry ∷ later) legal.1
 
-  go : ReleasesLeast (after (opening caps) before) (step (after (opening caps) before) release) → CallsExactly before number hits (calls_of_number number (invocations (opening caps) (before ++ entry ∷ later)))
+  go : ReleasesLeast (after (opening caps) before) (step (after (opening caps) before) release)
+      → CallsExactly before number hits (calls_of_number number (invocations (opening caps) (before ++ entry ∷ later)))
   go (inl taken) = taken_exactly of caps before later caller number hits legal taken
   go (inr (inl none)) = absurd (let no = parts.1.3 ∙ none.answer in cc)
   go (inr (inr full)) = absurd (let no = parts.1.3 ∙ full.answer in cc)

@@ -20,7 +20,8 @@ use Rattle.osc_laws.proofs.Units.{IsWaiting, units_are}
 
 -- a release takes the least unit
 abbrev pub TakesTheLeast : Type 0
-TakesTheLeast = (caps : Limits) (history : List Entry) → Legal caps history → ReleasesLeast (after (opening caps) history) (step (after (opening caps) history) release)
+TakesTheLeast = (caps : Limits) (history : List Entry) → Legal caps history
+    → ReleasesLeast (after (opening caps) history) (step (after (opening caps) history) release)
 
 -- an event that is no release invokes nothing
 abbrev InvokesByRelease : Event → Stepped → Type 0
@@ -44,19 +45,23 @@ step_by_release state event =
     step_so (InvokesByRelease event) state event
     (record { silent = λ none. decided_by_release state event; full = λ some full. inl refl; room = λ some fits. decided_by_release state event })
 
-pub each_of_unit : (P : Invocation → Type 0) (number : ℕ) (calls : List Call) → ((call : Call) → P (record { unit = number; call = call })) → AllByRecursion P (invocations_of number calls)
+pub each_of_unit : (P : Invocation → Type 0) (number : ℕ) (calls : List Call) → ((call : Call) → P (record { unit = number; call = call }))
+    → AllByRecursion P (invocations_of number calls)
 each_of_unit P number [] holds = tt
 each_of_unit P number (call ∷ calls) holds = (holds call, each_of_unit P number calls holds)
 
 -- what holds of all that waits holds of the unit that is taken
-pub taken_waits : (history : List Entry) (state : State) (stepped : Stepped) (taken : TakesLeast state stepped) → AllByRecursion (IsWaiting history) state.queue → IsWaiting history taken.unit
+pub taken_waits : (history : List Entry) (state : State) (stepped : Stepped) (taken : TakesLeast state stepped) → AllByRecursion (IsWaiting history) state.queue
+    → IsWaiting history taken.unit
 taken_waits history state stepped taken wait =
-    let all = All-permutation (IsWaiting history) state.queue (taken.unit ∷ stepped.state.queue) taken.others (All-from_recursion (IsWaiting history) state.queue wait) in
+    let all = All-permutation (IsWaiting history) state.queue (taken.unit ∷ stepped.state.queue) taken.others
+        (All-from_recursion (IsWaiting history) state.queue wait) in
     (recursion_from_All (IsWaiting history) (taken.unit ∷ stepped.state.queue) all).0
 
 -- the unit that is taken at a release is in time
 taken_in_time : (caps : Limits) (before later : List Entry) (entry : Entry) → Legal caps (before ++ entry ∷ later) → entry.event ≡ release
-    → (taken : TakesLeast (after (opening caps) before) (step (after (opening caps) before) release)) (call : Call) → IsInTime (before ++ entry ∷ later) (record { unit = unit_of taken.unit; call = call })
+    → (taken : TakesLeast (after (opening caps) before) (step (after (opening caps) before) release)) (call : Call)
+        → IsInTime (before ++ entry ∷ later) (record { unit = unit_of taken.unit; call = call })
 taken_in_time caps before later entry legal is taken call =
     let state = after (opening caps) before in
     let parts = legal_split (opening caps) before (entry ∷ later) legal.1 in
@@ -78,17 +83,20 @@ taken_in_time caps before later entry legal is taken call =
     in_order tag due clock read one two three = omega arith
 
 release_in_time : (caps : Limits) (before later : List Entry) (entry : Entry) → Legal caps (before ++ entry ∷ later) → entry.event ≡ release
-    → ReleasesLeast (after (opening caps) before) (step (after (opening caps) before) release) → AllByRecursion (IsInTime (before ++ entry ∷ later)) (step (after (opening caps) before) release).invocations
+    → ReleasesLeast (after (opening caps) before) (step (after (opening caps) before) release)
+        → AllByRecursion (IsInTime (before ++ entry ∷ later)) (step (after (opening caps) before) release).invocations
 release_in_time caps before later entry legal is (inl taken) =
     subst (AllByRecursion (IsInTime (before ++ entry ∷ later))) (sym taken.invoked)
-    (each_of_unit _ (unit_of taken.unit) (calls_of_unit (after (opening caps) before).methods taken.unit) (taken_in_time caps before later entry legal is taken))
+    (each_of_unit _ (unit_of taken.unit) (calls_of_unit (after (opening caps) before).methods taken.unit)
+        (taken_in_time caps before later entry legal is taken))
 release_in_time caps before later entry legal is (inr (inl none)) = subst (AllByRecursion (IsInTime (before ++ entry ∷ later))) (sym none.none) tt
 release_in_time caps before later entry legal is (inr (inr full)) = subst (AllByRecursion (IsInTime (before ++ entry ∷ later))) (sym full.none) tt
 
 entry_in_time : TakesTheLeast → (caps : Limits) (before later : List Entry) (entry : Entry) → Legal caps (before ++ entry ∷ later)
     → AllByRecursion (IsInTime (before ++ entry ∷ later)) (step (after (opening caps) before) entry.event).invocations
 entry_in_time least caps before later entry legal = go (step_by_release (after (opening caps) before) entry.event) where
-  go : InvokesByRelease entry.event (step (after (opening caps) before) entry.event) → AllByRecursion (IsInTime (before ++ entry ∷ later)) (step (after (opening caps) before) entry.event).invocations
+  go : InvokesByRelease entry.event (step (after (opening caps) before) entry.event)
+      → AllByRecursion (IsInTime (before ++ entry ∷ later)) (step (after (opening caps) before) entry.event).invocations
   go (inl none) = subst (AllByRecursion (IsInTime (before ++ entry ∷ later))) (sym none) tt
   go (inr is) =
       let begun = (legal_split (opening caps) before (entry ∷ later) legal.1).0 in
@@ -97,7 +105,8 @@ entry_in_time least caps before later entry legal = go (step_by_release (after (
 
 -- what holds of the invocations of each entry holds of all those of a history
 pub each_entry : (P : List Entry → Invocation → Type 0) (caps : Limits)
-    → ((before later : List Entry) (entry : Entry) → Legal caps (before ++ entry ∷ later) → AllByRecursion (P (before ++ entry ∷ later)) (step (after (opening caps) before) entry.event).invocations)
+    → ((before later : List Entry) (entry : Entry) → Legal caps (before ++ entry ∷ later)
+        → AllByRecursion (P (before ++ entry ∷ later)) (step (after (opening caps) before) entry.event).invocations)
     → (before later : List Entry) → Legal caps (before ++ later) → AllByRecursion (P (before ++ later)) (invocations (after (opening caps) before) later)
 each_entry P caps holds before [] legal = tt
 each_entry P caps holds before (entry ∷ entries) legal =
@@ -105,8 +114,10 @@ each_entry P caps holds before (entry ∷ entries) legal =
     let same = append_assoc before (entry ∷ []) entries in
     let more = each_entry P caps holds (before ++ entry ∷ []) entries (subst (Legal caps) (sym same) legal) in
     let behind = subst (λ (h : List Entry). AllByRecursion (P h) (invocations (after (opening caps) (before ++ entry ∷ [])) entries)) same more in
-    all_append (P (before ++ entry ∷ entries)) (step state entry.event).invocations (invocations (step state entry.event).state entries) (holds before entries entry legal)
+    all_append (P (before ++ entry ∷ entries)) (step state entry.event).invocations (invocations (step state entry.event).state entries)
+        (holds before entries entry legal)
     (subst (λ (s : State). AllByRecursion (P (before ++ entry ∷ entries)) (invocations s entries)) (after_more (opening caps) before (entry ∷ [])) behind)
 
-pub all_in_time : TakesTheLeast → (caps : Limits) (history : List Entry) → Legal caps history → AllByRecursion (IsInTime history) (invocations (opening caps) history)
+pub all_in_time : TakesTheLeast → (caps : Limits) (history : List Entry) → Legal caps history
+    → AllByRecursion (IsInTime history) (invocations (opening caps) history)
 all_in_time least caps history legal = each_entry IsInTime caps (entry_in_time least caps) [] history legal

@@ -29,14 +29,16 @@ passed {X} test (y ∷ ys) x held = go (test y) refl held (passed test ys x) whe
   here e (inl same) rest = subst (IsPassed test (y ∷ ys)) same (head_in y ys, e)
   here e (inr held) rest = more (rest held)
 
-  go : (t : Bool) → test y ≡ t → Contains (cond t (y ∷ filter test ys) (filter test ys)) x → (Contains (filter test ys) x → IsPassed test ys x) → IsPassed test (y ∷ ys) x
+  go : (t : Bool) → test y ≡ t → Contains (cond t (y ∷ filter test ys) (filter test ys)) x → (Contains (filter test ys) x → IsPassed test ys x)
+      → IsPassed test (y ∷ ys) x
   go true e held rest = here e (head_or_behind y x (filter test ys) held) rest
   go false e held rest = more (rest held)
 
 pub passes : {X : Type 0} (test : X → Bool) (xs : List X) (x : X) → Contains xs x → test x ≡ true → Contains (filter test xs) x
 passes test [] x held is = held
 passes {X} test (y ∷ ys) x held is = go (test y) refl (head_or_behind y x ys held) (λ held. passes test ys x held is) where
-  go : (t : Bool) → test y ≡ t → (y ≡ x) ⊎ Contains ys x → (Contains ys x → Contains (filter test ys) x) → Contains (cond t (y ∷ filter test ys) (filter test ys)) x
+  go : (t : Bool) → test y ≡ t → (y ≡ x) ⊎ Contains ys x → (Contains ys x → Contains (filter test ys) x)
+      → Contains (cond t (y ∷ filter test ys) (filter test ys)) x
   go true e (inl same) rest = subst (Contains (y ∷ filter test ys)) same (head_in y (filter test ys))
   go true e (inr held) rest = behind_in y x (filter test ys) (rest held)
   go false e (inl same) rest = absurd (let no : test x ≡ false = sym (ap test same) ∙ e in cc)

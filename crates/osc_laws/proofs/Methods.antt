@@ -46,7 +46,8 @@ decided_changes : (state : State) (event : Event) → Changes state event (decid
 decided_changes state event =
     decided_so (Changes state) state event
     (record {
-      refused = λ event answer is. inl (record { methods = refl; none_added = λ id same. subst IsRefusal same is; none_removed = λ id same. subst IsRefusal same is });
+      refused = λ event answer is.
+          inl (record { methods = refl; none_added = λ id same. subst IsRefusal same is; none_removed = λ id same. subst IsRefusal same is });
       enrolled = inl (record { methods = refl; none_added = λ id same. absurd (cc); none_removed = λ id same. absurd (cc) });
       queued = λ packet. inl (record { methods = refl; none_added = λ id same. absurd (cc); none_removed = λ id same. absurd (cc) });
       added = λ address. inr (inl (record { address = address; event_is = refl; methods = refl; answer = refl }));
@@ -56,12 +57,16 @@ decided_changes state event =
     })
 
 -- the methods and the answer are those of what is decided, where they are those of what is noted
-changes_noted : (state : State) (event : Event) (one other : Stepped) → other.state.methods ≡ one.state.methods → other.answer ≡ one.answer → Changes state event one → Changes state event other
+changes_noted : (state : State) (event : Event) (one other : Stepped) → other.state.methods ≡ one.state.methods → other.answer ≡ one.answer
+    → Changes state event one → Changes state event other
 changes_noted state event one other methods answer (inl keeps) =
-    inl (record { methods = methods ∙ keeps.methods; none_added = λ id same. keeps.none_added id (sym answer ∙ same); none_removed = λ id same. keeps.none_removed id (sym answer ∙ same) })
-changes_noted state event one other methods answer (inr (inl adds)) = inr (inl (record { address = adds.address; event_is = adds.event_is; methods = methods ∙ adds.methods; answer = answer ∙ adds.answer }))
+    inl (record { methods = methods ∙ keeps.methods; none_added = λ id same. keeps.none_added id (sym answer ∙ same);
+        none_removed = λ id same. keeps.none_removed id (sym answer ∙ same) })
+changes_noted state event one other methods answer (inr (inl adds)) =
+    inr (inl (record { address = adds.address; event_is = adds.event_is; methods = methods ∙ adds.methods; answer = answer ∙ adds.answer }))
 changes_noted state event one other methods answer (inr (inr removes)) =
-    inr (inr (record { address = removes.address; id = removes.id; event_is = removes.event_is; methods = methods ∙ removes.methods; answer = answer ∙ removes.answer }))
+    inr (inr (record { address = removes.address; id = removes.id; event_is = removes.event_is; methods = methods ∙ removes.methods;
+        answer = answer ∙ removes.answer }))
 
 step_changes : (state : State) (event : Event) → Changes state event (step state event)
 step_changes state event =
@@ -93,7 +98,8 @@ record IsThere (methods : List Method) (address : List ℕ) (id : ℕ) : Type 0 
 
 there_at : (methods : List Method) (address : List ℕ) (id : ℕ) → id_at methods address ≡ Some id → IsThere methods address id
 there_at methods address id is = go (find (λ method. bytes_eq method.address address) methods) refl is where
-  go : (at : Option Method) → find (λ method. bytes_eq method.address address) methods ≡ at → option_map (λ (method : Method). method.id) at ≡ Some id → IsThere methods address id
+  go : (at : Option Method) → find (λ method. bytes_eq method.address address) methods ≡ at → option_map (λ (method : Method). method.id) at ≡ Some id
+      → IsThere methods address id
   go None e is = absurd (cc)
   go (Some method) e is =
       let held = found (λ (m : Method). bytes_eq m.address address) methods method e in
@@ -101,7 +107,8 @@ there_at methods address id is = go (find (λ method. bytes_eq method.address ad
 
 -- A history with one entry more.
 
-registered_later : (history : List Entry) (entry : Entry) (id : ℕ) (address : List ℕ) → entry.answer ≢ removed id → IsRegistered history id address → IsRegistered (history ++ entry ∷ []) id address
+registered_later : (history : List Entry) (entry : Entry) (id : ℕ) (address : List ℕ) → entry.answer ≢ removed id → IsRegistered history id address
+    → IsRegistered (history ++ entry ∷ []) id address
 registered_later history entry id address stays is =
     let made : Entry = record { caller = is.caller; event = add address; answer = added id } in
     record {
@@ -112,14 +119,18 @@ registered_later history entry id address stays is =
       stays = all_append _ is.later (entry ∷ []) is.stays (stays, tt);
     }
 
-registered_now : (history : List Entry) (entry : Entry) (id : ℕ) (address : List ℕ) → entry.event ≡ add address → entry.answer ≡ added id → IsRegistered (history ++ entry ∷ []) id address
+registered_now : (history : List Entry) (entry : Entry) (id : ℕ) (address : List ℕ) → entry.event ≡ add address → entry.answer ≡ added id
+    → IsRegistered (history ++ entry ∷ []) id address
 registered_now history entry id address event answer =
-    record { before = history; caller = entry.caller; later = []; place = λ i. history ++ record { caller = entry.caller; event = event i; answer = answer i } ∷ []; stays = tt }
+    record { before = history; caller = entry.caller; later = [];
+        place = λ i. history ++ record { caller = entry.caller; event = event i; answer = answer i } ∷ []; stays = tt }
 
 abbrev WasRegistered : List Entry → Entry → ℕ → List ℕ → Type 0
-WasRegistered history entry id address = ((entry.event ≡ add address) × (entry.answer ≡ added id)) ⊎ (IsRegistered history id address × (entry.answer ≢ removed id))
+WasRegistered history entry id address = ((entry.event ≡ add address) × (entry.answer ≡ added id))
+    ⊎ (IsRegistered history id address × (entry.answer ≢ removed id))
 
-registered_before : (history : List Entry) (entry : Entry) (id : ℕ) (address : List ℕ) → IsRegistered (history ++ entry ∷ []) id address → WasRegistered history entry id address
+registered_before : (history : List Entry) (entry : Entry) (id : ℕ) (address : List ℕ) → IsRegistered (history ++ entry ∷ []) id address
+    → WasRegistered history entry id address
 registered_before history entry id address is = go (last_or_earlier history entry is.before made is.later is.place) where
   made : Entry
   made = record { caller = is.caller; event = add address; answer = added id }
@@ -127,26 +138,31 @@ registered_before history entry id address is = go (last_or_earlier history entr
   go : IsLast is.before history is.later made entry ⊎ IsEarlier is.before history is.later made entry → WasRegistered history entry id address
   go (inl now) = inl (ap (λ (e : Entry). e.event) now.last_is, ap (λ (e : Entry). e.answer) now.last_is)
   go (inr then) =
-      let stays = all_split (λ (e : Entry). e.answer ≢ removed id) then.rest (entry ∷ []) (subst (AllByRecursion (λ (e : Entry). e.answer ≢ removed id)) then.later_is is.stays) in
+      let stays = all_split (λ (e : Entry). e.answer ≢ removed id) then.rest (entry ∷ [])
+          (subst (AllByRecursion (λ (e : Entry). e.answer ≢ removed id)) then.later_is is.stays) in
       inr (record { before = is.before; caller = is.caller; later = then.rest; place = then.all_is; stays = stays.0 }, stays.1.0)
 
 -- the methods are those that a history registered
 abbrev AreRead : List Entry → List Method → Type 0
 AreRead history methods = (method : Method) → Contains methods method ↔ IsRegistered history method.id method.address
 
-kept_read : (history : List Entry) (state : State) (entry : Entry) → entry.answer ≡ (step state entry.event).answer → Keeps state (step state entry.event) → AreRead history state.methods → AreRead (history ++ entry ∷ []) (step state entry.event).state.methods
+kept_read : (history : List Entry) (state : State) (entry : Entry) → entry.answer ≡ (step state entry.event).answer → Keeps state (step state entry.event)
+    → AreRead history state.methods → AreRead (history ++ entry ∷ []) (step state entry.event).state.methods
 kept_read history state entry answered keeps read method = (there, λ is. back (registered_before history entry method.id method.address is)) where
   there : Contains (step state entry.event).state.methods method → IsRegistered (history ++ entry ∷ []) method.id method.address
   there held =
-      registered_later history entry method.id method.address (λ is. keeps.none_removed method.id (sym answered ∙ is)) ((read method).0 (subst (λ (l : List Method). Contains l method) keeps.methods held))
+      registered_later history entry method.id method.address (λ is. keeps.none_removed method.id (sym answered ∙ is))
+          ((read method).0 (subst (λ (l : List Method). Contains l method) keeps.methods held))
 
   back : WasRegistered history entry method.id method.address → Contains (step state entry.event).state.methods method
   back (inl (event, answer)) = absurd (keeps.none_added method.id (sym answered ∙ answer))
   back (inr (was, stays)) = subst (λ (l : List Method). Contains l method) (sym keeps.methods) ((read method).1 was)
 
-added_read : (history : List Entry) (state : State) (entry : Entry) → entry.answer ≡ (step state entry.event).answer → Adds state entry.event (step state entry.event) → AreRead history state.methods → AreRead (history ++ entry ∷ []) (step state entry.event).state.methods
+added_read : (history : List Entry) (state : State) (entry : Entry) → entry.answer ≡ (step state entry.event).answer
+    → Adds state entry.event (step state entry.event) → AreRead history state.methods → AreRead (history ++ entry ∷ []) (step state entry.event).state.methods
 added_read history state entry answered adds read method =
-    (λ held. there (Contains-push_cases state.methods one method (subst (λ (l : List Method). Contains l method) adds.methods held)), λ is. back (registered_before history entry method.id method.address is))
+    (λ held. there (Contains-push_cases state.methods one method (subst (λ (l : List Method). Contains l method) adds.methods held)), λ is.
+        back (registered_before history entry method.id method.address is))
   where
     one : Method
     one = record { id = state.next_id; address = adds.address }
@@ -156,7 +172,9 @@ added_read history state entry answered adds read method =
 
     there : Contains state.methods method ⊎ (one ≡ method) → IsRegistered (history ++ entry ∷ []) method.id method.address
     there (inl held) = registered_later history entry method.id method.address (λ is. absurd (cc)) ((read method).0 held)
-    there (inr same) = subst (λ (m : Method). IsRegistered (history ++ entry ∷ []) m.id m.address) same (registered_now history entry state.next_id adds.address adds.event_is answer_is)
+    there (inr same) =
+        subst (λ (m : Method). IsRegistered (history ++ entry ∷ []) m.id m.address) same
+        (registered_now history entry state.next_id adds.address adds.event_is answer_is)
 
     back : WasRegistered history entry method.id method.address → Contains (step state entry.event).state.methods method
     back (inl (event, answer)) =
@@ -164,12 +182,15 @@ added_read history state entry answered adds read method =
         let addresses : adds.address ≡ method.address = let whole : add adds.address ≡ add method.address = sym adds.event_is ∙ event in cc in
         let same : one ≡ method = λ i. record { id = ids i; address = addresses i } in
         subst (λ (l : List Method). Contains l method) (sym adds.methods) (subst (Contains (state.methods ++ one ∷ [])) same (Contains-push state.methods one))
-    back (inr (was, stays)) = subst (λ (l : List Method). Contains l method) (sym adds.methods) (Contains-append_left state.methods (one ∷ []) method ((read method).1 was))
+    back (inr (was, stays)) =
+        subst (λ (l : List Method). Contains l method) (sym adds.methods) (Contains-append_left state.methods (one ∷ []) method ((read method).1 was))
 
-removed_read : (history : List Entry) (state : State) (entry : Entry) → entry.answer ≡ (step state entry.event).answer → IsMethodList state.methods → (removes : Removes state entry.event (step state entry.event))
+removed_read : (history : List Entry) (state : State) (entry : Entry) → entry.answer ≡ (step state entry.event).answer → IsMethodList state.methods
+    → (removes : Removes state entry.event (step state entry.event))
     → IsThere state.methods removes.address removes.id → AreRead history state.methods → AreRead (history ++ entry ∷ []) (step state entry.event).state.methods
 removed_read history state entry answered list removes one read method =
-    (λ held. there (passed others state.methods method (subst (λ (l : List Method). Contains l method) removes.methods held)), λ is. back (registered_before history entry method.id method.address is))
+    (λ held. there (passed others state.methods method (subst (λ (l : List Method). Contains l method) removes.methods held)), λ is.
+        back (registered_before history entry method.id method.address is))
   where
     others : Method → Bool
     others m = not (bytes_eq m.address removes.address)
@@ -191,7 +212,9 @@ removed_read history state entry answered list removes one read method =
 
     back : WasRegistered history entry method.id method.address → Contains (step state entry.event).state.methods method
     back (inl (event, answer)) = absurd (cc)
-    back (inr (was, stays)) = subst (λ (l : List Method). Contains l method) (sym removes.methods) (passes others state.methods method held (go (bytes_eq method.address removes.address) refl)) where
+    back (inr (was, stays)) =
+        subst (λ (l : List Method). Contains l method) (sym removes.methods)
+        (passes others state.methods method held (go (bytes_eq method.address removes.address) refl)) where
       held : Contains state.methods method
       held = (read method).1 was
 
@@ -202,20 +225,23 @@ removed_read history state entry answered list removes one read method =
           let same : one.method ≡ method = unique (λ (m : Method). m.address) state.methods one.method method list.addresses one.held held (one.at ∙ sym at) in
           absurd (stays (answer_is ∙ ap removed (sym one.under ∙ ap (λ (m : Method). m.id) same)))
 
-step_read : (history : List Entry) (state : State) (entry : Entry) → entry.answer ≡ (step state entry.event).answer → IsMethodList state.methods → AreRead history state.methods → AreRead (history ++ entry ∷ []) (step state entry.event).state.methods
+step_read : (history : List Entry) (state : State) (entry : Entry) → entry.answer ≡ (step state entry.event).answer → IsMethodList state.methods
+    → AreRead history state.methods → AreRead (history ++ entry ∷ []) (step state entry.event).state.methods
 step_read history state entry answered list read = go (step_changes state entry.event) where
   go : Changes state entry.event (step state entry.event) → AreRead (history ++ entry ∷ []) (step state entry.event).state.methods
   go (inl keeps) = kept_read history state entry answered keeps read
   go (inr (inl adds)) = added_read history state entry answered adds read
   go (inr (inr removes)) =
       let answer = ap (λ (e : Event). (step state e).answer) (sym removes.event_is) ∙ removes.answer in
-      removed_read history state entry answered list removes (there_at state.methods removes.address removes.id (step_finds state removes.address removes.id answer)) read
+      removed_read history state entry answered list removes
+          (there_at state.methods removes.address removes.id (step_finds state removes.address removes.id answer)) read
 
 -- each lawful event keeps a server sound
 abbrev pub StaysSound : Type 0
 StaysSound = (state : State) (event : Event) → IsLawful event → IsSound state → IsSound (step state event).state
 
-methods_from : StaysSound → (state : State) (history more : List Entry) → LegalFrom state more → IsSound state → AreRead history state.methods → AreRead (history ++ more) (after state more).methods
+methods_from : StaysSound → (state : State) (history more : List Entry) → LegalFrom state more → IsSound state → AreRead history state.methods
+    → AreRead (history ++ more) (after state more).methods
 methods_from stays state history [] legal sound read = subst (λ (h : List Entry). AreRead h state.methods) (sym (append-nil history)) read
 methods_from stays state history (entry ∷ entries) legal sound read =
     let next = (step state entry.event).state in
@@ -231,5 +257,6 @@ none_read method = (λ held. absurd (none_in method held), λ is. absurd (never 
     go [] e = absurd (cc)
     go (x ∷ xs) e = absurd (cc)
 
-pub methods_are : StaysSound → ((caps : Limits) → AreInRange caps → IsSound (opening caps)) → (caps : Limits) (history : List Entry) → Legal caps history → AreRead history (after (opening caps) history).methods
+pub methods_are : StaysSound → ((caps : Limits) → AreInRange caps → IsSound (opening caps)) → (caps : Limits) (history : List Entry) → Legal caps history
+    → AreRead history (after (opening caps) history).methods
 methods_are stays opens caps history legal = methods_from stays (opening caps) [] history legal.1 (opens caps legal.0) none_read

@@ -47,7 +47,8 @@ other_address one other address is differ = go (bytes_eq other address) refl whe
   go false e = e
   go true e = absurd (differ ((bytes_eq-Decides one address).0 is ∙ sym ((bytes_eq-Decides other address).0 e)))
 
-matching_apart : MatchesExactly → (pattern : List ℕ) (methods : List Method) → AllPairs (λ a b. a.address ≢ b.address) methods → AreApart (matching pattern methods)
+matching_apart : MatchesExactly → (pattern : List ℕ) (methods : List Method) → AllPairs (λ a b. a.address ≢ b.address) methods
+    → AreApart (matching pattern methods)
 matching_apart exactly pattern methods pairs address =
     let differ : Method → Method → Type 0 = λ a b. a.address ≢ b.address in
     let kept = AllPairs-filter differ (λ method. matches pattern method.address) methods pairs in
@@ -58,10 +59,12 @@ matching_apart exactly pattern methods pairs address =
 -- Within a message.
 
 -- the calls of methods behind a lower one come after its own
-behind_call : (index : ℕ) (message : List ℕ) (method : Method) (methods : List Method) → AllByRecursion (λ other. is_below other method ≡ false) methods → AllByRecursion (λ other. has_address method.address other ≡ false) methods
+behind_call : (index : ℕ) (message : List ℕ) (method : Method) (methods : List Method) → AllByRecursion (λ other. is_below other method ≡ false) methods
+    → AllByRecursion (λ other. has_address method.address other ≡ false) methods
     → AllByRecursion (ComesBefore (called index message method)) (map (called index message) methods)
 behind_call index message method [] above differ = tt
-behind_call index message method (other ∷ methods) above differ = (inr (refl, is_below_other method.address other.address above.0 differ.0), behind_call index message method methods above.1 differ.1)
+behind_call index message method (other ∷ methods) above differ =
+    (inr (refl, is_below_other method.address other.address above.0 differ.0), behind_call index message method methods above.1 differ.1)
 
 rising_calls : (index : ℕ) (message : List ℕ) (methods : List Method) → IsAscending methods → AreApart methods → AreInOrder (map (called index message) methods)
 rising_calls index message [] ascending apart = tt
@@ -74,11 +77,13 @@ rising_calls index message (method ∷ methods) ascending apart =
     fewer : (address : List ℕ) → times (has_address address) (method ∷ methods) ≤ 1 → times (has_address address) methods ≤ 1
     fewer address most = omega arith
 
-message_in_order : MatchesExactly → Ascends → (methods : List Method) (index : ℕ) (message : List ℕ) → AllPairs (λ a b. a.address ≢ b.address) methods → AreInOrder (calls_of methods index message)
+message_in_order : MatchesExactly → Ascends → (methods : List Method) (index : ℕ) (message : List ℕ) → AllPairs (λ a b. a.address ≢ b.address) methods
+    → AreInOrder (calls_of methods index message)
 message_in_order exactly ascends methods index message pairs = go (unknown_of message) where
   go : (tag : Option ℕ) → AreInOrder (cond (is_some tag) [] (matching_calls methods index message))
   go (Some tag) = tt
-  go None = rising_calls index message (matching (pattern_of message) methods) (ascends (pattern_of message) methods) (matching_apart exactly (pattern_of message) methods pairs)
+  go None = rising_calls index message (matching (pattern_of message) methods) (ascends (pattern_of message) methods)
+      (matching_apart exactly (pattern_of message) methods pairs)
 
 -- From message to message.
 
@@ -106,16 +111,20 @@ all_from methods index (message ∷ messages) =
     behind n more = omega arith
 
 -- calls of one message stand before those of later ones
-joined_in_order : (index : ℕ) (calls more : List Call) → AreInOrder calls → AllByRecursion (λ call. call.index ≡ index) calls → AreInOrder more → AllByRecursion (λ call. index + 1 ≤ call.index) more → AreInOrder (calls ++ more)
+joined_in_order : (index : ℕ) (calls more : List Call) → AreInOrder calls → AllByRecursion (λ call. call.index ≡ index) calls → AreInOrder more
+    → AllByRecursion (λ call. index + 1 ≤ call.index) more → AreInOrder (calls ++ more)
 joined_in_order index [] more ordered at behind later = behind
 joined_in_order index (call ∷ calls) more ordered at behind later =
-    (all_append _ calls more ordered.0 (all_more _ _ (λ (other : Call) above. inl (lower call.index other.index at.0 above)) more later), joined_in_order index calls more ordered.1 at.1 behind later)
+    (all_append _ calls more ordered.0 (all_more _ _ (λ (other : Call) above. inl (lower call.index other.index at.0 above)) more later), joined_in_order index
+        calls more ordered.1 at.1 behind later)
   where
     lower : (m n : ℕ) → m ≡ index → index + 1 ≤ n → m < n
     lower m n is above = omega arith
 
-pub calls_in_order : MatchesExactly → Ascends → (methods : List Method) (index : ℕ) (messages : List (List ℕ)) → AllPairs (λ a b. a.address ≢ b.address) methods → AreInOrder (calls_from methods index messages)
+pub calls_in_order : MatchesExactly → Ascends → (methods : List Method) (index : ℕ) (messages : List (List ℕ)) → AllPairs (λ a b. a.address ≢ b.address) methods
+    → AreInOrder (calls_from methods index messages)
 calls_in_order exactly ascends methods index [] pairs = tt
 calls_in_order exactly ascends methods index (message ∷ messages) pairs =
-    joined_in_order index (calls_of methods index message) (calls_from methods (index + 1) messages) (message_in_order exactly ascends methods index message pairs) (all_at methods index message)
+    joined_in_order index (calls_of methods index message) (calls_from methods (index + 1) messages)
+        (message_in_order exactly ascends methods index message pairs) (all_at methods index message)
     (calls_in_order exactly ascends methods (index + 1) messages pairs) (all_from methods (index + 1) messages)

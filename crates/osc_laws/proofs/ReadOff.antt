@@ -104,7 +104,8 @@ numbers_more first zero b = (λ i. numbers_from (sym (zero_right first) i) (zero
 numbers_more first (suc a) b =
     let moved : suc a + b ≡ suc (a + b) = omega arith in
     let place : first + 1 + a ≡ first + suc a = omega arith in
-    ap (numbers_from first) moved ∙ ap (λ (l : List ℕ). first ∷ l) (numbers_more (first + 1) a b ∙ ap (λ (n : ℕ). numbers_from (first + 1) a ++ numbers_from n b) place)
+    ap (numbers_from first) moved ∙ ap (λ (l : List ℕ). first ∷ l)
+        (numbers_more (first + 1) a b ∙ ap (λ (n : ℕ). numbers_from (first + 1) a ++ numbers_from n b) place)
 
 pub record AreGiven (state : State) (history : List Entry) : Type 0 where
   pub count : ℕ
@@ -120,6 +121,7 @@ numbers_given state (entry ∷ entries) legal =
     let here : queued_in entry.answer ≡ numbers_from state.next_unit one.count = ap queued_in legal.3 ∙ one.numbers in
     record {
       count = one.count + rest.count;
-      numbers = (λ i. here i ++ rest.numbers i) ∙ ap (λ (n : ℕ). numbers_from state.next_unit one.count ++ numbers_from n rest.count) one.grows ∙ sym (numbers_more state.next_unit one.count rest.count);
+      numbers = (λ i. here i ++ rest.numbers i) ∙ ap (λ (n : ℕ). numbers_from state.next_unit one.count ++ numbers_from n rest.count) one.grows
+          ∙ sym (numbers_more state.next_unit one.count rest.count);
       grows = omega (arith, rest.grows, one.grows);
     }

@@ -56,9 +56,11 @@ decided_releases state event =
     })
 
 -- a step that is noted has the invocations and the answer of what is decided
-releases_noted : (state : State) (one other : Stepped) → other.invocations ≡ one.invocations → other.answer ≡ one.answer → ReleasesSome state one → ReleasesSome state other
+releases_noted : (state : State) (one other : Stepped) → other.invocations ≡ one.invocations → other.answer ≡ one.answer → ReleasesSome state one
+    → ReleasesSome state other
 releases_noted state one other invoked answer (inl none) = inl (record { invoked = invoked ∙ none.invoked; numbers = ap released_in answer ∙ none.numbers })
-releases_noted state one other invoked answer (inr some) = inr (record { item = some.item; invoked = invoked ∙ some.invoked; numbers = ap released_in answer ∙ some.numbers })
+releases_noted state one other invoked answer (inr some) =
+    inr (record { item = some.item; invoked = invoked ∙ some.invoked; numbers = ap released_in answer ∙ some.numbers })
 
 step_releases : (state : State) (event : Event) → ReleasesSome state (step state event)
 step_releases state event =
@@ -74,22 +76,27 @@ abbrev IsOther : ℕ → Invocation → Type 0
 IsOther number invocation = (invocation.unit == number) ≡ false
 
 -- a unit that is not released makes no calls
-pub none_invoked : (number : ℕ) (state : State) (history : List Entry) → LegalFrom state history → times (λ m. m == number) (numbers_released history) ≡ 0 → AllByRecursion (λ invocation. (invocation.unit == number) ≡ false) (invocations state history)
+pub none_invoked : (number : ℕ) (state : State) (history : List Entry) → LegalFrom state history → times (λ m. m == number) (numbers_released history) ≡ 0
+    → AllByRecursion (λ invocation. (invocation.unit == number) ≡ false) (invocations state history)
 none_invoked number state [] legal none = tt
 none_invoked number state (entry ∷ entries) legal none =
-    all_append (IsOther number) (step state entry.event).invocations (invocations (step state entry.event).state entries) (here (step_releases state entry.event))
+    all_append (IsOther number) (step state entry.event).invocations (invocations (step state entry.event).state entries)
+        (here (step_releases state entry.event))
     (none_invoked number (step state entry.event).state entries legal.4 (omega (arith, parts, none)))
   where
-    parts : times (λ m. m == number) (numbers_released (entry ∷ entries)) ≡ times (λ m. m == number) (released_in entry.answer) + times (λ m. m == number) (numbers_released entries)
+    parts : times (λ m. m == number) (numbers_released (entry ∷ entries))
+        ≡ times (λ m. m == number) (released_in entry.answer) + times (λ m. m == number) (numbers_released entries)
     parts = times_append (λ m. m == number) (released_in entry.answer) (numbers_released entries)
 
     here : ReleasesSome state (step state entry.event) → AllByRecursion (IsOther number) (step state entry.event).invocations
     here (inl nothing) = subst (AllByRecursion (IsOther number)) (sym nothing.invoked) tt
     here (inr some) =
         let told : released_in entry.answer ≡ unit_of some.item ∷ [] = ap released_in legal.3 ∙ some.numbers in
-        let count : times (λ m. m == number) (released_in entry.answer) ≡ tally (λ m. m == number) (unit_of some.item) + 0 = ap (times (λ m. m == number)) told in
+        let count : times (λ m. m == number) (released_in entry.answer) ≡ tally (λ m. m == number) (unit_of some.item) + 0 =
+            ap (times (λ m. m == number)) told in
         let other : (unit_of some.item == number) ≡ false = never_from (λ m. m == number) (unit_of some.item) (omega (arith, parts, none, count)) in
-        subst (AllByRecursion (IsOther number)) (sym some.invoked) (each_of_unit (IsOther number) (unit_of some.item) (calls_of_unit state.methods some.item) (λ call. other))
+        subst (AllByRecursion (IsOther number)) (sym some.invoked)
+            (each_of_unit (IsOther number) (unit_of some.item) (calls_of_unit state.methods some.item) (λ call. other))
 
 -- each number is released at most once
 abbrev pub AreOnce : List Entry → Type 0
@@ -108,7 +115,8 @@ released_once history queue once number =
 differs : (number : ℕ) (invocation : Invocation) → IsOther number invocation → invocation.unit ≢ number
 differs number invocation other same = let is : (invocation.unit == number) ≡ true = grind (arith, nat_tests) in absurd (cc)
 
-pub history_runs : MatchesExactly → Ascends → StaysSound → (state : State) (history : List Entry) → LegalFrom state history → IsSound state → AreOnce history → AreRuns (invocations state history)
+pub history_runs : MatchesExactly → Ascends → StaysSound → (state : State) (history : List Entry) → LegalFrom state history → IsSound state → AreOnce history
+    → AreRuns (invocations state history)
 history_runs exactly ascends stays state [] legal sound once = tt
 history_runs exactly ascends stays state (entry ∷ entries) legal sound once =
     here (step_releases state entry.event) (history_runs exactly ascends stays next entries legal.4 (stays state entry.event legal.1 sound) rest)
@@ -117,16 +125,20 @@ history_runs exactly ascends stays state (entry ∷ entries) legal sound once =
     next = (step state entry.event).state
 
     rest : AreOnce entries
-    rest number = let parts = times_append (λ m. m == number) (released_in entry.answer) (numbers_released entries) in let few = once number in omega (arith, parts, few)
+    rest number = let parts = times_append (λ m. m == number) (released_in entry.answer) (numbers_released entries) in let few = once number in
+        omega (arith, parts, few)
 
-    here : ReleasesSome state (step state entry.event) → AreRuns (invocations next entries) → AreRuns ((step state entry.event).invocations ++ invocations next entries)
+    here : ReleasesSome state (step state entry.event) → AreRuns (invocations next entries)
+        → AreRuns ((step state entry.event).invocations ++ invocations next entries)
     here (inl nothing) runs = subst (λ (l : List Invocation). AreRuns (l ++ invocations next entries)) (sym nothing.invoked) runs
     here (inr some) runs =
         let number = unit_of some.item in
         let told : released_in entry.answer ≡ number ∷ [] = ap released_in legal.3 ∙ some.numbers in
-        let few : times (λ m. m == number) (number ∷ numbers_released entries) ≤ 1 = subst (λ (l : List ℕ). times (λ m. m == number) (l ++ numbers_released entries) ≤ 1) told (once number) in
+        let few : times (λ m. m == number) (number ∷ numbers_released entries) ≤ 1 =
+            subst (λ (l : List ℕ). times (λ m. m == number) (l ++ numbers_released entries) ≤ 1) told (once number) in
         let itself : (number == number) ≡ true = grind (arith, nat_tests) in
         let none = none_invoked number next entries legal.4 (none_behind (λ m. m == number) number (numbers_released entries) itself few) in
         let others = all_more (IsOther number) (λ (i : Invocation). i.unit ≢ number) (differs number) (invocations next entries) none in
         subst (λ (l : List Invocation). AreRuns (l ++ invocations next entries)) (sym some.invoked)
-        (one_run number (calls_of_unit state.methods some.item) (invocations next entries) (calls_in_order exactly ascends state.methods 0 some.item.2.messages sound.methods.list.addresses) others runs)
+        (one_run number (calls_of_unit state.methods some.item) (invocations next entries)
+            (calls_in_order exactly ascends state.methods 0 some.item.2.messages sound.methods.list.addresses) others runs)

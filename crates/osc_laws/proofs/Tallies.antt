@@ -52,9 +52,11 @@ pub none_behind : {X : Type 0} (test : X → Bool) (x : X) (xs : List X) → tes
 none_behind test x xs is most = omega (arith, passes_once test x is, most)
 
 -- of elements that differ at most one passes
-pub at_most_one : {X : Type 0} (R : X → X → Type 0) (test : X → Bool) (xs : List X) → ((x y : X) → test x ≡ true → R x y → test y ≡ false) → AllPairs R xs → times test xs ≤ 1
+pub at_most_one : {X : Type 0} (R : X → X → Type 0) (test : X → Bool) (xs : List X) → ((x y : X) → test x ≡ true → R x y → test y ≡ false) → AllPairs R xs
+    → times test xs ≤ 1
 at_most_one R test [] differ pairs = omega arith
-at_most_one {X} R test (x ∷ xs) differ pairs = go (test x) refl (at_most_one R test xs differ (λ i j d less inside. pairs (suc i) (suc j) d (omega arith) (omega arith))) where
+at_most_one {X} R test (x ∷ xs) differ pairs =
+    go (test x) refl (at_most_one R test xs differ (λ i j d less inside. pairs (suc i) (suc j) d (omega arith) (omega arith))) where
   go : (t : Bool) → test x ≡ t → times test xs ≤ 1 → times test (x ∷ xs) ≤ 1
   go false e rest = omega (arith, never_passes test x e, rest)
   go true e rest =

@@ -35,15 +35,20 @@ unit_later history more number unit is =
       unit_is = is.unit_is;
     }
 
-waiting_later : (history more : List Entry) (queue : List Queued) → AllByRecursion (IsWaiting history) queue → AllByRecursion (IsWaiting (history ++ more)) queue
-waiting_later history more queue all = all_mapped queue (λ (item : Queued) (is : IsWaiting history item). (unit_later history more (unit_of item) item.2 is.0, is.1)) all
+waiting_later : (history more : List Entry) (queue : List Queued) → AllByRecursion (IsWaiting history) queue
+    → AllByRecursion (IsWaiting (history ++ more)) queue
+waiting_later history more queue all =
+    all_mapped queue (λ (item : Queued) (is : IsWaiting history item). (unit_later history more (unit_of item) item.2 is.0, is.1)) all
 
 -- what holds of each unit under its number holds of all that are numbered
-each_numbered : (P : Queued → Type 0) (clock next : ℕ) (units : List Timed) → ((index : ℕ) (unit : Timed) → slice_get units index ≡ Some unit → P (waiting clock (next + index) unit)) → AllByRecursion P (numbered clock next units)
+each_numbered : (P : Queued → Type 0) (clock next : ℕ) (units : List Timed)
+    → ((index : ℕ) (unit : Timed) → slice_get units index ≡ Some unit → P (waiting clock (next + index) unit)) → AllByRecursion P (numbered clock next units)
 each_numbered P clock next [] holds = tt
 each_numbered P clock next (unit ∷ units) holds = (
   subst (λ (n : ℕ). P (waiting clock n unit)) (first next) (holds 0 unit refl),
-  each_numbered P clock (next + 1) units (λ (index : ℕ) (other : Timed) (at : slice_get units index ≡ Some other). subst (λ (n : ℕ). P (waiting clock n other)) (further next index) (holds (suc index) other at)),
+  each_numbered P clock (next + 1) units
+      (λ (index : ℕ) (other : Timed) (at : slice_get units index ≡ Some other). subst (λ (n : ℕ). P (waiting clock n other)) (further next index)
+      (holds (suc index) other at)),
 )
   where
     first : (n : ℕ) → n + 0 ≡ n
@@ -59,11 +64,13 @@ all_in P (unit ∷ units) queue new old = all_in P units (enter unit queue) new.
 
 -- the units of a packet that is queued wait
 packet_waits : (history : List Entry) (caller clock first : ℕ) (packet : List ℕ)
-    → AllByRecursion (IsWaiting (history ++ record { caller = caller; event = submit packet; answer = queued first (length (units_read packet)) } ∷ [])) (numbered clock first (units_read packet))
+    → AllByRecursion (IsWaiting (history ++ record { caller = caller; event = submit packet; answer = queued first (length (units_read packet)) } ∷ []))
+        (numbered clock first (units_read packet))
 packet_waits history caller clock first packet =
     each_numbered _ clock first (units_read packet)
     (λ (index : ℕ) (unit : Timed) (at : slice_get (units_read packet) index ≡ Some unit).
-    (record { before = history; caller = caller; packet = packet; first = first; count = length (units_read packet); later = []; place = refl; index = index; number_is = refl; unit_is = at }, tag_first unit.tag clock))
+    (record { before = history; caller = caller; packet = packet; first = first; count = length (units_read packet); later = []; place = refl; index = index;
+        number_is = refl; unit_is = at }, tag_first unit.tag clock))
   where
     tag_first : (tag moment : ℕ) → tag ≤ max tag moment
     tag_first tag moment = omega arith
@@ -80,7 +87,8 @@ step_waits history state caller event wait =
     (record {
       refused = λ event answer is. waiting_later history _ state.queue wait;
       enrolled = waiting_later history _ state.queue wait;
-      queued = λ packet. all_in _ (numbered state.clock state.next_unit (units_read packet)) state.queue (packet_waits history caller state.clock state.next_unit packet) (waiting_later history _ state.queue wait);
+      queued = λ packet. all_in _ (numbered state.clock state.next_unit (units_read packet)) state.queue
+          (packet_waits history caller state.clock state.next_unit packet) (waiting_later history _ state.queue wait);
       added = λ address. waiting_later history _ state.queue wait;
       removed = λ address id. waiting_later history _ state.queue wait;
       ticked = λ now later. waiting_later history _ state.queue wait;
@@ -89,12 +97,16 @@ step_waits history state caller event wait =
     step_so (λ stepped. AllByRecursion (IsWaiting (history ++ entry_of caller event stepped.answer ∷ [])) stepped.state.queue) state event
     (record { silent = λ none. here; full = λ some full. waiting_later history _ state.queue wait; room = λ some fits. here })
 
-units_from : (state : State) (history more : List Entry) → LegalFrom state more → AllByRecursion (IsWaiting history) state.queue → AllByRecursion (IsWaiting (history ++ more)) (after state more).queue
+units_from : (state : State) (history more : List Entry) → LegalFrom state more → AllByRecursion (IsWaiting history) state.queue
+    → AllByRecursion (IsWaiting (history ++ more)) (after state more).queue
 units_from state history [] legal wait = subst (λ (h : List Entry). AllByRecursion (IsWaiting h) state.queue) (sym (append-nil history)) wait
 units_from state history (entry ∷ entries) legal wait =
     let next = (step state entry.event).state in
-    let here = subst (λ (a : Answer). AllByRecursion (IsWaiting (history ++ entry_of entry.caller entry.event a ∷ [])) next.queue) (sym legal.3) (step_waits history state entry.caller entry.event wait) in
-    subst (λ (h : List Entry). AllByRecursion (IsWaiting h) (after next entries).queue) (append_assoc history (entry ∷ []) entries) (units_from next (history ++ entry ∷ []) entries legal.4 here)
+    let here = subst (λ (a : Answer). AllByRecursion (IsWaiting (history ++ entry_of entry.caller entry.event a ∷ [])) next.queue) (sym legal.3)
+        (step_waits history state entry.caller entry.event wait) in
+    subst (λ (h : List Entry). AllByRecursion (IsWaiting h) (after next entries).queue) (append_assoc history (entry ∷ []) entries)
+        (units_from next (history ++ entry ∷ []) entries legal.4 here)
 
-pub units_are : (caps : Limits) (history : List Entry) → Legal caps history → AllByRecursion (λ item. IsUnitOf history (unit_of item) item.2 × (item.2.tag ≤ due_of item)) (after (opening caps) history).queue
+pub units_are : (caps : Limits) (history : List Entry) → Legal caps history
+    → AllByRecursion (λ item. IsUnitOf history (unit_of item) item.2 × (item.2.tag ≤ due_of item)) (after (opening caps) history).queue
 units_are caps history legal = units_from (opening caps) [] history legal.1 tt

@@ -28,7 +28,8 @@ pub record IsRegistered (history : List Entry) (id : ℕ) (address : List ℕ) :
   pub before : List Entry
   pub caller : ℕ
   pub later : List Entry
-  pub place : history ≡ before ++ record { caller = caller; event = add address; answer = added id } ∷ later
+  pub place : history ≡ before ++ record { caller = caller; event = add address; answer = added id }
+      ∷ later
   pub stays : AllByRecursion (λ entry. entry.answer ≢ removed id) later
 
 -- the unit with a number: one of those of a packet that was queued
@@ -39,7 +40,9 @@ pub record IsUnitOf (history : List Entry) (number : ℕ) (unit : Timed) : Type 
   pub first : ℕ
   pub count : ℕ
   pub later : List Entry
-  pub place : history ≡ before ++ record { caller = caller; event = submit packet; answer = queued first count } ∷ later
+  pub place : history
+      ≡ before ++ record { caller = caller; event = submit packet; answer = queued first count }
+      ∷ later
   pub index : ℕ
   pub number_is : number ≡ first + index
   pub unit_is : slice_get (units_read packet) index ≡ Some unit

@@ -16,10 +16,12 @@ given_in history = flat_map (λ entry. queued_in entry.answer) history
 abbrev pub numbers_released : List Entry → List ℕ
 numbers_released history = flat_map (λ entry. released_in entry.answer) history
 
--- So many numbers were given, from 0 on and without a gap. Each of them is, once, that of a unit that was released, or of
+-- So many numbers were given, from 0 on and without a gap. Each of them is, once, that of a unit
+-- that was released, or of
 -- one that waits in the queue, which is the unit of that number.
 pub record AreReleasedOnce (history : List Entry) (queue : List Queued) : Type 0 where
   pub count : ℕ
   pub given : given_in history ≡ numbers_from 0 count
-  pub once : IsPermutation (numbers_from 0 count) (numbers_released history ++ map (λ item. unit_of item) queue)
+  pub once : IsPermutation (numbers_from 0 count)
+      (numbers_released history ++ map (λ item. unit_of item) queue)
   pub waiting : AllByRecursion (λ item. IsUnitOf history (unit_of item) item.2) queue

@@ -18,7 +18,8 @@ use osc_tree::laws as trees;
 
 /// The clock stands where the last tick of the history left it.
 pub fn the_clock_is_read_off()
-    ensures { (caps : Limits) (history : List Entry) → Legal caps history → (after (opening caps) history).clock ≡ clock_in history }
+    ensures { (caps : Limits) (history : List Entry) → Legal caps history
+        → (after (opening caps) history).clock ≡ clock_in history }
 {}
 
 /// A unit waits until its tag at least.
@@ -71,7 +72,8 @@ pub fn each_release_calls_exactly_what_matches()
 
 /// Every legal history keeps the four laws.
 pub fn every_history_keeps_the_laws()
-    ensures { (caps : Limits) (history : List Entry) → Legal caps history → KeepsTheLaws caps history }
+    ensures { (caps : Limits) (history : List Entry) → Legal caps history
+        → KeepsTheLaws caps history }
 {
     the_calls_of_a_unit_stand_together();
     no_unit_is_released_before_its_tag();

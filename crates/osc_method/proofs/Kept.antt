@@ -26,4 +26,5 @@ appended old more = buffer (keep_last old.capacity (old.items ++ more)) old.capa
 pub appended-appended : (old mid new : Buffer ℕ) (xs ys : List ℕ) → mid ≡ appended old xs → new ≡ appended mid ys → new ≡ appended old (xs ++ ys)
 appended-appended old mid new xs ys one two =
     two ∙ ap (λ (b : Buffer ℕ). appended b ys) one
-    ∙ ap (λ (l : List ℕ). buffer l old.capacity) (keep_last-append old.capacity (old.items ++ xs) ys ∙ ap (keep_last old.capacity) (append_assoc old.items xs ys))
+    ∙ ap (λ (l : List ℕ). buffer l old.capacity)
+    (keep_last-append old.capacity (old.items ++ xs) ys ∙ ap (keep_last old.capacity) (append_assoc old.items xs ys))

@@ -25,7 +25,8 @@ pub trait Method: Drop {
     /// Takes the call.
     fn invoke(&mut self, call: &Call<'_>)
         ensures keep { keep self.new ≡ keep self.old }
-        ensures heard { heard self.new ≡ after_call (keep self.old) (call_bytes call.now) (heard self.old) };
+        ensures heard { heard self.new
+            ≡ after_call (keep self.old) (call_bytes call.now) (heard self.old) };
 
     /// How many bytes it tells; `None` where it tells nothing.
     fn told(&self) -> Option<u32>

@@ -22,7 +22,8 @@ pub blocks_few : (size : ℕ) → (size + 63) / 64 ≤ size
 blocks_few size = omega arith
 
 abbrev BundleFew : ℕ → Type 0
-BundleFew left = (outer : Option ℕ) (at : ℕ) (bytes : List ℕ) → element_fault left outer at bytes ≡ None → is_bundle bytes ≡ true → blocks_of (bundle_read left outer bytes) ≤ length bytes
+BundleFew left = (outer : Option ℕ) (at : ℕ) (bytes : List ℕ) → element_fault left outer at bytes ≡ None → is_bundle bytes ≡ true
+    → blocks_of (bundle_read left outer bytes) ≤ length bytes
 
 -- the messages among elements, each after its size, and the units of the bundles among them
 abbrev taken : ℕ → ℕ → List ℕ → ℕ
@@ -32,12 +33,14 @@ none_taken : (left effective : ℕ) (bytes : List ℕ) → length bytes ≡ 0 �
 none_taken left effective bytes none = rw (messages_end bytes none, enclosed_end left effective bytes none) (omega arith)
 
 -- one element more
-one_taken : (f : List ℕ → List Timed) (test : Bool) (x : List ℕ) (messages : List (List ℕ)) (more size : ℕ) → (test ≡ true → blocks_of (f x) ≤ length x) → stored_size messages + more ≤ size
+one_taken : (f : List ℕ → List Timed) (test : Bool) (x : List ℕ) (messages : List (List ℕ)) (more size : ℕ) → (test ≡ true → blocks_of (f x) ≤ length x)
+    → stored_size messages + more ≤ size
     → stored_size (cond (not test) (x ∷ messages) messages) + (blocks_of (flat_map f (cond test (x ∷ []) [])) + more) ≤ 4 + length x + size
 one_taken f true x messages more size few rest = omega (arith, few refl, ap blocks_of (append-nil (f x)))
 one_taken f false x messages more size few rest = omega arith
 
-enclosed_few : (left : ℕ) → BundleFew left → (bound effective at : ℕ) (bytes : List ℕ) → length bytes ≤ bound → body_fault (element_fault left (Some effective)) at bytes ≡ None → taken left effective bytes ≤ length bytes
+enclosed_few : (left : ℕ) → BundleFew left → (bound effective at : ℕ) (bytes : List ℕ) → length bytes ≤ bound
+    → body_fault (element_fault left (Some effective)) at bytes ≡ None → taken left effective bytes ≤ length bytes
 enclosed_few left each zero effective at bytes few silent = none_taken left effective bytes (omega arith)
 enclosed_few left each (suc bound) effective at bytes few silent = elim (cases_lt 0 (length bytes)) [
   | inr none ↦ none_taken left effective bytes (omega arith)
@@ -45,13 +48,17 @@ enclosed_few left each (suc bound) effective at bytes few silent = elim (cases_l
       let f : List ℕ → List Timed = bundle_read left (Some effective) in
       let x : List ℕ = first_element bytes in
       let step = silent_step (element_fault left (Some effective)) at bytes some silent in
-      let size : length (first_element bytes) ≡ first_size bytes = length-take-le (first_size bytes) (drop 4 bytes) (omega (arith, length-drop 4 bytes, step.size.inside)) in
-      let others : length (after_first bytes) ≡ length bytes - 4 - first_size bytes = length-drop (first_size bytes) (drop 4 bytes) ∙ ap (λ (n : ℕ). n - first_size bytes) (length-drop 4 bytes) in
+      let size : length (first_element bytes) ≡ first_size bytes =
+          length-take-le (first_size bytes) (drop 4 bytes) (omega (arith, length-drop 4 bytes, step.size.inside)) in
+      let others : length (after_first bytes) ≡ length bytes - 4 - first_size bytes =
+          length-drop (first_size bytes) (drop 4 bytes) ∙ ap (λ (n : ℕ). n - first_size bytes) (length-drop 4 bytes) in
       let rest = enclosed_few left each bound effective (at + 4 + first_size bytes) (after_first bytes) (omega (arith, step.size.positive)) step.rest in
-      let one = one_taken f (is_bundle x) x (messages_in (after_first bytes)) (blocks_of (enclosed_read left effective (after_first bytes))) (length (after_first bytes)) (each (Some effective) (at + 4) x step.one) rest in
+      let one = one_taken f (is_bundle x) x (messages_in (after_first bytes)) (blocks_of (enclosed_read left effective (after_first bytes)))
+          (length (after_first bytes)) (each (Some effective) (at + 4) x step.one) rest in
       let split : enclosed_read left effective bytes ≡ flat_map f (cond (is_bundle x) (x ∷ []) []) ++ enclosed_read left effective (after_first bytes) =
       enclosed_step left effective bytes some ∙ one_first f (is_bundle x) x (filter is_bundle (elements_in (after_first bytes))) in
-      let joined : blocks_of (enclosed_read left effective bytes) ≡ blocks_of (flat_map f (cond (is_bundle x) (x ∷ []) [])) + blocks_of (enclosed_read left effective (after_first bytes)) =
+      let joined : blocks_of (enclosed_read left effective bytes)
+          ≡ blocks_of (flat_map f (cond (is_bundle x) (x ∷ []) [])) + blocks_of (enclosed_read left effective (after_first bytes)) =
       ap blocks_of split ∙ blocks_joined (flat_map f (cond (is_bundle x) (x ∷ []) [])) (enclosed_read left effective (after_first bytes)) in
       omega (arith, one, joined, ap stored_size (messages_step bytes some), size, others, step.size.inside)
 ]
@@ -61,7 +68,8 @@ few_by left each outer at bytes silent hash =
     let open_ = opened left outer at bytes silent hash in
     let tag = effective_tag outer (bundle_tag bytes) in
     let inner = enclosed_few (left - 1) (each open_.room) (length (drop 16 bytes)) tag (at + 16) (drop 16 bytes) (omega arith) open_.silent in
-    omega (arith, ap blocks_of (bundle_step left outer bytes open_.room), length-drop 16 bytes, open_.long, blocks_few (stored_size (messages_in (drop 16 bytes))))
+    omega (arith, ap blocks_of (bundle_step left outer bytes open_.room), length-drop 16 bytes, open_.long, blocks_few
+        (stored_size (messages_in (drop 16 bytes))))
 
 bundle_few : (left : ℕ) → BundleFew left
 bundle_few zero = few_by zero (λ room. absurd (omega arith))

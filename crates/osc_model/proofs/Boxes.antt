@@ -29,7 +29,8 @@ record HearCalls (methods : List Method) (calls : List Invocation) (boxes : List
 
 -- a performance goes on, and its boxes have heard what was invoked before and in the step
 went_on : (performance : Performance) (caller : ℕ) (event : Event) (boxes : List Told)
-    → HearCalls (stepped_in performance event).state.methods (invoked_in performance ++ (stepped_in performance event).invocations) boxes → HaveHeard (onward performance caller event) boxes
+    → HearCalls (stepped_in performance event).state.methods (invoked_in performance ++ (stepped_in performance event).invocations) boxes
+        → HaveHeard (onward performance caller event) boxes
 went_on performance caller event boxes hear =
     record {
       ids = hear.ids ∙ sym (ap (λ (s : State). map id_of s.methods) (onward_state performance caller event));
@@ -37,17 +38,23 @@ went_on performance caller event boxes hear =
     }
 
 -- where a step invokes nothing, boxes have heard what they had
-nothing_more : (calls more : List Invocation) (boxes : List Told) → more ≡ [] → AllByRecursion (HasHeard calls) boxes → AllByRecursion (HasHeard (calls ++ more)) boxes
-nothing_more calls more boxes none heard = subst (λ (l : List Invocation). AllByRecursion (HasHeard l) boxes) (sym (ap (λ (l : List Invocation). calls ++ l) none ∙ append-nil calls)) heard
+nothing_more : (calls more : List Invocation) (boxes : List Told) → more ≡ [] → AllByRecursion (HasHeard calls) boxes
+    → AllByRecursion (HasHeard (calls ++ more)) boxes
+nothing_more calls more boxes none heard =
+    subst (λ (l : List Invocation). AllByRecursion (HasHeard l) boxes) (sym (ap (λ (l : List Invocation). calls ++ l) none ∙ append-nil calls)) heard
 
 pub others_hear : (performance : Performance) (caller : ℕ) (event : Event) (boxes : List Told) → HaveHeard performance boxes
-    → (stepped_in performance event).state.methods ≡ (state_of performance).methods → (stepped_in performance event).invocations ≡ [] → HaveHeard (onward performance caller event) boxes
+    → (stepped_in performance event).state.methods ≡ (state_of performance).methods → (stepped_in performance event).invocations ≡ []
+        → HaveHeard (onward performance caller event) boxes
 others_hear performance caller event boxes have methods none =
-    went_on performance caller event boxes (record { ids = have.ids ∙ sym (ap (map id_of) methods); heard = nothing_more (invoked_in performance) (stepped_in performance event).invocations boxes none have.heard })
+    went_on performance caller event boxes
+        (record { ids = have.ids ∙ sym (ap (map id_of) methods);
+        heard = nothing_more (invoked_in performance) (stepped_in performance event).invocations boxes none have.heard })
 
 -- A method that is added.
 
-pub adds : (state : State) (address : List ℕ) (id : ℕ) → (step state (add address)).answer ≡ added id → AddsMethod state (add address) (step state (add address))
+pub adds : (state : State) (address : List ℕ) (id : ℕ) → (step state (add address)).answer ≡ added id
+    → AddsMethod state (add address) (step state (add address))
 adds state address id is = go (changes state (add address)) where
   go : Changes state (add address) (step state (add address)) → AddsMethod state (add address) (step state (add address))
   go (inl kept) = let yes : tells_change (step state (add address)).answer ≡ true = ap tells_change is in let no = kept.answer in absurd (cc)
@@ -60,24 +67,30 @@ other_id a b below = grind (arith, nat_tests)
 none_called : (id : ℕ) (calls : List Invocation) → AllByRecursion (λ call. call.call.id < id) calls → filter (λ call. call.call.id == id) calls ≡ []
 none_called id [] below = refl
 none_called id (call ∷ calls) below =
-    ap (λ (t : Bool). cond t (call ∷ filter (λ other. other.call.id == id) calls) (filter (λ other. other.call.id == id) calls)) (other_id call.call.id id below.0)
+    ap (λ (t : Bool). cond t (call ∷ filter (λ other. other.call.id == id) calls) (filter (λ other. other.call.id == id) calls))
+        (other_id call.call.id id below.0)
     ∙ none_called id calls below.1
 
 -- a box of an id that no call has yet has heard nothing
 fresh_heard_none : (calls : List Invocation) (told : Told) → AllByRecursion (λ call. call.call.id < told.id) calls → HasHeard calls (reset told)
 fresh_heard_none calls told below =
-    let nothing : heard_of calls told.id told.keep ≡ [] = ap (λ (l : List Invocation). last_of told.keep (flat_map bytes_of l)) (none_called told.id calls below) ∙ drop_all (0 - told.keep) [] (omega arith) in
+    let nothing : heard_of calls told.id told.keep ≡ [] =
+        ap (λ (l : List Invocation). last_of told.keep (flat_map bytes_of l)) (none_called told.id calls below) ∙ drop_all (0 - told.keep) [] (omega arith) in
     go told.heard ∙ sym (ap (λ (l : List ℕ). option_map (λ _. l) (reset told).heard) nothing)
   where
-    go : (heard : Option (List ℕ)) → option_map (λ (_ : List ℕ). let none : List ℕ = [] in none) heard ≡ option_map (λ _. []) (option_map (λ (_ : List ℕ). let none : List ℕ = [] in none) heard)
+    go : (heard : Option (List ℕ)) → option_map (λ (_ : List ℕ). let none : List ℕ = [] in none) heard
+        ≡ option_map (λ _. []) (option_map (λ (_ : List ℕ). let none : List ℕ = [] in none) heard)
     go None = refl
     go (Some bytes) = refl
 
 -- every id that was called was given
 abbrev pub CallsGiven : Type 0
-CallsGiven = (caps : Limits) (history : List Entry) → Legal caps history → All (λ invocation. invocation.call.id < (state_of (record { caps = caps; history = history })).next_id) (invoked_in (record { caps = caps; history = history }))
+CallsGiven = (caps : Limits) (history : List Entry) → Legal caps history
+    → All (λ invocation. invocation.call.id < (state_of (record { caps = caps; history = history })).next_id)
+    (invoked_in (record { caps = caps; history = history }))
 
-pub added_hears : CallsGiven → (performance : Performance) (caller : ℕ) (address : List ℕ) (told : Told) (boxes : List Told) → Legal performance.caps performance.history → HaveHeard performance boxes
+pub added_hears : CallsGiven → (performance : Performance) (caller : ℕ) (address : List ℕ) (told : Told) (boxes : List Told)
+    → Legal performance.caps performance.history → HaveHeard performance boxes
     → (stepped_in performance (add address)).answer ≡ added told.id → HaveHeard (onward performance caller (add address)) (boxes ++ reset told ∷ [])
 added_hears given performance caller address told boxes legal have is =
     let state = state_of performance in
@@ -94,7 +107,8 @@ added_hears given performance caller address told boxes legal have is =
           ∙ ap (λ (n : ℕ). map id_of state.methods ++ n ∷ []) (sym same)
           ∙ sym (map-append id_of state.methods (new ∷ []))
           ∙ ap (map id_of) (sym more.methods);
-      heard = nothing_more calls (stepped_in performance (add address)).invocations (boxes ++ reset told ∷ []) more.silent (all_append (HasHeard calls) boxes (reset told ∷ []) have.heard (fresh, tt));
+      heard = nothing_more calls (stepped_in performance (add address)).invocations (boxes ++ reset told ∷ []) more.silent
+          (all_append (HasHeard calls) boxes (reset told ∷ []) have.heard (fresh, tt));
     })
 
 -- A method that leaves.
@@ -104,7 +118,8 @@ filter_ids : {X : Type 0} (of : X → ℕ) (id : ℕ) (xs : List X) → map of (
 filter_ids of id [] = refl
 filter_ids {X} of id (x ∷ xs) = go (not (of x == id)) (filter_ids of id xs) where
   go : (t : Bool) → map of (filter (λ y. not (of y == id)) xs) ≡ filter (λ n. not (n == id)) (map of xs)
-      → map of (cond t (x ∷ filter (λ y. not (of y == id)) xs) (filter (λ y. not (of y == id)) xs)) ≡ cond t (of x ∷ filter (λ n. not (n == id)) (map of xs)) (filter (λ n. not (n == id)) (map of xs))
+      → map of (cond t (x ∷ filter (λ y. not (of y == id)) xs) (filter (λ y. not (of y == id)) xs))
+          ≡ cond t (of x ∷ filter (λ n. not (n == id)) (map of xs)) (filter (λ n. not (n == id)) (map of xs))
   go true more = ap (λ (l : List ℕ). of x ∷ l) more
   go false more = more
 
@@ -115,15 +130,18 @@ all_filter {X} P test (x ∷ xs) all = go (test x) (all_filter P test xs all.1) 
   go true more = (all.0, more)
   go false more = more
 
-pub others_left : (performance : Performance) (caller id : ℕ) (address : List ℕ) (boxes : List Told) → IsSound (state_of performance) → HaveHeard performance boxes
+pub others_left : (performance : Performance) (caller id : ℕ) (address : List ℕ) (boxes : List Told) → IsSound (state_of performance)
+    → HaveHeard performance boxes
     → (stepped_in performance (remove address)).answer ≡ removed id → HaveHeard (onward performance caller (remove address)) (without_id id boxes)
 others_left performance caller id address boxes sound have is =
     let state = state_of performance in
     let gone = left state (remove address) id sound is in
     went_on performance caller (remove address) (without_id id boxes)
     (record {
-      ids = filter_ids (λ (box : Told). box.id) id boxes ∙ ap (filter (λ n. not (n == id))) have.ids ∙ sym (filter_ids id_of id state.methods) ∙ ap (map id_of) (sym gone.methods);
-      heard = nothing_more (invoked_in performance) (stepped_in performance (remove address)).invocations (without_id id boxes) gone.silent (all_filter (HasHeard (invoked_in performance)) (λ box. not (box.id == id)) boxes have.heard);
+      ids = filter_ids (λ (box : Told). box.id) id boxes ∙ ap (filter (λ n. not (n == id))) have.ids ∙ sym (filter_ids id_of id state.methods)
+          ∙ ap (map id_of) (sym gone.methods);
+      heard = nothing_more (invoked_in performance) (stepped_in performance (remove address)).invocations (without_id id boxes) gone.silent
+          (all_filter (HasHeard (invoked_in performance)) (λ box. not (box.id == id)) boxes have.heard);
     })
 
 -- A release.
@@ -151,7 +169,8 @@ reset_heard : (calls : List Invocation) (box : Told) → HasHeard calls (hear_al
 reset_heard calls box =
     subst (HasHeard calls) (sym (fresh_heard box calls)) (go box.heard)
   where
-    go : (heard : Option (List ℕ)) → option_map (λ _. heard_of calls box.id box.keep) heard ≡ option_map (λ _. heard_of calls box.id box.keep) (option_map (λ _. heard_of calls box.id box.keep) heard)
+    go : (heard : Option (List ℕ)) → option_map (λ _. heard_of calls box.id box.keep) heard
+        ≡ option_map (λ _. heard_of calls box.id box.keep) (option_map (λ _. heard_of calls box.id box.keep) heard)
     go None = refl
     go (Some bytes) = refl
 
@@ -160,7 +179,8 @@ one_hears calls more box heard =
     let before : hear_all calls (reset box) ≡ box = fresh_heard box calls ∙ sym (ap (λ (h : Option (List ℕ)). record box { heard = h }) heard) in
     subst (HasHeard (calls ++ more)) (heard_on (reset box) calls more ∙ ap (hear_all more) before) (reset_heard (calls ++ more) box)
 
-each_hears : (calls more : List Invocation) (boxes : List Told) → AllByRecursion (HasHeard calls) boxes → AllByRecursion (HasHeard (calls ++ more)) (all_hear more boxes)
+each_hears : (calls more : List Invocation) (boxes : List Told) → AllByRecursion (HasHeard calls) boxes
+    → AllByRecursion (HasHeard (calls ++ more)) (all_hear more boxes)
 each_hears calls more [] heard = tt
 each_hears calls more (box ∷ boxes) heard = (one_hears calls more box heard.0, each_hears calls more boxes heard.1)
 
@@ -171,7 +191,8 @@ release_keeps state = go (changes state release) where
   go (inr (inl more)) = let other = more.event_is in absurd (cc)
   go (inr (inr fewer)) = let other = fewer.event_is in absurd (cc)
 
-pub all_released : (performance : Performance) (caller : ℕ) (boxes : List Told) → HaveHeard performance boxes → HaveHeard (onward performance caller release) (all_hear (stepped_in performance release).invocations boxes)
+pub all_released : (performance : Performance) (caller : ℕ) (boxes : List Told) → HaveHeard performance boxes
+    → HaveHeard (onward performance caller release) (all_hear (stepped_in performance release).invocations boxes)
 all_released performance caller boxes have =
     let more = (stepped_in performance release).invocations in
     went_on performance caller release (all_hear more boxes)

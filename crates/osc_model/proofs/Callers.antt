@@ -45,7 +45,8 @@ counted_from : (state : State) (history : List Entry) → LegalFrom state histor
 counted_from state [] legal = refl
 counted_from state (entry ∷ entries) legal =
     let next = (step state entry.event).state in
-    let here : next.callers ≡ one_more entry.answer state.callers = step_callers state entry.event ∙ ap (λ (a : Answer). one_more a state.callers) (sym legal.3) in
+    let here : next.callers ≡ one_more entry.answer state.callers =
+        step_callers state entry.event ∙ ap (λ (a : Answer). one_more a state.callers) (sym legal.3) in
     go (enrols entry.answer) here (counted_from next entries legal.4)
   where
     go : (t : Bool) → (step state entry.event).state.callers ≡ cond t (state.callers + 1) state.callers
@@ -67,7 +68,8 @@ callers_more [] more = some more where
     go true is = omega arith
     go false is = is
 callers_more (entry ∷ history) more = go (enrols entry.answer) (callers_more history more) where
-  go : (t : Bool) → callers_in history ≤ callers_in (history ++ more) → cond t (callers_in history + 1) (callers_in history) ≤ cond t (callers_in (history ++ more) + 1) (callers_in (history ++ more))
+  go : (t : Bool) → callers_in history ≤ callers_in (history ++ more)
+      → cond t (callers_in history + 1) (callers_in history) ≤ cond t (callers_in (history ++ more) + 1) (callers_in (history ++ more))
   go true is = omega arith
   go false is = is
 
@@ -80,7 +82,9 @@ step_never_falls state event = go (enrols (step state event).answer) (step_calle
 
 pub callers_never_fall : (state : State) (history : List Entry) → state.callers ≤ (after state history).callers
 callers_never_fall state [] = omega arith
-callers_never_fall state (entry ∷ entries) = on state.callers (step state entry.event).state.callers _ (step_never_falls state entry.event) (callers_never_fall (step state entry.event).state entries) where
+callers_never_fall state (entry ∷ entries) =
+    on state.callers (step state entry.event).state.callers _ (step_never_falls state entry.event)
+    (callers_never_fall (step state entry.event).state entries) where
   on : (a b c : ℕ) → a ≤ b → b ≤ c → a ≤ c
   on a b c one two = omega arith
 
@@ -100,14 +104,17 @@ enrol_gives state n =
   where
     here : number n ≡ (decided state enrol).answer → n ≡ state.callers
     here = go (state.callers == state.caps.callers) where
-      go : (t : Bool) → number n ≡ (cond t (leaves state callers_full) (leaves (record state { callers = state.callers + 1 }) (number state.callers))).answer → n ≡ state.callers
+      go : (t : Bool) → number n ≡ (cond t (leaves state callers_full) (leaves (record state { callers = state.callers + 1 }) (number state.callers))).answer
+          → n ≡ state.callers
       go true is = absurd (cc)
       go false is = cc
 
-pub enrolled_next : (caps : Limits) (history : List Entry) (caller n : ℕ) → Legal caps (history ++ record { caller = caller; event = enrol; answer = number n } ∷ []) →
+pub enrolled_next : (caps : Limits) (history : List Entry) (caller n : ℕ)
+    → Legal caps (history ++ record { caller = caller; event = enrol; answer = number n } ∷ []) →
     (1 ≤ n) × (callers_in (history ++ record { caller = caller; event = enrol; answer = number n } ∷ []) ≡ n + 1)
 enrolled_next caps history caller n legal =
     let parts = legal_split (opening caps) history (record { caller = caller; event = enrol; answer = number n } ∷ []) legal.1 in
     let given = enrol_gives (after (opening caps) history) n parts.1.3 in
     let counted = callers_counted caps history (legal.0, parts.0) in
-    (omega (arith, given, counted, callers_more [] history), omega (arith, given, counted, one_more_in history (record { caller = caller; event = enrol; answer = number n }) refl))
+    (omega (arith, given, counted, callers_more [] history), omega
+        (arith, given, counted, one_more_in history (record { caller = caller; event = enrol; answer = number n }) refl))

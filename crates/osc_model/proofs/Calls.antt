@@ -35,13 +35,16 @@ all_append P (x ∷ xs) ys all more = (all.0, all_append P xs ys all.1 more)
 abbrev IsMatchOf : List ℕ → List Method → Method → Type 0
 IsMatchOf pattern methods method = Contains methods method × IsTrue (matches pattern method.address)
 
-one_behind : (pattern : List ℕ) (first : Method) (methods : List Method) (method : Method) → IsMatchOf pattern methods method → IsMatchOf pattern (first ∷ methods) method
+one_behind : (pattern : List ℕ) (first : Method) (methods : List Method) (method : Method) → IsMatchOf pattern methods method
+    → IsMatchOf pattern (first ∷ methods) method
 one_behind pattern first methods method is = ((suc is.0.0, omega (arith, is.0.1), is.0.2), is.1)
 
 all_matched : (pattern : List ℕ) (methods : List Method) → AllByRecursion (IsMatchOf pattern methods) (matched pattern methods)
 all_matched pattern [] = tt
-all_matched pattern (method ∷ methods) = go (matches pattern method.address) refl (all_more _ _ (one_behind pattern method methods) (matched pattern methods) (all_matched pattern methods)) where
-  go : (t : Bool) → matches pattern method.address ≡ t → AllByRecursion (IsMatchOf pattern (method ∷ methods)) (matched pattern methods) → AllByRecursion (IsMatchOf pattern (method ∷ methods)) (cond t (method ∷ matched pattern methods) (matched pattern methods))
+all_matched pattern (method ∷ methods) =
+    go (matches pattern method.address) refl (all_more _ _ (one_behind pattern method methods) (matched pattern methods) (all_matched pattern methods)) where
+  go : (t : Bool) → matches pattern method.address ≡ t → AllByRecursion (IsMatchOf pattern (method ∷ methods)) (matched pattern methods)
+      → AllByRecursion (IsMatchOf pattern (method ∷ methods)) (cond t (method ∷ matched pattern methods) (matched pattern methods))
   go true e more = (((0, omega arith, refl), e), more)
   go false e more = more
 
@@ -53,15 +56,18 @@ all_matching exactly pattern methods =
 
 -- the messages are those of a whole list from a place on
 abbrev StandFrom : List (List ℕ) → ℕ → List (List ℕ) → Type 0
-StandFrom whole index messages = (k : ℕ) → k < length messages → (index + k < length whole) × (slice_index_or whole (index + k) [] ≡ slice_index_or messages k [])
+StandFrom whole index messages = (k : ℕ) → k < length messages
+    → (index + k < length whole) × (slice_index_or whole (index + k) [] ≡ slice_index_or messages k [])
 
 abbrev StandsAt : List (List ℕ) → ℕ → List ℕ → Type 0
 StandsAt whole index message = (index < length whole) × (slice_index_or whole index [] ≡ message)
 
-first_stands : (whole : List (List ℕ)) (index : ℕ) (message : List ℕ) (messages : List (List ℕ)) → StandFrom whole index (message ∷ messages) → StandsAt whole index message
+first_stands : (whole : List (List ℕ)) (index : ℕ) (message : List ℕ) (messages : List (List ℕ)) → StandFrom whole index (message ∷ messages)
+    → StandsAt whole index message
 first_stands whole index message messages stand = subst (λ (n : ℕ). StandsAt whole n message) (add-zero index) (stand 0 (omega arith))
 
-others_stand : (whole : List (List ℕ)) (index : ℕ) (message : List ℕ) (messages : List (List ℕ)) → StandFrom whole index (message ∷ messages) → StandFrom whole (index + 1) messages
+others_stand : (whole : List (List ℕ)) (index : ℕ) (message : List ℕ) (messages : List (List ℕ)) → StandFrom whole index (message ∷ messages)
+    → StandFrom whole (index + 1) messages
 others_stand whole index message messages stand k within =
     let place : index + suc k ≡ index + 1 + k = omega arith in
     subst (λ (n : ℕ). StandsAt whole n (slice_index_or messages k [])) place (stand (suc k) (omega arith))
@@ -73,19 +79,24 @@ abbrev invocation : ℕ → Call → Invocation
 invocation number call = record { unit = number; call = call }
 
 -- the calls of the unit's message at an index
-message_calls : MatchesExactly → (state : State) (unit : Queued) (index : ℕ) (message : List ℕ) → StandsAt unit.2.messages index message → AllByRecursion (λ call. IsCallIn state unit (invocation (unit_of unit) call)) (calls_of state.methods index message)
+message_calls : MatchesExactly → (state : State) (unit : Queued) (index : ℕ) (message : List ℕ) → StandsAt unit.2.messages index message
+    → AllByRecursion (λ call. IsCallIn state unit (invocation (unit_of unit) call)) (calls_of state.methods index message)
 message_calls exactly state unit index message stands = go (unknown_of message) refl where
-  one : unknown_of message ≡ None → (method : Method) → IsMatchOf (pattern_of message) state.methods method → IsCallIn state unit (invocation (unit_of unit) (record { index = index; id = method.id; address = method.address; message = message }))
+  one : unknown_of message ≡ None → (method : Method) → IsMatchOf (pattern_of message) state.methods method
+      → IsCallIn state unit (invocation (unit_of unit) (record { index = index; id = method.id; address = method.address; message = message }))
   one known method is = record { of_unit = refl; within = stands.0; message = stands.1; known = known; registered = is.0; matched = is.1 }
 
-  go : (tag : Option ℕ) → unknown_of message ≡ tag → AllByRecursion (λ call. IsCallIn state unit (invocation (unit_of unit) call)) (cond (is_some tag) [] (matching_calls state.methods index message))
+  go : (tag : Option ℕ) → unknown_of message ≡ tag
+      → AllByRecursion (λ call. IsCallIn state unit (invocation (unit_of unit) call)) (cond (is_some tag) [] (matching_calls state.methods index message))
   go (Some tag) is = tt
   go None is =
-      all_map (λ call. IsCallIn state unit (invocation (unit_of unit) call)) (λ method. record { index = index; id = method.id; address = method.address; message = message }) (matching (pattern_of message) state.methods)
+      all_map (λ call. IsCallIn state unit (invocation (unit_of unit) call))
+          (λ method. record { index = index; id = method.id; address = method.address; message = message }) (matching (pattern_of message) state.methods)
       (all_more _ _ (one is) (matching (pattern_of message) state.methods) (all_matching exactly (pattern_of message) state.methods))
 
 -- the calls of the unit's messages from an index on
-calls_behind : MatchesExactly → (state : State) (unit : Queued) (index : ℕ) (messages : List (List ℕ)) → StandFrom unit.2.messages index messages → AllByRecursion (λ call. IsCallIn state unit (invocation (unit_of unit) call)) (calls_from state.methods index messages)
+calls_behind : MatchesExactly → (state : State) (unit : Queued) (index : ℕ) (messages : List (List ℕ)) → StandFrom unit.2.messages index messages
+    → AllByRecursion (λ call. IsCallIn state unit (invocation (unit_of unit) call)) (calls_from state.methods index messages)
 calls_behind exactly state unit index [] stand = tt
 calls_behind exactly state unit index (message ∷ messages) stand =
     all_append _ (calls_of state.methods index message) (calls_from state.methods (index + 1) messages)
@@ -93,5 +104,8 @@ calls_behind exactly state unit index (message ∷ messages) stand =
     (calls_behind exactly state unit (index + 1) messages (others_stand unit.2.messages index message messages stand))
 
 -- the invocations of a unit are calls of it
-pub unit_calls : MatchesExactly → (state : State) (unit : Queued) → AllByRecursion (IsCallIn state unit) (invocations_of (unit_of unit) (calls_of_unit state.methods unit))
-unit_calls exactly state unit = all_map (IsCallIn state unit) (invocation (unit_of unit)) (calls_of_unit state.methods unit) (calls_behind exactly state unit 0 unit.2.messages (all_stand unit.2.messages))
+pub unit_calls : MatchesExactly → (state : State) (unit : Queued)
+    → AllByRecursion (IsCallIn state unit) (invocations_of (unit_of unit) (calls_of_unit state.methods unit))
+unit_calls exactly state unit =
+    all_map (IsCallIn state unit) (invocation (unit_of unit)) (calls_of_unit state.methods unit)
+    (calls_behind exactly state unit 0 unit.2.messages (all_stand unit.2.messages))

@@ -23,7 +23,8 @@ use Rattle.osc_model.proofs.Refusals.{decided_none}
 abbrev BundleFew : ℕ → Type 0
 BundleFew left = (outer : Option ℕ) (bytes : List ℕ) → is_bundle bytes ≡ true → length (bundle_read left outer bytes) ≤ length bytes
 
-one_few : (f : List ℕ → List Timed) (test : Bool) (x : List ℕ) → (test ≡ true → length (f x) ≤ length x) → length (flat_map f (cond test (x ∷ []) [])) ≤ length x
+one_few : (f : List ℕ → List Timed) (test : Bool) (x : List ℕ) → (test ≡ true → length (f x) ≤ length x)
+    → length (flat_map f (cond test (x ∷ []) [])) ≤ length x
 one_few f true x few = omega (arith, few refl, length-append (f x) [])
 one_few f false x few = omega arith
 
@@ -33,7 +34,8 @@ parts_fit bytes some = omega (arith, length-take-drop (first_size bytes) (drop 4
   length-take-drop : (n : ℕ) (xs : List ℕ) → length (take n xs) + length (drop n xs) ≤ length xs
   length-take-drop n xs = omega (arith, ap length (take-append-drop n xs), length-append (take n xs) (drop n xs))
 
-enclosed_few : (left : ℕ) → BundleFew left → (bound effective : ℕ) (bytes : List ℕ) → length bytes ≤ bound → length (enclosed_read left effective bytes) ≤ length bytes
+enclosed_few : (left : ℕ) → BundleFew left → (bound effective : ℕ) (bytes : List ℕ) → length bytes ≤ bound
+    → length (enclosed_read left effective bytes) ≤ length bytes
 enclosed_few left each zero effective bytes few = rw (enclosed_end left effective bytes (omega arith)) (omega arith)
 enclosed_few left each (suc bound) effective bytes few = elim (cases_lt 0 (length bytes)) [
   | inr none ↦ rw (enclosed_end left effective bytes (omega arith)) (omega arith)
@@ -42,9 +44,12 @@ enclosed_few left each (suc bound) effective bytes few = elim (cases_lt 0 (lengt
       let fit = parts_fit bytes some in
       let one = one_few f (is_bundle (first_element bytes)) (first_element bytes) (each (Some effective) (first_element bytes)) in
       let rest = enclosed_few left each bound effective (after_first bytes) (omega arith) in
-      let split : enclosed_read left effective bytes ≡ flat_map f (cond (is_bundle (first_element bytes)) (first_element bytes ∷ []) []) ++ enclosed_read left effective (after_first bytes) =
-      enclosed_step left effective bytes some ∙ one_first f (is_bundle (first_element bytes)) (first_element bytes) (filter is_bundle (elements_in (after_first bytes))) in
-      omega (arith, ap length split, length-append (flat_map f (cond (is_bundle (first_element bytes)) (first_element bytes ∷ []) [])) (enclosed_read left effective (after_first bytes)))
+      let split : enclosed_read left effective bytes ≡ flat_map f (cond (is_bundle (first_element bytes)) (first_element bytes ∷ []) [])
+          ++ enclosed_read left effective (after_first bytes) =
+      enclosed_step left effective bytes some
+          ∙ one_first f (is_bundle (first_element bytes)) (first_element bytes) (filter is_bundle (elements_in (after_first bytes))) in
+      omega (arith, ap length split, length-append (flat_map f (cond (is_bundle (first_element bytes)) (first_element bytes ∷ []) []))
+          (enclosed_read left effective (after_first bytes)))
 ]
 
 bundle_some : (bytes : List ℕ) → is_bundle bytes ≡ true → 0 < length bytes
@@ -58,13 +63,15 @@ none_opened outer bytes = refl
 bundle_few : (left : ℕ) → BundleFew left
 bundle_few zero outer bytes is = omega (arith, ap length (none_opened outer bytes))
 bundle_few (suc left) outer bytes is =
-    let inner = enclosed_few (suc left - 1) (subst BundleFew (omega arith) (bundle_few left)) (length (drop 16 bytes)) (effective_tag outer (bundle_tag bytes)) (drop 16 bytes) (omega arith) in
+    let inner = enclosed_few (suc left - 1) (subst BundleFew (omega arith) (bundle_few left)) (length (drop 16 bytes)) (effective_tag outer (bundle_tag bytes))
+        (drop 16 bytes) (omega arith) in
     omega (arith, ap length (bundle_step (suc left) outer bytes (omega arith)), length-drop 16 bytes, bundle_some bytes is)
 
 -- no bytes have more units than there are bytes, but for a message of none
 units_fit : (bytes : List ℕ) → length (units_read bytes) ≤ 1 + length bytes
 units_fit bytes = go (is_bundle bytes) refl where
-  go : (test : Bool) → is_bundle bytes ≡ test → length (cond test (bundle_read 16 None bytes) (record { tag = 1; messages = bytes ∷ [] } ∷ [])) ≤ 1 + length bytes
+  go : (test : Bool) → is_bundle bytes ≡ test
+      → length (cond test (bundle_read 16 None bytes) (record { tag = 1; messages = bytes ∷ [] } ∷ [])) ≤ 1 + length bytes
   go true is = omega (arith, bundle_few 16 None bytes is)
   go false is = omega arith
 
@@ -79,7 +86,8 @@ decided_grows : (state : State) (event : Event) → Grows state (entry_size even
 decided_grows state event =
     decided_so (λ event stepped. Grows state (entry_size event stepped.answer) stepped) state event
     (record {
-      refused = λ event answer is. record { caps = refl; ids = more state.next_id (entry_size event answer); units = more state.next_unit (entry_size event answer) };
+      refused = λ event answer is.
+          record { caps = refl; ids = more state.next_id (entry_size event answer); units = more state.next_unit (entry_size event answer) };
       enrolled = record { caps = refl; ids = omega arith; units = omega arith };
       queued = λ packet. record { caps = refl; ids = more state.next_id _; units = omega (arith, units_fit packet) };
       added = λ address. record { caps = refl; ids = omega arith; units = omega arith };
@@ -100,7 +108,8 @@ step_counted state event counted =
       room = λ some fits. noted_counted state (entry_size event (decided state event).answer) (decided state event) counted fits (decided_grows state event);
     })
   where
-    noted_counted : (state : State) (size : ℕ) (stepped : Stepped) → IsCounted state → size ≤ free_bytes state → Grows state size stepped → IsCounted (record stepped.state { recorded = state.recorded + size })
+    noted_counted : (state : State) (size : ℕ) (stepped : Stepped) → IsCounted state → size ≤ free_bytes state → Grows state size stepped
+        → IsCounted (record stepped.state { recorded = state.recorded + size })
     noted_counted state size stepped counted fits grows =
         let header = counted.header in
         let within = counted.within in
@@ -120,7 +129,8 @@ after_counted state [] counted = counted
 after_counted state (entry ∷ entries) counted = after_counted (step state entry.event).state entries (step_counted state entry.event counted)
 
 opening_counted : (caps : Limits) → AreInRange caps → IsCounted (opening caps)
-opening_counted caps ranges = let recording = ranges.recording.above in record { header = omega arith; within = omega arith; ids = omega arith; units = omega arith }
+opening_counted caps ranges = let recording = ranges.recording.above in
+    record { header = omega arith; within = omega arith; ids = omega arith; units = omega arith }
 
 pub history_counted : (caps : Limits) (history : List Entry) → Legal caps history → IsCounted (after (opening caps) history)
 history_counted caps history legal = after_counted (opening caps) history (opening_counted caps legal.0)

@@ -65,13 +65,16 @@ given state small =
     record { ids = omega arith; units = omega arith }
 
 ids_fit : (state : State) → IsSmall state → AllByRecursion (λ method. method.id < 2 ^ 31) state.methods
-ids_fit state small = all_more _ _ (λ method below. let most = (given state small).ids in omega arith) state.methods (recursion_from_All (λ method. method.id < state.next_id) state.methods small.sound.ids)
+ids_fit state small =
+    all_more _ _ (λ method below. let most = (given state small).ids in omega arith) state.methods
+    (recursion_from_All (λ method. method.id < state.next_id) state.methods small.sound.ids)
 
 -- The answers to an enrolling caller.
 
 enrol_fits : (caller : ℕ) (state : State) → caller < 2 ^ 31 → state.callers < 2 ^ 31 → IsRecordable caller enrol (decided state enrol).answer
 enrol_fits caller state few many = go (state.callers == state.caps.callers) where
-  go : (t : Bool) → IsRecordable caller enrol (cond t (leaves state callers_full) (leaves (record state { callers = state.callers + 1 }) (number state.callers))).answer
+  go : (t : Bool)
+      → IsRecordable caller enrol (cond t (leaves state callers_full) (leaves (record state { callers = state.callers + 1 }) (number state.callers))).answer
   go true = record { fits = (int_fits caller few, (sfits_lit tt, tt)); sound = tt }
   go false = record { fits = (int_fits caller few, (int_fits state.callers many, tt)); sound = tt }
 
@@ -83,10 +86,13 @@ packet_silent packet lawful = go (packet_fault 65504 packet) lawful where
   go None is = refl
   go (Some fault) is = absurd (cc)
 
-submit_row_fits : (caller : ℕ) (packet : List ℕ) (code first count : ℕ) → caller < 2 ^ 31 → length packet ≤ 65504 → code < 2 ^ 31 → first < 2 ^ 63 → count < 2 ^ 31 → AllFit (submit_row caller packet (code, first, count)).arguments
-submit_row_fits caller packet code first count few short small big fits = (int_fits caller few, (omega arith, (int_fits code small, (long_fits first big, (int_fits count fits, tt)))))
+submit_row_fits : (caller : ℕ) (packet : List ℕ) (code first count : ℕ) → caller < 2 ^ 31 → length packet ≤ 65504 → code < 2 ^ 31 → first < 2 ^ 63
+    → count < 2 ^ 31 → AllFit (submit_row caller packet (code, first, count)).arguments
+submit_row_fits caller packet code first count few short small big fits =
+    (int_fits caller few, (omega arith, (int_fits code small, (long_fits first big, (int_fits count fits, tt)))))
 
-submit_fits : (caller : ℕ) (state : State) (packet : List ℕ) → caller < 2 ^ 31 → IsSmall state → IsTrue (is_packet 65504 packet) → IsRecordable caller (submit packet) (decided state (submit packet)).answer
+submit_fits : (caller : ℕ) (state : State) (packet : List ℕ) → caller < 2 ^ 31 → IsSmall state → IsTrue (is_packet 65504 packet)
+    → IsRecordable caller (submit packet) (decided state (submit packet)).answer
 submit_fits caller state packet few small lawful =
     go (units_read packet) (units_few packet silent) (packet_few packet silent)
   where
@@ -103,14 +109,21 @@ submit_fits caller state packet few small lawful =
     most = small.sound.caps.blocks.below
 
     go : (units : List Timed) → length units ≤ 65504 → blocks_of units ≤ 65508
-        → IsRecordable caller (submit packet) (cond (nat_lt (free_places state) (length units)) (leaves state (units_full (record { need = length units; free = free_places state })))
-        (cond (nat_lt (free_blocks state) (blocks_of units)) (leaves state (pool_full (record { need = blocks_of units; free = free_blocks state }))) (leaves (after_submit state units) (queued state.next_unit (length units))))).answer
+        → IsRecordable caller (submit packet)
+            (cond (nat_lt (free_places state) (length units)) (leaves state (units_full (record { need = length units; free = free_places state })))
+        (cond (nat_lt (free_blocks state) (blocks_of units)) (leaves state (pool_full (record { need = blocks_of units; free = free_blocks state })))
+            (leaves (after_submit state units) (queued state.next_unit (length units))))).answer
     go units count size = cases (nat_lt (free_places state) (length units)) refl (nat_lt (free_blocks state) (blocks_of units)) refl where
       cases : (t : Bool) → nat_lt (free_places state) (length units) ≡ t → (u : Bool) → nat_lt (free_blocks state) (blocks_of units) ≡ u
           → IsRecordable caller (submit packet) (cond t (leaves state (units_full (record { need = length units; free = free_places state })))
-          (cond u (leaves state (pool_full (record { need = blocks_of units; free = free_blocks state }))) (leaves (after_submit state units) (queued state.next_unit (length units))))).answer
-      cases true is u fits = record { fits = submit_row_fits caller packet 1 (length units) (free_places state) few short (omega arith) (omega arith) (omega arith); sound = ltb-true _ _ is }
-      cases false is true fits = record { fits = submit_row_fits caller packet 2 (blocks_of units) (free_blocks state) few short (omega arith) (omega arith) (omega arith); sound = ltb-true _ _ fits }
+          (cond u (leaves state (pool_full (record { need = blocks_of units; free = free_blocks state })))
+              (leaves (after_submit state units) (queued state.next_unit (length units))))).answer
+      cases true is u fits =
+          record { fits = submit_row_fits caller packet 1 (length units) (free_places state) few short (omega arith) (omega arith) (omega arith);
+          sound = ltb-true _ _ is }
+      cases false is true fits =
+          record { fits = submit_row_fits caller packet 2 (blocks_of units) (free_blocks state) few short (omega arith) (omega arith) (omega arith);
+          sound = ltb-true _ _ fits }
       cases false is false fits =
           let units_given = (given state small).units in
           record { fits = submit_row_fits caller packet 0 state.next_unit (length units) few short (omega arith) (omega arith) (omega arith); sound = tt }
@@ -144,11 +157,15 @@ length-runs [] = refl
 length-runs (name ∷ names) = omega (arith, length-runs names, length-map (runs_of names) (λ (more : List ℕ). (47 ∷ name) ++ more))
 
 few_nodes : (methods : List Method) (address : List ℕ) → IsAddress address → new_nodes methods address ≤ 16
-few_nodes methods address spelled = omega (arith, count_by-le-length (λ prefix. not (has_node methods prefix)) (prefixes_of address), length-runs (parts_of address), spelled.few)
+few_nodes methods address spelled =
+    omega (arith, count_by-le-length (λ prefix. not (has_node methods prefix)) (prefixes_of address), length-runs (parts_of address), spelled.few)
 
-full_fits : (tree : Registry) (address : List ℕ) → tree.method_limit ≤ 65536 → tree.node_limit ≤ 1048576 → IsAddress address → IfSome (full_refusal tree address) FitsRefusal
-full_fits tree address methods nodes_most spelled = go (length tree.methods == tree.method_limit) (nat_lt (free_nodes tree) (new_nodes tree.methods address)) refl where
-  go : (t u : Bool) → nat_lt (free_nodes tree) (new_nodes tree.methods address) ≡ u → IfSome (cond t (Some (methods_full tree.method_limit)) (cond u (Some (nodes_full (new_nodes tree.methods address) (free_nodes tree))) None)) FitsRefusal
+full_fits : (tree : Registry) (address : List ℕ) → tree.method_limit ≤ 65536 → tree.node_limit ≤ 1048576 → IsAddress address
+    → IfSome (full_refusal tree address) FitsRefusal
+full_fits tree address methods nodes_most spelled =
+    go (length tree.methods == tree.method_limit) (nat_lt (free_nodes tree) (new_nodes tree.methods address)) refl where
+  go : (t u : Bool) → nat_lt (free_nodes tree) (new_nodes tree.methods address) ≡ u
+      → IfSome (cond t (Some (methods_full tree.method_limit)) (cond u (Some (nodes_full (new_nodes tree.methods address) (free_nodes tree))) None)) FitsRefusal
   go true u is = record { code = omega arith; first = omega arith; second = omega arith; sound = tt }
   go false true is = record { code = omega arith; first = omega (arith, few_nodes tree.methods address spelled); second = omega arith; sound = ltb-true _ _ is }
   go false false is = tt
@@ -156,9 +173,15 @@ full_fits tree address methods nodes_most spelled = go (length tree.methods == t
 refusal_fits : (state : State) (address : List ℕ) → IsSmall state → IsAddress address → IfSome (add_refusal (registry state) address) FitsRefusal
 refusal_fits state address small spelled =
     some_or FitsRefusal (option_map taken (id_at state.methods address)) _
-    (some_mapped FitsRefusal taken (id_at state.methods address) (some_mapped (λ id. FitsRefusal (taken id)) (λ method. method.id) _ (some_found (λ method. FitsRefusal (taken method.id)) (λ method. bytes_eq method.address address) state.methods (all_more _ _ (λ method below. record { code = omega arith; first = below; second = omega arith; sound = tt }) state.methods (ids_fit state small)))))
+    (some_mapped FitsRefusal taken (id_at state.methods address)
+        (some_mapped (λ id. FitsRefusal (taken id)) (λ method. method.id) _
+        (some_found (λ method. FitsRefusal (taken method.id)) (λ method. bytes_eq method.address address) state.methods
+        (all_more _ _ (λ method below. record { code = omega arith; first = below; second = omega arith; sound = tt }) state.methods (ids_fit state small)))))
     (some_or FitsRefusal (option_map under_method (id_above state.methods address)) _
-    (some_mapped FitsRefusal under_method (id_above state.methods address) (some_mapped (λ id. FitsRefusal (under_method id)) (λ method. method.id) _ (some_found (λ method. FitsRefusal (under_method method.id)) (λ method. is_proper_prefix method.address address) state.methods (all_more _ _ (λ method below. record { code = omega arith; first = below; second = omega arith; sound = tt }) state.methods (ids_fit state small)))))
+    (some_mapped FitsRefusal under_method (id_above state.methods address)
+        (some_mapped (λ id. FitsRefusal (under_method id)) (λ method. method.id) _
+        (some_found (λ method. FitsRefusal (under_method method.id)) (λ method. is_proper_prefix method.address address) state.methods
+        (all_more _ _ (λ method below. record { code = omega arith; first = below; second = omega arith; sound = tt }) state.methods (ids_fit state small)))))
     (container (list_any (λ method. is_proper_prefix address method.address) state.methods)))
   where
     container : (t : Bool) → IfSome (cond t (Some is_container) (full_refusal (registry state) address)) FitsRefusal
@@ -190,32 +213,44 @@ address_nonzero : (address : List ℕ) → IsAddress address → has_no_zero add
 address_nonzero [] spelled = absurd (let slash = spelled.slash in cc)
 address_nonzero (x ∷ rest) spelled =
     let first : x ≡ 47 = eqb-true x 47 spelled.slash in
-    let names = names_nonzero (slice_split is_slash rest) (recursion_from_All (λ name. list_any is_bad_byte name ≡ false) (slice_split is_slash rest) spelled.spelled) in
+    let names = names_nonzero (slice_split is_slash rest)
+        (recursion_from_All (λ name. list_any is_bad_byte name ≡ false) (slice_split is_slash rest) spelled.spelled) in
     let behind : has_no_zero rest ≡ true = sym (ap has_no_zero (join_with_byte-slice_split 47 rest)) ∙ names in
     both_true _ _ (ap (λ (b : ℕ). not (b == 0)) first) behind
 
-add_fits : (caller : ℕ) (state : State) (address : List ℕ) → caller < 2 ^ 31 → IsSmall state → IsAddress address → IsRecordable caller (add address) (decided state (add address)).answer
+add_fits : (caller : ℕ) (state : State) (address : List ℕ) → caller < 2 ^ 31 → IsSmall state → IsAddress address
+    → IsRecordable caller (add address) (decided state (add address)).answer
 add_fits caller state address few small spelled = go (add_refusal (registry state) address) (refusal_fits state address small spelled) where
   go : (refusal : Option Refusal) → IfSome refusal FitsRefusal → IsRecordable caller (add address) (add_at state address refusal).answer
-  go None fits = record { fits = (int_fits caller few, (address_nonzero address spelled, (int_fits 0 (omega arith), (int_fits state.next_id (given state small).ids, (int_fits 0 (omega arith), tt))))); sound = tt }
+  go None fits =
+      record { fits =
+      (int_fits caller few,
+      (address_nonzero address spelled, (int_fits 0 (omega arith), (int_fits state.next_id (given state small).ids, (int_fits 0 (omega arith), tt)))));
+      sound = tt }
   go (Some why) fits =
       record {
-        fits = (int_fits caller few, (address_nonzero address spelled, (int_fits (refusing why).0 fits.code, (int_fits (refusing why).1 fits.first, (int_fits (refusing why).2 fits.second, tt)))));
+        fits = (int_fits caller few,
+            (address_nonzero address spelled,
+            (int_fits (refusing why).0 fits.code, (int_fits (refusing why).1 fits.first, (int_fits (refusing why).2 fits.second, tt)))));
         sound = fits.sound;
       }
 
-remove_fits : (caller : ℕ) (state : State) (address : List ℕ) → caller < 2 ^ 31 → IsSmall state → IsAddress address → IsRecordable caller (remove address) (decided state (remove address)).answer
+remove_fits : (caller : ℕ) (state : State) (address : List ℕ) → caller < 2 ^ 31 → IsSmall state → IsAddress address
+    → IsRecordable caller (remove address) (decided state (remove address)).answer
 remove_fits caller state address few small spelled = go (id_at state.methods address) found where
   found : IfSome (id_at state.methods address) (λ id. id < 2 ^ 31)
-  found = some_mapped (λ id. id < 2 ^ 31) (λ method. method.id) _ (some_found (λ method. method.id < 2 ^ 31) (λ method. bytes_eq method.address address) state.methods (ids_fit state small))
+  found = some_mapped (λ id. id < 2 ^ 31) (λ method. method.id) _
+      (some_found (λ method. method.id < 2 ^ 31) (λ method. bytes_eq method.address address) state.methods (ids_fit state small))
 
   go : (at : Option ℕ) → IfSome at (λ id. id < 2 ^ 31) → IsRecordable caller (remove address) (remove_at state address at).answer
-  go None fits = record { fits = (int_fits caller few, (address_nonzero address spelled, (int_fits 1 (omega arith), (int_fits 0 (omega arith), tt)))); sound = tt }
+  go None fits =
+      record { fits = (int_fits caller few, (address_nonzero address spelled, (int_fits 1 (omega arith), (int_fits 0 (omega arith), tt)))); sound = tt }
   go (Some id) fits = record { fits = (int_fits caller few, (address_nonzero address spelled, (int_fits 0 (omega arith), (int_fits id fits, tt)))); sound = tt }
 
 -- The answers to a moment.
 
-tick_fits : (caller : ℕ) (state : State) (now : ℕ) → caller < 2 ^ 31 → state.clock < 2 ^ 64 → now < 2 ^ 64 → IsRecordable caller (tick now) (decided state (tick now)).answer
+tick_fits : (caller : ℕ) (state : State) (now : ℕ) → caller < 2 ^ 31 → state.clock < 2 ^ 64 → now < 2 ^ 64
+    → IsRecordable caller (tick now) (decided state (tick now)).answer
 tick_fits caller state now few clock moment = go (nat_lt now state.clock) where
   go : (t : Bool) → IsRecordable caller (tick now) (cond t (leaves state (clock_back state.clock)) (leaves (record state { clock = now }) ticked)).answer
   go true = record { fits = (int_fits caller few, (moment, (int_fits 1 (omega arith), (clock, tt)))); sound = tt }
@@ -229,21 +264,26 @@ few_messages unit units few = let stored = count_stored unit.2.messages in let s
   whole_blocks : (size : ℕ) → size ≤ 64 * ((size + 63) / 64)
   whole_blocks size = omega arith
 
-hits_fit : (unit : ℕ) (calls : List Call) → AllByRecursion (λ invocation. (invocation.call.index < 2 ^ 32) × (invocation.call.id < 2 ^ 32)) (invocations_of unit calls) → AllByRecursion IsHit (hits_of calls)
+hits_fit : (unit : ℕ) (calls : List Call)
+    → AllByRecursion (λ invocation. (invocation.call.index < 2 ^ 32) × (invocation.call.id < 2 ^ 32)) (invocations_of unit calls)
+    → AllByRecursion IsHit (hits_of calls)
 hits_fit unit [] fit = tt
 hits_fit unit (call ∷ calls) fit = (record { index_fits = fit.0.0; id_fits = fit.0.1 }, hits_fit unit calls fit.1)
 
-unit_hits : MatchesExactly → (state : State) (unit : Queued) → IsSmall state → length unit.2.messages < 2 ^ 31 → AllByRecursion IsHit (hits_of (calls_of_unit state.methods unit))
+unit_hits : MatchesExactly → (state : State) (unit : Queued) → IsSmall state → length unit.2.messages < 2 ^ 31
+    → AllByRecursion IsHit (hits_of (calls_of_unit state.methods unit))
 unit_hits exactly state unit small few =
     let ids : state.next_id < 2 ^ 31 = (given state small).ids in
     hits_fit (unit_of unit) (calls_of_unit state.methods unit)
     (all_more _ _ (λ invocation call.
     let within = call.within in
-    let below = All-contains (λ method. method.id < state.next_id) state.methods (record { id = invocation.call.id; address = invocation.call.address }) small.sound.ids call.registered in
+    let below = All-contains (λ method. method.id < state.next_id) state.methods
+        (record { id = invocation.call.id; address = invocation.call.address }) small.sound.ids call.registered in
     (omega arith, omega arith))
     (invocations_of (unit_of unit) (calls_of_unit state.methods unit)) (unit_calls exactly state unit))
 
-release_fits : MatchesExactly → (caller : ℕ) (state : State) → caller < 2 ^ 31 → IsSmall state → adds_entry (decided state release).answer ≡ true → entry_size release (decided state release).answer ≤ free_bytes state
+release_fits : MatchesExactly → (caller : ℕ) (state : State) → caller < 2 ^ 31 → IsSmall state → adds_entry (decided state release).answer ≡ true
+    → entry_size release (decided state release).answer ≤ free_bytes state
     → IsRecordable caller release (decided state release).answer
 release_fits exactly caller state few small adds room = go state.queue small.sound.numbers small.sound.few_blocks adds room where
   recording : state.caps.recording ≤ 1073741824
@@ -252,7 +292,8 @@ release_fits exactly caller state few small adds room = go state.queue small.sou
   most : state.caps.blocks ≤ 1048576
   most = small.sound.caps.blocks.below
 
-  go : (queue : List Queued) → AreNumbered state.next_unit queue → queued_blocks queue ≤ state.caps.blocks → adds_entry (release_first state queue).answer ≡ true → entry_size release (release_first state queue).answer ≤ free_bytes state
+  go : (queue : List Queued) → AreNumbered state.next_unit queue → queued_blocks queue ≤ state.caps.blocks
+      → adds_entry (release_first state queue).answer ≡ true → entry_size release (release_first state queue).answer ≤ free_bytes state
       → IsRecordable caller release (release_first state queue).answer
   go [] numbers size some fits = absurd (cc)
   go (unit ∷ units) numbers size some fits = due (nat_le (due_of unit) state.clock) some fits where
@@ -276,7 +317,8 @@ pub record OfAnswers : Type 0 where
   pub exactly : MatchesExactly
 
 -- where the answer adds an entry for which there is room, it can be recorded
-pub decided_fits : OfAnswers → (caller : ℕ) (state : State) (event : Event) → caller < state.callers → IsSmall state → IsLawful event → adds_entry (decided state event).answer ≡ true → entry_size event (decided state event).answer ≤ free_bytes state
+pub decided_fits : OfAnswers → (caller : ℕ) (state : State) (event : Event) → caller < state.callers → IsSmall state → IsLawful event
+    → adds_entry (decided state event).answer ≡ true → entry_size event (decided state event).answer ≤ free_bytes state
     → IsRecordable caller event (decided state event).answer
 decided_fits of caller state event enrolled small lawful adds room = go event lawful adds room where
   many : state.callers ≤ 1024
@@ -285,7 +327,8 @@ decided_fits of caller state event enrolled small lawful adds room = go event la
   few : caller < 2 ^ 31
   few = omega arith
 
-  go : (event : Event) → IsLawful event → adds_entry (decided state event).answer ≡ true → entry_size event (decided state event).answer ≤ free_bytes state → IsRecordable caller event (decided state event).answer
+  go : (event : Event) → IsLawful event → adds_entry (decided state event).answer ≡ true → entry_size event (decided state event).answer ≤ free_bytes state
+      → IsRecordable caller event (decided state event).answer
   go enrol lawful adds room = enrol_fits caller state few (omega arith)
   go (submit packet) lawful adds room = submit_fits caller state packet few small lawful
   go (add address) lawful adds room = add_fits caller state address few small ((of.spelled address).0 lawful)

@@ -40,7 +40,8 @@ none_more : (keep : ℕ) (heard : Option (List ℕ)) → IfSome heard (λ bytes.
 none_more keep None within = refl
 none_more keep (Some bytes) within = ap Some (sym (ap (last_of keep) (append-nil bytes) ∙ last_of-all keep bytes within))
 
-more_twice : (keep : ℕ) (call calls : List ℕ) (heard : Option (List ℕ)) → more_told keep calls (after_call keep call heard) ≡ more_told keep (call ++ calls) heard
+more_twice : (keep : ℕ) (call calls : List ℕ) (heard : Option (List ℕ))
+    → more_told keep calls (after_call keep call heard) ≡ more_told keep (call ++ calls) heard
 more_twice keep call calls None = refl
 more_twice keep call calls (Some bytes) = ap Some (last_of-append keep (bytes ++ call) calls ∙ ap (last_of keep) (append_assoc bytes call calls))
 
@@ -62,7 +63,8 @@ pub all_within : (told : Told) (invocations : List Invocation) → IsWithin told
 all_within told [] within = within
 all_within told (invocation ∷ invocations) within = all_within (hear told invocation) invocations (hear_within told invocation within)
 
-pub all_heard : (told : Told) (invocations : List Invocation) → IsWithin told → hear_all invocations told ≡ telling told (more_told told.keep (calls_bytes invocations told.id) told.heard)
+pub all_heard : (told : Told) (invocations : List Invocation) → IsWithin told
+    → hear_all invocations told ≡ telling told (more_told told.keep (calls_bytes invocations told.id) told.heard)
 all_heard told [] within = ap (telling told) (none_more told.keep told.heard within)
 all_heard told (invocation ∷ invocations) within =
     go (invocation.call.id == told.id)
@@ -70,10 +72,14 @@ all_heard told (invocation ∷ invocations) within =
     (all_heard told invocations within)
   where
     go : (t : Bool)
-        → hear_all invocations (telling told (after_call told.keep (bytes_of invocation) told.heard)) ≡ telling told (more_told told.keep (calls_bytes invocations told.id) (after_call told.keep (bytes_of invocation) told.heard))
+        → hear_all invocations (telling told (after_call told.keep (bytes_of invocation) told.heard))
+            ≡ telling told (more_told told.keep (calls_bytes invocations told.id) (after_call told.keep (bytes_of invocation) told.heard))
         → hear_all invocations told ≡ telling told (more_told told.keep (calls_bytes invocations told.id) told.heard)
         → hear_all invocations (cond t (telling told (after_call told.keep (bytes_of invocation) told.heard)) told)
-        ≡ telling told (more_told told.keep (flat_map bytes_of (cond t (invocation ∷ filter (λ other. other.call.id == told.id) invocations) (filter (λ other. other.call.id == told.id) invocations))) told.heard)
+        ≡ telling told
+            (more_told told.keep
+            (flat_map bytes_of
+            (cond t (invocation ∷ filter (λ other. other.call.id == told.id) invocations) (filter (λ other. other.call.id == told.id) invocations))) told.heard)
     go true hears keeps = hears ∙ ap (telling told) (more_twice told.keep (bytes_of invocation) (calls_bytes invocations told.id) told.heard)
     go false hears keeps = keeps
 
@@ -81,13 +87,16 @@ reset_within : (keep : ℕ) (heard : Option (List ℕ)) → IfSome (option_map (
 reset_within keep None = tt
 reset_within keep (Some bytes) = omega arith
 
-fresh_told : (keep : ℕ) (calls : List ℕ) (heard : Option (List ℕ)) → more_told keep calls (option_map (λ (_ : List ℕ). let none : List ℕ = [] in none) heard) ≡ option_map (λ _. last_of keep calls) heard
+fresh_told : (keep : ℕ) (calls : List ℕ) (heard : Option (List ℕ))
+    → more_told keep calls (option_map (λ (_ : List ℕ). let none : List ℕ = [] in none) heard) ≡ option_map (λ _. last_of keep calls) heard
 fresh_told keep calls None = refl
 fresh_told keep calls (Some bytes) = refl
 
-pub fresh_heard : (told : Told) (invocations : List Invocation) → hear_all invocations (reset told) ≡ telling told (option_map (λ _. heard_of invocations told.id told.keep) told.heard)
+pub fresh_heard : (told : Told) (invocations : List Invocation)
+    → hear_all invocations (reset told) ≡ telling told (option_map (λ _. heard_of invocations told.id told.keep) told.heard)
 fresh_heard told invocations =
-    all_heard (reset told) invocations (reset_within told.keep told.heard) ∙ ap (telling told) (fresh_told told.keep (calls_bytes invocations told.id) told.heard)
+    all_heard (reset told) invocations (reset_within told.keep told.heard)
+        ∙ ap (telling told) (fresh_told told.keep (calls_bytes invocations told.id) told.heard)
 
 pub heard_on : (told : Told) (first more : List Invocation) → hear_all (first ++ more) told ≡ hear_all more (hear_all first told)
 heard_on told [] more = refl

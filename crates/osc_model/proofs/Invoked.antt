@@ -48,12 +48,14 @@ decided_registered exactly state event =
 pub invokes_registered : MatchesExactly → (state : State) (event : Event) → InvokesRegistered state (step state event)
 invokes_registered exactly state event =
     step_so (InvokesRegistered state) state event
-    (record { silent = λ none. decided_registered exactly state event; full = λ some full. inr refl; room = λ some fits. decided_registered exactly state event })
+    (record { silent = λ none. decided_registered exactly state event; full = λ some full. inr refl;
+        room = λ some fits. decided_registered exactly state event })
 
 -- The same over a history.
 
 -- what is invoked behind an entry is invoked in the whole
-invoked_behind : (state : State) (entry : Entry) (entries : List Entry) (made : Invocation) → IsInvokedIn (step state entry.event).state entries made → IsInvokedIn state (entry ∷ entries) made
+invoked_behind : (state : State) (entry : Entry) (entries : List Entry) (made : Invocation) → IsInvokedIn (step state entry.event).state entries made
+    → IsInvokedIn state (entry ∷ entries) made
 invoked_behind state entry entries made is =
     record {
       before = entry ∷ is.before;
@@ -67,18 +69,23 @@ invoked_behind state entry entries made is =
     }
 
 -- what a release that comes first invokes
-invoked_first : MatchesExactly → (state : State) (entry : Entry) (entries : List Entry) → entry.event ≡ release → AllByRecursion (IsInvokedIn state (entry ∷ entries)) (step state entry.event).invocations
+invoked_first : MatchesExactly → (state : State) (entry : Entry) (entries : List Entry) → entry.event ≡ release
+    → AllByRecursion (IsInvokedIn state (entry ∷ entries)) (step state entry.event).invocations
 invoked_first exactly state entry entries e = go (invokes_registered exactly state entry.event) where
   go : InvokesRegistered state (step state entry.event) → AllByRecursion (IsInvokedIn state (entry ∷ entries)) (step state entry.event).invocations
-  go (inl (unit, waits, calls)) = all_more _ _ (λ made call. record { before = []; entry = entry; later = entries; place = refl; releases = e; unit = unit; queued = waits; call = call }) (step state entry.event).invocations calls
+  go (inl (unit, waits, calls)) =
+      all_more _ _ (λ made call. record { before = []; entry = entry; later = entries; place = refl; releases = e; unit = unit; queued = waits; call = call })
+      (step state entry.event).invocations calls
   go (inr none) = subst (AllByRecursion (IsInvokedIn state (entry ∷ entries))) (sym none) tt
 
 pub all_invoked : MatchesExactly → (state : State) (history : List Entry) → AllByRecursion (IsInvokedIn state history) (invocations state history)
 all_invoked exactly state [] = tt
 all_invoked exactly state (entry ∷ entries) =
     all_append _ (step state entry.event).invocations (invocations (step state entry.event).state entries) (first (silent_or_release state entry.event))
-    (all_more _ _ (invoked_behind state entry entries) (invocations (step state entry.event).state entries) (all_invoked exactly (step state entry.event).state entries))
+    (all_more _ _ (invoked_behind state entry entries) (invocations (step state entry.event).state entries)
+        (all_invoked exactly (step state entry.event).state entries))
   where
-    first : ((step state entry.event).invocations ≡ []) ⊎ (entry.event ≡ release) → AllByRecursion (IsInvokedIn state (entry ∷ entries)) (step state entry.event).invocations
+    first : ((step state entry.event).invocations ≡ []) ⊎ (entry.event ≡ release)
+        → AllByRecursion (IsInvokedIn state (entry ∷ entries)) (step state entry.event).invocations
     first (inl none) = subst (AllByRecursion (IsInvokedIn state (entry ∷ entries))) (sym none) tt
     first (inr e) = invoked_first exactly state entry entries e

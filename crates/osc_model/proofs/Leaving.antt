@@ -27,7 +27,8 @@ other_text xs ys other = go (bytes_eq xs ys) refl where
 pub other_id : (m n : ℕ) → m ≢ n → (m == n) ≡ false
 other_id m n other = grind (arith, nat_tests)
 
-others_agree : (first : Method) (methods : List Method) → AllByRecursion (λ other. first.id ≢ other.id) methods → AllByRecursion (λ other. first.address ≢ other.address) methods → AllByRecursion (Agrees first.address first.id) methods
+others_agree : (first : Method) (methods : List Method) → AllByRecursion (λ other. first.id ≢ other.id) methods
+    → AllByRecursion (λ other. first.address ≢ other.address) methods → AllByRecursion (Agrees first.address first.id) methods
 others_agree first [] ids addresses = tt
 others_agree first (other ∷ methods) ids addresses =
     let a : bytes_eq other.address first.address ≡ false = other_text other.address first.address (λ same. addresses.0 (sym same)) in
@@ -35,7 +36,8 @@ others_agree first (other ∷ methods) ids addresses =
     (a ∙ sym b, others_agree first methods ids.1 addresses.1)
 
 -- what holds of the ids of all methods holds of the one that is found
-pub found_id : (P : ℕ → Type 0) (methods : List Method) (address : List ℕ) (id : ℕ) → id_at methods address ≡ Some id → AllByRecursion (λ method. P method.id) methods → P id
+pub found_id : (P : ℕ → Type 0) (methods : List Method) (address : List ℕ) (id : ℕ) → id_at methods address ≡ Some id
+    → AllByRecursion (λ method. P method.id) methods → P id
 found_id P [] address id at all = absurd (cc)
 found_id P (method ∷ methods) address id at all = go (bytes_eq method.address address) refl (found_id P methods address id) where
   go : (t : Bool) → bytes_eq method.address address ≡ t → (id_at methods address ≡ Some id → AllByRecursion (λ method. P method.id) methods → P id) → P id
@@ -43,19 +45,25 @@ found_id P (method ∷ methods) address id at all = go (bytes_eq method.address 
   go false e more = more (rw e at at) all.1
 
 -- in a lawful list the method at an address is the one with its id
-all_agree : (methods : List Method) (address : List ℕ) (id : ℕ) → AllPairs (λ a b. a.id ≢ b.id) methods → AllPairs (λ a b. a.address ≢ b.address) methods → id_at methods address ≡ Some id → AllByRecursion (Agrees address id) methods
+all_agree : (methods : List Method) (address : List ℕ) (id : ℕ) → AllPairs (λ a b. a.id ≢ b.id) methods → AllPairs (λ a b. a.address ≢ b.address) methods
+    → id_at methods address ≡ Some id → AllByRecursion (Agrees address id) methods
 all_agree [] address id ids addresses at = tt
 all_agree (method ∷ methods) address id ids addresses at =
-    go (bytes_eq method.address address) refl (all_agree methods address id (pairs_behind (λ a b. a.id ≢ b.id) method methods ids) (pairs_behind (λ a b. a.address ≢ b.address) method methods addresses))
+    go (bytes_eq method.address address) refl
+        (all_agree methods address id (pairs_behind (λ a b. a.id ≢ b.id) method methods ids)
+        (pairs_behind (λ a b. a.address ≢ b.address) method methods addresses))
   where
-    go : (t : Bool) → bytes_eq method.address address ≡ t → (id_at methods address ≡ Some id → AllByRecursion (Agrees address id) methods) → AllByRecursion (Agrees address id) (method ∷ methods)
+    go : (t : Bool) → bytes_eq method.address address ≡ t → (id_at methods address ≡ Some id → AllByRecursion (Agrees address id) methods)
+        → AllByRecursion (Agrees address id) (method ∷ methods)
     go true e more =
         let f : Some method.id ≡ Some id = rw e at at in
         let same : method.id ≡ id = cc in
         let text : method.address ≡ address = (bytes_eq-Decides method.address address).0 e in
         let b : (method.id == id) ≡ true = grind (arith, nat_tests) in
-        let others = others_agree method methods (pairs_ahead (λ a b. a.id ≢ b.id) method methods ids) (pairs_ahead (λ a b. a.address ≢ b.address) method methods addresses) in
-        (e ∙ sym b, subst (λ (n : ℕ). AllByRecursion (Agrees address n) methods) same (subst (λ (l : List ℕ). AllByRecursion (Agrees l method.id) methods) text others))
+        let others = others_agree method methods (pairs_ahead (λ a b. a.id ≢ b.id) method methods ids)
+            (pairs_ahead (λ a b. a.address ≢ b.address) method methods addresses) in
+        (e ∙ sym b, subst (λ (n : ℕ). AllByRecursion (Agrees address n) methods) same
+            (subst (λ (l : List ℕ). AllByRecursion (Agrees l method.id) methods) text others))
     go false e more =
         let f : id_at methods address ≡ Some id = rw e at at in
         let other : method.id ≢ id = λ same. found_id (λ n. method.id ≢ n) methods address id f (pairs_ahead (λ a b. a.id ≢ b.id) method methods ids) same in
@@ -63,7 +71,8 @@ all_agree (method ∷ methods) address id ids addresses at =
         (e ∙ sym b, more f)
 
 -- the methods that stay are those with another id
-pub others_stay : (methods : List Method) (address : List ℕ) (id : ℕ) → IsMethodList methods → id_at methods address ≡ Some id → without methods address ≡ filter (λ method. not (method.id == id)) methods
+pub others_stay : (methods : List Method) (address : List ℕ) (id : ℕ) → IsMethodList methods → id_at methods address ≡ Some id
+    → without methods address ≡ filter (λ method. not (method.id == id)) methods
 others_stay methods address id list at = go methods (all_agree methods address id list.ids list.addresses at) where
   go : (some : List Method) → AllByRecursion (Agrees address id) some → without some address ≡ filter (λ method. not (method.id == id)) some
   go [] agree = refl
@@ -76,6 +85,7 @@ none_has methods id = All-from_recursion (λ method. method.id ≢ id) (filter (
   each [] = tt
   each (method ∷ more) = go (method.id == id) refl (each more) where
     go : (t : Bool) → (method.id == id) ≡ t → AllByRecursion (λ method. method.id ≢ id) (filter (λ method. not (method.id == id)) more)
-        → AllByRecursion (λ method. method.id ≢ id) (cond (not t) (method ∷ filter (λ method. not (method.id == id)) more) (filter (λ method. not (method.id == id)) more))
+        → AllByRecursion (λ method. method.id ≢ id)
+            (cond (not t) (method ∷ filter (λ method. not (method.id == id)) more) (filter (λ method. not (method.id == id)) more))
     go true e rest = rest
     go false e rest = ((λ same. let yes : (method.id == id) ≡ true = grind (arith, nat_tests) in cc), rest)

@@ -26,7 +26,8 @@ numbered_length clock next [] = omega arith
 numbered_length clock next (unit ∷ units) = ap suc (numbered_length clock (next + 1) units)
 
 pub one_counted : (unit : Queued) (queue : List Queued) → length (enter unit queue) ≡ 1 + length queue
-one_counted unit queue = let all : length (enter unit queue) ≡ suc (length queue) = length_permutation (unit ∷ queue) (enter unit queue) (enter_joined unit queue) in omega arith
+one_counted unit queue = let all : length (enter unit queue) ≡ suc (length queue) =
+    length_permutation (unit ∷ queue) (enter unit queue) (enter_joined unit queue) in omega arith
 
 -- Units that enter in two goes.
 
@@ -34,11 +35,13 @@ pub entered_on : (first more queue : List Queued) → enter_all (first ++ more) 
 entered_on [] more queue = refl
 entered_on (unit ∷ first) more queue = entered_on first more (enter unit queue)
 
-pub numbered_on : (clock next : ℕ) (first more : List Timed) → numbered clock next (first ++ more) ≡ numbered clock next first ++ numbered clock (next + length first) more
+pub numbered_on : (clock next : ℕ) (first more : List Timed)
+    → numbered clock next (first ++ more) ≡ numbered clock next first ++ numbered clock (next + length first) more
 numbered_on clock next [] more = let same : next ≡ next + 0 = omega arith in ap (λ (n : ℕ). numbered clock n more) same
 numbered_on clock next (unit ∷ first) more =
     let same : next + 1 + length first ≡ next + suc (length first) = omega arith in
-    ap (λ (l : List Queued). waiting clock next unit ∷ l) (numbered_on clock (next + 1) first more ∙ ap (λ (n : ℕ). numbered clock (next + 1) first ++ numbered clock n more) same)
+    ap (λ (l : List Queued). waiting clock next unit ∷ l)
+        (numbered_on clock (next + 1) first more ∙ ap (λ (n : ℕ). numbered clock (next + 1) first ++ numbered clock n more) same)
 
 -- The blocks that units take.
 
@@ -66,8 +69,10 @@ one_blocks unit queue = entered_blocks (unit ∷ []) queue ∙ only (blocks unit
   only : (m n : ℕ) → m + 0 + n ≡ m + n
   only m n = omega arith
 
-pub all_blocks : (clock next : ℕ) (units : List Timed) (queue : List Queued) → queued_blocks (enter_all (numbered clock next units) queue) ≡ blocks_of units + queued_blocks queue
-all_blocks clock next units queue = entered_blocks (numbered clock next units) queue ∙ ap (λ (n : ℕ). n + queued_blocks queue) (numbered_blocks clock next units)
+pub all_blocks : (clock next : ℕ) (units : List Timed) (queue : List Queued)
+    → queued_blocks (enter_all (numbered clock next units) queue) ≡ blocks_of units + queued_blocks queue
+all_blocks clock next units queue =
+    entered_blocks (numbered clock next units) queue ∙ ap (λ (n : ℕ). n + queued_blocks queue) (numbered_blocks clock next units)
 
 -- Units with new numbers.
 
@@ -84,19 +89,26 @@ numbered_later next (unit ∷ units) below = (later (unit_of unit) below.0, numb
   later : (n : ℕ) → n < next → n < next + 1
   later n less = omega arith
 
-pub one_ordered : (clock next : ℕ) (unit : Timed) (queue : List Queued) → AreNumbered next queue → IsInOrder queue → IsInOrder (enter (waiting clock next unit) queue)
+pub one_ordered : (clock next : ℕ) (unit : Timed) (queue : List Queued) → AreNumbered next queue → IsInOrder queue
+    → IsInOrder (enter (waiting clock next unit) queue)
 one_ordered clock next unit queue below ordered = enter_ordered (waiting clock next unit) queue (next_new next queue below) ordered
 
-pub one_numbered : (clock next : ℕ) (unit : Timed) (queue : List Queued) → AreNumbered next queue → AreNumbered (next + 1) (enter (waiting clock next unit) queue)
-one_numbered clock next unit queue below = all_entered (λ (u : Queued). unit_of u < next + 1) (waiting clock next unit) queue (omega arith) (numbered_later next queue below)
+pub one_numbered : (clock next : ℕ) (unit : Timed) (queue : List Queued) → AreNumbered next queue
+    → AreNumbered (next + 1) (enter (waiting clock next unit) queue)
+one_numbered clock next unit queue below =
+    all_entered (λ (u : Queued). unit_of u < next + 1) (waiting clock next unit) queue (omega arith) (numbered_later next queue below)
 
-pub all_ordered : (clock next : ℕ) (units : List Timed) (queue : List Queued) → AreNumbered next queue → IsInOrder queue → IsInOrder (enter_all (numbered clock next units) queue)
+pub all_ordered : (clock next : ℕ) (units : List Timed) (queue : List Queued) → AreNumbered next queue → IsInOrder queue
+    → IsInOrder (enter_all (numbered clock next units) queue)
 all_ordered clock next [] queue below ordered = ordered
 all_ordered clock next (unit ∷ units) queue below ordered =
-    all_ordered clock (next + 1) units (enter (waiting clock next unit) queue) (one_numbered clock next unit queue below) (one_ordered clock next unit queue below ordered)
+    all_ordered clock (next + 1) units (enter (waiting clock next unit) queue) (one_numbered clock next unit queue below)
+        (one_ordered clock next unit queue below ordered)
 
-pub all_numbered : (clock next : ℕ) (units : List Timed) (queue : List Queued) → AreNumbered next queue → AreNumbered (next + length units) (enter_all (numbered clock next units) queue)
+pub all_numbered : (clock next : ℕ) (units : List Timed) (queue : List Queued) → AreNumbered next queue
+    → AreNumbered (next + length units) (enter_all (numbered clock next units) queue)
 all_numbered clock next [] queue below = let same : next ≡ next + 0 = omega arith in subst (λ (n : ℕ). AreNumbered n queue) same below
 all_numbered clock next (unit ∷ units) queue below =
     let same : next + 1 + length units ≡ next + suc (length units) = omega arith in
-    subst (λ (n : ℕ). AreNumbered n (enter_all (numbered clock next (unit ∷ units)) queue)) same (all_numbered clock (next + 1) units (enter (waiting clock next unit) queue) (one_numbered clock next unit queue below))
+    subst (λ (n : ℕ). AreNumbered n (enter_all (numbered clock next (unit ∷ units)) queue)) same
+        (all_numbered clock (next + 1) units (enter (waiting clock next unit) queue) (one_numbered clock next unit queue below))

@@ -39,21 +39,27 @@ after_clock state [] legal clock = clock
 after_clock state (entry ∷ entries) legal clock =
     let decides = decided_clock state entry.event clock legal.1 in
     after_clock (step state entry.event).state entries legal.4
-    (step_so (λ stepped. stepped.state.clock < 2 ^ 64) state entry.event (record { silent = λ none. decides; full = λ some full. clock; room = λ some fits. decides }))
+    (step_so (λ stepped. stepped.state.clock < 2 ^ 64) state entry.event
+        (record { silent = λ none. decides; full = λ some full. clock; room = λ some fits. decides }))
 
 small : OfServer → (caps : Limits) (history : List Entry) → Legal caps history → IsSmall (after (opening caps) history)
-small of caps history legal = record { sound = of.sound caps history legal; counted = of.counted caps history legal; clock = after_clock (opening caps) history legal.1 (omega arith) }
+small of caps history legal =
+    record { sound = of.sound caps history legal; counted = of.counted caps history legal; clock = after_clock (opening caps) history legal.1 (omega arith) }
 
 -- Each entry can be recorded.
 
-entry_fits : OfServer → (caller : ℕ) (state : State) (event : Event) → caller < state.callers → IsSmall state → IsLawful event → adds_entry (step state event).answer ≡ true → IsRecordable caller event (step state event).answer
+entry_fits : OfServer → (caller : ℕ) (state : State) (event : Event) → caller < state.callers → IsSmall state → IsLawful event
+    → adds_entry (step state event).answer ≡ true → IsRecordable caller event (step state event).answer
 entry_fits of caller state event enrolled little lawful adds =
     let in_ = entered state event adds in
-    subst (λ (s : Stepped). IsRecordable caller event s.answer) (sym in_.is) (decided_fits of.answers caller state event enrolled little lawful in_.adds in_.room)
+    subst (λ (s : Stepped). IsRecordable caller event s.answer) (sym in_.is)
+        (decided_fits of.answers caller state event enrolled little lawful in_.adds in_.room)
 
-pub next_fits : OfServer → (performance : Performance) (caller : ℕ) (event : Event) → Legal performance.caps performance.history → caller < (state_of performance).callers → IsLawful event
+pub next_fits : OfServer → (performance : Performance) (caller : ℕ) (event : Event) → Legal performance.caps performance.history
+    → caller < (state_of performance).callers → IsLawful event
     → adds_entry (stepped_in performance event).answer ≡ true → IsRecordable caller event (stepped_in performance event).answer
-next_fits of performance caller event legal enrolled lawful adds = entry_fits of caller (state_of performance) event enrolled (small of performance.caps performance.history legal) lawful adds
+next_fits of performance caller event legal enrolled lawful adds =
+    entry_fits of caller (state_of performance) event enrolled (small of performance.caps performance.history legal) lawful adds
 
 -- an entry that can be recorded
 abbrev Fits : Entry → Type 0
@@ -67,14 +73,16 @@ all_from of caps before (entry ∷ rest) legal =
     let same : entry.answer ≡ (step state entry.event).answer = split.1.3 in
     let adds : adds_entry (step state entry.event).answer ≡ true = ap adds_entry (sym same) ∙ is_adds entry.answer split.1.2 in
     let one = entry_fits of entry.caller state entry.event split.1.0 (small of caps before (legal.0, split.0)) split.1.1 adds in
-    (subst (IsRecordable entry.caller entry.event) (sym same) one, all_from of caps (before ++ entry ∷ []) rest (subst (Legal caps) (sym (append_assoc before (entry ∷ []) rest)) legal))
+    (subst (IsRecordable entry.caller entry.event) (sym same) one, all_from of caps (before ++ entry ∷ []) rest
+        (subst (Legal caps) (sym (append_assoc before (entry ∷ []) rest)) legal))
 
 pub all_fit : OfServer → (caps : Limits) (history : List Entry) → Legal caps history → AllByRecursion Fits history
 all_fit of caps history legal = all_from of caps [] history legal
 
 -- As many bytes are counted as the entries have.
 
-step_recorded : (state : State) (event : Event) → adds_entry (step state event).answer ≡ true → (step state event).state.recorded ≡ state.recorded + entry_size event (step state event).answer
+step_recorded : (state : State) (event : Event) → adds_entry (step state event).answer ≡ true
+    → (step state event).state.recorded ≡ state.recorded + entry_size event (step state event).answer
 step_recorded state event adds =
     let in_ = entered state event adds in
     ap (λ (s : Stepped). s.state.recorded) in_.is ∙ ap (λ (s : Stepped). state.recorded + entry_size event s.answer) (sym in_.is)
@@ -83,7 +91,8 @@ step_recorded state event adds =
 abbrev entries_text : List Entry → List ℕ
 entries_text entries = flat_map (λ entry. entry_text entry.caller entry.event entry.answer) entries
 
-after_recorded : (state : State) (history : List Entry) → LegalFrom state history → AllByRecursion Fits history → (after state history).recorded ≡ state.recorded + length (entries_text history)
+after_recorded : (state : State) (history : List Entry) → LegalFrom state history → AllByRecursion Fits history
+    → (after state history).recorded ≡ state.recorded + length (entries_text history)
 after_recorded state [] legal fit = omega arith
 after_recorded state (entry ∷ entries) legal fit =
     let next = (step state entry.event).state in
@@ -91,11 +100,13 @@ after_recorded state (entry ∷ entries) legal fit =
     let adds : adds_entry (step state entry.event).answer ≡ true = ap adds_entry (sym same) ∙ is_adds entry.answer legal.2 in
     let text : List ℕ = entry_text entry.caller entry.event entry.answer in
     let size : length text ≡ entry_size entry.event entry.answer = sizes_are entry.caller entry.event entry.answer fit.0.fits in
-    let here : next.recorded ≡ state.recorded + length text = step_recorded state entry.event adds ∙ ap (λ (a : Answer). state.recorded + entry_size entry.event a) (sym same) ∙ ap (λ (n : ℕ). state.recorded + n) (sym size) in
+    let here : next.recorded ≡ state.recorded + length text = step_recorded state entry.event adds
+        ∙ ap (λ (a : Answer). state.recorded + entry_size entry.event a) (sym same) ∙ ap (λ (n : ℕ). state.recorded + n) (sym size) in
     let rest : (after next entries).recorded ≡ next.recorded + length (entries_text entries) = after_recorded next entries legal.4 fit.1 in
     omega (arith, here, rest, length-append text (entries_text entries))
 
-pub all_recorded : OfServer → (caps : Limits) (history : List Entry) → Legal caps history → (after (opening caps) history).recorded ≡ length (record_text caps history)
+pub all_recorded : OfServer → (caps : Limits) (history : List Entry) → Legal caps history
+    → (after (opening caps) history).recorded ≡ length (record_text caps history)
 all_recorded of caps history legal =
     after_recorded (opening caps) history legal.1 (all_fit of caps history legal)
     ∙ ap (λ (n : ℕ). n + length (entries_text history)) (sym (header_size caps))

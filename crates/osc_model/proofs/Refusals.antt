@@ -42,13 +42,15 @@ decided_none state event =
       released = λ unit units first none. absurd (true_false none);
     })
 
-pub refusal_stays : (state : State) (event : Event) → IsRefusal (step state event).answer → (step state event).state ≡ record state { recorded = (step state event).state.recorded }
+pub refusal_stays : (state : State) (event : Event) → IsRefusal (step state event).answer
+    → (step state event).state ≡ record state { recorded = (step state event).state.recorded }
 refusal_stays state event =
     step_so (λ stepped. IsRefusal stepped.answer → stepped.state ≡ record state { recorded = stepped.state.recorded }) state event
     (record {
       silent = λ none is. subst (λ (s : State). s ≡ record state { recorded = s.recorded }) (sym (decided_stays state event is).0) refl;
       full = λ some full is. refl;
-      room = λ some fits is. ap (λ (s : State). record s { recorded = state.recorded + entry_size event (decided state event).answer }) (decided_stays state event is).0;
+      room = λ some fits is. ap (λ (s : State). record s { recorded = state.recorded + entry_size event (decided state event).answer })
+          (decided_stays state event is).0;
     })
 
 pub none_stays : (state : State) (event : Event) → adds_entry (step state event).answer ≡ false → (step state event).state ≡ state
@@ -63,12 +65,15 @@ refusal_silent state event =
 
 -- Where there is room, and where there is none.
 
-pub full_refuses : (state : State) (event : Event) → adds_entry (decided state event).answer ≡ true → free_bytes state < entry_size event (decided state event).answer → step state event ≡ no_room state (entry_size event (decided state event).answer)
+pub full_refuses : (state : State) (event : Event) → adds_entry (decided state event).answer ≡ true
+    → free_bytes state < entry_size event (decided state event).answer → step state event ≡ no_room state (entry_size event (decided state event).answer)
 full_refuses state event some full =
     step_so (λ stepped. stepped ≡ no_room state (entry_size event (decided state event).answer)) state event
     (record { silent = λ none. absurd (cc); full = λ some full. refl; room = λ some fits. absurd (omega arith) })
 
-pub room_records : (state : State) (event : Event) → adds_entry (decided state event).answer ≡ true → entry_size event (decided state event).answer ≤ free_bytes state → step state event ≡ noted state (entry_size event (decided state event).answer) (decided state event)
+pub room_records : (state : State) (event : Event) → adds_entry (decided state event).answer ≡ true
+    → entry_size event (decided state event).answer ≤ free_bytes state
+    → step state event ≡ noted state (entry_size event (decided state event).answer) (decided state event)
 room_records state event some fits =
     step_so (λ stepped. stepped ≡ noted state (entry_size event (decided state event).answer) (decided state event)) state event
     (record { silent = λ none. absurd (cc); full = λ some full. absurd (omega arith); room = λ some fits. refl })

@@ -30,7 +30,8 @@ some_listed test methods list = record {
 some_length : (test : Method → Bool) (methods : List Method) → length (filter test methods) ≤ length methods
 some_length test [] = omega arith
 some_length test (method ∷ methods) = go (test method) (some_length test methods) where
-  go : (t : Bool) → length (filter test methods) ≤ length methods → length (cond t (method ∷ filter test methods) (filter test methods)) ≤ length (method ∷ methods)
+  go : (t : Bool) → length (filter test methods) ≤ length methods
+      → length (cond t (method ∷ filter test methods) (filter test methods)) ≤ length (method ∷ methods)
   go true less = omega arith
   go false less = omega arith
 
@@ -41,7 +42,9 @@ some_nodes adds test front (method ∷ back) = go (test method) (some_nodes adds
   moved : (others : List Method) → nodes ((front ++ method ∷ []) ++ others) ≡ nodes (front ++ method ∷ others)
   moved others = ap nodes (append_assoc front (method ∷ []) others)
 
-  go : (t : Bool) → nodes ((front ++ method ∷ []) ++ filter test back) ≤ nodes ((front ++ method ∷ []) ++ back) → nodes (front ++ filter test back) ≤ nodes (front ++ back) → nodes (front ++ cond t (method ∷ filter test back) (filter test back)) ≤ nodes (front ++ method ∷ back)
+  go : (t : Bool) → nodes ((front ++ method ∷ []) ++ filter test back) ≤ nodes ((front ++ method ∷ []) ++ back)
+      → nodes (front ++ filter test back) ≤ nodes (front ++ back)
+      → nodes (front ++ cond t (method ∷ filter test back) (filter test back)) ≤ nodes (front ++ method ∷ back)
   go true kept left = omega (arith, moved (filter test back), moved back)
   go false kept left = omega (arith, adds method front back)
 
@@ -62,14 +65,16 @@ without_lawful adds tree address lawful =
 not_found : {X : Type 0} (test : X → Bool) (xs : List X) → find test xs ≡ None → All (λ x. test x ≡ false) xs
 not_found test [] e = All-nil (λ x. test x ≡ false)
 not_found test (y ∷ ys) e = go (test y) refl e (not_found test ys) where
-  go : (t : Bool) → test y ≡ t → cond t (Some y) (find test ys) ≡ None → (find test ys ≡ None → All (λ x. test x ≡ false) ys) → All (λ x. test x ≡ false) (y ∷ ys)
+  go : (t : Bool) → test y ≡ t → cond t (Some y) (find test ys) ≡ None → (find test ys ≡ None → All (λ x. test x ≡ false) ys)
+      → All (λ x. test x ≡ false) (y ∷ ys)
   go true is e more = absurd (cc)
   go false is e more = All-cons (λ x. test x ≡ false) y ys is (more e)
 
 none_of_any : {X : Type 0} (test : X → Bool) (xs : List X) → list_any test xs ≡ false → All (λ x. test x ≡ false) xs
 none_of_any test [] e = All-nil (λ x. test x ≡ false)
 none_of_any test (y ∷ ys) e = go (test y) refl e (none_of_any test ys) where
-  go : (t : Bool) → test y ≡ t → (t || list_any test ys) ≡ false → (list_any test ys ≡ false → All (λ x. test x ≡ false) ys) → All (λ x. test x ≡ false) (y ∷ ys)
+  go : (t : Bool) → test y ≡ t → (t || list_any test ys) ≡ false → (list_any test ys ≡ false → All (λ x. test x ≡ false) ys)
+      → All (λ x. test x ≡ false) (y ∷ ys)
   go true is e more = absurd (cc)
   go false is e more = All-cons (λ x. test x ≡ false) y ys is (more e)
 
@@ -79,14 +84,19 @@ different method address e same = let yes : bytes_eq method.address address ≡ 
 -- an address that isn't refused can be added
 pub not_refused : (tree : Registry) (address : List ℕ) → length tree.methods ≤ tree.method_limit → add_refusal tree address ≡ None → IsAddable tree address
 not_refused tree address few e =
-    go (find (λ method. bytes_eq method.address address) tree.methods) refl (find (λ method. is_proper_prefix method.address address) tree.methods) refl (list_any (λ method. is_proper_prefix address method.address) tree.methods) refl
+    go (find (λ method. bytes_eq method.address address) tree.methods) refl (find (λ method. is_proper_prefix method.address address) tree.methods) refl
+        (list_any (λ method. is_proper_prefix address method.address) tree.methods) refl
     (length tree.methods == tree.method_limit) refl (nat_lt (free_nodes tree) (new_nodes tree.methods address)) refl e
   where
-    go : (at : Option Method) → find (λ method. bytes_eq method.address address) tree.methods ≡ at → (above : Option Method) → find (λ method. is_proper_prefix method.address address) tree.methods ≡ above
-        → (below : Bool) → list_any (λ method. is_proper_prefix address method.address) tree.methods ≡ below → (full : Bool) → (length tree.methods == tree.method_limit) ≡ full
+    go : (at : Option Method) → find (λ method. bytes_eq method.address address) tree.methods ≡ at → (above : Option Method)
+        → find (λ method. is_proper_prefix method.address address) tree.methods ≡ above
+        → (below : Bool) → list_any (λ method. is_proper_prefix address method.address) tree.methods ≡ below → (full : Bool)
+            → (length tree.methods == tree.method_limit) ≡ full
         → (short : Bool) → nat_lt (free_nodes tree) (new_nodes tree.methods address) ≡ short
         → option_or (option_map taken (option_map (λ method. method.id) at)) (option_or (option_map under_method (option_map (λ method. method.id) above))
-        (cond below (Some is_container) (cond full (Some (methods_full tree.method_limit)) (cond short (Some (nodes_full (new_nodes tree.methods address) (free_nodes tree))) None)))) ≡ None
+        (cond below (Some is_container)
+            (cond full (Some (methods_full tree.method_limit)) (cond short (Some (nodes_full (new_nodes tree.methods address) (free_nodes tree))) None))))
+            ≡ None
         → IsAddable tree address
     go (Some method) a above b below g full f short s e = absurd (cc)
     go None a (Some method) b below g full f short s e = absurd (cc)
@@ -96,7 +106,8 @@ not_refused tree address few e =
     go None a None b false g false f false s e =
         record {
           apart = record {
-            none_at = All-weaker (λ method. bytes_eq method.address address ≡ false) (λ method. method.address ≢ address) (λ method. different method address) tree.methods (not_found (λ method. bytes_eq method.address address) tree.methods a);
+            none_at = All-weaker (λ method. bytes_eq method.address address ≡ false) (λ method. method.address ≢ address)
+                (λ method. different method address) tree.methods (not_found (λ method. bytes_eq method.address address) tree.methods a);
             none_above = not_found (λ method. is_proper_prefix method.address address) tree.methods b;
             none_below = none_of_any (λ method. is_proper_prefix address method.address) tree.methods g;
           };
@@ -106,7 +117,8 @@ not_refused tree address few e =
 
 -- A method is found by its id.
 
-pub by_id : (methods : List Method) (method : Method) → AllPairs (λ a b. a.id ≢ b.id) methods → Contains methods method → find (λ other. other.id == method.id) methods ≡ Some method
+pub by_id : (methods : List Method) (method : Method) → AllPairs (λ a b. a.id ≢ b.id) methods → Contains methods method
+    → find (λ other. other.id == method.id) methods ≡ Some method
 by_id [] method pairs (k, within, is) = absurd (omega arith)
 by_id (first ∷ methods) method pairs (zero, within, is) = rw same (ap Some is) where
   same : (first.id == method.id) ≡ true
@@ -115,4 +127,5 @@ by_id (first ∷ methods) method pairs (suc k, within, is) =
     rw other (by_id methods method (λ i j d less inside. pairs (suc i) (suc j) d (omega arith) (omega arith)) (k, omega arith, is))
   where
     other : (first.id == method.id) ≡ false
-    other = let differs : first.id ≢ method.id = subst (λ (m : Method). first.id ≢ m.id) is (pairs 0 (suc k) method (omega arith) within) in grind (arith, nat_tests)
+    other = let differs : first.id ≢ method.id = subst (λ (m : Method). first.id ≢ m.id) is (pairs 0 (suc k) method (omega arith) within) in
+        grind (arith, nat_tests)

@@ -21,11 +21,14 @@ abbrev size_by_hits : State → Queued → ℕ
 size_by_hits state unit = 44 + 8 * length (hits_of (calls_of_unit state.methods unit))
 
 same_size : (state : State) (unit : Queued) → size_by_hits state unit ≡ release_size state unit
-same_size state unit = ap (λ (n : ℕ). 44 + 8 * n) (length-map (calls_of_unit state.methods unit) (λ (call : Call). let hit : Hit = record { index = call.index; id = call.id } in hit))
+same_size state unit =
+    ap (λ (n : ℕ). 44 + 8 * n)
+    (length-map (calls_of_unit state.methods unit) (λ (call : Call). let hit : Hit = record { index = call.index; id = call.id } in hit))
 
 -- a first unit that is due is taken where there is room for the entry
 first_taken : (state : State) (unit : Queued) (units : List Queued) → IsInOrder (unit ∷ units) → due_of unit ≤ state.clock
-    → ReleasesLeast (with_queue state (unit ∷ units)) (recorded_as (with_queue state (unit ∷ units)) (size_by_hits state unit) (releases (with_queue state (unit ∷ units)) unit units))
+    → ReleasesLeast (with_queue state (unit ∷ units))
+        (recorded_as (with_queue state (unit ∷ units)) (size_by_hits state unit) (releases (with_queue state (unit ∷ units)) unit units))
 first_taken state unit units ordered due =
     let whole = with_queue state (unit ∷ units) in
     let same : size_by_hits state unit ≡ release_size state unit = same_size state unit in
@@ -65,7 +68,8 @@ releases_least state (unit ∷ units) ordered = go (nat_le (due_of unit) state.c
   either : Bool → Stepped
   either t = cond t (releases whole unit units) (leaves whole (nothing_due (Some (due_of unit))))
 
-  go : (t : Bool) → nat_le (due_of unit) state.clock ≡ t → ReleasesLeast whole (cond (adds_entry (either t).answer) (recorded_as whole (entry_size release (either t).answer) (either t)) (either t))
+  go : (t : Bool) → nat_le (due_of unit) state.clock ≡ t
+      → ReleasesLeast whole (cond (adds_entry (either t).answer) (recorded_as whole (entry_size release (either t).answer) (either t)) (either t))
   go true e = first_taken state unit units ordered (leb-true _ _ e)
   go false e =
       inr (inl (record {

@@ -30,7 +30,9 @@ step_calls : OnlyRegistered → (P : ℕ → Type 0) (state : State) (event : Ev
 step_calls registered P state event all = go (registered state event) where
   go : InvokesRegistered state (step state event) → AllCalled P (step state event).invocations
   go (inl (unit, waits, calls)) =
-      all_more _ _ (λ invocation call. All-contains (λ method. P method.id) state.methods (record { id = invocation.call.id; address = invocation.call.address }) all call.registered) (step state event).invocations calls
+      all_more _ _
+          (λ invocation call. All-contains (λ method. P method.id) state.methods
+          (record { id = invocation.call.id; address = invocation.call.address }) all call.registered) (step state event).invocations calls
   go (inr none) = subst (AllCalled P) (sym none) tt
 
 -- what holds of the next id and of those of all methods holds of them after a step
@@ -38,35 +40,45 @@ step_ids : (P : ℕ → Type 0) (state : State) (event : Event) → P state.next
 step_ids P state event next all = go (changes state event) where
   go : Changes state event (step state event) → AllIds P (step state event).state
   go (inl kept) = subst (All (λ method. P method.id)) (sym kept.methods) all
-  go (inr (inl more)) = subst (All (λ method. P method.id)) (sym more.methods) (All-push (λ method. P method.id) state.methods (record { id = state.next_id; address = more.address }) all next)
-  go (inr (inr fewer)) = subst (All (λ method. P method.id)) (sym fewer.methods) (All-filter (λ method. not (bytes_eq method.address fewer.address)) (λ method. P method.id) state.methods all)
+  go (inr (inl more)) =
+      subst (All (λ method. P method.id)) (sym more.methods)
+      (All-push (λ method. P method.id) state.methods (record { id = state.next_id; address = more.address }) all next)
+  go (inr (inr fewer)) =
+      subst (All (λ method. P method.id)) (sym fewer.methods)
+      (All-filter (λ method. not (bytes_eq method.address fewer.address)) (λ method. P method.id) state.methods all)
 
 -- what is known of ids: each invocation is of a registered method, and ids are given in their order
 pub record OfIds : Type 0 where
   pub registered : OnlyRegistered
   pub grows : (state : State) (history : List Entry) → state.next_id ≤ (after state history).next_id
-  pub given : (state : State) (history : List Entry) → AllIds (λ id. id < state.next_id) state → AllIds (λ id. id < (after state history).next_id) (after state history)
+  pub given : (state : State) (history : List Entry) → AllIds (λ id. id < state.next_id) state
+      → AllIds (λ id. id < (after state history).next_id) (after state history)
 
 abbrev CalledBelow : ℕ → List Invocation → Type 0
 CalledBelow next = AllCalled (λ id. id < next)
 
 -- each id that a history calls was given
-history_given : OfIds → (state : State) (history : List Entry) → AllIds (λ id. id < state.next_id) state → CalledBelow (after state history).next_id (invocations state history)
+history_given : OfIds → (state : State) (history : List Entry) → AllIds (λ id. id < state.next_id) state
+    → CalledBelow (after state history).next_id (invocations state history)
 history_given of state [] given = tt
 history_given of state (entry ∷ entries) given =
     let next = (step state entry.event).state in
     let grown : next.next_id ≤ (after next entries).next_id = of.grows next entries in
     let here = step_calls of.registered (λ id. id < state.next_id) state entry.event given in
     let first : state.next_id ≤ next.next_id = of.grows state (entry ∷ []) in
-    all_append _ (step state entry.event).invocations (invocations next entries) (all_more _ _ (λ invocation below. omega arith) (step state entry.event).invocations here)
+    all_append _ (step state entry.event).invocations (invocations next entries)
+        (all_more _ _ (λ invocation below. omega arith) (step state entry.event).invocations here)
     (history_given of next entries (of.given state (entry ∷ []) given))
 
-pub called_given : OfIds → (caps : Limits) (history : List Entry) → All (λ invocation. invocation.call.id < (after (opening caps) history).next_id) (invocations (opening caps) history)
+pub called_given : OfIds → (caps : Limits) (history : List Entry)
+    → All (λ invocation. invocation.call.id < (after (opening caps) history).next_id) (invocations (opening caps) history)
 called_given of caps history =
-    All-from_recursion (λ invocation. invocation.call.id < (after (opening caps) history).next_id) (invocations (opening caps) history) (history_given of (opening caps) history (All-nil (λ method. method.id < 0)))
+    All-from_recursion (λ invocation. invocation.call.id < (after (opening caps) history).next_id) (invocations (opening caps) history)
+        (history_given of (opening caps) history (All-nil (λ method. method.id < 0)))
 
 -- an id that was given and that no method has is called no more
-history_silent : OfIds → (id : ℕ) (state : State) (history : List Entry) → id < state.next_id → AllIds (λ other. other ≢ id) state → AllCalled (λ other. other ≢ id) (invocations state history)
+history_silent : OfIds → (id : ℕ) (state : State) (history : List Entry) → id < state.next_id → AllIds (λ other. other ≢ id) state
+    → AllCalled (λ other. other ≢ id) (invocations state history)
 history_silent of id state [] given none = tt
 history_silent of id state (entry ∷ entries) given none =
     let next = (step state entry.event).state in
@@ -98,15 +110,19 @@ left state event id sound is =
     let fewer = loses state event id is in
     let same : fewer.id ≡ id = lost_id state event id fewer is in
     let others = others_stay state.methods fewer.address fewer.id sound.methods.list fewer.found in
-    let given : fewer.id < state.next_id = found_id (λ n. n < state.next_id) state.methods fewer.address fewer.id fewer.found (recursion_from_All (λ method. method.id < state.next_id) state.methods sound.ids) in
+    let given : fewer.id < state.next_id =
+        found_id (λ n. n < state.next_id) state.methods fewer.address fewer.id fewer.found
+        (recursion_from_All (λ method. method.id < state.next_id) state.methods sound.ids) in
     record {
       methods = fewer.methods ∙ others ∙ ap (λ (n : ℕ). filter (λ method. not (method.id == n)) state.methods) same;
       given = omega arith;
       silent = fewer.silent;
     }
 
-pub removed_silent : OfIds → ((caps : Limits) (history : List Entry) → Legal caps history → IsSound (after (opening caps) history)) → (caps : Limits) (before later : List Entry) (entry : Entry) (id : ℕ)
-    → Legal caps (before ++ entry ∷ later) → entry.answer ≡ removed id → All (λ invocation. invocation.call.id ≢ id) (invocations (after (opening caps) (before ++ entry ∷ [])) later)
+pub removed_silent : OfIds → ((caps : Limits) (history : List Entry) → Legal caps history → IsSound (after (opening caps) history))
+    → (caps : Limits) (before later : List Entry) (entry : Entry) (id : ℕ)
+    → Legal caps (before ++ entry ∷ later) → entry.answer ≡ removed id
+        → All (λ invocation. invocation.call.id ≢ id) (invocations (after (opening caps) (before ++ entry ∷ [])) later)
 removed_silent of sound caps before later entry id legal is =
     let state = after (opening caps) before in
     let next = (step state entry.event).state in

@@ -28,7 +28,9 @@ release_size : (caller unit : ℕ) (hits : List Hit) → length (sized (row_text
 release_size caller unit hits =
     let k : ℕ = length hits in
     let body : List ℕ = string (codes "/osc/release") ++ (tag_string (codes "ihb") ++ (word caller ++ (tag unit ++ (word (8 * k) ++ hits_text hits)))) in
-    let text : row_text (release_row caller unit (hits_text hits)) ≡ body = ap (λ l. string (codes "/osc/release") ++ (tag_string (codes "ihb") ++ (word caller ++ (tag unit ++ l)))) (eights (hits_text hits) k (length-hits_text hits)) in
+    let text : row_text (release_row caller unit (hits_text hits)) ≡ body =
+        ap (λ l. string (codes "/osc/release") ++ (tag_string (codes "ihb") ++ (word caller ++ (tag unit ++ l))))
+        (eights (hits_text hits) k (length-hits_text hits)) in
     omega (arith, ap length text, length-hits_text hits)
 
 abbrev pub text_in : Option Row → List ℕ
@@ -37,24 +39,28 @@ text_in o = option_map_or (λ row. sized (row_text row)) o []
 pub header_size : (limits : Limits) → length (header_text limits) ≡ 56
 header_size limits = refl
 
-pub sizes_are : (caller : ℕ) (event : Event) (answer : Answer) → FitsRow (row_of caller event answer) → length (entry_text caller event answer) ≡ entry_size event answer
+pub sizes_are : (caller : ℕ) (event : Event) (answer : Answer) → FitsRow (row_of caller event answer)
+    → length (entry_text caller event answer) ≡ entry_size event answer
 sizes_are caller enrol answer fits = go (enrolled answer) fits where
   go : (o : Option ℤ) → FitsRow (option_map (enrol_row caller) o) → length (text_in (option_map (enrol_row caller) o)) ≡ 28
   go None f = absurd f
   go (Some z) f = refl
 sizes_are caller (submit packet) answer fits = go (submitted answer) fits where
-  go : (o : Option (ℕ × ℕ × ℕ)) → FitsRow (option_map (submit_row caller packet) o) → length (text_in (option_map (submit_row caller packet) o)) ≡ 48 + (length packet + blob_end (length packet))
+  go : (o : Option (ℕ × ℕ × ℕ)) → FitsRow (option_map (submit_row caller packet) o)
+      → length (text_in (option_map (submit_row caller packet) o)) ≡ 48 + (length packet + blob_end (length packet))
   go None f = absurd f
   go (Some t) f =
       let zeros : List ℕ = replicate (blob_end (length packet)) 0 in
       let tail : List ℕ = word t.0 ++ (tag t.1 ++ (word t.2 ++ [])) in
       omega (arith, length-append (packet ++ zeros) tail, length-append packet zeros, length-replicate {A = ℕ} (blob_end (length packet)) 0)
 sizes_are caller (add address) answer fits = go (adding answer) fits where
-  go : (o : Option (ℕ × ℕ × ℕ)) → FitsRow (option_map (add_row caller address) o) → length (text_in (option_map (add_row caller address) o)) ≡ 40 + length (string address)
+  go : (o : Option (ℕ × ℕ × ℕ)) → FitsRow (option_map (add_row caller address) o)
+      → length (text_in (option_map (add_row caller address) o)) ≡ 40 + length (string address)
   go None f = absurd f
   go (Some t) f = omega (arith, length-append (string address) (word t.0 ++ (word t.1 ++ (word t.2 ++ []))))
 sizes_are caller (remove address) answer fits = go (removing answer) fits where
-  go : (o : Option (ℕ × ℕ)) → FitsRow (option_map (remove_row caller address) o) → length (text_in (option_map (remove_row caller address) o)) ≡ 36 + length (string address)
+  go : (o : Option (ℕ × ℕ)) → FitsRow (option_map (remove_row caller address) o)
+      → length (text_in (option_map (remove_row caller address) o)) ≡ 36 + length (string address)
   go None f = absurd f
   go (Some t) f = omega (arith, length-append (string address) (word t.0 ++ (word t.1 ++ [])))
 sizes_are caller (tick moment) answer fits = go (ticking moment answer) fits where

@@ -24,7 +24,8 @@ use Rattle.osc_model.proofs.Registries.{AddsNodes, without_lawful, not_refused}
 
 -- an address that can be added, with a new id, leaves methods as lawful as they were
 abbrev pub StaysLawful : Type 0
-StaysLawful = (tree : Registry) (id : ℕ) (address : List ℕ) → IsLawfulRegistry tree → IsNewId tree.methods id → IsAddress address → IsAddable tree address → IsLawfulRegistry (record tree { methods = tree.methods ++ record { id = id; address = address } ∷ [] })
+StaysLawful = (tree : Registry) (id : ℕ) (address : List ℕ) → IsLawfulRegistry tree → IsNewId tree.methods id → IsAddress address → IsAddable tree address
+    → IsLawfulRegistry (record tree { methods = tree.methods ++ record { id = id; address = address } ∷ [] })
 
 -- the test of an address says what an address is
 abbrev pub TellsAddresses : Type 0
@@ -39,7 +40,8 @@ pub record OfMethods : Type 0 where
 -- no methods are a lawful list
 none_lawful : (method_limit node_limit : ℕ) → IsLawfulRegistry (record { methods = []; method_limit = method_limit; node_limit = node_limit })
 none_lawful method_limit node_limit = record {
-  list = record { ids = λ i j d less within. absurd (omega arith); lawful = All-nil (λ method. IsAddress method.address); addresses = λ i j d less within. absurd (omega arith); apart = λ i j d less within. absurd (omega arith) };
+  list = record { ids = λ i j d less within. absurd (omega arith); lawful = All-nil (λ method. IsAddress method.address);
+      addresses = λ i j d less within. absurd (omega arith); apart = λ i j d less within. absurd (omega arith) };
   few_methods = omega arith;
   few_nodes = omega arith;
 }
@@ -61,21 +63,29 @@ opening_sound caps ranges =
 -- One event.
 
 with_callers : (state : State) (callers : ℕ) → IsSound state → (1 ≤ callers) × (callers ≤ state.caps.callers) → IsSound (record state { callers = callers })
-with_callers state callers sound few = record { caps = sound.caps; methods = sound.methods; ids = sound.ids; ordered = sound.ordered; numbers = sound.numbers; few_units = sound.few_units; few_blocks = sound.few_blocks; callers = few }
+with_callers state callers sound few =
+    record { caps = sound.caps; methods = sound.methods; ids = sound.ids; ordered = sound.ordered; numbers = sound.numbers; few_units = sound.few_units;
+    few_blocks = sound.few_blocks; callers = few }
 
 with_clock : (state : State) (clock : ℕ) → IsSound state → IsSound (record state { clock = clock })
-with_clock state clock sound = record { caps = sound.caps; methods = sound.methods; ids = sound.ids; ordered = sound.ordered; numbers = sound.numbers; few_units = sound.few_units; few_blocks = sound.few_blocks; callers = sound.callers }
+with_clock state clock sound =
+    record { caps = sound.caps; methods = sound.methods; ids = sound.ids; ordered = sound.ordered; numbers = sound.numbers; few_units = sound.few_units;
+    few_blocks = sound.few_blocks; callers = sound.callers }
 
 with_recorded : (state : State) (recorded : ℕ) → IsSound state → IsSound (record state { recorded = recorded })
-with_recorded state recorded sound = record { caps = sound.caps; methods = sound.methods; ids = sound.ids; ordered = sound.ordered; numbers = sound.numbers; few_units = sound.few_units; few_blocks = sound.few_blocks; callers = sound.callers }
+with_recorded state recorded sound =
+    record { caps = sound.caps; methods = sound.methods; ids = sound.ids; ordered = sound.ordered; numbers = sound.numbers; few_units = sound.few_units;
+    few_blocks = sound.few_blocks; callers = sound.callers }
 
 enrolled : (state : State) → IsSound state → IsSound (decided state enrol).state
 enrolled state sound = go (state.callers == state.caps.callers) refl where
-  go : (t : Bool) → (state.callers == state.caps.callers) ≡ t → IsSound (cond t (leaves state callers_full) (leaves (record state { callers = state.callers + 1 }) (number state.callers))).state
+  go : (t : Bool) → (state.callers == state.caps.callers) ≡ t
+      → IsSound (cond t (leaves state callers_full) (leaves (record state { callers = state.callers + 1 }) (number state.callers))).state
   go true e = sound
   go false e = let few = sound.callers in with_callers state (state.callers + 1) sound (omega arith, grind (arith, nat_tests))
 
-submitted : (state : State) (units : List Timed) → IsSound state → nat_lt (free_places state) (length units) ≡ false → nat_lt (free_blocks state) (blocks_of units) ≡ false → IsSound (after_submit state units)
+submitted : (state : State) (units : List Timed) → IsSound state → nat_lt (free_places state) (length units) ≡ false
+    → nat_lt (free_blocks state) (blocks_of units) ≡ false → IsSound (after_submit state units)
 submitted state units sound places room =
     let few_units = sound.few_units in
     let few_blocks = sound.few_blocks in
@@ -94,11 +104,15 @@ submitted state units sound places room =
 
 submits : (state : State) (packet : List ℕ) → IsSound state → IsSound (decided state (submit packet)).state
 submits state packet sound = go (units_read packet) where
-  go : (units : List Timed) → IsSound (cond (nat_lt (free_places state) (length units)) (leaves state (units_full (record { need = length units; free = free_places state })))
-      (cond (nat_lt (free_blocks state) (blocks_of units)) (leaves state (pool_full (record { need = blocks_of units; free = free_blocks state }))) (leaves (after_submit state units) (queued state.next_unit (length units))))).state
+  go : (units : List Timed)
+      → IsSound (cond (nat_lt (free_places state) (length units)) (leaves state (units_full (record { need = length units; free = free_places state })))
+      (cond (nat_lt (free_blocks state) (blocks_of units)) (leaves state (pool_full (record { need = blocks_of units; free = free_blocks state })))
+          (leaves (after_submit state units) (queued state.next_unit (length units))))).state
   go units = cases (nat_lt (free_places state) (length units)) refl (nat_lt (free_blocks state) (blocks_of units)) refl where
     cases : (t : Bool) → nat_lt (free_places state) (length units) ≡ t → (u : Bool) → nat_lt (free_blocks state) (blocks_of units) ≡ u
-        → IsSound (cond t (leaves state (units_full (record { need = length units; free = free_places state }))) (cond u (leaves state (pool_full (record { need = blocks_of units; free = free_blocks state }))) (leaves (after_submit state units) (queued state.next_unit (length units))))).state
+        → IsSound (cond t (leaves state (units_full (record { need = length units; free = free_places state })))
+            (cond u (leaves state (pool_full (record { need = blocks_of units; free = free_blocks state })))
+            (leaves (after_submit state units) (queued state.next_unit (length units))))).state
     cases true e u f = sound
     cases false e true f = sound
     cases false e false f = submitted state units sound e f
@@ -114,8 +128,10 @@ ids_later next methods given = All-weaker (λ method. method.id < next) (λ meth
   later n below = omega arith
 
 -- ids stay below the next one where a method is added under it
-pub one_more_given : (next : ℕ) (methods : List Method) (address : List ℕ) → All (λ method. method.id < next) methods → All (λ method. method.id < next + 1) (methods ++ record { id = next; address = address } ∷ [])
-one_more_given next methods address given = All-push (λ method. method.id < next + 1) methods (record { id = next; address = address }) (ids_later next methods given) (omega arith)
+pub one_more_given : (next : ℕ) (methods : List Method) (address : List ℕ) → All (λ method. method.id < next) methods
+    → All (λ method. method.id < next + 1) (methods ++ record { id = next; address = address } ∷ [])
+one_more_given next methods address given =
+    All-push (λ method. method.id < next + 1) methods (record { id = next; address = address }) (ids_later next methods given) (omega arith)
 
 adds : OfMethods → (state : State) (address : List ℕ) → IsTrue (is_address address) → IsSound state → IsSound (decided state (add address)).state
 adds of state address spelled sound = go (add_refusal (registry state) address) refl where
@@ -126,7 +142,8 @@ adds of state address spelled sound = go (add_refusal (registry state) address) 
       let can = not_refused (registry state) address few_methods e in
       record {
         caps = sound.caps;
-        methods = of.lawful (registry state) state.next_id address sound.methods (new_id state.next_id state.methods sound.ids) ((of.spelled address).0 spelled) can;
+        methods = of.lawful (registry state) state.next_id address sound.methods (new_id state.next_id state.methods sound.ids)
+            ((of.spelled address).0 spelled) can;
         ids = one_more_given state.next_id state.methods address sound.ids;
         ordered = sound.ordered;
         numbers = sound.numbers;
@@ -157,10 +174,13 @@ ticks state now sound = go (nat_lt now state.clock) where
   go true = sound
   go false = with_clock state now sound
 
-released_sound : (state : State) (queue : List Queued) → IsSound (record state { queue = queue }) → IsSound (release_first (record state { queue = queue }) queue).state
+released_sound : (state : State) (queue : List Queued) → IsSound (record state { queue = queue })
+    → IsSound (release_first (record state { queue = queue }) queue).state
 released_sound state [] sound = sound
 released_sound state (unit ∷ units) sound = go (nat_le (due_of unit) state.clock) where
-  go : (t : Bool) → IsSound (cond t (releases (record state { queue = unit ∷ units }) unit units) (leaves (record state { queue = unit ∷ units }) (nothing_due (Some (due_of unit))))).state
+  go : (t : Bool)
+      → IsSound (cond t (releases (record state { queue = unit ∷ units }) unit units)
+      (leaves (record state { queue = unit ∷ units }) (nothing_due (Some (due_of unit))))).state
   go true =
       let few_units = sound.few_units in
       let few_blocks = sound.few_blocks in
@@ -198,7 +218,8 @@ step_sound of state event lawful sound =
 
 after_sound : OfMethods → (state : State) (history : List Entry) → LegalFrom state history → IsSound state → IsSound (after state history)
 after_sound of state [] legal sound = sound
-after_sound of state (entry ∷ entries) legal sound = after_sound of (step state entry.event).state entries legal.4 (step_sound of state entry.event legal.1 sound)
+after_sound of state (entry ∷ entries) legal sound =
+    after_sound of (step state entry.event).state entries legal.4 (step_sound of state entry.event legal.1 sound)
 
 pub history_sound : OfMethods → (caps : Limits) (history : List Entry) → Legal caps history → IsSound (after (opening caps) history)
 history_sound of caps history legal = after_sound of (opening caps) history legal.1 (opening_sound caps legal.0)

@@ -27,14 +27,17 @@ pub record Lifts (Q : Stepped → Type 0) (state : State) (size : ℕ) (stepped 
   pub full : adds_entry stepped.answer ≡ true → free_bytes state < size → Q (no_room state size)
   pub room : adds_entry stepped.answer ≡ true → size ≤ free_bytes state → Q (noted state size stepped)
 
-pub recorded_so : (Q : Stepped → Type 0) (state : State) (size : ℕ) (stepped : Stepped) → Lifts Q state size stepped → Q (cond (adds_entry stepped.answer) (cond (nat_lt (free_bytes state) size) (no_room state size) (noted state size stepped)) stepped)
+pub recorded_so : (Q : Stepped → Type 0) (state : State) (size : ℕ) (stepped : Stepped) → Lifts Q state size stepped
+    → Q (cond (adds_entry stepped.answer) (cond (nat_lt (free_bytes state) size) (no_room state size) (noted state size stepped)) stepped)
 recorded_so Q state size stepped lifts = go (adds_entry stepped.answer) refl (nat_lt (free_bytes state) size) refl where
-  go : (t : Bool) → adds_entry stepped.answer ≡ t → (u : Bool) → nat_lt (free_bytes state) size ≡ u → Q (cond t (cond u (no_room state size) (noted state size stepped)) stepped)
+  go : (t : Bool) → adds_entry stepped.answer ≡ t → (u : Bool) → nat_lt (free_bytes state) size ≡ u
+      → Q (cond t (cond u (no_room state size) (noted state size stepped)) stepped)
   go false is u e = lifts.silent is
   go true is true e = lifts.full is (ltb-true _ _ e)
   go true is false e = lifts.room is (ltb-false _ _ e)
 
-pub step_so : (Q : Stepped → Type 0) (state : State) (event : Event) → Lifts Q state (entry_size event (decided state event).answer) (decided state event) → Q (step state event)
+pub step_so : (Q : Stepped → Type 0) (state : State) (event : Event) → Lifts Q state (entry_size event (decided state event).answer) (decided state event)
+    → Q (step state event)
 step_so Q state event lifts = recorded_so Q state (entry_size event (decided state event).answer) (decided state event) lifts
 
 -- what holds of each event that is decided, where it holds of each refusal and of each event that does something
@@ -54,11 +57,14 @@ decided_so Q state enrol decides = go (state.callers == state.caps.callers) wher
   go false = decides.enrolled
 decided_so Q state (submit packet) decides = go (units_read packet) (decides.queued packet) where
   go : (units : List Timed) → Q (submit packet) (leaves (after_submit state units) (queued state.next_unit (length units)))
-      → Q (submit packet) (cond (nat_lt (free_places state) (length units)) (leaves state (units_full (record { need = length units; free = free_places state })))
-      (cond (nat_lt (free_blocks state) (blocks_of units)) (leaves state (pool_full (record { need = blocks_of units; free = free_blocks state }))) (leaves (after_submit state units) (queued state.next_unit (length units)))))
+      → Q (submit packet)
+          (cond (nat_lt (free_places state) (length units)) (leaves state (units_full (record { need = length units; free = free_places state })))
+      (cond (nat_lt (free_blocks state) (blocks_of units)) (leaves state (pool_full (record { need = blocks_of units; free = free_blocks state })))
+          (leaves (after_submit state units) (queued state.next_unit (length units)))))
   go units holds = cases (nat_lt (free_places state) (length units)) (nat_lt (free_blocks state) (blocks_of units)) where
     cases : (t u : Bool) → Q (submit packet) (cond t (leaves state (units_full (record { need = length units; free = free_places state })))
-        (cond u (leaves state (pool_full (record { need = blocks_of units; free = free_blocks state }))) (leaves (after_submit state units) (queued state.next_unit (length units)))))
+        (cond u (leaves state (pool_full (record { need = blocks_of units; free = free_blocks state })))
+            (leaves (after_submit state units) (queued state.next_unit (length units)))))
     cases true u = decides.refused (submit packet) (units_full (record { need = length units; free = free_places state })) tt
     cases false true = decides.refused (submit packet) (pool_full (record { need = blocks_of units; free = free_blocks state })) tt
     cases false false = holds

@@ -10,4 +10,5 @@ enrols _ = false
 -- one caller from the start, and one more for each enrolment
 abbrev pub callers_in : List Entry → ℕ
 callers_in [] = 1
-callers_in (entry ∷ entries) = if enrols entry.answer then callers_in entries + 1 else callers_in entries
+callers_in (entry ∷ entries) = if enrols entry.answer then callers_in entries + 1
+    else callers_in entries

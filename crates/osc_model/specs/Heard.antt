@@ -6,7 +6,8 @@ use Rattle.osc_method.specs.Calls.{call_text}
 use Rattle.osc_method.specs.Heard.{last_of, after_call}
 use Rattle.osc_model.specs.Events.{Invocation}
 
--- what is known of a boxed method: the id under which it is registered, how many bytes it keeps, and the bytes that it
+-- what is known of a boxed method: the id under which it is registered, how many bytes it keeps,
+-- and the bytes that it
 -- tells, where it tells
 pub record Told : Type 0 where
   pub id : ℕ
@@ -19,7 +20,8 @@ bytes_of invocation = call_text invocation.unit invocation.call.index invocation
 
 -- the bytes of an id's calls, one after another
 abbrev pub calls_bytes : List Invocation → ℕ → List ℕ
-calls_bytes invocations id = flat_map bytes_of (filter (λ invocation. invocation.call.id == id) invocations)
+calls_bytes invocations id =
+    flat_map bytes_of (filter (λ invocation. invocation.call.id == id) invocations)
 
 -- what a method that keeps so many bytes has heard of all these invocations
 abbrev pub heard_of : List Invocation → ℕ → ℕ → List ℕ
@@ -32,7 +34,8 @@ reset told = record told { heard = option_map (λ _. []) told.heard }
 -- a box hears an invocation of its id, and no other
 abbrev pub hear : Told → Invocation → Told
 hear told invocation =
-    if invocation.call.id == told.id then record told { heard = after_call told.keep (bytes_of invocation) told.heard } else told
+    if invocation.call.id == told.id
+        then record told { heard = after_call told.keep (bytes_of invocation) told.heard } else told
 
 -- a box hears invocations one after another
 abbrev pub hear_all : List Invocation → Told → Told

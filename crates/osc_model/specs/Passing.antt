@@ -7,7 +7,8 @@ use Rattle.osc_model.specs.Step.{step, numbered}
 
 -- the units that an event queues, by what it is answered
 abbrev pub queued_by : Answer → State → Event → List Queued
-queued_by (queued first count) state (submit packet) = numbered state.clock state.next_unit (units_read packet)
+queued_by (queued first count) state (submit packet) =
+    numbered state.clock state.next_unit (units_read packet)
 queued_by _ state event = []
 
 abbrev pub entering : State → Event → List Queued
@@ -39,9 +40,11 @@ released_in _ = []
 -- the units that a history queues, in their order
 abbrev pub all_entering : State → List Entry → List Queued
 all_entering state [] = []
-all_entering state (entry ∷ entries) = entering state entry.event ++ all_entering (step state entry.event).state entries
+all_entering state (entry ∷ entries) =
+    entering state entry.event ++ all_entering (step state entry.event).state entries
 
 -- the units that a history releases, in their order
 abbrev pub all_leaving : State → List Entry → List Queued
 all_leaving state [] = []
-all_leaving state (entry ∷ entries) = leaving state entry.event ++ all_leaving (step state entry.event).state entries
+all_leaving state (entry ∷ entries) =
+    leaving state entry.event ++ all_leaving (step state entry.event).state entries

@@ -1,4 +1,5 @@
--- A recording, written: the messages that stand for its header and its entries, each after its size.
+-- A recording, written: the messages that stand for its header and its entries, each after its
+-- size.
 use Rattle.std.specs.Prelude.{ℕ, ◌+◌, ◌*◌, ◌<◌, ◌^◌, ℤ, pos, negsuc, List, [], ◌∷◌, ◌++◌, length, codes, Option, Some, None, option_map}
 use Rattle.std.specs.List.{flat_map, AllByRecursion}
 use Rattle.std.specs.Option.{option_map_or}
@@ -22,7 +23,8 @@ int n = integer (pos n)
 abbrev pub header_row : Limits → Row
 header_row limits = record {
   address = codes "/osc/rec";
-  arguments = int 1 ∷ int limits.units ∷ int limits.blocks ∷ int limits.methods ∷ int limits.nodes ∷ int limits.callers ∷ int limits.recording ∷ [];
+  arguments = int 1 ∷ int limits.units ∷ int limits.blocks ∷ int limits.methods ∷ int limits.nodes
+      ∷ int limits.callers ∷ int limits.recording ∷ [];
 }
 
 -- the number that an enrolling caller is answered, -1 where callers are full
@@ -76,7 +78,8 @@ hit_text hit = word hit.index ++ word hit.id
 -- the hits that stand in eight bytes each
 abbrev pub hits_in : List ℕ → List Hit
 hits_in (a ∷ b ∷ c ∷ d ∷ e ∷ f ∷ g ∷ h ∷ rest) =
-    record { index = from_be_bytes w32 (a ∷ b ∷ c ∷ d ∷ []); id = from_be_bytes w32 (e ∷ f ∷ g ∷ h ∷ []) } ∷ hits_in rest
+    record { index = from_be_bytes w32 (a ∷ b ∷ c ∷ d ∷ []);
+        id = from_be_bytes w32 (e ∷ f ∷ g ∷ h ∷ []) } ∷ hits_in rest
 hits_in _ = []
 
 -- the hits, one after another
@@ -84,7 +87,8 @@ abbrev pub hits_text : List Hit → List ℕ
 hits_text hits = flat_map hit_text hits
 
 abbrev pub enrol_row : ℕ → ℤ → Row
-enrol_row caller answer = record { address = codes "/osc/enrol"; arguments = int caller ∷ integer answer ∷ [] }
+enrol_row caller answer =
+    record { address = codes "/osc/enrol"; arguments = int caller ∷ integer answer ∷ [] }
 
 abbrev pub submit_row : ℕ → List ℕ → ℕ × ℕ × ℕ → Row
 submit_row caller packet answer = record {
@@ -123,7 +127,8 @@ row_of caller (submit packet) answer = option_map (submit_row caller packet) (su
 row_of caller (add address) answer = option_map (add_row caller address) (adding answer)
 row_of caller (remove address) answer = option_map (remove_row caller address) (removing answer)
 row_of caller (tick moment) answer = option_map (tick_row caller moment) (ticking moment answer)
-row_of caller release answer = option_map (λ r. release_row caller r.0 (hits_text r.1)) (releasing answer)
+row_of caller release answer =
+    option_map (λ r. release_row caller r.0 (hits_text r.1)) (releasing answer)
 
 -- the text of a message without its size
 abbrev pub row_text : Row → List ℕ
@@ -139,11 +144,14 @@ header_text limits = sized (row_text (header_row limits))
 
 -- an entry's bytes
 abbrev pub entry_text : ℕ → Event → Answer → List ℕ
-entry_text caller event answer = option_map_or (λ row. sized (row_text row)) (row_of caller event answer) []
+entry_text caller event answer =
+    option_map_or (λ row. sized (row_text row)) (row_of caller event answer) []
 
 -- the bytes of a whole recording
 abbrev pub record_text : Limits → List Entry → List ℕ
-record_text limits entries = header_text limits ++ flat_map (λ entry. entry_text entry.caller entry.event entry.answer) entries
+record_text limits entries =
+    header_text limits ++ flat_map (λ entry. entry_text entry.caller entry.event entry.answer)
+    entries
 
 -- the two numbers of a hit are words
 pub record IsHit (hit : Hit) : Type 0 where
@@ -163,7 +171,8 @@ abbrev pub FitsRow : Option Row → Type 0
 FitsRow None = ⊥
 FitsRow (Some row) = AllFit row.arguments
 
--- the answer is one of the event's, each number is within its argument, and an address has no zero byte
+-- the answer is one of the event's, each number is within its argument, and an address has no zero
+-- byte
 pub record IsRecordable (caller : ℕ) (event : Event) (answer : Answer) : Type 0 where
   pub fits : FitsRow (row_of caller event answer)
   pub sound : IsSound answer

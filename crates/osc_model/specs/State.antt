@@ -5,7 +5,7 @@ use Rattle.osc_packet.specs.Units.{Timed}
 use Rattle.osc_pattern.specs.Methods.{Method}
 use Rattle.osc_queue.specs.Timed.{Item, unit_of}
 use Rattle.osc_tree.specs.Registry.{Registry}
-use Rattle.osc_model.specs.Limits.{Limits}
+use Rattle.osc_model.specs.Limits.{Limits, header_size}
 
 -- a queued unit: the moment from which it is due, its number, and its effective tag and messages
 abbrev pub Queued : Type 0
@@ -15,7 +15,8 @@ Queued = Item Timed
 abbrev pub AreNumbered : ℕ → List Queued → Type 0
 AreNumbered next queue = AllByRecursion (λ unit. unit_of unit < next) queue
 
--- the methods in the order of adding, the units in the order of their release, and how many bytes are recorded
+-- the methods in the order of adding, the units in the order of their release, and how many bytes
+-- are recorded
 pub record State : Type 0 where
   pub caps : Limits
   pub methods : List Method
@@ -26,10 +27,15 @@ pub record State : Type 0 where
   pub callers : ℕ
   pub recorded : ℕ
 
--- a server that has just opened: no methods, no units, its clock at 1, one caller, and the 56 bytes of the header
+-- a server that has just opened: no methods, no units, its clock at 1, one caller, and the bytes of
+-- the header
 abbrev pub opening : Limits → State
-opening caps = record { caps = caps; methods = []; queue = []; clock = 1; next_id = 0; next_unit = 0; callers = 1; recorded = 56 }
+opening caps =
+    record { caps = caps; methods = []; queue = []; clock = 1; next_id = 0; next_unit = 0;
+    callers = 1; recorded = header_size }
 
 -- the methods, with their limits
 abbrev pub registry : State → Registry
-registry state = record { methods = state.methods; method_limit = state.caps.methods; node_limit = state.caps.nodes }
+registry state =
+    record { methods = state.methods; method_limit = state.caps.methods;
+    node_limit = state.caps.nodes }

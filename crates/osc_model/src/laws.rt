@@ -30,9 +30,12 @@ use osc_tree::laws as trees;
 /// legal history.
 pub fn a_server_stays_sound()
     ensures opening { (caps : Limits) → AreInRange caps → IsSound (opening caps) }
-    ensures step { (state : State) (event : Event) → IsLawful event → IsSound state → IsSound (step state event).state }
-    ensures after { (caps : Limits) (history : List Entry) → Legal caps history → IsSound (after (opening caps) history) }
-    ensures counted { (caps : Limits) (history : List Entry) → Legal caps history → IsCounted (after (opening caps) history) }
+    ensures step { (state : State) (event : Event) → IsLawful event → IsSound state
+        → IsSound (step state event).state }
+    ensures after { (caps : Limits) (history : List Entry) → Legal caps history
+        → IsSound (after (opening caps) history) }
+    ensures counted { (caps : Limits) (history : List Entry) → Legal caps history
+        → IsCounted (after (opening caps) history) }
 {
     addresses::tests_are_exact();
     trees::an_added_method_is_lawful();
@@ -41,42 +44,65 @@ pub fn a_server_stays_sound()
 
 /// Units enter the queue each once, and none of those that waited is lost. Each takes its blocks.
 pub fn units_enter_the_queue()
-    ensures joined { (units queue : List Queued) → IsPermutation (units ++ queue) (enter_all units queue) }
-    ensures blocks { (clock next : ℕ) (units : List Timed) (queue : List Queued) → queued_blocks (enter_all (numbered clock next units) queue) ≡ blocks_of units + queued_blocks queue }
+    ensures joined { (units queue : List Queued)
+        → IsPermutation (units ++ queue) (enter_all units queue) }
+    ensures blocks { (clock next : ℕ) (units : List Timed) (queue : List Queued)
+        → queued_blocks (enter_all (numbered clock next units) queue)
+        ≡ blocks_of units + queued_blocks queue }
 {}
 
 /// A number above those of all units is new. So units that enter under the next numbers keep the order, and their numbers
 /// are below the next one after them.
 pub fn units_keep_the_order()
     ensures new { (next : ℕ) (queue : List Queued) → AreNumbered next queue → IsNewUnit next queue }
-    ensures one { (clock next : ℕ) (unit : Timed) (queue : List Queued) → AreNumbered next queue → IsInOrder queue → IsInOrder (enter (waiting clock next unit) queue) }
-    ensures one_number { (clock next : ℕ) (unit : Timed) (queue : List Queued) → AreNumbered next queue → AreNumbered (next + 1) (enter (waiting clock next unit) queue) }
-    ensures all { (clock next : ℕ) (units : List Timed) (queue : List Queued) → AreNumbered next queue → IsInOrder queue → IsInOrder (enter_all (numbered clock next units) queue) }
-    ensures all_numbers { (clock next : ℕ) (units : List Timed) (queue : List Queued) → AreNumbered next queue → AreNumbered (next + length units) (enter_all (numbered clock next units) queue) }
+    ensures one { (clock next : ℕ) (unit : Timed) (queue : List Queued) → AreNumbered next queue
+        → IsInOrder queue → IsInOrder (enter (waiting clock next unit) queue) }
+    ensures one_number { (clock next : ℕ) (unit : Timed) (queue : List Queued)
+        → AreNumbered next queue → AreNumbered (next + 1) (enter (waiting clock next unit) queue) }
+    ensures all { (clock next : ℕ) (units : List Timed) (queue : List Queued)
+        → AreNumbered next queue → IsInOrder queue
+        → IsInOrder (enter_all (numbered clock next units) queue) }
+    ensures all_numbers { (clock next : ℕ) (units : List Timed) (queue : List Queued)
+        → AreNumbered next queue
+        → AreNumbered (next + length units) (enter_all (numbered clock next units) queue) }
 {}
 
 /// Each unit that enters is one more in the queue, and takes its blocks.
 pub fn units_are_counted()
-    ensures one { (unit : Queued) (queue : List Queued) → length (enter unit queue) ≡ 1 + length queue }
-    ensures one_blocks { (unit : Queued) (queue : List Queued) → queued_blocks (enter unit queue) ≡ blocks unit.2 + queued_blocks queue }
-    ensures all { (units queue : List Queued) → length (enter_all units queue) ≡ length units + length queue }
-    ensures numbered { (clock next : ℕ) (units : List Timed) → length (numbered clock next units) ≡ length units }
+    ensures one { (unit : Queued) (queue : List Queued)
+        → length (enter unit queue) ≡ 1 + length queue }
+    ensures one_blocks { (unit : Queued) (queue : List Queued)
+        → queued_blocks (enter unit queue) ≡ blocks unit.2 + queued_blocks queue }
+    ensures all { (units queue : List Queued)
+        → length (enter_all units queue) ≡ length units + length queue }
+    ensures numbered { (clock next : ℕ) (units : List Timed)
+        → length (numbered clock next units) ≡ length units }
 {}
 
 /// Units that enter in two goes enter as in one.
 pub fn units_enter_in_two_goes()
-    ensures entered { (first more queue : List Queued) → enter_all (first ++ more) queue ≡ enter_all more (enter_all first queue) }
-    ensures numbered { (clock next : ℕ) (first more : List Timed) → numbered clock next (first ++ more) ≡ numbered clock next first ++ numbered clock (next + length first) more }
+    ensures entered { (first more queue : List Queued)
+        → enter_all (first ++ more) queue ≡ enter_all more (enter_all first queue) }
+    ensures numbered { (clock next : ℕ) (first more : List Timed)
+        → numbered clock next (first ++ more)
+        ≡ numbered clock next first ++ numbered clock (next + length first) more }
 {}
 
 /// An address that isn't refused can be added. Where it is added under a new id, and where a method is removed, the
 /// methods stay lawful.
 pub fn methods_stay_lawful()
-    ensures addable { (tree : Registry) (address : List ℕ) → IsLawfulRegistry tree → add_refusal tree address ≡ None → IsAddable tree address }
-    ensures new_id { (next : ℕ) (methods : List Method) → All (λ method. method.id < next) methods → IsNewId methods next }
-    ensures more { (tree : Registry) (id : ℕ) (address : List ℕ) → IsLawfulRegistry tree → IsNewId tree.methods id → IsAddress address → add_refusal tree address ≡ None → IsLawfulRegistry (record tree { methods = tree.methods ++ record { id = id; address = address } ∷ [] }) }
-    ensures fewer { (tree : Registry) (address : List ℕ) → IsLawfulRegistry tree → IsLawfulRegistry (record tree { methods = without tree.methods address }) }
-    ensures found { (methods : List Method) (method : Method) → IsMethodList methods → Contains methods method → address_by_id methods method.id ≡ Some method.address }
+    ensures addable { (tree : Registry) (address : List ℕ) → IsLawfulRegistry tree
+        → add_refusal tree address ≡ None → IsAddable tree address }
+    ensures new_id { (next : ℕ) (methods : List Method) → All (λ method. method.id < next) methods
+        → IsNewId methods next }
+    ensures more { (tree : Registry) (id : ℕ) (address : List ℕ) → IsLawfulRegistry tree
+        → IsNewId tree.methods id → IsAddress address → add_refusal tree address ≡ None
+        → IsLawfulRegistry
+        (record tree { methods = tree.methods ++ record { id = id; address = address } ∷ [] }) }
+    ensures fewer { (tree : Registry) (address : List ℕ) → IsLawfulRegistry tree
+        → IsLawfulRegistry (record tree { methods = without tree.methods address }) }
+    ensures found { (methods : List Method) (method : Method) → IsMethodList methods
+        → Contains methods method → address_by_id methods method.id ≡ Some method.address }
 {
     trees::an_added_method_is_lawful();
     trees::an_address_adds_its_new_nodes();
@@ -85,8 +111,11 @@ pub fn methods_stay_lawful()
 /// A release takes the unit that is least by due moment and number, where it is due and there is room for the entry, and
 /// leaves exactly the others.
 pub fn a_release_takes_the_least_unit()
-    ensures step { (state : State) → IsInOrder state.queue → ReleasesLeast state (step state release) }
-    ensures after { (caps : Limits) (history : List Entry) → Legal caps history → ReleasesLeast (after (opening caps) history) (step (after (opening caps) history) release) }
+    ensures step { (state : State) → IsInOrder state.queue
+        → ReleasesLeast state (step state release) }
+    ensures after { (caps : Limits) (history : List Entry) → Legal caps history
+        → ReleasesLeast (after (opening caps) history)
+        (step (after (opening caps) history) release) }
 {
     a_server_stays_sound();
 }
@@ -94,38 +123,53 @@ pub fn a_release_takes_the_least_unit()
 /// No unit is lost, and none is released twice: those that waited and those that are queued are, each once, those that
 /// are released and those that wait then. The answers tell their numbers.
 pub fn no_unit_is_lost()
-    ensures step { (state : State) (event : Event) → IsPermutation (state.queue ++ entering state event) (leaving state event ++ (step state event).state.queue) }
-    ensures history { (state : State) (history : List Entry) → IsPermutation (state.queue ++ all_entering state history) (all_leaving state history ++ (after state history).queue) }
-    ensures entering { (state : State) (event : Event) → map (λ unit. unit_of unit) (entering state event) ≡ queued_in (step state event).answer }
-    ensures leaving { (state : State) (event : Event) → map (λ unit. unit_of unit) (leaving state event) ≡ released_in (step state event).answer }
+    ensures step { (state : State) (event : Event)
+        → IsPermutation (state.queue ++ entering state event)
+        (leaving state event ++ (step state event).state.queue) }
+    ensures history { (state : State) (history : List Entry)
+        → IsPermutation (state.queue ++ all_entering state history)
+        (all_leaving state history ++ (after state history).queue) }
+    ensures entering { (state : State) (event : Event)
+        → map (λ unit. unit_of unit) (entering state event) ≡ queued_in (step state event).answer }
+    ensures leaving { (state : State) (event : Event)
+        → map (λ unit. unit_of unit) (leaving state event) ≡ released_in (step state event).answer }
 {}
 
 /// The clock never goes back.
 pub fn the_clock_never_goes_back()
     ensures step { (state : State) (event : Event) → state.clock ≤ (step state event).state.clock }
-    ensures after { (state : State) (history : List Entry) → state.clock ≤ (after state history).clock }
+    ensures after { (state : State) (history : List Entry)
+        → state.clock ≤ (after state history).clock }
 {}
 
 /// An event that is refused changes nothing but that its entry is recorded, and invokes nothing. Where nothing is due and
 /// where there is no room for the entry, all stays.
 pub fn a_refusal_changes_nothing()
-    ensures state { (state : State) (event : Event) → IsRefusal (step state event).answer → (step state event).state ≡ record state { recorded = (step state event).state.recorded } }
-    ensures all { (state : State) (event : Event) → adds_entry (step state event).answer ≡ false → (step state event).state ≡ state }
-    ensures silent { (state : State) (event : Event) → IsRefusal (step state event).answer → (step state event).invocations ≡ [] }
+    ensures state { (state : State) (event : Event) → IsRefusal (step state event).answer
+        → (step state event).state ≡ record state { recorded = (step state event).state.recorded } }
+    ensures all { (state : State) (event : Event) → adds_entry (step state event).answer ≡ false
+        → (step state event).state ≡ state }
+    ensures silent { (state : State) (event : Event) → IsRefusal (step state event).answer
+        → (step state event).invocations ≡ [] }
 {}
 
 /// An id is given once: an added method has the next id, and each later one a greater.
 pub fn an_id_is_given_once()
-    ensures next { (state : State) (event : Event) (id : ℕ) → (step state event).answer ≡ added id → (id ≡ state.next_id) × ((step state event).state.next_id ≡ id + 1) }
-    ensures grows { (state : State) (history : List Entry) → state.next_id ≤ (after state history).next_id }
-    ensures given { (state : State) (history : List Entry) → All (λ method. method.id < state.next_id) state.methods → All (λ method. method.id < (after state history).next_id) (after state history).methods }
+    ensures next { (state : State) (event : Event) (id : ℕ) → (step state event).answer ≡ added id
+        → (id ≡ state.next_id) × ((step state event).state.next_id ≡ id + 1) }
+    ensures grows { (state : State) (history : List Entry)
+        → state.next_id ≤ (after state history).next_id }
+    ensures given { (state : State) (history : List Entry)
+        → All (λ method. method.id < state.next_id) state.methods
+        → All (λ method. method.id < (after state history).next_id) (after state history).methods }
 {}
 
 /// Every invocation, of a step and of a whole history, is of a method that was registered before the release and whose
 /// address the pattern of the message matches; and the message is one of the unit that was released.
 pub fn invocations_are_of_registered_methods()
     ensures step { (state : State) (event : Event) → InvokesRegistered state (step state event) }
-    ensures history { (state : State) (history : List Entry) → AllByRecursion (IsInvokedIn state history) (invocations state history) }
+    ensures history { (state : State) (history : List Entry)
+        → AllByRecursion (IsInvokedIn state history) (invocations state history) }
 {
     trees::the_matching_methods_ascend();
 }
@@ -133,39 +177,60 @@ pub fn invocations_are_of_registered_methods()
 /// A box hears the calls of its id in their order, and keeps the last bytes of them behind what it had heard. So a box
 /// that was reset has then heard the last bytes of these calls.
 pub fn a_box_hears_its_calls()
-    ensures calls { (told : Told) (invocations : List Invocation) → IsWithin told → hear_all invocations told ≡ record told { heard = option_map (λ bytes. last_of told.keep (bytes ++ calls_bytes invocations told.id)) told.heard } }
-    ensures within { (told : Told) (invocations : List Invocation) → IsWithin told → IsWithin (hear_all invocations told) }
-    ensures fresh { (told : Told) (invocations : List Invocation) → hear_all invocations (reset told) ≡ record told { heard = option_map (λ _. heard_of invocations told.id told.keep) told.heard } }
-    ensures on { (told : Told) (first more : List Invocation) → hear_all (first ++ more) told ≡ hear_all more (hear_all first told) }
+    ensures calls { (told : Told) (invocations : List Invocation) → IsWithin told
+        → hear_all invocations told
+        ≡ record told { heard = option_map
+        (λ bytes. last_of told.keep (bytes ++ calls_bytes invocations told.id)) told.heard } }
+    ensures within { (told : Told) (invocations : List Invocation) → IsWithin told
+        → IsWithin (hear_all invocations told) }
+    ensures fresh { (told : Told) (invocations : List Invocation)
+        → hear_all invocations (reset told)
+        ≡ record told { heard = option_map
+        (λ _. heard_of invocations told.id told.keep) told.heard } }
+    ensures on { (told : Told) (first more : List Invocation)
+        → hear_all (first ++ more) told ≡ hear_all more (hear_all first told) }
 {}
 
 /// There is no room for an entry exactly where its bytes are more than the free ones. Then it is refused before all else,
 /// and changes nothing; else the event is answered by the other rules, and the entry's bytes are recorded.
 pub fn a_full_recording_refuses()
-    ensures full { (state : State) (event : Event) → adds_entry (decided state event).answer ≡ true → free_bytes state < entry_size event (decided state event).answer →
+    ensures full { (state : State) (event : Event) → adds_entry (decided state event).answer ≡ true
+        → free_bytes state < entry_size event (decided state event).answer →
         step state event ≡ leaves state (record_full (record { need = entry_size event (decided state event).answer; free = free_bytes state })) }
-    ensures room { (state : State) (event : Event) → adds_entry (decided state event).answer ≡ true → entry_size event (decided state event).answer ≤ free_bytes state →
+    ensures room { (state : State) (event : Event) → adds_entry (decided state event).answer ≡ true
+        → entry_size event (decided state event).answer ≤ free_bytes state →
         step state event ≡ record (decided state event) { state = record (decided state event).state { recorded = state.recorded + entry_size event (decided state event).answer } } }
-    ensures nothing_due { (state : State) (event : Event) → adds_entry (decided state event).answer ≡ false → step state event ≡ decided state event }
+    ensures nothing_due { (state : State) (event : Event)
+        → adds_entry (decided state event).answer ≡ false → step state event ≡ decided state event }
 {}
 
 /// A performance goes on by a caller's event: its history stays legal, its state is the step's, and its invocations are
 /// followed by those of the step.
 pub fn a_performance_goes_on()
-    ensures legal { (performance : Performance) (caller : ℕ) (event : Event) → Legal performance.caps performance.history → caller < (state_of performance).callers → IsLawful event →
+    ensures legal { (performance : Performance) (caller : ℕ) (event : Event)
+        → Legal performance.caps performance.history → caller < (state_of performance).callers
+        → IsLawful event →
         Legal performance.caps (onward performance caller event).history }
-    ensures state { (performance : Performance) (caller : ℕ) (event : Event) → state_of (onward performance caller event) ≡ (stepped_in performance event).state }
-    ensures invoked { (performance : Performance) (caller : ℕ) (event : Event) → invoked_in (onward performance caller event) ≡ invoked_in performance ++ (stepped_in performance event).invocations }
+    ensures state { (performance : Performance) (caller : ℕ) (event : Event)
+        → state_of (onward performance caller event) ≡ (stepped_in performance event).state }
+    ensures invoked { (performance : Performance) (caller : ℕ) (event : Event)
+        → invoked_in (onward performance caller event)
+        ≡ invoked_in performance ++ (stepped_in performance event).invocations }
 {}
 
 /// The entries of a legal history can be recorded, each number within its argument; and as many bytes are recorded as
 /// the recording's text has.
 pub fn a_legal_history_is_recordable()
-    ensures next { (performance : Performance) (caller : ℕ) (event : Event) → Legal performance.caps performance.history → caller < (state_of performance).callers → IsLawful event →
+    ensures next { (performance : Performance) (caller : ℕ) (event : Event)
+        → Legal performance.caps performance.history → caller < (state_of performance).callers
+        → IsLawful event →
         adds_entry (stepped_in performance event).answer ≡ true → IsRecordable caller event (stepped_in performance event).answer }
-    ensures all { (caps : Limits) (history : List Entry) → Legal caps history → AllByRecursion (λ entry. IsRecordable entry.caller entry.event entry.answer) history }
-    ensures recorded { (caps : Limits) (history : List Entry) → Legal caps history → (after (opening caps) history).recorded ≡ length (record_text caps history) }
-    ensures within { (caps : Limits) (history : List Entry) → Legal caps history → length (record_text caps history) ≤ caps.recording }
+    ensures all { (caps : Limits) (history : List Entry) → Legal caps history
+        → AllByRecursion (λ entry. IsRecordable entry.caller entry.event entry.answer) history }
+    ensures recorded { (caps : Limits) (history : List Entry) → Legal caps history
+        → (after (opening caps) history).recorded ≡ length (record_text caps history) }
+    ensures within { (caps : Limits) (history : List Entry) → Legal caps history
+        → length (record_text caps history) ≤ caps.recording }
 {
     addresses::tests_are_exact();
     trees::the_matching_methods_ascend();
@@ -177,13 +242,23 @@ pub fn a_legal_history_is_recordable()
 /// release hear its invocations.
 pub fn boxes_hear_the_history()
     ensures opening { (caps : Limits) → HaveHeard (record { caps = caps; history = [] }) [] }
-    ensures others { (performance : Performance) (caller : ℕ) (event : Event) (boxes : List Told) → HaveHeard performance boxes → (stepped_in performance event).state.methods ≡ (state_of performance).methods →
-        (stepped_in performance event).invocations ≡ [] → HaveHeard (onward performance caller event) boxes }
-    ensures added { (performance : Performance) (caller : ℕ) (address : List ℕ) (told : Told) (boxes : List Told) → Legal performance.caps performance.history → HaveHeard performance boxes →
-        (stepped_in performance (add address)).answer ≡ added told.id → HaveHeard (onward performance caller (add address)) (boxes ++ reset told ∷ []) }
-    ensures removed { (performance : Performance) (caller id : ℕ) (address : List ℕ) (boxes : List Told) → Legal performance.caps performance.history → HaveHeard performance boxes →
-        (stepped_in performance (remove address)).answer ≡ removed id → HaveHeard (onward performance caller (remove address)) (without_id id boxes) }
-    ensures released { (performance : Performance) (caller : ℕ) (boxes : List Told) → HaveHeard performance boxes →
+    ensures others { (performance : Performance) (caller : ℕ) (event : Event) (boxes : List Told)
+        → HaveHeard performance boxes
+        → (stepped_in performance event).state.methods ≡ (state_of performance).methods →
+        (stepped_in performance event).invocations ≡ []
+        → HaveHeard (onward performance caller event) boxes }
+    ensures added { (performance : Performance) (caller : ℕ) (address : List ℕ) (told : Told)
+        (boxes : List Told) → Legal performance.caps performance.history
+        → HaveHeard performance boxes →
+        (stepped_in performance (add address)).answer ≡ added told.id
+        → HaveHeard (onward performance caller (add address)) (boxes ++ reset told ∷ []) }
+    ensures removed { (performance : Performance) (caller id : ℕ) (address : List ℕ)
+        (boxes : List Told) → Legal performance.caps performance.history
+        → HaveHeard performance boxes →
+        (stepped_in performance (remove address)).answer ≡ removed id
+        → HaveHeard (onward performance caller (remove address)) (without_id id boxes) }
+    ensures released { (performance : Performance) (caller : ℕ) (boxes : List Told)
+        → HaveHeard performance boxes →
         HaveHeard (onward performance caller release) (all_hear (stepped_in performance release).invocations boxes) }
 {
     a_server_stays_sound();
@@ -192,8 +267,11 @@ pub fn boxes_hear_the_history()
 
 /// No invocation of an id stands before its method was added, nor after it was removed.
 pub fn a_method_is_called_while_it_is_registered()
-    ensures given { (caps : Limits) (history : List Entry) → Legal caps history → All (λ invocation. invocation.call.id < (after (opening caps) history).next_id) (invocations (opening caps) history) }
-    ensures removed { (caps : Limits) (before later : List Entry) (entry : Entry) (id : ℕ) → Legal caps (before ++ entry ∷ later) → entry.answer ≡ removed id →
+    ensures given { (caps : Limits) (history : List Entry) → Legal caps history
+        → All (λ invocation. invocation.call.id < (after (opening caps) history).next_id)
+        (invocations (opening caps) history) }
+    ensures removed { (caps : Limits) (before later : List Entry) (entry : Entry) (id : ℕ)
+        → Legal caps (before ++ entry ∷ later) → entry.answer ≡ removed id →
         All (λ invocation. invocation.call.id ≢ id) (invocations (after (opening caps) (before ++ entry ∷ [])) later) }
 {
     a_server_stays_sound();
@@ -203,21 +281,47 @@ pub fn a_method_is_called_while_it_is_registered()
 
 /// As many callers are enrolled as the history says, and no entry makes them fewer. A new caller has the last number.
 pub fn callers_are_counted()
-    ensures after { (caps : Limits) (history : List Entry) → Legal caps history → (after (opening caps) history).callers ≡ callers_in history }
-    ensures grows { (history more : List Entry) → callers_in history ≤ callers_in (history ++ more) }
+    ensures after { (caps : Limits) (history : List Entry) → Legal caps history
+        → (after (opening caps) history).callers ≡ callers_in history }
+    ensures grows { (history more : List Entry)
+        → callers_in history ≤ callers_in (history ++ more) }
     ensures never_fall { (state : State) (history : List Entry) →
         state.callers ≤ (after state history).callers }
-    ensures enrolled { (caps : Limits) (history : List Entry) (caller n : ℕ) → Legal caps (history ++ record { caller = caller; event = enrol; answer = number n } ∷ []) →
-        (1 ≤ n) × (callers_in (history ++ record { caller = caller; event = enrol; answer = number n } ∷ []) ≡ n + 1) }
+    ensures enrolled { (caps : Limits) (history : List Entry) (caller n : ℕ)
+        → Legal caps
+        (history ++ record { caller = caller; event = enrol; answer = number n } ∷ []) →
+        (1 ≤ n) × (callers_in
+        (history ++ record { caller = caller; event = enrol; answer = number n } ∷ []) ≡ n + 1) }
 {}
 
 /// The clock never goes back, and stands where a tick before it left it; callers are numbered up to their limit; a message
 /// alone is queued where there is a place for it and blocks for its bytes, of which 64 take two.
 pub fn examples()
-    ensures early { (step (opening (record { units = 1; blocks = 1; methods = 1; nodes = 1; callers = 1; recording = 200 })) (tick 0)).answer ≡ clock_back 1 }
-    ensures on { (step (opening (record { units = 1; blocks = 1; methods = 1; nodes = 1; callers = 1; recording = 200 })) (tick 5)).answer ≡ ticked }
-    ensures full { (step (opening (record { units = 1; blocks = 1; methods = 1; nodes = 1; callers = 1; recording = 200 })) enrol).answer ≡ callers_full }
-    ensures no_place { (step (step (opening (record { units = 1; blocks = 1; methods = 1; nodes = 1; callers = 1; recording = 200 })) (submit (codes "/a" ++ 0 ∷ 0 ∷ []))).state (submit (codes "/a" ++ 0 ∷ 0 ∷ []))).answer ≡ units_full (record { need = 1; free = 0 }) }
-    ensures no_block { (step (opening (record { units = 1; blocks = 1; methods = 1; nodes = 1; callers = 1; recording = 200 })) (submit (codes "/a" ++ 0 ∷ 0 ∷ codes ",b" ++ 0 ∷ 0 ∷ 0 ∷ 0 ∷ 0 ∷ 52 ∷ replicate 52 0))).answer ≡ pool_full (record { need = 2; free = 1 }) }
-    ensures second { (step (opening (record { units = 1; blocks = 1; methods = 1; nodes = 1; callers = 2; recording = 200 })) enrol).answer ≡ number 1 }
+    ensures early {
+        (step (opening
+        (record { units = 1; blocks = 1; methods = 1; nodes = 1; callers = 1; recording = 200 }))
+        (tick 0)).answer ≡ clock_back 1 }
+    ensures on {
+        (step (opening
+        (record { units = 1; blocks = 1; methods = 1; nodes = 1; callers = 1; recording = 200 }))
+        (tick 5)).answer ≡ ticked }
+    ensures full {
+        (step (opening
+        (record { units = 1; blocks = 1; methods = 1; nodes = 1; callers = 1; recording = 200 }))
+        enrol).answer ≡ callers_full }
+    ensures no_place {
+        (step (step (opening
+        (record { units = 1; blocks = 1; methods = 1; nodes = 1; callers = 1; recording = 200 }))
+        (submit (codes "/a" ++ 0 ∷ 0 ∷ []))).state (submit (codes "/a" ++ 0 ∷ 0 ∷ []))).answer
+        ≡ units_full (record { need = 1; free = 0 }) }
+    ensures no_block {
+        (step (opening
+        (record { units = 1; blocks = 1; methods = 1; nodes = 1; callers = 1; recording = 200 }))
+        (submit (codes "/a" ++ 0 ∷ 0 ∷ codes ",b"
+        ++ 0 ∷ 0 ∷ 0 ∷ 0 ∷ 0 ∷ 52 ∷ replicate 52 0))).answer
+        ≡ pool_full (record { need = 2; free = 1 }) }
+    ensures second {
+        (step (opening
+        (record { units = 1; blocks = 1; methods = 1; nodes = 1; callers = 2; recording = 200 }))
+        enrol).answer ≡ number 1 }
 {}

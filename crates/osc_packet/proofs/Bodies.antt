@@ -34,26 +34,32 @@ pub record Silent (fault_of : ℕ → List ℕ → Option Fault) (at : ℕ) (byt
 
 pub silent_step : (f : ℕ → List ℕ → Option Fault) (at : ℕ) (bytes : List ℕ) → 0 < length bytes → body_fault f at bytes ≡ None → Silent f at bytes
 silent_step f at bytes some silent = go (begins_with_size bytes) refl (sym (body_step f at bytes some) ∙ silent) where
-  go : (test : Bool) → begins_with_size bytes ≡ test → cond test (option_or (f (at + 4) (first_element bytes)) (body_fault f (at + 4 + first_size bytes) (after_first bytes))) (Some (element_size at)) ≡ None → Silent f at bytes
+  go : (test : Bool) → begins_with_size bytes ≡ test
+      → cond test (option_or (f (at + 4) (first_element bytes)) (body_fault f (at + 4 + first_size bytes) (after_first bytes))) (Some (element_size at)) ≡ None
+      → Silent f at bytes
   go false is e = absurd (some_none e)
   go true is e =
       let both = both_none (f (at + 4) (first_element bytes)) (body_fault f (at + 4 + first_size bytes) (after_first bytes)) e in
       record { test = is; size = is_size (first_size bytes) (length bytes - 4) is; one = both.0; rest = both.1 }
 
-weaker_by : (f g : ℕ → List ℕ → Option Fault) → ((at to : ℕ) (bytes : List ℕ) → f at bytes ≡ None → g to bytes ≡ None) → (bound at to : ℕ) (bytes : List ℕ) → length bytes ≤ bound → body_fault f at bytes ≡ None → body_fault g to bytes ≡ None
+weaker_by : (f g : ℕ → List ℕ → Option Fault) → ((at to : ℕ) (bytes : List ℕ) → f at bytes ≡ None → g to bytes ≡ None) → (bound at to : ℕ) (bytes : List ℕ)
+    → length bytes ≤ bound → body_fault f at bytes ≡ None → body_fault g to bytes ≡ None
 weaker_by f g each zero at to bytes few silent = body_end g to bytes (omega arith)
 weaker_by f g each (suc bound) at to bytes few silent = elim (cases_lt 0 (length bytes)) [
   | inr none ↦ body_end g to bytes (omega arith)
   | inl some ↦
       let step = silent_step f at bytes some silent in
-      let rest = weaker_by f g each bound (at + 4 + first_size bytes) (to + 4 + first_size bytes) (after_first bytes) (omega (arith, length-drop (first_size bytes) (drop 4 bytes), length-drop 4 bytes)) step.rest in
+      let rest = weaker_by f g each bound (at + 4 + first_size bytes) (to + 4 + first_size bytes) (after_first bytes)
+      (omega (arith, length-drop (first_size bytes) (drop 4 bytes), length-drop 4 bytes)) step.rest in
       body_step g to bytes some ∙ cond-true _ _ _ step.test
-      ∙ ap (λ (o : Option Fault). option_or o (body_fault g (to + 4 + first_size bytes) (after_first bytes))) (each (at + 4) (to + 4) (first_element bytes) step.one)
+      ∙ ap (λ (o : Option Fault). option_or o (body_fault g (to + 4 + first_size bytes) (after_first bytes)))
+      (each (at + 4) (to + 4) (first_element bytes) step.one)
       ∙ rest
 ]
 
 -- where one reading has no fault, another has none
-pub weaker : (f g : ℕ → List ℕ → Option Fault) → ((at to : ℕ) (bytes : List ℕ) → f at bytes ≡ None → g to bytes ≡ None) → (at to : ℕ) (bytes : List ℕ) → body_fault f at bytes ≡ None → body_fault g to bytes ≡ None
+pub weaker : (f g : ℕ → List ℕ → Option Fault) → ((at to : ℕ) (bytes : List ℕ) → f at bytes ≡ None → g to bytes ≡ None) → (at to : ℕ) (bytes : List ℕ)
+    → body_fault f at bytes ≡ None → body_fault g to bytes ≡ None
 weaker f g each at to bytes silent = weaker_by f g each (length bytes) at to bytes (omega arith) silent
 
 pub message_anywhere : (at to : ℕ) (bytes : List ℕ) → message_fault_at at bytes ≡ None → message_fault_at to bytes ≡ None
@@ -69,7 +75,8 @@ own_anywhere at to bytes = go (is_bundle bytes) where
   go false e = message_anywhere at to bytes e
 
 -- the messages among elements, by the first element
-pub messages_step : (bytes : List ℕ) → 0 < length bytes → messages_in bytes ≡ cond (not (is_bundle (first_element bytes))) (first_element bytes ∷ messages_in (after_first bytes)) (messages_in (after_first bytes))
+pub messages_step : (bytes : List ℕ) → 0 < length bytes
+    → messages_in bytes ≡ cond (not (is_bundle (first_element bytes))) (first_element bytes ∷ messages_in (after_first bytes)) (messages_in (after_first bytes))
 messages_step bytes some = ap (filter (λ (element : List ℕ). not (is_bundle element))) (in_step bytes some)
 
 pub messages_end : (bytes : List ℕ) → length bytes ≡ 0 → messages_in bytes ≡ []
@@ -79,7 +86,8 @@ not_bundle : (bytes : List ℕ) → is_bundle bytes ≡ false → own_fault 4 by
 not_bundle bytes is fine = message_anywhere 4 0 bytes (sym (cond-false _ _ _ is) ∙ fine)
 
 -- a first element that is a message
-pub first_message : (bytes element rest : List ℕ) (size : ℕ) → 0 < length bytes → body_fault own_fault 0 bytes ≡ None → size ≡ first_size bytes → element ≡ take size (drop 4 bytes) → rest ≡ drop size (drop 4 bytes) → is_bundle element ≡ false → SplitsElements bytes element rest
+pub first_message : (bytes element rest : List ℕ) (size : ℕ) → 0 < length bytes → body_fault own_fault 0 bytes ≡ None → size ≡ first_size bytes
+    → element ≡ take size (drop 4 bytes) → rest ≡ drop size (drop 4 bytes) → is_bundle element ≡ false → SplitsElements bytes element rest
 first_message bytes element rest size some silent is_size is_element is_rest test =
     let step = silent_step own_fault 0 bytes some silent in
     let first : element ≡ first_element bytes = is_element ∙ ap (λ (n : ℕ). take n (drop 4 bytes)) is_size in
@@ -94,7 +102,9 @@ first_message bytes element rest size some silent is_size is_element is_rest tes
     }
 
 -- a first element that is a bundle
-pub skipped : (bytes element rest : List ℕ) (size : ℕ) → 0 < length bytes → body_fault own_fault 0 bytes ≡ None → size ≡ first_size bytes → element ≡ take size (drop 4 bytes) → rest ≡ drop size (drop 4 bytes) → is_bundle element ≡ true → (messages_in bytes ≡ messages_in rest) × (body_fault own_fault 0 rest ≡ None)
+pub skipped : (bytes element rest : List ℕ) (size : ℕ) → 0 < length bytes → body_fault own_fault 0 bytes ≡ None → size ≡ first_size bytes
+    → element ≡ take size (drop 4 bytes) → rest ≡ drop size (drop 4 bytes) → is_bundle element ≡ true
+    → (messages_in bytes ≡ messages_in rest) × (body_fault own_fault 0 rest ≡ None)
 skipped bytes element rest size some silent is_size is_element is_rest test =
     let step = silent_step own_fault 0 bytes some silent in
     let first : element ≡ first_element bytes = is_element ∙ ap (λ (n : ℕ). take n (drop 4 bytes)) is_size in
@@ -120,13 +130,17 @@ stored_within (suc bound) bytes few silent = elim (cases_lt 0 (length bytes)) [
   | inr none ↦ rw (messages_end bytes (omega arith)) (omega arith)
   | inl some ↦
       let step = silent_step own_fault 0 bytes some silent in
-      let size : length (first_element bytes) ≡ first_size bytes = length-take-le (first_size bytes) (drop 4 bytes) (omega (arith, length-drop 4 bytes, step.size.inside)) in
-      let others : length (after_first bytes) ≡ length bytes - 4 - first_size bytes = length-drop (first_size bytes) (drop 4 bytes) ∙ ap (λ (n : ℕ). n - first_size bytes) (length-drop 4 bytes) in
-      let rest = stored_within bound (after_first bytes) (omega (arith, step.size.positive)) (weaker own_fault own_fault own_anywhere (0 + 4 + first_size bytes) 0 (after_first bytes) step.rest) in
+      let size : length (first_element bytes) ≡ first_size bytes =
+      length-take-le (first_size bytes) (drop 4 bytes) (omega (arith, length-drop 4 bytes, step.size.inside)) in
+      let others : length (after_first bytes) ≡ length bytes - 4 - first_size bytes =
+      length-drop (first_size bytes) (drop 4 bytes) ∙ ap (λ (n : ℕ). n - first_size bytes) (length-drop 4 bytes) in
+      let rest = stored_within bound (after_first bytes) (omega (arith, step.size.positive))
+      (weaker own_fault own_fault own_anywhere (0 + 4 + first_size bytes) 0 (after_first bytes) step.rest) in
       rw (messages_step bytes some) (go bytes (not (is_bundle (first_element bytes))) size others step.size.inside step.size.positive rest)
 ]
   where
-    go : (bytes : List ℕ) (test : Bool) → length (first_element bytes) ≡ first_size bytes → length (after_first bytes) ≡ length bytes - 4 - first_size bytes → first_size bytes ≤ length bytes - 4 → 4 ≤ first_size bytes → stored_size (messages_in (after_first bytes)) ≤ length (after_first bytes)
+    go : (bytes : List ℕ) (test : Bool) → length (first_element bytes) ≡ first_size bytes → length (after_first bytes) ≡ length bytes - 4 - first_size bytes
+        → first_size bytes ≤ length bytes - 4 → 4 ≤ first_size bytes → stored_size (messages_in (after_first bytes)) ≤ length (after_first bytes)
         → stored_size (cond test (first_element bytes ∷ messages_in (after_first bytes)) (messages_in (after_first bytes))) ≤ length bytes
     go bytes true size others inside positive rest = omega arith
     go bytes false size others inside positive rest = omega arith

@@ -24,11 +24,13 @@ some_is a b e = cc
 some_none : (a : Want) → ◌≡◌ {A = Option Want} (Some a) None → ⊥
 some_none a e = cc
 
-past : {bytes : List ℕ} {most : ℕ} {want next last : Want} → Onward bytes most want last → next_of bytes want ≡ Some next → (want ≡ last) ⊎ Onward bytes most next last
+past : {bytes : List ℕ} {most : ℕ} {want next last : Want} → Onward bytes most want last → next_of bytes want ≡ Some next
+    → (want ≡ last) ⊎ Onward bytes most next last
 past here n = inl refl
 past {bytes} {most} {want} {next} {last} (on {next = other} s m rest) n = inr (subst (λ w. Onward bytes most w last) (some_is other next (sym m ∙ n)) rest)
 
-compared : {bytes : List ℕ} {most : ℕ} {want other : Want} → Reaches bytes most want → Onward bytes most some_byte other → Onward bytes most want other ⊎ Onward bytes most other want
+compared : {bytes : List ℕ} {most : ℕ} {want other : Want} → Reaches bytes most want → Onward bytes most some_byte other
+    → Onward bytes most want other ⊎ Onward bytes most other want
 compared first onward = inl onward
 compared {bytes} {most} {want} {other} (later {want = before} reached stands next) onward = elim (compared reached onward) [
   | inl to ↦ elim (past to next) [

@@ -26,39 +26,55 @@ pub record Sound (bytes : List ℕ) : Type 0 where
 
 pub sound : (bytes : List ℕ) → packet_fault 65504 bytes ≡ None → Sound bytes
 sound bytes = go (length bytes == 0) (nat_lt 65504 (length bytes)) (length bytes % 4 == 0) refl refl where
-  go : (a b c : Bool) → (length bytes == 0) ≡ a → nat_lt 65504 (length bytes) ≡ b → cond a (Some empty) (cond b (Some (too_long 65504)) (cond c (element_fault 16 None 0 bytes) (Some (not_four (length bytes))))) ≡ None → Sound bytes
+  go : (a b c : Bool) → (length bytes == 0) ≡ a → nat_lt 65504 (length bytes) ≡ b
+      → cond a (Some empty) (cond b (Some (too_long 65504)) (cond c (element_fault 16 None 0 bytes) (Some (not_four (length bytes))))) ≡ None → Sound bytes
   go true b c is_a is_b e = absurd (some_none e)
   go false true c is_a is_b e = absurd (some_none e)
   go false false false is_a is_b e = absurd (some_none e)
   go false false true is_a is_b e = record { some = some_left (length bytes) is_a; short = ltb-false 65504 (length bytes) is_b; silent = e }
 
 abbrev BundleFew : ℕ → Type 0
-BundleFew left = (outer : Option ℕ) (at : ℕ) (bytes : List ℕ) → element_fault left outer at bytes ≡ None → is_bundle bytes ≡ true → length (bundle_read left outer bytes) ≤ length bytes
+BundleFew left = (outer : Option ℕ) (at : ℕ) (bytes : List ℕ) → element_fault left outer at bytes ≡ None → is_bundle bytes ≡ true
+    → length (bundle_read left outer bytes) ≤ length bytes
 
-one_few : (f : List ℕ → List Timed) (test : Bool) (x : List ℕ) → (test ≡ true → length (f x) ≤ length x) → length (flat_map f (cond test (x ∷ []) [])) ≤ length x
+one_few : (f : List ℕ → List Timed) (test : Bool) (x : List ℕ) → (test ≡ true → length (f x) ≤ length x)
+    → length (flat_map f (cond test (x ∷ []) [])) ≤ length x
 one_few f true x few = omega (arith, few refl, length-append (f x) [])
 one_few f false x few = omega arith
 
-enclosed_few : (left : ℕ) → BundleFew left → (bound effective at : ℕ) (bytes : List ℕ) → length bytes ≤ bound → body_fault (element_fault left (Some effective)) at bytes ≡ None → length (enclosed_read left effective bytes) ≤ length bytes
+enclosed_few : (left : ℕ) → BundleFew left → (bound effective at : ℕ) (bytes : List ℕ) → length bytes ≤ bound
+    → body_fault (element_fault left (Some effective)) at bytes ≡ None → length (enclosed_read left effective bytes) ≤ length bytes
 enclosed_few left each zero effective at bytes few silent = rw (enclosed_end left effective bytes (omega arith)) (omega arith)
 enclosed_few left each (suc bound) effective at bytes few silent = elim (cases_lt 0 (length bytes)) [
   | inr none ↦ rw (enclosed_end left effective bytes (omega arith)) (omega arith)
   | inl some ↦
       let f : List ℕ → List Timed = bundle_read left (Some effective) in
       let step = silent_step (element_fault left (Some effective)) at bytes some silent in
-      let size : length (first_element bytes) ≡ first_size bytes = length-take-le (first_size bytes) (drop 4 bytes) (omega (arith, length-drop 4 bytes, step.size.inside)) in
-      let others : length (after_first bytes) ≡ length bytes - 4 - first_size bytes = length-drop (first_size bytes) (drop 4 bytes) ∙ ap (λ (n : ℕ). n - first_size bytes) (length-drop 4 bytes) in
+      let size : length (first_element bytes) ≡ first_size bytes =
+      length-take-le (first_size bytes) (drop 4 bytes) (omega (arith, length-drop 4 bytes, step.size.inside)) in
+      let others : length (after_first bytes) ≡ length bytes - 4 - first_size bytes =
+      length-drop (first_size bytes) (drop 4 bytes) ∙ ap (λ (n : ℕ). n - first_size bytes) (length-drop 4 bytes) in
       let rest = enclosed_few left each bound effective (at + 4 + first_size bytes) (after_first bytes) (omega (arith, step.size.positive)) step.rest in
       let one = one_few f (is_bundle (first_element bytes)) (first_element bytes) (each (Some effective) (at + 4) (first_element bytes) step.one) in
-      let split : enclosed_read left effective bytes ≡ flat_map f (cond (is_bundle (first_element bytes)) (first_element bytes ∷ []) []) ++ enclosed_read left effective (after_first bytes) =
-      enclosed_step left effective bytes some ∙ one_first f (is_bundle (first_element bytes)) (first_element bytes) (filter is_bundle (elements_in (after_first bytes))) in
-      omega (arith, ap length split, length-append (flat_map f (cond (is_bundle (first_element bytes)) (first_element bytes ∷ []) [])) (enclosed_read left effective (after_first bytes)), step.size.inside, step.size.positive)
+      let split : enclosed_read left effective bytes ≡ flat_map f (cond (is_bundle (first_element bytes)) (first_element bytes ∷ []) [])
+      ++ enclosed_read left effective (after_first bytes) =
+      enclosed_step left effective bytes some
+      ∙ one_first f (is_bundle (first_element bytes)) (first_element bytes) (filter is_bundle (elements_in (after_first bytes))) in
+      omega (
+        arith,
+        ap length split,
+        length-append (flat_map f (cond (is_bundle (first_element bytes)) (first_element bytes ∷ []) []))
+            (enclosed_read left effective (after_first bytes)),
+        step.size.inside,
+        step.size.positive,
+      )
 ]
 
 few_by : (left : ℕ) → (0 < left → BundleFew (left - 1)) → BundleFew left
 few_by left each outer at bytes silent hash =
     let open_ = opened left outer at bytes silent hash in
-    let inner = enclosed_few (left - 1) (each open_.room) (length (drop 16 bytes)) (effective_tag outer (bundle_tag bytes)) (at + 16) (drop 16 bytes) (omega arith) open_.silent in
+    let inner = enclosed_few (left - 1) (each open_.room) (length (drop 16 bytes)) (effective_tag outer (bundle_tag bytes)) (at + 16) (drop 16 bytes)
+    (omega arith) open_.silent in
     omega (arith, ap length (bundle_step left outer bytes open_.room), length-drop 16 bytes, open_.long)
 
 bundle_few : (left : ℕ) → BundleFew left

@@ -41,51 +41,67 @@ both_none None s e = (refl, e)
 both_none (Some f) s e = absurd (some_none e)
 
 -- an element and those after it
-one_more : (left effective : ℕ) (bytes : List ℕ) → AreBytes bytes → IsSize (first_size bytes) (length bytes - 4) → PacketIn left (Some effective) (first_element bytes) → ElementsIn left effective (after_first bytes) → ElementsIn left effective bytes
+one_more : (left effective : ℕ) (bytes : List ℕ) → AreBytes bytes → IsSize (first_size bytes) (length bytes - 4)
+    → PacketIn left (Some effective) (first_element bytes) → ElementsIn left effective (after_first bytes) → ElementsIn left effective bytes
 one_more left effective bytes small size one rest =
-    let long : length (first_element bytes) ≡ first_size bytes = length-take-le (first_size bytes) (drop 4 bytes) (omega (arith, length-drop 4 bytes, size.inside)) in
+    let long : length (first_element bytes) ≡ first_size bytes =
+    length-take-le (first_size bytes) (drop 4 bytes) (omega (arith, length-drop 4 bytes, size.inside)) in
     let text_size : length (packet_text one.packet) ≡ first_size bytes = ap length (sym one.spelled) ∙ long in
-    let size_same : take 4 bytes ≡ word (length (packet_text one.packet)) = sym (size_written bytes small (omega (arith, size.inside, size.positive))) ∙ ap word (sym text_size) in
+    let size_same : take 4 bytes ≡ word (length (packet_text one.packet)) =
+    sym (size_written bytes small (omega (arith, size.inside, size.positive))) ∙ ap word (sym text_size) in
     record {
       elements = more one.packet rest.elements;
       spelled =
           sym (take-append-drop 4 bytes)
           ∙ ap (λ (l : List ℕ). l ++ drop 4 bytes) size_same
           ∙ ap (λ (l : List ℕ). word (length (packet_text one.packet)) ++ l)
-          (sym (take-append-drop (first_size bytes) (drop 4 bytes)) ∙ ap (λ (l : List ℕ). l ++ after_first bytes) one.spelled ∙ ap (λ (l : List ℕ). packet_text one.packet ++ l) rest.spelled);
+          (sym (take-append-drop (first_size bytes) (drop 4 bytes)) ∙ ap (λ (l : List ℕ). l ++ after_first bytes) one.spelled
+          ∙ ap (λ (l : List ℕ). packet_text one.packet ++ l) rest.spelled);
       shallow = omega (arith, one.shallow, rest.shallow);
       lawful = (one.lawful, rest.lawful);
     }
 
-first_found : (left : ℕ) → ElementFound left → (effective at : ℕ) (bytes : List ℕ) → AreBytes bytes → joined (element_fault left (Some effective)) at bytes (body_fault (element_fault left (Some effective)) (at + 4 + first_size bytes) (after_first bytes)) ≡ None
-    → (body_fault (element_fault left (Some effective)) (at + 4 + first_size bytes) (after_first bytes) ≡ None → ElementsIn left effective (after_first bytes)) → ElementsIn left effective bytes
+first_found : (left : ℕ) → ElementFound left → (effective at : ℕ) (bytes : List ℕ) → AreBytes bytes
+    → joined (element_fault left (Some effective)) at bytes (body_fault (element_fault left (Some effective)) (at + 4 + first_size bytes) (after_first bytes))
+    ≡ None
+    → (body_fault (element_fault left (Some effective)) (at + 4 + first_size bytes) (after_first bytes) ≡ None → ElementsIn left effective (after_first bytes))
+    → ElementsIn left effective bytes
 first_found left found effective at bytes small silent rest = go (begins_with_size bytes) refl silent where
-  go : (test : Bool) → begins_with_size bytes ≡ test → cond test (option_or (element_fault left (Some effective) (at + 4) (first_element bytes)) (body_fault (element_fault left (Some effective)) (at + 4 + first_size bytes) (after_first bytes))) (Some (element_size at)) ≡ None → ElementsIn left effective bytes
+  go : (test : Bool) → begins_with_size bytes ≡ test
+      → cond test (option_or (element_fault left (Some effective) (at + 4) (first_element bytes))
+      (body_fault (element_fault left (Some effective)) (at + 4 + first_size bytes) (after_first bytes))) (Some (element_size at)) ≡ None
+      → ElementsIn left effective bytes
   go false is e = absurd (some_none e)
   go true is e =
-      let both = both_none (element_fault left (Some effective) (at + 4) (first_element bytes)) (body_fault (element_fault left (Some effective)) (at + 4 + first_size bytes) (after_first bytes)) e in
+      let both = both_none (element_fault left (Some effective) (at + 4) (first_element bytes))
+      (body_fault (element_fault left (Some effective)) (at + 4 + first_size bytes) (after_first bytes)) e in
       one_more left effective bytes small (is_size (first_size bytes) (length bytes - 4) is)
       (found (Some effective) (at + 4) (first_element bytes) (front_bytes (first_size bytes) (drop 4 bytes) (rest_bytes 4 bytes small)) both.0)
       (rest both.1)
 
-elements_found : (left : ℕ) → ElementFound left → (bound effective at : ℕ) (bytes : List ℕ) → AreBytes bytes → length bytes ≤ bound → body_fault (element_fault left (Some effective)) at bytes ≡ None → ElementsIn left effective bytes
+elements_found : (left : ℕ) → ElementFound left → (bound effective at : ℕ) (bytes : List ℕ) → AreBytes bytes → length bytes ≤ bound
+    → body_fault (element_fault left (Some effective)) at bytes ≡ None → ElementsIn left effective bytes
 elements_found left found zero effective at bytes small few silent =
     record { elements = none; spelled = nil_from_length bytes (omega arith); shallow = omega arith; lawful = tt }
 elements_found left found (suc bound) effective at bytes small few silent = elim (cases_lt 0 (length bytes)) [
   | inr empty ↦ record { elements = none; spelled = nil_from_length bytes (omega arith); shallow = omega arith; lawful = tt }
   | inl some ↦ first_found left found effective at bytes small (sym (body_step (element_fault left (Some effective)) at bytes some) ∙ silent)
-      (elements_found left found bound effective (at + 4 + first_size bytes) (after_first bytes) (rest_bytes (first_size bytes) (drop 4 bytes) (rest_bytes 4 bytes small)) (omega (arith, length-drop (first_size bytes) (drop 4 bytes), length-drop 4 bytes)))
+      (elements_found left found bound effective (at + 4 + first_size bytes) (after_first bytes)
+      (rest_bytes (first_size bytes) (drop 4 bytes) (rest_bytes 4 bytes small))
+      (omega (arith, length-drop (first_size bytes) (drop 4 bytes), length-drop 4 bytes)))
 ]
 
 -- a bundle, by its head and its elements
-bundle_found : (left : ℕ) (outer : Option ℕ) (bytes : List ℕ) (effective : ℕ) → AreBytes bytes → Head left outer bytes effective → ElementsIn (left - 1) effective (drop 16 bytes) → PacketIn left outer bytes
+bundle_found : (left : ℕ) (outer : Option ℕ) (bytes : List ℕ) (effective : ℕ) → AreBytes bytes → Head left outer bytes effective
+    → ElementsIn (left - 1) effective (drop 16 bytes) → PacketIn left outer bytes
 bundle_found left outer bytes effective small head inner = record {
   packet = bundle (bundle_tag bytes) inner.elements;
   spelled =
       sym (take-append-drop 8 bytes)
       ∙ ap (λ (l : List ℕ). l ++ drop 8 bytes) head.named
       ∙ ap (λ (l : List ℕ). bundle_word ++ l)
-      (sym (take-append-drop 8 (drop 8 bytes)) ∙ ap (λ (l : List ℕ). l ++ drop 8 (drop 8 bytes)) (sym (tag_written bytes small head.long)) ∙ ap (λ (l : List ℕ). tag (bundle_tag bytes) ++ l) (drop-drop 8 8 bytes ∙ inner.spelled));
+      (sym (take-append-drop 8 (drop 8 bytes)) ∙ ap (λ (l : List ℕ). l ++ drop 8 (drop 8 bytes)) (sym (tag_written bytes small head.long))
+      ∙ ap (λ (l : List ℕ). tag (bundle_tag bytes) ++ l) (drop-drop 8 8 bytes ∙ inner.spelled));
   shallow = omega (arith, inner.shallow, head.room);
   lawful = (tag_fits bytes small, head.time, subst (λ (n : ℕ). AreLawfulIn n inner.elements) head.is inner.lawful);
 }
@@ -105,9 +121,12 @@ found_by known left found outer at bytes small silent =
     in_head (Err fault) is e = absurd (some_none e)
     in_head (Ok effective) is e =
         let head = head_ok left outer at bytes effective is in
-        bundle_found left outer bytes effective small head (elements_found (left - 1) (found head.room) (length (drop 16 bytes)) effective (at + 16) (drop 16 bytes) (rest_bytes 16 bytes small) (omega arith) e)
+        bundle_found left outer bytes effective small head
+        (elements_found (left - 1) (found head.room) (length (drop 16 bytes)) effective (at + 16) (drop 16 bytes) (rest_bytes 16 bytes small)
+        (omega arith) e)
 
-    go : (s h : Bool) → (slice_index bytes 0 == 47) ≡ s → (slice_index bytes 0 == 35) ≡ h → cond s (message_fault_at at bytes) (cond h (fault_or (head_read left outer at bytes) inner) (Some (start at))) ≡ None → PacketIn left outer bytes
+    go : (s h : Bool) → (slice_index bytes 0 == 47) ≡ s → (slice_index bytes 0 == 35) ≡ h
+        → cond s (message_fault_at at bytes) (cond h (fault_or (head_read left outer at bytes) inner) (Some (start at))) ≡ None → PacketIn left outer bytes
     go true h is_s is_h e =
         let read = known.read (length bytes) bytes small (none_of at (message_fault (length bytes) bytes) e) in
         record { packet = message read.form; spelled = read.spelled; shallow = omega arith; lawful = read.lawful }
@@ -121,7 +140,9 @@ element_found known (suc left) = found_by known (suc left) (λ room. subst Eleme
 -- a packet that is read without a fault is a valid one
 pub packet_found : OfMessages → (most : ℕ) (bytes : List ℕ) → AreBytes bytes → packet_fault most bytes ≡ None → IsPacket most bytes
 packet_found known most bytes small = go (length bytes == 0) (nat_lt most (length bytes)) (length bytes % 4 == 0) refl where
-  go : (a b c : Bool) → nat_lt most (length bytes) ≡ b → cond a (Some empty) (cond b (Some (too_long most)) (cond c (element_fault 16 None 0 bytes) (Some (not_four (length bytes))))) ≡ None → IsPacket most bytes
+  go : (a b c : Bool) → nat_lt most (length bytes) ≡ b
+      → cond a (Some empty) (cond b (Some (too_long most)) (cond c (element_fault 16 None 0 bytes) (Some (not_four (length bytes))))) ≡ None
+      → IsPacket most bytes
   go true b c is e = absurd (some_none e)
   go false true c is e = absurd (some_none e)
   go false false false is e = absurd (some_none e)

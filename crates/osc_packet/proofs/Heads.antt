@@ -28,7 +28,9 @@ word_there own is =
     ap (take 8) parts
 
 pub word_again : (own : List ℕ) → take 8 own ≡ bundle_word → starts_with ◌==◌ own bundle_word ≡ true
-word_again own is = (starts_is Decides-eqb own bundle_word (starts_with ◌==◌ own bundle_word) refl).1 (drop 8 own) (sym (take-append-drop 8 own) ∙ ap (λ (l : List ℕ). l ++ drop 8 own) is)
+word_again own is =
+    (starts_is Decides-eqb own bundle_word (starts_with ◌==◌ own bundle_word) refl).1 (drop 8 own)
+    (sym (take-append-drop 8 own) ∙ ap (λ (l : List ℕ). l ++ drop 8 own) is)
 
 pub in_time_is : (outer : Option ℕ) (own : ℕ) → is_early outer own ≡ false → IsInTime outer own
 in_time_is None own is = tt
@@ -64,21 +66,26 @@ err_ok e = cc
 ok_is : {m n : ℕ} → ◌≡◌ {A = Result ℕ Fault} (Ok m) (Ok n) → m ≡ n
 ok_is e = cc
 
-pub head_ok : (left : ℕ) (outer : Option ℕ) (at : ℕ) (bytes : List ℕ) (effective : ℕ) → head_read left outer at bytes ≡ Ok effective → Head left outer bytes effective
-head_ok left outer at bytes effective = go (not (starts_with ◌==◌ bytes bundle_word)) (nat_lt (length bytes) 16) (left == 0) (is_early outer (bundle_tag bytes)) refl refl refl refl where
-  go : (a b c d : Bool) → not (starts_with ◌==◌ bytes bundle_word) ≡ a → nat_lt (length bytes) 16 ≡ b → (left == 0) ≡ c → is_early outer (bundle_tag bytes) ≡ d
-      → cond a (Err (no_bundle_word at)) (cond b (Err (no_bundle_head (at + 8))) (cond c (Err (too_deep at)) (cond d (Err (tag_before (at + 8))) (Ok (effective_tag outer (bundle_tag bytes)))))) ≡ Ok effective → Head left outer bytes effective
-  go true b c d is_a is_b is_c is_d e = absurd (err_ok e)
-  go false true c d is_a is_b is_c is_d e = absurd (err_ok e)
-  go false false true d is_a is_b is_c is_d e = absurd (err_ok e)
-  go false false false true is_a is_b is_c is_d e = absurd (err_ok e)
-  go false false false false is_a is_b is_c is_d e = record {
-    named = word_there bytes (not_false _ is_a);
-    long = ltb-false (length bytes) 16 is_b;
-    room = some_left left is_c;
-    time = in_time_is outer (bundle_tag bytes) is_d;
-    is = sym (ok_is e);
-  }
+pub head_ok : (left : ℕ) (outer : Option ℕ) (at : ℕ) (bytes : List ℕ) (effective : ℕ) → head_read left outer at bytes ≡ Ok effective
+    → Head left outer bytes effective
+head_ok left outer at bytes effective =
+    go (not (starts_with ◌==◌ bytes bundle_word)) (nat_lt (length bytes) 16) (left == 0) (is_early outer (bundle_tag bytes)) refl refl refl refl where
+      go : (a b c d : Bool) → not (starts_with ◌==◌ bytes bundle_word) ≡ a → nat_lt (length bytes) 16 ≡ b → (left == 0) ≡ c → is_early outer (bundle_tag bytes) ≡ d
+          → cond a (Err (no_bundle_word at))
+          (cond b (Err (no_bundle_head (at + 8)))
+          (cond c (Err (too_deep at)) (cond d (Err (tag_before (at + 8))) (Ok (effective_tag outer (bundle_tag bytes)))))) ≡ Ok effective
+          → Head left outer bytes effective
+      go true b c d is_a is_b is_c is_d e = absurd (err_ok e)
+      go false true c d is_a is_b is_c is_d e = absurd (err_ok e)
+      go false false true d is_a is_b is_c is_d e = absurd (err_ok e)
+      go false false false true is_a is_b is_c is_d e = absurd (err_ok e)
+      go false false false false is_a is_b is_c is_d e = record {
+        named = word_there bytes (not_false _ is_a);
+        long = ltb-false (length bytes) 16 is_b;
+        room = some_left left is_c;
+        time = in_time_is outer (bundle_tag bytes) is_d;
+        is = sym (ok_is e);
+      }
 
 -- a size that is read was written
 pub size_written : (bytes : List ℕ) → AreBytes bytes → 4 ≤ length bytes → word (first_size bytes) ≡ take 4 bytes
@@ -88,7 +95,8 @@ size_written bytes small long =
 -- a tag that is read was written
 pub tag_written : (bytes : List ℕ) → AreBytes bytes → 16 ≤ length bytes → tag (bundle_tag bytes) ≡ take 8 (drop 8 bytes)
 tag_written bytes small long =
-    be_bytes_8 (take 8 (drop 8 bytes)) (bundle_tag bytes) (length-take-le 8 (drop 8 bytes) (omega (arith, length-drop 8 bytes))) (front_bytes 8 (drop 8 bytes) (rest_bytes 8 bytes small)) refl
+    be_bytes_8 (take 8 (drop 8 bytes)) (bundle_tag bytes) (length-take-le 8 (drop 8 bytes) (omega (arith, length-drop 8 bytes)))
+    (front_bytes 8 (drop 8 bytes) (rest_bytes 8 bytes small)) refl
 
 pub tag_fits : (bytes : List ℕ) → AreBytes bytes → bundle_tag bytes < 2 ^ 64
 tag_fits bytes small =

@@ -35,7 +35,8 @@ pub of_messages : ((form : Form) (most : ℕ) → IsLawful form → length (mess
 of_messages accepted apart one told silent begun = record {
   read = λ most bytes small none. (silent most bytes small).0 none;
   written = λ most bytes is. no_err (limited_read most bytes)
-      (subst (λ (l : List ℕ). is_message most l ≡ true) (sym is.spelled) (accepted is.form most is.lawful (subst (λ (l : List ℕ). length l ≤ most) is.spelled is.short)));
+      (subst (λ (l : List ℕ). is_message most l ≡ true) (sym is.spelled)
+      (accepted is.form most is.lawful (subst (λ (l : List ℕ). length l ≤ most) is.spelled is.short)));
   told = λ most bytes fault small is. (told most bytes fault small).0 is;
   one = one;
   slash = λ most bytes is. (begun most bytes is).2;

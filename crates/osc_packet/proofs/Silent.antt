@@ -23,7 +23,8 @@ pub is_message_text : (form : Form) → IsLawful form → IsMessage (length (mes
 is_message_text form lawful = record { form = form; lawful = lawful; spelled = refl; short = omega arith }
 
 mutual
-  pub packet_sized : OfMessages → (packet : Packet) (outer : Option ℕ) → IsLawfulIn outer packet → (4 ≤ length (packet_text packet)) × (length (packet_text packet) % 4 ≡ 0)
+  pub packet_sized : OfMessages → (packet : Packet) (outer : Option ℕ) → IsLawfulIn outer packet
+      → (4 ≤ length (packet_text packet)) × (length (packet_text packet) % 4 ≡ 0)
   packet_sized known (message form) outer lawful =
       let is = is_message_text form lawful in
       let some : 0 < length (message_text form) = known.some _ _ is in
@@ -54,14 +55,16 @@ rest_again front rest small = ap (λ (n : ℕ). drop n (front ++ rest)) (size_ag
 pub tag_again : (own : ℕ) (elements : Elements) → own < 2 ^ 64 → bundle_tag (packet_text (bundle own elements)) ≡ own
 tag_again own elements fits = from_be_bytes-to_be_bytes_8 own fits
 
-passed : {a b c d : Bool} (w x y z : Fault) {n : ℕ} → a ≡ false → b ≡ false → c ≡ false → d ≡ false → cond a (Err w) (cond b (Err x) (cond c (Err y) (cond d (Err z) (Ok n)))) ≡ Ok n
+passed : {a b c d : Bool} (w x y z : Fault) {n : ℕ} → a ≡ false → b ≡ false → c ≡ false → d ≡ false
+    → cond a (Err w) (cond b (Err x) (cond c (Err y) (cond d (Err z) (Ok n)))) ≡ Ok n
 passed {a} {b} {c} {d} w x y z {n} is_a is_b is_c is_d =
     ap (λ (t : Bool). cond t (Err w) (cond b (Err x) (cond c (Err y) (cond d (Err z) (Ok n))))) is_a
     ∙ ap (λ (t : Bool). cond t (Err x) (cond c (Err y) (cond d (Err z) (Ok n)))) is_b
     ∙ ap (λ (t : Bool). cond t (Err y) (cond d (Err z) (Ok n))) is_c
     ∙ ap (λ (t : Bool). cond t (Err z) (Ok n)) is_d
 
-head_again : (left : ℕ) (outer : Option ℕ) (at own : ℕ) (elements : Elements) → 0 < left → own < 2 ^ 64 → IsInTime outer own → head_read left outer at (packet_text (bundle own elements)) ≡ Ok (effective_tag outer own)
+head_again : (left : ℕ) (outer : Option ℕ) (at own : ℕ) (elements : Elements) → 0 < left → own < 2 ^ 64 → IsInTime outer own
+    → head_read left outer at (packet_text (bundle own elements)) ≡ Ok (effective_tag outer own)
 head_again left outer at own elements room fits time =
     let text : List ℕ = packet_text (bundle own elements) in
     let named : starts_with ◌==◌ text bundle_word ≡ true = word_again text refl in
@@ -70,10 +73,12 @@ head_again left outer at own elements room fits time =
     let has_room : (left == 0) ≡ false = grind (arith, nat_tests) in
     let is_own : bundle_tag text ≡ own = tag_again own elements fits in
     let in_time : is_early outer (bundle_tag text) ≡ false = ap (is_early outer) is_own ∙ not_early outer own time in
-    passed (no_bundle_word at) (no_bundle_head (at + 8)) (too_deep at) (tag_before (at + 8)) is_named is_long has_room in_time ∙ ap (λ (n : ℕ). Ok (effective_tag outer n)) is_own
+    passed (no_bundle_word at) (no_bundle_head (at + 8)) (too_deep at) (tag_before (at + 8)) is_named is_long has_room in_time
+    ∙ ap (λ (n : ℕ). Ok (effective_tag outer n)) is_own
 
 mutual
-  pub packet_silent : OfMessages → (packet : Packet) (left : ℕ) (outer : Option ℕ) (at : ℕ) → depth packet ≤ left → IsLawfulIn outer packet → length (packet_text packet) < 2 ^ 32 → element_fault left outer at (packet_text packet) ≡ None
+  pub packet_silent : OfMessages → (packet : Packet) (left : ℕ) (outer : Option ℕ) (at : ℕ) → depth packet ≤ left → IsLawfulIn outer packet
+      → length (packet_text packet) < 2 ^ 32 → element_fault left outer at (packet_text packet) ≡ None
   packet_silent known (message form) left outer at shallow lawful small =
       let is = is_message_text form lawful in
       let slash : slice_index (message_text form) 0 ≡ 47 = known.slash _ _ is in
@@ -82,10 +87,12 @@ mutual
       ∙ ap (option_map (moved at)) (known.written _ _ is)
   packet_silent known (bundle own elements) left outer at shallow lawful small =
       element_fault_is left outer at (packet_text (bundle own elements))
-      ∙ ap (λ (r : Result ℕ Fault). fault_or r (λ effective. body_fault (element_fault (left - 1) (Some effective)) (at + 16) (elements_text elements))) (head_again left outer at own elements (omega arith) lawful.0 lawful.1)
+      ∙ ap (λ (r : Result ℕ Fault). fault_or r (λ effective. body_fault (element_fault (left - 1) (Some effective)) (at + 16) (elements_text elements)))
+      (head_again left outer at own elements (omega arith) lawful.0 lawful.1)
       ∙ elements_silent known elements (left - 1) (effective_tag outer own) (at + 16) (omega arith) lawful.2 (omega arith)
 
-  elements_silent : OfMessages → (elements : Elements) (left effective at : ℕ) → elements_depth elements ≤ left → AreLawfulIn effective elements → length (elements_text elements) < 2 ^ 32 → body_fault (element_fault left (Some effective)) at (elements_text elements) ≡ None
+  elements_silent : OfMessages → (elements : Elements) (left effective at : ℕ) → elements_depth elements ≤ left → AreLawfulIn effective elements
+      → length (elements_text elements) < 2 ^ 32 → body_fault (element_fault left (Some effective)) at (elements_text elements) ≡ None
   elements_silent known none left effective at shallow lawful small = body_end (element_fault left (Some effective)) at [] refl
   elements_silent known (more packet elements) left effective at shallow lawful small =
       let front : List ℕ = packet_text packet in
@@ -96,11 +103,13 @@ mutual
       let sized = packet_sized known packet (Some effective) lawful.0 in
       let few : length front < 2 ^ 32 = omega arith in
       let size = size_again front rest few in
-      let is : IsSize (first_size text) (length text - 4) = record { positive = omega (arith, sized.0); fourfold = subst (λ (n : ℕ). n % 4 ≡ 0) (sym size) sized.1; inside = omega arith } in
+      let is : IsSize (first_size text) (length text - 4) =
+      record { positive = omega (arith, sized.0); fourfold = subst (λ (n : ℕ). n % 4 ≡ 0) (sym size) sized.1; inside = omega arith } in
       body_step f at text (omega arith)
       ∙ cond-true _ _ _ (size_is (first_size text) (length text - 4) is)
       ∙ ap (λ (l : List ℕ). option_or (f (at + 4) l) (body_fault f (at + 4 + first_size text) (after_first text))) (element_again front rest few)
-      ∙ ap (λ (o : Option Fault). option_or o (body_fault f (at + 4 + first_size text) (after_first text))) (packet_silent known packet left (Some effective) (at + 4) (omega arith) lawful.0 few)
+      ∙ ap (λ (o : Option Fault). option_or o (body_fault f (at + 4 + first_size text) (after_first text)))
+      (packet_silent known packet left (Some effective) (at + 4) (omega arith) lawful.0 few)
       ∙ ap (λ (l : List ℕ). body_fault f (at + 4 + first_size text) l) (rest_again front rest few)
       ∙ elements_silent known elements left effective (at + 4 + first_size text) (omega arith) lawful.1 (omega arith)
 
@@ -113,4 +122,5 @@ valid_silent known most bytes few is =
     let short : nat_lt most (length text) ≡ false = le-ltb most (length text) is.valid.short in
     let four : (length text % 4 == 0) ≡ true = eq-eqb _ _ sized.1 in
     subst (λ (l : List ℕ). packet_fault most l ≡ None) (sym is.spelled)
-    (cond-false _ _ _ some ∙ cond-false _ _ _ short ∙ cond-true _ _ _ four ∙ packet_silent known is.packet 16 None 0 is.valid.shallow is.valid.lawful (omega (arith, is.valid.short)))
+    (cond-false _ _ _ some ∙ cond-false _ _ _ short ∙ cond-true _ _ _ four
+    ∙ packet_silent known is.packet 16 None 0 is.valid.shallow is.valid.lawful (omega (arith, is.valid.short)))

@@ -17,11 +17,13 @@ clash : {f : Fault} → ◌≡◌ {A = Option Fault} (Some f) None → ⊥
 clash e = cc
 
 -- what the reading tells is the first fault
-pub told_first : OfMessages → (most : ℕ) (bytes : List ℕ) → AreBytes bytes → (fault : Fault) → packet_fault most bytes ≡ Some fault → FirstFault bytes most fault
+pub told_first : OfMessages → (most : ℕ) (bytes : List ℕ) → AreBytes bytes → (fault : Fault) → packet_fault most bytes ≡ Some fault
+    → FirstFault bytes most fault
 told_first known most bytes small fault is = subst (Outcome bytes most None) is (packet_told known bytes most small)
 
 -- the first fault is what the reading tells
-pub fault_again : OfMessages → (most : ℕ) (bytes : List ℕ) → AreBytes bytes → (fault : Fault) → FirstFault bytes most fault → packet_fault most bytes ≡ Some fault
+pub fault_again : OfMessages → (most : ℕ) (bytes : List ℕ) → AreBytes bytes → (fault : Fault) → FirstFault bytes most fault
+    → packet_fault most bytes ≡ Some fault
 fault_again known most bytes small fault found = go (packet_fault most bytes) (packet_told known bytes most small) where
   go : (read : Option Fault) → Outcome bytes most None read → read ≡ Some fault
   go None ended = absurd (no_fault ended found)
@@ -33,7 +35,8 @@ none_packet known most bytes small none = go (packet_fault most bytes) refl wher
   go None is = packet_found known most bytes small is
   go (Some fault) is = absurd (none fault (told_first known most bytes small fault is))
 
-pub packet_none : OfMessages → (most : ℕ) (bytes : List ℕ) → most < 2 ^ 32 → AreBytes bytes → IsPacket most bytes → (fault : Fault) → FirstFault bytes most fault → ⊥
+pub packet_none : OfMessages → (most : ℕ) (bytes : List ℕ) → most < 2 ^ 32 → AreBytes bytes → IsPacket most bytes → (fault : Fault)
+    → FirstFault bytes most fault → ⊥
 packet_none known most bytes few small is fault found =
     clash (sym (fault_again known most bytes small fault found) ∙ valid_silent known most bytes few is)
 
@@ -41,8 +44,11 @@ packet_none known most bytes few small is fault found =
 pub limit_raised : (most higher : ℕ) (bytes : List ℕ) → most ≤ higher → packet_fault most bytes ≡ None → packet_fault higher bytes ≡ None
 limit_raised most higher bytes order = go (length bytes == 0) (nat_lt most (length bytes)) refl where
   go : (a b : Bool) → nat_lt most (length bytes) ≡ b
-      → cond a (Some empty) (cond b (Some (too_long most)) (cond (length bytes % 4 == 0) (element_fault 16 None 0 bytes) (Some (not_four (length bytes))))) ≡ None
-      → cond a (Some empty) (cond (nat_lt higher (length bytes)) (Some (too_long higher)) (cond (length bytes % 4 == 0) (element_fault 16 None 0 bytes) (Some (not_four (length bytes))))) ≡ None
+      → cond a (Some empty) (cond b (Some (too_long most)) (cond (length bytes % 4 == 0) (element_fault 16 None 0 bytes) (Some (not_four (length bytes)))))
+      ≡ None
+      → cond a (Some empty)
+      (cond (nat_lt higher (length bytes)) (Some (too_long higher))
+      (cond (length bytes % 4 == 0) (element_fault 16 None 0 bytes) (Some (not_four (length bytes))))) ≡ None
   go true b is e = absurd (clash e)
   go false true is e = absurd (clash e)
   go false false is e = cond-false _ _ _ (le-ltb higher (length bytes) (omega (arith, ltb-false most (length bytes) is))) ∙ e

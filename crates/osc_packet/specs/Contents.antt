@@ -1,4 +1,5 @@
 -- What a unit holds.
+use Rattle.osc_packet.specs.declared.limits.TheConstants.{MAX_PACKET}
 use Rattle.std.specs.Prelude.{◌≡◌, ℕ, ◌≤◌, if◌then◌else◌, List, [], ◌∷◌, length, Option, None}
 use Rattle.osc_atoms.specs.declared.fault.Fault.{Fault}
 use Rattle.osc_packet.specs.declared.content.Content.{Content}
@@ -16,14 +17,16 @@ own_fault at bytes = if is_bundle bytes then None else message_fault_at at bytes
 
 -- the message is one; the elements have lawful sizes, and each that is no bundle is a message
 abbrev pub IsSound : Content → Type 0
-IsSound (Alone message) = (message_fault_at 0 message.now ≡ None) × (length message.now ≤ 65504)
-IsSound (Among elements) = (body_fault own_fault 0 elements.now ≡ None) × (length elements.now ≤ 65504)
+IsSound (Alone message) = (message_fault_at 0 message.now ≡ None)
+    × (length message.now ≤ MAX_PACKET)
+IsSound (Among elements) = (body_fault own_fault 0 elements.now ≡ None)
+    × (length elements.now ≤ MAX_PACKET)
 
 -- a first message, and what is left
 pub record Splits (content : Content) (message : List ℕ) (rest : Content) : Type 0 where
   pub parts : messages_of content ≡ message ∷ messages_of rest
   pub lawful : message_fault_at 0 message ≡ None
-  pub small : length message ≤ 65504
+  pub small : length message ≤ MAX_PACKET
   pub sound : IsSound rest
 
 -- the first message among elements, and the elements after it

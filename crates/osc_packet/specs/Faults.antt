@@ -1,4 +1,5 @@
--- The faults that a packet can have besides those of its messages, each with its number and its place.
+-- The faults that a packet can have besides those of its messages, each with its number and its
+-- place.
 use Rattle.std.specs.Prelude.{ℕ, ◌+◌}
 use Rattle.osc_atoms.specs.declared.fault.Fault.{Fault}
 

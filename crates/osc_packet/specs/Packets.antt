@@ -25,7 +25,8 @@ abbrev mutual
 
   pub elements_text : Elements → List ℕ
   elements_text none = []
-  elements_text (more packet elements) = word (length (packet_text packet)) ++ (packet_text packet ++ elements_text elements)
+  elements_text (more packet elements) =
+      word (length (packet_text packet)) ++ (packet_text packet ++ elements_text elements)
 
 -- how many bundles are open at the deepest place of a packet
 abbrev mutual
@@ -37,7 +38,8 @@ abbrev mutual
   elements_depth none = 0
   elements_depth (more packet elements) = max (depth packet) (elements_depth elements)
 
--- The effective tag of a bundle with this own tag, by that of the enclosing bundle, if there is one: an enclosed
+-- The effective tag of a bundle with this own tag, by that of the enclosing bundle, if there is
+-- one: an enclosed
 -- bundle with tag 1, "immediately", has its encloser's, and every other bundle has its own.
 abbrev pub effective_tag : Option ℕ → ℕ → ℕ
 effective_tag None own = own
@@ -52,11 +54,13 @@ IsInTime (Some outer) own = (own ≡ 1) ⊎ (outer ≤ own)
 abbrev mutual
   pub IsLawfulIn : Option ℕ → Packet → Type 0
   IsLawfulIn outer (message form) = IsLawful form
-  IsLawfulIn outer (bundle own elements) = (own < 2 ^ 64) × IsInTime outer own × AreLawfulIn (effective_tag outer own) elements
+  IsLawfulIn outer (bundle own elements) =
+      (own < 2 ^ 64) × IsInTime outer own × AreLawfulIn (effective_tag outer own) elements
 
   pub AreLawfulIn : ℕ → Elements → Type 0
   AreLawfulIn outer none = Unit {0}
-  AreLawfulIn outer (more packet elements) = IsLawfulIn (Some outer) packet × AreLawfulIn outer elements
+  AreLawfulIn outer (more packet elements) =
+      IsLawfulIn (Some outer) packet × AreLawfulIn outer elements
 
 -- how deep bundles may be nested
 abbrev pub deepest : ℕ

@@ -1,4 +1,5 @@
--- Packets, read: the first fault, the elements and the units that stand in given bytes. `laws` ties them to what is written.
+-- Packets, read: the first fault, the elements and the units that stand in given bytes. `laws` ties
+-- them to what is written.
 use Rattle.std.specs.Prelude.{ℕ, zero, suc, ◌+◌, ◌-◌, ◌%◌, Bool, false, not, ◌&&◌, ◌==◌, nat_le, nat_lt, if◌then◌else◌, List, [], ◌∷◌, length, take, drop, filter, slice_index, Option, Some, None, option_map, is_none, Result, Ok, Err}
 use Rattle.std.specs.Option.{option_or}
 use Rattle.std.specs.List.{flat_map, starts_with}
@@ -15,7 +16,9 @@ first_size bytes = from_be_bytes w32 (take 4 bytes)
 
 -- a size is a positive multiple of 4, and at most what is left after it
 abbrev pub begins_with_size : List ℕ → Bool
-begins_with_size bytes = nat_le 4 (first_size bytes) && first_size bytes % 4 == 0 && nat_le (first_size bytes) (length bytes - 4)
+begins_with_size bytes =
+    nat_le 4 (first_size bytes) && first_size bytes % 4 == 0
+    && nat_le (first_size bytes) (length bytes - 4)
 
 -- the size of the first element at a place
 abbrev pub size_read : ℕ → List ℕ → Result ℕ Fault
@@ -42,7 +45,8 @@ abbrev pub is_early : Option ℕ → ℕ → Bool
 is_early None own = false
 is_early (Some outer) own = not (own == 1) && nat_lt own outer
 
--- A bundle's effective tag, or what is wrong with its first 16 bytes at a place. So many bundles may still be opened;
+-- A bundle's effective tag, or what is wrong with its first 16 bytes at a place. So many bundles
+-- may still be opened;
 -- the effective tag of the enclosing bundle is given, if there is one.
 abbrev pub head_read : ℕ → Option ℕ → ℕ → List ℕ → Result ℕ Fault
 head_read left outer at bytes =
@@ -61,7 +65,9 @@ unfoldable pub elements_fault : (ℕ → List ℕ → Option Fault) → ℕ → 
 elements_fault fault_of zero at bytes = None
 elements_fault fault_of (suc fuel) at bytes =
     if length bytes == 0 then None else
-    if begins_with_size bytes then option_or (fault_of (at + 4) (first_element bytes)) (elements_fault fault_of fuel (at + 4 + first_size bytes) (after_first bytes)) else
+    if begins_with_size bytes
+    then option_or (fault_of (at + 4) (first_element bytes))
+    (elements_fault fault_of fuel (at + 4 + first_size bytes) (after_first bytes)) else
     Some (element_size at)
 
 -- the first fault of the elements that fill the bytes
@@ -84,7 +90,8 @@ fault_with inner left outer at bytes =
 unfoldable pub element_fault : ℕ → Option ℕ → ℕ → List ℕ → Option Fault
 element_fault zero outer at bytes = fault_with (λ effective. None) 0 outer at bytes
 element_fault (suc left) outer at bytes =
-    fault_with (λ effective. body_fault (element_fault left (Some effective)) (at + 16) (drop 16 bytes)) (suc left) outer at bytes
+    fault_with (λ effective. body_fault (element_fault left (Some effective)) (at + 16)
+    (drop 16 bytes)) (suc left) outer at bytes
 
 -- the first fault of a packet of at most so many bytes
 abbrev pub packet_fault : ℕ → List ℕ → Option Fault
@@ -101,7 +108,8 @@ is_packet most bytes = is_none (packet_fault most bytes)
 -- the elements that stand one after another, each without its size
 unfoldable pub elements_of : ℕ → List ℕ → List (List ℕ)
 elements_of zero bytes = []
-elements_of (suc fuel) bytes = if length bytes == 0 then [] else first_element bytes ∷ elements_of fuel (after_first bytes)
+elements_of (suc fuel) bytes = if length bytes == 0 then []
+    else first_element bytes ∷ elements_of fuel (after_first bytes)
 
 -- the elements that fill the bytes
 abbrev pub elements_in : List ℕ → List (List ℕ)
@@ -116,12 +124,16 @@ unfoldable pub bundle_read : ℕ → Option ℕ → List ℕ → List Timed
 bundle_read zero outer bytes = []
 bundle_read (suc left) outer bytes =
     let effective = effective_tag outer (bundle_tag bytes) in
-    record { tag = effective; messages = messages_in (drop 16 bytes) } ∷ flat_map (bundle_read left (Some effective)) (filter is_bundle (elements_in (drop 16 bytes)))
+    record { tag = effective; messages = messages_in (drop 16 bytes) }
+    ∷ flat_map (bundle_read left (Some effective))
+    (filter is_bundle (elements_in (drop 16 bytes)))
 
 -- the units of the bundles among the elements that fill the bytes
 abbrev pub enclosed_read : ℕ → ℕ → List ℕ → List Timed
-enclosed_read left effective bytes = flat_map (bundle_read left (Some effective)) (filter is_bundle (elements_in bytes))
+enclosed_read left effective bytes =
+    flat_map (bundle_read left (Some effective)) (filter is_bundle (elements_in bytes))
 
 -- the units of a packet
 abbrev pub units_read : List ℕ → List Timed
-units_read bytes = if is_bundle bytes then bundle_read deepest None bytes else record { tag = 1; messages = bytes ∷ [] } ∷ []
+units_read bytes = if is_bundle bytes then bundle_read deepest None bytes
+    else record { tag = 1; messages = bytes ∷ [] } ∷ []

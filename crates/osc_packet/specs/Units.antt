@@ -14,15 +14,19 @@ own_messages none = []
 own_messages (more (message form) elements) = message_text form ∷ own_messages elements
 own_messages (more (bundle own inner) elements) = own_messages elements
 
--- a bundle's unit is its own messages under its effective tag; the units of the bundles that it encloses follow, in order
+-- a bundle's unit is its own messages under its effective tag; the units of the bundles that it
+-- encloses follow, in order
 abbrev mutual
   pub bundle_units : Option ℕ → Packet → List Timed
   bundle_units outer (message form) = []
-  bundle_units outer (bundle own elements) = record { tag = effective_tag outer own; messages = own_messages elements } ∷ enclosed_units (effective_tag outer own) elements
+  bundle_units outer (bundle own elements) =
+      record { tag = effective_tag outer own; messages = own_messages elements }
+      ∷ enclosed_units (effective_tag outer own) elements
 
   pub enclosed_units : ℕ → Elements → List Timed
   enclosed_units outer none = []
-  enclosed_units outer (more packet elements) = bundle_units (Some outer) packet ++ enclosed_units outer elements
+  enclosed_units outer (more packet elements) =
+      bundle_units (Some outer) packet ++ enclosed_units outer elements
 
 -- the units of a packet; a message alone is a unit of tag 1, "immediately"
 abbrev pub units_of : Packet → List Timed

@@ -12,7 +12,8 @@ pub record Frame : Type 0 where
   pub end : ℕ
   pub tag : ℕ
 
--- a message or a bundle: its place, the place after its last byte, and the bundles around it, the innermost first
+-- a message or a bundle: its place, the place after its last byte, and the bundles around it, the
+-- innermost first
 pub record Element : Type 0 where
   pub place : ℕ
   pub end : ℕ
@@ -64,7 +65,11 @@ tag_around (frame ∷ around) = Some frame.tag
 
 -- the bundle, open: its effective tag is its own or its encloser's
 abbrev pub opened : List ℕ → Element → Frame
-opened bytes element = record { end = element.end; tag = effective_tag (tag_around element.around) (own_tag bytes element) }
+opened bytes element =
+    record {
+      end = element.end;
+      tag = effective_tag (tag_around element.around) (own_tag bytes element);
+    }
 
 -- A size is a positive multiple of 4, and at most what is left after it.
 pub record IsSize (size left : ℕ) : Type 0 where
@@ -77,29 +82,36 @@ abbrev pub Stands : List ℕ → ℕ → Want → Type 0
 Stands bytes most some_byte = 0 < length bytes
 Stands bytes most within = length bytes ≤ most
 Stands bytes most fourfold = length bytes % 4 ≡ 0
-Stands bytes most (begun element) = (slice_index bytes element.place ≡ 47) ⊎ (slice_index bytes element.place ≡ 35)
-Stands bytes most (is_message element) = IsMessage (element.end - element.place) (bytes_of bytes element)
+Stands bytes most (begun element) = (slice_index bytes element.place ≡ 47)
+    ⊎ (slice_index bytes element.place ≡ 35)
+Stands bytes most (is_message element) =
+    IsMessage (element.end - element.place) (bytes_of bytes element)
 Stands bytes most (named_bundle element) = take 8 (bytes_of bytes element) ≡ bundle_word
 Stands bytes most (headed element) = element.place + 16 ≤ element.end
 Stands bytes most (shallow element) = length element.around < deepest
 Stands bytes most (in_time element) = IsInTime (tag_around element.around) (own_tag bytes element)
 Stands bytes most (sized place frame around) = IsSize (word_of bytes place) (frame.end - place - 4)
 
--- After a place the innermost bundle that goes on there has its next size. Where none goes on, all is read.
+-- After a place the innermost bundle that goes on there has its next size. Where none goes on, all
+-- is read.
 abbrev pub after : ℕ → List Frame → Option Want
 after place [] = None
-after place (frame ∷ around) = if nat_lt place frame.end then Some (sized place frame around) else after place around
+after place (frame ∷ around) = if nat_lt place frame.end then Some (sized place frame around)
+    else after place around
 
 -- the element that a size at a place announces
 abbrev pub announced : List ℕ → ℕ → Frame → List Frame → Element
-announced bytes place frame around = record { place = place + 4; end = place + 4 + word_of bytes place; around = frame ∷ around }
+announced bytes place frame around =
+    record { place = place + 4; end = place + 4 + word_of bytes place; around = frame ∷ around }
 
 -- the want after one that stands
 abbrev pub next_of : List ℕ → Want → Option Want
 next_of bytes some_byte = Some within
 next_of bytes within = Some fourfold
 next_of bytes fourfold = Some (begun (record { place = 0; end = length bytes; around = [] }))
-next_of bytes (begun element) = Some (if slice_index bytes element.place == 35 then named_bundle element else is_message element)
+next_of bytes (begun element) =
+    Some (if slice_index bytes element.place == 35 then named_bundle element
+    else is_message element)
 next_of bytes (is_message element) = after element.end element.around
 next_of bytes (named_bundle element) = Some (headed element)
 next_of bytes (headed element) = Some (shallow element)
@@ -107,14 +119,16 @@ next_of bytes (shallow element) = Some (in_time element)
 next_of bytes (in_time element) = after (element.place + 16) (opened bytes element ∷ element.around)
 next_of bytes (sized place frame around) = Some (begun (announced bytes place frame around))
 
--- The fault of a want that doesn't stand. Of a message it is the message's first fault, at its place in the packet.
+-- The fault of a want that doesn't stand. Of a message it is the message's first fault, at its
+-- place in the packet.
 abbrev pub Names : List ℕ → ℕ → Want → Fault → Type 0
 Names bytes most some_byte fault = fault ≡ empty
 Names bytes most within fault = fault ≡ too_long most
 Names bytes most fourfold fault = fault ≡ not_four (length bytes)
 Names bytes most (begun element) fault = fault ≡ start element.place
 Names bytes most (is_message element) fault =
-    (own : Fault) × FirstMessageFault (bytes_of bytes element) (element.end - element.place) own × (fault ≡ moved element.place own)
+    (own : Fault) × FirstMessageFault (bytes_of bytes element) (element.end - element.place) own
+    × (fault ≡ moved element.place own)
 Names bytes most (named_bundle element) fault = fault ≡ no_bundle_word element.place
 Names bytes most (headed element) fault = fault ≡ no_bundle_head (element.place + 8)
 Names bytes most (shallow element) fault = fault ≡ too_deep element.place
@@ -124,7 +138,8 @@ Names bytes most (sized place frame around) fault = fault ≡ element_size place
 -- the wants that are reached: the first one, and the next one of each that is reached and stands
 pub data Reaches (bytes : List ℕ) (most : ℕ) : Want → Type 0 where
   first : Reaches bytes most some_byte
-  later : {want next : Want} → Reaches bytes most want → Stands bytes most want → next_of bytes want ≡ Some next → Reaches bytes most next
+  later : {want next : Want} → Reaches bytes most want → Stands bytes most want
+      → next_of bytes want ≡ Some next → Reaches bytes most next
 
 -- the reached want that doesn't stand, and its fault
 pub record FirstFault (bytes : List ℕ) (most : ℕ) (fault : Fault) : Type 0 where

@@ -1,4 +1,5 @@
 // The checks of a packet, in their order.
+ghost use Rattle.osc_packet.specs.declared.limits.TheConstants.{MAX_PACKET};
 ghost use Rattle.std.specs.Prelude.{◌≡◌, ◌+◌, ◌%◌, ◌<◌, ◌≤◌, length, take, drop, IfOk, Some};
 ghost use Rattle.std.specs.Result.{result_err};
 ghost use Rattle.osc_packet.specs.Packets;
@@ -19,7 +20,7 @@ const DEEPEST: u32 = 16;
 
 /// Checks a packet of at most `max` bytes.
 pub(crate) fn check_packet(bytes: &[u8], max: u32) -> Result<(), Fault>
-    requires { max ≤ 65504 }
+    requires { max ≤ MAX_PACKET }
     ensures { result_err result ≡ packet_fault max bytes.now }
 {
     if bytes.is_empty() {
@@ -54,7 +55,7 @@ pub(crate) fn check_element(
 ) -> Result<(), Fault>
     requires some_byte { 0 < length bytes.now }
     requires fourfold { length bytes.now % 4 ≡ 0 }
-    requires inside { at + length bytes.now ≤ 65504 }
+    requires inside { at + length bytes.now ≤ MAX_PACKET }
     ensures { result_err result ≡ element_fault left outer at bytes.now }
 {
     match bytes[0] {
@@ -71,7 +72,7 @@ pub(crate) fn check_element(
 }
 
 fn check_message(bytes: &[u8], at: u32) -> Result<(), Fault>
-    requires inside { at + length bytes.now ≤ 65504 }
+    requires inside { at + length bytes.now ≤ MAX_PACKET }
     ensures { result_err result ≡ message_fault_at at bytes.now }
 {
     match Message::check(bytes, bytes.len() as u32) {
@@ -85,7 +86,7 @@ fn check_message(bytes: &[u8], at: u32) -> Result<(), Fault>
 
 /// The effective tag of the bundle at `at`.
 fn check_head(bytes: &[u8], at: u32, left: u32, outer: Option<u64>) -> Result<u64, Fault>
-    requires inside { at + length bytes.now ≤ 65504 }
+    requires inside { at + length bytes.now ≤ MAX_PACKET }
     ensures read { result ≡ head_read left outer at bytes.now }
     ensures room { IfOk result (λ _. (16 ≤ length bytes.now) × (0 < left)) }
 {
@@ -168,7 +169,7 @@ pub(crate) fn effective_tag(outer: Option<u64>, tag: u64) -> u64
 #[cycle(elements)]
 fn check_elements(bytes: &[u8], at: u32, left: u32, tag: u64) -> Result<(), Fault>
     requires fourfold { length bytes.now % 4 ≡ 0 }
-    requires inside { at + length bytes.now ≤ 65504 }
+    requires inside { at + length bytes.now ≤ MAX_PACKET }
     ensures { result_err result ≡ body_fault (element_fault left (Some tag)) at bytes.now }
 {
     let mut rest = bytes;
@@ -188,7 +189,8 @@ fn check_size(bytes: &[u8], at: u32) -> Result<usize, Fault>
     requires some_byte { 0 < length bytes.now }
     requires fourfold { length bytes.now % 4 ≡ 0 }
     ensures read { result ≡ size_read at bytes.now }
-    ensures size { IfOk result (λ size. (0 < size) × (size % 4 ≡ 0) × (size + 4 ≤ length bytes.now)) }
+    ensures size { IfOk result
+        (λ size. (0 < size) × (size % 4 ≡ 0) × (size + 4 ≤ length bytes.now)) }
 {
     let size = first_size(bytes);
     if size < 4 || size % 4 != 0 || size > bytes.len() - 4 {

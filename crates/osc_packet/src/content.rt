@@ -21,7 +21,8 @@ impl<'a> Content<'a> {
     /// The first message, and what is left.
     pub(crate) fn split_first(self) -> Option<(&'a [u8], Content<'a>)>
         requires { IsSound self }
-        ensures { MatchOption result (messages_of self.entry ≡ []) (λ x. Splits self.entry x.0.now x.1) }
+        ensures { MatchOption result (messages_of self.entry ≡ [])
+            (λ x. Splits self.entry x.0.now x.1) }
     {
         match self {
             Content::Alone(message) => Some((message, Content::Among(&[]))),
@@ -36,7 +37,8 @@ impl<'a> Content<'a> {
 /// The first message among elements, and the elements after it.
 fn first_message(elements: &[u8]) -> Option<(&[u8], &[u8])>
     requires { body_fault own_fault 0 elements.now ≡ None }
-    ensures { MatchOption result (messages_in elements.now ≡ []) (λ x. SplitsElements elements.now x.0.now x.1.now) }
+    ensures { MatchOption result (messages_in elements.now ≡ [])
+        (λ x. SplitsElements elements.now x.0.now x.1.now) }
 {
     let mut rest = elements;
     while !rest.is_empty() {

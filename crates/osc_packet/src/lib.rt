@@ -7,12 +7,14 @@
 mod checking;
 mod content;
 pub mod laws;
+mod limits;
 mod packet;
 mod unit;
 mod unit_messages;
 mod units;
 mod walk;
 
+pub use limits::MAX_PACKET;
 pub use packet::Packet;
 pub use unit::Unit;
 pub use unit_messages::UnitMessages;

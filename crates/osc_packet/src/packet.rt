@@ -16,6 +16,7 @@ pub struct Packet<'a> {
 }
 
 impl<'a> Model for Packet<'a> {
+    ghost use Rattle.osc_packet.specs.declared.limits.TheConstants.{MAX_PACKET};
     ghost use Rattle.std.specs.Prelude.{List, ℕ, ◌≡◌, None};
     ghost use Rattle.osc_packet.specs.Reading.{packet_fault};
 
@@ -23,10 +24,11 @@ impl<'a> Model for Packet<'a> {
 
     ghost view = { λ p. p.bytes.now };
 
-    ghost invariant = { λ p. packet_fault 65504 p.bytes.now ≡ None };
+    ghost invariant = { λ p. packet_fault MAX_PACKET p.bytes.now ≡ None };
 }
 
 impl<'a> Packet<'a> {
+    ghost use Rattle.osc_packet.specs.declared.limits.TheConstants.{MAX_PACKET};
     ghost use Rattle.std.specs.Prelude.{◌≡◌, ◌≤◌, ◌↔◌, length, IsTrue, IsOk, IfOk, IfErr, is_ok};
     ghost use Rattle.std.specs.Result.{result_err};
     ghost use Rattle.osc_atoms.specs.declared.fault.Fault.{Fault};
@@ -39,7 +41,7 @@ impl<'a> Packet<'a> {
     /// 1 to 18; docs/FORMATS.md has the order of the checks.
     /// Takes no memory.
     pub fn check(bytes: &'a [u8], max: u32) -> Result<Packet<'a>, Fault>
-        requires { max ≤ 65504 }
+        requires { max ≤ MAX_PACKET }
         ensures ok { IfOk result (λ packet. packet ≡ bytes.now) }
         ensures exact { IsOk result ↔ IsPacket max bytes.now }
         ensures read { is_ok result ≡ is_packet max bytes.now }
@@ -55,7 +57,7 @@ impl<'a> Packet<'a> {
 
     /// The packet that the bytes were checked to be. Looks at none of them.
     pub fn known(bytes: &'a [u8]) -> Packet<'a>
-        requires { IsTrue (is_packet 65504 bytes.now) }
+        requires { IsTrue (is_packet MAX_PACKET bytes.now) }
         ensures { result ≡ bytes.now }
     {
         Packet { bytes }
@@ -64,9 +66,9 @@ impl<'a> Packet<'a> {
     /// The whole packet.
     pub fn bytes(&self) -> &'a [u8]
         ensures value { result.now ≡ self.now }
-        ensures read { IsTrue (is_packet 65504 self.now) }
-        ensures small { length self.now ≤ 65504 }
-        ensures few { length (units_read self.now) ≤ 65504 }
+        ensures read { IsTrue (is_packet MAX_PACKET self.now) }
+        ensures small { length self.now ≤ MAX_PACKET }
+        ensures few { length (units_read self.now) ≤ MAX_PACKET }
     {
         self.bytes
     }
@@ -74,7 +76,7 @@ impl<'a> Packet<'a> {
     /// How many units there are, one for each bundle, or one for a message alone.
     pub fn count(&self) -> u32
         ensures value { result ≡ length (units_read self.now) }
-        ensures few { result ≤ 65504 }
+        ensures few { result ≤ MAX_PACKET }
     {
         self.units().count() as u32
     }
@@ -82,8 +84,9 @@ impl<'a> Packet<'a> {
     /// The units in order, the packet's own first, then those of the enclosed bundles in the order of the packet.
     pub fn units(&self) -> Units<'a>
         ensures value { result ≡ units_read self.now }
-        ensures written { (packet : Written) → IsValid 65504 packet → self.now ≡ packet_text packet → result ≡ units_of packet }
-        ensures few { length (units_read self.now) ≤ 65504 }
+        ensures written { (packet : Written) → IsValid MAX_PACKET packet
+            → self.now ≡ packet_text packet → result ≡ units_of packet }
+        ensures few { length (units_read self.now) ≤ MAX_PACKET }
     {
         units_are_read_again();
         Units::new(self.bytes)

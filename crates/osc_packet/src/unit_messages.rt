@@ -1,4 +1,5 @@
 // The messages of a unit, one after another.
+ghost use Rattle.osc_packet.specs.declared.limits.TheConstants.{MAX_PACKET};
 ghost use Rattle.std.specs.Prelude.{◌≡◌, ◌≤◌, length, None};
 ghost use Rattle.osc_packet.specs.Reading.{message_fault_at};
 ghost use Rattle.osc_packet.specs.Contents.{IsSound};
@@ -55,7 +56,7 @@ impl<'a> Iterator for UnitMessages<'a> {
 /// The message that the bytes were checked to be.
 fn as_message(bytes: &[u8]) -> Message<'_>
     requires message { message_fault_at 0 bytes.now ≡ None }
-    requires small { length bytes.now ≤ 65504 }
+    requires small { length bytes.now ≤ MAX_PACKET }
     ensures { result ≡ bytes.now }
 {
     Message::known(bytes)

@@ -19,6 +19,7 @@ pub struct Units<'a> {
 }
 
 impl<'a> Model for Units<'a> {
+    ghost use Rattle.osc_packet.specs.declared.limits.TheConstants.{MAX_PACKET};
     ghost use Rattle.std.specs.Prelude.{List, ◌++◌, ◌≤◌, length};
     ghost use Rattle.std.specs.Option.{option_to_list};
     ghost use Rattle.osc_packet.specs.Units.{Timed};
@@ -27,18 +28,21 @@ impl<'a> Model for Units<'a> {
 
     ghost use Rattle.osc_packet.specs.Walks.{units_from, IsWalk};
 
-    ghost view = { λ u. option_to_list u.first ++ units_from u.bytes.now u.walk.bundles u.walk.depth u.walk.place };
+    ghost view = { λ u. option_to_list u.first
+        ++ units_from u.bytes.now u.walk.bundles u.walk.depth u.walk.place };
 
-    ghost invariant = { λ u. (length u.bytes.now ≤ 65504) × (u.walk.depth ≤ 16) × IsWalk u.bytes.now u.walk.bundles u.walk.depth u.walk.place };
+    ghost invariant = { λ u. (length u.bytes.now ≤ MAX_PACKET) × (u.walk.depth ≤ 16)
+        × IsWalk u.bytes.now u.walk.bundles u.walk.depth u.walk.place };
 }
 
 impl<'a> Units<'a> {
+    ghost use Rattle.osc_packet.specs.declared.limits.TheConstants.{MAX_PACKET};
     ghost use Rattle.std.specs.Prelude.{◌≡◌, None, true, false};
     ghost use Rattle.osc_packet.specs.Reading.{packet_fault, units_read};
     ghost use Rattle.osc_packet.specs.Reading;
 
     pub(crate) fn new(bytes: &'a [u8]) -> Units<'a>
-        requires { packet_fault 65504 bytes.now ≡ None }
+        requires { packet_fault MAX_PACKET bytes.now ≡ None }
         ensures { result ≡ units_read bytes.now }
     {
         if is_bundle(bytes) {
@@ -49,7 +53,7 @@ impl<'a> Units<'a> {
     }
 
     fn of_message(bytes: &'a [u8]) -> Units<'a>
-        requires packet { packet_fault 65504 bytes.now ≡ None }
+        requires packet { packet_fault MAX_PACKET bytes.now ≡ None }
         requires message { Reading.is_bundle bytes.now ≡ false }
         ensures { result ≡ units_read bytes.now }
     {
@@ -65,7 +69,7 @@ impl<'a> Units<'a> {
     }
 
     fn of_bundle(bytes: &'a [u8]) -> Units<'a>
-        requires packet { packet_fault 65504 bytes.now ≡ None }
+        requires packet { packet_fault MAX_PACKET bytes.now ≡ None }
         requires bundle { Reading.is_bundle bytes.now ≡ true }
         ensures { result ≡ units_read bytes.now }
     {

@@ -1,4 +1,5 @@
 // A packet, gone through from front to back, one bundle after another.
+ghost use Rattle.osc_packet.specs.declared.limits.TheConstants.{MAX_PACKET};
 ghost use Rattle.std.specs.Prelude.{◌≡◌, ◌+◌, ◌≤◌, [], ◌∷◌, length, MatchOption};
 ghost use Rattle.osc_packet.specs.Walks.{units_from, IsWalk, IsNext};
 
@@ -37,12 +38,14 @@ struct Found {
 pub(crate) fn next_unit<'a>(bytes: &'a [u8], walk: &mut Walk) -> Option<Unit<'a>>
     requires walk { IsWalk bytes.now walk.old.bundles walk.old.depth walk.old.place }
     requires few { walk.old.depth ≤ 16 }
-    requires small { length bytes.now ≤ 65504 }
+    requires small { length bytes.now ≤ MAX_PACKET }
     ensures walk { IsWalk bytes.now walk.new.bundles walk.new.depth walk.new.place }
     ensures few { walk.new.depth ≤ 16 }
     ensures units { MatchOption result
-        ((units_from bytes.now walk.old.bundles walk.old.depth walk.old.place ≡ []) × (units_from bytes.now walk.new.bundles walk.new.depth walk.new.place ≡ []))
-        (λ unit. units_from bytes.now walk.old.bundles walk.old.depth walk.old.place ≡ unit ∷ units_from bytes.now walk.new.bundles walk.new.depth walk.new.place) }
+        ((units_from bytes.now walk.old.bundles walk.old.depth walk.old.place ≡ [])
+        × (units_from bytes.now walk.new.bundles walk.new.depth walk.new.place ≡ []))
+        (λ unit. units_from bytes.now walk.old.bundles walk.old.depth walk.old.place
+        ≡ unit ∷ units_from bytes.now walk.new.bundles walk.new.depth walk.new.place) }
 {
     let found = next_bundle(bytes, &walk.bundles, walk.depth, walk.place)?;
     let bundle = &bytes[found.place..found.end];
@@ -66,8 +69,9 @@ fn next_bundle(
 ) -> Option<Found>
     requires walk { IsWalk bytes.now bundles.now depth place }
     requires few { depth ≤ 16 }
-    requires small { length bytes.now ≤ 65504 }
-    ensures { MatchOption result (units_from bytes.now bundles.now depth place ≡ []) (λ found. IsNext bytes.now bundles.now depth place found) }
+    requires small { length bytes.now ≤ MAX_PACKET }
+    ensures { MatchOption result (units_from bytes.now bundles.now depth place ≡ [])
+        (λ found. IsNext bytes.now bundles.now depth place found) }
 {
     let mut depth = depth;
     let mut place = place;

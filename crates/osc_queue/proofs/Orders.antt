@@ -38,7 +38,11 @@ module _ {T : Type 0} where
 
   -- where the head of a list in order isn't due, no item is
   pub none_is_due : (now : ℕ) (x : Item T) (xs : List (Item T)) → IsInOrder (x ∷ xs) → now < due_of x → NoneIsDue now (x ∷ xs)
-  none_is_due now x xs ordered later = (later, all_mapped xs (λ (y : Item T) (before : is_before x y ≡ true). let e : due_of x ≤ due_of y = no_earlier x y before in let r : now < due_of y = omega arith in r) ordered.0)
+  none_is_due now x xs ordered later = (
+    later,
+    all_mapped xs (λ (y : Item T) (before : is_before x y ≡ true). let e : due_of x ≤ due_of y = no_earlier x y before in
+        let r : now < due_of y = omega arith in r) ordered.0,
+  )
 
   enter_behind : (x y : Item T) (ys : List (Item T)) → is_before x y ≡ false → enter x (y ∷ ys) ≡ y ∷ enter x ys
   enter_behind x y ys e = rw (e, one-add) refl
@@ -60,7 +64,8 @@ module _ {T : Type 0} where
   enter_ordered x (y ∷ ys) new ordered = go (is_before x y) refl (enter_ordered x ys new.1 ordered.1) where
     go : (t : Bool) → is_before x y ≡ t → IsInOrder (enter x ys) → IsInOrder (enter x (y ∷ ys))
     go true e more = subst IsInOrder (sym (enter_ahead x y ys e)) ((e, all_mapped ys (λ (z : Item T). chain x y z e) ordered.0), ordered)
-    go false e more = subst IsInOrder (sym (enter_behind x y ys e)) (all_entered (λ (z : Item T). is_before y z ≡ true) x ys (total x y new.0 e) ordered.0, more)
+    go false e more =
+        subst IsInOrder (sym (enter_behind x y ys e)) (all_entered (λ (z : Item T). is_before y z ≡ true) x ys (total x y new.0 e) ordered.0, more)
 
   -- the item joins the others, none of which is lost
   pub enter_joined : (x : Item T) (xs : List (Item T)) → IsPermutation (x ∷ xs) (enter x xs)

@@ -33,7 +33,8 @@ module _ {T : Type 0} where
     go : (y ≡ x) ⊎ Contains ys x → (x ≡ y) ⊎ Contains xs y → x ≡ y
     go (inl same) other = sym same
     go (inr held) (inl same) = same
-    go (inr held) (inr other) = let e : is_before y x ≡ true = head_before x y ys second held in let f : is_before y x ≡ false = one_way x y (head_before y x xs first other) in absurd (cc)
+    go (inr held) (inr other) = let e : is_before y x ≡ true = head_before x y ys second held in
+        let f : is_before y x ≡ false = one_way x y (head_before y x xs first other) in absurd (cc)
 
   -- the others of one list are among the others of another with the same head
   others_held : (x z : Item T) (xs ys : List (Item T)) → IsInOrder (x ∷ xs) → Contains xs z → Contains (x ∷ ys) z → Contains ys z
@@ -45,7 +46,8 @@ module _ {T : Type 0} where
         let f : is_before x z ≡ false = subst (λ (w : Item T). is_before x w ≡ false) same (never_itself x) in
         absurd (cc)
 
-  pub same_items : (xs ys : List (Item T)) → IsInOrder xs → IsInOrder ys → ((z : Item T) → Contains xs z → Contains ys z) → ((z : Item T) → Contains ys z → Contains xs z) → xs ≡ ys
+  pub same_items : (xs ys : List (Item T)) → IsInOrder xs → IsInOrder ys → ((z : Item T) → Contains xs z → Contains ys z)
+      → ((z : Item T) → Contains ys z → Contains xs z) → xs ≡ ys
   same_items [] [] first second there back = refl
   same_items [] (y ∷ ys) first second there back = let none : Contains [] y = back y (0, omega arith, refl) in absurd (omega (arith, none.1))
   same_items (x ∷ xs) [] first second there back = let none : Contains [] x = there x (0, omega arith, refl) in absurd (omega (arith, none.1))
@@ -53,5 +55,7 @@ module _ {T : Type 0} where
       let same : x ≡ y = same_head x y xs ys first second (there x (0, omega arith, refl)) (back y (0, omega arith, refl)) in
       let first' : IsInOrder (y ∷ xs) = subst (λ (w : Item T). IsInOrder (w ∷ xs)) same first in
       let there' : (z : Item T) → Contains xs z → Contains ys z = λ z held. others_held y z xs ys first' held (there z (among_others z x xs held)) in
-      let back' : (z : Item T) → Contains ys z → Contains xs z = λ z held. others_held x z ys xs (subst (λ (w : Item T). IsInOrder (w ∷ ys)) (sym same) second) held (back z (among_others z y ys held)) in
+      let back' : (z : Item T) → Contains ys z
+      → Contains xs z =
+      λ z held. others_held x z ys xs (subst (λ (w : Item T). IsInOrder (w ∷ ys)) (sym same) second) held (back z (among_others z y ys held)) in
       ap (λ (w : Item T). w ∷ xs) same ∙ ap (λ (l : List (Item T)). y ∷ l) (same_items xs ys first.1 second.1 there' back')

@@ -15,7 +15,8 @@ pub record Timed (T : Type 0) : Type 0 where
 -- an item is stored as the tuple of its parts
 abbrev pub item_code : {T : Type 0} → Coded T → Coded (Item T)
 item_code {T} code =
-    code_by (ℕ × (ℕ × T)) (coded× coded_ℕ (coded× coded_ℕ code)) (λ item. (item.0, (item.1, item.2))) (λ p. (p.0, p.1.0, p.1.1)) (λ _. refl)
+    code_by (ℕ × (ℕ × T)) (coded× coded_ℕ (coded× coded_ℕ code))
+    (λ item. (item.0, (item.1, item.2))) (λ p. (p.0, p.1.0, p.1.1)) (λ _. refl)
 
 -- a queue is stored as the pair of its fields
 abbrev pub timed_code : {T : Type 0} → Coded T → Coded (Timed T)
@@ -36,9 +37,11 @@ module _ {T : Type 0} where
   abbrev pub unit_of : Item T → ℕ
   unit_of item = item.1
 
-  -- the first is taken before the second: it is due earlier, or at the same moment with the lower unit number
+  -- the first is taken before the second: it is due earlier, or at the same moment with the lower
+  -- unit number
   abbrev pub is_before : Item T → Item T → Bool
-  is_before a b = nat_lt (due_of a) (due_of b) || (due_of a == due_of b && nat_lt (unit_of a) (unit_of b))
+  is_before a b = nat_lt (due_of a) (due_of b)
+      || (due_of a == due_of b && nat_lt (unit_of a) (unit_of b))
 
   -- an item enters before the first that is taken after it
   abbrev pub enter : Item T → List (Item T) → List (Item T)
@@ -47,7 +50,8 @@ module _ {T : Type 0} where
   -- each item is taken before all those behind it
   abbrev pub IsInOrder : List (Item T) → Type 0
   IsInOrder [] = Unit {0}
-  IsInOrder (item ∷ items) = AllByRecursion (λ other. is_before item other ≡ true) items × IsInOrder items
+  IsInOrder (item ∷ items) = AllByRecursion (λ other. is_before item other ≡ true) items
+      × IsInOrder items
 
   -- the least by due moment and unit number: no item of the list is taken before it
   abbrev pub IsLeast : Item T → List (Item T) → Type 0

@@ -36,7 +36,8 @@ impl<T> Model for Queue<T> {
 
     ghost view = { λ queue. record { limit = queue.limit; items = items_of queue.entries.items } };
 
-    ghost invariant = { λ queue. IsReserved (items_of queue.entries.items) queue.limit (deque_capacity queue.entries) };
+    ghost invariant = { λ queue. IsReserved (items_of queue.entries.items) queue.limit
+        (deque_capacity queue.entries) };
 }
 
 /// The queue holds as many items as it may.
@@ -79,7 +80,8 @@ impl<T> Queue<T> {
         ensures handed_back { IfErr result (λ refused. refused.1 ≡ item) }
         ensures unchanged { OnErr result (self.new ≡ self.old) }
         ensures ok { OnOk result (self.new.items ≡ enter (due, unit, item) self.old.items) }
-        ensures joined { OnOk result (IsPermutation ((due, unit, item) ∷ self.old.items) self.new.items) }
+        ensures joined { OnOk result
+            (IsPermutation ((due, unit, item) ∷ self.old.items) self.new.items) }
         ensures limit { self.new.limit ≡ self.old.limit }
         ensures ordered { IsInOrder self.new.items }
         ensures counted { steps.old ≤ steps.new }
@@ -94,9 +96,12 @@ impl<T> Queue<T> {
     /// The least item by due moment and unit number, behind these two, or `None` where the queue is empty.
     pub fn first(&self) -> Option<(u64, u64, &T)>
         ensures empty { IsNone result ↔ (self.now.items ≡ []) }
-        ensures head { IfSome result (λ first. slice_get self.now.items 0 ≡ Some (first.0, first.1, first.2.now)) }
-        ensures held { IfSome result (λ first. Contains self.now.items (first.0, first.1, first.2.now)) }
-        ensures least { IfSome result (λ first. IsLeast (first.0, first.1, first.2.now) self.now.items) }
+        ensures head { IfSome result
+            (λ first. slice_get self.now.items 0 ≡ Some (first.0, first.1, first.2.now)) }
+        ensures held { IfSome result
+            (λ first. Contains self.now.items (first.0, first.1, first.2.now)) }
+        ensures least { IfSome result
+            (λ first. IsLeast (first.0, first.1, first.2.now) self.now.items) }
         ensures ordered { IsInOrder self.now.items }
     {
         let entry = self.entries.front()?;
@@ -130,7 +135,8 @@ fn place_in<T, L: Ledger>(
     steps: &mut Steps<L>,
 ) -> usize
     requires { IsInOrder (items_of entries.now.items) }
-    ensures value { result ≡ position_or_len (is_before (item_of entry.now)) (items_of entries.now.items) }
+    ensures value { result
+        ≡ position_or_len (is_before (item_of entry.now)) (items_of entries.now.items) }
     ensures within { result ≤ deque_len entries.now }
     ensures counted { steps.old ≤ steps.new }
 {
@@ -150,8 +156,10 @@ fn enter_entry<T, L: Ledger>(
     requires ordered { IsInOrder (items_of entries.old.items) }
     requires new { IsNewUnit entry.unit (items_of entries.old.items) }
     requires room { deque_len entries.old < deque_capacity entries.old }
-    ensures items { items_of entries.new.items ≡ enter (item_of entry) (items_of entries.old.items) }
-    ensures joined { IsPermutation (item_of entry ∷ items_of entries.old.items) (items_of entries.new.items) }
+    ensures items { items_of entries.new.items
+        ≡ enter (item_of entry) (items_of entries.old.items) }
+    ensures joined { IsPermutation (item_of entry ∷ items_of entries.old.items)
+        (items_of entries.new.items) }
     ensures ordered { IsInOrder (items_of entries.new.items) }
     ensures len { deque_len entries.new ≡ deque_len entries.old + 1 }
     ensures capacity { deque_capacity entries.old ≤ deque_capacity entries.new }

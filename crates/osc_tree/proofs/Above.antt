@@ -4,7 +4,9 @@ use Rattle.std.specs.List.{starts_with}
 use Rattle.std.proofs.lemmas.Bool.Decides.{nat_tests}
 use Rattle.osc_pattern.specs.Addresses.{is_proper_prefix}
 
-pub above_is : (prefix address : List ℕ) → is_proper_prefix prefix address ≡ (nat_lt (length prefix) (length address) && nat_eq (get_or address (length prefix) 0) 47 && starts_with nat_eq address prefix)
+pub above_is : (prefix address : List ℕ)
+    → is_proper_prefix prefix address
+    ≡ (nat_lt (length prefix) (length address) && nat_eq (get_or address (length prefix) 0) 47 && starts_with nat_eq address prefix)
 above_is [] [] = refl
 above_is [] (x ∷ address) = grind (arith, nat_tests)
 above_is (a ∷ prefix) [] = grind (arith, nat_tests)

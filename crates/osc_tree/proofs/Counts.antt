@@ -16,7 +16,8 @@ grown true text texts = refl
 grown false text texts = refl
 
 -- a text joins others: one more distinct text, if it new among them
-insert_one : (text : List ℕ) (front back : List (List ℕ)) → length (distinct (front ++ text ∷ back)) ≡ length (distinct (front ++ back)) + cond (list_any (bytes_eq text) (front ++ back)) 0 1
+insert_one : (text : List ℕ) (front back : List (List ℕ))
+    → length (distinct (front ++ text ∷ back)) ≡ length (distinct (front ++ back)) + cond (list_any (bytes_eq text) (front ++ back)) 0 1
 insert_one text [] back = go (list_any (bytes_eq text) back) where
   go : (t : Bool) → length (cond t (distinct back) (text ∷ distinct back)) ≡ length (distinct back) + cond t 0 1
   go true = omega arith
@@ -24,9 +25,12 @@ insert_one text [] back = go (list_any (bytes_eq text) back) where
 insert_one text (first ∷ front) back =
     ap (λ (t : Bool). length (cond t (distinct (front ++ text ∷ back)) (first ∷ distinct (front ++ text ∷ back)))) (among first)
     ∙ grown (list_any (bytes_eq first) (front ++ back) || bytes_eq first text) first (distinct (front ++ text ∷ back))
-    ∙ go (list_any (bytes_eq first) (front ++ back)) (bytes_eq first text) (list_any (bytes_eq text) (front ++ back)) _ _ (insert_one text front back) (list_any_congr nat_list_eq_equiv first text (front ++ back))
-    ∙ ap (λ (n : ℕ). n + cond (bytes_eq first text || list_any (bytes_eq text) (front ++ back)) 0 1) (sym (grown (list_any (bytes_eq first) (front ++ back)) first (distinct (front ++ back))))
-    ∙ ap (λ (t : Bool). length (distinct (first ∷ front ++ back)) + cond (t || list_any (bytes_eq text) (front ++ back)) 0 1) (nat_list_eq_equiv.symm first text)
+    ∙ go (list_any (bytes_eq first) (front ++ back)) (bytes_eq first text) (list_any (bytes_eq text) (front ++ back)) _ _ (insert_one text front back)
+    (list_any_congr nat_list_eq_equiv first text (front ++ back))
+    ∙ ap (λ (n : ℕ). n + cond (bytes_eq first text || list_any (bytes_eq text) (front ++ back)) 0 1)
+    (sym (grown (list_any (bytes_eq first) (front ++ back)) first (distinct (front ++ back))))
+    ∙ ap (λ (t : Bool). length (distinct (first ∷ front ++ back)) + cond (t || list_any (bytes_eq text) (front ++ back)) 0 1)
+    (nat_list_eq_equiv.symm first text)
   where
     turn : (a b c : Bool) → (a || (b || c)) ≡ ((a || c) || b)
     turn true b c = refl
@@ -57,7 +61,8 @@ AreDistinct [] = Unit {0}
 AreDistinct (text ∷ texts) = (list_any (bytes_eq text) texts ≡ false) × AreDistinct texts
 
 -- distinct texts join others: as many more as aren't among them
-insert_all : (new : List ℕ → Bool) (texts front back : List (List ℕ)) → ((text : List ℕ) → new text ≡ not (list_any (bytes_eq text) (front ++ back))) → AreDistinct texts
+insert_all : (new : List ℕ → Bool) (texts front back : List (List ℕ)) → ((text : List ℕ) → new text ≡ not (list_any (bytes_eq text) (front ++ back)))
+    → AreDistinct texts
     → length (distinct (front ++ (texts ++ back))) ≡ length (distinct (front ++ back)) + count_by new texts
 insert_all new [] front back is apart = omega arith
 insert_all new (text ∷ texts) front back is apart =
@@ -65,9 +70,11 @@ insert_all new (text ∷ texts) front back is apart =
     let more = insert_all new texts front back is apart.1 in
     let among : list_any (bytes_eq text) (front ++ (texts ++ back)) ≡ list_any (bytes_eq text) (front ++ back) =
     list_any-append (bytes_eq text) front (texts ++ back)
-    ∙ ap (λ (t : Bool). list_any (bytes_eq text) front || t) (list_any-append (bytes_eq text) texts back ∙ ap (λ (t : Bool). t || list_any (bytes_eq text) back) apart.0)
+    ∙ ap (λ (t : Bool). list_any (bytes_eq text) front || t)
+    (list_any-append (bytes_eq text) texts back ∙ ap (λ (t : Bool). t || list_any (bytes_eq text) back) apart.0)
     ∙ sym (list_any-append (bytes_eq text) front back) in
-    go (list_any (bytes_eq text) (front ++ back)) _ _ _ _ _ (one ∙ ap (λ (t : Bool). length (distinct (front ++ (texts ++ back))) + cond t 0 1) among) more (sum_by-cons (λ x. cond {A = ℕ} (new x) 1 0) text texts ∙ ap (λ (t : Bool). cond {A = ℕ} t 1 0 + count_by new texts) (is text))
+    go (list_any (bytes_eq text) (front ++ back)) _ _ _ _ _ (one ∙ ap (λ (t : Bool). length (distinct (front ++ (texts ++ back))) + cond t 0 1) among) more
+    (sum_by-cons (λ x. cond {A = ℕ} (new x) 1 0) text texts ∙ ap (λ (t : Bool). cond {A = ℕ} t 1 0 + count_by new texts) (is text))
   where
     go : (t : Bool) (n m k a b : ℕ) → n ≡ m + cond t 0 1 → m ≡ k + a → b ≡ cond (not t) 1 0 + a → n ≡ k + b
     go true n m k a b one more both = omega arith
@@ -93,7 +100,8 @@ any_own_front : (front : List ℕ) (texts : List (List ℕ)) → list_any (bytes
 any_own_front front [] = refl
 any_own_front front (text ∷ texts) = rw (own_front front text, any_own_front front texts) refl
 
-any_same_front : (front text : List ℕ) (texts : List (List ℕ)) → list_any (bytes_eq (front ++ text)) (map (λ more. front ++ more) texts) ≡ list_any (bytes_eq text) texts
+any_same_front : (front text : List ℕ) (texts : List (List ℕ))
+    → list_any (bytes_eq (front ++ text)) (map (λ more. front ++ more) texts) ≡ list_any (bytes_eq text) texts
 any_same_front front text [] = refl
 any_same_front front text (other ∷ texts) = rw (same_front front text other, any_same_front front text texts) refl
 
@@ -104,17 +112,23 @@ stay_distinct front (text ∷ texts) apart = (any_same_front front text texts �
 -- the prefixes of an address are distinct
 runs_distinct : (names : List (List ℕ)) → AreDistinct (runs_of names)
 runs_distinct [] = tt
-runs_distinct (name ∷ names) = (any_own_front (47 ∷ name) (runs_of names) ∙ runs_not_empty names, stay_distinct (47 ∷ name) (runs_of names) (runs_distinct names))
+runs_distinct (name ∷ names) =
+    (any_own_front (47 ∷ name) (runs_of names) ∙ runs_not_empty names, stay_distinct (47 ∷ name) (runs_of names) (runs_distinct names))
 
-has_node_is : (prefix : List ℕ) (methods : List Method) → has_node methods prefix ≡ list_any (bytes_eq prefix) (flat_map (λ method. prefixes_of method.address) methods)
+has_node_is : (prefix : List ℕ) (methods : List Method)
+    → has_node methods prefix ≡ list_any (bytes_eq prefix) (flat_map (λ method. prefixes_of method.address) methods)
 has_node_is prefix [] = refl
-has_node_is prefix (method ∷ methods) = ap (λ (t : Bool). list_any (bytes_eq prefix) (prefixes_of method.address) || t) (has_node_is prefix methods) ∙ sym (list_any-append (bytes_eq prefix) (prefixes_of method.address) (flat_map (λ method. prefixes_of method.address) methods))
+has_node_is prefix (method ∷ methods) =
+    ap (λ (t : Bool). list_any (bytes_eq prefix) (prefixes_of method.address) || t) (has_node_is prefix methods)
+    ∙ sym (list_any-append (bytes_eq prefix) (prefixes_of method.address) (flat_map (λ method. prefixes_of method.address) methods))
 
 -- a list with one more method, wherever it stands, has the nodes of the others and those that the method's address adds
-pub one_more_method : (method : Method) (front back : List Method) → nodes (front ++ method ∷ back) ≡ nodes (front ++ back) + new_nodes (front ++ back) method.address
+pub one_more_method : (method : Method) (front back : List Method)
+    → nodes (front ++ method ∷ back) ≡ nodes (front ++ back) + new_nodes (front ++ back) method.address
 one_more_method method front back =
     let of : List Method → List (List ℕ) = flat_map (λ method. prefixes_of method.address) in
     ap (λ l. length (distinct l)) (flat_map-append (λ method. prefixes_of method.address) front (method ∷ back))
     ∙ insert_all (λ prefix. not (has_node (front ++ back) prefix)) (prefixes_of method.address) (of front) (of back)
-    (λ text. ap not (has_node_is text (front ++ back) ∙ ap (list_any (bytes_eq text)) (flat_map-append (λ method. prefixes_of method.address) front back))) (runs_distinct (parts_of method.address))
+    (λ text. ap not (has_node_is text (front ++ back) ∙ ap (list_any (bytes_eq text)) (flat_map-append (λ method. prefixes_of method.address) front back)))
+    (runs_distinct (parts_of method.address))
     ∙ ap (λ l. length (distinct l) + new_nodes (front ++ back) method.address) (sym (flat_map-append (λ method. prefixes_of method.address) front back))

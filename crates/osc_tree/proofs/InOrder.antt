@@ -22,16 +22,22 @@ use Rattle.osc_tree.proofs.Ranges.{begun_range}
 pub methods_at-length : (registered : List Registered) (places : List ℕ) → length (methods_at registered places) ≡ length places
 methods_at-length registered places = length-map places (method_at registered)
 
-pub methods_at-get : (registered : List Registered) (places : List ℕ) (k : ℕ) (d : Method) → k < length places → get_or (methods_at registered places) k d ≡ method_at registered (get_or places k 0)
+pub methods_at-get : (registered : List Registered) (places : List ℕ) (k : ℕ) (d : Method) → k < length places
+    → get_or (methods_at registered places) k d ≡ method_at registered (get_or places k 0)
 methods_at-get registered places k d within = get_or-map (method_at registered) places k 0 d within
 
 -- the places that the search cuts out
-pub range_at : (text : List ℕ) (registered : List Registered) (places : List ℕ) (low count : ℕ) → IsAscending (methods_at registered places) → IsSearched text (methods_at registered places) low low
-    → count ≡ position_or_len (λ place. not (begins_with text (method_at registered place))) (take (length places - low) (drop low places)) → methods_at registered (take count (take (length places - low) (drop low places))) ≡ filter (begins_with text) (methods_at registered places)
+pub range_at : (text : List ℕ) (registered : List Registered) (places : List ℕ) (low count : ℕ) → IsAscending (methods_at registered places)
+    → IsSearched text (methods_at registered places) low low
+    → count ≡ position_or_len (λ place. not (begins_with text (method_at registered place))) (take (length places - low) (drop low places))
+    → methods_at registered (take count (take (length places - low) (drop low places))) ≡ filter (begins_with text) (methods_at registered places)
 range_at text registered places low count up so is =
-    let whole : take (length places - low) (drop low places) ≡ drop low places = take_all (length places - low) (drop low places) (omega (arith, length-drop low places)) in
+    let whole : take (length places - low) (drop low places) ≡ drop low places =
+    take_all (length places - low) (drop low places) (omega (arith, length-drop low places)) in
     let counted : count ≡ position_or_len (λ method. not (begins_with text method)) (drop low (methods_at registered places)) =
-    is ∙ ap (position_or_len (λ place. not (begins_with text (method_at registered place)))) whole ∙ sym (position-map (method_at registered) (λ method. not (begins_with text method)) (drop low places)) ∙ ap (position_or_len (λ method. not (begins_with text method))) (sym (drop-map (method_at registered) low places)) in
+    is ∙ ap (position_or_len (λ place. not (begins_with text (method_at registered place)))) whole
+    ∙ sym (position-map (method_at registered) (λ method. not (begins_with text method)) (drop low places))
+    ∙ ap (position_or_len (λ method. not (begins_with text method))) (sym (drop-map (method_at registered) low places)) in
     ap (λ l. methods_at registered (take count l)) whole
     ∙ sym (take-map (method_at registered) count (drop low places))
     ∙ ap (take count) (sym (drop-map (method_at registered) low places))
@@ -47,7 +53,8 @@ length-folded methods (method ∷ more) = omega (arith, length-folded (in_place 
 
 -- there are as many places as methods
 pub order_length : (registered : List Registered) (places : List ℕ) → IsOrder registered places → length places ≡ length registered
-order_length registered places order = omega (arith, methods_at-length registered places, ap length order.all, length-folded [] (methods_of registered), length-map registered method_of)
+order_length registered places order =
+    omega (arith, methods_at-length registered places, ap length order.all, length-folded [] (methods_of registered), length-map registered method_of)
 
 pub order_ascends : (registered : List Registered) (places : List ℕ) → IsOrder registered places → IsAscending (methods_at registered places)
 order_ascends registered places order = subst IsAscending (sym order.all) (ordered_ascend (methods_of registered))
@@ -59,14 +66,16 @@ none_ordered = record { within = All-nil (λ place. place < 0); all = refl }
 filter_twice : {X : Type 0} (p q : X → Bool) (xs : List X) → All (λ x. p x ≡ true → q x ≡ true) xs → filter p (filter q xs) ≡ filter p xs
 filter_twice p q [] all = refl
 filter_twice p q (x ∷ xs) all = go (p x) (q x) refl refl (filter_twice p q xs (All-tail (λ x. p x ≡ true → q x ≡ true) x xs all)) where
-  go : (s t : Bool) → p x ≡ s → q x ≡ t → filter p (filter q xs) ≡ filter p xs → filter p (cond t (x ∷ filter q xs) (filter q xs)) ≡ cond s (x ∷ filter p xs) (filter p xs)
+  go : (s t : Bool) → p x ≡ s → q x ≡ t → filter p (filter q xs) ≡ filter p xs
+      → filter p (cond t (x ∷ filter q xs) (filter q xs)) ≡ cond s (x ∷ filter p xs) (filter p xs)
   go true true e f more = rw e (ap (λ l. x ∷ l) more)
   go true false e f more = absurd (let is = All-head (λ x. p x ≡ true → q x ≡ true) x xs all e in cc)
   go false true e f more = rw e more
   go false false e f more = more
 
 -- the matching methods are those that match of the methods that begin with the pattern's literal front
-pub found_is : (pattern text : List ℕ) (registered : List Registered) (places : List ℕ) → IsMethodList (methods_of registered) → IsOrder registered places → begins_with_slash pattern ≡ true → text ≡ before_first is_special pattern
+pub found_is : (pattern text : List ℕ) (registered : List Registered) (places : List ℕ) → IsMethodList (methods_of registered) → IsOrder registered places
+    → begins_with_slash pattern ≡ true → text ≡ before_first is_special pattern
     → filter (λ method. matches pattern method.address) (filter (begins_with text) (methods_at registered places)) ≡ matching pattern (methods_of registered)
 found_is pattern text registered places list order slash is =
     let test : Method → Bool = λ method. matches pattern method.address in
@@ -74,27 +83,38 @@ found_is pattern text registered places list order slash is =
     ap (λ l. filter test (filter (begins_with text) l)) order.all
     ∙ ap (filter test) (filter_ordered (begins_with text) methods)
     ∙ filter_ordered test (filter (begins_with text) methods)
-    ∙ ap ordered (filter_twice test (begins_with text) methods (λ k d within e. subst (λ l. begins_with l (get_or methods k d) ≡ true) (sym is) (matched_starts pattern (get_or methods k d).address slash (list.lawful k d within).slash e)))
+    ∙ ap ordered
+    (filter_twice test (begins_with text) methods
+    (λ k d within e. subst (λ l. begins_with l (get_or methods k d) ≡ true) (sym is)
+    (matched_starts pattern (get_or methods k d).address slash (list.lawful k d within).slash e)))
 
 fold-push : {X A : Type 0} (f : A → X → A) (a : A) (xs : List X) (x : X) → fold f a (xs ++ x ∷ []) ≡ f (fold f a xs) x
 fold-push f a [] x = refl
 fold-push f a (y ∷ xs) x = fold-push f (f a y) xs x
 
 -- the places mean what they did once more methods follow
-methods_at-push : (registered : List Registered) (one : Registered) (places : List ℕ) → All (λ place. place < length registered) places → methods_at (registered ++ one ∷ []) places ≡ methods_at registered places
+methods_at-push : (registered : List Registered) (one : Registered) (places : List ℕ) → All (λ place. place < length registered) places
+    → methods_at (registered ++ one ∷ []) places ≡ methods_at registered places
 methods_at-push registered one [] all = refl
 methods_at-push registered one (place ∷ places) all =
     let within = All-head (λ place. place < length registered) place places all in
     let here : method_at (registered ++ one ∷ []) place ≡ method_at registered place =
-    method_at-get (registered ++ one ∷ []) place one (omega (arith, length-append registered (one ∷ []))) ∙ ap method_of (get_or-append registered (one ∷ []) one place within) ∙ sym (method_at-get registered place one within) in
-    ap (λ l. method_at (registered ++ one ∷ []) place ∷ l) (methods_at-push registered one places (All-tail (λ place. place < length registered) place places all)) ∙ ap (λ (m : Method). m ∷ methods_at registered places) here
+    method_at-get (registered ++ one ∷ []) place one (omega (arith, length-append registered (one ∷ [])))
+    ∙ ap method_of (get_or-append registered (one ∷ []) one place within) ∙ sym (method_at-get registered place one within) in
+    ap (λ l. method_at (registered ++ one ∷ []) place ∷ l)
+    (methods_at-push registered one places (All-tail (λ place. place < length registered) place places all))
+    ∙ ap (λ (m : Method). m ∷ methods_at registered places) here
 
 last_method : (registered : List Registered) (one : Registered) → method_at (registered ++ one ∷ []) (length registered) ≡ method_of one
-last_method registered one = method_at-get (registered ++ one ∷ []) (length registered) one (omega (arith, length-append registered (one ∷ []))) ∙ ap method_of (get_or-append_seam registered one [] one)
+last_method registered one = method_at-get (registered ++ one ∷ []) (length registered) one (omega (arith, length-append registered (one ∷ [])))
+    ∙ ap method_of (get_or-append_seam registered one [] one)
 
 -- the last method's place enters
-pub one_more_ordered : (registered : List Registered) (one : Registered) (places entered : List ℕ) → IsOrder registered places → All (λ place. place < length (registered ++ one ∷ [])) entered
-    → entered ≡ insert places (position_or_len (λ other. is_below (method_at (registered ++ one ∷ []) (length registered)) (method_at (registered ++ one ∷ []) other)) places) (length registered) → IsOrder (registered ++ one ∷ []) entered
+pub one_more_ordered : (registered : List Registered) (one : Registered) (places entered : List ℕ) → IsOrder registered places
+    → All (λ place. place < length (registered ++ one ∷ [])) entered
+    → entered ≡ insert places
+    (position_or_len (λ other. is_below (method_at (registered ++ one ∷ []) (length registered)) (method_at (registered ++ one ∷ []) other)) places)
+    (length registered) → IsOrder (registered ++ one ∷ []) entered
 one_more_ordered registered one places entered order within is =
     let all = registered ++ one ∷ [] in
     let last = method_at all (length registered) in

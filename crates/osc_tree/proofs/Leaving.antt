@@ -26,30 +26,42 @@ same_place : (a b : ℕ) → (a == b) ≡ true → a ≡ b
 same_place a b e = let h : (a == b) ≡ true = e in grind (arith, nat_tests)
 
 -- the method at the place has the address
-here : (registered : List Registered) (place : ℕ) (address : List ℕ) (d : Registered) → Leaves registered place address → bytes_eq (get_or registered place d).address address ≡ true
+here : (registered : List Registered) (place : ℕ) (address : List ℕ) (d : Registered) → Leaves registered place address
+    → bytes_eq (get_or registered place d).address address ≡ true
 here registered place address d so =
     let first = so.first in
     let within = so.within in
     let inside : position_or_len (λ method. bytes_eq method.address address) registered < length registered = omega arith in
     ap (λ (k : ℕ). bytes_eq (get_or registered k d).address address) first ∙ passes_at_first (λ method. bytes_eq method.address address) registered d inside
 
-one_address : (registered : List Registered) (i j : ℕ) (d : Registered) (address : List ℕ) → IsMethodList (methods_of registered) → i < j → j < length registered → bytes_eq (get_or registered i d).address address ≡ true → bytes_eq (get_or registered j d).address address ≡ true → ⊥
+one_address : (registered : List Registered) (i j : ℕ) (d : Registered) (address : List ℕ) → IsMethodList (methods_of registered) → i < j
+    → j < length registered → bytes_eq (get_or registered i d).address address ≡ true → bytes_eq (get_or registered j d).address address ≡ true → ⊥
 one_address registered i j d address list lt within first second =
     let long = length-map registered method_of in
-    let at_i : get_or (methods_of registered) i (method_of d) ≡ method_of (get_or registered i d) = get_or-map method_of registered i d (method_of d) (omega arith) in
-    let at_j : get_or (methods_of registered) j (method_of d) ≡ method_of (get_or registered j d) = get_or-map method_of registered j d (method_of d) (omega arith) in
+    let at_i : get_or (methods_of registered) i (method_of d) ≡ method_of (get_or registered i d) =
+    get_or-map method_of registered i d (method_of d) (omega arith) in
+    let at_j : get_or (methods_of registered) j (method_of d) ≡ method_of (get_or registered j d) =
+    get_or-map method_of registered j d (method_of d) (omega arith) in
     list.addresses i j (method_of d) lt (omega arith)
-    (ap (λ m. m.address) at_i ∙ (bytes_eq-Decides (get_or registered i d).address address).0 first ∙ sym ((bytes_eq-Decides (get_or registered j d).address address).0 second) ∙ ap (λ m. m.address) (sym at_j))
+    (ap (λ m. m.address) at_i ∙ (bytes_eq-Decides (get_or registered i d).address address).0 first
+    ∙ sym ((bytes_eq-Decides (get_or registered j d).address address).0 second) ∙ ap (λ m. m.address) (sym at_j))
 
-elsewhere : (registered : List Registered) (place other : ℕ) (address : List ℕ) (d : Registered) → Leaves registered place address → other < length registered → (other == place) ≡ false → bytes_eq (get_or registered other d).address address ≡ false
+elsewhere : (registered : List Registered) (place other : ℕ) (address : List ℕ) (d : Registered) → Leaves registered place address → other < length registered
+    → (other == place) ≡ false → bytes_eq (get_or registered other d).address address ≡ false
 elsewhere registered place other address d so inside e = go (bytes_eq (get_or registered other d).address address) refl (nat_lt other place) refl where
   go : (t : Bool) → bytes_eq (get_or registered other d).address address ≡ t → (s : Bool) → nat_lt other place ≡ s → t ≡ false
   go false is s lt = refl
-  go true is true lt = absurd (one_address registered other place d address so.list (let h : nat_lt other place ≡ true = lt in grind (arith, nat_tests)) so.within is (here registered place address d so))
-  go true is false lt = absurd (one_address registered place other d address so.list (let h : nat_lt other place ≡ false = lt in let n : (other == place) ≡ false = e in grind (arith, nat_tests)) inside (here registered place address d so) is)
+  go true is true lt =
+      absurd (one_address registered other place d address so.list (let h : nat_lt other place ≡ true = lt in grind (arith, nat_tests)) so.within is
+      (here registered place address d so))
+  go true is false lt =
+      absurd (one_address registered place other d address so.list
+      (let h : nat_lt other place ≡ false = lt in let n : (other == place) ≡ false = e in grind (arith, nat_tests)) inside
+      (here registered place address d so) is)
 
 -- another method stands where its place closes up to
-moved : (registered : List Registered) (place other : ℕ) (d : Registered) → place < length registered → other < length registered → (other == place) ≡ false → method_at (remove registered place) (closed_up place other) ≡ method_at registered other
+moved : (registered : List Registered) (place other : ℕ) (d : Registered) → place < length registered → other < length registered → (other == place) ≡ false
+    → method_at (remove registered place) (closed_up place other) ≡ method_at registered other
 moved registered place other d within inside e = go (nat_lt place other) refl where
   long : length (remove registered place) + 1 ≡ length registered
   long = omega (arith, length-remove registered place within)
@@ -63,7 +75,8 @@ moved registered place other d within inside e = go (nat_lt place other) refl wh
       ∙ sym (method_at-get registered other d inside)
   go false lt =
       let below : other < place = (let h : nat_lt place other ≡ false = lt in let n : (other == place) ≡ false = e in grind (arith, nat_tests)) in
-      method_at-get (remove registered place) other d (omega (arith, long)) ∙ ap method_of (get_or-remove_below registered place d other below within) ∙ sym (method_at-get registered other d inside)
+      method_at-get (remove registered place) other d (omega (arith, long)) ∙ ap method_of (get_or-remove_below registered place d other below within)
+      ∙ sym (method_at-get registered other d inside)
 
 closed_within : (place other size : ℕ) → other < size → place < size → (other == place) ≡ false → closed_up place other < size - 1
 closed_within place other size inside within e = go (nat_lt place other) refl where
@@ -76,37 +89,54 @@ closed place places = map (closed_up place) (filter (λ other. not (other == pla
 
 all_closed : (place size : ℕ) (places : List ℕ) → place < size → All (λ other. other < size) places → All (λ other. other < size - 1) (closed place places)
 all_closed place size [] within all = All-nil (λ other. other < size - 1)
-all_closed place size (other ∷ places) within all = go (other == place) refl (all_closed place size places within (All-tail (λ other. other < size) other places all)) where
-  go : (t : Bool) → (other == place) ≡ t → All (λ other. other < size - 1) (closed place places) → All (λ other. other < size - 1) (map (closed_up place) (cond (not t) (other ∷ filter (λ other. not (other == place)) places) (filter (λ other. not (other == place)) places)))
-  go true e more = more
-  go false e more = All-cons (λ other. other < size - 1) (closed_up place other) (closed place places) (closed_within place other size (All-head (λ other. other < size) other places all) within e) more
+all_closed place size (other ∷ places) within all =
+    go (other == place) refl (all_closed place size places within (All-tail (λ other. other < size) other places all)) where
+      go : (t : Bool) → (other == place) ≡ t → All (λ other. other < size - 1) (closed place places)
+          → All (λ other. other < size - 1)
+          (map (closed_up place) (cond (not t) (other ∷ filter (λ other. not (other == place)) places) (filter (λ other. not (other == place)) places)))
+      go true e more = more
+      go false e more =
+          All-cons (λ other. other < size - 1) (closed_up place other) (closed place places)
+          (closed_within place other size (All-head (λ other. other < size) other places all) within e) more
 
-others_stay : (registered : List Registered) (place : ℕ) (address : List ℕ) (d : Registered) (places : List ℕ) → Leaves registered place address → All (λ other. other < length registered) places
+others_stay : (registered : List Registered) (place : ℕ) (address : List ℕ) (d : Registered) (places : List ℕ) → Leaves registered place address
+    → All (λ other. other < length registered) places
     → methods_at (remove registered place) (closed place places) ≡ filter (λ method. not (bytes_eq method.address address)) (methods_at registered places)
 others_stay registered place address d [] so all = refl
-others_stay registered place address d (other ∷ places) so all = go (other == place) refl (others_stay registered place address d places so (All-tail (λ other. other < length registered) other places all)) where
-  inside : other < length registered
-  inside = All-head (λ other. other < length registered) other places all
+others_stay registered place address d (other ∷ places) so all =
+    go (other == place) refl (others_stay registered place address d places so (All-tail (λ other. other < length registered) other places all)) where
+      inside : other < length registered
+      inside = All-head (λ other. other < length registered) other places all
 
-  test : Method → Bool
-  test method = not (bytes_eq method.address address)
+      test : Method → Bool
+      test method = not (bytes_eq method.address address)
 
-  go : (t : Bool) → (other == place) ≡ t → methods_at (remove registered place) (closed place places) ≡ filter test (methods_at registered places)
-      → methods_at (remove registered place) (map (closed_up place) (cond (not t) (other ∷ filter (λ other. not (other == place)) places) (filter (λ other. not (other == place)) places))) ≡ cond (test (method_at registered other)) (method_at registered other ∷ filter test (methods_at registered places)) (filter test (methods_at registered places))
-  go true e more =
-      let is : bytes_eq (method_at registered other).address address ≡ true =
-      ap (λ (m : Method). bytes_eq m.address address) (method_at-get registered other d inside) ∙ ap (λ (k : ℕ). bytes_eq (get_or registered k d).address address) (same_place other place e) ∙ here registered place address d so in
-      more ∙ sym (ap (λ (t : Bool). cond (not t) (method_at registered other ∷ filter test (methods_at registered places)) (filter test (methods_at registered places))) is)
-  go false e more =
-      let is : bytes_eq (method_at registered other).address address ≡ false = ap (λ (m : Method). bytes_eq m.address address) (method_at-get registered other d inside) ∙ elsewhere registered place other address d so inside e in
-      ap (λ (m : Method). m ∷ methods_at (remove registered place) (closed place places)) (moved registered place other d so.within inside e)
-      ∙ ap (λ l. method_at registered other ∷ l) more
-      ∙ sym (ap (λ (t : Bool). cond (not t) (method_at registered other ∷ filter test (methods_at registered places)) (filter test (methods_at registered places))) is)
+      go : (t : Bool) → (other == place) ≡ t → methods_at (remove registered place) (closed place places) ≡ filter test (methods_at registered places)
+          → methods_at (remove registered place)
+          (map (closed_up place) (cond (not t) (other ∷ filter (λ other. not (other == place)) places) (filter (λ other. not (other == place)) places)))
+          ≡ cond (test (method_at registered other)) (method_at registered other ∷ filter test (methods_at registered places))
+          (filter test (methods_at registered places))
+      go true e more =
+          let is : bytes_eq (method_at registered other).address address ≡ true =
+          ap (λ (m : Method). bytes_eq m.address address) (method_at-get registered other d inside)
+          ∙ ap (λ (k : ℕ). bytes_eq (get_or registered k d).address address) (same_place other place e) ∙ here registered place address d so in
+          more ∙ sym (ap
+          (λ (t : Bool). cond (not t) (method_at registered other ∷ filter test (methods_at registered places)) (filter test (methods_at registered places)))
+          is)
+      go false e more =
+          let is : bytes_eq (method_at registered other).address address ≡ false =
+          ap (λ (m : Method). bytes_eq m.address address) (method_at-get registered other d inside) ∙ elsewhere registered place other address d so inside e in
+          ap (λ (m : Method). m ∷ methods_at (remove registered place) (closed place places)) (moved registered place other d so.within inside e)
+          ∙ ap (λ l. method_at registered other ∷ l) more
+          ∙ sym (ap (λ (t : Bool). cond (not t) (method_at registered other ∷ filter test (methods_at registered places))
+          (filter test (methods_at registered places))) is)
 
 -- the place of the method that leaves is taken out, and those above it close up
-pub one_fewer_ordered : (registered : List Registered) (place : ℕ) (address : List ℕ) (d : Registered) (places : List ℕ) → Leaves registered place address → IsOrder registered places → IsOrder (remove registered place) (closed place places)
+pub one_fewer_ordered : (registered : List Registered) (place : ℕ) (address : List ℕ) (d : Registered) (places : List ℕ) → Leaves registered place address
+    → IsOrder registered places → IsOrder (remove registered place) (closed place places)
 one_fewer_ordered registered place address d places so order = record {
-  within = (let long : length registered - 1 ≡ length (remove registered place) = omega (arith, length-remove registered place so.within) in subst (λ (n : ℕ). All (λ other. other < n) (closed place places)) long (all_closed place (length registered) places so.within order.within));
+  within = (let long : length registered - 1 ≡ length (remove registered place) = omega (arith, length-remove registered place so.within) in
+      subst (λ (n : ℕ). All (λ other. other < n) (closed place places)) long (all_closed place (length registered) places so.within order.within));
   all = others_stay registered place address d places so order.within
       ∙ ap (filter (λ method. not (bytes_eq method.address address))) order.all
       ∙ filter_ordered (λ method. not (bytes_eq method.address address)) (methods_of registered)

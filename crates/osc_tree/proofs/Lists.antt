@@ -9,7 +9,8 @@ use Rattle.std.proofs.lemmas.List.Elements.{All-cons, All-head, All-tail, All-ni
 pub find-map : {X Y : Type 0} (view : X → Y) (test : Y → Bool) (xs : List X) → find test (map view xs) ≡ option_map view (find (λ x. test (view x)) xs)
 find-map view test [] = refl
 find-map view test (x ∷ xs) = go (test (view x)) (find-map view test xs) where
-  go : (t : Bool) → find test (map view xs) ≡ option_map view (find (λ x. test (view x)) xs) → cond t (Some (view x)) (find test (map view xs)) ≡ option_map view (cond t (Some x) (find (λ x. test (view x)) xs))
+  go : (t : Bool) → find test (map view xs) ≡ option_map view (find (λ x. test (view x)) xs)
+      → cond t (Some (view x)) (find test (map view xs)) ≡ option_map view (cond t (Some x) (find (λ x. test (view x)) xs))
   go true more = refl
   go false more = more
 
@@ -18,7 +19,8 @@ position-map view test [] = refl
 position-map view test (x ∷ xs) = ap (λ n. cond (not (test (view x))) (1 + n) 0) (position-map view test xs)
 
 pub insert-map : {X Y : Type 0} (view : X → Y) (n : ℕ) (x : X) (xs : List X) → map view (insert xs n x) ≡ insert (map view xs) n (view x)
-insert-map view n x xs = map-append view (take n xs) (x ∷ drop n xs) ∙ ap (λ l. l ++ view x ∷ map view (drop n xs)) (sym (take-map view n xs)) ∙ ap (λ l. take n (map view xs) ++ view x ∷ l) (sym (drop-map view n xs))
+insert-map view n x xs = map-append view (take n xs) (x ∷ drop n xs) ∙ ap (λ l. l ++ view x ∷ map view (drop n xs)) (sym (take-map view n xs))
+    ∙ ap (λ l. take n (map view xs) ++ view x ∷ l) (sym (drop-map view n xs))
 
 contains_later : {X : Type 0} (x y : X) (ys : List X) → Contains ys x → Contains (y ∷ ys) x
 contains_later x y ys (k, within, is) = (suc k, omega arith, is)
@@ -27,7 +29,8 @@ contains_later x y ys (k, within, is) = (suc k, omega arith, is)
 pub find-some : {X : Type 0} (test : X → Bool) (xs : List X) (x : X) → find test xs ≡ Some x → Contains xs x × (test x ≡ true)
 find-some test [] x e = absurd (cc)
 find-some test (y ∷ ys) x e = go (test y) refl e (find-some test ys x) where
-  go : (t : Bool) → test y ≡ t → cond t (Some y) (find test ys) ≡ Some x → (find test ys ≡ Some x → Contains ys x × (test x ≡ true)) → Contains (y ∷ ys) x × (test x ≡ true)
+  go : (t : Bool) → test y ≡ t → cond t (Some y) (find test ys) ≡ Some x → (find test ys ≡ Some x → Contains ys x × (test x ≡ true))
+      → Contains (y ∷ ys) x × (test x ≡ true)
   go true is e more = let same : y ≡ x = cc in ((0, omega arith, same), ap test (sym same) ∙ is)
   go false is e more = let found = more e in (contains_later x y ys found.0, found.1)
 
@@ -35,7 +38,8 @@ find-some test (y ∷ ys) x e = go (test y) refl e (find-some test ys x) where
 pub find-none : {X : Type 0} (test : X → Bool) (xs : List X) → find test xs ≡ None → All (λ x. test x ≡ false) xs
 find-none test [] e = All-nil (λ x. test x ≡ false)
 find-none test (y ∷ ys) e = go (test y) refl e (find-none test ys) where
-  go : (t : Bool) → test y ≡ t → cond t (Some y) (find test ys) ≡ None → (find test ys ≡ None → All (λ x. test x ≡ false) ys) → All (λ x. test x ≡ false) (y ∷ ys)
+  go : (t : Bool) → test y ≡ t → cond t (Some y) (find test ys) ≡ None → (find test ys ≡ None → All (λ x. test x ≡ false) ys)
+      → All (λ x. test x ≡ false) (y ∷ ys)
   go true is e more = absurd (cc)
   go false is e more = All-cons (λ x. test x ≡ false) y ys is (more e)
 
@@ -47,21 +51,25 @@ none-find test (y ∷ ys) all = rw (All-head (λ x. test x ≡ false) y ys all) 
 pub list_any-none : {X : Type 0} (test : X → Bool) (xs : List X) → list_any test xs ≡ false → All (λ x. test x ≡ false) xs
 list_any-none test [] e = All-nil (λ x. test x ≡ false)
 list_any-none test (y ∷ ys) e = go (test y) refl e (list_any-none test ys) where
-  go : (t : Bool) → test y ≡ t → (t || list_any test ys) ≡ false → (list_any test ys ≡ false → All (λ x. test x ≡ false) ys) → All (λ x. test x ≡ false) (y ∷ ys)
+  go : (t : Bool) → test y ≡ t → (t || list_any test ys) ≡ false → (list_any test ys ≡ false → All (λ x. test x ≡ false) ys)
+      → All (λ x. test x ≡ false) (y ∷ ys)
   go true is e more = absurd (cc)
   go false is e more = All-cons (λ x. test x ≡ false) y ys is (more e)
 
 pub list_any-some : {X : Type 0} (test : X → Bool) (xs : List X) → list_any test xs ≡ true → (x : X) × Contains xs x × (test x ≡ true)
 list_any-some test [] e = absurd (cc)
 list_any-some test (y ∷ ys) e = go (test y) refl e (list_any-some test ys) where
-  go : (t : Bool) → test y ≡ t → (t || list_any test ys) ≡ true → (list_any test ys ≡ true → (x : _) × Contains ys x × (test x ≡ true)) → (x : _) × Contains (y ∷ ys) x × (test x ≡ true)
+  go : (t : Bool) → test y ≡ t → (t || list_any test ys) ≡ true → (list_any test ys ≡ true → (x : _) × Contains ys x × (test x ≡ true))
+      → (x : _) × Contains (y ∷ ys) x × (test x ≡ true)
   go true is e more = (y, (0, omega arith, refl), is)
   go false is e more = let found = more e in (found.0, contains_later found.0 y ys found.1, found.2)
 
 -- the first place that passes, where there is one
-pub position-some : {X : Type 0} (test : X → Bool) (xs : List X) (place : ℕ) → position test xs ≡ Some place → (place ≡ position_or_len test xs) × (place < length xs)
+pub position-some : {X : Type 0} (test : X → Bool) (xs : List X) (place : ℕ) → position test xs ≡ Some place
+    → (place ≡ position_or_len test xs) × (place < length xs)
 position-some test xs place e = go (nat_lt (position_or_len test xs) (length xs)) refl e where
-  go : (t : Bool) → nat_lt (position_or_len test xs) (length xs) ≡ t → cond t (Some (position_or_len test xs)) None ≡ Some place → (place ≡ position_or_len test xs) × (place < length xs)
+  go : (t : Bool) → nat_lt (position_or_len test xs) (length xs) ≡ t → cond t (Some (position_or_len test xs)) None ≡ Some place
+      → (place ≡ position_or_len test xs) × (place < length xs)
   go true is e = let same : place ≡ position_or_len test xs = cc in (same, let below = ltb-true _ _ is in omega arith)
   go false is e = absurd (cc)
 
@@ -71,30 +79,37 @@ position-none test xs e = go (position_or_len test xs) (nat_lt (position_or_len 
   go k true is e = absurd (cc)
   go k false is e = ltb-false k (length xs) is
 
-find_first : {X : Type 0} (test : X → Bool) (xs : List X) (d : X) → position_or_len test xs < length xs → find test xs ≡ Some (get_or xs (position_or_len test xs) d)
+find_first : {X : Type 0} (test : X → Bool) (xs : List X) (d : X) → position_or_len test xs < length xs
+    → find test xs ≡ Some (get_or xs (position_or_len test xs) d)
 find_first test [] d within = absurd (omega arith)
 find_first test (y ∷ ys) d within = go (test y) refl within (find_first test ys d) where
-  go : (t : Bool) → test y ≡ t → cond (not t) (1 + position_or_len test ys) 0 < suc (length ys) → (position_or_len test ys < length ys → find test ys ≡ Some (get_or ys (position_or_len test ys) d))
+  go : (t : Bool) → test y ≡ t → cond (not t) (1 + position_or_len test ys) 0 < suc (length ys)
+      → (position_or_len test ys < length ys → find test ys ≡ Some (get_or ys (position_or_len test ys) d))
       → cond t (Some y) (find test ys) ≡ Some (get_or (y ∷ ys) (cond (not t) (1 + position_or_len test ys) 0) d)
   go true is within more = refl
   go false is within more = rw one-add (more (omega arith))
 
 -- what is found stands at the first place that passes
-pub find-at : {X : Type 0} (test : X → Bool) (xs : List X) (place : ℕ) (d : X) → place ≡ position_or_len test xs → place < length xs → find test xs ≡ Some (get_or xs place d)
-find-at test xs place d is within = let lt : position_or_len test xs < length xs = omega arith in find_first test xs d lt ∙ ap (λ (n : ℕ). Some (get_or xs n d)) (sym is)
+pub find-at : {X : Type 0} (test : X → Bool) (xs : List X) (place : ℕ) (d : X) → place ≡ position_or_len test xs → place < length xs
+    → find test xs ≡ Some (get_or xs place d)
+find-at test xs place d is within = let lt : position_or_len test xs < length xs = omega arith in
+    find_first test xs d lt ∙ ap (λ (n : ℕ). Some (get_or xs n d)) (sym is)
 
 filter_all : {X : Type 0} (p : X → Bool) (xs : List X) → All (λ x. p x ≡ true) xs → filter p xs ≡ xs
 filter_all p [] all = refl
 filter_all p (y ∷ ys) all = rw (All-head (λ x. p x ≡ true) y ys all) (ap (λ l. y ∷ l) (filter_all p ys (All-tail (λ x. p x ≡ true) y ys all)))
 
 -- where at most one element passes a test, to remove the first that does is to keep those that don't
-pub remove-filter : {X : Type 0} (test : X → Bool) (xs : List X) → AllPairs (λ a b. test a ≡ true → test b ≡ false) xs → position_or_len test xs < length xs → remove xs (position_or_len test xs) ≡ filter (λ x. not (test x)) xs
+pub remove-filter : {X : Type 0} (test : X → Bool) (xs : List X) → AllPairs (λ a b. test a ≡ true → test b ≡ false) xs → position_or_len test xs < length xs
+    → remove xs (position_or_len test xs) ≡ filter (λ x. not (test x)) xs
 remove-filter test [] once within = refl
-remove-filter test (y ∷ ys) once within = go (test y) refl within (remove-filter test ys (λ i j d lt in'. once (suc i) (suc j) d (omega arith) (omega arith))) where
-  go : (t : Bool) → test y ≡ t → cond (not t) (1 + position_or_len test ys) 0 < suc (length ys) → (position_or_len test ys < length ys → remove ys (position_or_len test ys) ≡ filter (λ x. not (test x)) ys)
-      → remove (y ∷ ys) (cond (not t) (1 + position_or_len test ys) 0) ≡ cond (not t) (y ∷ filter (λ x. not (test x)) ys) (filter (λ x. not (test x)) ys)
-  go true is within more = sym (filter_all (λ x. not (test x)) ys (λ k d below. ap not (once 0 (suc k) d (omega arith) (omega arith) is)))
-  go false is within more = rw one-add (ap (λ l. y ∷ l) (more (omega arith)))
+remove-filter test (y ∷ ys) once within =
+    go (test y) refl within (remove-filter test ys (λ i j d lt in'. once (suc i) (suc j) d (omega arith) (omega arith))) where
+      go : (t : Bool) → test y ≡ t → cond (not t) (1 + position_or_len test ys) 0 < suc (length ys)
+          → (position_or_len test ys < length ys → remove ys (position_or_len test ys) ≡ filter (λ x. not (test x)) ys)
+          → remove (y ∷ ys) (cond (not t) (1 + position_or_len test ys) 0) ≡ cond (not t) (y ∷ filter (λ x. not (test x)) ys) (filter (λ x. not (test x)) ys)
+      go true is within more = sym (filter_all (λ x. not (test x)) ys (λ k d below. ap not (once 0 (suc k) d (omega arith) (omega arith) is)))
+      go false is within more = rw one-add (ap (λ l. y ∷ l) (more (omega arith)))
 
 pub position_or_len-bound : {X : Type 0} (test : X → Bool) (xs : List X) → position_or_len test xs ≤ length xs
 position_or_len-bound test [] = omega arith
@@ -106,6 +121,7 @@ position_or_len-bound test (x ∷ xs) = go (test x) (position_or_len-bound test 
 -- a place that may be none, and stands past the end then
 pub position-else : {X : Type 0} (test : X → Bool) (xs : List X) → unwrap_or (position test xs) (length xs) ≡ position_or_len test xs
 position-else test xs = go (nat_lt (position_or_len test xs) (length xs)) refl where
-  go : (t : Bool) → nat_lt (position_or_len test xs) (length xs) ≡ t → unwrap_or (cond t (Some (position_or_len test xs)) None) (length xs) ≡ position_or_len test xs
+  go : (t : Bool) → nat_lt (position_or_len test xs) (length xs) ≡ t
+      → unwrap_or (cond t (Some (position_or_len test xs)) None) (length xs) ≡ position_or_len test xs
   go true is = refl
   go false is = let le = position_or_len-bound test xs in let ge = ltb-false (position_or_len test xs) (length xs) is in omega arith

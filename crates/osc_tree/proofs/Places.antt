@@ -4,7 +4,8 @@ use Rattle.std.proofs.lemmas.List.{get_or-map}
 use Rattle.osc_tree.specs.declared.registered.Registered.{Registered}
 use Rattle.osc_tree.specs.Views.{method_of, method_at}
 
-pub method_at-get : (registered : List Registered) (place : ℕ) (d : Registered) → place < length registered → method_at registered place ≡ method_of (get_or registered place d)
+pub method_at-get : (registered : List Registered) (place : ℕ) (d : Registered) → place < length registered
+    → method_at registered place ≡ method_of (get_or registered place d)
 method_at-get registered place d within = get_or-map method_of registered place d (record { id = 0; address = [] }) within
 
 -- an element that a loop hasn't reached yet

@@ -40,7 +40,8 @@ split-cons (x ∷ xs) = go (is_slash x) (split-cons xs) where
   go true found = ([], slice_split is_slash xs, refl)
   go false (name, names, e) = (x ∷ name, names, ap (onto_first x) e)
 
-inner_onto : (byte : ℕ) (names : List (List ℕ)) (first : List ℕ) (others : List (List ℕ)) → names ≡ first ∷ others → inner (onto_first byte names) ≡ map (λ text. byte ∷ text) (inner names)
+inner_onto : (byte : ℕ) (names : List (List ℕ)) (first : List ℕ) (others : List (List ℕ)) → names ≡ first ∷ others
+    → inner (onto_first byte names) ≡ map (λ text. byte ∷ text) (inner names)
 inner_onto byte names first others e = rw e (ap (λ l. (byte ∷ first) ∷ l) (sym (map-map (λ text. byte ∷ text) (λ more. first ++ more) (runs_of others))))
 
 is_slash-true : (byte : ℕ) → is_slash byte ≡ true → 47 ≡ byte
@@ -50,9 +51,12 @@ inner_ends : (rest : List ℕ) → inner (slice_split is_slash rest) ≡ ends re
 inner_ends [] = refl
 inner_ends (byte ∷ rest) = go (is_slash byte) refl (inner_ends rest) where
   go : (t : Bool) → is_slash byte ≡ t → inner (slice_split is_slash rest) ≡ ends rest
-      → inner (cond t ([] ∷ slice_split is_slash rest) (onto_first byte (slice_split is_slash rest))) ≡ cond t ([] ∷ map (λ text. byte ∷ text) (ends rest)) (map (λ text. byte ∷ text) (ends rest))
+      → inner (cond t ([] ∷ slice_split is_slash rest) (onto_first byte (slice_split is_slash rest)))
+      ≡ cond t ([] ∷ map (λ text. byte ∷ text) (ends rest)) (map (λ text. byte ∷ text) (ends rest))
   go true e more =
-      ap (λ l. [] ∷ l) (map-id (runs_of (slice_split is_slash rest)) ∙ runs_inner (slice_split is_slash rest) ∙ ap (map (λ text. 47 ∷ text)) more ∙ ap (λ (b : ℕ). map (λ text. b ∷ text) (ends rest)) (is_slash-true byte e))
+      ap (λ l. [] ∷ l)
+      (map-id (runs_of (slice_split is_slash rest)) ∙ runs_inner (slice_split is_slash rest) ∙ ap (map (λ text. 47 ∷ text)) more
+      ∙ ap (λ (b : ℕ). map (λ text. b ∷ text) (ends rest)) (is_slash-true byte e))
   go false e more =
       let first = split-cons rest in
       inner_onto byte (slice_split is_slash rest) first.0 first.1 first.2 ∙ ap (map (λ text. byte ∷ text)) more
@@ -65,7 +69,8 @@ none_empty : (byte : ℕ) (texts : List (List ℕ)) → list_any (bytes_eq []) (
 none_empty byte [] = refl
 none_empty byte (text ∷ texts) = none_empty byte texts
 
-any_onto : (a b : ℕ) (q : List ℕ) (texts : List (List ℕ)) → list_any (bytes_eq (a ∷ q)) (map (λ text. b ∷ text) texts) ≡ (nat_eq a b && list_any (bytes_eq q) texts)
+any_onto : (a b : ℕ) (q : List ℕ) (texts : List (List ℕ))
+    → list_any (bytes_eq (a ∷ q)) (map (λ text. b ∷ text) texts) ≡ (nat_eq a b && list_any (bytes_eq q) texts)
 any_onto a b q [] = sym (and-false (nat_eq a b))
 any_onto a b q (text ∷ texts) = let more = any_onto a b q texts in grind (arith, nat_tests)
 
@@ -74,7 +79,8 @@ member : (q rest : List ℕ) → list_any (bytes_eq q) (ends rest) ≡ (bytes_eq
 member [] [] = refl
 member (a ∷ q) [] = refl
 member [] (byte ∷ rest) = go (is_slash byte) refl where
-  go : (t : Bool) → is_slash byte ≡ t → list_any (bytes_eq []) (cond t ([] ∷ map (λ text. byte ∷ text) (ends rest)) (map (λ text. byte ∷ text) (ends rest))) ≡ (nat_eq 47 byte && true)
+  go : (t : Bool) → is_slash byte ≡ t → list_any (bytes_eq []) (cond t ([] ∷ map (λ text. byte ∷ text) (ends rest)) (map (λ text. byte ∷ text) (ends rest)))
+      ≡ (nat_eq 47 byte && true)
   go true e = grind (arith, nat_tests)
   go false e = none_empty byte (ends rest) ∙ grind (arith, nat_tests)
 member (a ∷ q) (byte ∷ rest) =
@@ -84,12 +90,14 @@ member (a ∷ q) (byte ∷ rest) =
     distribute true b c = refl
     distribute false b c = refl
 
-    go : (t : Bool) → list_any (bytes_eq (a ∷ q)) (cond t ([] ∷ map (λ text. byte ∷ text) (ends rest)) (map (λ text. byte ∷ text) (ends rest))) ≡ (nat_eq a byte && list_any (bytes_eq q) (ends rest))
+    go : (t : Bool) → list_any (bytes_eq (a ∷ q)) (cond t ([] ∷ map (λ text. byte ∷ text) (ends rest)) (map (λ text. byte ∷ text) (ends rest)))
+        ≡ (nat_eq a byte && list_any (bytes_eq q) (ends rest))
     go true = any_onto a byte q (ends rest)
     go false = any_onto a byte q (ends rest)
 
 -- an address has a prefix by parts where it is that prefix, or the prefix is above it
-pub has_prefix_is : (prefix address : List ℕ) → begins_with_slash prefix ≡ true → begins_with_slash address ≡ true → list_any (bytes_eq prefix) (prefixes_of address) ≡ (bytes_eq prefix address || is_proper_prefix prefix address)
+pub has_prefix_is : (prefix address : List ℕ) → begins_with_slash prefix ≡ true → begins_with_slash address ≡ true
+    → list_any (bytes_eq prefix) (prefixes_of address) ≡ (bytes_eq prefix address || is_proper_prefix prefix address)
 has_prefix_is [] address first second = absurd (cc)
 has_prefix_is (a ∷ q) [] first second = absurd (cc)
 has_prefix_is (a ∷ q) (b ∷ rest) first second = go a b (is_slash-true a first) (is_slash-true b second) where

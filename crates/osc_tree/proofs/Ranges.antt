@@ -37,7 +37,8 @@ begun_not_before (x ∷ text) (y ∷ address) e =
     grind (arith, nat_tests)
 
 -- after a text that isn't before a beginning and doesn't begin with it no text begins with it
-begun_no_more : (text first later : List ℕ) → starts_with nat_eq first text ≡ false → lower first text ≡ false → lower later first ≡ false → starts_with nat_eq later text ≡ false
+begun_no_more : (text first later : List ℕ) → starts_with nat_eq first text ≡ false → lower first text ≡ false → lower later first ≡ false
+    → starts_with nat_eq later text ≡ false
 begun_no_more [] first later e f g = absurd (cc)
 begun_no_more (x ∷ text) [] later e f g = absurd (cc)
 begun_no_more (x ∷ text) (y ∷ first) [] e f g = refl
@@ -62,7 +63,8 @@ all_at P (method ∷ methods) zero d all within = all.0
 all_at P (method ∷ methods) (suc k) d all within = all_at P methods k d all.1 (omega arith)
 
 -- of two methods in order the later isn't below the earlier
-pub ascend_far : (methods : List Method) (i j : ℕ) (d : Method) → IsAscending methods → i ≤ j → j < length methods → is_below (get_or methods j d) (get_or methods i d) ≡ false
+pub ascend_far : (methods : List Method) (i j : ℕ) (d : Method) → IsAscending methods → i ≤ j → j < length methods
+    → is_below (get_or methods j d) (get_or methods i d) ≡ false
 ascend_far [] i j d up le within = absurd (omega arith)
 ascend_far (method ∷ methods) zero zero d up le within = same where
   same : is_below method method ≡ false
@@ -75,55 +77,79 @@ ascend_far (method ∷ methods) (suc i) zero d up le within = absurd (omega arit
 ascend_far (method ∷ methods) (suc i) (suc j) d up le within = ascend_far methods i j d up.1 (omega arith) (omega arith)
 
 pub searched_none : (text : List ℕ) (methods : List Method) → IsSearched text methods 0 (length methods)
-searched_none text methods = record { order = omega arith; bound = omega arith; before = λ k d lt. absurd (omega arith); behind = λ k d ge lt. absurd (omega arith) }
+searched_none text methods =
+    record { order = omega arith; bound = omega arith; before = λ k d lt. absurd (omega arith); behind = λ k d ge lt. absurd (omega arith) }
 
 -- the method in the middle is before the text, or not
-pub searched_up : (text : List ℕ) (methods : List Method) (low high middle : ℕ) (d : Method) → IsAscending methods → IsSearched text methods low high → middle < high → is_before text (get_or methods middle d) ≡ true → IsSearched text methods (middle + 1) high
+pub searched_up : (text : List ℕ) (methods : List Method) (low high middle : ℕ) (d : Method) → IsAscending methods → IsSearched text methods low high
+    → middle < high → is_before text (get_or methods middle d) ≡ true → IsSearched text methods (middle + 1) high
 searched_up text methods low high middle d up so below e =
     let bound = so.bound in
     record {
       order = omega arith;
       bound = bound;
-      before = λ k other lt. before_smaller text (get_or methods k other) (get_or methods middle other) (ascend_far methods k middle other up (omega arith) (omega arith)) (subst (λ m. is_before text m ≡ true) (any_default methods middle d other (omega arith)) e);
+      before = λ k other lt. before_smaller text (get_or methods k other) (get_or methods middle other)
+          (ascend_far methods k middle other up (omega arith) (omega arith))
+          (subst (λ m. is_before text m ≡ true) (any_default methods middle d other (omega arith)) e);
       behind = so.behind;
     }
 
-pub searched_down : (text : List ℕ) (methods : List Method) (low high middle : ℕ) (d : Method) → IsAscending methods → IsSearched text methods low high → low ≤ middle → middle < high → is_before text (get_or methods middle d) ≡ false → IsSearched text methods low middle
+pub searched_down : (text : List ℕ) (methods : List Method) (low high middle : ℕ) (d : Method) → IsAscending methods → IsSearched text methods low high
+    → low ≤ middle → middle < high → is_before text (get_or methods middle d) ≡ false → IsSearched text methods low middle
 searched_down text methods low high middle d up so above below e =
     let bound = so.bound in
     record {
       order = above;
       bound = omega arith;
       before = so.before;
-      behind = λ k other ge lt. behind_greater text (get_or methods middle other) (get_or methods k other) (ascend_far methods middle k other up (omega arith) (omega arith)) (subst (λ m. is_before text m ≡ false) (any_default methods middle d other (omega arith)) e);
+      behind = λ k other ge lt. behind_greater text (get_or methods middle other) (get_or methods k other)
+          (ascend_far methods middle k other up (omega arith) (omega arith))
+          (subst (λ m. is_before text m ≡ false) (any_default methods middle d other (omega arith)) e);
     }
 
-none_begin : (text : List ℕ) (methods : List Method) → AllByRecursion (λ method. begins_with text method ≡ false) methods → filter (begins_with text) methods ≡ []
+none_begin : (text : List ℕ) (methods : List Method) → AllByRecursion (λ method. begins_with text method ≡ false) methods
+    → filter (begins_with text) methods ≡ []
 none_begin text [] all = refl
 none_begin text (method ∷ methods) all = rw all.0 (none_begin text methods all.1)
 
-later_begin : (text : List ℕ) (method : Method) (methods : List Method) → begins_with text method ≡ false → is_before text method ≡ false → AllByRecursion (λ other. is_below other method ≡ false) methods → AllByRecursion (λ other. begins_with text other ≡ false) methods
+later_begin : (text : List ℕ) (method : Method) (methods : List Method) → begins_with text method ≡ false → is_before text method ≡ false
+    → AllByRecursion (λ other. is_below other method ≡ false) methods → AllByRecursion (λ other. begins_with text other ≡ false) methods
 later_begin text method [] e f all = tt
 later_begin text method (other ∷ methods) e f all = (begun_no_more text method.address other.address e f all.0, later_begin text method methods e f all.1)
 
 -- of methods in order, none of which is before the text, those that begin with it stand first
-begun_first : (text : List ℕ) (methods : List Method) → IsAscending methods → ((k : ℕ) (d : Method) → k < length methods → is_before text (get_or methods k d) ≡ false) → filter (begins_with text) methods ≡ take (position_or_len (λ method. not (begins_with text method)) methods) methods
+begun_first : (text : List ℕ) (methods : List Method) → IsAscending methods
+    → ((k : ℕ) (d : Method) → k < length methods → is_before text (get_or methods k d) ≡ false)
+    → filter (begins_with text) methods ≡ take (position_or_len (λ method. not (begins_with text method)) methods) methods
 begun_first text [] up behind = refl
-begun_first text (method ∷ methods) up behind = go (begins_with text method) refl (begun_first text methods up.1 (λ k d lt. behind (suc k) d (omega arith))) where
-  go : (t : Bool) → begins_with text method ≡ t → filter (begins_with text) methods ≡ take (position_or_len (λ method. not (begins_with text method)) methods) methods
-      → cond t (method ∷ filter (begins_with text) methods) (filter (begins_with text) methods) ≡ take (cond (not (not t)) (1 + position_or_len (λ method. not (begins_with text method)) methods) 0) (method ∷ methods)
-  go true e more = rw one-add (ap (λ l. method ∷ l) more)
-  go false e more = none_begin text methods (later_begin text method methods e (behind 0 method (omega arith)) up.0)
+begun_first text (method ∷ methods) up behind =
+    go (begins_with text method) refl (begun_first text methods up.1 (λ k d lt. behind (suc k) d (omega arith))) where
+      go : (t : Bool) → begins_with text method ≡ t
+          → filter (begins_with text) methods ≡ take (position_or_len (λ method. not (begins_with text method)) methods) methods
+          → cond t (method ∷ filter (begins_with text) methods) (filter (begins_with text) methods)
+          ≡ take (cond (not (not t)) (1 + position_or_len (λ method. not (begins_with text method)) methods) 0) (method ∷ methods)
+      go true e more = rw one-add (ap (λ l. method ∷ l) more)
+      go false e more = none_begin text methods (later_begin text method methods e (behind 0 method (omega arith)) up.0)
 
 -- and of methods in order, those from the first that isn't before the text
-pub begun_range : (text : List ℕ) (methods : List Method) (low : ℕ) → IsAscending methods → IsSearched text methods low low → filter (begins_with text) methods ≡ take (position_or_len (λ method. not (begins_with text method)) (drop low methods)) (drop low methods)
+pub begun_range : (text : List ℕ) (methods : List Method) (low : ℕ) → IsAscending methods → IsSearched text methods low low
+    → filter (begins_with text) methods ≡ take (position_or_len (λ method. not (begins_with text method)) (drop low methods)) (drop low methods)
 begun_range text methods zero up so = begun_first text methods up (λ k d lt. so.behind k d (omega arith) lt)
 begun_range text [] (suc low) up so = refl
 begun_range text (method ∷ methods) (suc low) up so =
     let bound = so.bound in
-    go (begins_with text method) refl (begun_range text methods low up.1 (record { order = omega arith; bound = omega arith; before = λ k d lt. so.before (suc k) d (omega arith); behind = λ k d ge lt. so.behind (suc k) d (omega arith) (omega arith) }))
+    go (begins_with text method) refl
+    (begun_range text methods low up.1
+    (record {
+      order = omega arith;
+      bound = omega arith;
+      before = λ k d lt. so.before (suc k) d (omega arith);
+      behind = λ k d ge lt. so.behind (suc k) d (omega arith) (omega arith);
+    }))
   where
-    go : (t : Bool) → begins_with text method ≡ t → filter (begins_with text) methods ≡ take (position_or_len (λ method. not (begins_with text method)) (drop low methods)) (drop low methods)
-        → cond t (method ∷ filter (begins_with text) methods) (filter (begins_with text) methods) ≡ take (position_or_len (λ method. not (begins_with text method)) (drop low methods)) (drop low methods)
+    go : (t : Bool) → begins_with text method ≡ t
+        → filter (begins_with text) methods ≡ take (position_or_len (λ method. not (begins_with text method)) (drop low methods)) (drop low methods)
+        → cond t (method ∷ filter (begins_with text) methods) (filter (begins_with text) methods)
+        ≡ take (position_or_len (λ method. not (begins_with text method)) (drop low methods)) (drop low methods)
     go true e more = absurd (let yes = so.before 0 method (omega arith) in let no = begun_not_before text method.address e in cc)
     go false e more = more

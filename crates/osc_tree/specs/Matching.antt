@@ -30,14 +30,16 @@ matching_ids pattern methods = map (λ method. method.id) (matching pattern meth
 -- no address is before one that stands ahead of it
 abbrev pub IsAscending : List Method → Type 0
 IsAscending [] = Unit {0}
-IsAscending (method ∷ methods) = AllByRecursion (λ other. is_below other method ≡ false) methods × IsAscending methods
+IsAscending (method ∷ methods) = AllByRecursion (λ other. is_below other method ≡ false) methods
+    × IsAscending methods
 
 -- what a contract sees of a list of hits: how many there may be, and those that it holds
 pub record HitList : Type 0 where
   pub limit : ℕ
   pub ids : List ℕ
 
--- the numbers are those of the methods that the pattern matches, each once, in ascending order of the address
+-- the numbers are those of the methods that the pattern matches, each once, in ascending order of
+-- the address
 pub record AreHits (pattern : List ℕ) (methods : List Method) (ids : List ℕ) : Type 0 where
   pub found : List Method
   pub numbers : ids ≡ map (λ method. method.id) found

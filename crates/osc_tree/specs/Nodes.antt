@@ -7,7 +7,8 @@ use Rattle.osc_tree.specs.Registry.{Registry}
 
 -- whether a text is a prefix by parts of a method's address
 abbrev pub has_node : List Method → List ℕ → Bool
-has_node methods prefix = list_any (λ method. list_any (bytes_eq prefix) (prefixes_of method.address)) methods
+has_node methods prefix =
+    list_any (λ method. list_any (bytes_eq prefix) (prefixes_of method.address)) methods
 
 -- how many prefixes by parts of an address no method's address has
 abbrev pub new_nodes : List Method → List ℕ → ℕ

@@ -1,4 +1,5 @@
--- The methods in ascending order of their addresses, and the places where they stand in the order of adding.
+-- The methods in ascending order of their addresses, and the places where they stand in the order
+-- of adding.
 use Rattle.std.specs.Prelude.{◌≡◌, ℕ, ◌≤◌, ◌<◌, Bool, true, false, nat_eq, nat_lt, get_or, ◌-◌, if◌then◌else◌, List, [], length, fold, All}
 use Rattle.std.specs.List.{starts_with}
 use Rattle.std.specs.Ordering.{is_lt, nat_cmp}
@@ -17,8 +18,10 @@ pub record IsOrder (registered : List Registered) (places : List ℕ) : Type 0 w
   pub within : All (λ place. place < length registered) places
   pub all : methods_at registered places ≡ ordered (methods_of registered)
 
--- the methods are kept, and their places stand in order, with room reserved for as many as there may be methods
-pub record IsIndexed (registered : List Registered) (places : List ℕ) (method_limit node_limit node_count method_capacity place_capacity : ℕ) : Type 0 where
+-- the methods are kept, and their places stand in order, with room reserved for as many as there
+-- may be methods
+pub record IsIndexed (registered : List Registered) (places : List ℕ)
+    (method_limit node_limit node_count method_capacity place_capacity : ℕ) : Type 0 where
   pub kept : IsKept (methods_of registered) method_limit node_limit node_count method_capacity
   pub order : IsOrder registered places
   pub room : method_limit ≤ place_capacity
@@ -31,12 +34,14 @@ is_before text method = is_lt (slice_cmp nat_cmp method.address text)
 abbrev pub begins_with : List ℕ → Method → Bool
 begins_with text method = starts_with nat_eq method.address text
 
--- a search for the first method that isn't before a text: all below low are before it, and none from high on
+-- a search for the first method that isn't before a text: all below low are before it, and none
+-- from high on
 pub record IsSearched (text : List ℕ) (methods : List Method) (low high : ℕ) : Type 0 where
   pub order : low ≤ high
   pub bound : high ≤ length methods
   pub before : (k : ℕ) (d : Method) → k < low → is_before text (get_or methods k d) ≡ true
-  pub behind : (k : ℕ) (d : Method) → high ≤ k → k < length methods → is_before text (get_or methods k d) ≡ false
+  pub behind : (k : ℕ) (d : Method) → high ≤ k → k < length methods
+      → is_before text (get_or methods k d) ≡ false
 
 -- where a place stands once another is taken out of a list
 abbrev pub closed_up : ℕ → ℕ → ℕ

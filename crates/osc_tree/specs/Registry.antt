@@ -23,11 +23,13 @@ IsAt methods id address = Contains methods (record { id = id; address = address 
 
 -- the method with this number has a proper prefix of the address
 abbrev pub IsAbove : List Method → ℕ → List ℕ → Type 0
-IsAbove methods id address = (above : List ℕ) × IsAt methods id above × IsTrue (is_proper_prefix above address)
+IsAbove methods id address = (above : List ℕ) × IsAt methods id above
+    × IsTrue (is_proper_prefix above address)
 
 -- a method has an address of which this one is a proper prefix
 abbrev pub HasBelow : List Method → List ℕ → Type 0
-HasBelow methods address = (id : ℕ) × (below : List ℕ) × IsAt methods id below × IsTrue (is_proper_prefix address below)
+HasBelow methods address = (id : ℕ) × (below : List ℕ) × IsAt methods id below
+    × IsTrue (is_proper_prefix address below)
 
 -- no method has this number
 abbrev pub IsNewId : List Method → ℕ → Type 0
@@ -47,11 +49,14 @@ NoneBelow methods address = All (λ method. is_proper_prefix address method.addr
 
 -- the number of the method that has the address
 abbrev pub id_at : List Method → List ℕ → Option ℕ
-id_at methods address = option_map (λ method. method.id) (find (λ method. bytes_eq method.address address) methods)
+id_at methods address =
+    option_map (λ method. method.id) (find (λ method. bytes_eq method.address address) methods)
 
 -- the number of the method that has a proper prefix of the address
 abbrev pub id_above : List Method → List ℕ → Option ℕ
-id_above methods address = option_map (λ method. method.id) (find (λ method. is_proper_prefix method.address address) methods)
+id_above methods address =
+    option_map (λ method. method.id)
+    (find (λ method. is_proper_prefix method.address address) methods)
 
 -- the methods but for the one that has the address
 abbrev pub without : List Method → List ℕ → List Method
@@ -59,4 +64,5 @@ without methods address = filter (λ method. not (bytes_eq method.address addres
 
 -- the address of the method with this number
 abbrev pub address_by_id : List Method → ℕ → Option (List ℕ)
-address_by_id methods id = option_map (λ method. method.address) (find (λ method. method.id == id) methods)
+address_by_id methods id =
+    option_map (λ method. method.address) (find (λ method. method.id == id) methods)

@@ -14,10 +14,13 @@ methods_of = map method_of
 
 -- a tree that keeps these methods and has these limits
 abbrev pub registry_of : List Registered → ℕ → ℕ → Registry
-registry_of registered method_limit node_limit = record { methods = methods_of registered; method_limit = method_limit; node_limit = node_limit }
+registry_of registered method_limit node_limit =
+    record { methods = methods_of registered; method_limit = method_limit; node_limit = node_limit }
 
--- the methods are a lawful list, no more than their limit, with room reserved for as many as that, and their nodes are counted and no more than theirs
-pub record IsKept (methods : List Method) (method_limit node_limit node_count capacity : ℕ) : Type 0 where
+-- the methods are a lawful list, no more than their limit, with room reserved for as many as that,
+-- and their nodes are counted and no more than theirs
+pub record IsKept (methods : List Method)
+    (method_limit node_limit node_count capacity : ℕ) : Type 0 where
   pub list : IsMethodList methods
   pub few_methods : length methods ≤ method_limit
   pub reserved : method_limit ≤ capacity

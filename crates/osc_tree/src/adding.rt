@@ -25,11 +25,17 @@ pub(crate) fn admit(
     requires few_nodes { node_count ≤ node_limit }
     requires few_methods { length methods.now ≤ method_limit }
     ensures ok { IfOk result (λ need. need ≡ new_nodes (methods_of methods.now) address.now) }
-    ensures accepted { IfOk result (λ _. IsAddable (registry_of methods.now method_limit node_limit) address.now) }
+    ensures accepted { IfOk result
+        (λ _. IsAddable (registry_of methods.now method_limit node_limit) address.now) }
     ensures lawful { IfOk result (λ _. IsAddress address.now) }
-    ensures none { IfOk result (λ _. add_refusal (registry_of methods.now method_limit node_limit) address.now ≡ None) }
-    ensures refused { IfErr result (λ refusal. IsRefused (registry_of methods.now method_limit node_limit) address.now refusal) }
-    ensures read { IfErr result (λ refusal. add_refusal (registry_of methods.now method_limit node_limit) address.now ≡ Some (refusal_of refusal)) }
+    ensures none { IfOk result
+        (λ _. add_refusal (registry_of methods.now method_limit node_limit) address.now ≡ None) }
+    ensures refused { IfErr result
+        (λ refusal. IsRefused (registry_of methods.now method_limit node_limit) address.now
+        refusal) }
+    ensures read { IfErr result
+        (λ refusal. add_refusal (registry_of methods.now method_limit node_limit) address.now
+        ≡ Some (refusal_of refusal)) }
 {
     let bytes = address.bytes();
     if let Some(id) = id_at(methods, bytes) {

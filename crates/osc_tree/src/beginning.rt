@@ -15,7 +15,8 @@ pub(crate) fn beginning_with<'a>(
 ) -> &'a [u32]
     requires within { All (λ place. place < length methods.now) places.now }
     requires ascending { IsAscending (methods_at methods.now places.now) }
-    ensures those { methods_at methods.now result.now ≡ filter (begins_with text.now) (methods_at methods.now places.now) }
+    ensures those { methods_at methods.now result.now
+        ≡ filter (begins_with text.now) (methods_at methods.now places.now) }
     ensures within { All (λ place. place < length methods.now) result.now }
     ensures len { length result.now ≤ length places.now }
 {
@@ -54,7 +55,9 @@ fn is_before(methods: &[Registered], place: u32, text: &[u8]) -> bool
 /// How many methods begin with the text, before the first that doesn't.
 fn count_beginning(methods: &[Registered], places: &[u32], text: &[u8]) -> usize
     requires { All (λ place. place < length methods.now) places.now }
-    ensures count { result ≡ position_or_len (λ place. not (begins_with text.now (method_at methods.now place))) places.now }
+    ensures count { result
+        ≡ position_or_len (λ place. not (begins_with text.now (method_at methods.now place)))
+        places.now }
     ensures bound { result ≤ length places.now }
 {
     first_other(methods, places, text).unwrap_or(places.len())
@@ -62,7 +65,8 @@ fn count_beginning(methods: &[Registered], places: &[u32], text: &[u8]) -> usize
 
 fn first_other(methods: &[Registered], places: &[u32], text: &[u8]) -> Option<usize>
     requires { All (λ place. place < length methods.now) places.now }
-    ensures { result ≡ position (λ place. not (begins_with text.now (method_at methods.now place))) places.now }
+    ensures { result
+        ≡ position (λ place. not (begins_with text.now (method_at methods.now place))) places.now }
 {
     places
         .iter()

@@ -19,7 +19,8 @@ pub(crate) fn is_above(prefix: &[u8], address: &[u8]) -> bool
 
 /// The id of the method at the address.
 pub(crate) fn id_at(methods: &[Registered], address: &[u8]) -> Option<u32>
-    ensures { result ≡ option_map (λ method. method.id) (find (λ method. bytes_eq method.address address.now) methods.now) }
+    ensures { result ≡ option_map (λ method. method.id)
+        (find (λ method. bytes_eq method.address address.now) methods.now) }
 {
     methods
         .iter()
@@ -29,7 +30,8 @@ pub(crate) fn id_at(methods: &[Registered], address: &[u8]) -> Option<u32>
 
 /// The id of the method at a proper prefix of the address.
 pub(crate) fn id_above(methods: &[Registered], address: &[u8]) -> Option<u32>
-    ensures { result ≡ option_map (λ method. method.id) (find (λ method. is_proper_prefix method.address address.now) methods.now) }
+    ensures { result ≡ option_map (λ method. method.id)
+        (find (λ method. is_proper_prefix method.address address.now) methods.now) }
 {
     methods
         .iter()
@@ -39,7 +41,8 @@ pub(crate) fn id_above(methods: &[Registered], address: &[u8]) -> Option<u32>
 
 /// Whether a method lies below the address.
 pub(crate) fn has_below(methods: &[Registered], address: &[u8]) -> bool
-    ensures { result ≡ list_any (λ method. is_proper_prefix address.now method.address) methods.now }
+    ensures { result
+        ≡ list_any (λ method. is_proper_prefix address.now method.address) methods.now }
 {
     methods
         .iter()

@@ -45,7 +45,10 @@ fn add_matching<L: Ledger>(
     requires within { All (λ place. place < length methods.now) places.now }
     requires empty { ids.old.items ≡ [] }
     requires room { length places.now ≤ vec_capacity ids.old }
-    ensures ids { ids.new.items ≡ map (λ method. method.id) (filter (λ method. matches pattern.now method.address) (methods_at methods.now places.now)) }
+    ensures ids { ids.new.items
+        ≡ map (λ method. method.id)
+        (filter (λ method. matches pattern.now method.address)
+        (methods_at methods.now places.now)) }
     ensures len { vec_len ids.new ≤ length places.now }
     ensures capacity { vec_capacity ids.old ≤ vec_capacity ids.new }
     ensures counted { steps.old ≤ steps.new }

@@ -25,7 +25,9 @@ fn has_prefix(method: &Registered, prefix: &[u8]) -> bool
 /// Whether a method's address has the prefix.
 fn has_node(methods: &[Registered], prefix: &[u8]) -> bool
     requires { IsTrue (begins_with_slash prefix.now) }
-    ensures { result ≡ list_any (λ method. list_any (bytes_eq prefix.now) (prefixes_of method.address)) methods.now }
+    ensures { result
+        ≡ list_any (λ method. list_any (bytes_eq prefix.now) (prefixes_of method.address))
+        methods.now }
 {
     methods.iter().any(|method| has_prefix(method, prefix))
 }
@@ -35,7 +37,11 @@ fn ends_new_node(methods: &[Registered], address: &[u8], end: usize) -> bool
     requires slash { IsTrue (begins_with_slash address.now) }
     requires some { 0 < end }
     requires within { end < length address.now }
-    ensures { result ≡ (is_slash (slice_index address.now end) && not (list_any (λ method. list_any (bytes_eq (take end address.now)) (prefixes_of method.address)) methods.now)) }
+    ensures { result
+        ≡ (is_slash (slice_index address.now end)
+        && not (list_any
+        (λ method. list_any (bytes_eq (take end address.now)) (prefixes_of method.address))
+        methods.now)) }
 {
     address[end] == b'/' && !has_node(methods, &address[..end])
 }

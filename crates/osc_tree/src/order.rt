@@ -12,7 +12,11 @@ pub(crate) fn enter(methods: &[Registered], place: u32, places: &mut Vec<u32>)
     requires place { place < length methods.now }
     requires within { All (λ other. other < length methods.now) places.old.items }
     requires room { length places.old.items < vec_capacity places.old }
-    ensures items { places.new.items ≡ insert places.old.items (position_or_len (λ other. is_below (method_at methods.now place) (method_at methods.now other)) places.old.items) place }
+    ensures items { places.new.items
+        ≡ insert places.old.items
+        (position_or_len
+        (λ other. is_below (method_at methods.now place) (method_at methods.now other))
+        places.old.items) place }
     ensures within { All (λ other. other < length methods.now) places.new.items }
     ensures len { vec_len places.new ≡ vec_len places.old + 1 }
     ensures capacity { vec_capacity places.old ≤ vec_capacity places.new }
@@ -28,7 +32,9 @@ pub(crate) fn enter(methods: &[Registered], place: u32, places: &mut Vec<u32>)
 fn first_above(methods: &[Registered], place: u32, places: &[u32]) -> Option<usize>
     requires place { place < length methods.now }
     requires within { All (λ other. other < length methods.now) places.now }
-    ensures { result ≡ position (λ other. is_below (method_at methods.now place) (method_at methods.now other)) places.now }
+    ensures { result
+        ≡ position (λ other. is_below (method_at methods.now place) (method_at methods.now other))
+        places.now }
 {
     places
         .iter()
@@ -46,7 +52,8 @@ fn is_ahead(methods: &[Registered], place: u32, other: u32) -> bool
 
 /// A place leaves, and those above it close up.
 pub(crate) fn leave(place: u32, places: &mut Vec<u32>)
-    ensures items { places.new.items ≡ map (closed_up place) (filter (λ other. not (other == place)) places.old.items) }
+    ensures items { places.new.items
+        ≡ map (closed_up place) (filter (λ other. not (other == place)) places.old.items) }
     ensures capacity { vec_capacity places.new ≡ vec_capacity places.old }
 {
     take_out(place, places);

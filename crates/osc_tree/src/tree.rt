@@ -44,9 +44,14 @@ impl Model for Tree {
     ghost use Rattle.osc_tree.specs.Views.{methods_of};
     ghost use Rattle.osc_tree.specs.Order.{IsIndexed};
 
-    ghost view = { λ tree. record { methods = methods_of tree.methods.items; method_limit = tree.method_limit; node_limit = tree.node_limit } };
+    ghost view = { λ tree. record {
+      methods = methods_of tree.methods.items;
+      method_limit = tree.method_limit;
+      node_limit = tree.node_limit;
+    } };
 
-    ghost invariant = { λ tree. IsIndexed tree.methods.items tree.places.items tree.method_limit tree.node_limit tree.node_count (vec_capacity tree.methods) (vec_capacity tree.places) };
+    ghost invariant = { λ tree. IsIndexed tree.methods.items tree.places.items tree.method_limit tree.node_limit tree.node_count
+        (vec_capacity tree.methods) (vec_capacity tree.places) };
 }
 
 impl Tree {
@@ -72,11 +77,16 @@ impl Tree {
         requires { IsNewId self.old.methods id }
         ensures accepted { IsOk result ↔ IsAddable self.old address }
         ensures test { IsOk result ↔ (add_refusal self.old address ≡ None) }
-        ensures added { OnOk result (self.new ≡ record self.old { methods = self.old.methods ++ record { id = id; address = address } ∷ [] }) }
+        ensures added { OnOk result
+            (self.new ≡ record self.old {
+              methods = self.old.methods
+                  ++ record { id = id; address = address } ∷ [];
+            }) }
 
         // The first line that applies, as a relation and as it is read.
         ensures refused { IfErr result (λ refused. IsRefused self.old address refused.0) }
-        ensures read { IfErr result (λ refused. add_refusal self.old address ≡ Some (refusal_of refused.0)) }
+        ensures read { IfErr result
+            (λ refused. add_refusal self.old address ≡ Some (refusal_of refused.0)) }
         ensures handed_back { IfErr result (λ refused. refused.1 ≡ address) }
         ensures unchanged { OnErr result (self.new ≡ self.old) }
         ensures lawful { IsLawful self.new }
@@ -107,7 +117,8 @@ impl Tree {
         ensures unchanged { OnErr result (self.new ≡ self.old) }
         ensures removed { IfOk result (λ id. IsAt self.old.methods id address.now) }
         ensures read { result_ok result ≡ id_at self.old.methods address.now }
-        ensures others { OnOk result (self.new ≡ record self.old { methods = without self.old.methods address.now }) }
+        ensures others { OnOk result
+            (self.new ≡ record self.old { methods = without self.old.methods address.now }) }
         ensures lawful { IsLawful self.new }
     {
         let Some(place) = place_of(&self.methods, address.bytes()) else {

@@ -5,4 +5,5 @@ use Rattle.osc_laws.proofs.Units.{IsWaiting, units_are}
 use Rattle.osc_laws.proofs.laws.a_queued_unit_waits_for_its_tag.Goals as goal
 
 pub returns : goal.returns
-returns c caps history legal = all_mapped (after (opening caps) history).queue (λ (item : Queued) (is : IsWaiting history item). is.1) (units_are caps history legal)
+returns c caps history legal =
+    all_mapped (after (opening caps) history).queue (λ (item : Queued) (is : IsWaiting history item). is.1) (units_are caps history legal)

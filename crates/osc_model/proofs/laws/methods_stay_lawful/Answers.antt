@@ -11,7 +11,8 @@ pub returns-clause-new_id : goal.returns-clause-new_id
 returns-clause-new_id c = new_id
 
 pub returns-clause-more : goal.returns-clause-more
-returns-clause-more c tree id address lawful new spelled none = c.an_added_method_is_lawful.ensures tree id address lawful new spelled (not_refused tree address lawful.few_methods none)
+returns-clause-more c tree id address lawful new spelled none =
+    c.an_added_method_is_lawful.ensures tree id address lawful new spelled (not_refused tree address lawful.few_methods none)
 
 pub returns-clause-fewer : goal.returns-clause-fewer
 returns-clause-fewer c = without_lawful c.an_address_adds_its_new_nodes.ensures

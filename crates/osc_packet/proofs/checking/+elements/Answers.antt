@@ -16,7 +16,8 @@ check_element-returns-in_err-tag-in-35 t c = rw (element_fault_is c.args.left c.
 pub check_element-returns-in_ok-tag-in-35 : goal.check_element-returns-in_ok-tag-in-35
 check_element-returns-in_ok-tag-in-35 t c =
     let hash : slice_index c.args.bytes.now 0 ≡ 35 = search rules in
-    let inside = inside_bundle c.args.left c.args.outer c.args.at c.in_ok-tag-in-35.tag c.args.bytes.now hash (sym c.check_head.ensures.read ∙ c.in_ok-tag-in-35.was) in
+    let inside = inside_bundle c.args.left c.args.outer c.args.at c.in_ok-tag-in-35.tag c.args.bytes.now hash
+    (sym c.check_head.ensures.read ∙ c.in_ok-tag-in-35.was) in
     cc (inside, c.check_elements.ensures, c.bundle_elements.ensures)
 
 pub check_elements-returns-in_err-size : goal.check_elements-returns-in_err-size
@@ -31,7 +32,8 @@ check_elements-returns-in_err-check_element t c =
     let f = element_fault c.args.left (Some c.args.tag) in
     let some : 0 < length c.loop-rest.rest.now = grind (arith, nat_tests) in
     let bad : f (c.loop-rest.place + 4) (take c.in_ok-size.size (drop 4 c.loop-rest.rest.now)) ≡ Some c.in_err-check_element.field-0.0 = search rules in
-    let e = step_fault f c.loop-rest.place c.in_ok-size.size c.loop-rest.rest.now c.in_err-check_element.field-0.0 some (sym c.check_size.ensures.read ∙ c.in_ok-size.was) bad in
+    let e = step_fault f c.loop-rest.place c.in_ok-size.size c.loop-rest.rest.now c.in_err-check_element.field-0.0 some
+    (sym c.check_size.ensures.read ∙ c.in_ok-size.was) bad in
     search (rules, e, c.loop-rest.invariant.read)
 
 pub check_elements-loop-rest-preserved : goal.check_elements-loop-rest-preserved

@@ -27,7 +27,8 @@ pub returns-then-not-is_bundle : goal.returns-then-not-is_bundle
 returns-then-not-is_bundle c =
     let some : 0 < length c.loop-rest.rest.now = grind (arith, nat_tests) in
     let test : is_bundle c.split_element.result.0.now ≡ false = search rules in
-    let one = first_message c.loop-rest.rest.now c.split_element.result.0.now c.split_element.result.1.now c.first_size.result some c.loop-rest.invariant.sound c.first_size.ensures c.split_element.ensures.element c.split_element.ensures.rest test in
+    let one = first_message c.loop-rest.rest.now c.split_element.result.0.now c.split_element.result.1.now c.first_size.result some c.loop-rest.invariant.sound
+    c.first_size.ensures c.split_element.ensures.element c.split_element.ensures.rest test in
     record {
       parts = c.loop-rest.invariant.same ∙ one.parts;
       lawful = one.lawful;
@@ -40,7 +41,8 @@ pub loop-rest-preserved : goal.loop-rest-preserved
 loop-rest-preserved c =
     let some : 0 < length c.loop-rest.rest.now = grind (arith, nat_tests) in
     let test : is_bundle c.split_element.result.0.now ≡ true = search rules in
-    let both = skipped c.loop-rest.rest.now c.split_element.result.0.now c.split_element.result.1.now c.first_size.result some c.loop-rest.invariant.sound c.first_size.ensures c.split_element.ensures.element c.split_element.ensures.rest test in
+    let both = skipped c.loop-rest.rest.now c.split_element.result.0.now c.split_element.result.1.now c.first_size.result some c.loop-rest.invariant.sound
+    c.first_size.ensures c.split_element.ensures.element c.split_element.ensures.rest test in
     record {
       same = c.loop-rest.invariant.same ∙ both.0;
       sound = both.1;

@@ -18,8 +18,14 @@ loop-depth-smaller-then-place-end c = omega (arith, c.loop-depth-test.true)
 
 pub loop-depth-preserved-then-place-end : goal.loop-depth-preserved-then-place-end
 loop-depth-preserved-then-place-end c =
-    let both = left_bundle c.args.bytes.now c.args.bundles.now c.loop-depth.depth c.loop-depth.place c.loop-depth-test.true c.loop-depth.invariant.walk c.if-place-end.true in
-    record { walk = both.1; shallow = omega (arith, c.loop-depth.invariant.shallow); few = omega (arith, c.loop-depth.invariant.few); units = c.loop-depth.invariant.units ∙ both.0 }
+    let both = left_bundle c.args.bytes.now c.args.bundles.now c.loop-depth.depth c.loop-depth.place c.loop-depth-test.true c.loop-depth.invariant.walk
+    c.if-place-end.true in
+    record {
+      walk = both.1;
+      shallow = omega (arith, c.loop-depth.invariant.shallow);
+      few = omega (arith, c.loop-depth.invariant.few);
+      units = c.loop-depth.invariant.units ∙ both.0;
+    }
 
 pub slice_bounds-rest-count : goal.slice_bounds-rest-count
 slice_bounds-rest-count c =
@@ -61,24 +67,35 @@ pub returns-then-is_bundle : goal.returns-then-is_bundle
 returns-then-is_bundle c =
     let here = inner c.args.bytes.now c.args.bundles.now c.loop-depth.depth c.loop-depth.place c.loop-depth-test.true c.loop-depth.invariant.walk in
     let more : c.loop-depth.place < (bundle_at c.args.bundles.now (c.loop-depth.depth - 1)).end = omega (arith, here.order, c.if-place-end.false) in
-    let found = element_here c.args.bytes.now c.args.bundles.now c.loop-depth.depth c.loop-depth.place c.first_size-size.result c.split_element.result.0.now c.loop-depth-test.true c.loop-depth.invariant.walk more c.first_size-size.ensures c.split_element.ensures.element in
+    let found = element_here c.args.bytes.now c.args.bundles.now c.loop-depth.depth c.loop-depth.place c.first_size-size.result c.split_element.result.0.now
+    c.loop-depth-test.true c.loop-depth.invariant.walk more c.first_size-size.ensures c.split_element.ensures.element in
     let test : is_bundle c.split_element.result.0.now ≡ true = search rules in
-    next_here c.args.bytes.now c.args.bundles.now c.args.depth c.args.place c.loop-depth.depth c.loop-depth.place c.first_size-size.result c.split_element.result.0.now c.loop-depth-test.true c.loop-depth.invariant.shallow c.loop-depth.invariant.units found test
+    next_here c.args.bytes.now c.args.bundles.now c.args.depth c.args.place c.loop-depth.depth c.loop-depth.place c.first_size-size.result
+    c.split_element.result.0.now c.loop-depth-test.true c.loop-depth.invariant.shallow c.loop-depth.invariant.units found test
 
 pub loop-depth-smaller : goal.loop-depth-smaller
 loop-depth-smaller c =
     let here = inner c.args.bytes.now c.args.bundles.now c.loop-depth.depth c.loop-depth.place c.loop-depth-test.true c.loop-depth.invariant.walk in
     let more : c.loop-depth.place < (bundle_at c.args.bundles.now (c.loop-depth.depth - 1)).end = omega (arith, here.order, c.if-place-end.false) in
-    let found = element_here c.args.bytes.now c.args.bundles.now c.loop-depth.depth c.loop-depth.place c.first_size-size.result c.split_element.result.0.now c.loop-depth-test.true c.loop-depth.invariant.walk more c.first_size-size.ensures c.split_element.ensures.element in
+    let found = element_here c.args.bytes.now c.args.bundles.now c.loop-depth.depth c.loop-depth.place c.first_size-size.result c.split_element.result.0.now
+    c.loop-depth-test.true c.loop-depth.invariant.walk more c.first_size-size.ensures c.split_element.ensures.element in
     omega (arith, found.order, found.inside, found.positive)
 
 pub loop-depth-preserved : goal.loop-depth-preserved
 loop-depth-preserved c =
     let here = inner c.args.bytes.now c.args.bundles.now c.loop-depth.depth c.loop-depth.place c.loop-depth-test.true c.loop-depth.invariant.walk in
     let more : c.loop-depth.place < (bundle_at c.args.bundles.now (c.loop-depth.depth - 1)).end = omega (arith, here.order, c.if-place-end.false) in
-    let found = element_here c.args.bytes.now c.args.bundles.now c.loop-depth.depth c.loop-depth.place c.first_size-size.result c.split_element.result.0.now c.loop-depth-test.true c.loop-depth.invariant.walk more c.first_size-size.ensures c.split_element.ensures.element in
+    let found = element_here c.args.bytes.now c.args.bundles.now c.loop-depth.depth c.loop-depth.place c.first_size-size.result c.split_element.result.0.now
+    c.loop-depth-test.true c.loop-depth.invariant.walk more c.first_size-size.ensures c.split_element.ensures.element in
     let test : is_bundle c.split_element.result.0.now ≡ false = search rules in
-    record { walk = found.walk; shallow = c.loop-depth.invariant.shallow; few = c.loop-depth.invariant.few; units = c.loop-depth.invariant.units ∙ skipped_here c.args.bytes.now c.args.bundles.now c.loop-depth.depth c.loop-depth.place c.first_size-size.result c.split_element.result.0.now found test }
+    record {
+      walk = found.walk;
+      shallow = c.loop-depth.invariant.shallow;
+      few = c.loop-depth.invariant.few;
+      units = c.loop-depth.invariant.units
+          ∙ skipped_here c.args.bytes.now c.args.bundles.now c.loop-depth.depth c.loop-depth.place c.first_size-size.result c.split_element.result.0.now found
+          test;
+    }
 
 pub returns : goal.returns
 returns c =

@@ -7,10 +7,15 @@ use Rattle.osc_queue.proofs.Places.{entered_is}
 use Rattle.osc_queue.proofs.queue.enter_entry.Goals as goal
 
 pub returns-clause-items : goal.returns-clause-items
-returns-clause-items g c = ap items_of c.in-Ok.ensures.items ∙ entered_is c.args.entry c.args.entries.now.items c.place_in-place.result c.place_in-place.ensures.value
+returns-clause-items g c =
+    ap items_of c.in-Ok.ensures.items ∙ entered_is c.args.entry c.args.entries.now.items c.place_in-place.result c.place_in-place.ensures.value
 
 pub returns-clause-joined : goal.returns-clause-joined
-returns-clause-joined g c = subst (IsPermutation (item_of c.args.entry ∷ items_of c.args.entries.now.items)) (sym (returns-clause-items g c)) (enter_joined (item_of c.args.entry) (items_of c.args.entries.now.items))
+returns-clause-joined g c =
+    subst (IsPermutation (item_of c.args.entry ∷ items_of c.args.entries.now.items)) (sym (returns-clause-items g c))
+    (enter_joined (item_of c.args.entry) (items_of c.args.entries.now.items))
 
 pub returns-clause-ordered : goal.returns-clause-ordered
-returns-clause-ordered g c = subst IsInOrder (sym (returns-clause-items g c)) (enter_ordered (item_of c.args.entry) (items_of c.args.entries.now.items) c.requires.new c.requires.ordered)
+returns-clause-ordered g c =
+    subst IsInOrder (sym (returns-clause-items g c))
+    (enter_ordered (item_of c.args.entry) (items_of c.args.entries.now.items) c.requires.new c.requires.ordered)

@@ -14,7 +14,8 @@ loop-low-preserved-then-is_before c =
     let long = methods_at-length methods places in
     let here : is_before c.args.text.now (get_or (methods_at methods places) middle (method_at methods 0)) ≡ true =
     ap (is_before c.args.text.now) (methods_at-get methods places middle (method_at methods 0) (omega arith)) ∙ sym c.is_before.ensures ∙ c.if-is_before.true in
-    searched_up c.args.text.now (methods_at methods places) c.loop-low.low c.loop-low.high middle (method_at methods 0) c.requires.ascending c.loop-low.invariant (omega arith) here
+    searched_up c.args.text.now (methods_at methods places) c.loop-low.low c.loop-low.high middle
+    (method_at methods 0) c.requires.ascending c.loop-low.invariant (omega arith) here
 
 pub loop-low-preserved : goal.loop-low-preserved
 loop-low-preserved c =
@@ -24,5 +25,7 @@ loop-low-preserved c =
     let bound = c.loop-low.invariant.bound in
     let long = methods_at-length methods places in
     let here : is_before c.args.text.now (get_or (methods_at methods places) middle (method_at methods 0)) ≡ false =
-    ap (is_before c.args.text.now) (methods_at-get methods places middle (method_at methods 0) (omega arith)) ∙ sym c.is_before.ensures ∙ c.if-is_before.false in
-    searched_down c.args.text.now (methods_at methods places) c.loop-low.low c.loop-low.high middle (method_at methods 0) c.requires.ascending c.loop-low.invariant (omega arith) (omega arith) here
+    ap (is_before c.args.text.now) (methods_at-get methods places middle (method_at methods 0) (omega arith)) ∙ sym c.is_before.ensures
+    ∙ c.if-is_before.false in
+    searched_down c.args.text.now (methods_at methods places) c.loop-low.low c.loop-low.high middle
+    (method_at methods 0) c.requires.ascending c.loop-low.invariant (omega arith) (omega arith) here

@@ -9,4 +9,5 @@ returns-in-Some c =
     let method = c.in-Some.method.now in
     let found = c.in-Some.ensures.lookup in
     let here : method ≡ get_or methods c.args.id method = found.1 in
-    ap (λ (m : Registered). Some m) here ∙ sym (found_there methods c.args.id c.args.id method c.requires found.3.0 (ap (λ (m : Registered). m.id) (sym here) ∙ c.if-method-id.true))
+    ap (λ (m : Registered). Some m) here
+    ∙ sym (found_there methods c.args.id c.args.id method c.requires found.3.0 (ap (λ (m : Registered). m.id) (sym here) ∙ c.if-method-id.true))

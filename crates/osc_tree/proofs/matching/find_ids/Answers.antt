@@ -15,4 +15,5 @@ returns-clause-ids g c =
     let text : c.literal_front.result.now ≡ before_first is_special pattern = c.literal_front.ensures ∙ ap (before_first is_special) c.bytes.ensures.value in
     c.add_matching.ensures.ids
     ∙ ap (λ l. map (λ (method : Method). method.id) (filter (λ method. matches pattern method.address) l)) c.beginning_with-near.ensures.those
-    ∙ ap (map (λ (method : Method). method.id)) (found_is pattern c.literal_front.result.now c.args.methods.now c.args.places.now c.requires.list c.requires.order slash text)
+    ∙ ap (map (λ (method : Method). method.id))
+    (found_is pattern c.literal_front.result.now c.args.methods.now c.args.places.now c.requires.list c.requires.order slash text)

@@ -12,4 +12,6 @@ loop-other-preserved c =
     let inside : i < length places = omega (arith, ap length c.deref_mut-other-items.ensures.value) in
     let same : other ≡ get_or places i 0 = ap (λ l. get_or l i 0) c.loop-other.invariant ∙ not_yet _ places i 0 inside in
     let within_items : i < length c.loop-other.other-items = omega arith in
-    ap (set c.loop-other.other-items i) c.closed_up.ensures ∙ map_over_more (closed_up c.args.place) places c.loop-other.other-items i other inside c.loop-other.invariant (any_default c.loop-other.other-items i 0 other within_items)
+    ap (set c.loop-other.other-items i) c.closed_up.ensures
+    ∙ map_over_more (closed_up c.args.place) places c.loop-other.other-items i other inside c.loop-other.invariant
+    (any_default c.loop-other.other-items i 0 other within_items)

@@ -20,4 +20,5 @@ returns-clause-heard c =
     ∙ ap (λ (l : List ℕ). Some (last_of old.capacity (old.items ++ (((l ++ index) ++ size) ++ message)))) c.to_be_bytes.ensures
     ∙ ap (λ (l : List ℕ). Some (last_of old.capacity (old.items ++ (((tag call.unit ++ l) ++ size) ++ message)))) c.to_be_bytes-2.ensures
     ∙ ap (λ (l : List ℕ). Some (last_of old.capacity (old.items ++ (((tag call.unit ++ word call.index) ++ l) ++ message)))) c.to_be_bytes-3.ensures
-    ∙ ap (λ (l : List ℕ). Some (last_of old.capacity (old.items ++ (((tag call.unit ++ word call.index) ++ word (length l)) ++ l)))) c.bytes-message.ensures.value
+    ∙ ap (λ (l : List ℕ). Some (last_of old.capacity (old.items ++ (((tag call.unit ++ word call.index) ++ word (length l)) ++ l))))
+    c.bytes-message.ensures.value

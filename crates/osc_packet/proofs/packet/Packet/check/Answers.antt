@@ -11,7 +11,11 @@ returns-in_err-check_packet-clause-exact c =
     let fault : Fault = c.in_err-check_packet.field-0.0 in
     let is : c.from_residual.result ≡ Err fault = search rules in
     let read : packet_fault c.args.max c.args.bytes.now ≡ Some fault = search rules in
-    rw is (λ e. absurd (false≢true e), λ packet. absurd (refused_exact c.of_messages.ensures c.args.max c.args.bytes.now (λ i. omega (arith, c.type_inv.bytes i)) c.requires fault read packet))
+    rw is (
+      λ e. absurd (false≢true e),
+      λ packet.
+          absurd (refused_exact c.of_messages.ensures c.args.max c.args.bytes.now (λ i. omega (arith, c.type_inv.bytes i)) c.requires fault read packet),
+    )
 
 pub returns-in_err-check_packet-clause-fault : goal.returns-in_err-check_packet-clause-fault
 returns-in_err-check_packet-clause-fault c =
@@ -25,7 +29,8 @@ returns-in_err-check_packet-clause-first c other found =
     let fault : Fault = c.in_err-check_packet.field-0.0 in
     let is : c.from_residual.result ≡ Err fault = search rules in
     let read : packet_fault c.args.max c.args.bytes.now ≡ Some fault = search rules in
-    is ∙ ap (λ (f : Fault). Err f) (refused_first c.of_messages.ensures c.args.max c.args.bytes.now (λ i. omega (arith, c.type_inv.bytes i)) c.requires fault other read found)
+    is ∙ ap (λ (f : Fault). Err f)
+    (refused_first c.of_messages.ensures c.args.max c.args.bytes.now (λ i. omega (arith, c.type_inv.bytes i)) c.requires fault other read found)
 
 pub returns-clause-exact : goal.returns-clause-exact
 returns-clause-exact c =

@@ -6,6 +6,7 @@ use Rattle.osc_packet.proofs.unit.Unit.stored.Goals as goal
 
 pub loop-message-init : goal.loop-message-init
 loop-message-init c =
-    let same : stored_size (messages_of c.self.inside.content) ≡ stored_size c.args.self.now.messages = ap (λ (u : Timed). stored_size u.messages) c.self.view_is in
+    let same : stored_size (messages_of c.self.inside.content) ≡ stored_size c.args.self.now.messages =
+    ap (λ (u : Timed). stored_size u.messages) c.self.view_is in
     let few : stored_size (messages_of c.self.inside.content) ≤ 65508 = stored_small c.self.inside.content c.self.invariant in
     record { sound = c.self.invariant; sized = omega arith; few = omega arith }

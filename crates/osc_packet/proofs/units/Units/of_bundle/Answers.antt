@@ -56,7 +56,8 @@ returns c =
     let tag_is : c.bundle_tag-tag.result ≡ bundle_tag c.args.bytes.now = c.bundle_tag-tag.ensures in
     let unit_is : c.new.result ≡ record { tag = bundle_tag c.args.bytes.now; messages = messages_in (drop 16 c.args.bytes.now) } =
     c.new.ensures ∙ (λ i. record { tag = tag_is i; messages = messages_in (rest i) }) in
-    let others : enclosed_read 15 c.bundle_tag-tag.result (part c.args.bytes.now 16 (length c.args.bytes.now)) ++ [] ≡ enclosed_read 15 (bundle_tag c.args.bytes.now) (drop 16 c.args.bytes.now) =
+    let others : enclosed_read 15 c.bundle_tag-tag.result (part c.args.bytes.now 16 (length c.args.bytes.now)) ++ []
+    ≡ enclosed_read 15 (bundle_tag c.args.bytes.now) (drop 16 c.args.bytes.now) =
     append-nil (enclosed_read 15 c.bundle_tag-tag.result (part c.args.bytes.now 16 (length c.args.bytes.now)))
     ∙ ap (λ (n : ℕ). enclosed_read 15 n (part c.args.bytes.now 16 (length c.args.bytes.now))) tag_is
     ∙ ap (enclosed_read 15 (bundle_tag c.args.bytes.now)) (rest_whole c.args.bytes.now) in

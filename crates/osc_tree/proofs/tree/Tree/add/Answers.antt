@@ -15,24 +15,34 @@ use Rattle.osc_tree.proofs.tree.Tree.add.Goals as goal
 pub returns-in-Err-clause-refused : goal.returns-in-Err-clause-refused
 returns-in-Err-clause-refused c =
     subst (λ (tree : Registry). IsRefused tree c.args.address c.in-Err.refusal) c.self.view_is
-    (subst (λ (l : List Registered). IsRefused (record { methods = methods_of l; method_limit = c.self.inside.method_limit; node_limit = c.self.inside.node_limit }) c.args.address c.in-Err.refusal) c.deref.ensures.value c.in-Err.ensures.refused)
+    (subst (λ (l : List Registered). IsRefused
+    (record { methods = methods_of l; method_limit = c.self.inside.method_limit; node_limit = c.self.inside.node_limit }) c.args.address c.in-Err.refusal)
+    c.deref.ensures.value c.in-Err.ensures.refused)
 
 pub returns-in-Err-clause-accepted : goal.returns-in-Err-clause-accepted
-returns-in-Err-clause-accepted c = (λ clash. absurd (cc), λ can. absurd (not_addable c.args.self.now c.args.address c.in-Err.refusal (returns-in-Err-clause-refused c) can))
+returns-in-Err-clause-accepted c =
+    (λ clash. absurd (cc), λ can. absurd (not_addable c.args.self.now c.args.address c.in-Err.refusal (returns-in-Err-clause-refused c) can))
 
 pub returns-in-Err-clause-read : goal.returns-in-Err-clause-read
 returns-in-Err-clause-read c =
     ap (λ tree. add_refusal tree c.args.address) (sym c.self.view_is)
-    ∙ ap (λ l. add_refusal (record { methods = methods_of l; method_limit = c.self.inside.method_limit; node_limit = c.self.inside.node_limit }) c.args.address) (sym c.deref.ensures.value)
+    ∙ ap (λ l. add_refusal (record { methods = methods_of l; method_limit = c.self.inside.method_limit; node_limit = c.self.inside.node_limit }) c.args.address)
+    (sym c.deref.ensures.value)
     ∙ c.in-Err.ensures.read
 
 pub returns-in-Err-clause-test : goal.returns-in-Err-clause-test
-returns-in-Err-clause-test c = (λ clash. absurd (cc), λ none. let read : add_refusal c.args.self.now c.args.address ≡ Some (refusal_of c.in-Err.refusal) = returns-in-Err-clause-read c in cc)
+returns-in-Err-clause-test c = (
+  λ clash. absurd (cc),
+  λ none. let read : add_refusal c.args.self.now c.args.address ≡ Some (refusal_of c.in-Err.refusal) = returns-in-Err-clause-read c in
+      cc,
+)
 
 pub enter-requires-clause-room : goal.enter-requires-clause-room
 enter-requires-clause-room c =
     let inside = c.self.inside in
-    let can = subst (λ (l : List Registered). IsAddable (record { methods = methods_of l; method_limit = inside.method_limit; node_limit = inside.node_limit }) c.args.address) c.deref.ensures.value c.in-Ok.ensures.accepted in
+    let can = subst
+    (λ (l : List Registered). IsAddable (record { methods = methods_of l; method_limit = inside.method_limit; node_limit = inside.node_limit })
+    c.args.address) c.deref.ensures.value c.in-Ok.ensures.accepted in
     let few = can.method_room in
     let room = c.self.invariant.room in
     omega (arith, order_length inside.methods.items inside.places.items c.self.invariant.order, length-map inside.methods.items method_of)
@@ -42,21 +52,32 @@ invariant_of-self c =
     let inside = c.self.inside in
     let registered = inside.methods.items in
     let one : Registered = record { id = c.args.id; address = c.args.address } in
-    let need : c.in-Ok.need ≡ new_nodes (methods_of registered) c.args.address = c.in-Ok.ensures.ok ∙ ap (λ l. new_nodes (methods_of l) c.args.address) c.deref.ensures.value in
+    let need : c.in-Ok.need ≡ new_nodes (methods_of registered) c.args.address =
+    c.in-Ok.ensures.ok ∙ ap (λ l. new_nodes (methods_of l) c.args.address) c.deref.ensures.value in
     let can : IsAddable (record { methods = methods_of registered; method_limit = inside.method_limit; node_limit = inside.node_limit }) c.args.address =
-    subst (λ (l : List Registered). IsAddable (record { methods = methods_of l; method_limit = inside.method_limit; node_limit = inside.node_limit }) c.args.address) c.deref.ensures.value c.in-Ok.ensures.accepted in
+    subst (λ (l : List Registered). IsAddable (record { methods = methods_of l; method_limit = inside.method_limit; node_limit = inside.node_limit })
+    c.args.address) c.deref.ensures.value c.in-Ok.ensures.accepted in
     let new : IsNewId (methods_of registered) c.args.id = subst (λ (tree : Registry). IsNewId tree.methods c.args.id) (sym c.self.view_is) c.requires in
     let lists : c.deref-2.result.now ≡ registered ++ one ∷ [] = c.deref-2.ensures.value ∙ c.in-Ok-push.ensures.items in
     let last : c.len-place.result ≡ length registered = omega (arith, c.len-place.ensures, c.deref.ensures.len, ap length c.deref.ensures.value) in
-    let within : All (λ place. place < length (registered ++ one ∷ [])) c.enter.new.places.items = subst (λ (l : List Registered). All (λ place. place < length l) c.enter.new.places.items) lists c.enter.ensures.within in
-    let entered : c.enter.new.places.items ≡ insert inside.places.items (position_or_len (λ other. is_below (method_at (registered ++ one ∷ []) (length registered)) (method_at (registered ++ one ∷ []) other)) inside.places.items) (length registered) =
+    let within : All (λ place. place < length (registered ++ one ∷ [])) c.enter.new.places.items =
+    subst (λ (l : List Registered). All (λ place. place < length l) c.enter.new.places.items) lists c.enter.ensures.within in
+    let entered : c.enter.new.places.items
+    ≡ insert inside.places.items
+    (position_or_len (λ other. is_below (method_at (registered ++ one ∷ []) (length registered)) (method_at (registered ++ one ∷ []) other))
+    inside.places.items) (length registered) =
     c.enter.ensures.items
-    ∙ ap (λ (l : List Registered). insert inside.places.items (position_or_len (λ other. is_below (method_at l c.len-place.result) (method_at l other)) inside.places.items) c.len-place.result) lists
-    ∙ ap (λ (n : ℕ). insert inside.places.items (position_or_len (λ other. is_below (method_at (registered ++ one ∷ []) n) (method_at (registered ++ one ∷ []) other)) inside.places.items) n) last in
+    ∙ ap (λ (l : List Registered). insert inside.places.items
+    (position_or_len (λ other. is_below (method_at l c.len-place.result) (method_at l other)) inside.places.items) c.len-place.result) lists
+    ∙ ap (λ (n : ℕ). insert inside.places.items
+    (position_or_len (λ other. is_below (method_at (registered ++ one ∷ []) n) (method_at (registered ++ one ∷ []) other)) inside.places.items) n) last in
     record {
       kept = rw (c.in-Ok-push.ensures.items, need)
-          (one_more_kept registered c.args.id c.args.address inside.method_limit inside.node_limit inside.node_count (vec_capacity inside.methods) (vec_capacity c.push.new.self) c.self.invariant.kept new can.apart c.in-Ok.ensures.lawful can.method_room can.node_room c.in-Ok-push.ensures.capacity);
-      order = rw c.in-Ok-push.ensures.items (one_more_ordered registered one inside.places.items c.enter.new.places.items c.self.invariant.order within entered);
+          (one_more_kept registered c.args.id c.args.address inside.method_limit inside.node_limit inside.node_count (vec_capacity inside.methods)
+          (vec_capacity c.push.new.self) c.self.invariant.kept new can.apart c.in-Ok.ensures.lawful can.method_room can.node_room
+          c.in-Ok-push.ensures.capacity);
+      order = rw c.in-Ok-push.ensures.items
+          (one_more_ordered registered one inside.places.items c.enter.new.places.items c.self.invariant.order within entered);
       room = (let room = c.self.invariant.room in omega (arith, c.enter.ensures.capacity));
     }
 

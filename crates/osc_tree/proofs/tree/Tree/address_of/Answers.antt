@@ -9,7 +9,8 @@ use Rattle.osc_tree.proofs.tree.Tree.address_of.Goals as goal
 
 pub returns-in_err-with_id-clause-none : goal.returns-in_err-with_id-clause-none
 returns-in_err-with_id-clause-none c =
-    let none : find (λ method. method.id == c.args.id) c.self.inside.methods.items ≡ None = ap (find (λ method. method.id == c.args.id)) (sym c.deref.ensures.value) ∙ sym c.with_id.ensures ∙ ap option_copied c.in_err-with_id.was in (
+    let none : find (λ method. method.id == c.args.id) c.self.inside.methods.items ≡ None =
+    ap (find (λ method. method.id == c.args.id)) (sym c.deref.ensures.value) ∙ sym c.with_id.ensures ∙ ap option_copied c.in_err-with_id.was in (
       λ _. subst (λ (tree : Registry). IsNewId tree.methods c.args.id) c.self.view_is (no_such_id c.self.inside.methods.items c.args.id none),
       λ _. ap is_some c.from_residual.ensures,
     )
@@ -17,21 +18,29 @@ returns-in_err-with_id-clause-none c =
 pub returns-in_err-with_id-clause-read : goal.returns-in_err-with_id-clause-read
 returns-in_err-with_id-clause-read c =
     ap option_copied c.from_residual.ensures
-    ∙ ap (option_map (λ (method : Registered). method.address)) (sym (ap (find (λ method. method.id == c.args.id)) (sym c.deref.ensures.value) ∙ sym c.with_id.ensures ∙ ap option_copied c.in_err-with_id.was))
+    ∙ ap (option_map (λ (method : Registered). method.address))
+    (sym (ap (find (λ method. method.id == c.args.id)) (sym c.deref.ensures.value) ∙ sym c.with_id.ensures ∙ ap option_copied c.in_err-with_id.was))
     ∙ sym (address_by_id-of c.self.inside.methods.items c.args.id)
     ∙ ap (λ tree. address_by_id tree.methods c.args.id) c.self.view_is
 
 pub returns-clause-found : goal.returns-clause-found
 returns-clause-found c =
-    let found : find (λ method. method.id == c.args.id) c.self.inside.methods.items ≡ Some c.in_ok-with_id.field-0.now = ap (find (λ method. method.id == c.args.id)) (sym c.deref.ensures.value) ∙ sym c.with_id.ensures ∙ ap option_copied c.in_ok-with_id.was in
-    subst (λ (tree : Registry). IsAt tree.methods c.args.id c.in_ok-with_id.field-0.now.address) c.self.view_is (such_id c.self.inside.methods.items c.args.id c.in_ok-with_id.field-0.now found)
+    let found : find (λ method. method.id == c.args.id) c.self.inside.methods.items ≡ Some c.in_ok-with_id.field-0.now =
+    ap (find (λ method. method.id == c.args.id)) (sym c.deref.ensures.value) ∙ sym c.with_id.ensures ∙ ap option_copied c.in_ok-with_id.was in
+    subst (λ (tree : Registry). IsAt tree.methods c.args.id c.in_ok-with_id.field-0.now.address) c.self.view_is
+    (such_id c.self.inside.methods.items c.args.id c.in_ok-with_id.field-0.now found)
 
 pub returns-clause-none : goal.returns-clause-none
-returns-clause-none c = (λ clash. absurd (cc), λ new. absurd (all_at (λ method. method.id ≢ c.args.id) c.args.self.now.methods c.args.id c.in_ok-with_id.field-0.now.address new (returns-clause-found c) refl))
+returns-clause-none c = (
+  λ clash. absurd (cc),
+  λ new.
+      absurd (all_at (λ method. method.id ≢ c.args.id) c.args.self.now.methods c.args.id c.in_ok-with_id.field-0.now.address new (returns-clause-found c) refl),
+)
 
 pub returns-clause-read : goal.returns-clause-read
 returns-clause-read c =
-    ap (option_map (λ (method : Registered). method.address)) (sym (ap (find (λ method. method.id == c.args.id)) (sym c.deref.ensures.value) ∙ sym c.with_id.ensures ∙ ap option_copied c.in_ok-with_id.was))
+    ap (option_map (λ (method : Registered). method.address))
+    (sym (ap (find (λ method. method.id == c.args.id)) (sym c.deref.ensures.value) ∙ sym c.with_id.ensures ∙ ap option_copied c.in_ok-with_id.was))
     ∙ sym (address_by_id-of c.self.inside.methods.items c.args.id)
     ∙ ap (λ tree. address_by_id tree.methods c.args.id) c.self.view_is
 
