@@ -4,7 +4,7 @@ use Rattle.std.specs.List.{AllPairs}
 use Rattle.std.specs.Option.{option_map}
 use Rattle.std.specs.List.Sorted.{IsPermutation}
 use Rattle.std.proofs.lemmas.Bool.{cond-false, eq-eqb, eqb-true, cases_order}
-use Rattle.std.proofs.lemmas.List.{get_or_default, length-map}
+use Rattle.std.proofs.lemmas.List.{append-nil, get_or_default, length-map}
 use Rattle.std.proofs.lemmas.List.Elements.{All-cons, All-head, All-tail, All-nil, All-filter, All-contains}
 use Rattle.std.proofs.lemmas.List.Sorted.{All-permutation, length_permutation}
 use Rattle.std.proofs.lemmas.List.Sums.{length-filter, count_by-le-length}
@@ -127,3 +127,7 @@ last_there (first ∷ methods) method = later method first (methods ++ method �
 -- a message with an unknown tag makes no call
 pub no_calls : (methods : List Method) (index : ℕ) (message : List ℕ) → is_some (unknown_of message) ≡ true → calls_of methods index message ≡ []
 no_calls methods index message is = rw is refl
+
+-- the calls of the only message
+pub only_calls : (methods : List Method) (message : List ℕ) (messages : List (List ℕ)) → messages ≡ message ∷ [] → calls_from methods 0 messages ≡ calls_of methods 0 message
+only_calls methods message messages only = ap (calls_from methods 0) only ∙ append-nil (calls_of methods 0 message)

@@ -1,6 +1,6 @@
 -- The first unit, where it is due.
 use Rattle.std.proofs.Common.{◌≡◌, ℕ, ◌<◌, ◌≤◌, Bool, true, false, nat_le, List, [], ◌∷◌, map, drop, slice_get, Option, Some, None, unwrap_or, refl, sym, ap, subst, ◌∙◌, arith}
-use Rattle.std.specs.List.{Contains}
+use Rattle.std.specs.List.{AllByRecursion, Contains}
 use Rattle.std.proofs.lemmas.Bool.Decides.{nat_tests}
 use Rattle.osc_queue.specs.Timed.{Item, due_of, unit_of, NoneIsDue}
 use Rattle.osc_model.specs.State.{State, Queued, AreNumbered}
@@ -102,3 +102,10 @@ first_answer state kept (item ∷ items) due unit tag queue at now =
     let le : nat_le (due_of item) state.clock ≡ true = grind (arith, nat_tests, ap due_of same) in
     let here : IsDue state (unit_of item) (hits_of (calls_from state.methods 0 (messages_by kept (unit_of item)))) = rw (queue, le) refl in
     subst (λ (n : ℕ). IsDue state n (hits_of (calls_from state.methods 0 (messages_by kept n)))) (ap unit_of same) here
+
+-- the first item's number was given
+pub first_below : (items : List (Item ℕ)) (due unit tag next : ℕ) → slice_get items 0 ≡ Some (due, unit, tag) → AllByRecursion (λ item. unit_of item < next) items → unit < next
+first_below [] due unit tag next at below = absurd (cc)
+first_below (item ∷ items) due unit tag next at below =
+    let same : unit_of item ≡ unit = ap (λ (o : Option (Item ℕ)). unit_of (unwrap_or o item)) at in
+    subst (λ (n : ℕ). n < next) same below.0

@@ -9,6 +9,7 @@ pub mod Invoking
 pub mod Joins
 pub mod Leaving
 pub mod Played
+pub mod Released
 pub mod Recorded
 pub mod Staying
 pub mod Stocks

@@ -141,7 +141,7 @@ same_free laws server recorder entries playing =
     let caps = ap (λ (c : Limits). c.recording) (after_caps (opening recorder.caps) recorder.entries) in
     omega (arith, text, none, recorded, caps)
 
-stays : (performance : Performance) (caller : ℕ) (event : Event) → adds_entry (stepped_in performance event).answer ≡ false → onward performance caller event ≡ performance
+pub stays : (performance : Performance) (caller : ℕ) (event : Event) → adds_entry (stepped_in performance event).answer ≡ false → onward performance caller event ≡ performance
 stays performance caller event is = rw is refl
 
 goes_on : (performance : Performance) (caller : ℕ) (event : Event) (answer : Answer) → (stepped_in performance event).answer ≡ answer → adds_entry answer ≡ true
@@ -259,14 +259,17 @@ pub method_limit_is : (server : State) (recorder : Recording) (entries : ℕ) (n
 method_limit_is server recorder entries now playing view =
     ap (λ (s : State). s.caps.methods) playing.server_is ∙ ap (λ (l : Limits). l.methods) (after_caps (opening recorder.caps) recorder.entries) ∙ ap (λ (p : Performance). p.caps.methods) view
 
--- where nothing is due, no box is called
-pub idle_silent : (server : State) (recorder : Recording) (entries : ℕ) (now : Performance) (next : Option ℕ) → IsPlaying server recorder entries → performance_of recorder ≡ now → (decided server release).answer ≡ nothing_due next → (stepped_in now release).invocations ≡ []
-idle_silent server recorder entries now next playing view none =
+-- where nothing is due, that is answered, and no box is called
+pub idle_answer : (server : State) (recorder : Recording) (entries : ℕ) (now : Performance) (next : Option ℕ) → IsPlaying server recorder entries → performance_of recorder ≡ now → (decided server release).answer ≡ nothing_due next → (stepped_in now release).answer ≡ nothing_due next
+idle_answer server recorder entries now next playing view none =
     let state = state_of (performance_of recorder) in
     let nothing : (decided state release).answer ≡ nothing_due next = sym (ap (λ (s : Stepped). s.answer) (same_decided server state release playing.server_is)) ∙ none in
     let adds : adds_entry (decided state release).answer ≡ false = ap adds_entry nothing in
-    let answer : (step state release).answer ≡ nothing_due next = ap (λ (s : Stepped). s.answer) (none_decided state release adds) ∙ nothing in
-    subst (λ (p : Performance). (stepped_in p release).invocations ≡ []) view (refusal_silent state release (subst IsRefusal (sym answer) tt))
+    subst (λ (p : Performance). (stepped_in p release).answer ≡ nothing_due next) view (ap (λ (s : Stepped). s.answer) (none_decided state release adds) ∙ nothing)
+
+pub idle_silent : (server : State) (recorder : Recording) (entries : ℕ) (now : Performance) (next : Option ℕ) → IsPlaying server recorder entries → performance_of recorder ≡ now → (decided server release).answer ≡ nothing_due next → (stepped_in now release).invocations ≡ []
+idle_silent server recorder entries now next playing view none =
+    refusal_silent (state_of now) release (subst IsRefusal (sym (idle_answer server recorder entries now next playing view none)) tt)
 
 -- a release whose hits are all put
 pub releases_on : PlayedLaw → (server : State) (recorder : Recording) (entries caller unit calls : ℕ) (hits : List Hit) (next : State) (begun more : Recording) (now : Performance) → IsPlaying server recorder entries → performance_of recorder ≡ now → caller < (state_of now).callers

@@ -1,17 +1,20 @@
 // The calls that a release makes.
-ghost use Rattle.std.specs.Prelude.{◌≡◌, ◌<◌, ◌≤◌, ◌^◌, List, length, map, All, Some, IsTrue, vec_capacity};
+ghost use Rattle.std.specs.Prelude.{◌≡◌, ◌+◌, ◌*◌, ◌<◌, ◌≤◌, ◌^◌, ℕ, List, length, map, take, All, Some, None, IsTrue, IfOk, IfErr, OnOk, OnErr, vec_capacity};
 ghost use Rattle.osc_pattern.specs.Methods.{Method};
 ghost use Rattle.osc_tree.specs.Registry.{IsLawful, address_by_id};
 ghost use Rattle.osc_tree.specs.Matching.{matching, matching_ids};
+ghost use Rattle.osc_record.specs.Writing.{recording_text, with_release};
 ghost use Rattle.osc_model.specs.Heard.{all_hear};
 ghost use Rattle.osc_model.specs.Step.{calls_of, calls_from, hits_of, invocations_of};
-ghost use Rattle.osc_core.specs.Calls.{invocation_by, invoked_ids};
+ghost use Rattle.osc_core.specs.Calls.{call_by, invocation_by, invoked_ids};
 ghost use Rattle.osc_core.specs.Ids.{is_ascending};
 ghost use Rattle.osc_core.specs.Telling.{told};
-ghost use Rattle.osc_core.specs.Recorded.{owed_by, with_hits};
+ghost use Rattle.osc_core.specs.Recorded.{owed_by, with_hits, RecordsCalls, TellsRoom};
 
 use crate::boxes::invoke_one;
 use crate::messages::Messages;
+use crate::shortage::shortage;
+use osc_atoms::Room;
 use osc_message::Message;
 use osc_method::{Call, Method as Called};
 use osc_pattern::{Pattern, Steps};
@@ -20,8 +23,107 @@ use osc_tree::{Hits, Tree};
 use std::marker::Brand;
 use std::sync::ledger::{Blank, Ledger};
 
+/// Records the release of a unit, and makes the calls of its messages in order. Where the recording has no room for the
+/// entry, it tells how much the entry needs, and all stays.
+pub(crate) fn release_unit<M: Called>(
+    tree: &Tree,
+    hits: &mut Hits,
+    caller: u32,
+    unit: u64,
+    messages: Messages<'_>,
+    recorder: &mut Recorder,
+    boxes: &mut Vec<(u32, M)>,
+) -> Result<u32, Room>
+    requires limit { tree.now.method_limit ≤ hits.old.limit }
+    requires few { length messages < 2 ^ 32 }
+    requires few_methods { tree.now.method_limit ≤ 65536 }
+    requires caller { caller < 2 ^ 31 }
+    requires unit { unit < 2 ^ 63 }
+    requires whole { recorder.old.begun ≡ None }
+    requires small { recorder.old.caps.recording < 2 ^ 32 }
+    requires ascending { IsTrue (is_ascending (map (λ one. one.0) boxes.old.items)) }
+    ensures recorder { RecordsCalls result caller unit (calls_from tree.now.methods 0 messages.entry)
+        recorder.old recorder.new }
+    ensures boxes { OnOk result (told M.keep M.heard boxes.new.items
+        ≡ all_hear (invocations_of unit (calls_from tree.now.methods 0 messages.entry))
+        (told M.keep M.heard boxes.old.items)) }
+    ensures silent { OnErr result (boxes.new.items ≡ boxes.old.items) }
+    ensures ids { map (λ one. one.0) boxes.new.items ≡ map (λ one. one.0) boxes.old.items }
+    ensures capacity { vec_capacity boxes.old ≤ vec_capacity boxes.new }
+    ensures limit { hits.new.limit ≡ hits.old.limit }
+{
+    let Some(message) = messages.only() else {
+        return release_all(tree, hits, caller, unit, messages, recorder, boxes);
+    };
+    let count = count_hits(tree, hits, &message);
+    let calls = start_release(recorder, caller, unit, count as u64)?;
+    let call = Call {
+        unit,
+        index: 0,
+        message,
+    };
+    invoke_ids(&hits.ids()[..count], &call, recorder, boxes);
+    Ok(calls)
+}
+
+/// The same, for any number of messages: their methods are found once to be counted, and once to be called.
+fn release_all<M: Called>(
+    tree: &Tree,
+    hits: &mut Hits,
+    caller: u32,
+    unit: u64,
+    messages: Messages<'_>,
+    recorder: &mut Recorder,
+    boxes: &mut Vec<(u32, M)>,
+) -> Result<u32, Room>
+    requires limit { tree.now.method_limit ≤ hits.old.limit }
+    requires few { length messages < 2 ^ 32 }
+    requires few_methods { tree.now.method_limit ≤ 65536 }
+    requires caller { caller < 2 ^ 31 }
+    requires unit { unit < 2 ^ 63 }
+    requires whole { recorder.old.begun ≡ None }
+    requires small { recorder.old.caps.recording < 2 ^ 32 }
+    requires ascending { IsTrue (is_ascending (map (λ one. one.0) boxes.old.items)) }
+    ensures recorder { RecordsCalls result caller unit (calls_from tree.now.methods 0 messages.entry)
+        recorder.old recorder.new }
+    ensures boxes { OnOk result (told M.keep M.heard boxes.new.items
+        ≡ all_hear (invocations_of unit (calls_from tree.now.methods 0 messages.entry))
+        (told M.keep M.heard boxes.old.items)) }
+    ensures silent { OnErr result (boxes.new.items ≡ boxes.old.items) }
+    ensures ids { map (λ one. one.0) boxes.new.items ≡ map (λ one. one.0) boxes.old.items }
+    ensures capacity { vec_capacity boxes.old ≤ vec_capacity boxes.new }
+    ensures limit { hits.new.limit ≡ hits.old.limit }
+{
+    let count = count_calls(tree, hits, messages.again());
+    let calls = start_release(recorder, caller, unit, count)?;
+    invoke_unit(tree, hits, unit, messages, recorder, boxes);
+    Ok(calls)
+}
+
+/// Begins a release of a unit with so many calls, or tells how much room its entry needs.
+fn start_release(recorder: &mut Recorder, caller: u32, unit: u64, calls: u64) -> Result<u32, Room>
+    requires caller { caller < 2 ^ 31 }
+    requires unit { unit < 2 ^ 63 }
+    requires few { calls < 2 ^ 48 }
+    requires whole { recorder.old.begun ≡ None }
+    requires small { recorder.old.caps.recording < 2 ^ 32 }
+    ensures count { IfOk result (λ count. count ≡ calls) }
+    ensures fits { OnOk result (length (recording_text recorder.old) + (44 + 8 * calls)
+        ≤ recorder.old.caps.recording) }
+    ensures begun { OnOk result (recorder.new ≡ with_release recorder.old caller unit calls) }
+    ensures full { IfErr result (λ room. TellsRoom (Some room) recorder.old (44 + 8 * calls)) }
+    ensures same { OnErr result (recorder.new ≡ recorder.old) }
+{
+    if let Some(room) = shortage(recorder, 44 + 8 * calls) {
+        return Err(room);
+    }
+    let calls = calls as u32;
+    recorder.start_release(caller, unit, calls);
+    Ok(calls)
+}
+
 /// How many calls the messages make.
-pub(crate) fn count_calls(tree: &Tree, hits: &mut Hits, messages: Messages<'_>) -> u64
+fn count_calls(tree: &Tree, hits: &mut Hits, messages: Messages<'_>) -> u64
     requires limit { tree.now.method_limit ≤ hits.old.limit }
     requires few { length messages < 2 ^ 32 }
     requires few_methods { tree.now.method_limit ≤ 65536 }
@@ -31,15 +133,18 @@ pub(crate) fn count_calls(tree: &Tree, hits: &mut Hits, messages: Messages<'_>) 
 {
     let mut count = 0;
     for message in messages {
-        count += count_hits(tree, hits, &message);
+        count += count_hits(tree, hits, &message) as u64;
     }
     count
 }
 
-/// How many calls a message makes.
-fn count_hits(tree: &Tree, hits: &mut Hits, message: &Message<'_>) -> u64
+/// How many calls a message makes: those of the methods that come first in `hits`.
+fn count_hits(tree: &Tree, hits: &mut Hits, message: &Message<'_>) -> usize
     requires { tree.now.method_limit ≤ hits.old.limit }
     ensures count { result ≡ length (invoked_ids tree.now.methods message.now) }
+    ensures calls { (index : ℕ) → map (call_by tree.now.methods index message.now) (take result hits.new.ids)
+        ≡ calls_of tree.now.methods index message.now }
+    ensures within { result ≤ length hits.new.ids }
     ensures few { result ≤ tree.now.method_limit }
     ensures limit { hits.new.limit ≡ hits.old.limit }
 {
@@ -48,11 +153,11 @@ fn count_hits(tree: &Tree, hits: &mut Hits, message: &Message<'_>) -> u64
         return 0;
     }
     find_hits(tree, hits, &message.pattern());
-    hits.ids().len() as u64
+    hits.ids().len()
 }
 
 /// Makes the calls of a unit's messages in order. Each is recorded, and then made.
-pub(crate) fn invoke_unit<M: Called>(
+fn invoke_unit<M: Called>(
     tree: &Tree,
     hits: &mut Hits,
     unit: u64,
@@ -82,7 +187,7 @@ pub(crate) fn invoke_unit<M: Called>(
     }
 }
 
-/// Makes the calls of one message. One with an unknown tag makes none.
+/// Makes the calls of one message.
 fn invoke_message<M: Called>(
     tree: &Tree,
     hits: &mut Hits,
@@ -99,11 +204,8 @@ fn invoke_message<M: Called>(
     ensures capacity { vec_capacity boxes.old ≤ vec_capacity boxes.new }
     ensures limit { hits.new.limit ≡ hits.old.limit }
 {
-    if call.message.unknown().is_some() {
-        return;
-    }
-    find_hits(tree, hits, &call.message.pattern());
-    invoke_ids(hits.ids(), call, recorder, boxes);
+    let count = count_hits(tree, hits, &call.message);
+    invoke_ids(&hits.ids()[..count], call, recorder, boxes);
 }
 
 /// Makes the call of each of the methods with these ids.

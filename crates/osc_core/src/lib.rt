@@ -13,6 +13,7 @@ mod performance;
 mod playing;
 mod sequential;
 mod server;
+mod shortage;
 mod standing;
 mod store;
 mod units;

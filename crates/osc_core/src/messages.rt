@@ -24,7 +24,7 @@ impl<'a> Model for Messages<'a> {
 }
 
 impl<'a> Messages<'a> {
-    ghost use Rattle.std.specs.Prelude.{◌≡◌, ◌<◌, ◌^◌, length};
+    ghost use Rattle.std.specs.Prelude.{◌≡◌, ◌<◌, ◌^◌, ◌∷◌, [], length, IfSome};
     ghost use Rattle.osc_core.specs.Frames.{unframed, IsFramed};
 
     pub(crate) fn new(count: u32, bytes: &'a [u8]) -> Messages<'a>
@@ -33,6 +33,26 @@ impl<'a> Messages<'a> {
         ensures few { length result < 2 ^ 32 }
     {
         Messages { count, bytes }
+    }
+
+    /// The same messages, to go through them once more.
+    pub(crate) fn again(&self) -> Messages<'a>
+        ensures { result ≡ self.now }
+    {
+        Messages {
+            count: self.count,
+            bytes: self.bytes,
+        }
+    }
+
+    /// The only message, where there is one.
+    pub(crate) fn only(&self) -> Option<Message<'a>>
+        ensures { IfSome result (λ message. self.now ≡ message ∷ []) }
+    {
+        if self.count != 1 {
+            return None;
+        }
+        Some(split_first(self.bytes).0)
     }
 }
 

@@ -9,7 +9,6 @@ ghost use Rattle.osc_core.specs.Answers.{enrolled_of, submitted_of, refusal_of, 
 ghost use Rattle.osc_core.specs.Ids.{is_ascending, without};
 ghost use Rattle.osc_core.specs.Telling.{told};
 ghost use Rattle.osc_core.specs.Leaving.{leaving_of, OnLeft};
-ghost use Rattle.osc_core.specs.Recorded.{TellsRoom};
 
 use crate::answers::{AddRefusal, Enrolled, Releasing, Submitted, Ticking};
 use crate::entry_answers::{
@@ -17,8 +16,8 @@ use crate::entry_answers::{
     tick_answer,
 };
 use crate::playing::a_performance_is_played;
-use crate::server::{Due, Server};
-use osc_atoms::Room;
+use crate::server::Server;
+use crate::shortage::shortage;
 use osc_method::Method;
 use osc_packet::Packet;
 use osc_pattern::Address;
@@ -182,18 +181,11 @@ impl Performance {
         ensures capacity { vec_capacity boxes.old ≤ vec_capacity boxes.new }
     {
         a_performance_is_played();
-        let (unit, calls) = match self.server.due() {
-            Due::Unit { unit, calls } => (unit, calls),
-            Due::Nothing { next } => return Releasing::NothingDue { next },
-        };
-        if let Some(room) = shortage(&self.recorder, 44 + 8 * calls) {
-            return Releasing::RecordFull(room);
+        let releasing = self.server.release(caller, &mut self.recorder, boxes);
+        if let Releasing::Released { .. } = releasing {
+            self.entries += 1;
         }
-        let calls = calls as u32;
-        self.recorder.start_release(caller, unit, calls);
-        self.server.release(unit, &mut self.recorder, boxes);
-        self.entries += 1;
-        Releasing::Released { unit, calls }
+        releasing
     }
 
     pub(crate) fn callers(&self) -> u32
@@ -228,14 +220,4 @@ impl Performance {
     {
         self.recorder.close()
     }
-}
-
-/// How much room an entry of so many bytes needs, where fewer bytes are free.
-fn shortage(recorder: &Recorder, size: u64) -> Option<Room>
-    ensures { TellsRoom result recorder.now size }
-{
-    if recorder.fits(size) {
-        return None;
-    }
-    Some(Room::new(size, recorder.free()))
 }

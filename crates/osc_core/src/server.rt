@@ -1,23 +1,21 @@
 // The tables of the server: all but its boxes and its recording.
-ghost use Rattle.std.specs.Prelude.{◌≡◌, ◌+◌, ◌<◌, ◌≤◌, ◌^◌, ◌++◌, ◌∷◌, [], List, length, map, All, Contains, IfOk, IfErr, OnOk, OnErr, IsTrue, Some, IsSome, vec_capacity};
+ghost use Rattle.std.specs.Prelude.{◌≡◌, ◌+◌, ◌<◌, ◌≤◌, ◌^◌, ◌++◌, ◌∷◌, [], length, map, All, Contains, IfOk, IfErr, OnOk, OnErr, IsTrue, None, Some, IsSome, vec_capacity};
 ghost use Rattle.osc_packet.specs.Reading.{units_read};
 ghost use Rattle.osc_tree.specs.Adding.{refusal_of};
 ghost use Rattle.osc_tree.specs.Registry.{address_by_id};
 ghost use Rattle.osc_model.specs.State.{opening};
-ghost use Rattle.osc_model.specs.Events.{enrol, submit, add, remove, tick, release, added, refused, adds_entry, Hit};
+ghost use Rattle.osc_model.specs.Events.{enrol, submit, add, remove, tick, release, added, refused, adds_entry};
 ghost use Rattle.osc_model.specs.Heard.{all_hear};
 ghost use Rattle.osc_model.specs.Step.{decided};
 ghost use Rattle.osc_core.specs.Answers.{enrolled_of, submitted_of, ticking_of};
-ghost use Rattle.osc_core.specs.Calls.{hit_by};
 ghost use Rattle.osc_core.specs.Ids.{is_ascending, without};
 ghost use Rattle.osc_core.specs.Telling.{told};
-ghost use Rattle.osc_core.specs.Due.{IsDue, TellsDue, CallsAreFew};
+ghost use Rattle.osc_core.specs.Due.{Releases, made_by};
 ghost use Rattle.osc_core.specs.Leaving.{leaving_of, OnLeft};
 ghost use Rattle.osc_core.specs.Playing.{tables};
-ghost use Rattle.osc_core.specs.Recorded.{owed_by, with_hits};
 
-use crate::answers::{Enrolled, Submitted, Ticking};
-use crate::calls::{count_calls, invoke_unit};
+use crate::answers::{Enrolled, Releasing, Submitted, Ticking};
+use crate::calls::release_unit;
 use crate::entry_answers::Leaving;
 use crate::store::Store;
 use crate::units::{blocks_of, enter_all, take_first};
@@ -57,15 +55,6 @@ impl Model for Server {
     ghost view = { λ s. record { caps = record { units = s.queue.limit; blocks = s.store.limit; methods = s.tree.method_limit; nodes = s.tree.node_limit; callers = s.caller_limit; recording = 0 }; methods = s.tree.methods; queue = queue_of s.store.kept s.queue.items; clock = s.clock; next_id = s.next_id; next_unit = s.next_unit; callers = s.callers; recorded = 0 } };
 
     ghost invariant = { λ s. IsRunning s.tree s.hits s.store s.queue s.next_id s.next_unit s.callers s.caller_limit };
-}
-
-/// What is due at the clock.
-#[derive(Clone, Copy)]
-pub(crate) enum Due {
-    /// The first unit, whose messages make so many calls.
-    Unit { unit: u64, calls: u64 },
-    /// No unit. `next` is the least due moment in the queue.
-    Nothing { next: Option<u64> },
 }
 
 impl Server {
@@ -182,44 +171,47 @@ impl Server {
         Ticking::Ticked
     }
 
-    /// The first unit, if it is due, and how many calls its messages make. All stays.
-    pub(crate) fn due(&mut self) -> Due
-        requires { self.old.caps.methods ≤ 65536 }
-        ensures due { TellsDue result self.old }
-        ensures small { CallsAreFew result }
-        ensures unchanged { self.new ≡ self.old }
-    {
-        let Some((due, unit, _)) = self.queue.first() else {
-            return Due::Nothing { next: None };
-        };
-        if due > self.clock {
-            return Due::Nothing { next: Some(due) };
-        }
-        let messages = self.store.messages(unit);
-        Due::Unit {
-            unit,
-            calls: count_calls(&self.tree, &mut self.hits, messages),
-        }
-    }
-
-    /// Makes the calls of the first unit's messages, each of which is recorded and then made, and takes the unit.
+    /// Takes the first unit, if it is due, and makes the calls of its messages, each of which is recorded and then made.
+    /// Where the recording has no room for the entry, all stays.
     pub(crate) fn release<M: Method>(
         &mut self,
-        unit: u64,
+        caller: u32,
         recorder: &mut Recorder,
         boxes: &mut Vec<(u32, M)>,
-    )
-        requires due { (hits : List Hit) × IsDue self.old unit hits × (owed_by recorder.old ≡ length hits) }
+    ) -> Releasing
+        requires methods { self.old.caps.methods ≤ 65536 }
+        requires caller { caller < 2 ^ 31 }
+        requires units { self.old.next_unit < 2 ^ 63 }
+        requires whole { recorder.old.begun ≡ None }
+        requires small { recorder.old.caps.recording < 2 ^ 32 }
         requires ascending { IsTrue (is_ascending (map (λ one. one.0) boxes.old.items)) }
-        ensures state { self.new ≡ (decided self.old release).state }
-        ensures recorder { recorder.new ≡ with_hits recorder.old (map hit_by (decided self.old release).invocations) }
-        ensures boxes { told M.keep M.heard boxes.new.items ≡ all_hear (decided self.old release).invocations (told M.keep M.heard boxes.old.items) }
+        ensures answer { Releases result caller self.old self.new recorder.old recorder.new }
+        ensures boxes { told M.keep M.heard boxes.new.items ≡ all_hear (made_by result (decided self.old release).invocations) (told M.keep M.heard boxes.old.items) }
         ensures ids { map (λ one. one.0) boxes.new.items ≡ map (λ one. one.0) boxes.old.items }
         ensures capacity { vec_capacity boxes.old ≤ vec_capacity boxes.new }
     {
+        let Some((due, unit, _)) = self.queue.first() else {
+            return Releasing::NothingDue { next: None };
+        };
+        if due > self.clock {
+            return Releasing::NothingDue { next: Some(due) };
+        }
         let messages = self.store.messages(unit);
-        invoke_unit(&self.tree, &mut self.hits, unit, messages, recorder, boxes);
-        take_first(&mut self.queue, &mut self.store, self.clock);
+        match release_unit(
+            &self.tree,
+            &mut self.hits,
+            caller,
+            unit,
+            messages,
+            recorder,
+            boxes,
+        ) {
+            Ok(calls) => {
+                take_first(&mut self.queue, &mut self.store, self.clock);
+                Releasing::Released { unit, calls }
+            }
+            Err(room) => Releasing::RecordFull(room),
+        }
     }
 
     pub(crate) fn callers(&self) -> u32

@@ -1,69 +1,88 @@
-use Rattle.std.proofs.Common.{ℕ, List, length, map, refl, sym, ap, subst, ◌∙◌, arith}
+use Rattle.std.proofs.Common.{◌≡◌, ℕ, ◌+◌, ◌*◌, Some, List, length, map, refl, sym, ap, subst, ◌∙◌, arith}
 use Rattle.osc_model.specs.State.{State}
 use Rattle.osc_model.specs.Events.{release}
 use Rattle.osc_model.specs.Step.{decided, calls_from, hits_of, invocations_of}
+use Rattle.osc_record.specs.Writing.{with_release}
 use Rattle.osc_core.specs.Calls.{hit_by}
 use Rattle.osc_core.specs.Due.{IsDue}
 use Rattle.osc_core.specs.Kept.{messages_by}
-use Rattle.osc_core.specs.Recorded.{with_hits}
+use Rattle.osc_core.specs.Recorded.{TellsRoom, with_hits}
 use Rattle.osc_core.specs.contracts.server.Server.{the_view}
 use Rattle.osc_core.proofs.Calling.{length-hits_of}
-use Rattle.osc_core.proofs.Firsts.{is_item, hits_by}
-use Rattle.osc_core.proofs.Hearing.{hear_same}
+use Rattle.osc_core.proofs.Firsts.{first_answer, first_below, is_item, hits_by}
+use Rattle.osc_core.proofs.Joins.{first_kept}
+use Rattle.osc_core.proofs.Hearing.{hear_same, hears_nothing}
 use Rattle.osc_core.proofs.server.Server.release.Goals as goal
+
+pub returns-in_default-clause-boxes : goal.returns-in_default-clause-boxes
+returns-in_default-clause-boxes g c = hears_nothing _ _ refl
+
+pub returns-then-due-self-clause-boxes : goal.returns-then-due-self-clause-boxes
+returns-then-due-self-clause-boxes g c = hears_nothing _ _ refl
 
 pub messages-messages-requires : goal.messages-messages-requires
 messages-messages-requires g c =
     let s = c.self.inside in
-    let hits = c.requires.due.0 in
-    let due = subst (λ (state : State). IsDue state c.args.unit hits) (sym c.self.view_is) c.requires.due.1 in
-    let item = is_item (the_view s) s.store.kept s.queue.items c.args.unit hits refl c.self.invariant.units.kept due in
-    item.held
+    first_kept s.store.kept s.queue.items c.in-Some.due c.in-Some.unit c.in-Some.field-0-2.now c.in-Some.ensures.head c.self.invariant.units.kept
 
-pub invoke_unit-requires-clause-owed : goal.invoke_unit-requires-clause-owed
-invoke_unit-requires-clause-owed g c =
+pub release_unit-requires-clause-unit : goal.release_unit-requires-clause-unit
+release_unit-requires-clause-unit g c =
     let s = c.self.inside in
-    let hits = c.requires.due.0 in
-    let due = subst (λ (state : State). IsDue state c.args.unit hits) (sym c.self.view_is) c.requires.due.1 in
-    let item = is_item (the_view s) s.store.kept s.queue.items c.args.unit hits refl c.self.invariant.units.kept due in
-    let messages = ap (λ (l : List (List ℕ)). length (calls_from s.tree.methods 0 l)) c.messages-messages.ensures.value in
-    let many = length-hits_of (calls_from s.tree.methods 0 (messages_by s.store.kept c.args.unit)) in
-    omega (arith, c.requires.due.2, ap length item.hits_are, many, messages)
+    let below = first_below s.queue.items c.in-Some.due c.in-Some.unit c.in-Some.field-0-2.now s.next_unit c.in-Some.ensures.head c.self.invariant.units.numbers in
+    omega (arith, below, c.requires.units, ap (λ (state : State). state.next_unit) c.self.view_is)
 
 pub take_first-requires-clause-due : goal.take_first-requires-clause-due
 take_first-requires-clause-due g c =
     let s = c.self.inside in
-    let hits = c.requires.due.0 in
-    let due = subst (λ (state : State). IsDue state c.args.unit hits) (sym c.self.view_is) c.requires.due.1 in
-    let item = is_item (the_view s) s.store.kept s.queue.items c.args.unit hits refl c.self.invariant.units.kept due in
+    let hits = hits_of (calls_from s.tree.methods 0 (messages_by s.store.kept c.in-Some.unit)) in
+    let due = first_answer (the_view s) s.store.kept s.queue.items c.in-Some.due c.in-Some.unit c.in-Some.field-0-2.now refl c.in-Some.ensures.head (omega (arith, c.if-due-self.false)) in
+    let item = is_item (the_view s) s.store.kept s.queue.items c.in-Some.unit hits refl c.self.invariant.units.kept due in
     item.due
 
-pub returns-clause-state : goal.returns-clause-state
-returns-clause-state g c =
+pub returns-in-Ok-clause-answer : goal.returns-in-Ok-clause-answer
+returns-in-Ok-clause-answer g c =
     let s = c.self.inside in
-    let hits = c.requires.due.0 in
-    let due = subst (λ (state : State). IsDue state c.args.unit hits) (sym c.self.view_is) c.requires.due.1 in
-    let item = is_item (the_view s) s.store.kept s.queue.items c.args.unit hits refl c.self.invariant.units.kept due in
-    rw (c.take_first.ensures.queue, c.take_first.ensures.places, c.take_first.ensures.limit)
-    (sym (ap (λ (state : State). (decided state release).state) (sym c.self.view_is) ∙ item.state_is))
-
-pub returns-clause-recorder : goal.returns-clause-recorder
-returns-clause-recorder g c =
-    let s = c.self.inside in
-    let hits = c.requires.due.0 in
-    let due = subst (λ (state : State). IsDue state c.args.unit hits) (sym c.self.view_is) c.requires.due.1 in
-    let item = is_item (the_view s) s.store.kept s.queue.items c.args.unit hits refl c.self.invariant.units.kept due in
-    let calls = calls_from s.tree.methods 0 (messages_by s.store.kept c.args.unit) in
+    let unit = c.in-Some.unit in
+    let calls = calls_from s.tree.methods 0 (messages_by s.store.kept unit) in
+    let due = first_answer (the_view s) s.store.kept s.queue.items c.in-Some.due unit c.in-Some.field-0-2.now refl c.in-Some.ensures.head (omega (arith, c.if-due-self.false)) in
+    let item = is_item (the_view s) s.store.kept s.queue.items unit (hits_of calls) refl c.self.invariant.units.kept due in
+    let kept = c.messages-messages.ensures.value in
+    let begun = with_release c.args.recorder.now c.args.caller unit c.in-Ok.calls in
     let invocations = ap (λ (state : State). (decided state release).invocations) (sym c.self.view_is) ∙ item.invocations_are in
-    c.invoke_unit.ensures.recorder
-    ∙ ap (λ (l : List (List ℕ)). with_hits c.args.recorder.now (hits_of (calls_from s.tree.methods 0 l))) c.messages-messages.ensures.value
-    ∙ ap (with_hits c.args.recorder.now) (sym (ap (map hit_by) invocations ∙ hits_by c.args.unit calls))
+    record {
+      hits = hits_of calls;
+      due = subst (λ (state : State). IsDue state unit (hits_of calls)) c.self.view_is due;
+      many = c.in-Ok.ensures.recorder.0 ∙ ap (λ (l : List (List ℕ)). length (calls_from s.tree.methods 0 l)) kept ∙ sym (length-hits_of calls);
+      fits = c.in-Ok.ensures.recorder.1;
+      state = rw (c.take_first.ensures.queue, c.take_first.ensures.places, c.take_first.ensures.limit) (sym (ap (λ (state : State). (decided state release).state) (sym c.self.view_is) ∙ item.state_is));
+      recorder = c.in-Ok.ensures.recorder.2 ∙ ap (λ (l : List (List ℕ)). with_hits begun (hits_of (calls_from s.tree.methods 0 l))) kept ∙ ap (with_hits begun) (sym (ap (map hit_by) invocations ∙ hits_by unit calls));
+    }
 
-pub returns-clause-boxes : goal.returns-clause-boxes
-returns-clause-boxes g c =
+pub returns-in-Ok-clause-boxes : goal.returns-in-Ok-clause-boxes
+returns-in-Ok-clause-boxes g c =
     let s = c.self.inside in
-    let hits = c.requires.due.0 in
-    let due = subst (λ (state : State). IsDue state c.args.unit hits) (sym c.self.view_is) c.requires.due.1 in
-    let item = is_item (the_view s) s.store.kept s.queue.items c.args.unit hits refl c.self.invariant.units.kept due in
+    let unit = c.in-Some.unit in
+    let calls = calls_from s.tree.methods 0 (messages_by s.store.kept unit) in
+    let due = first_answer (the_view s) s.store.kept s.queue.items c.in-Some.due unit c.in-Some.field-0-2.now refl c.in-Some.ensures.head (omega (arith, c.if-due-self.false)) in
+    let item = is_item (the_view s) s.store.kept s.queue.items unit (hits_of calls) refl c.self.invariant.units.kept due in
     let invocations = ap (λ (state : State). (decided state release).invocations) (sym c.self.view_is) ∙ item.invocations_are in
-    hear_same _ _ _ _ c.invoke_unit.ensures.boxes (ap (λ (l : List (List ℕ)). invocations_of c.args.unit (calls_from s.tree.methods 0 l)) c.messages-messages.ensures.value ∙ sym invocations)
+    hear_same _ _ _ _ c.in-Ok.ensures.boxes (ap (λ (l : List (List ℕ)). invocations_of unit (calls_from s.tree.methods 0 l)) c.messages-messages.ensures.value ∙ sym invocations)
+
+pub returns-in-Err-clause-answer : goal.returns-in-Err-clause-answer
+returns-in-Err-clause-answer g c =
+    let s = c.self.inside in
+    let unit = c.in-Some.unit in
+    let calls = calls_from s.tree.methods 0 (messages_by s.store.kept unit) in
+    let due = first_answer (the_view s) s.store.kept s.queue.items c.in-Some.due unit c.in-Some.field-0-2.now refl c.in-Some.ensures.head (omega (arith, c.if-due-self.false)) in
+    let many : length (calls_from s.tree.methods 0 c.messages-messages.result) ≡ length (hits_of calls) = ap (λ (l : List (List ℕ)). length (calls_from s.tree.methods 0 l)) c.messages-messages.ensures.value ∙ sym (length-hits_of calls) in
+    record {
+      unit = unit;
+      hits = hits_of calls;
+      due = subst (λ (state : State). IsDue state unit (hits_of calls)) c.self.view_is due;
+      wanting = subst (λ (n : ℕ). TellsRoom (Some c.in-Err.room) c.args.recorder.now (44 + 8 * n)) many c.in-Err.ensures.recorder.0;
+      state = c.self.view_is;
+      recorder = c.in-Err.ensures.recorder.1;
+    }
+
+pub returns-in-Err-clause-boxes : goal.returns-in-Err-clause-boxes
+returns-in-Err-clause-boxes g c = rw c.in-Err.ensures.silent (hears_nothing _ _ refl)
