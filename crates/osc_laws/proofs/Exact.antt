@@ -74,7 +74,7 @@ only_here before later caller number hits once =
     let entry : Entry = record { caller = caller; event = release; answer = released number hits } in
     let few = once number in
     let parts : times test (numbers_released (before ++ entry ∷ later))
-        ≡ times test (numbers_released before) + (tally test number + times test (numbers_released later)) =
+    ≡ times test (numbers_released before) + (tally test number + times test (numbers_released later)) =
     ap (times test) (numbers_append before (entry ∷ later)) ∙ times_append test (numbers_released before) (number ∷ numbers_released later) in
     let itself : (number == number) ≡ true = grind (arith, nat_tests) in
     let counts : tally test number ≡ 1 = rw itself refl in
@@ -91,9 +91,9 @@ calls_there state before later caller number hits calls legal only invoked =
     let next = (step (after state before) release).state in
     let parts = legal_split state before (entry ∷ later) legal in
     let first : calls_of_number number (invocations state before) ≡ [] =
-        calls_none number (invocations state before) (none_invoked number state before parts.0 only.not_before) in
+    calls_none number (invocations state before) (none_invoked number state before parts.0 only.not_before) in
     let last : calls_of_number number (invocations next later) ≡ [] =
-        calls_none number (invocations next later) (none_invoked number next later parts.1.4 only.not_later) in
+    calls_none number (invocations next later) (none_invoked number next later parts.1.4 only.not_later) in
     let middle : calls_of_number number here ≡ calls = ap (calls_of_number number) invoked ∙ calls_one number calls in
     ap (calls_of_number number) (invoked_more state before (entry ∷ later))
     ∙ calls_append number (invocations state before) (here ++ invocations next later)
@@ -108,28 +108,38 @@ unit_calls_exactly : OfServer → (caps : Limits) (history : List Entry) → Leg
     → Contains (calls_of_unit (after (opening caps) history).methods unit) call ↔ IsCallOf history unit.2 call
 unit_calls_exactly of caps history legal unit call =
     (λ held. there (calls_are of.exactly methods 0 unit.2.messages call held), λ is. are_calls of.exactly methods 0 unit.2.messages call (back is)) where
-  methods : List Method
-  methods = (after (opening caps) history).methods
+      methods : List Method
+      methods = (after (opening caps) history).methods
 
-  read : Contains methods (record { id = call.id; address = call.address }) ↔ IsRegistered history call.id call.address
-  read = methods_are of.stays of.opens caps history legal (record { id = call.id; address = call.address })
+      read : Contains methods (record { id = call.id; address = call.address }) ↔ IsRegistered history call.id call.address
+      read = methods_are of.stays of.opens caps history legal (record { id = call.id; address = call.address })
 
-  there : IsCallFrom methods 0 unit.2.messages call → IsCallOf history unit.2 call
-  there is =
-      let index_is = is.index_is in
-      let place : is.place ≡ call.index = omega (arith, index_is) in
-      record { message = subst (λ (n : ℕ). slice_get unit.2.messages n ≡ Some call.message) place is.message_is; known = is.known;
-          registered = read.0 is.registered; matched = is.matched }
+      there : IsCallFrom methods 0 unit.2.messages call → IsCallOf history unit.2 call
+      there is =
+          let index_is = is.index_is in
+          let place : is.place ≡ call.index = omega (arith, index_is) in
+          record {
+            message = subst (λ (n : ℕ). slice_get unit.2.messages n ≡ Some call.message) place is.message_is;
+            known = is.known;
+            registered = read.0 is.registered;
+            matched = is.matched;
+          }
 
-  back : IsCallOf history unit.2 call → IsCallFrom methods 0 unit.2.messages call
-  back is = record { place = call.index; index_is = omega arith; message_is = is.message; known = is.known; registered = read.1 is.registered;
-      matched = is.matched }
+      back : IsCallOf history unit.2 call → IsCallFrom methods 0 unit.2.messages call
+      back is = record {
+        place = call.index;
+        index_is = omega arith;
+        message_is = is.message;
+        known = is.known;
+        registered = read.1 is.registered;
+        matched = is.matched;
+      }
 
 taken_exactly : OfServer → (caps : Limits) (before later : List Entry) (caller number : ℕ) (hits : List Hit)
     → Legal caps (before ++ record { caller = caller; event = release; answer = released number hits } ∷ later)
     → TakesLeast (after (opening caps) before) (step (after (opening caps) before) release)
     → CallsExactly before number hits
-        (calls_of_number number (invocations (opening caps) (before ++ record { caller = caller; event = release; answer = released number hits } ∷ later)))
+    (calls_of_number number (invocations (opening caps) (before ++ record { caller = caller; event = release; answer = released number hits } ∷ later)))
 taken_exactly of caps before later caller number hits legal taken =
     let state = after (opening caps) before in
     let entry : Entry = record { caller = caller; event = release; answer = released number hits } in
@@ -159,7 +169,7 @@ taken_exactly of caps before later caller number hits legal taken =
 release_exactly : OfServer → (caps : Limits) (before later : List Entry) (caller number : ℕ) (hits : List Hit)
     → Legal caps (before ++ record { caller = caller; event = release; answer = released number hits } ∷ later)
     → CallsExactly before number hits
-        (calls_of_number number (invocations (opening caps) (before ++ record { caller = caller; event = release; answer = released number hits } ∷ later)))
+    (calls_of_number number (invocations (opening caps) (before ++ record { caller = caller; event = release; answer = released number hits } ∷ later)))
 release_exactly of caps before later caller number hits legal = go (of.least caps before (legal.0, parts.0)) where
   entry : Entry
   entry = record { caller = caller; event = release; answer = released number hits }

@@ -50,7 +50,7 @@ one_call exactly methods index message call held = go (unknown_of message) refl 
       let from = sent_from (called index message) (matching (pattern_of message) methods) call held in
       let back = IsPermutation-sym (matched (pattern_of message) methods) (matching (pattern_of message) methods) (exactly (pattern_of message) methods) in
       let among = passed test methods from.0
-          (Contains-permutation (matching (pattern_of message) methods) (matched (pattern_of message) methods) from.0 back from.1) in
+      (Contains-permutation (matching (pattern_of message) methods) (matched (pattern_of message) methods) from.0 back from.1) in
       subst (IsOneCall methods index message) from.2 (record { index_is = refl; message_is = refl; known = e; registered = among.0; matched = among.1 })
 
 call_one : MatchesExactly → (methods : List Method) (index : ℕ) (message : List ℕ) (call : Call) → IsOneCall methods index message call
@@ -67,9 +67,9 @@ call_one exactly methods index message call is = go (unknown_of message) refl wh
   go None e =
       let matched_is : test (method_of call) ≡ true = ap (λ (m : List ℕ). matches (pattern_of m) call.address) (sym is.message_is) ∙ is.matched in
       let among = Contains-permutation (matched (pattern_of message) methods) (matching (pattern_of message) methods) (method_of call)
-          (exactly (pattern_of message) methods) (passes test methods (method_of call) is.registered matched_is) in
+      (exactly (pattern_of message) methods) (passes test methods (method_of call) is.registered matched_is) in
       let same : called index message (method_of call) ≡ call =
-          λ i. record { index = sym is.index_is i; id = call.id; address = call.address; message = sym is.message_is i } in
+      λ i. record { index = sym is.index_is i; id = call.id; address = call.address; message = sym is.message_is i } in
       subst (Contains (matching_calls methods index message)) same (sent (called index message) (matching (pattern_of message) methods) (method_of call) among)
 
 pub calls_are : MatchesExactly → (methods : List Method) (index : ℕ) (messages : List (List ℕ)) (call : Call)
@@ -77,7 +77,7 @@ pub calls_are : MatchesExactly → (methods : List Method) (index : ℕ) (messag
 calls_are exactly methods index [] call held = absurd (none_in call held)
 calls_are exactly methods index (message ∷ messages) call held =
     go (Contains-append_cases (calls_of methods index message) (calls_from methods (index + 1) messages) call held)
-        (calls_are exactly methods (index + 1) messages call)
+    (calls_are exactly methods (index + 1) messages call)
   where
     go : Contains (calls_of methods index message) call ⊎ Contains (calls_from methods (index + 1) messages) call
         → (Contains (calls_from methods (index + 1) messages) call → IsCallFrom methods (index + 1) messages call)
@@ -85,13 +85,25 @@ calls_are exactly methods index (message ∷ messages) call held =
     go (inl here) rest =
         let is = one_call exactly methods index message call here in
         let index_is = is.index_is in
-        record { place = 0; index_is = omega (arith, index_is); message_is = ap Some (sym is.message_is); known = is.known; registered = is.registered;
-            matched = is.matched }
+        record {
+          place = 0;
+          index_is = omega (arith, index_is);
+          message_is = ap Some (sym is.message_is);
+          known = is.known;
+          registered = is.registered;
+          matched = is.matched;
+        }
     go (inr behind) rest =
         let is = rest behind in
         let index_is = is.index_is in
-        record { place = suc is.place; index_is = omega (arith, index_is); message_is = is.message_is; known = is.known; registered = is.registered;
-            matched = is.matched }
+        record {
+          place = suc is.place;
+          index_is = omega (arith, index_is);
+          message_is = is.message_is;
+          known = is.known;
+          registered = is.registered;
+          matched = is.matched;
+        }
 
 -- a call of one of the messages is among them, by its place
 placed_call : MatchesExactly → (methods : List Method) (index : ℕ) (messages : List (List ℕ)) (call : Call) (place : ℕ) → call.index ≡ index + place
@@ -103,7 +115,7 @@ placed_call exactly methods index (message ∷ messages) call zero index_is mess
     let same : message ≡ call.message = cc in
     Contains-append_left (calls_of methods index message) (calls_from methods (index + 1) messages) call
     (call_one exactly methods index message call
-        (record { index_is = omega (arith, index_is); message_is = sym same; known = known; registered = registered; matched = matched }))
+    (record { index_is = omega (arith, index_is); message_is = sym same; known = known; registered = registered; matched = matched }))
 placed_call exactly methods index (message ∷ messages) call (suc place) index_is message_is known registered matched =
     Contains-append_right (calls_of methods index message) (calls_from methods (index + 1) messages) call
     (placed_call exactly methods (index + 1) messages call place (omega (arith, index_is)) message_is known registered matched)

@@ -43,11 +43,11 @@ numbers_pass caps history legal =
     let state = opening caps in
     let queue = (after state history).queue in
     let passed = IsPermutation-map (λ (item : Queued). unit_of item) (all_entering state history) (all_leaving state history ++ queue)
-        (history_passes state history) in
+    (history_passes state history) in
     let left = map-append (λ (item : Queued). unit_of item) (all_leaving state history) queue
-        ∙ ap (λ (l : List ℕ). l ++ numbers_of queue) (left_are state history legal.1) in
+    ∙ ap (λ (l : List ℕ). l ++ numbers_of queue) (left_are state history legal.1) in
     subst (λ (l : List ℕ). IsPermutation (given_in history) l) left
-        (subst (λ (l : List ℕ). IsPermutation l (numbers_of (all_leaving state history ++ queue))) (entered_are state history legal.1) passed)
+    (subst (λ (l : List ℕ). IsPermutation l (numbers_of (all_leaving state history ++ queue))) (entered_are state history legal.1) passed)
 
 pub all_once : (caps : Limits) (history : List Entry) → Legal caps history → AreReleasedOnce history (after (opening caps) history).queue
 all_once caps history legal =

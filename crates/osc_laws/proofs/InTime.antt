@@ -55,13 +55,13 @@ pub taken_waits : (history : List Entry) (state : State) (stepped : Stepped) (ta
     → IsWaiting history taken.unit
 taken_waits history state stepped taken wait =
     let all = All-permutation (IsWaiting history) state.queue (taken.unit ∷ stepped.state.queue) taken.others
-        (All-from_recursion (IsWaiting history) state.queue wait) in
+    (All-from_recursion (IsWaiting history) state.queue wait) in
     (recursion_from_All (IsWaiting history) (taken.unit ∷ stepped.state.queue) all).0
 
 -- the unit that is taken at a release is in time
 taken_in_time : (caps : Limits) (before later : List Entry) (entry : Entry) → Legal caps (before ++ entry ∷ later) → entry.event ≡ release
     → (taken : TakesLeast (after (opening caps) before) (step (after (opening caps) before) release)) (call : Call)
-        → IsInTime (before ++ entry ∷ later) (record { unit = unit_of taken.unit; call = call })
+    → IsInTime (before ++ entry ∷ later) (record { unit = unit_of taken.unit; call = call })
 taken_in_time caps before later entry legal is taken call =
     let state = after (opening caps) before in
     let parts = legal_split (opening caps) before (entry ∷ later) legal.1 in
@@ -84,11 +84,11 @@ taken_in_time caps before later entry legal is taken call =
 
 release_in_time : (caps : Limits) (before later : List Entry) (entry : Entry) → Legal caps (before ++ entry ∷ later) → entry.event ≡ release
     → ReleasesLeast (after (opening caps) before) (step (after (opening caps) before) release)
-        → AllByRecursion (IsInTime (before ++ entry ∷ later)) (step (after (opening caps) before) release).invocations
+    → AllByRecursion (IsInTime (before ++ entry ∷ later)) (step (after (opening caps) before) release).invocations
 release_in_time caps before later entry legal is (inl taken) =
     subst (AllByRecursion (IsInTime (before ++ entry ∷ later))) (sym taken.invoked)
     (each_of_unit _ (unit_of taken.unit) (calls_of_unit (after (opening caps) before).methods taken.unit)
-        (taken_in_time caps before later entry legal is taken))
+    (taken_in_time caps before later entry legal is taken))
 release_in_time caps before later entry legal is (inr (inl none)) = subst (AllByRecursion (IsInTime (before ++ entry ∷ later))) (sym none.none) tt
 release_in_time caps before later entry legal is (inr (inr full)) = subst (AllByRecursion (IsInTime (before ++ entry ∷ later))) (sym full.none) tt
 
@@ -106,7 +106,7 @@ entry_in_time least caps before later entry legal = go (step_by_release (after (
 -- what holds of the invocations of each entry holds of all those of a history
 pub each_entry : (P : List Entry → Invocation → Type 0) (caps : Limits)
     → ((before later : List Entry) (entry : Entry) → Legal caps (before ++ entry ∷ later)
-        → AllByRecursion (P (before ++ entry ∷ later)) (step (after (opening caps) before) entry.event).invocations)
+    → AllByRecursion (P (before ++ entry ∷ later)) (step (after (opening caps) before) entry.event).invocations)
     → (before later : List Entry) → Legal caps (before ++ later) → AllByRecursion (P (before ++ later)) (invocations (after (opening caps) before) later)
 each_entry P caps holds before [] legal = tt
 each_entry P caps holds before (entry ∷ entries) legal =
@@ -115,7 +115,7 @@ each_entry P caps holds before (entry ∷ entries) legal =
     let more = each_entry P caps holds (before ++ entry ∷ []) entries (subst (Legal caps) (sym same) legal) in
     let behind = subst (λ (h : List Entry). AllByRecursion (P h) (invocations (after (opening caps) (before ++ entry ∷ [])) entries)) same more in
     all_append (P (before ++ entry ∷ entries)) (step state entry.event).invocations (invocations (step state entry.event).state entries)
-        (holds before entries entry legal)
+    (holds before entries entry legal)
     (subst (λ (s : State). AllByRecursion (P (before ++ entry ∷ entries)) (invocations s entries)) (after_more (opening caps) before (entry ∷ [])) behind)
 
 pub all_in_time : TakesTheLeast → (caps : Limits) (history : List Entry) → Legal caps history

@@ -60,13 +60,21 @@ decided_changes state event =
 changes_noted : (state : State) (event : Event) (one other : Stepped) → other.state.methods ≡ one.state.methods → other.answer ≡ one.answer
     → Changes state event one → Changes state event other
 changes_noted state event one other methods answer (inl keeps) =
-    inl (record { methods = methods ∙ keeps.methods; none_added = λ id same. keeps.none_added id (sym answer ∙ same);
-        none_removed = λ id same. keeps.none_removed id (sym answer ∙ same) })
+    inl (record {
+      methods = methods ∙ keeps.methods;
+      none_added = λ id same. keeps.none_added id (sym answer ∙ same);
+      none_removed = λ id same. keeps.none_removed id (sym answer ∙ same);
+    })
 changes_noted state event one other methods answer (inr (inl adds)) =
     inr (inl (record { address = adds.address; event_is = adds.event_is; methods = methods ∙ adds.methods; answer = answer ∙ adds.answer }))
 changes_noted state event one other methods answer (inr (inr removes)) =
-    inr (inr (record { address = removes.address; id = removes.id; event_is = removes.event_is; methods = methods ∙ removes.methods;
-        answer = answer ∙ removes.answer }))
+    inr (inr (record {
+      address = removes.address;
+      id = removes.id;
+      event_is = removes.event_is;
+      methods = methods ∙ removes.methods;
+      answer = answer ∙ removes.answer;
+    }))
 
 step_changes : (state : State) (event : Event) → Changes state event (step state event)
 step_changes state event =
@@ -122,8 +130,13 @@ registered_later history entry id address stays is =
 registered_now : (history : List Entry) (entry : Entry) (id : ℕ) (address : List ℕ) → entry.event ≡ add address → entry.answer ≡ added id
     → IsRegistered (history ++ entry ∷ []) id address
 registered_now history entry id address event answer =
-    record { before = history; caller = entry.caller; later = [];
-        place = λ i. history ++ record { caller = entry.caller; event = event i; answer = answer i } ∷ []; stays = tt }
+    record {
+      before = history;
+      caller = entry.caller;
+      later = [];
+      place = λ i. history ++ record { caller = entry.caller; event = event i; answer = answer i } ∷ [];
+      stays = tt;
+    }
 
 abbrev WasRegistered : List Entry → Entry → ℕ → List ℕ → Type 0
 WasRegistered history entry id address = ((entry.event ≡ add address) × (entry.answer ≡ added id))
@@ -139,7 +152,7 @@ registered_before history entry id address is = go (last_or_earlier history entr
   go (inl now) = inl (ap (λ (e : Entry). e.event) now.last_is, ap (λ (e : Entry). e.answer) now.last_is)
   go (inr then) =
       let stays = all_split (λ (e : Entry). e.answer ≢ removed id) then.rest (entry ∷ [])
-          (subst (AllByRecursion (λ (e : Entry). e.answer ≢ removed id)) then.later_is is.stays) in
+      (subst (AllByRecursion (λ (e : Entry). e.answer ≢ removed id)) then.later_is is.stays) in
       inr (record { before = is.before; caller = is.caller; later = then.rest; place = then.all_is; stays = stays.0 }, stays.1.0)
 
 -- the methods are those that a history registered
@@ -152,7 +165,7 @@ kept_read history state entry answered keeps read method = (there, λ is. back (
   there : Contains (step state entry.event).state.methods method → IsRegistered (history ++ entry ∷ []) method.id method.address
   there held =
       registered_later history entry method.id method.address (λ is. keeps.none_removed method.id (sym answered ∙ is))
-          ((read method).0 (subst (λ (l : List Method). Contains l method) keeps.methods held))
+      ((read method).0 (subst (λ (l : List Method). Contains l method) keeps.methods held))
 
   back : WasRegistered history entry method.id method.address → Contains (step state entry.event).state.methods method
   back (inl (event, answer)) = absurd (keeps.none_added method.id (sym answered ∙ answer))
@@ -160,9 +173,11 @@ kept_read history state entry answered keeps read method = (there, λ is. back (
 
 added_read : (history : List Entry) (state : State) (entry : Entry) → entry.answer ≡ (step state entry.event).answer
     → Adds state entry.event (step state entry.event) → AreRead history state.methods → AreRead (history ++ entry ∷ []) (step state entry.event).state.methods
-added_read history state entry answered adds read method =
-    (λ held. there (Contains-push_cases state.methods one method (subst (λ (l : List Method). Contains l method) adds.methods held)), λ is.
-        back (registered_before history entry method.id method.address is))
+added_read history state entry answered adds read method = (
+  λ held. there (Contains-push_cases state.methods one method (subst (λ (l : List Method). Contains l method) adds.methods held)),
+  λ is.
+      back (registered_before history entry method.id method.address is),
+)
   where
     one : Method
     one = record { id = state.next_id; address = adds.address }
@@ -188,9 +203,11 @@ added_read history state entry answered adds read method =
 removed_read : (history : List Entry) (state : State) (entry : Entry) → entry.answer ≡ (step state entry.event).answer → IsMethodList state.methods
     → (removes : Removes state entry.event (step state entry.event))
     → IsThere state.methods removes.address removes.id → AreRead history state.methods → AreRead (history ++ entry ∷ []) (step state entry.event).state.methods
-removed_read history state entry answered list removes one read method =
-    (λ held. there (passed others state.methods method (subst (λ (l : List Method). Contains l method) removes.methods held)), λ is.
-        back (registered_before history entry method.id method.address is))
+removed_read history state entry answered list removes one read method = (
+  λ held. there (passed others state.methods method (subst (λ (l : List Method). Contains l method) removes.methods held)),
+  λ is.
+      back (registered_before history entry method.id method.address is),
+)
   where
     others : Method → Bool
     others m = not (bytes_eq m.address removes.address)
@@ -215,15 +232,15 @@ removed_read history state entry answered list removes one read method =
     back (inr (was, stays)) =
         subst (λ (l : List Method). Contains l method) (sym removes.methods)
         (passes others state.methods method held (go (bytes_eq method.address removes.address) refl)) where
-      held : Contains state.methods method
-      held = (read method).1 was
+          held : Contains state.methods method
+          held = (read method).1 was
 
-      go : (t : Bool) → bytes_eq method.address removes.address ≡ t → not t ≡ true
-      go false e = refl
-      go true e =
-          let at : method.address ≡ removes.address = (bytes_eq-Decides method.address removes.address).0 e in
-          let same : one.method ≡ method = unique (λ (m : Method). m.address) state.methods one.method method list.addresses one.held held (one.at ∙ sym at) in
-          absurd (stays (answer_is ∙ ap removed (sym one.under ∙ ap (λ (m : Method). m.id) same)))
+          go : (t : Bool) → bytes_eq method.address removes.address ≡ t → not t ≡ true
+          go false e = refl
+          go true e =
+              let at : method.address ≡ removes.address = (bytes_eq-Decides method.address removes.address).0 e in
+              let same : one.method ≡ method = unique (λ (m : Method). m.address) state.methods one.method method list.addresses one.held held (one.at ∙ sym at) in
+              absurd (stays (answer_is ∙ ap removed (sym one.under ∙ ap (λ (m : Method). m.id) same)))
 
 step_read : (history : List Entry) (state : State) (entry : Entry) → entry.answer ≡ (step state entry.event).answer → IsMethodList state.methods
     → AreRead history state.methods → AreRead (history ++ entry ∷ []) (step state entry.event).state.methods
@@ -234,7 +251,7 @@ step_read history state entry answered list read = go (step_changes state entry.
   go (inr (inr removes)) =
       let answer = ap (λ (e : Event). (step state e).answer) (sym removes.event_is) ∙ removes.answer in
       removed_read history state entry answered list removes
-          (there_at state.methods removes.address removes.id (step_finds state removes.address removes.id answer)) read
+      (there_at state.methods removes.address removes.id (step_finds state removes.address removes.id answer)) read
 
 -- each lawful event keeps a server sound
 abbrev pub StaysSound : Type 0

@@ -114,9 +114,11 @@ all_from methods index (message ∷ messages) =
 joined_in_order : (index : ℕ) (calls more : List Call) → AreInOrder calls → AllByRecursion (λ call. call.index ≡ index) calls → AreInOrder more
     → AllByRecursion (λ call. index + 1 ≤ call.index) more → AreInOrder (calls ++ more)
 joined_in_order index [] more ordered at behind later = behind
-joined_in_order index (call ∷ calls) more ordered at behind later =
-    (all_append _ calls more ordered.0 (all_more _ _ (λ (other : Call) above. inl (lower call.index other.index at.0 above)) more later), joined_in_order index
-        calls more ordered.1 at.1 behind later)
+joined_in_order index (call ∷ calls) more ordered at behind later = (
+  all_append _ calls more ordered.0 (all_more _ _ (λ (other : Call) above. inl (lower call.index other.index at.0 above)) more later),
+  joined_in_order index
+      calls more ordered.1 at.1 behind later,
+)
   where
     lower : (m n : ℕ) → m ≡ index → index + 1 ≤ n → m < n
     lower m n is above = omega arith
@@ -126,5 +128,5 @@ pub calls_in_order : MatchesExactly → Ascends → (methods : List Method) (ind
 calls_in_order exactly ascends methods index [] pairs = tt
 calls_in_order exactly ascends methods index (message ∷ messages) pairs =
     joined_in_order index (calls_of methods index message) (calls_from methods (index + 1) messages)
-        (message_in_order exactly ascends methods index message pairs) (all_at methods index message)
+    (message_in_order exactly ascends methods index message pairs) (all_at methods index message)
     (calls_in_order exactly ascends methods (index + 1) messages pairs) (all_from methods (index + 1) messages)

@@ -52,7 +52,7 @@ pub unique : {X K : Type 0} (key : X → K) (xs : List X) (x y : X) → AllPairs
 unique key [] x y pairs one other same = absurd (none_in x one)
 unique {X} key (z ∷ zs) x y pairs one other same =
     go (head_or_behind z x zs one) (head_or_behind z y zs other)
-        (λ a b. unique key zs x y (λ i j d less inside. pairs (suc i) (suc j) d (omega arith) (omega arith)) a b same)
+    (λ a b. unique key zs x y (λ i j d less inside. pairs (suc i) (suc j) d (omega arith) (omega arith)) a b same)
   where
     apart : (w : X) → Contains zs w → key z ≢ key w
     apart w (k, within, is) = subst (λ (m : X). key z ≢ key m) is (pairs 0 (suc k) w (omega arith) (omega arith))

@@ -105,7 +105,7 @@ numbers_more first (suc a) b =
     let moved : suc a + b ≡ suc (a + b) = omega arith in
     let place : first + 1 + a ≡ first + suc a = omega arith in
     ap (numbers_from first) moved ∙ ap (λ (l : List ℕ). first ∷ l)
-        (numbers_more (first + 1) a b ∙ ap (λ (n : ℕ). numbers_from (first + 1) a ++ numbers_from n b) place)
+    (numbers_more (first + 1) a b ∙ ap (λ (n : ℕ). numbers_from (first + 1) a ++ numbers_from n b) place)
 
 pub record AreGiven (state : State) (history : List Entry) : Type 0 where
   pub count : ℕ

@@ -81,7 +81,7 @@ pub none_invoked : (number : ℕ) (state : State) (history : List Entry) → Leg
 none_invoked number state [] legal none = tt
 none_invoked number state (entry ∷ entries) legal none =
     all_append (IsOther number) (step state entry.event).invocations (invocations (step state entry.event).state entries)
-        (here (step_releases state entry.event))
+    (here (step_releases state entry.event))
     (none_invoked number (step state entry.event).state entries legal.4 (omega (arith, parts, none)))
   where
     parts : times (λ m. m == number) (numbers_released (entry ∷ entries))
@@ -93,10 +93,10 @@ none_invoked number state (entry ∷ entries) legal none =
     here (inr some) =
         let told : released_in entry.answer ≡ unit_of some.item ∷ [] = ap released_in legal.3 ∙ some.numbers in
         let count : times (λ m. m == number) (released_in entry.answer) ≡ tally (λ m. m == number) (unit_of some.item) + 0 =
-            ap (times (λ m. m == number)) told in
+        ap (times (λ m. m == number)) told in
         let other : (unit_of some.item == number) ≡ false = never_from (λ m. m == number) (unit_of some.item) (omega (arith, parts, none, count)) in
         subst (AllByRecursion (IsOther number)) (sym some.invoked)
-            (each_of_unit (IsOther number) (unit_of some.item) (calls_of_unit state.methods some.item) (λ call. other))
+        (each_of_unit (IsOther number) (unit_of some.item) (calls_of_unit state.methods some.item) (λ call. other))
 
 -- each number is released at most once
 abbrev pub AreOnce : List Entry → Type 0
@@ -135,10 +135,10 @@ history_runs exactly ascends stays state (entry ∷ entries) legal sound once =
         let number = unit_of some.item in
         let told : released_in entry.answer ≡ number ∷ [] = ap released_in legal.3 ∙ some.numbers in
         let few : times (λ m. m == number) (number ∷ numbers_released entries) ≤ 1 =
-            subst (λ (l : List ℕ). times (λ m. m == number) (l ++ numbers_released entries) ≤ 1) told (once number) in
+        subst (λ (l : List ℕ). times (λ m. m == number) (l ++ numbers_released entries) ≤ 1) told (once number) in
         let itself : (number == number) ≡ true = grind (arith, nat_tests) in
         let none = none_invoked number next entries legal.4 (none_behind (λ m. m == number) number (numbers_released entries) itself few) in
         let others = all_more (IsOther number) (λ (i : Invocation). i.unit ≢ number) (differs number) (invocations next entries) none in
         subst (λ (l : List Invocation). AreRuns (l ++ invocations next entries)) (sym some.invoked)
         (one_run number (calls_of_unit state.methods some.item) (invocations next entries)
-            (calls_in_order exactly ascends state.methods 0 some.item.2.messages sound.methods.list.addresses) others runs)
+        (calls_in_order exactly ascends state.methods 0 some.item.2.messages sound.methods.list.addresses) others runs)

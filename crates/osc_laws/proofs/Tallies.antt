@@ -57,11 +57,11 @@ pub at_most_one : {X : Type 0} (R : X → X → Type 0) (test : X → Bool) (xs 
 at_most_one R test [] differ pairs = omega arith
 at_most_one {X} R test (x ∷ xs) differ pairs =
     go (test x) refl (at_most_one R test xs differ (λ i j d less inside. pairs (suc i) (suc j) d (omega arith) (omega arith))) where
-  go : (t : Bool) → test x ≡ t → times test xs ≤ 1 → times test (x ∷ xs) ≤ 1
-  go false e rest = omega (arith, never_passes test x e, rest)
-  go true e rest =
-      let none = recursion_from_All (λ (y : X). test y ≡ false) xs (λ k d within. differ x _ e (pairs 0 (suc k) d (omega arith) (omega arith))) in
-      omega (arith, passes_once test x e, none_times test xs none)
+      go : (t : Bool) → test x ≡ t → times test xs ≤ 1 → times test (x ∷ xs) ≤ 1
+      go false e rest = omega (arith, never_passes test x e, rest)
+      go true e rest =
+          let none = recursion_from_All (λ (y : X). test y ≡ false) xs (λ k d within. differ x _ e (pairs 0 (suc k) d (omega arith) (omega arith))) in
+          omega (arith, passes_once test x e, none_times test xs none)
 
 -- a number is one of those from another on at most once
 none_below : (n first count : ℕ) → n < first → times (λ m. m == n) (numbers_from first count) ≡ 0

@@ -65,12 +65,24 @@ all_in P (unit ∷ units) queue new old = all_in P units (enter unit queue) new.
 -- the units of a packet that is queued wait
 packet_waits : (history : List Entry) (caller clock first : ℕ) (packet : List ℕ)
     → AllByRecursion (IsWaiting (history ++ record { caller = caller; event = submit packet; answer = queued first (length (units_read packet)) } ∷ []))
-        (numbered clock first (units_read packet))
+    (numbered clock first (units_read packet))
 packet_waits history caller clock first packet =
     each_numbered _ clock first (units_read packet)
-    (λ (index : ℕ) (unit : Timed) (at : slice_get (units_read packet) index ≡ Some unit).
-    (record { before = history; caller = caller; packet = packet; first = first; count = length (units_read packet); later = []; place = refl; index = index;
-        number_is = refl; unit_is = at }, tag_first unit.tag clock))
+    (λ (index : ℕ) (unit : Timed) (at : slice_get (units_read packet) index ≡ Some unit). (
+      record {
+        before = history;
+        caller = caller;
+        packet = packet;
+        first = first;
+        count = length (units_read packet);
+        later = [];
+        place = refl;
+        index = index;
+        number_is = refl;
+        unit_is = at;
+      },
+      tag_first unit.tag clock,
+    ))
   where
     tag_first : (tag moment : ℕ) → tag ≤ max tag moment
     tag_first tag moment = omega arith
@@ -103,9 +115,9 @@ units_from state history [] legal wait = subst (λ (h : List Entry). AllByRecurs
 units_from state history (entry ∷ entries) legal wait =
     let next = (step state entry.event).state in
     let here = subst (λ (a : Answer). AllByRecursion (IsWaiting (history ++ entry_of entry.caller entry.event a ∷ [])) next.queue) (sym legal.3)
-        (step_waits history state entry.caller entry.event wait) in
+    (step_waits history state entry.caller entry.event wait) in
     subst (λ (h : List Entry). AllByRecursion (IsWaiting h) (after next entries).queue) (append_assoc history (entry ∷ []) entries)
-        (units_from next (history ++ entry ∷ []) entries legal.4 here)
+    (units_from next (history ++ entry ∷ []) entries legal.4 here)
 
 pub units_are : (caps : Limits) (history : List Entry) → Legal caps history
     → AllByRecursion (λ item. IsUnitOf history (unit_of item) item.2 × (item.2.tag ≤ due_of item)) (after (opening caps) history).queue

@@ -15,8 +15,8 @@ use Rattle.osc_laws.specs.Consecutive.{ComesBefore}
 abbrev pub IsReleasedAt : List Entry → List Entry → ℕ → List Hit → List Entry → Type 0
 IsReleasedAt history before number hits later =
     (caller : ℕ)
-        × (history ≡ before
-        ++ record { caller = caller; event = release; answer = released number hits } ∷ later)
+    × (history ≡ before
+    ++ record { caller = caller; event = release; answer = released number hits } ∷ later)
 
 -- The unit of an invocation was released at a place where the clock stood at the unit's tag, or
 -- after it.
@@ -65,5 +65,5 @@ pub record CallsExactly (before : List Entry) (number : ℕ) (hits : List Hit)
 abbrev pub AreExact : List Entry → List Invocation → Type 0
 AreExact history invocations =
     (before later : List Entry) (number : ℕ) (hits : List Hit)
-        → IsReleasedAt history before number hits later
-        → CallsExactly before number hits (calls_of_number number invocations)
+    → IsReleasedAt history before number hits later
+    → CallsExactly before number hits (calls_of_number number invocations)

@@ -49,16 +49,16 @@ enclosed_few left each (suc bound) effective at bytes few silent = elim (cases_l
       let x : List ℕ = first_element bytes in
       let step = silent_step (element_fault left (Some effective)) at bytes some silent in
       let size : length (first_element bytes) ≡ first_size bytes =
-          length-take-le (first_size bytes) (drop 4 bytes) (omega (arith, length-drop 4 bytes, step.size.inside)) in
+      length-take-le (first_size bytes) (drop 4 bytes) (omega (arith, length-drop 4 bytes, step.size.inside)) in
       let others : length (after_first bytes) ≡ length bytes - 4 - first_size bytes =
-          length-drop (first_size bytes) (drop 4 bytes) ∙ ap (λ (n : ℕ). n - first_size bytes) (length-drop 4 bytes) in
+      length-drop (first_size bytes) (drop 4 bytes) ∙ ap (λ (n : ℕ). n - first_size bytes) (length-drop 4 bytes) in
       let rest = enclosed_few left each bound effective (at + 4 + first_size bytes) (after_first bytes) (omega (arith, step.size.positive)) step.rest in
       let one = one_taken f (is_bundle x) x (messages_in (after_first bytes)) (blocks_of (enclosed_read left effective (after_first bytes)))
-          (length (after_first bytes)) (each (Some effective) (at + 4) x step.one) rest in
+      (length (after_first bytes)) (each (Some effective) (at + 4) x step.one) rest in
       let split : enclosed_read left effective bytes ≡ flat_map f (cond (is_bundle x) (x ∷ []) []) ++ enclosed_read left effective (after_first bytes) =
       enclosed_step left effective bytes some ∙ one_first f (is_bundle x) x (filter is_bundle (elements_in (after_first bytes))) in
       let joined : blocks_of (enclosed_read left effective bytes)
-          ≡ blocks_of (flat_map f (cond (is_bundle x) (x ∷ []) [])) + blocks_of (enclosed_read left effective (after_first bytes)) =
+      ≡ blocks_of (flat_map f (cond (is_bundle x) (x ∷ []) [])) + blocks_of (enclosed_read left effective (after_first bytes)) =
       ap blocks_of split ∙ blocks_joined (flat_map f (cond (is_bundle x) (x ∷ []) [])) (enclosed_read left effective (after_first bytes)) in
       omega (arith, one, joined, ap stored_size (messages_step bytes some), size, others, step.size.inside)
 ]
@@ -68,8 +68,14 @@ few_by left each outer at bytes silent hash =
     let open_ = opened left outer at bytes silent hash in
     let tag = effective_tag outer (bundle_tag bytes) in
     let inner = enclosed_few (left - 1) (each open_.room) (length (drop 16 bytes)) tag (at + 16) (drop 16 bytes) (omega arith) open_.silent in
-    omega (arith, ap blocks_of (bundle_step left outer bytes open_.room), length-drop 16 bytes, open_.long, blocks_few
-        (stored_size (messages_in (drop 16 bytes))))
+    omega (
+      arith,
+      ap blocks_of (bundle_step left outer bytes open_.room),
+      length-drop 16 bytes,
+      open_.long,
+      blocks_few
+          (stored_size (messages_in (drop 16 bytes))),
+    )
 
 bundle_few : (left : ℕ) → BundleFew left
 bundle_few zero = few_by zero (λ room. absurd (omega arith))

@@ -30,7 +30,7 @@ record HearCalls (methods : List Method) (calls : List Invocation) (boxes : List
 -- a performance goes on, and its boxes have heard what was invoked before and in the step
 went_on : (performance : Performance) (caller : ℕ) (event : Event) (boxes : List Told)
     → HearCalls (stepped_in performance event).state.methods (invoked_in performance ++ (stepped_in performance event).invocations) boxes
-        → HaveHeard (onward performance caller event) boxes
+    → HaveHeard (onward performance caller event) boxes
 went_on performance caller event boxes hear =
     record {
       ids = hear.ids ∙ sym (ap (λ (s : State). map id_of s.methods) (onward_state performance caller event));
@@ -45,11 +45,13 @@ nothing_more calls more boxes none heard =
 
 pub others_hear : (performance : Performance) (caller : ℕ) (event : Event) (boxes : List Told) → HaveHeard performance boxes
     → (stepped_in performance event).state.methods ≡ (state_of performance).methods → (stepped_in performance event).invocations ≡ []
-        → HaveHeard (onward performance caller event) boxes
+    → HaveHeard (onward performance caller event) boxes
 others_hear performance caller event boxes have methods none =
     went_on performance caller event boxes
-        (record { ids = have.ids ∙ sym (ap (map id_of) methods);
-        heard = nothing_more (invoked_in performance) (stepped_in performance event).invocations boxes none have.heard })
+    (record {
+      ids = have.ids ∙ sym (ap (map id_of) methods);
+      heard = nothing_more (invoked_in performance) (stepped_in performance event).invocations boxes none have.heard;
+    })
 
 -- A method that is added.
 
@@ -68,14 +70,14 @@ none_called : (id : ℕ) (calls : List Invocation) → AllByRecursion (λ call. 
 none_called id [] below = refl
 none_called id (call ∷ calls) below =
     ap (λ (t : Bool). cond t (call ∷ filter (λ other. other.call.id == id) calls) (filter (λ other. other.call.id == id) calls))
-        (other_id call.call.id id below.0)
+    (other_id call.call.id id below.0)
     ∙ none_called id calls below.1
 
 -- a box of an id that no call has yet has heard nothing
 fresh_heard_none : (calls : List Invocation) (told : Told) → AllByRecursion (λ call. call.call.id < told.id) calls → HasHeard calls (reset told)
 fresh_heard_none calls told below =
     let nothing : heard_of calls told.id told.keep ≡ [] =
-        ap (λ (l : List Invocation). last_of told.keep (flat_map bytes_of l)) (none_called told.id calls below) ∙ drop_all (0 - told.keep) [] (omega arith) in
+    ap (λ (l : List Invocation). last_of told.keep (flat_map bytes_of l)) (none_called told.id calls below) ∙ drop_all (0 - told.keep) [] (omega arith) in
     go told.heard ∙ sym (ap (λ (l : List ℕ). option_map (λ _. l) (reset told).heard) nothing)
   where
     go : (heard : Option (List ℕ)) → option_map (λ (_ : List ℕ). let none : List ℕ = [] in none) heard
@@ -119,7 +121,7 @@ filter_ids of id [] = refl
 filter_ids {X} of id (x ∷ xs) = go (not (of x == id)) (filter_ids of id xs) where
   go : (t : Bool) → map of (filter (λ y. not (of y == id)) xs) ≡ filter (λ n. not (n == id)) (map of xs)
       → map of (cond t (x ∷ filter (λ y. not (of y == id)) xs) (filter (λ y. not (of y == id)) xs))
-          ≡ cond t (of x ∷ filter (λ n. not (n == id)) (map of xs)) (filter (λ n. not (n == id)) (map of xs))
+      ≡ cond t (of x ∷ filter (λ n. not (n == id)) (map of xs)) (filter (λ n. not (n == id)) (map of xs))
   go true more = ap (λ (l : List ℕ). of x ∷ l) more
   go false more = more
 

@@ -46,7 +46,7 @@ counted_from state [] legal = refl
 counted_from state (entry ∷ entries) legal =
     let next = (step state entry.event).state in
     let here : next.callers ≡ one_more entry.answer state.callers =
-        step_callers state entry.event ∙ ap (λ (a : Answer). one_more a state.callers) (sym legal.3) in
+    step_callers state entry.event ∙ ap (λ (a : Answer). one_more a state.callers) (sym legal.3) in
     go (enrols entry.answer) here (counted_from next entries legal.4)
   where
     go : (t : Bool) → (step state entry.event).state.callers ≡ cond t (state.callers + 1) state.callers
@@ -85,8 +85,8 @@ callers_never_fall state [] = omega arith
 callers_never_fall state (entry ∷ entries) =
     on state.callers (step state entry.event).state.callers _ (step_never_falls state entry.event)
     (callers_never_fall (step state entry.event).state entries) where
-  on : (a b c : ℕ) → a ≤ b → b ≤ c → a ≤ c
-  on a b c one two = omega arith
+      on : (a b c : ℕ) → a ≤ b → b ≤ c → a ≤ c
+      on a b c one two = omega arith
 
 -- An enrolment that is answered by a number.
 
@@ -115,6 +115,8 @@ pub enrolled_next : (caps : Limits) (history : List Entry) (caller n : ℕ)
 enrolled_next caps history caller n legal =
     let parts = legal_split (opening caps) history (record { caller = caller; event = enrol; answer = number n } ∷ []) legal.1 in
     let given = enrol_gives (after (opening caps) history) n parts.1.3 in
-    let counted = callers_counted caps history (legal.0, parts.0) in
-    (omega (arith, given, counted, callers_more [] history), omega
-        (arith, given, counted, one_more_in history (record { caller = caller; event = enrol; answer = number n }) refl))
+    let counted = callers_counted caps history (legal.0, parts.0) in (
+      omega (arith, given, counted, callers_more [] history),
+      omega
+          (arith, given, counted, one_more_in history (record { caller = caller; event = enrol; answer = number n }) refl),
+    )

@@ -43,10 +43,10 @@ all_matched : (pattern : List ℕ) (methods : List Method) → AllByRecursion (I
 all_matched pattern [] = tt
 all_matched pattern (method ∷ methods) =
     go (matches pattern method.address) refl (all_more _ _ (one_behind pattern method methods) (matched pattern methods) (all_matched pattern methods)) where
-  go : (t : Bool) → matches pattern method.address ≡ t → AllByRecursion (IsMatchOf pattern (method ∷ methods)) (matched pattern methods)
-      → AllByRecursion (IsMatchOf pattern (method ∷ methods)) (cond t (method ∷ matched pattern methods) (matched pattern methods))
-  go true e more = (((0, omega arith, refl), e), more)
-  go false e more = more
+      go : (t : Bool) → matches pattern method.address ≡ t → AllByRecursion (IsMatchOf pattern (method ∷ methods)) (matched pattern methods)
+          → AllByRecursion (IsMatchOf pattern (method ∷ methods)) (cond t (method ∷ matched pattern methods) (matched pattern methods))
+      go true e more = (((0, omega arith, refl), e), more)
+      go false e more = more
 
 all_matching : MatchesExactly → (pattern : List ℕ) (methods : List Method) → AllByRecursion (IsMatchOf pattern methods) (matching pattern methods)
 all_matching exactly pattern methods =
@@ -91,7 +91,7 @@ message_calls exactly state unit index message stands = go (unknown_of message) 
   go (Some tag) is = tt
   go None is =
       all_map (λ call. IsCallIn state unit (invocation (unit_of unit) call))
-          (λ method. record { index = index; id = method.id; address = method.address; message = message }) (matching (pattern_of message) state.methods)
+      (λ method. record { index = index; id = method.id; address = method.address; message = message }) (matching (pattern_of message) state.methods)
       (all_more _ _ (one is) (matching (pattern_of message) state.methods) (all_matching exactly (pattern_of message) state.methods))
 
 -- the calls of the unit's messages from an index on

@@ -67,14 +67,14 @@ remove_changes state address (Some id) is =
 
 submit_keeps : (state : State) (units : List Timed)
     → KeepsMethods state
-        (cond (nat_lt (free_places state) (length units)) (leaves state (units_full (record { need = length units; free = free_places state })))
+    (cond (nat_lt (free_places state) (length units)) (leaves state (units_full (record { need = length units; free = free_places state })))
     (cond (nat_lt (free_blocks state) (blocks_of units)) (leaves state (pool_full (record { need = blocks_of units; free = free_blocks state })))
-        (leaves (after_submit state units) (queued state.next_unit (length units)))))
+    (leaves (after_submit state units) (queued state.next_unit (length units)))))
 submit_keeps state units =
     either (KeepsMethods state) (nat_lt (free_places state) (length units)) _ _ (record { caps = refl; answer = refl; methods = refl; next_id = refl })
     (either (KeepsMethods state) (nat_lt (free_blocks state) (blocks_of units))
-        (leaves state (pool_full (record { need = blocks_of units; free = free_blocks state })))
-        (leaves (after_submit state units) (queued state.next_unit (length units)))
+    (leaves state (pool_full (record { need = blocks_of units; free = free_blocks state })))
+    (leaves (after_submit state units) (queued state.next_unit (length units)))
     (record { caps = refl; answer = refl; methods = refl; next_id = refl }) (record { caps = refl; answer = refl; methods = refl; next_id = refl }))
 
 release_keeps : (state : State) (queue : List Queued) → KeepsMethods state (release_first state queue)
@@ -86,7 +86,7 @@ release_keeps state (unit ∷ units) =
 decided_changes : (state : State) (event : Event) → Changes state event (decided state event)
 decided_changes state enrol =
     inl (either (KeepsMethods state) (state.callers == state.caps.callers) (leaves state callers_full)
-        (leaves (record state { callers = state.callers + 1 }) (number state.callers))
+    (leaves (record state { callers = state.callers + 1 }) (number state.callers))
     (record { caps = refl; answer = refl; methods = refl; next_id = refl }) (record { caps = refl; answer = refl; methods = refl; next_id = refl }))
 decided_changes state (submit packet) = inl (submit_keeps state (units_read packet))
 decided_changes state (add address) = add_changes state address (add_refusal (registry state) address)
@@ -100,11 +100,27 @@ decided_changes state release = inl (release_keeps state state.queue)
 noted_changes : (state : State) (event : Event) (size : ℕ) (stepped : Stepped) → Changes state event stepped → Changes state event (noted state size stepped)
 noted_changes state event size stepped (inl kept) = inl (record { caps = kept.caps; answer = kept.answer; methods = kept.methods; next_id = kept.next_id })
 noted_changes state event size stepped (inr (inl more)) =
-    inr (inl (record { address = more.address; event_is = more.event_is; answer = more.answer; caps = more.caps; methods = more.methods; next_id = more.next_id;
-        silent = more.silent }))
+    inr (inl (record {
+      address = more.address;
+      event_is = more.event_is;
+      answer = more.answer;
+      caps = more.caps;
+      methods = more.methods;
+      next_id = more.next_id;
+      silent = more.silent;
+    }))
 noted_changes state event size stepped (inr (inr fewer)) =
-    inr (inr (record { address = fewer.address; id = fewer.id; event_is = fewer.event_is; found = fewer.found; answer = fewer.answer; caps = fewer.caps;
-        methods = fewer.methods; next_id = fewer.next_id; silent = fewer.silent }))
+    inr (inr (record {
+      address = fewer.address;
+      id = fewer.id;
+      event_is = fewer.event_is;
+      found = fewer.found;
+      answer = fewer.answer;
+      caps = fewer.caps;
+      methods = fewer.methods;
+      next_id = fewer.next_id;
+      silent = fewer.silent;
+    }))
 
 pub changes : (state : State) (event : Event) → Changes state event (step state event)
 changes state event =

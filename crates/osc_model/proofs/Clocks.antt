@@ -24,8 +24,14 @@ on least now clock later from = omega arith
 
 kept_from : (least : ℕ) → IsKept (IsFrom least)
 kept_from least =
-    record { callers = λ state callers from. from; clock = λ state clock later from. on least state.clock clock later from;
-    queue = λ state queue next_unit from. from; added = added_from least; removed = removed_from least; recorded = λ state recorded from. from }
+    record {
+      callers = λ state callers from. from;
+      clock = λ state clock later from. on least state.clock clock later from;
+      queue = λ state queue next_unit from. from;
+      added = added_from least;
+      removed = removed_from least;
+      recorded = λ state recorded from. from;
+    }
 
 pub step_on : (state : State) (event : Event) → state.clock ≤ (step state event).state.clock
 step_on state event = step_keeps (IsFrom state.clock) (kept_from state.clock) state event (omega arith)

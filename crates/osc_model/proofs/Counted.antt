@@ -45,11 +45,15 @@ enclosed_few left each (suc bound) effective bytes few = elim (cases_lt 0 (lengt
       let one = one_few f (is_bundle (first_element bytes)) (first_element bytes) (each (Some effective) (first_element bytes)) in
       let rest = enclosed_few left each bound effective (after_first bytes) (omega arith) in
       let split : enclosed_read left effective bytes ≡ flat_map f (cond (is_bundle (first_element bytes)) (first_element bytes ∷ []) [])
-          ++ enclosed_read left effective (after_first bytes) =
+      ++ enclosed_read left effective (after_first bytes) =
       enclosed_step left effective bytes some
-          ∙ one_first f (is_bundle (first_element bytes)) (first_element bytes) (filter is_bundle (elements_in (after_first bytes))) in
-      omega (arith, ap length split, length-append (flat_map f (cond (is_bundle (first_element bytes)) (first_element bytes ∷ []) []))
-          (enclosed_read left effective (after_first bytes)))
+      ∙ one_first f (is_bundle (first_element bytes)) (first_element bytes) (filter is_bundle (elements_in (after_first bytes))) in
+      omega (
+        arith,
+        ap length split,
+        length-append (flat_map f (cond (is_bundle (first_element bytes)) (first_element bytes ∷ []) []))
+            (enclosed_read left effective (after_first bytes)),
+      )
 ]
 
 bundle_some : (bytes : List ℕ) → is_bundle bytes ≡ true → 0 < length bytes
@@ -64,7 +68,7 @@ bundle_few : (left : ℕ) → BundleFew left
 bundle_few zero outer bytes is = omega (arith, ap length (none_opened outer bytes))
 bundle_few (suc left) outer bytes is =
     let inner = enclosed_few (suc left - 1) (subst BundleFew (omega arith) (bundle_few left)) (length (drop 16 bytes)) (effective_tag outer (bundle_tag bytes))
-        (drop 16 bytes) (omega arith) in
+    (drop 16 bytes) (omega arith) in
     omega (arith, ap length (bundle_step (suc left) outer bytes (omega arith)), length-drop 16 bytes, bundle_some bytes is)
 
 -- no bytes have more units than there are bytes, but for a message of none

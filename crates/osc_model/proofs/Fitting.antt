@@ -110,20 +110,24 @@ submit_fits caller state packet few small lawful =
 
     go : (units : List Timed) → length units ≤ 65504 → blocks_of units ≤ 65508
         → IsRecordable caller (submit packet)
-            (cond (nat_lt (free_places state) (length units)) (leaves state (units_full (record { need = length units; free = free_places state })))
+        (cond (nat_lt (free_places state) (length units)) (leaves state (units_full (record { need = length units; free = free_places state })))
         (cond (nat_lt (free_blocks state) (blocks_of units)) (leaves state (pool_full (record { need = blocks_of units; free = free_blocks state })))
-            (leaves (after_submit state units) (queued state.next_unit (length units))))).answer
+        (leaves (after_submit state units) (queued state.next_unit (length units))))).answer
     go units count size = cases (nat_lt (free_places state) (length units)) refl (nat_lt (free_blocks state) (blocks_of units)) refl where
       cases : (t : Bool) → nat_lt (free_places state) (length units) ≡ t → (u : Bool) → nat_lt (free_blocks state) (blocks_of units) ≡ u
           → IsRecordable caller (submit packet) (cond t (leaves state (units_full (record { need = length units; free = free_places state })))
           (cond u (leaves state (pool_full (record { need = blocks_of units; free = free_blocks state })))
-              (leaves (after_submit state units) (queued state.next_unit (length units))))).answer
+          (leaves (after_submit state units) (queued state.next_unit (length units))))).answer
       cases true is u fits =
-          record { fits = submit_row_fits caller packet 1 (length units) (free_places state) few short (omega arith) (omega arith) (omega arith);
-          sound = ltb-true _ _ is }
+          record {
+            fits = submit_row_fits caller packet 1 (length units) (free_places state) few short (omega arith) (omega arith) (omega arith);
+            sound = ltb-true _ _ is;
+          }
       cases false is true fits =
-          record { fits = submit_row_fits caller packet 2 (blocks_of units) (free_blocks state) few short (omega arith) (omega arith) (omega arith);
-          sound = ltb-true _ _ fits }
+          record {
+            fits = submit_row_fits caller packet 2 (blocks_of units) (free_blocks state) few short (omega arith) (omega arith) (omega arith);
+            sound = ltb-true _ _ fits;
+          }
       cases false is false fits =
           let units_given = (given state small).units in
           record { fits = submit_row_fits caller packet 0 state.next_unit (length units) few short (omega arith) (omega arith) (omega arith); sound = tt }
@@ -164,24 +168,24 @@ full_fits : (tree : Registry) (address : List ℕ) → tree.method_limit ≤ 655
     → IfSome (full_refusal tree address) FitsRefusal
 full_fits tree address methods nodes_most spelled =
     go (length tree.methods == tree.method_limit) (nat_lt (free_nodes tree) (new_nodes tree.methods address)) refl where
-  go : (t u : Bool) → nat_lt (free_nodes tree) (new_nodes tree.methods address) ≡ u
-      → IfSome (cond t (Some (methods_full tree.method_limit)) (cond u (Some (nodes_full (new_nodes tree.methods address) (free_nodes tree))) None)) FitsRefusal
-  go true u is = record { code = omega arith; first = omega arith; second = omega arith; sound = tt }
-  go false true is = record { code = omega arith; first = omega (arith, few_nodes tree.methods address spelled); second = omega arith; sound = ltb-true _ _ is }
-  go false false is = tt
+      go : (t u : Bool) → nat_lt (free_nodes tree) (new_nodes tree.methods address) ≡ u
+          → IfSome (cond t (Some (methods_full tree.method_limit)) (cond u (Some (nodes_full (new_nodes tree.methods address) (free_nodes tree))) None)) FitsRefusal
+      go true u is = record { code = omega arith; first = omega arith; second = omega arith; sound = tt }
+      go false true is = record { code = omega arith; first = omega (arith, few_nodes tree.methods address spelled); second = omega arith; sound = ltb-true _ _ is }
+      go false false is = tt
 
 refusal_fits : (state : State) (address : List ℕ) → IsSmall state → IsAddress address → IfSome (add_refusal (registry state) address) FitsRefusal
 refusal_fits state address small spelled =
     some_or FitsRefusal (option_map taken (id_at state.methods address)) _
     (some_mapped FitsRefusal taken (id_at state.methods address)
-        (some_mapped (λ id. FitsRefusal (taken id)) (λ method. method.id) _
-        (some_found (λ method. FitsRefusal (taken method.id)) (λ method. bytes_eq method.address address) state.methods
-        (all_more _ _ (λ method below. record { code = omega arith; first = below; second = omega arith; sound = tt }) state.methods (ids_fit state small)))))
+    (some_mapped (λ id. FitsRefusal (taken id)) (λ method. method.id) _
+    (some_found (λ method. FitsRefusal (taken method.id)) (λ method. bytes_eq method.address address) state.methods
+    (all_more _ _ (λ method below. record { code = omega arith; first = below; second = omega arith; sound = tt }) state.methods (ids_fit state small)))))
     (some_or FitsRefusal (option_map under_method (id_above state.methods address)) _
     (some_mapped FitsRefusal under_method (id_above state.methods address)
-        (some_mapped (λ id. FitsRefusal (under_method id)) (λ method. method.id) _
-        (some_found (λ method. FitsRefusal (under_method method.id)) (λ method. is_proper_prefix method.address address) state.methods
-        (all_more _ _ (λ method below. record { code = omega arith; first = below; second = omega arith; sound = tt }) state.methods (ids_fit state small)))))
+    (some_mapped (λ id. FitsRefusal (under_method id)) (λ method. method.id) _
+    (some_found (λ method. FitsRefusal (under_method method.id)) (λ method. is_proper_prefix method.address address) state.methods
+    (all_more _ _ (λ method below. record { code = omega arith; first = below; second = omega arith; sound = tt }) state.methods (ids_fit state small)))))
     (container (list_any (λ method. is_proper_prefix address method.address) state.methods)))
   where
     container : (t : Bool) → IfSome (cond t (Some is_container) (full_refusal (registry state) address)) FitsRefusal
@@ -214,7 +218,7 @@ address_nonzero [] spelled = absurd (let slash = spelled.slash in cc)
 address_nonzero (x ∷ rest) spelled =
     let first : x ≡ 47 = eqb-true x 47 spelled.slash in
     let names = names_nonzero (slice_split is_slash rest)
-        (recursion_from_All (λ name. list_any is_bad_byte name ≡ false) (slice_split is_slash rest) spelled.spelled) in
+    (recursion_from_All (λ name. list_any is_bad_byte name ≡ false) (slice_split is_slash rest) spelled.spelled) in
     let behind : has_no_zero rest ≡ true = sym (ap has_no_zero (join_with_byte-slice_split 47 rest)) ∙ names in
     both_true _ _ (ap (λ (b : ℕ). not (b == 0)) first) behind
 
@@ -223,15 +227,22 @@ add_fits : (caller : ℕ) (state : State) (address : List ℕ) → caller < 2 ^ 
 add_fits caller state address few small spelled = go (add_refusal (registry state) address) (refusal_fits state address small spelled) where
   go : (refusal : Option Refusal) → IfSome refusal FitsRefusal → IsRecordable caller (add address) (add_at state address refusal).answer
   go None fits =
-      record { fits =
-      (int_fits caller few,
-      (address_nonzero address spelled, (int_fits 0 (omega arith), (int_fits state.next_id (given state small).ids, (int_fits 0 (omega arith), tt)))));
-      sound = tt }
+      record {
+        fits = (
+          int_fits caller few,
+          (address_nonzero address spelled, (int_fits 0 (omega arith), (int_fits state.next_id (given state small).ids, (int_fits 0 (omega arith), tt)))),
+        );
+        sound = tt;
+      }
   go (Some why) fits =
       record {
-        fits = (int_fits caller few,
-            (address_nonzero address spelled,
-            (int_fits (refusing why).0 fits.code, (int_fits (refusing why).1 fits.first, (int_fits (refusing why).2 fits.second, tt)))));
+        fits = (
+          int_fits caller few,
+          (
+            address_nonzero address spelled,
+            (int_fits (refusing why).0 fits.code, (int_fits (refusing why).1 fits.first, (int_fits (refusing why).2 fits.second, tt))),
+          ),
+        );
         sound = fits.sound;
       }
 
@@ -278,7 +289,7 @@ unit_hits exactly state unit small few =
     (all_more _ _ (λ invocation call.
     let within = call.within in
     let below = All-contains (λ method. method.id < state.next_id) state.methods
-        (record { id = invocation.call.id; address = invocation.call.address }) small.sound.ids call.registered in
+    (record { id = invocation.call.id; address = invocation.call.address }) small.sound.ids call.registered in
     (omega arith, omega arith))
     (invocations_of (unit_of unit) (calls_of_unit state.methods unit)) (unit_calls exactly state unit))
 

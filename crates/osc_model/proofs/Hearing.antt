@@ -73,13 +73,13 @@ all_heard told (invocation ∷ invocations) within =
   where
     go : (t : Bool)
         → hear_all invocations (telling told (after_call told.keep (bytes_of invocation) told.heard))
-            ≡ telling told (more_told told.keep (calls_bytes invocations told.id) (after_call told.keep (bytes_of invocation) told.heard))
+        ≡ telling told (more_told told.keep (calls_bytes invocations told.id) (after_call told.keep (bytes_of invocation) told.heard))
         → hear_all invocations told ≡ telling told (more_told told.keep (calls_bytes invocations told.id) told.heard)
         → hear_all invocations (cond t (telling told (after_call told.keep (bytes_of invocation) told.heard)) told)
         ≡ telling told
-            (more_told told.keep
-            (flat_map bytes_of
-            (cond t (invocation ∷ filter (λ other. other.call.id == told.id) invocations) (filter (λ other. other.call.id == told.id) invocations))) told.heard)
+        (more_told told.keep
+        (flat_map bytes_of
+        (cond t (invocation ∷ filter (λ other. other.call.id == told.id) invocations) (filter (λ other. other.call.id == told.id) invocations))) told.heard)
     go true hears keeps = hears ∙ ap (telling told) (more_twice told.keep (bytes_of invocation) (calls_bytes invocations told.id) told.heard)
     go false hears keeps = keeps
 
@@ -96,7 +96,7 @@ pub fresh_heard : (told : Told) (invocations : List Invocation)
     → hear_all invocations (reset told) ≡ telling told (option_map (λ _. heard_of invocations told.id told.keep) told.heard)
 fresh_heard told invocations =
     all_heard (reset told) invocations (reset_within told.keep told.heard)
-        ∙ ap (telling told) (fresh_told told.keep (calls_bytes invocations told.id) told.heard)
+    ∙ ap (telling told) (fresh_told told.keep (calls_bytes invocations told.id) told.heard)
 
 pub heard_on : (told : Told) (first more : List Invocation) → hear_all (first ++ more) told ≡ hear_all more (hear_all first told)
 heard_on told [] more = refl

@@ -27,8 +27,14 @@ removed_grows least state address (Some id) grown = grown
 pub next_grows : (state : State) (history : List Entry) → state.next_id ≤ (after state history).next_id
 next_grows state history =
     after_keeps (λ later. state.next_id ≤ later.next_id)
-    (record { callers = λ later callers grown. grown; clock = λ later clock on grown. grown; queue = λ later queue next_unit grown. grown;
-        added = added_grows state.next_id; removed = removed_grows state.next_id; recorded = λ later recorded grown. grown })
+    (record {
+      callers = λ later callers grown. grown;
+      clock = λ later clock on grown. grown;
+      queue = λ later queue next_unit grown. grown;
+      added = added_grows state.next_id;
+      removed = removed_grows state.next_id;
+      recorded = λ later recorded grown. grown;
+    })
     state history (omega arith)
 
 -- Each id was given.
@@ -48,8 +54,14 @@ removed_given state address (Some id) given =
 pub ids_given : (state : State) (history : List Entry) → AreGiven state → AreGiven (after state history)
 ids_given state history given =
     after_keeps AreGiven
-    (record { callers = λ later callers given. given; clock = λ later clock on given. given; queue = λ later queue next_unit given. given; added = added_given;
-        removed = removed_given; recorded = λ later recorded given. given })
+    (record {
+      callers = λ later callers given. given;
+      clock = λ later clock on given. given;
+      queue = λ later queue next_unit given. given;
+      added = added_given;
+      removed = removed_given;
+      recorded = λ later recorded given. given;
+    })
     state history given
 
 -- An added method has the next id.

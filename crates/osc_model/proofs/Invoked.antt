@@ -48,8 +48,11 @@ decided_registered exactly state event =
 pub invokes_registered : MatchesExactly → (state : State) (event : Event) → InvokesRegistered state (step state event)
 invokes_registered exactly state event =
     step_so (InvokesRegistered state) state event
-    (record { silent = λ none. decided_registered exactly state event; full = λ some full. inr refl;
-        room = λ some fits. decided_registered exactly state event })
+    (record {
+      silent = λ none. decided_registered exactly state event;
+      full = λ some full. inr refl;
+      room = λ some fits. decided_registered exactly state event;
+    })
 
 -- The same over a history.
 
@@ -83,7 +86,7 @@ all_invoked exactly state [] = tt
 all_invoked exactly state (entry ∷ entries) =
     all_append _ (step state entry.event).invocations (invocations (step state entry.event).state entries) (first (silent_or_release state entry.event))
     (all_more _ _ (invoked_behind state entry entries) (invocations (step state entry.event).state entries)
-        (all_invoked exactly (step state entry.event).state entries))
+    (all_invoked exactly (step state entry.event).state entries))
   where
     first : ((step state entry.event).invocations ≡ []) ⊎ (entry.event ≡ release)
         → AllByRecursion (IsInvokedIn state (entry ∷ entries)) (step state entry.event).invocations

@@ -50,8 +50,8 @@ all_agree : (methods : List Method) (address : List ℕ) (id : ℕ) → AllPairs
 all_agree [] address id ids addresses at = tt
 all_agree (method ∷ methods) address id ids addresses at =
     go (bytes_eq method.address address) refl
-        (all_agree methods address id (pairs_behind (λ a b. a.id ≢ b.id) method methods ids)
-        (pairs_behind (λ a b. a.address ≢ b.address) method methods addresses))
+    (all_agree methods address id (pairs_behind (λ a b. a.id ≢ b.id) method methods ids)
+    (pairs_behind (λ a b. a.address ≢ b.address) method methods addresses))
   where
     go : (t : Bool) → bytes_eq method.address address ≡ t → (id_at methods address ≡ Some id → AllByRecursion (Agrees address id) methods)
         → AllByRecursion (Agrees address id) (method ∷ methods)
@@ -61,9 +61,11 @@ all_agree (method ∷ methods) address id ids addresses at =
         let text : method.address ≡ address = (bytes_eq-Decides method.address address).0 e in
         let b : (method.id == id) ≡ true = grind (arith, nat_tests) in
         let others = others_agree method methods (pairs_ahead (λ a b. a.id ≢ b.id) method methods ids)
-            (pairs_ahead (λ a b. a.address ≢ b.address) method methods addresses) in
-        (e ∙ sym b, subst (λ (n : ℕ). AllByRecursion (Agrees address n) methods) same
-            (subst (λ (l : List ℕ). AllByRecursion (Agrees l method.id) methods) text others))
+        (pairs_ahead (λ a b. a.address ≢ b.address) method methods addresses) in (
+          e ∙ sym b,
+          subst (λ (n : ℕ). AllByRecursion (Agrees address n) methods) same
+              (subst (λ (l : List ℕ). AllByRecursion (Agrees l method.id) methods) text others),
+        )
     go false e more =
         let f : id_at methods address ≡ Some id = rw e at at in
         let other : method.id ≢ id = λ same. found_id (λ n. method.id ≢ n) methods address id f (pairs_ahead (λ a b. a.id ≢ b.id) method methods ids) same in
@@ -86,6 +88,6 @@ none_has methods id = All-from_recursion (λ method. method.id ≢ id) (filter (
   each (method ∷ more) = go (method.id == id) refl (each more) where
     go : (t : Bool) → (method.id == id) ≡ t → AllByRecursion (λ method. method.id ≢ id) (filter (λ method. not (method.id == id)) more)
         → AllByRecursion (λ method. method.id ≢ id)
-            (cond (not t) (method ∷ filter (λ method. not (method.id == id)) more) (filter (λ method. not (method.id == id)) more))
+        (cond (not t) (method ∷ filter (λ method. not (method.id == id)) more) (filter (λ method. not (method.id == id)) more))
     go true e rest = rest
     go false e rest = ((λ same. let yes : (method.id == id) ≡ true = grind (arith, nat_tests) in cc), rest)

@@ -22,8 +22,11 @@ pub record IsEntered (state : State) (event : Event) (stepped : Stepped) : Type 
 pub entered : (state : State) (event : Event) → adds_entry (step state event).answer ≡ true → IsEntered state event (step state event)
 entered state event =
     step_so (λ stepped. adds_entry stepped.answer ≡ true → IsEntered state event stepped) state event
-    (record { silent = λ none adds. absurd (cc); full = λ some full adds. absurd (cc);
-        room = λ some fits adds. record { adds = some; room = fits; is = refl } })
+    (record {
+      silent = λ none adds. absurd (cc);
+      full = λ some full adds. absurd (cc);
+      room = λ some fits adds. record { adds = some; room = fits; is = refl };
+    })
 
 -- what adds no entry is refused
 none_refused : (answer : Answer) → adds_entry answer ≡ false → IsRefusal answer
@@ -54,7 +57,7 @@ invoked_more state (entry ∷ first) more =
     let here = (step state entry.event).invocations in
     let next = (step state entry.event).state in
     ap (λ (l : List Invocation). here ++ l) (invoked_more next first more)
-        ∙ sym (append_assoc here (invocations next first) (invocations (after next first) more))
+    ∙ sym (append_assoc here (invocations next first) (invocations (after next first) more))
 
 pub legal_more : (state : State) (first more : List Entry) → LegalFrom state first → LegalFrom (after state first) more → LegalFrom state (first ++ more)
 legal_more state [] more one two = two
@@ -75,7 +78,7 @@ entry_in performance caller event = record { caller = caller; event = event; ans
 -- what holds of both ways in which a performance goes on holds of it
 by_answer : (P : Performance → Type 0) (performance : Performance) (caller : ℕ) (event : Event)
     → (adds_entry (stepped_in performance event).answer ≡ true
-        → P (record performance { history = performance.history ++ entry_in performance caller event ∷ [] }))
+    → P (record performance { history = performance.history ++ entry_in performance caller event ∷ [] }))
     → (adds_entry (stepped_in performance event).answer ≡ false → P performance) → P (onward performance caller event)
 by_answer P performance caller event added not_added = go (adds_entry (stepped_in performance event).answer) refl where
   go : (t : Bool) → adds_entry (stepped_in performance event).answer ≡ t
@@ -90,8 +93,11 @@ pub onward_legal : (performance : Performance) (caller : ℕ) (event : Event) �
     → caller < (state_of performance).callers → IsLawful event → Legal performance.caps (onward performance caller event).history
 onward_legal performance caller event legal enrolled lawful =
     by_answer (λ next. Legal performance.caps next.history) performance caller event
-    (λ is. (legal.0, legal_more (opening performance.caps) performance.history (entry_in performance caller event ∷ []) legal.1
-        (enrolled, lawful, adds_is (stepped_in performance event).answer is, refl, tt)))
+    (λ is. (
+      legal.0,
+      legal_more (opening performance.caps) performance.history (entry_in performance caller event ∷ []) legal.1
+          (enrolled, lawful, adds_is (stepped_in performance event).answer is, refl, tt),
+    ))
     (λ is. legal)
 
 pub onward_state : (performance : Performance) (caller : ℕ) (event : Event) → state_of (onward performance caller event) ≡ (stepped_in performance event).state
@@ -105,6 +111,6 @@ pub onward_invoked : (performance : Performance) (caller : ℕ) (event : Event)
 onward_invoked performance caller event =
     by_answer (λ next. invoked_in next ≡ invoked_in performance ++ (stepped_in performance event).invocations) performance caller event
     (λ is. invoked_more (opening performance.caps) performance.history (entry_in performance caller event ∷ [])
-        ∙ ap (λ (l : List Invocation). invoked_in performance ++ l) (append-nil (stepped_in performance event).invocations))
+    ∙ ap (λ (l : List Invocation). invoked_in performance ++ l) (append-nil (stepped_in performance event).invocations))
     (λ is. sym (ap (λ (l : List Invocation). invoked_in performance ++ l)
-        (refusal_silent (state_of performance) event (none_refused (stepped_in performance event).answer is)) ∙ append-nil (invoked_in performance)))
+    (refusal_silent (state_of performance) event (none_refused (stepped_in performance event).answer is)) ∙ append-nil (invoked_in performance)))

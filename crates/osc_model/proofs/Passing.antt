@@ -51,7 +51,7 @@ Passes state event stepped = IsPermutation (state.queue ++ queued_by stepped.ans
 refusal_passes : (queue entering leaving : List Queued) → entering ≡ [] → leaving ≡ [] → IsPermutation (queue ++ entering) (leaving ++ queue)
 refusal_passes queue entering leaving none_in none_out =
     subst (λ (l : List Queued). IsPermutation (queue ++ l) (leaving ++ queue)) (sym none_in)
-        (subst (λ (l : List Queued). IsPermutation (queue ++ []) (l ++ queue)) (sym none_out) (nothing_moves queue))
+    (subst (λ (l : List Queued). IsPermutation (queue ++ []) (l ++ queue)) (sym none_out) (nothing_moves queue))
 
 first_passes : (queue : List Queued) (unit : Queued) (units : List Queued) → queue ≡ unit ∷ units → IsPermutation (queue ++ []) (take 1 queue ++ units)
 first_passes queue unit units first = subst (λ (l : List Queued). IsPermutation (l ++ []) (take 1 l ++ units)) (sym first) (nothing_moves (unit ∷ units))
@@ -81,8 +81,8 @@ in_two : (before first more left behind middle last : List Queued) → IsPermuta
 in_two before first more left behind middle last one two =
     let start : IsPermutation ((before ++ first) ++ more) ((left ++ middle) ++ more) = IsPermutation-append_left more (before ++ first) (left ++ middle) one in
     let start' : IsPermutation (before ++ (first ++ more)) (left ++ (middle ++ more)) =
-        subst (λ (l : List Queued). IsPermutation l (left ++ (middle ++ more))) (append_assoc before first more)
-        (subst (λ (l : List Queued). IsPermutation ((before ++ first) ++ more) l) (append_assoc left middle more) start) in
+    subst (λ (l : List Queued). IsPermutation l (left ++ (middle ++ more))) (append_assoc before first more)
+    (subst (λ (l : List Queued). IsPermutation ((before ++ first) ++ more) l) (append_assoc left middle more) start) in
     let end : IsPermutation (left ++ (middle ++ more)) (left ++ (behind ++ last)) = IsPermutation-append_right left (middle ++ more) (behind ++ last) two in
     subst (λ (l : List Queued). IsPermutation (before ++ (first ++ more)) l) (sym (append_assoc left behind last)) (IsPermutation-trans _ _ _ start' end)
 
@@ -91,7 +91,7 @@ pub history_passes : (state : State) (history : List Entry)
 history_passes state [] = nothing_moves state.queue
 history_passes state (entry ∷ entries) =
     in_two state.queue (entering state entry.event) (all_entering (step state entry.event).state entries) (leaving state entry.event)
-        (all_leaving (step state entry.event).state entries) (step state entry.event).state.queue (after (step state entry.event).state entries).queue
+    (all_leaving (step state entry.event).state entries) (step state entry.event).state.queue (after (step state entry.event).state entries).queue
     (step_passes state entry.event) (history_passes (step state entry.event).state entries)
 
 -- The units that enter and leave are those of the answers.
@@ -111,8 +111,10 @@ no_numbers units numbers none none_told = ap (map (λ (unit : Queued). unit_of u
 refusal_tells : (state : State) (event : Event) (answer : Answer) → IsRefusal answer → Tells state event (leaves state answer)
 refusal_tells state event answer is =
     let none = refusal_moves answer state event is in
-    record { told_in = no_numbers (queued_by answer state event) (queued_in answer) none.none_queued none.none_queued_in;
-        told_out = no_numbers (released_by answer state.queue) (released_in answer) none.none_released none.none_released_in }
+    record {
+      told_in = no_numbers (queued_by answer state event) (queued_in answer) none.none_queued none.none_queued_in;
+      told_out = no_numbers (released_by answer state.queue) (released_in answer) none.none_released none.none_released_in;
+    }
 
 decided_tells : (state : State) (event : Event) → Tells state event (decided state event)
 decided_tells state event =

@@ -41,7 +41,7 @@ numbered_on clock next [] more = let same : next ≡ next + 0 = omega arith in a
 numbered_on clock next (unit ∷ first) more =
     let same : next + 1 + length first ≡ next + suc (length first) = omega arith in
     ap (λ (l : List Queued). waiting clock next unit ∷ l)
-        (numbered_on clock (next + 1) first more ∙ ap (λ (n : ℕ). numbered clock (next + 1) first ++ numbered clock n more) same)
+    (numbered_on clock (next + 1) first more ∙ ap (λ (n : ℕ). numbered clock (next + 1) first ++ numbered clock n more) same)
 
 -- The blocks that units take.
 
@@ -103,7 +103,7 @@ pub all_ordered : (clock next : ℕ) (units : List Timed) (queue : List Queued) 
 all_ordered clock next [] queue below ordered = ordered
 all_ordered clock next (unit ∷ units) queue below ordered =
     all_ordered clock (next + 1) units (enter (waiting clock next unit) queue) (one_numbered clock next unit queue below)
-        (one_ordered clock next unit queue below ordered)
+    (one_ordered clock next unit queue below ordered)
 
 pub all_numbered : (clock next : ℕ) (units : List Timed) (queue : List Queued) → AreNumbered next queue
     → AreNumbered (next + length units) (enter_all (numbered clock next units) queue)
@@ -111,4 +111,4 @@ all_numbered clock next [] queue below = let same : next ≡ next + 0 = omega ar
 all_numbered clock next (unit ∷ units) queue below =
     let same : next + 1 + length units ≡ next + suc (length units) = omega arith in
     subst (λ (n : ℕ). AreNumbered n (enter_all (numbered clock next (unit ∷ units)) queue)) same
-        (all_numbered clock (next + 1) units (enter (waiting clock next unit) queue) (one_numbered clock next unit queue below))
+    (all_numbered clock (next + 1) units (enter (waiting clock next unit) queue) (one_numbered clock next unit queue below))

@@ -40,7 +40,7 @@ after_clock state (entry ∷ entries) legal clock =
     let decides = decided_clock state entry.event clock legal.1 in
     after_clock (step state entry.event).state entries legal.4
     (step_so (λ stepped. stepped.state.clock < 2 ^ 64) state entry.event
-        (record { silent = λ none. decides; full = λ some full. clock; room = λ some fits. decides }))
+    (record { silent = λ none. decides; full = λ some full. clock; room = λ some fits. decides }))
 
 small : OfServer → (caps : Limits) (history : List Entry) → Legal caps history → IsSmall (after (opening caps) history)
 small of caps history legal =
@@ -53,7 +53,7 @@ entry_fits : OfServer → (caller : ℕ) (state : State) (event : Event) → cal
 entry_fits of caller state event enrolled little lawful adds =
     let in_ = entered state event adds in
     subst (λ (s : Stepped). IsRecordable caller event s.answer) (sym in_.is)
-        (decided_fits of.answers caller state event enrolled little lawful in_.adds in_.room)
+    (decided_fits of.answers caller state event enrolled little lawful in_.adds in_.room)
 
 pub next_fits : OfServer → (performance : Performance) (caller : ℕ) (event : Event) → Legal performance.caps performance.history
     → caller < (state_of performance).callers → IsLawful event
@@ -72,9 +72,11 @@ all_from of caps before (entry ∷ rest) legal =
     let state = after (opening caps) before in
     let same : entry.answer ≡ (step state entry.event).answer = split.1.3 in
     let adds : adds_entry (step state entry.event).answer ≡ true = ap adds_entry (sym same) ∙ is_adds entry.answer split.1.2 in
-    let one = entry_fits of entry.caller state entry.event split.1.0 (small of caps before (legal.0, split.0)) split.1.1 adds in
-    (subst (IsRecordable entry.caller entry.event) (sym same) one, all_from of caps (before ++ entry ∷ []) rest
-        (subst (Legal caps) (sym (append_assoc before (entry ∷ []) rest)) legal))
+    let one = entry_fits of entry.caller state entry.event split.1.0 (small of caps before (legal.0, split.0)) split.1.1 adds in (
+      subst (IsRecordable entry.caller entry.event) (sym same) one,
+      all_from of caps (before ++ entry ∷ []) rest
+          (subst (Legal caps) (sym (append_assoc before (entry ∷ []) rest)) legal),
+    )
 
 pub all_fit : OfServer → (caps : Limits) (history : List Entry) → Legal caps history → AllByRecursion Fits history
 all_fit of caps history legal = all_from of caps [] history legal
@@ -101,7 +103,7 @@ after_recorded state (entry ∷ entries) legal fit =
     let text : List ℕ = entry_text entry.caller entry.event entry.answer in
     let size : length text ≡ entry_size entry.event entry.answer = sizes_are entry.caller entry.event entry.answer fit.0.fits in
     let here : next.recorded ≡ state.recorded + length text = step_recorded state entry.event adds
-        ∙ ap (λ (a : Answer). state.recorded + entry_size entry.event a) (sym same) ∙ ap (λ (n : ℕ). state.recorded + n) (sym size) in
+    ∙ ap (λ (a : Answer). state.recorded + entry_size entry.event a) (sym same) ∙ ap (λ (n : ℕ). state.recorded + n) (sym size) in
     let rest : (after next entries).recorded ≡ next.recorded + length (entries_text entries) = after_recorded next entries legal.4 fit.1 in
     omega (arith, here, rest, length-append text (entries_text entries))
 

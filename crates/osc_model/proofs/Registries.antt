@@ -85,18 +85,18 @@ different method address e same = let yes : bytes_eq method.address address ≡ 
 pub not_refused : (tree : Registry) (address : List ℕ) → length tree.methods ≤ tree.method_limit → add_refusal tree address ≡ None → IsAddable tree address
 not_refused tree address few e =
     go (find (λ method. bytes_eq method.address address) tree.methods) refl (find (λ method. is_proper_prefix method.address address) tree.methods) refl
-        (list_any (λ method. is_proper_prefix address method.address) tree.methods) refl
+    (list_any (λ method. is_proper_prefix address method.address) tree.methods) refl
     (length tree.methods == tree.method_limit) refl (nat_lt (free_nodes tree) (new_nodes tree.methods address)) refl e
   where
     go : (at : Option Method) → find (λ method. bytes_eq method.address address) tree.methods ≡ at → (above : Option Method)
         → find (λ method. is_proper_prefix method.address address) tree.methods ≡ above
         → (below : Bool) → list_any (λ method. is_proper_prefix address method.address) tree.methods ≡ below → (full : Bool)
-            → (length tree.methods == tree.method_limit) ≡ full
+        → (length tree.methods == tree.method_limit) ≡ full
         → (short : Bool) → nat_lt (free_nodes tree) (new_nodes tree.methods address) ≡ short
         → option_or (option_map taken (option_map (λ method. method.id) at)) (option_or (option_map under_method (option_map (λ method. method.id) above))
         (cond below (Some is_container)
-            (cond full (Some (methods_full tree.method_limit)) (cond short (Some (nodes_full (new_nodes tree.methods address) (free_nodes tree))) None))))
-            ≡ None
+        (cond full (Some (methods_full tree.method_limit)) (cond short (Some (nodes_full (new_nodes tree.methods address) (free_nodes tree))) None))))
+        ≡ None
         → IsAddable tree address
     go (Some method) a above b below g full f short s e = absurd (cc)
     go None a (Some method) b below g full f short s e = absurd (cc)

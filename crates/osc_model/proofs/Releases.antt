@@ -28,7 +28,7 @@ same_size state unit =
 -- a first unit that is due is taken where there is room for the entry
 first_taken : (state : State) (unit : Queued) (units : List Queued) → IsInOrder (unit ∷ units) → due_of unit ≤ state.clock
     → ReleasesLeast (with_queue state (unit ∷ units))
-        (recorded_as (with_queue state (unit ∷ units)) (size_by_hits state unit) (releases (with_queue state (unit ∷ units)) unit units))
+    (recorded_as (with_queue state (unit ∷ units)) (size_by_hits state unit) (releases (with_queue state (unit ∷ units)) unit units))
 first_taken state unit units ordered due =
     let whole = with_queue state (unit ∷ units) in
     let same : size_by_hits state unit ≡ release_size state unit = same_size state unit in

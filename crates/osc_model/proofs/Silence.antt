@@ -31,8 +31,8 @@ step_calls registered P state event all = go (registered state event) where
   go : InvokesRegistered state (step state event) → AllCalled P (step state event).invocations
   go (inl (unit, waits, calls)) =
       all_more _ _
-          (λ invocation call. All-contains (λ method. P method.id) state.methods
-          (record { id = invocation.call.id; address = invocation.call.address }) all call.registered) (step state event).invocations calls
+      (λ invocation call. All-contains (λ method. P method.id) state.methods
+      (record { id = invocation.call.id; address = invocation.call.address }) all call.registered) (step state event).invocations calls
   go (inr none) = subst (AllCalled P) (sym none) tt
 
 -- what holds of the next id and of those of all methods holds of them after a step
@@ -67,14 +67,14 @@ history_given of state (entry ∷ entries) given =
     let here = step_calls of.registered (λ id. id < state.next_id) state entry.event given in
     let first : state.next_id ≤ next.next_id = of.grows state (entry ∷ []) in
     all_append _ (step state entry.event).invocations (invocations next entries)
-        (all_more _ _ (λ invocation below. omega arith) (step state entry.event).invocations here)
+    (all_more _ _ (λ invocation below. omega arith) (step state entry.event).invocations here)
     (history_given of next entries (of.given state (entry ∷ []) given))
 
 pub called_given : OfIds → (caps : Limits) (history : List Entry)
     → All (λ invocation. invocation.call.id < (after (opening caps) history).next_id) (invocations (opening caps) history)
 called_given of caps history =
     All-from_recursion (λ invocation. invocation.call.id < (after (opening caps) history).next_id) (invocations (opening caps) history)
-        (history_given of (opening caps) history (All-nil (λ method. method.id < 0)))
+    (history_given of (opening caps) history (All-nil (λ method. method.id < 0)))
 
 -- an id that was given and that no method has is called no more
 history_silent : OfIds → (id : ℕ) (state : State) (history : List Entry) → id < state.next_id → AllIds (λ other. other ≢ id) state
@@ -111,8 +111,8 @@ left state event id sound is =
     let same : fewer.id ≡ id = lost_id state event id fewer is in
     let others = others_stay state.methods fewer.address fewer.id sound.methods.list fewer.found in
     let given : fewer.id < state.next_id =
-        found_id (λ n. n < state.next_id) state.methods fewer.address fewer.id fewer.found
-        (recursion_from_All (λ method. method.id < state.next_id) state.methods sound.ids) in
+    found_id (λ n. n < state.next_id) state.methods fewer.address fewer.id fewer.found
+    (recursion_from_All (λ method. method.id < state.next_id) state.methods sound.ids) in
     record {
       methods = fewer.methods ∙ others ∙ ap (λ (n : ℕ). filter (λ method. not (method.id == n)) state.methods) same;
       given = omega arith;
@@ -122,7 +122,7 @@ left state event id sound is =
 pub removed_silent : OfIds → ((caps : Limits) (history : List Entry) → Legal caps history → IsSound (after (opening caps) history))
     → (caps : Limits) (before later : List Entry) (entry : Entry) (id : ℕ)
     → Legal caps (before ++ entry ∷ later) → entry.answer ≡ removed id
-        → All (λ invocation. invocation.call.id ≢ id) (invocations (after (opening caps) (before ++ entry ∷ [])) later)
+    → All (λ invocation. invocation.call.id ≢ id) (invocations (after (opening caps) (before ++ entry ∷ [])) later)
 removed_silent of sound caps before later entry id legal is =
     let state = after (opening caps) before in
     let next = (step state entry.event).state in

@@ -29,8 +29,8 @@ release_size caller unit hits =
     let k : ℕ = length hits in
     let body : List ℕ = string (codes "/osc/release") ++ (tag_string (codes "ihb") ++ (word caller ++ (tag unit ++ (word (8 * k) ++ hits_text hits)))) in
     let text : row_text (release_row caller unit (hits_text hits)) ≡ body =
-        ap (λ l. string (codes "/osc/release") ++ (tag_string (codes "ihb") ++ (word caller ++ (tag unit ++ l))))
-        (eights (hits_text hits) k (length-hits_text hits)) in
+    ap (λ l. string (codes "/osc/release") ++ (tag_string (codes "ihb") ++ (word caller ++ (tag unit ++ l))))
+    (eights (hits_text hits) k (length-hits_text hits)) in
     omega (arith, ap length text, length-hits_text hits)
 
 abbrev pub text_in : Option Row → List ℕ

@@ -40,8 +40,12 @@ pub record OfMethods : Type 0 where
 -- no methods are a lawful list
 none_lawful : (method_limit node_limit : ℕ) → IsLawfulRegistry (record { methods = []; method_limit = method_limit; node_limit = node_limit })
 none_lawful method_limit node_limit = record {
-  list = record { ids = λ i j d less within. absurd (omega arith); lawful = All-nil (λ method. IsAddress method.address);
-      addresses = λ i j d less within. absurd (omega arith); apart = λ i j d less within. absurd (omega arith) };
+  list = record {
+    ids = λ i j d less within. absurd (omega arith);
+    lawful = All-nil (λ method. IsAddress method.address);
+    addresses = λ i j d less within. absurd (omega arith);
+    apart = λ i j d less within. absurd (omega arith);
+  };
   few_methods = omega arith;
   few_nodes = omega arith;
 }
@@ -64,18 +68,42 @@ opening_sound caps ranges =
 
 with_callers : (state : State) (callers : ℕ) → IsSound state → (1 ≤ callers) × (callers ≤ state.caps.callers) → IsSound (record state { callers = callers })
 with_callers state callers sound few =
-    record { caps = sound.caps; methods = sound.methods; ids = sound.ids; ordered = sound.ordered; numbers = sound.numbers; few_units = sound.few_units;
-    few_blocks = sound.few_blocks; callers = few }
+    record {
+      caps = sound.caps;
+      methods = sound.methods;
+      ids = sound.ids;
+      ordered = sound.ordered;
+      numbers = sound.numbers;
+      few_units = sound.few_units;
+      few_blocks = sound.few_blocks;
+      callers = few;
+    }
 
 with_clock : (state : State) (clock : ℕ) → IsSound state → IsSound (record state { clock = clock })
 with_clock state clock sound =
-    record { caps = sound.caps; methods = sound.methods; ids = sound.ids; ordered = sound.ordered; numbers = sound.numbers; few_units = sound.few_units;
-    few_blocks = sound.few_blocks; callers = sound.callers }
+    record {
+      caps = sound.caps;
+      methods = sound.methods;
+      ids = sound.ids;
+      ordered = sound.ordered;
+      numbers = sound.numbers;
+      few_units = sound.few_units;
+      few_blocks = sound.few_blocks;
+      callers = sound.callers;
+    }
 
 with_recorded : (state : State) (recorded : ℕ) → IsSound state → IsSound (record state { recorded = recorded })
 with_recorded state recorded sound =
-    record { caps = sound.caps; methods = sound.methods; ids = sound.ids; ordered = sound.ordered; numbers = sound.numbers; few_units = sound.few_units;
-    few_blocks = sound.few_blocks; callers = sound.callers }
+    record {
+      caps = sound.caps;
+      methods = sound.methods;
+      ids = sound.ids;
+      ordered = sound.ordered;
+      numbers = sound.numbers;
+      few_units = sound.few_units;
+      few_blocks = sound.few_blocks;
+      callers = sound.callers;
+    }
 
 enrolled : (state : State) → IsSound state → IsSound (decided state enrol).state
 enrolled state sound = go (state.callers == state.caps.callers) refl where
@@ -107,12 +135,12 @@ submits state packet sound = go (units_read packet) where
   go : (units : List Timed)
       → IsSound (cond (nat_lt (free_places state) (length units)) (leaves state (units_full (record { need = length units; free = free_places state })))
       (cond (nat_lt (free_blocks state) (blocks_of units)) (leaves state (pool_full (record { need = blocks_of units; free = free_blocks state })))
-          (leaves (after_submit state units) (queued state.next_unit (length units))))).state
+      (leaves (after_submit state units) (queued state.next_unit (length units))))).state
   go units = cases (nat_lt (free_places state) (length units)) refl (nat_lt (free_blocks state) (blocks_of units)) refl where
     cases : (t : Bool) → nat_lt (free_places state) (length units) ≡ t → (u : Bool) → nat_lt (free_blocks state) (blocks_of units) ≡ u
         → IsSound (cond t (leaves state (units_full (record { need = length units; free = free_places state })))
-            (cond u (leaves state (pool_full (record { need = blocks_of units; free = free_blocks state })))
-            (leaves (after_submit state units) (queued state.next_unit (length units))))).state
+        (cond u (leaves state (pool_full (record { need = blocks_of units; free = free_blocks state })))
+        (leaves (after_submit state units) (queued state.next_unit (length units))))).state
     cases true e u f = sound
     cases false e true f = sound
     cases false e false f = submitted state units sound e f

@@ -58,13 +58,13 @@ decided_so Q state enrol decides = go (state.callers == state.caps.callers) wher
 decided_so Q state (submit packet) decides = go (units_read packet) (decides.queued packet) where
   go : (units : List Timed) → Q (submit packet) (leaves (after_submit state units) (queued state.next_unit (length units)))
       → Q (submit packet)
-          (cond (nat_lt (free_places state) (length units)) (leaves state (units_full (record { need = length units; free = free_places state })))
+      (cond (nat_lt (free_places state) (length units)) (leaves state (units_full (record { need = length units; free = free_places state })))
       (cond (nat_lt (free_blocks state) (blocks_of units)) (leaves state (pool_full (record { need = blocks_of units; free = free_blocks state })))
-          (leaves (after_submit state units) (queued state.next_unit (length units)))))
+      (leaves (after_submit state units) (queued state.next_unit (length units)))))
   go units holds = cases (nat_lt (free_places state) (length units)) (nat_lt (free_blocks state) (blocks_of units)) where
     cases : (t u : Bool) → Q (submit packet) (cond t (leaves state (units_full (record { need = length units; free = free_places state })))
         (cond u (leaves state (pool_full (record { need = blocks_of units; free = free_blocks state })))
-            (leaves (after_submit state units) (queued state.next_unit (length units)))))
+        (leaves (after_submit state units) (queued state.next_unit (length units)))))
     cases true u = decides.refused (submit packet) (units_full (record { need = length units; free = free_places state })) tt
     cases false true = decides.refused (submit packet) (pool_full (record { need = blocks_of units; free = free_blocks state })) tt
     cases false false = holds

@@ -38,8 +38,8 @@ abbrev pub LegalFrom : State → List Entry → Type 0
 LegalFrom state [] = Unit {0}
 LegalFrom state (entry ∷ entries) =
     (entry.caller < state.callers) × IsLawful entry.event × AddsEntry entry.answer
-        × (entry.answer ≡ (step state entry.event).answer)
-        × LegalFrom (step state entry.event).state entries
+    × (entry.answer ≡ (step state entry.event).answer)
+    × LegalFrom (step state entry.event).state entries
 
 -- a history of a server with these limits, from its opening on
 abbrev pub Legal : Limits → List Entry → Type 0
@@ -116,8 +116,10 @@ abbrev pub onward : Performance → ℕ → Event → Performance
 onward performance caller event =
     let answer = (stepped_in performance event).answer in
     if adds_entry answer
-        then record performance { history = performance.history
-        ++ record { caller = caller; event = event; answer = answer } ∷ [] } else performance
+    then record performance {
+      history = performance.history
+          ++ record { caller = caller; event = event; answer = answer } ∷ [];
+    } else performance
 
 -- what a registered method has heard: the last bytes of the calls of its id, where it tells
 abbrev pub HasHeard : List Invocation → Told → Type 0

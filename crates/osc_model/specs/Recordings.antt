@@ -78,8 +78,10 @@ hit_text hit = word hit.index ++ word hit.id
 -- the hits that stand in eight bytes each
 abbrev pub hits_in : List ℕ → List Hit
 hits_in (a ∷ b ∷ c ∷ d ∷ e ∷ f ∷ g ∷ h ∷ rest) =
-    record { index = from_be_bytes w32 (a ∷ b ∷ c ∷ d ∷ []);
-        id = from_be_bytes w32 (e ∷ f ∷ g ∷ h ∷ []) } ∷ hits_in rest
+    record {
+      index = from_be_bytes w32 (a ∷ b ∷ c ∷ d ∷ []);
+      id = from_be_bytes w32 (e ∷ f ∷ g ∷ h ∷ []);
+    } ∷ hits_in rest
 hits_in _ = []
 
 -- the hits, one after another

@@ -27,8 +27,10 @@ pub record TakesLeast (state : State) (stepped : Stepped) : Type 0 where
   pub others : IsPermutation state.queue (unit ∷ stepped.state.queue)
   pub room : state.recorded + release_size state unit ≤ state.caps.recording
   pub kept : stepped.state
-      ≡ record state { queue = stepped.state.queue;
-      recorded = state.recorded + release_size state unit }
+      ≡ record state {
+        queue = stepped.state.queue;
+        recorded = state.recorded + release_size state unit;
+      }
   pub answer : stepped.answer ≡ released (unit_of unit) (hits_of (calls_of_unit state.methods unit))
   pub invoked : stepped.invocations
       ≡ invocations_of (unit_of unit) (calls_of_unit state.methods unit)
@@ -82,4 +84,4 @@ pub record IsCallIn (state : State) (unit : Queued) (invocation : Invocation) : 
 abbrev pub InvokesRegistered : State → Stepped → Type 0
 InvokesRegistered state stepped =
     ((unit : Queued) × Contains state.queue unit
-        × AllByRecursion (IsCallIn state unit) stepped.invocations) ⊎ (stepped.invocations ≡ [])
+    × AllByRecursion (IsCallIn state unit) stepped.invocations) ⊎ (stepped.invocations ≡ [])

@@ -31,11 +31,22 @@ pub record State : Type 0 where
 -- the header
 abbrev pub opening : Limits → State
 opening caps =
-    record { caps = caps; methods = []; queue = []; clock = 1; next_id = 0; next_unit = 0;
-    callers = 1; recorded = header_size }
+    record {
+      caps = caps;
+      methods = [];
+      queue = [];
+      clock = 1;
+      next_id = 0;
+      next_unit = 0;
+      callers = 1;
+      recorded = header_size;
+    }
 
 -- the methods, with their limits
 abbrev pub registry : State → Registry
 registry state =
-    record { methods = state.methods; method_limit = state.caps.methods;
-    node_limit = state.caps.nodes }
+    record {
+      methods = state.methods;
+      method_limit = state.caps.methods;
+      node_limit = state.caps.nodes;
+    }

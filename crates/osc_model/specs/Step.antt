@@ -28,7 +28,7 @@ leaves state answer = record { answer = answer; state = state; invocations = [] 
 abbrev pub enrol_one : State → Stepped
 enrol_one state =
     if state.callers == state.caps.callers then leaves state callers_full
-        else leaves (record state { callers = state.callers + 1 }) (number state.callers)
+    else leaves (record state { callers = state.callers + 1 }) (number state.callers)
 
 -- a unit that waits under its number, and is due at its effective tag or at the clock, whichever is
 -- greater
@@ -48,25 +48,30 @@ enter_all (unit ∷ units) queue = enter_all units (enter unit queue)
 -- the units enter the queue under the next numbers
 abbrev pub after_submit : State → List Timed → State
 after_submit state units =
-    record state { queue = enter_all (numbered state.clock state.next_unit units) state.queue;
-        next_unit = state.next_unit + length units }
+    record state {
+      queue = enter_all (numbered state.clock state.next_unit units) state.queue;
+      next_unit = state.next_unit + length units;
+    }
 
 -- units are queued where there is a place for each of them, and blocks for all their messages
 abbrev pub submit_units : State → List Timed → Stepped
 submit_units state units =
     if nat_lt (free_places state) (length units)
-        then leaves state (units_full (record { need = length units; free = free_places state }))
+    then leaves state (units_full (record { need = length units; free = free_places state }))
     else (if nat_lt (free_blocks state) (blocks_of units)
-        then leaves state (pool_full (record { need = blocks_of units; free = free_blocks state }))
+    then leaves state (pool_full (record { need = blocks_of units; free = free_blocks state }))
     else leaves (after_submit state units) (queued state.next_unit (length units)))
 
 -- a method that is added stands last, under the next id
 abbrev pub add_at : State → List ℕ → Option Refusal → Stepped
 add_at state address (Some refusal) = leaves state (refused refusal)
 add_at state address None =
-    leaves (record state { methods = state.methods
-        ++ record { id = state.next_id; address = address } ∷ []; next_id = state.next_id + 1 })
-        (added state.next_id)
+    leaves (record state {
+      methods = state.methods
+          ++ record { id = state.next_id; address = address } ∷ [];
+      next_id = state.next_id + 1;
+    })
+    (added state.next_id)
 
 -- the method with the id that was found at an address leaves
 abbrev pub remove_at : State → List ℕ → Option ℕ → Stepped
@@ -78,14 +83,14 @@ remove_at state address (Some id) =
 abbrev pub tick_to : State → ℕ → Stepped
 tick_to state now =
     if nat_lt now state.clock then leaves state (clock_back state.clock)
-        else leaves (record state { clock = now }) ticked
+    else leaves (record state { clock = now }) ticked
 
 -- the calls of the methods that a message matches, which is the unit's message at an index
 abbrev pub matching_calls : List Method → ℕ → List ℕ → List Call
 matching_calls methods index message =
     map (λ method.
-        record { index = index; id = method.id; address = method.address; message = message })
-        (matching (pattern_of message) methods)
+    record { index = index; id = method.id; address = method.address; message = message })
+    (matching (pattern_of message) methods)
 
 -- a message with an unknown tag invokes nothing
 abbrev pub calls_of : List Method → ℕ → List ℕ → List Call
@@ -114,15 +119,18 @@ invocations_of unit calls = map (λ call. record { unit = unit; call = call }) c
 abbrev pub releases : State → Queued → List Queued → Stepped
 releases state unit others =
     let calls = calls_of_unit state.methods unit in
-    record { answer = released (unit_of unit) (hits_of calls);
-        state = record state { queue = others }; invocations = invocations_of (unit_of unit) calls }
+    record {
+      answer = released (unit_of unit) (hits_of calls);
+      state = record state { queue = others };
+      invocations = invocations_of (unit_of unit) calls;
+    }
 
 -- the first unit of the queue is released, if it is due
 abbrev pub release_first : State → List Queued → Stepped
 release_first state [] = leaves state (nothing_due None)
 release_first state (unit ∷ units) =
     if nat_le (due_of unit) state.clock then releases state unit units
-        else leaves state (nothing_due (Some (due_of unit)))
+    else leaves state (nothing_due (Some (due_of unit)))
 
 -- what an event is answered, and what it leaves, as long as there is room for its entry
 abbrev pub decided : State → Event → Stepped
@@ -137,7 +145,7 @@ decided state release = release_first state state.queue
 abbrev pub recorded_as : State → ℕ → Stepped → Stepped
 recorded_as state size stepped =
     if nat_lt (free_bytes state) size
-        then leaves state (record_full (record { need = size; free = free_bytes state }))
+    then leaves state (record_full (record { need = size; free = free_bytes state }))
     else record stepped { state = record stepped.state { recorded = state.recorded + size } }
 
 -- One event, on a state. The entry of an add, of a remove and of a submit has one size, whatever
@@ -147,4 +155,4 @@ abbrev pub step : State → Event → Stepped
 step state event =
     let stepped = decided state event in
     if adds_entry stepped.answer then recorded_as state (entry_size event stepped.answer) stepped
-        else stepped
+    else stepped

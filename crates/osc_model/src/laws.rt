@@ -179,14 +179,18 @@ pub fn invocations_are_of_registered_methods()
 pub fn a_box_hears_its_calls()
     ensures calls { (told : Told) (invocations : List Invocation) → IsWithin told
         → hear_all invocations told
-        ≡ record told { heard = option_map
-        (λ bytes. last_of told.keep (bytes ++ calls_bytes invocations told.id)) told.heard } }
+        ≡ record told {
+          heard = option_map
+              (λ bytes. last_of told.keep (bytes ++ calls_bytes invocations told.id)) told.heard;
+        } }
     ensures within { (told : Told) (invocations : List Invocation) → IsWithin told
         → IsWithin (hear_all invocations told) }
     ensures fresh { (told : Told) (invocations : List Invocation)
         → hear_all invocations (reset told)
-        ≡ record told { heard = option_map
-        (λ _. heard_of invocations told.id told.keep) told.heard } }
+        ≡ record told {
+          heard = option_map
+              (λ _. heard_of invocations told.id told.keep) told.heard;
+        } }
     ensures on { (told : Told) (first more : List Invocation)
         → hear_all (first ++ more) told ≡ hear_all more (hear_all first told) }
 {}
@@ -297,31 +301,25 @@ pub fn callers_are_counted()
 /// The clock never goes back, and stands where a tick before it left it; callers are numbered up to their limit; a message
 /// alone is queued where there is a place for it and blocks for its bytes, of which 64 take two.
 pub fn examples()
-    ensures early {
-        (step (opening
+    ensures early { (step (opening
         (record { units = 1; blocks = 1; methods = 1; nodes = 1; callers = 1; recording = 200 }))
         (tick 0)).answer ≡ clock_back 1 }
-    ensures on {
-        (step (opening
+    ensures on { (step (opening
         (record { units = 1; blocks = 1; methods = 1; nodes = 1; callers = 1; recording = 200 }))
         (tick 5)).answer ≡ ticked }
-    ensures full {
-        (step (opening
+    ensures full { (step (opening
         (record { units = 1; blocks = 1; methods = 1; nodes = 1; callers = 1; recording = 200 }))
         enrol).answer ≡ callers_full }
-    ensures no_place {
-        (step (step (opening
+    ensures no_place { (step (step (opening
         (record { units = 1; blocks = 1; methods = 1; nodes = 1; callers = 1; recording = 200 }))
         (submit (codes "/a" ++ 0 ∷ 0 ∷ []))).state (submit (codes "/a" ++ 0 ∷ 0 ∷ []))).answer
         ≡ units_full (record { need = 1; free = 0 }) }
-    ensures no_block {
-        (step (opening
+    ensures no_block { (step (opening
         (record { units = 1; blocks = 1; methods = 1; nodes = 1; callers = 1; recording = 200 }))
         (submit (codes "/a" ++ 0 ∷ 0 ∷ codes ",b"
         ++ 0 ∷ 0 ∷ 0 ∷ 0 ∷ 0 ∷ 52 ∷ replicate 52 0))).answer
         ≡ pool_full (record { need = 2; free = 1 }) }
-    ensures second {
-        (step (opening
+    ensures second { (step (opening
         (record { units = 1; blocks = 1; methods = 1; nodes = 1; callers = 2; recording = 200 }))
         enrol).answer ≡ number 1 }
 {}

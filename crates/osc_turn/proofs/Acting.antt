@@ -67,7 +67,7 @@ acted : (v w w1 w2 : View) (word : ℕ) (log : List Entry) → v.holds ≡ false
     → w2 ≡ record v { seen = w2.seen; words = (v.words ++ b.0) ++ word ∷ []; taken = v.taken + 1 }
 acted v w w1 w2 word log free b c d = let e = d ∙ ap (λ z. given z log) (c.0 ∙ ap (λ z. holding z w1.seen word) b.1) in
     e ∙ ap (λ (z : List Entry × Bool). record v { seen = z.0; words = (v.words ++ b.0) ++ word ∷ []; taken = v.taken + 1; holds = z.1 })
-        (λ k. (sym (ap (λ (z : View). z.seen) e) k, sym free k))
+    (λ k. (sym (ap (λ (z : View). z.seen) e) k, sym free k))
 
 pub acts : (v w w1 w2 : View) (word : ℕ) (ran : Bool) → Rests v → Waits v w → word % 2 ≡ 0 → Takes w word w1 → Gives w1 ran w2 → Acts v w1.seen ran w2
 acts v w w1 w2 word true a b even c d = record {
@@ -98,8 +98,8 @@ own_once : (v : View) (log : List Entry) (text : List ℕ) (seen : List Entry) �
     → own (number_of v) seen ≡ own (number_of v) v.seen ++ entry (number_of v) text ∷ []
 own_once v log text seen same is = let e = entry (number_of v) text in
     ap (own (number_of v)) is
-        ∙ (own_append (number_of v) log (e ∷ [])
-        ∙ (ap (λ l. l ++ own (number_of v) (e ∷ [])) same ∙ ap (λ l. own (number_of v) v.seen ++ l) (own_of_mine (number_of v) e refl)))
+    ∙ (own_append (number_of v) log (e ∷ [])
+    ∙ (ap (λ l. l ++ own (number_of v) (e ∷ [])) same ∙ ap (λ l. own (number_of v) v.seen ++ l) (own_of_mine (number_of v) e refl)))
 
 -- the clauses of a call that took the turn
 pub record Took {J : Type 0} (did : J → J → List (List ℕ) → List (List ℕ) → Type 0) (old new : J) (ran : Bool) (v w : View) : Type 0 where

@@ -27,8 +27,14 @@ module _ {S : Type 0} (stands : S → List (List ℕ) → Type 0) (kind_of : S �
       refl,
       λ p. sym (f.first p),
       r.standing.few,
-      λ n. omega (arith, total_at (λ u. times n (numbers_of u)) s.views id me.0 at, r.standing.numbered (only n), one_below n (get_or s.words 1 0), weigh_append
-          (only n) me.0.numbers me.0.spare),
+      λ n. omega (
+        arith,
+        total_at (λ u. times n (numbers_of u)) s.views id me.0 at,
+        r.standing.numbered (only n),
+        one_below n (get_or s.words 1 0),
+        weigh_append
+            (only n) me.0.numbers me.0.spare,
+      ),
       (f.olds, f.covers),
     ),
   )
@@ -49,7 +55,7 @@ module _ {S : Type 0} (stands : S → List (List ℕ) → Type 0) (kind_of : S �
   drawn_stands : (homes : List (maybe.Option (Option S))) (views : List View) (log : List Entry) (kind : List ℕ) (holder t d : ℕ)
       → Stands stands kind_of homes views log kind holder t d
       → (i : ℕ) (v : View) → get_elem? views i ≡ some v → v.holds ≡ false → v.spare ≡ [] → 0 < times 0 v.numbers → d < 65536
-          → Stands stands kind_of homes (set views i (drew v d)) log kind holder t (d + 1)
+      → Stands stands kind_of homes (set views i (drew v d)) log kind holder t (d + 1)
   drawn_stands homes views log kind holder t d r i v at free bare first few = let f = r.each_view i v at in let w = drew v d in record {
     counted = r.counted;
     at_home = r.at_home;
@@ -82,8 +88,16 @@ module _ {S : Type 0} (stands : S → List (List ℕ) → Type 0) (kind_of : S �
           alike = g.alike;
         });
     numbered = λ h.
-        omega (arith, below_more h d, total_set (λ u. weigh h (numbers_of u)) views i v w at, r.numbered h, weigh_append h v.numbers v.spare, weigh_append h
-        v.numbers (d ∷ []), ap (weigh h) bare);
+        omega (
+          arith,
+          below_more h d,
+          total_set (λ u. weigh h (numbers_of u)) views i v w at,
+          r.numbered h,
+          weigh_append h v.numbers v.spare,
+          weigh_append h
+              v.numbers (d ∷ []),
+          ap (weigh h) bare,
+        );
     few = omega arith;
     named = λ n far. r.named n (omega arith);
   }
@@ -96,7 +110,7 @@ module _ {S : Type 0} (stands : S → List (List ℕ) → Type 0) (kind_of : S �
     tt,
     subst (λ (x : ℕ). Rule stands kind_of record { words = set s.words 1 x; homes = s.homes; views = set s.views id (drew me.0 d) }) (sym small)
         (drawn s r (d + 1) (set s.views id (drew me.0 d))
-            (drawn_stands s.homes s.views r.log r.kind r.holder (get_or s.words 0 0) d r.standing id me.0 at free bare first (omega (arith, made)))),
+        (drawn_stands s.homes s.views r.log r.kind r.holder (get_or s.words 0 0) d r.standing id me.0 at free bare first (omega (arith, made)))),
     (sym made, none_begun d r.log me.0.seen (r.standing.each_view id me.0 at).seen (r.standing.named d (le_refl d)), refl),
   )
     where
@@ -141,7 +155,7 @@ module _ {S : Type 0} (stands : S → List (List ℕ) → Type 0) (kind_of : S �
   split_stands : (homes : List (maybe.Option (Option S))) (views : List View) (log : List Entry) (kind : List ℕ) (holder t d : ℕ)
       → Stands stands kind_of homes views log kind holder t d
       → (i : ℕ) (v : View) → get_elem? views i ≡ some v → 0 < length v.numbers
-          → Stands stands kind_of homes (set views i (kept_of v) ++ split_off v ∷ []) log kind holder t d
+      → Stands stands kind_of homes (set views i (kept_of v) ++ split_off v ∷ []) log kind holder t d
   split_stands homes views log kind holder t d r i v at some_number = let f = r.each_view i v at in let w = kept_of v in let u' = split_off v in record {
     counted = r.counted;
     at_home = r.at_home;
@@ -153,11 +167,19 @@ module _ {S : Type 0} (stands : S → List (List ℕ) → Type 0) (kind_of : S �
     each_view = λ j u a.
         ⊎_elim (λ b. views_stay (λ _ x. Fits log kind t d x) views i w (kept_fits log kind t d v f some_number) (λ k x _ c. r.each_view k x c) j u b)
         (λ (e : u' ≡ u). subst (Fits log kind t d) e
-            (split_fits log kind t d v f some_number (omega (arith, total_at (λ x. times 0 (numbers_of x)) views i v at, r.numbered (only 0), one_below 0 d))))
+        (split_fits log kind t d v f some_number (omega (arith, total_at (λ x. times 0 (numbers_of x)) views i v at, r.numbered (only 0), one_below 0 d))))
         (at_snoc (set views i w) u' u j a);
     numbered = λ h.
-        omega (arith, total_snoc (λ u. weigh h (numbers_of u)) (set views i w) u', total_set
-        (λ u. weigh h (numbers_of u)) views i v w at, r.numbered h, weigh_append h v.numbers v.spare, weigh_append h v.numbers [], weigh_append h v.spare []);
+        omega (
+          arith,
+          total_snoc (λ u. weigh h (numbers_of u)) (set views i w) u',
+          total_set
+              (λ u. weigh h (numbers_of u)) views i v w at,
+          r.numbered h,
+          weigh_append h v.numbers v.spare,
+          weigh_append h v.numbers [],
+          weigh_append h v.spare [],
+        );
     few = r.few;
     named = r.named;
   }

@@ -52,7 +52,7 @@ gathered_one v w u p done a e g b is m once = record {
   first = absorbs_on w u v g.first told.0 (λ n q. omega (arith, weighs (only n)));
   others = all_cons (λ q. Absorbs u (view q)) p done (told.1, λ n q. omega (arith, weighs (only n)))
       (all_map (λ q. Absorbs w (view q)) (λ q. Absorbs u (view q)) done
-          (λ q x. absorbs_on w u (view q) x told.0 (λ n y. omega (arith, weighs (only n)))) g.others);
+      (λ q x. absorbs_on w u (view q) x told.0 (λ n y. omega (arith, weighs (only n)))) g.others);
 }
   where
     told : Grows w u.seen × Grows (view p) u.seen
@@ -67,8 +67,17 @@ gathered_whole v w others a e g made = (
   g.free,
   g.bare,
   gathered_first v w others a e g,
-  omega (arith, weigh_ones w.numbers, g.numbers (λ _. 1), weigh_ones v.numbers, weigh_ones
-      (map number others), length-map others number, ap length a.0, g.same_made),
+  omega (
+    arith,
+    weigh_ones w.numbers,
+    g.numbers (λ _. 1),
+    weigh_ones v.numbers,
+    weigh_ones
+        (map number others),
+    length-map others number,
+    ap length a.0,
+    g.same_made,
+  ),
 )
 
 carries : (w : View) (p : Pass) → Absorbs w (view p) → Carries w.seen p

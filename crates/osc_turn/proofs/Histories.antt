@@ -129,7 +129,7 @@ none_long (x ∷ xs) e = absurd (omega arith)
 pub same_between : (n : ℕ) (log long short : List Entry) → StartsWith log long → StartsWith long short → own n short ≡ own n log → own n long ≡ own n log
 same_between n log long short a b e = let x = starts_own n log long a in let y = starts_own n long short b in
     let none : x.0 ≡ [] =
-        none_long x.0 (omega (arith, ap length x.1, length-append (own n long) x.0, ap length y.1, length-append (own n short) y.0, ap length e)) in
+    none_long x.0 (omega (arith, ap length x.1, length-append (own n long) x.0, ap length y.1, length-append (own n short) y.0, ap length e)) in
     sym (x.1 ∙ (ap (λ l. own n long ++ l) none ∙ append-nil (own n long)))
 
 pub same_both : {A : Type 0} (a b : List A) → StartsWith a b → StartsWith b a → a ≡ b

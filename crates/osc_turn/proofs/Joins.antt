@@ -69,9 +69,9 @@ joined_fits log kind t d v w f g some_number free bare bare' once = record {
   olds = let s = starts_longer log v.seen w.seen f.seen g.seen in two_cases (λ a. StartsWith (longer v.seen w.seen) a.seen) (past v) (past w) s.0 s.1;
   covers = λ k l a b e e'. two_cases (λ x. Covers x b) (past v) (past w)
       (two_cases (λ y. Covers (past v) y) (past v) (past w) (covers_from log (past v) (past v) f.own_seen f.seen)
-          (covers_from log (past v) (past w) f.own_seen g.seen) l b e')
+      (covers_from log (past v) (past w) f.own_seen g.seen) l b e')
       (two_cases (λ y. Covers (past w) y) (past v) (past w) (covers_from log (past w) (past v) g.own_seen f.seen)
-          (covers_from log (past w) (past w) g.own_seen g.seen) l b e') k a e;
+      (covers_from log (past w) (past w) g.own_seen g.seen) l b e') k a e;
   first = λ p. dite (ℕ_discrete (times 0 v.numbers) 0)
       (λ e. let made = (f.later e).0 in let made' = g.first (omega (arith, weigh_append (only 0) v.numbers w.numbers)) in omega arith)
       (λ other. let made = f.first (omega arith) in let made' = (g.later (omega arith)).0 in omega arith);
@@ -84,18 +84,18 @@ joined_fits log kind t d v w f g some_number free bare bare' once = record {
 pub remembered : (v w u : View) → u ≡ joined v w → Remembers u → Grows v u.seen × Grows w u.seen
 remembered v w u is m = subst (λ (z : View). Remembers z → Grows v z.seen × Grows w z.seen) (sym is) (λ r.
     let starts_v : StartsWith (longer v.seen w.seen) v.seen = r.0 0 (past v) refl in
-        let starts_w : StartsWith (longer v.seen w.seen) w.seen = r.0 1 (past w) refl in (
+    let starts_w : StartsWith (longer v.seen w.seen) w.seen = r.0 1 (past w) refl in (
       (
         starts_v,
         λ n p. same_both (own n (longer v.seen w.seen)) (own n v.seen) (starts_own n (longer v.seen w.seen) v.seen starts_v)
             (longer_cases (λ l. StartsWith (own n v.seen) (own n l)) v.seen w.seen (λ _. r.1 0 1 (past v) (past w) refl refl n p)
-                (λ _. r.1 0 0 (past v) (past v) refl refl n p)),
+            (λ _. r.1 0 0 (past v) (past v) refl refl n p)),
       ),
       (
         starts_w,
         λ n p. same_both (own n (longer v.seen w.seen)) (own n w.seen) (starts_own n (longer v.seen w.seen) w.seen starts_w)
             (longer_cases (λ l. StartsWith (own n w.seen) (own n l)) v.seen w.seen (λ _. r.1 1 1 (past w) (past w) refl refl n p)
-                (λ _. r.1 1 0 (past w) (past v) refl refl n p)),
+            (λ _. r.1 1 0 (past w) (past v) refl refl n p)),
       ),
     )) m
 
@@ -103,7 +103,7 @@ module _ {S : Type 0} (stands : S → List (List ℕ) → Type 0) (kind_of : S �
   joined_stands : (homes : List (maybe.Option (Option S))) (views : List View) (log : List Entry) (kind : List ℕ) (holder t d : ℕ)
       → Stands stands kind_of homes views log kind holder t d
       → (i j : ℕ) (v w : View) → get_elem? views i ≡ some v → get_elem? views j ≡ some w → j ≢ i → 0 < length v.numbers → v.holds ≡ false → w.holds ≡ false
-          → v.spare ≡ [] → w.spare ≡ []
+      → v.spare ≡ [] → w.spare ≡ []
       → Stands stands kind_of homes (set (set views i (joined v w)) j spent) log kind holder t d
   joined_stands homes views log kind holder t d r i j v w at at' other some_number free free' bare bare' = record {
     counted = r.counted;
@@ -115,8 +115,15 @@ module _ {S : Type 0} (stands : S → List (List ℕ) → Type 0) (kind_of : S �
     each_view = views_stay (λ _ x. Fits log kind t d x) (set views i u) j spent (spent_fits log kind t d)
         (λ k x _ a. views_stay (λ _ x'. Fits log kind t d x') views i u
         (joined_fits log kind t d v w (r.each_view i v at) (r.each_view j w at') some_number free bare bare'
-        (omega (arith, total_two (λ x. times 0 (numbers_of x)) views i j v w (λ e. other (sym e)) at at', r.numbered (only 0), one_below 0 d, weigh_append
-            (only 0) v.numbers v.spare, weigh_append (only 0) w.numbers w.spare)))
+        (omega (
+          arith,
+          total_two (λ x. times 0 (numbers_of x)) views i j v w (λ e. other (sym e)) at at',
+          r.numbered (only 0),
+          one_below 0 d,
+          weigh_append
+              (only 0) v.numbers v.spare,
+          weigh_append (only 0) w.numbers w.spare,
+        )))
         (λ k' x' _ b. r.each_view k' x' b) k x a);
     numbered = λ h. omega (
       arith,

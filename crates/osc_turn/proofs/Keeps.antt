@@ -38,7 +38,7 @@ pub still_held : (views : List View) (i : ℕ) (v w : View) (holder : ℕ) → g
     → (u : View) × (get_elem? (set views i w) holder ≡ some u) × (u.holds ≡ true)
 still_held views i v w holder at same h = dite (ℕ_discrete holder i)
     (λ e. let same_view : h.0 ≡ v = some-injective h.0 v (sym h.1 ∙ (ap (get_elem? views) e ∙ at)) in
-        (w, ap (get_elem? (set views i w)) e ∙ here views i v w at, same ∙ (sym (ap (λ (u : View). u.holds) same_view) ∙ h.2)))
+    (w, ap (get_elem? (set views i w)) e ∙ here views i v w at, same ∙ (sym (ap (λ (u : View). u.holds) same_view) ∙ h.2)))
     (λ other. (h.0, set_else views i holder w other ∙ h.1, h.2))
 
 pub found_fits : (log : List Entry) (kind : List ℕ) (t d r : ℕ) (v : View) → Fits log kind t d v → IsOne v → Fits log kind t d (found_at v log r)
@@ -97,7 +97,7 @@ module _ {S : Type 0} (stands : S → List (List ℕ) → Type 0) (kind_of : S �
   pub apart : (homes : List (maybe.Option (Option S))) (views : List View) (log : List Entry) (kind : List ℕ) (holder t d : ℕ)
       → Stands homes views log kind holder t d
       → (i j : ℕ) (v u : View) → get_elem? views i ≡ some v → get_elem? views j ≡ some u → i ≢ j → (n : ℕ) → 0 < times n (numbers_of v)
-          → 0 < times n (numbers_of u) → ⊥
+      → 0 < times n (numbers_of u) → ⊥
   apart homes views log kind holder t d r i j v u a b other n p q =
       omega (arith, total_two (λ w. times n (numbers_of w)) views i j v u other a b, r.numbered (only n), one_below n d)
 
@@ -112,7 +112,7 @@ module _ {S : Type 0} (stands : S → List (List ℕ) → Type 0) (kind_of : S �
   pub view_changes : (homes : List (maybe.Option (Option S))) (views : List View) (log : List Entry) (kind : List ℕ) (holder t d : ℕ)
       → Stands homes views log kind holder t d
       → (i : ℕ) (v w : View) → get_elem? views i ≡ some v → Fits log kind t d w → numbers_of w ≡ numbers_of v → w.holds ≡ v.holds
-          → Stands homes (set views i w) log kind holder t d
+      → Stands homes (set views i w) log kind holder t d
   view_changes homes views log kind holder t d r i v w at fits same held = record {
     counted = r.counted;
     at_home = r.at_home;
@@ -151,17 +151,17 @@ module _ {S : Type 0} (stands : S → List (List ℕ) → Type 0) (kind_of : S �
   pub looks : (slots id : ℕ) (me : Me (Option S) View) → IsOne me.0 → Allows Rule slots id me 0 (λ n. n) (Looks me)
   looks slots id me one s r _ at _ = let f = r.standing.each_view id me.0 at in let t : ℕ = get_or s.words 0 0 in let d : ℕ = get_or s.words 1 0 in
       let w = found_at me.0 r.log t in (
-    w,
-    keeps,
-    tt,
-    stays s r 0 id me.1 w (view_changes s.homes s.views r.log r.kind r.holder t d r.standing id me.0 w at (found_fits r.log r.kind t d t me.0 f one) refl refl),
-    (finds_tells r.log r.kind t d me.0 f r.standing.counted, refl),
-  )
+        w,
+        keeps,
+        tt,
+        stays s r 0 id me.1 w (view_changes s.homes s.views r.log r.kind r.holder t d r.standing id me.0 w at (found_fits r.log r.kind t d t me.0 f one) refl refl),
+        (finds_tells r.log r.kind t d me.0 f r.standing.counted, refl),
+      )
 
   holding_stands : (homes : List (maybe.Option (Option S))) (views : List View) (log : List Entry) (kind : List ℕ) (holder t d : ℕ)
       → Stands homes views log kind holder t d
       → (i : ℕ) (v : View) → get_elem? views i ≡ some v → IsOne v → v.spare ≡ [] → t % 2 ≡ 0
-          → Stands (none ∷ []) (set views i (holding v log t)) log kind i (t + 1) d
+      → Stands (none ∷ []) (set views i (holding v log t)) log kind i (t + 1) d
   holding_stands homes views log kind holder t d r i v at one bare even = let f = r.each_view i v at in let w = holding v log t in record {
     counted = let c = r.counted in omega arith;
     at_home = λ e. absurd (omega arith);
@@ -199,11 +199,13 @@ module _ {S : Type 0} (stands : S → List (List ℕ) → Type 0) (kind_of : S �
         ap (λ hs. get_elem? hs 0) home.1,
         turned s r (old + 1) (set s.homes 0 none) (set s.views id w) r.log id
             (subst (λ (z : List (maybe.Option (Option S)) × ℕ). Stands z.0 (set s.views id w) r.log r.kind id (z.1 + 1) d)
-                (λ k. (sym (ap (λ hs. set hs 0 none) home.1) k, e k))
+            (λ k. (sym (ap (λ hs. set hs 0 none) home.1) k, e k))
             (holding_stands s.homes s.views r.log r.kind r.holder t d r.standing id v at resting.0 resting.1 even_now)),
         (
-          λ _. ((refl, (f.seen, λ n p. sym (f.own_seen n p)), sym r.standing.counted),
-              (home.0, (ap (λ cs. (0, Some home.0) ∷ cs) bare, home.2, home.3 ∙ sym (alive r.log r.kind t d v f resting.0)))),
+          λ _. (
+            (refl, (f.seen, λ n p. sym (f.own_seen n p)), sym r.standing.counted),
+            (home.0, (ap (λ cs. (0, Some home.0) ∷ cs) bare, home.2, home.3 ∙ sym (alive r.log r.kind t d v f resting.0))),
+          ),
           λ ne. absurd (ne e),
         ),
       ))
@@ -256,8 +258,8 @@ module _ {S : Type 0} (stands : S → List (List ℕ) → Type 0) (kind_of : S �
         }
         (λ j u other a. fits_longer log added kind t t' d u (r.each_view j u a) (λ h. other (r.one_holder j u a h ∙ sym (r.one_holder i v at held)))
         (λ n p. mine n
-            (λ e. apart homes views log kind holder t d r i j v u at a (λ same. other (sym same)) n
-            (subst (λ z. 0 < times z (numbers_of v)) (sym e) (has_number v o.2)) p)));
+        (λ e. apart homes views log kind holder t d r i j v u at a (λ same. other (sym same)) n
+        (subst (λ z. 0 < times z (numbers_of v)) (sym e) (has_number v o.2)) p)));
     numbered = λ h. omega (arith, total_set (λ u. weigh h (numbers_of u)) views i v w at, r.numbered h);
     few = r.few;
     named = λ n far. own_append n log added ∙ (ap (λ l. l ++ own n added) (r.named n far)
@@ -283,7 +285,7 @@ module _ {S : Type 0} (stands : S → List (List ℕ) → Type 0) (kind_of : S �
 
   gives_turn : (slots id : ℕ) (me : Me (Option S) View) → me.0.holds ≡ true → (x : S) → me.1 ≡ (0, Some x) ∷ [] → kind_of x ≡ me.0.kind
       → (added : List Entry) → ((n : ℕ) → n ≢ number_of me.0 → own n added ≡ []) → stands x (texts (me.0.seen ++ added)) → (new : ℕ)
-          → new ≡ 2 * length (me.0.seen ++ added)
+      → new ≡ 2 * length (me.0.seen ++ added)
       → (Q : Me (Option S) View → Type 0) → Q (given me.0 (me.0.seen ++ added), []) → Allows Rule slots id me 0 (λ _. new) (λ _. Q)
   gives_turn slots id me held x at_hand alike added mine stands_now new is Q q s r _ at _ = (
     given v (r.log ++ added),
@@ -292,7 +294,7 @@ module _ {S : Type 0} (stands : S → List (List ℕ) → Type 0) (kind_of : S �
     turned s r new (put_back s.homes me.1) (set s.views id (given v (r.log ++ added))) (r.log ++ added) r.holder
         (subst (λ hs. Stands hs (set s.views id (given v (r.log ++ added))) (r.log ++ added) r.kind r.holder new (get_or s.words 1 0)) (sym back)
         (given_stands s.homes s.views r.log r.kind r.holder (get_or s.words 0 0) (get_or s.words 1 0) r.standing id v at held added mine x
-            (subst (λ l. stands x (texts (l ++ added))) o.1 stands_now)
+        (subst (λ l. stands x (texts (l ++ added))) o.1 stands_now)
         (alike ∙ alive r.log r.kind (get_or s.words 0 0) (get_or s.words 1 0) v f o.2) new (is ∙ ap (λ l. 2 * length (l ++ added)) o.1))),
     subst (λ (z : List Entry × List (ℕ × Option S)). Q (given v (z.0 ++ added), z.1)) (λ k. (o.1 k, sym (ap rest at_hand) k)) q,
   )
@@ -318,7 +320,7 @@ module _ {S : Type 0} (stands : S → List (List ℕ) → Type 0) (kind_of : S �
 
   pub gives_entry : (slots id : ℕ) (me : Me (Option S) View) (new : ℕ) (x : S) → me.0.holds ≡ true → me.1 ≡ (0, Some x) ∷ [] → kind_of x ≡ me.0.kind
       → (text : List ℕ) → stands x (texts me.0.seen ++ text ∷ []) → new ≡ 2 * length me.0.seen + 2
-          → Allows Rule slots id me 0 (λ _. new) (λ _. GivesEntry stands kind_of me)
+      → Allows Rule slots id me 0 (λ _. new) (λ _. GivesEntry stands kind_of me)
   gives_entry slots id me new x held at_hand alike text stands_now is =
       gives_turn slots id me held x at_hand alike (e ∷ []) (λ n other. own_of_other n e (λ same. other (sym same))) stands_then new
       (omega (arith, length-append me.0.seen (e ∷ [])))

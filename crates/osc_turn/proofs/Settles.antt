@@ -38,7 +38,7 @@ module _ {S : Type 0} (stands : S → List (List ℕ) → Type 0) (kind_of : S �
   module _ (homes : List (maybe.Option (Option S))) (views : List View) (log : List Entry) (kind : List ℕ) (holder t d : ℕ)
       (r : Stands stands kind_of homes views log kind holder t d)
       (i : ℕ) (v : View) (at : get_elem? views i ≡ some v)
-          (whole : (v.holds ≡ false) × (v.spare ≡ []) × (0 < times 0 v.numbers) × (length v.numbers ≡ v.made)) where
+      (whole : (v.holds ≡ false) × (v.spare ≡ []) × (0 < times 0 v.numbers) × (length v.numbers ≡ v.made)) where
     others_bare : (j : ℕ) (u : View) → j ≢ i → get_elem? views j ≡ some u → length (numbers_of u) ≡ 0
     others_bare j u other a = let made = (r.each_view i v at).first whole.2 in omega (
       arith,
@@ -67,9 +67,9 @@ module _ {S : Type 0} (stands : S → List (List ℕ) → Type 0) (kind_of : S �
     is_even : t % 2 ≡ 0
     is_even = dite (ℕ_discrete (t % 2) 0) (λ e. e) (λ other. let h = r.held (omega arith) in absurd (dite (ℕ_discrete holder i)
         (λ e. let same : h.0 ≡ v = some-injective h.0 v (sym h.1 ∙ (ap (get_elem? views) e ∙ at)) in let no = ap (λ (x : View). x.holds) same in
-            cc (h.2, no, whole.0))
+        cc (h.2, no, whole.0))
         (λ apart. let one = ((r.each_view holder h.0 h.1).holder h.2).2 in
-            omega (arith, others_bare holder h.0 apart h.1, length-append h.0.numbers h.0.spare, ap length one))))
+        omega (arith, others_bare holder h.0 apart h.1, length-append h.0.numbers h.0.spare, ap length one))))
 
     is_drawn : (n : ℕ) → own n log ≢ [] → n < d
     is_drawn n some_entry = dite (dec_le d n) (λ far. absurd (some_entry (r.named n far))) (λ near. omega arith)
@@ -77,11 +77,23 @@ module _ {S : Type 0} (stands : S → List (List ℕ) → Type 0) (kind_of : S �
     sees_all : log ≡ v.seen
     sees_all = let f = r.each_view i v at in f.seen.1 ∙ (ap (λ l. v.seen ++ l) (no_entry f.seen.0 (λ n. dite (dec_le d n)
         (λ far. none_long (own n f.seen.0)
-            (omega (arith, ap length (r.named n far), ap length (ap (own n) f.seen.1), ap length (own_append n v.seen f.seen.0), length-append (own n v.seen)
-            (own n f.seen.0))))
+        (omega (
+          arith,
+          ap length (r.named n far),
+          ap length (ap (own n) f.seen.1),
+          ap length (own_append n v.seen f.seen.0),
+          length-append (own n v.seen)
+              (own n f.seen.0),
+        )))
         (λ near. none_long (own n f.seen.0)
-            (omega (arith, ap length (f.own_seen n (let h = has_each n (omega arith) in omega arith)), ap length (ap (own n) f.seen.1), ap length
-            (own_append n v.seen f.seen.0), length-append (own n v.seen) (own n f.seen.0))))))
+        (omega (
+          arith,
+          ap length (f.own_seen n (let h = has_each n (omega arith) in omega arith)),
+          ap length (ap (own n) f.seen.1),
+          ap length
+              (own_append n v.seen f.seen.0),
+          length-append (own n v.seen) (own n f.seen.0),
+        )))))
         ∙ append-nil v.seen)
 
   -- the value lies in the slot, and stands for what the view has seen

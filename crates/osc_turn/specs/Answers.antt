@@ -47,7 +47,7 @@ KeepsOwn v w = own (number_of v) w.seen ≡ own (number_of v) v.seen
 abbrev pub AddsOwn : Bool → View → View → Type 0
 AddsOwn ran v w = MatchBool ran
     ((text : List ℕ)
-        × (own (number_of v) w.seen ≡ own (number_of v) v.seen ++ entry (number_of v) text ∷ []))
+    × (own (number_of v) w.seen ≡ own (number_of v) v.seen ++ entry (number_of v) text ∷ []))
     (KeepsOwn v w)
 
 -- One word was found, and it is odd: the turn was another's. Or a free turn was found and then a

@@ -21,12 +21,23 @@ one_more v = record v { made = v.made + 1 }
 -- a guest: it has the next number, has seen what its maker has seen, and has done nothing yet
 abbrev pub guest_of : View → View
 guest_of v =
-    record { numbers = v.made ∷ []; spare = []; made = 0; seen = v.seen; olds = []; words = [];
-    taken = 0; holds = false; kind = v.kind }
+    record {
+      numbers = v.made ∷ [];
+      spare = [];
+      made = 0;
+      seen = v.seen;
+      olds = [];
+      words = [];
+      taken = 0;
+      holds = false;
+      kind = v.kind;
+    }
 
 -- a pass that was told what another has seen: it has seen the longer of both lists, and is
 -- otherwise as it was
 abbrev pub met_by : View → View → View
 met_by v w =
-    record v { seen = longer v.seen w.seen;
-    olds = past v ∷ record { numbers = []; seen = w.seen } ∷ [] }
+    record v {
+      seen = longer v.seen w.seen;
+      olds = past v ∷ record { numbers = []; seen = w.seen } ∷ [];
+    }

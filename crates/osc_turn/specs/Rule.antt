@@ -18,8 +18,17 @@ use Rattle.osc_turn.specs.Numbers.{weigh, weigh_below, times, total, numbers_of}
 -- one pass was made
 abbrev pub reopening : List ℕ → List (List ℕ) → View
 reopening kind h =
-    record { numbers = 0 ∷ []; spare = []; made = 1; seen = entries_of h; olds = []; words = [];
-        taken = 0; holds = false; kind = kind }
+    record {
+      numbers = 0 ∷ [];
+      spare = [];
+      made = 1;
+      seen = entries_of h;
+      olds = [];
+      words = [];
+      taken = 0;
+      holds = false;
+      kind = kind;
+    }
 
 -- what the first pass knows of a turn whose value had no entries
 abbrev pub opening : List ℕ → View
@@ -27,8 +36,17 @@ opening kind = reopening kind []
 
 -- what is left of a view that was joined into another: nothing
 abbrev pub spent : View
-spent = record { numbers = []; spare = []; made = 0; seen = []; olds = []; words = []; taken = 0;
-    holds = false; kind = [] }
+spent = record {
+  numbers = [];
+  spare = [];
+  made = 0;
+  seen = [];
+  olds = [];
+  words = [];
+  taken = 0;
+  holds = false;
+  kind = [];
+}
 
 -- the number of a pass
 abbrev pub number_of : View → ℕ

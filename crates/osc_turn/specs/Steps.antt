@@ -72,7 +72,7 @@ module _ {S : Type 0} where
 abbrev pub Remembers : View → Type 0
 Remembers v = ((k : ℕ) (a : Past) → get_elem? v.olds k ≡ some a → StartsWith v.seen a.seen)
     × ((k l : ℕ) (a b : Past) → get_elem? v.olds k ≡ some a → get_elem? v.olds l ≡ some b
-        → Covers a b)
+    → Covers a b)
 
 -- the view after a number was drawn
 abbrev pub drew : View → ℕ → View
@@ -95,8 +95,17 @@ kept_of v = record v { spare = [] }
 
 abbrev pub split_off : View → View
 split_off v =
-    record { numbers = v.spare; spare = []; made = 0; seen = v.seen; olds = []; words = [];
-    taken = 0; holds = false; kind = v.kind }
+    record {
+      numbers = v.spare;
+      spare = [];
+      made = 0;
+      seen = v.seen;
+      olds = [];
+      words = [];
+      taken = 0;
+      holds = false;
+      kind = v.kind;
+    }
 
 abbrev pub longer : List Entry → List Entry → List Entry
 longer a b = if nat_le (length a) (length b) then b else a
@@ -108,5 +117,9 @@ past v = record { numbers = v.numbers; seen = v.seen }
 -- and knows which two lists these were
 abbrev pub joined : View → View → View
 joined v w =
-    record v { numbers = v.numbers ++ w.numbers; made = max v.made w.made;
-    seen = longer v.seen w.seen; olds = past v ∷ past w ∷ [] }
+    record v {
+      numbers = v.numbers ++ w.numbers;
+      made = max v.made w.made;
+      seen = longer v.seen w.seen;
+      olds = past v ∷ past w ∷ [];
+    }

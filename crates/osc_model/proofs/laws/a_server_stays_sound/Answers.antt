@@ -7,8 +7,11 @@ returns-clause-opening c = opening_sound
 
 pub returns-clause-step : goal.returns-clause-step
 returns-clause-step c =
-    step_sound (record { lawful = c.an_added_method_is_lawful.ensures; nodes = c.an_address_adds_its_new_nodes.ensures;
-    spelled = c.tests_are_exact.ensures.address })
+    step_sound (record {
+      lawful = c.an_added_method_is_lawful.ensures;
+      nodes = c.an_address_adds_its_new_nodes.ensures;
+      spelled = c.tests_are_exact.ensures.address;
+    })
 
 pub returns-clause-after : goal.returns-clause-after
 returns-clause-after c =

@@ -47,16 +47,16 @@ pub returns-clause-closes : goal.returns-clause-closes
 returns-clause-closes g c =
     let is = parted c.args.passes.items c.remove.new.self.items c.remove.result c.requires.few.0 c.remove.ensures.value c.remove.ensures.items in
     let all = gathered c.args.passes.items c.remove.result c.remove.new.self.items c.into_seat-seat.result.me c.count-made.new.seat.me c.count-made.result
-        c.gather.new.seat.me.0 is c.requires.first c.into_seat-seat.ensures.1
+    c.gather.new.seat.me.0 is c.requires.first c.into_seat-seat.ensures.1
     c.count-made.ensures.counts (search rules) c.gather.ensures.gathers in
     closes g.S.Kept.stands c.into_value.result c.args.passes.items c.remove.result c.remove.new.self.items c.gather.new.seat.me.0 is all.gathers
-        c.into_value.ensures.stands c.into_value.ensures.each
+    c.into_value.ensures.stands c.into_value.ensures.each
 
 pub returns-clause-all_in : goal.returns-clause-all_in
 returns-clause-all_in g c =
     let is = parted c.args.passes.items c.remove.new.self.items c.remove.result c.requires.few.0 c.remove.ensures.value c.remove.ensures.items in
     let all = gathered c.args.passes.items c.remove.result c.remove.new.self.items c.into_seat-seat.result.me c.count-made.new.seat.me c.count-made.result
-        c.gather.new.seat.me.0 is c.requires.first c.into_seat-seat.ensures.1
+    c.gather.new.seat.me.0 is c.requires.first c.into_seat-seat.ensures.1
     c.count-made.ensures.counts (search rules) c.gather.ensures.gathers in
     ap (λ ps. (first_view ps).made) is ∙ all.made
 
@@ -64,6 +64,6 @@ pub returns-clause-kind : goal.returns-clause-kind
 returns-clause-kind g c =
     let is = parted c.args.passes.items c.remove.new.self.items c.remove.result c.requires.few.0 c.remove.ensures.value c.remove.ensures.items in
     let all = gathered c.args.passes.items c.remove.result c.remove.new.self.items c.into_seat-seat.result.me c.count-made.new.seat.me c.count-made.result
-        c.gather.new.seat.me.0 is c.requires.first c.into_seat-seat.ensures.1
+    c.gather.new.seat.me.0 is c.requires.first c.into_seat-seat.ensures.1
     c.count-made.ensures.counts (search rules) c.gather.ensures.gathers in
     c.into_value.ensures.kind ∙ (all.gathers.same_kind ∙ ap (λ ps. (first_view ps).kind) (sym is))

@@ -19,7 +19,7 @@ join_seat-requires g c = let gathered = c.loop-pass.invariant.3.2 in
     let some_first = gathered_first c.args.seat.now.me.0 c.loop-pass.seat.me.0 c.loop-pass.invariant.3.0 c.requires.first.0 c.requires.first.1 gathered in
     let off = c.into_seat-other.ensures.1 in
     let ours = (All-pop (IsPassOf c.args.self.now) c.loop-pass.passes.items c.pop.new.self.items
-        (Some c.in-Some.pass) c.in-Some.ensures.items c.loop-pass.invariant.2).1 in (
+    (Some c.in-Some.pass) c.in-Some.ensures.items c.loop-pass.invariant.2).1 in (
       search rules,
       c.into_seat-other.ensures.0 ∙ ours,
       ap (λ m. m.1) off,
@@ -32,7 +32,7 @@ join_seat-requires g c = let gathered = c.loop-pass.invariant.3.2 in
 pub loop-pass-preserved : goal.loop-pass-preserved
 loop-pass-preserved g c = let inv = c.loop-pass.invariant in let p = c.in-Some.pass in let now = c.count.ensures.counts in
     let is : c.join_seat.new.seat.me.0 ≡ joined c.loop-pass.seat.me.0 (view p) =
-        ap (λ m. m.0) c.join_seat.ensures.2 ∙ ap (λ (m : Me (Option g.row.S.Denot) View). joined c.loop-pass.seat.me.0 m.0) c.into_seat-other.ensures.1 in
+    ap (λ m. m.0) c.join_seat.ensures.2 ∙ ap (λ (m : Me (Option g.row.S.Denot) View). joined c.loop-pass.seat.me.0 m.0) c.into_seat-other.ensures.1 in
     let same = ap (λ (m : Me (Option g.row.S.Denot) View). m.0) now.0 in (
       search rules,
       ap (λ m. m.1) now.0 ∙ (ap (λ m. m.1) c.join_seat.ensures.2 ∙ inv.1),
