@@ -29,7 +29,7 @@ none_broken false false false false false false p q r s t u h = (refl, refl, ref
 pub address_fault-none : (bytes : List ℕ) → address_fault bytes ≡ None → IsAddress bytes
 address_fault-none bytes none =
     let kept_all = none_broken (breaks bytes NoSlash) (breaks bytes EmptyName) (breaks bytes BadByte) (breaks bytes NameLong) (breaks bytes AddressLong)
-        (breaks bytes TooManyParts) NoSlash EmptyName BadByte NameLong AddressLong TooManyParts none in
+    (breaks bytes TooManyParts) NoSlash EmptyName BadByte NameLong AddressLong TooManyParts none in
     let named = All-none (λ name. nat_lt (length name) 1) (parts_of bytes) kept_all.1 in
     let long = All-none (λ name. nat_lt 63 (length name)) (parts_of bytes) kept_all.3 in
     let size = kept_all.4 in
@@ -48,7 +48,7 @@ IsAddress-read bytes lawful =
     let named = list_any_none (λ name. nat_lt (length name) 1) (parts_of bytes) (λ k d below. (let h = lawful.named k d below in grind (arith, nat_tests))) in
     let spelled = list_any_none (list_any is_bad_byte) (parts_of bytes) lawful.spelled in
     let long = list_any_none (λ name. nat_lt 63 (length name)) (parts_of bytes)
-        (λ k d below. (let h = lawful.names_short k d below in grind (arith, nat_tests))) in
+    (λ k d below. (let h = lawful.names_short k d below in grind (arith, nat_tests))) in
     let size : nat_lt 255 (length bytes) ≡ false = (let h = lawful.short in grind (arith, nat_tests)) in
     let count : nat_lt 16 (length (parts_of bytes)) ≡ false = (let h = lawful.few in grind (arith, nat_tests)) in
     rw (lawful.slash, named, spelled, long, size, count) refl

@@ -128,7 +128,7 @@ after_item-complete : (item : Item) (piece rest : List ℕ) → IsText item piec
 after_item-complete star piece rest text = rests-complete piece rest
 after_item-complete (choice texts) piece rest (k, below, at) =
     flat_map-In (after_text (piece ++ rest)) (slice_split is_comma texts) piece rest (Contains-In (slice_split is_comma texts) piece k below at)
-        (after_text-complete piece rest)
+    (after_text-complete piece rest)
 after_item-complete any [] rest text = absurd (omega arith)
 after_item-complete any (b ∷ []) rest text = inl refl
 after_item-complete any (b ∷ c ∷ piece) rest text = absurd (omega arith)

@@ -27,44 +27,43 @@ match_part-item part item rest name e = ap (λ r. match_read r name) (read_part-
 -- a part that begins with no item matches nothing, but the empty one matches the empty name
 pub match_part-stuck : (part name : List ℕ) → first_item part ≡ None → match_part part name ≡ (length part == 0 && length name == 0)
 match_part-stuck [] [] e = ap (λ r. match_read r []) read_part-nil
-match_part-stuck [] (b ∷ name) e =
-    ap (λ r. match_read r (b ∷ name)) read_part-nil ∙ (let t : (length (b ∷ name) == 0) ≡ false = grind (arith, nat_tests) in sym t)
-match_part-stuck (x ∷ xs) name e =
-    ap (λ r. match_read r name) (read_part-stuck x xs e) ∙ (let t : (length (x ∷ xs) == 0) ≡ false = grind (arith, nat_tests) in rw t refl)
+match_part-stuck [] (b ∷ name) e = ap (λ r. match_read r (b ∷ name)) read_part-nil
+    ∙ (let t : (length (b ∷ name) == 0) ≡ false = grind (arith, nat_tests) in sym t)
+match_part-stuck (x ∷ xs) name e = ap (λ r. match_read r name) (read_part-stuck x xs e)
+    ∙ (let t : (length (x ∷ xs) == 0) ≡ false = grind (arith, nat_tests) in rw t refl)
 
 -- an item that matches single bytes
-pub after_item-byte : (item : Borrowed) (name : List ℕ) → (item ≡ Any) ⊎ (((list : Bor (List ℕ)) × (item ≡ Set list)) ⊎ ((byte : ℕ) × (item ≡ Plain byte)))
+abbrev pub IsSingle : Borrowed → Type 0
+IsSingle item = (item ≡ Any) ⊎ (((list : Bor (List ℕ)) × (item ≡ Set list)) ⊎ ((byte : ℕ) × (item ≡ Plain byte)))
+
+pub after_item-byte : (item : Borrowed) (name : List ℕ) → IsSingle item
     → after_byte (item_of item) name ≡ after_item (item_of item) name
 after_item-byte item name (inl e) = rw e refl
 after_item-byte item name (inr (inl (list, e))) = rw e refl
 after_item-byte item name (inr (inr (byte, e))) = rw e refl
 
 -- a part that begins with an item of single bytes
-byte_item : (part : List ℕ) (item : Borrowed) (others name : List ℕ) → first_item part ≡ Some (item_of item, others)
-    → (item ≡ Any) ⊎ (((list : Bor (List ℕ)) × (item ≡ Set list)) ⊎ ((byte : ℕ) × (item ≡ Plain byte)))
+byte_item : (part : List ℕ) (item : Borrowed) (others name : List ℕ) → first_item part ≡ Some (item_of item, others) → IsSingle item
     → match_part part name ≡ list_any (match_part others) (after_byte (item_of item) name)
-byte_item part item others name found single =
-    match_part-item part (item_of item) others name found ∙ ap (list_any (match_part others)) (sym (after_item-byte item name single))
+byte_item part item others name found single = match_part-item part (item_of item) others name found
+    ∙ ap (list_any (match_part others)) (sym (after_item-byte item name single))
 
 pub own_byte : (part : List ℕ) (item : Borrowed) (others name : List ℕ) (byte : ℕ) (rest : List ℕ) → first_item part ≡ Some (item_of item, others)
-    → (item ≡ Any) ⊎ (((list : Bor (List ℕ)) × (item ≡ Set list)) ⊎ ((own : ℕ) × (item ≡ Plain own))) → name ≡ byte ∷ rest → has_byte (item_of item) byte ≡ true
-        → match_part part name ≡ match_part others rest
+    → IsSingle item → name ≡ byte ∷ rest → has_byte (item_of item) byte ≡ true → match_part part name ≡ match_part others rest
 own_byte part item others name byte rest found single spelled has =
     byte_item part item others name found single ∙ ap (λ n. list_any (match_part others) (after_byte (item_of item) n)) spelled
-        ∙ rw has (go (match_part others rest))
+    ∙ rw has (go (match_part others rest))
   where
     go : (t : Bool) → (t || false) ≡ t
     go true = refl
     go false = refl
 
 pub other_byte : (part : List ℕ) (item : Borrowed) (others name : List ℕ) (byte : ℕ) (rest : List ℕ) → first_item part ≡ Some (item_of item, others)
-    → (item ≡ Any) ⊎ (((list : Bor (List ℕ)) × (item ≡ Set list)) ⊎ ((own : ℕ) × (item ≡ Plain own))) → name ≡ byte ∷ rest
-        → has_byte (item_of item) byte ≡ false → match_part part name ≡ false
+    → IsSingle item → name ≡ byte ∷ rest → has_byte (item_of item) byte ≡ false → match_part part name ≡ false
 other_byte part item others name byte rest found single spelled has =
     byte_item part item others name found single ∙ ap (λ n. list_any (match_part others) (after_byte (item_of item) n)) spelled ∙ rw has refl
 
-pub no_byte : (part : List ℕ) (item : Borrowed) (others name : List ℕ) → first_item part ≡ Some (item_of item, others)
-    → (item ≡ Any) ⊎ (((list : Bor (List ℕ)) × (item ≡ Set list)) ⊎ ((own : ℕ) × (item ≡ Plain own)))
+pub no_byte : (part : List ℕ) (item : Borrowed) (others name : List ℕ) → first_item part ≡ Some (item_of item, others) → IsSingle item
     → name ≡ [] → match_part part name ≡ false
-no_byte part item others name found single empty =
-    byte_item part item others name found single ∙ ap (λ n. list_any (match_part others) (after_byte (item_of item) n)) empty
+no_byte part item others name found single empty = byte_item part item others name found single
+    ∙ ap (λ n. list_any (match_part others) (after_byte (item_of item) n)) empty

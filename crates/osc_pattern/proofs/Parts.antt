@@ -18,22 +18,24 @@ split-cons (x ∷ xs) = go (is_slash x) (split-cons xs) where
   go false (part, parts, e) = (x ∷ part, parts, ap (onto_first x) e)
 
 -- parts are left, and no name
-pub names_ended : (bytes names part rest name : List ℕ) → slice_split is_slash bytes ≡ part ∷ slice_split is_slash rest → slice_split is_slash names ≡ name ∷ []
+pub names_ended : (bytes names part rest name : List ℕ) → slice_split is_slash bytes ≡ part ∷ slice_split is_slash rest
+    → slice_split is_slash names ≡ name ∷ []
     → match_parts (slice_split is_slash bytes) (slice_split is_slash names) ≡ false
 names_ended bytes names part rest name e f =
     let more = split-cons rest in
     rw (e, f) (ap (λ parts. match_part part name && match_parts parts []) more.2 ∙ and-false (match_part part name))
 
 -- names are left, and no part
-pub parts_ended : (bytes names part rest name : List ℕ) → slice_split is_slash bytes ≡ part ∷ [] → slice_split is_slash names ≡ name ∷ slice_split is_slash rest
+pub parts_ended : (bytes names part rest name : List ℕ) → slice_split is_slash bytes ≡ part ∷ []
+    → slice_split is_slash names ≡ name ∷ slice_split is_slash rest
     → match_parts (slice_split is_slash bytes) (slice_split is_slash names) ≡ false
 parts_ended bytes names part rest name e f =
     let more = split-cons rest in
     rw (e, f) (ap (λ others. match_part part name && match_parts [] others) more.2 ∙ and-false (match_part part name))
 
 -- a part is no longer than the parts together
-pub piece_within : (rest : Option (Bor (List ℕ))) (piece whole : ℕ) → MatchOption rest (piece ≡ whole) (λ others. piece + (1 + length others.now) ≡ whole)
-    → piece ≤ whole
+pub piece_within : (rest : Option (Bor (List ℕ))) (piece whole : ℕ)
+    → MatchOption rest (piece ≡ whole) (λ others. piece + (1 + length others.now) ≡ whole) → piece ≤ whole
 piece_within None piece whole size = omega arith
 piece_within (Some others) piece whole size = omega arith
 

@@ -93,9 +93,9 @@ open_place-some (part ∷ parts) at clean e =
       }
       opened items (first ∷ rest) spelled lawful none long (inr slash) place =
           let clear = sym (list_any-append is_slash (flat_map item_text items) (first ∷ rest)) ∙ ap (list_any is_slash) (sym spelled)
-              ∙ All-head HasNoSlash part parts clean in
+          ∙ All-head HasNoSlash part parts clean in
           let none = (neither (is_slash first) (list_any is_slash rest)
-              (neither (list_any is_slash (flat_map item_text items)) (list_any is_slash (first ∷ rest)) clear).1).0 in
+          (neither (list_any is_slash (flat_map item_text items)) (list_any is_slash (first ∷ rest)) clear).1).0 in
           absurd (cc)
 
       go : (r : Result (List Item) ℕ) → IsRead part r → open_in r (length part) (open_place parts) ≡ Some at
@@ -153,7 +153,7 @@ read_part-open (item ∷ items) first rest lawful unshut =
 open_place-open : (before : List (List ℕ)) (items : List Item) (first : ℕ) (rest : List ℕ) (behind : List (List ℕ)) → All IsLawfulPart before
     → list_all is_item items ≡ true → IsUnclosed first rest
     → open_place (before ++ (flat_map item_text items ++ first ∷ rest) ∷ behind)
-        ≡ Some (length (flat_map (λ part. 47 ∷ part) before) + (1 + length (flat_map item_text items)))
+    ≡ Some (length (flat_map (λ part. 47 ∷ part) before) + (1 + length (flat_map item_text items)))
 open_place-open [] items first rest behind whole lawful unshut = rw (read_part-open items first rest lawful unshut) (ap Some (omega arith))
 open_place-open (part ∷ before) items first rest behind whole lawful unshut =
     let head = All-head IsLawfulPart part before whole in
@@ -163,7 +163,7 @@ open_place-open (part ∷ before) items first rest behind whole lawful unshut =
 IsOpenAt-read : (parts : List (List ℕ)) (at : ℕ) → IsOpenAt parts at → open_place parts ≡ Some at
 IsOpenAt-read parts at there =
     ap open_place there.cut ∙ open_place-open there.before there.items there.first there.rest there.behind there.whole there.lawful there.unclosed
-        ∙ ap Some (sym there.place)
+    ∙ ap Some (sym there.place)
 
 position-None : (p : ℕ → Bool) (xs : List ℕ) → list_any p xs ≡ false → position p xs ≡ None
 position-None p xs none = go (nat_lt (position_or_len p xs) (length xs)) refl where

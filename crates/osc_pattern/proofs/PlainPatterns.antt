@@ -62,9 +62,11 @@ plain_parts (part ∷ parts) (name ∷ names) special slash m =
 
 pub own_parts : (parts : List (List ℕ)) → All HasNoSpecial parts → All HasNoSlash parts → MatchParts parts parts
 own_parts [] special slash = tt
-own_parts (part ∷ parts) special slash =
-    (own_name part (All-head HasNoSpecial part parts special) (All-head HasNoSlash part parts slash), own_parts parts (All-tail HasNoSpecial part parts special)
-        (All-tail HasNoSlash part parts slash))
+own_parts (part ∷ parts) special slash = (
+  own_name part (All-head HasNoSpecial part parts special) (All-head HasNoSlash part parts slash),
+  own_parts parts (All-tail HasNoSpecial part parts special)
+      (All-tail HasNoSlash part parts slash),
+)
 
 onto_no_special : (x : ℕ) (parts : List (List ℕ)) → is_special x ≡ false → All HasNoSpecial parts → All HasNoSpecial (onto_first x parts)
 onto_no_special x [] other all = let alone : HasNoSpecial (x ∷ []) = rw other refl in All-cons HasNoSpecial (x ∷ []) [] alone all

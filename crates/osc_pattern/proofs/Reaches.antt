@@ -5,13 +5,13 @@ use Rattle.std.specs.Int.RustNames.{bit_or}
 use Rattle.std.specs.List.{list_any, flat_map}
 use Rattle.std.specs.Str.{bytes_eq}
 use Rattle.std.proofs.Math.ListN.{get_or, length-append}
-use Rattle.std.proofs.lemmas.List.{take-append-drop, take_rest, drop-drop, length-drop}
+use Rattle.std.proofs.lemmas.List.{length-take-le, take-append-drop, take_rest, drop-drop, length-drop}
 use Rattle.std.proofs.lemmas.List.Folds.{list_any-append}
 use native.Mathlib.Nat.{add-mul, mul-add}
 use Rattle.std.proofs.lemmas.Nat.Bits.{bit_at_set_same, bit_at_set_other}
 use Rattle.std.proofs.lemmas.Bool.Decides.{nat_tests}
 use Rattle.osc_pattern.specs.Items.{Item, any, star, set, choice, plain, item_text}
-use Rattle.osc_pattern.specs.Cuts.{has_byte, after_byte, after_text, after_item, any_rest}
+use Rattle.osc_pattern.specs.Cuts.{rests, has_byte, after_byte, after_text, after_item, any_rest}
 use Rattle.osc_pattern.specs.Reading.{first_item, match_part}
 use Rattle.osc_pattern.proofs.Readings.{FirstItem, first_item-found}
 use Rattle.osc_pattern.proofs.Matches.{match_part-item, match_part-stuck}
@@ -87,12 +87,7 @@ pub any_rest-added : (test : List ℕ → Bool) (old new : ℕ → Bool) (place 
     → any_rest test new 0 name ≡ (any_rest test old 0 name || test (drop place name))
 any_rest-added test old new place name added within =
     subst (λ whole. any_rest test new 0 whole ≡ (any_rest test old 0 whole || test (drop place name))) (take-append-drop place name)
-    (any_rest-within test old new place added (take place name) (drop place name) 0 (omega (arith, length-take-within place name within)))
-  where
-    length-take-within : (n : ℕ) (xs : List ℕ) → n ≤ length xs → length (take n xs) ≡ n
-    length-take-within zero xs h = refl
-    length-take-within (suc n) [] h = absurd (omega arith)
-    length-take-within (suc n) (x ∷ xs) h = omega (arith, length-take-within n xs (omega arith))
+    (any_rest-within test old new place added (take place name) (drop place name) 0 (omega (arith, length-take-le place name within)))
 
 -- tests that agree
 pub any_rest-same : (f g : List ℕ → Bool) → ((rest : List ℕ) → f rest ≡ g rest) → (places : ℕ → Bool) (at : ℕ) (name : List ℕ)
@@ -103,8 +98,8 @@ any_rest-same f g same places at (byte ∷ name) = rw (same (byte ∷ name), any
 -- the start: the first place alone
 pub any_rest-first : (test : List ℕ → Bool) (none first : ℕ → Bool) → ((place : ℕ) → none place ≡ false) → Added 0 none first → (name : List ℕ)
     → any_rest test first 0 name ≡ test name
-any_rest-first test none first empty added name =
-    any_rest-added test none first 0 name added (omega arith) ∙ ap (λ t. t || test name) (any_rest-none test none empty 0 name)
+any_rest-first test none first empty added name = any_rest-added test none first 0 name added (omega arith)
+    ∙ ap (λ t. t || test name) (any_rest-none test none empty 0 name)
 
 -- the end: the last place
 and_true : (t : Bool) → (t && true) ≡ t
@@ -124,7 +119,7 @@ any_rest-last places at [] = and_true (places at) ∙ (let e : at ≡ at + 0 = o
 any_rest-last places at (byte ∷ name) =
     let filled : (length (byte ∷ name) == 0) ≡ false = grind (arith, nat_tests) in
     rw filled (rw (and_false (places at))
-        (any_rest-last places (at + 1) name ∙ (let e : at + 1 + length name ≡ at + length (byte ∷ name) = omega arith in ap places e)))
+    (any_rest-last places (at + 1) name ∙ (let e : at + 1 + length name ≡ at + length (byte ∷ name) = omega arith in ap places e)))
 
 -- where a part begins with no item, the last place decides
 pub any_rest-end : (part : List ℕ) (places : ℕ → Bool) (name : List ℕ) → first_item part ≡ None
@@ -132,9 +127,9 @@ pub any_rest-end : (part : List ℕ) (places : ℕ → Bool) (name : List ℕ) �
 any_rest-end part places name e =
     any_rest-same (match_part part) (λ rest. length part == 0 && length rest == 0) (λ rest. match_part-stuck part rest e) places 0 name
     ∙ go (length part == 0) where
-  go : (t : Bool) → any_rest (λ rest. t && length rest == 0) places 0 name ≡ (t && places (length name))
-  go true = any_rest-last places 0 name ∙ (let e : 0 + length name ≡ length name = omega arith in ap places e)
-  go false = any_rest-never places 0 name
+      go : (t : Bool) → any_rest (λ rest. t && length rest == 0) places 0 name ≡ (t && places (length name))
+      go true = any_rest-last places 0 name ∙ (let e : 0 + length name ≡ length name = omega arith in ap places e)
+      go false = any_rest-never places 0 name
 
 -- one item of a part
 pub any_rest-item : (part : List ℕ) (item : Item) (others : List ℕ) (places : ℕ → Bool) (name : List ℕ) → first_item part ≡ Some (item, others)
@@ -154,11 +149,14 @@ pub drop-next : (place : ℕ) (name : List ℕ) (byte : ℕ) (after : List ℕ) 
 drop-next place name byte after e = sym (drop-drop 1 place name) ∙ ap (drop 1) e
 
 -- one place has been gone through, and the rest of the name is next
-pub any_rest-next : (test : List ℕ → Bool) (places : ℕ → Bool) (at byte : ℕ) (after : List ℕ) (done more whole : Bool)
-    → (done || any_rest test places at (byte ∷ after)) ≡ whole → more ≡ (done || (places at && test (byte ∷ after)))
+pub any_rest-next : (test : List ℕ → Bool) (places : ℕ → Bool) (at : ℕ) (rest : List ℕ) (byte : ℕ) (after : List ℕ) (done more whole : Bool)
+    → rest ≡ byte ∷ after → (done || any_rest test places at rest) ≡ whole → more ≡ (done || (places at && test (byte ∷ after)))
     → (more || any_rest test places (at + 1) after) ≡ whole
-any_rest-next test places at byte after done more whole so_far e =
-    ap (λ t. t || any_rest test places (at + 1) after) e ∙ sym (or_assoc done (places at && test (byte ∷ after)) (any_rest test places (at + 1) after)) ∙ so_far
+any_rest-next test places at rest byte after done more whole spelled so_far e =
+    ap (λ t. t || any_rest test places (at + 1) after) e
+    ∙ sym (or_assoc done (places at && test (byte ∷ after)) (any_rest test places (at + 1) after))
+    ∙ sym (ap (λ left. done || any_rest test places at left) spelled)
+    ∙ so_far
 
 pub not_reached : (done here test : Bool) → here ≡ false → done ≡ (done || (here && test))
 not_reached true here test e = refl
@@ -172,9 +170,10 @@ or_false false = refl
 pub any_rest-byte : (item : Item) (test : List ℕ → Bool) (old new : ℕ → Bool) (here : Bool) (place : ℕ) (name : List ℕ) (byte : ℕ) (after : List ℕ)
     → drop (place + 1) name ≡ after → place + 1 ≤ length name
     → here ≡ true → has_byte item byte ≡ true → Added (place + 1) old new
-        → any_rest test new 0 name ≡ (any_rest test old 0 name || (here && list_any test (after_byte item (byte ∷ after))))
+    → any_rest test new 0 name ≡ (any_rest test old 0 name || (here && list_any test (after_byte item (byte ∷ after))))
 any_rest-byte item test old new here place name byte after left within reached has added =
-    any_rest-added test old new (place + 1) name added within ∙ rw (reached, has, left) (ap (λ t. any_rest test old 0 name || t) (sym (or_false (test after))))
+    any_rest-added test old new (place + 1) name added within
+    ∙ rw (reached, has, left) (ap (λ t. any_rest test old 0 name || t) (sym (or_false (test after))))
 
 pub other_byte : (item : Item) (test : List ℕ → Bool) (done here : Bool) (byte : ℕ) (after : List ℕ) → has_byte item byte ≡ false
     → done ≡ (done || (here && list_any test (after_byte item (byte ∷ after))))
@@ -198,8 +197,8 @@ first_and_rest [] d some = absurd (omega arith)
 first_and_rest (x ∷ xs) d some = ap (λ rest. x ∷ rest) (sym (take_rest (x ∷ xs) 1))
 
 -- a star goes on from the first place
-pub star_place : (test : List ℕ → Bool) (old new : ℕ → Bool) (begun : Bool) (place : ℕ) (name rest : List ℕ) → drop place name ≡ rest → place ≤ length name
-    → begun ≡ true → Added place old new
+pub star_place : (test : List ℕ → Bool) (old new : ℕ → Bool) (begun : Bool) (place : ℕ) (name rest : List ℕ) → drop place name ≡ rest
+    → place ≤ length name → begun ≡ true → Added place old new
     → any_rest test new 0 name ≡ (any_rest test old 0 name || (begun && test rest))
 star_place test old new begun place name rest left within e added = any_rest-added test old new place name added within ∙ rw (e, left) refl
 
@@ -215,25 +214,37 @@ by_star false false true m false true = refl
 by_star false false false m false true = refl
 by_star false false l m false false = refl
 
-pub star_next : (n t l m b r n' b' whole : Bool) → b' ≡ (b || r) → n' ≡ (n || (b' && t)) → (n || ((b && (t || l)) || ((r && (t || l)) || m))) ≡ whole
-    → (n' || ((b' && l) || m)) ≡ whole
-star_next n t l m b r n' b' whole eb en so_far = rw (en, eb) (by_star n t l m b r ∙ so_far)
+-- what a star's loop keeps: the places that are gone through, and what is left from this one on
+abbrev pub StarLeft : (List ℕ → Bool) → (ℕ → Bool) → Bool → Bool → ℕ → List ℕ → Bool → Type 0
+StarLeft test places done begun at rest whole =
+    (done || ((begun && list_any test (rests rest)) || any_rest (λ left. list_any test (rests left)) places at rest)) ≡ whole
 
-pub star_end : (n t b r n' b' whole : Bool) → b' ≡ (b || r) → n' ≡ (n || (b' && t)) → (n || ((b && (t || false)) || (r && (t || false)))) ≡ whole → n' ≡ whole
-star_end n t b r n' b' whole eb en so_far = rw (en, eb) (go n t b r ∙ so_far) where
-  go : (n t b r : Bool) → (n || ((b || r) && t)) ≡ (n || ((b && (t || false)) || (r && (t || false))))
-  go true t b r = refl
-  go false true true r = refl
-  go false true false r = refl
-  go false false true true = refl
-  go false false true false = refl
-  go false false false true = refl
-  go false false false false = refl
+pub star_next : (test : List ℕ → Bool) (places : ℕ → Bool) (at : ℕ) (rest : List ℕ) (byte : ℕ) (after : List ℕ) (n b n' b' whole : Bool)
+    → rest ≡ byte ∷ after → b' ≡ (b || places at) → n' ≡ (n || (b' && test rest)) → StarLeft test places n b at rest whole
+    → StarLeft test places n' b' (at + 1) after whole
+star_next test places at rest byte after n b n' b' whole spelled eb en so_far =
+    rw (en, eb, spelled)
+    (by_star n (test (byte ∷ after)) (list_any test (rests after)) (any_rest (λ left. list_any test (rests left)) places (at + 1) after) b (places at)
+    ∙ subst (λ left. StarLeft test places n b at left whole) spelled so_far)
+
+pub star_end : (test : List ℕ → Bool) (places : ℕ → Bool) (at : ℕ) (rest : List ℕ) (n b n' b' whole : Bool)
+    → rest ≡ [] → b' ≡ (b || places at) → n' ≡ (n || (b' && test rest)) → StarLeft test places n b at rest whole → n' ≡ whole
+star_end test places at rest n b n' b' whole empty eb en so_far =
+    rw (en, eb, empty) (go n (test []) b (places at) ∙ subst (λ left. StarLeft test places n b at left whole) empty so_far)
+  where
+    go : (n t b r : Bool) → (n || ((b || r) && t)) ≡ (n || ((b && (t || false)) || (r && (t || false))))
+    go true t b r = refl
+    go false true true r = refl
+    go false true false r = refl
+    go false false true true = refl
+    go false false true false = refl
+    go false false false true = refl
+    go false false false false = refl
 
 -- a text that the rest of the name begins with
 text_place : (test : List ℕ → Bool) (old new : ℕ → Bool) (place : ℕ) (name text : List ℕ) → place ≤ length name → Added (place + length text) old new
     → length text ≤ length (drop place name) → bytes_eq (take (length text) (drop place name)) text ≡ true
-        → any_rest test new 0 name ≡ (any_rest test old 0 name || list_any test (after_text (drop place name) text))
+    → any_rest test new 0 name ≡ (any_rest test old 0 name || list_any test (after_text (drop place name) text))
 text_place test old new place name text within added fits begins =
     any_rest-added test old new (place + length text) name added (omega (arith, length-drop place name))
     ∙ rw begins (rw (drop-drop (length text) place name) (ap (λ t. any_rest test old 0 name || t) (sym (or_false (test (drop (place + length text) name))))))
@@ -241,10 +252,10 @@ text_place test old new place name text within added fits begins =
 pub own_text : (test : List ℕ → Bool) (old new : ℕ → Bool) (place : ℕ) (name text left : List ℕ) → left ≡ drop place name → place ≤ length name
     → Added (place + length text) old new
     → length text ≤ length left → bytes_eq (take (length text) left) text ≡ true
-        → any_rest test new 0 name ≡ (any_rest test old 0 name || list_any test (after_text left text))
+    → any_rest test new 0 name ≡ (any_rest test old 0 name || list_any test (after_text left text))
 own_text test old new place name text left whole within added =
     subst (λ rest. length text ≤ length rest → bytes_eq (take (length text) rest) text ≡ true
-        → any_rest test new 0 name ≡ (any_rest test old 0 name || list_any test (after_text rest text))) (sym whole)
+    → any_rest test new 0 name ≡ (any_rest test old 0 name || list_any test (after_text rest text))) (sym whole)
     (text_place test old new place name text within added)
 
 pub other_text : (test : List ℕ → Bool) (done : Bool) (left text : List ℕ) → bytes_eq (take (length text) left) text ≡ false

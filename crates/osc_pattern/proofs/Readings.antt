@@ -46,30 +46,30 @@ first_item-found (x ∷ xs) = by_any (x == 63) refl where
 
   by_brace : (t : Bool) → (x == 123) ≡ t → (x == 63) ≡ false → (x == 42) ≡ false → (x == 91) ≡ false
       → FirstItem (x ∷ xs) (if t then option_map (λ cut. (choice cut.0, cut.1)) (cut_at is_choice_end xs)
-          else (if is_slash x then None else Some (plain x, xs)))
+      else (if is_slash x then None else Some (plain x, xs)))
   by_brace true d a b c = by_choice (cut_at is_choice_end xs) (cut_at-cuts is_choice_end xs) (by_eq x 123 d)
   by_brace false d a b c = by_slash (is_slash x) refl a b c d
 
   by_bracket : (t : Bool) → (x == 91) ≡ t → (x == 63) ≡ false → (x == 42) ≡ false
       → FirstItem (x ∷ xs) (if t then option_map (λ cut. (set cut.0, cut.1)) (cut_at is_list_end xs)
-          else (if x == 123 then option_map (λ cut. (choice cut.0, cut.1)) (cut_at is_choice_end xs) else (if is_slash x then None else Some (plain x, xs))))
+      else (if x == 123 then option_map (λ cut. (choice cut.0, cut.1)) (cut_at is_choice_end xs) else (if is_slash x then None else Some (plain x, xs))))
   by_bracket true c a b = by_set (cut_at is_list_end xs) (cut_at-cuts is_list_end xs) (by_eq x 91 c)
   by_bracket false c a b = by_brace (x == 123) refl a b c
 
   by_star : (t : Bool) → (x == 42) ≡ t → (x == 63) ≡ false
       → FirstItem (x ∷ xs)
-          (if t then Some (star, xs)
-          else (if x == 91 then option_map (λ cut. (set cut.0, cut.1)) (cut_at is_list_end xs)
-          else (if x == 123 then option_map (λ cut. (choice cut.0, cut.1)) (cut_at is_choice_end xs) else (if is_slash x then None else Some (plain x, xs)))))
+      (if t then Some (star, xs)
+      else (if x == 91 then option_map (λ cut. (set cut.0, cut.1)) (cut_at is_list_end xs)
+      else (if x == 123 then option_map (λ cut. (choice cut.0, cut.1)) (cut_at is_choice_end xs) else (if is_slash x then None else Some (plain x, xs)))))
   by_star true b a = (ap (λ y. y ∷ xs) (by_eq x 42 b), refl)
   by_star false b a = by_bracket (x == 91) refl a b
 
   by_any : (t : Bool) → (x == 63) ≡ t
       → FirstItem (x ∷ xs)
-          (if t then Some (any, xs)
-          else (if x == 42 then Some (star, xs)
-          else (if x == 91 then option_map (λ cut. (set cut.0, cut.1)) (cut_at is_list_end xs)
-          else (if x == 123 then option_map (λ cut. (choice cut.0, cut.1)) (cut_at is_choice_end xs) else (if is_slash x then None else Some (plain x, xs))))))
+      (if t then Some (any, xs)
+      else (if x == 42 then Some (star, xs)
+      else (if x == 91 then option_map (λ cut. (set cut.0, cut.1)) (cut_at is_list_end xs)
+      else (if x == 123 then option_map (λ cut. (choice cut.0, cut.1)) (cut_at is_choice_end xs) else (if is_slash x then None else Some (plain x, xs))))))
   by_any true a = (ap (λ y. y ∷ xs) (by_eq x 63 a), refl)
   by_any false a = by_star (x == 42) refl a
 
@@ -121,11 +121,11 @@ read_within-enough zero n (x ∷ xs) l h = absurd (omega arith)
 read_within-enough (suc m) zero (x ∷ xs) l h = absurd (omega arith)
 read_within-enough (suc m) (suc n) (x ∷ xs) l h =
     ap with_first (go (first_item (x ∷ xs)) (first_item-shorter (x ∷ xs)) (λ part. read_within-enough m n part)) where
-  go : (o : Option (Item × List ℕ)) → Shorter (length (x ∷ xs)) o
-      → ((part : List ℕ) → length part ≤ m → length part ≤ n → read_within m part ≡ read_within n part)
-      → option_map {U = Item × Result (List Item) ℕ} (λ cut. (cut.0, read_within m cut.1)) o ≡ option_map (λ cut. (cut.0, read_within n cut.1)) o
-  go None short same = refl
-  go (Some (item, rest)) short same = ap (λ r. Some (item, r)) (same rest (omega arith) (omega arith))
+      go : (o : Option (Item × List ℕ)) → Shorter (length (x ∷ xs)) o
+          → ((part : List ℕ) → length part ≤ m → length part ≤ n → read_within m part ≡ read_within n part)
+          → option_map {U = Item × Result (List Item) ℕ} (λ cut. (cut.0, read_within m cut.1)) o ≡ option_map (λ cut. (cut.0, read_within n cut.1)) o
+      go None short same = refl
+      go (Some (item, rest)) short same = ap (λ r. Some (item, r)) (same rest (omega arith) (omega arith))
 
 pub read_part-nil : read_part [] ≡ Ok []
 unfolding read_part
@@ -137,7 +137,7 @@ unfolding read_part
 read_part-first x xs = ap with_first (go (first_item (x ∷ xs)) (first_item-shorter (x ∷ xs))) where
   go : (o : Option (Item × List ℕ)) → Shorter (length (x ∷ xs)) o
       → option_map {U = Item × Result (List Item) ℕ} (λ cut. (cut.0, read_within (length xs) cut.1)) o
-          ≡ option_map (λ cut. (cut.0, read_within (length cut.1) cut.1)) o
+      ≡ option_map (λ cut. (cut.0, read_within (length cut.1) cut.1)) o
   go None short = refl
   go (Some (item, rest)) short = ap (λ r. Some (item, r)) (read_within-enough (length xs) (length rest) rest (omega arith) (omega arith))
 
@@ -190,11 +190,11 @@ read_within-read most [] short = record { spelled = refl; lawful = refl }
 read_within-read zero (x ∷ xs) short = absurd (omega arith)
 read_within-read (suc most) (x ∷ xs) short =
     go (first_item (x ∷ xs)) refl (first_item-found (x ∷ xs)) (first_item-shorter (x ∷ xs)) (read_within-read most) where
-  go : (o : Option (Item × List ℕ)) → first_item (x ∷ xs) ≡ o → FirstItem (x ∷ xs) o → Shorter (length (x ∷ xs)) o
-      → ((part : List ℕ) → length part ≤ most → IsRead part (read_within most part))
-      → IsRead (x ∷ xs) (with_first (option_map {U = Item × Result (List Item) ℕ} (λ cut. (cut.0, read_within most cut.1)) o))
-  go None stuck found shorter more = ([], x ∷ xs, refl, refl, refl, stuck, omega arith)
-  go (Some (item, rest)) e found shorter more = read_first (x ∷ xs) item rest found.0 found.1 (read_within most rest) (more rest (omega arith))
+      go : (o : Option (Item × List ℕ)) → first_item (x ∷ xs) ≡ o → FirstItem (x ∷ xs) o → Shorter (length (x ∷ xs)) o
+          → ((part : List ℕ) → length part ≤ most → IsRead part (read_within most part))
+          → IsRead (x ∷ xs) (with_first (option_map {U = Item × Result (List Item) ℕ} (λ cut. (cut.0, read_within most cut.1)) o))
+      go None stuck found shorter more = ([], x ∷ xs, refl, refl, refl, stuck, omega arith)
+      go (Some (item, rest)) e found shorter more = read_first (x ∷ xs) item rest found.0 found.1 (read_within most rest) (more rest (omega arith))
 
 pub read_part-read : (part : List ℕ) → IsRead part (read_part part)
 unfolding read_part

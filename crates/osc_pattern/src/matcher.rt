@@ -1,12 +1,12 @@
-//! The matcher. It takes one item of a part after another, and keeps the places of the name that they reach.
+//! The matcher: one item of a part after another, and the places of the name that they reach.
 ghost use Rattle.osc_pattern.specs.declared.limits.TheConstants.{MAX_NAME};
 ghost use Rattle.std.specs.Prelude.{◌≡◌, ◌≤◌, ◌<◌, ◌+◌, ◌*◌, ◌||◌, ℕ, Bool, IsTrue, List, length, take, drop};
 ghost use Rattle.std.specs.List.{flat_map, list_any, slice_split};
 ghost use Rattle.std.specs.Str.{bytes_eq};
 ghost use Rattle.osc_pattern.specs.Items.{is_comma, item_text};
-ghost use Rattle.osc_pattern.specs.Cuts.{rests, after_text, after_byte, after_item, any_rest};
+ghost use Rattle.osc_pattern.specs.Cuts.{rests, after_text, after_byte, after_item};
 ghost use Rattle.osc_pattern.specs.Reading.{match_part};
-ghost use Rattle.osc_pattern.specs.Views.{item_of, is_place_of};
+ghost use Rattle.osc_pattern.specs.Views.{item_of, passes};
 
 use crate::cut::first_piece;
 use crate::item::{Item, first_item, has_byte};
@@ -71,9 +71,9 @@ fn places_after<L: Ledger>(
     steps: &mut Steps<L>,
 ) -> Places
     requires { length name.now ≤ MAX_NAME }
-    ensures value { (test : List ℕ → Bool) → any_rest test (is_place_of result) 0 name.now
-        ≡ any_rest (λ rest. list_any test (after_item (item_of item.entry) rest))
-        (is_place_of reached.now) 0 name.now }
+    ensures value { (test : List ℕ → Bool) → passes test result name.now
+        ≡ passes (λ rest. list_any test (after_item (item_of item.entry) rest)) reached.now
+        name.now }
     ensures counted { steps.old ≤ steps.new }
     ensures bounded { steps.new
         ≤ steps.old + (length name.now + 1) * length (item_text (item_of item.entry)) }
@@ -93,9 +93,9 @@ fn after_byte<L: Ledger>(
     steps: &mut Steps<L>,
 ) -> Places
     requires { length name.now ≤ MAX_NAME }
-    ensures value { (test : List ℕ → Bool) → any_rest test (is_place_of result) 0 name.now
-        ≡ any_rest (λ rest. list_any test (after_byte (item_of item.entry) rest))
-        (is_place_of reached.now) 0 name.now }
+    ensures value { (test : List ℕ → Bool) → passes test result name.now
+        ≡ passes (λ rest. list_any test (after_byte (item_of item.entry) rest)) reached.now
+        name.now }
     ensures counted { steps.old ≤ steps.new }
     ensures bounded { steps.new
         ≤ steps.old + (length name.now + 1) * length (item_text (item_of item.entry)) }
@@ -119,8 +119,8 @@ fn after_byte<L: Ledger>(
 /// The first of the places, and all after it.
 fn after_star<L: Ledger>(reached: &Places, name: &[u8], steps: &mut Steps<L>) -> Places
     requires { length name.now ≤ MAX_NAME }
-    ensures value { (test : List ℕ → Bool) → any_rest test (is_place_of result) 0 name.now
-        ≡ any_rest (λ rest. list_any test (rests rest)) (is_place_of reached.now) 0 name.now }
+    ensures value { (test : List ℕ → Bool) → passes test result name.now
+        ≡ passes (λ rest. list_any test (rests rest)) reached.now name.now }
     ensures counted { steps.old ≤ steps.new }
     ensures bounded { steps.new ≤ steps.old + (length name.now + 1) }
 {
@@ -150,10 +150,10 @@ fn after_choice<L: Ledger>(
     steps: &mut Steps<L>,
 ) -> Places
     requires { length name.now ≤ MAX_NAME }
-    ensures value { (test : List ℕ → Bool) → any_rest test (is_place_of result) 0 name.now
-        ≡ any_rest (λ rest. list_any test
+    ensures value { (test : List ℕ → Bool) → passes test result name.now
+        ≡ passes (λ rest. list_any test
         (flat_map (after_text rest) (slice_split is_comma texts.now)))
-        (is_place_of reached.now) 0 name.now }
+        reached.now name.now }
     ensures counted { steps.old ≤ steps.new }
     ensures bounded { steps.new ≤ steps.old + (length name.now + 1) * (length texts.now + 2) }
 {
@@ -183,10 +183,9 @@ fn add_texts<L: Ledger>(
 )
     requires name { length name.now ≤ MAX_NAME }
     requires place { place ≤ length name.now }
-    ensures value { (test : List ℕ → Bool) → any_rest test (is_place_of next.new) 0 name.now
-        ≡ (any_rest test (is_place_of next.old) 0 name.now
-        || list_any test
-        (flat_map (after_text (drop place name.now)) (slice_split is_comma texts.now))) }
+    ensures value { (test : List ℕ → Bool) → passes test next.new name.now
+        ≡ (passes test next.old name.now
+        || list_any test (flat_map (after_text (drop place name.now)) (slice_split is_comma texts.now))) }
     ensures counted { steps.old ≤ steps.new }
     ensures bounded { steps.new ≤ steps.old + (length texts.now + 1) }
 {

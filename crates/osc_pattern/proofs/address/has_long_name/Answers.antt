@@ -9,5 +9,5 @@ pub returns : goal.returns
 returns c =
     any_from_yields_List (λ name. nat_lt 63 (length name)) _ _ _ c.any.ensures.ran
     (YieldsList-from_slice_split _ is_slash c.args.names.now c.split.ensures.rest c.split.ensures.done c.split.ensures.closure
-        (λ x b q k. search (rules, tests)))
+    (λ x b q k. search (rules, tests)))
     (λ x b q k. search (rules, tests))

@@ -17,7 +17,7 @@ returns-in-None-clause-value c =
     let rest = c.loop-rest.rest.now in
     let filled : 1 ≤ length rest = grind (arith, nat_tests) in
     sym (c.loop-rest.invariant.0 ∙ ap (option_map (λ at. (whole - length rest) + at)) (read_part-here rest (sym c.in-None.ensures.value) filled)
-        ∙ ap Some (omega arith))
+    ∙ ap Some (omega arith))
 
 pub returns-clause-value : goal.returns-clause-value
 returns-clause-value c =

@@ -1,16 +1,16 @@
-use Rattle.std.proofs.Common.{◌≡◌, ◌≤◌, ◌+◌, ◌||◌, ◌&&◌, ℕ, Bool, List, ◌∷◌, length, take, drop, ◌-◌, refl, sym, ap, subst, ◌∙◌, arith}
+use Rattle.std.proofs.Common.{◌≡◌, ◌≤◌, ◌+◌, ◌||◌, ◌&&◌, ℕ, Bool, List, ◌∷◌, length, take, drop, ◌-◌, refl, sym, ap, ◌∙◌, arith}
 use Rattle.std.proofs.Math.ListN.{get_or}
 use Rattle.std.specs.List.{list_any}
 use Rattle.osc_pattern.specs.Items.{item_text}
-use Rattle.osc_pattern.specs.Cuts.{after_byte, any_rest}
-use Rattle.osc_pattern.specs.Views.{item_of, is_place_of}
+use Rattle.osc_pattern.specs.Cuts.{after_byte}
+use Rattle.osc_pattern.specs.Views.{item_of, is_place_of, passes}
 use Rattle.osc_pattern.proofs.Reaches.{any_rest-none, any_rest-next, any_rest-byte, not_reached, other_byte, item_text-some, next_row, first_and_rest, drop-next}
 use Rattle.osc_pattern.proofs.matcher.after_byte.Goals.{then-has+then-has_byte, else-has, else-has-via-then-has+else-has_byte, else-has-via-else-has}
 use Rattle.osc_pattern.proofs.matcher.after_byte.Goals as goal
 
 pub loop-rest-init : goal.loop-rest-init
 loop-rest-init g c = (
-  λ test. ap (λ t. t || any_rest (λ rest. list_any test (after_byte (item_of c.args.item) rest)) (is_place_of c.args.reached.now) 0 c.args.name.now)
+  λ test. ap (λ t. t || passes (λ rest. list_any test (after_byte (item_of c.args.item) rest)) c.args.reached.now c.args.name.now)
       (any_rest-none test (is_place_of c.none-next.result) c.none-next.ensures 0 c.args.name.now),
   refl,
   omega arith,
@@ -31,20 +31,20 @@ loop-rest-preserved g c =
     let size = c.loop-rest.invariant.2 in
     let some = c.in-len1-up.len_at_least in
     let within : place + 1 ≤ length name = omega arith in
-    let here = is_place_of c.args.reached.now place in
-    let added : (test : List ℕ → Bool) → any_rest test (is_place_of c.if-has.next) 0 name
-        ≡ (any_rest test (is_place_of c.loop-rest.next) 0 name || (here && list_any test (after_byte item (byte ∷ after)))) = λ test.
+    let places = is_place_of c.args.reached.now in
+    let here = places place in
+    let before : (List ℕ → Bool) → Bool = λ test. passes test c.loop-rest.next name in
+    let added : (test : List ℕ → Bool) → passes test c.if-has.next name ≡ (before test || (here && list_any test (after_byte item (byte ∷ after)))) = λ test.
     elim c.if-has.branch [
       | then-has+then-has_byte w ↦
-          ap (λ p. any_rest test (is_place_of p) 0 name) w.next-is
+          ap (λ p. passes test p name) w.next-is
           ∙ any_rest-byte item test (is_place_of c.loop-rest.next) (is_place_of w.add.new.self) here place name byte after left within
-              (sym c.has.ensures ∙ w.if-has.true) (sym w.has_byte.ensures.value ∙ w.if-has_byte.true) w.add.ensures
+          (sym c.has.ensures ∙ w.if-has.true) (sym w.has_byte.ensures.value ∙ w.if-has_byte.true) w.add.ensures
       | else-has w ↦
-          ap (λ p. any_rest test (is_place_of p) 0 name) w.next-is
+          ap (λ p. passes test p name) w.next-is
           ∙ elim w.else-has.branch [
-            | else-has-via-then-has+else-has_byte u ↦ other_byte item test (any_rest test (is_place_of c.loop-rest.next) 0 name) here byte after
-                (sym u.has_byte.ensures.value ∙ u.if-has_byte.false)
-            | else-has-via-else-has u ↦ not_reached (any_rest test (is_place_of c.loop-rest.next) 0 name) here _ (sym c.has.ensures ∙ u.if-has.false)
+            | else-has-via-then-has+else-has_byte u ↦ other_byte item test (before test) here byte after (sym u.has_byte.ensures.value ∙ u.if-has_byte.false)
+            | else-has-via-else-has u ↦ not_reached (before test) here _ (sym c.has.ensures ∙ u.if-has.false)
           ]
     ] in
     let ticked = c.tick.ensures in
@@ -66,11 +66,7 @@ loop-rest-preserved g c =
           ]
     ] in
     let rows = next_row place (length (item_text item)) in (
-      λ test. any_rest-next (λ rest. list_any test (after_byte item rest)) (is_place_of c.args.reached.now) place byte after _ _ _
-          (subst (λ r.
-          (any_rest test (is_place_of c.loop-rest.next) 0 name
-          || any_rest (λ rest. list_any test (after_byte item rest)) (is_place_of c.args.reached.now) place r)
-          ≡ any_rest (λ rest. list_any test (after_byte item rest)) (is_place_of c.args.reached.now) 0 name) spelled (c.loop-rest.invariant.0 test))
+      λ test. any_rest-next (λ rest. list_any test (after_byte item rest)) places place rest byte after (before test) _ _ spelled (c.loop-rest.invariant.0 test)
           (added test),
       left,
       omega arith,

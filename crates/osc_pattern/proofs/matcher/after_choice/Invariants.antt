@@ -2,15 +2,13 @@ use Rattle.std.proofs.Common.{◌≡◌, ◌≤◌, ◌+◌, ◌*◌, ◌||◌, 
 use Rattle.std.specs.List.{flat_map, list_any, slice_split}
 use Rattle.osc_pattern.specs.Items.{is_comma}
 use Rattle.osc_pattern.specs.Cuts.{after_text, any_rest}
-use Rattle.osc_pattern.specs.Views.{is_place_of}
+use Rattle.osc_pattern.specs.Views.{is_place_of, passes}
 use Rattle.osc_pattern.proofs.matcher.after_choice.Given as goal
 
 abbrev pub invariant-loop-next : goal.invariant-loop-next
 invariant-loop-next g l =
-    ((test : List ℕ → Bool)
-        → (any_rest test (is_place_of l.next) 0 l.name
-        || any_rest (λ rest. list_any test (flat_map (after_text rest) (slice_split is_comma l.texts))) (is_place_of l.reached) l.place l.rest)
-        ≡ any_rest (λ rest. list_any test (flat_map (after_text rest) (slice_split is_comma l.texts))) (is_place_of l.reached) 0 l.name)
+    let left : (List ℕ → Bool) → List ℕ → Bool = λ test rest. list_any test (flat_map (after_text rest) (slice_split is_comma l.texts)) in
+    ((test : List ℕ → Bool) → (passes test l.next l.name || any_rest (left test) (is_place_of l.reached) l.place l.rest) ≡ passes (left test) l.reached l.name)
     × (drop l.place l.name ≡ l.rest) × (l.place + length l.rest ≡ length l.name) × (l.initial.steps ≤ l.steps)
     × (l.steps ≤ l.initial.steps + l.place * (length l.texts + 2))
 

@@ -1,15 +1,15 @@
-use Rattle.std.proofs.Common.{◌≡◌, ◌≤◌, ◌+◌, ◌||◌, ◌&&◌, ℕ, Bool, List, length, drop}
+use Rattle.std.proofs.Common.{◌≡◌, ◌≤◌, ◌+◌, ℕ, Bool, List, length, drop}
 use Rattle.std.specs.List.{list_any}
-use Rattle.osc_pattern.specs.Cuts.{rests, any_rest}
-use Rattle.osc_pattern.specs.Views.{is_place_of}
+use Rattle.osc_pattern.specs.Cuts.{rests}
+use Rattle.osc_pattern.specs.Views.{is_place_of, passes}
+use Rattle.osc_pattern.proofs.Reaches.{StarLeft}
 use Rattle.osc_pattern.proofs.matcher.after_star.Given as goal
 
 abbrev pub invariant-loop-begun : goal.invariant-loop-begun
 invariant-loop-begun g l =
     ((test : List ℕ → Bool)
-        → (any_rest test (is_place_of l.next) 0 l.name
-        || ((l.begun && list_any test (rests l.rest)) || any_rest (λ rest. list_any test (rests rest)) (is_place_of l.reached) l.place l.rest))
-        ≡ any_rest (λ rest. list_any test (rests rest)) (is_place_of l.reached) 0 l.name)
+    → StarLeft test (is_place_of l.reached) (passes test l.next l.name) l.begun l.place l.rest
+    (passes (λ rest. list_any test (rests rest)) l.reached l.name))
     × (drop l.place l.name ≡ l.rest) × (l.place + length l.rest ≡ length l.name) × (l.initial.steps ≤ l.steps)
     × (l.steps ≤ l.initial.steps + l.place)
 

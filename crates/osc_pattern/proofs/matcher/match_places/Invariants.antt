@@ -1,12 +1,11 @@
 use Rattle.std.proofs.Common.{◌≡◌, ◌≤◌, ◌+◌, ◌*◌, length}
-use Rattle.osc_pattern.specs.Cuts.{any_rest}
 use Rattle.osc_pattern.specs.Reading.{match_part}
-use Rattle.osc_pattern.specs.Views.{is_place_of}
+use Rattle.osc_pattern.specs.Views.{passes}
 use Rattle.osc_pattern.proofs.matcher.match_places.Given as goal
 
 abbrev pub invariant-loop-item : goal.invariant-loop-item
 invariant-loop-item g l =
-    (any_rest (match_part l.part) (is_place_of l.reached) 0 l.name ≡ match_part l.fn.part l.name)
+    (passes (match_part l.part) l.reached l.name ≡ match_part l.fn.part l.name)
     × (l.initial.steps ≤ l.steps) × (l.steps + (length l.name + 1) * length l.part ≤ l.initial.steps + (length l.name + 1) * length l.fn.part)
 
 abbrev pub decreases-loop-item : goal.decreases-loop-item

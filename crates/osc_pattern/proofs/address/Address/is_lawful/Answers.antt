@@ -13,5 +13,5 @@ none_is (Some x) false e = cc
 pub returns-clause-exact : goal.returns-clause-exact
 returns-clause-exact c =
     let same : is_address c.args.bytes.now ≡ c.is_none.result = ap is_none (sym c.first_fault.ensures)
-        ∙ none_is c.first_fault.result c.is_none.result (sym c.is_none.ensures) in
+    ∙ none_is c.first_fault.result c.is_none.result (sym c.is_none.ensures) in
     subst (λ (b : Bool). IsTrue b ↔ IsAddress c.args.bytes.now) same (is_address-exact c.args.bytes.now)
