@@ -26,6 +26,7 @@ play() { # NAME SCRIPT
     case $1 in
     liblo) "$work/lo_script" < "$2" ;;
     osc) "$program" run < "$2" ;;
+    bytes) "$program" run --bytes < "$2" ;;
     esac > "$work/out"
 }
 
@@ -33,6 +34,7 @@ command_of() { # NAME
     case $1 in
     liblo) echo "$work/lo_script" ;;
     osc) echo "$program run" ;;
+    bytes) echo "$program run --bytes" ;;
     esac
 }
 
@@ -47,6 +49,13 @@ instructions_per_send() { # NAME KIND COUNT
     whole=$(instructions "$1" "$(script "$2" "$3")")
     half=$(instructions "$1" "$(script "$2" $(($3 / 2)))")
     echo $(((whole - half) / ($3 - $3 / 2)))
+}
+
+row_name() { # NAME
+    case $1 in
+    bytes) echo 'osc --bytes' ;;
+    *) echo "$1" ;;
+    esac
 }
 
 least_nanoseconds() { # NAME SCRIPT
@@ -76,8 +85,8 @@ echo
 echo "| kind | program |$(printf ' %s |' $lengths)"
 echo "|---|---|$(printf -- '---|%.0s' $lengths)"
 for kind in $kinds; do
-    for name in liblo osc; do
-        row="| $kind | $name |"
+    for name in liblo osc bytes; do
+        row="| $kind | $(row_name "$name") |"
         for length in $lengths; do row="$row $(instructions_per_send "$name" "$kind" "$length") |"; done
         echo "$row"
     done

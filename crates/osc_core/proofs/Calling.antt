@@ -26,7 +26,8 @@ later x y ys (k, within, is) = (suc k, omega arith, is)
 found : (test : Method → Bool) (xs : List Method) (x : Method) → find test xs ≡ Some x → Contains xs x × (test x ≡ true)
 found test [] x e = absurd (cc)
 found test (y ∷ ys) x e = go (test y) refl e (found test ys x) where
-  go : (t : Bool) → test y ≡ t → cond t (Some y) (find test ys) ≡ Some x → (find test ys ≡ Some x → Contains ys x × (test x ≡ true)) → Contains (y ∷ ys) x × (test x ≡ true)
+  go : (t : Bool) → test y ≡ t → cond t (Some y) (find test ys) ≡ Some x → (find test ys ≡ Some x → Contains ys x × (test x ≡ true))
+      → Contains (y ∷ ys) x × (test x ≡ true)
   go true is e more = let same : y ≡ x = cc in ((0, omega arith, same), ap test (sym same) ∙ is)
   go false is e more = let first = more e in (later x y ys first.0, first.1)
 
@@ -34,7 +35,8 @@ found test (y ∷ ys) x e = go (test y) refl e (found test ys x) where
 not_found : (test : Method → Bool) (xs : List Method) → find test xs ≡ None → All (λ x. test x ≡ false) xs
 not_found test [] e = All-nil (λ x. test x ≡ false)
 not_found test (y ∷ ys) e = go (test y) refl e (not_found test ys) where
-  go : (t : Bool) → test y ≡ t → cond t (Some y) (find test ys) ≡ None → (find test ys ≡ None → All (λ x. test x ≡ false) ys) → All (λ x. test x ≡ false) (y ∷ ys)
+  go : (t : Bool) → test y ≡ t → cond t (Some y) (find test ys) ≡ None → (find test ys ≡ None → All (λ x. test x ≡ false) ys)
+      → All (λ x. test x ≡ false) (y ∷ ys)
   go true is e more = absurd (cc)
   go false is e more = All-cons (λ x. test x ≡ false) y ys is (more e)
 
@@ -47,7 +49,8 @@ one_by_id methods x y apart (i, i_below, at_i) (j, j_below, at_j) same = elim (c
 ]
 
 -- the address by a method's id is its own
-pub address_found : (methods : List Method) (method : Method) → AllPairs (λ a b. a.id ≢ b.id) methods → Contains methods method → address_by_id methods method.id ≡ Some method.address
+pub address_found : (methods : List Method) (method : Method) → AllPairs (λ a b. a.id ≢ b.id) methods → Contains methods method
+    → address_by_id methods method.id ≡ Some method.address
 address_found methods method apart here = go (find (λ other. other.id == method.id) methods) refl where
   go : (o : Option Method) → find (λ other. other.id == method.id) methods ≡ o → option_map (λ m. m.address) o ≡ Some method.address
   go None e =
@@ -60,40 +63,53 @@ address_found methods method apart here = go (find (λ other. other.id == method
       ap (λ (m : Method). Some m.address) (one_by_id methods other method apart is.0 here same)
 
 -- the matching methods have their addresses by their ids
-pub matching_found : (pattern : List ℕ) (tree : Registry) → IsLawful tree → IsPermutation (matched pattern tree.methods) (matching pattern tree.methods) → All (λ method. address_by_id tree.methods method.id ≡ Some method.address) (matching pattern tree.methods)
+pub matching_found : (pattern : List ℕ) (tree : Registry) → IsLawful tree → IsPermutation (matched pattern tree.methods) (matching pattern tree.methods)
+    → All (λ method. address_by_id tree.methods method.id ≡ Some method.address) (matching pattern tree.methods)
 matching_found pattern tree lawful same =
     let own : Method → Type 0 = λ method. address_by_id tree.methods method.id ≡ Some method.address in
     All-permutation own (matched pattern tree.methods) (matching pattern tree.methods) same
     (All-filter (λ method. matches pattern method.address) own tree.methods
-    (λ k d below. address_found tree.methods (get_or tree.methods k d) lawful.list.ids (k, below, get_or_default tree.methods k (get_or tree.methods k d) d below)))
+    (λ k d below. address_found tree.methods (get_or tree.methods k d) lawful.list.ids
+        (k, below, get_or_default tree.methods k (get_or tree.methods k d) d below)))
 
 -- calls by ids are the calls of the methods
-pub called : (all methods : List Method) (index : ℕ) (message : List ℕ) → All (λ method. address_by_id all method.id ≡ Some method.address) methods → map (call_by all index message) (map (λ method. method.id) methods) ≡ map (λ method. record { index = index; id = method.id; address = method.address; message = message }) methods
+pub called : (all methods : List Method) (index : ℕ) (message : List ℕ) → All (λ method. address_by_id all method.id ≡ Some method.address) methods
+    → map (call_by all index message) (map (λ method. method.id) methods)
+    ≡ map (λ method. record { index = index; id = method.id; address = method.address; message = message }) methods
 called all [] index message known = refl
 called all (method ∷ methods) index message known =
     let own : Method → Type 0 = λ m. address_by_id all m.id ≡ Some m.address in
-    rw (All-head own method methods known) (ap (λ (l : List Call). record { index = index; id = method.id; address = method.address; message = message } ∷ l) (called all methods index message (All-tail own method methods known)))
+    rw (All-head own method methods known)
+        (ap (λ (l : List Call). record { index = index; id = method.id; address = method.address; message = message } ∷ l)
+        (called all methods index message (All-tail own method methods known)))
 
 -- the invocations of the methods that a message invokes are those of its calls
-pub invoked : (methods : List Method) (call : CodeCall) (ids : List ℕ) → map (invocation_by methods call) ids ≡ invocations_of call.unit (map (call_by methods call.index call.message) ids)
+pub invoked : (methods : List Method) (call : CodeCall) (ids : List ℕ)
+    → map (invocation_by methods call) ids ≡ invocations_of call.unit (map (call_by methods call.index call.message) ids)
 invoked methods call [] = refl
 invoked methods call (id ∷ ids) = ap (λ (l : List Invocation). invocation_by methods call id ∷ l) (invoked methods call ids)
 
-pub hit : (methods : List Method) (call : CodeCall) (ids : List ℕ) → map (λ id. record { index = call.index; id = id }) ids ≡ hits_of (map (call_by methods call.index call.message) ids)
+pub hit : (methods : List Method) (call : CodeCall) (ids : List ℕ)
+    → map (λ id. record { index = call.index; id = id }) ids ≡ hits_of (map (call_by methods call.index call.message) ids)
 hit methods call [] = refl
 hit methods call (id ∷ ids) = ap (λ (l : List Hit). record { index = call.index; id = id } ∷ l) (hit methods call ids)
 
 -- a message's calls are those of the ids that it invokes
-pub calls_by_ids : (methods : List Method) (index : ℕ) (message : List ℕ) → is_some (unknown_of message) ≡ false → All (λ method. address_by_id methods method.id ≡ Some method.address) (matching (pattern_of message) methods)
+pub calls_by_ids : (methods : List Method) (index : ℕ) (message : List ℕ) → is_some (unknown_of message) ≡ false
+    → All (λ method. address_by_id methods method.id ≡ Some method.address) (matching (pattern_of message) methods)
     → map (call_by methods index message) (matching_ids (pattern_of message) methods) ≡ calls_of methods index message
-calls_by_ids methods index message known own = called methods (matching (pattern_of message) methods) index message own ∙ sym (cond-false (is_some (unknown_of message)) [] (matching_calls methods index message) known)
+calls_by_ids methods index message known own =
+    called methods (matching (pattern_of message) methods) index message own
+    ∙ sym (cond-false (is_some (unknown_of message)) [] (matching_calls methods index message) known)
 
 -- as many calls as ids
 pub as_many_calls : (methods : List Method) (index : ℕ) (message : List ℕ) → length (calls_of methods index message) ≡ length (invoked_ids methods message)
 as_many_calls methods index message = go (is_some (unknown_of message)) where
   go : (t : Bool) → length (cond t [] (matching_calls methods index message)) ≡ length (cond t [] (matching_ids (pattern_of message) methods))
   go true = refl
-  go false = length-map (matching (pattern_of message) methods) (λ method. record { index = index; id = method.id; address = method.address; message = message }) ∙ sym (length-map (matching (pattern_of message) methods) (λ (method : Method). method.id))
+  go false = length-map (matching (pattern_of message) methods)
+      (λ method. record { index = index; id = method.id; address = method.address; message = message })
+      ∙ sym (length-map (matching (pattern_of message) methods) (λ (method : Method). method.id))
 
 pub length-hits_of : (calls : List Call) → length (hits_of calls) ≡ length calls
 length-hits_of [] = refl
@@ -108,16 +124,19 @@ invocations_in_two unit [] more = refl
 invocations_in_two unit (call ∷ first) more = ap (λ (l : List Invocation). record { unit = unit; call = call } ∷ l) (invocations_in_two unit first more)
 
 -- few methods match
-pub few_matching : (pattern : List ℕ) (tree : Registry) → IsLawful tree → IsPermutation (matched pattern tree.methods) (matching pattern tree.methods) → length (matching_ids pattern tree.methods) ≤ tree.method_limit
+pub few_matching : (pattern : List ℕ) (tree : Registry) → IsLawful tree → IsPermutation (matched pattern tree.methods) (matching pattern tree.methods)
+    → length (matching_ids pattern tree.methods) ≤ tree.method_limit
 few_matching pattern tree lawful same =
     let test : Method → Bool = λ method. matches pattern method.address in
-    omega (arith, length-map (matching pattern tree.methods) (λ (method : Method). method.id), length_permutation (matched pattern tree.methods) (matching pattern tree.methods) same, length-filter test tree.methods, count_by-le-length test tree.methods, lawful.few_methods)
+    omega (arith, length-map (matching pattern tree.methods) (λ (method : Method). method.id), length_permutation (matched pattern tree.methods)
+        (matching pattern tree.methods) same, length-filter test tree.methods, count_by-le-length test tree.methods, lawful.few_methods)
 
 -- how many calls there are doesn't hang on where the messages stand
 pub same_many : (methods : List Method) (i j : ℕ) (messages : List (List ℕ)) → length (calls_from methods i messages) ≡ length (calls_from methods j messages)
 same_many methods i j [] = refl
 same_many methods i j (message ∷ messages) =
-    omega (arith, length-append (calls_of methods i message) (calls_from methods (i + 1) messages), length-append (calls_of methods j message) (calls_from methods (j + 1) messages), as_many_calls methods i message, as_many_calls methods j message, same_many methods (i + 1) (j + 1) messages)
+    omega (arith, length-append (calls_of methods i message) (calls_from methods (i + 1) messages), length-append (calls_of methods j message)
+        (calls_from methods (j + 1) messages), as_many_calls methods i message, as_many_calls methods j message, same_many methods (i + 1) (j + 1) messages)
 
 -- what is last is there
 pub last_there : (methods : List Method) (method : Method) → Contains (methods ++ method ∷ []) method
@@ -129,5 +148,6 @@ pub no_calls : (methods : List Method) (index : ℕ) (message : List ℕ) → is
 no_calls methods index message is = rw is refl
 
 -- the calls of the only message
-pub only_calls : (methods : List Method) (message : List ℕ) (messages : List (List ℕ)) → messages ≡ message ∷ [] → calls_from methods 0 messages ≡ calls_of methods 0 message
+pub only_calls : (methods : List Method) (message : List ℕ) (messages : List (List ℕ)) → messages ≡ message ∷ []
+    → calls_from methods 0 messages ≡ calls_of methods 0 message
 only_calls methods message messages only = ap (calls_from methods 0) only ∙ append-nil (calls_of methods 0 message)

@@ -12,7 +12,8 @@ use Rattle.osc_core.specs.Sections.{section_of, bytes_of, all_read, has_section,
 use Rattle.osc_core.proofs.Storing.{length-framed}
 
 -- a section of the bytes has the messages of a unit, and without it the others are left
-pub record IsPart (bytes : List ℕ) (kept : List Kept) (start : ℕ) (section : Section) (sections : List Section) (messages : List (List ℕ)) (others : List Kept) : Type 0 where
+pub record IsPart (bytes : List ℕ) (kept : List Kept) (start : ℕ) (section : Section) (sections : List Section) (messages : List (List ℕ))
+    (others : List Kept) : Type 0 where
   pub inside : start + section.size ≤ length bytes
   pub part : take section.size (drop start bytes) ≡ framed messages
   pub count : section.count ≡ length messages
@@ -32,7 +33,8 @@ take_past (byte ∷ front) rest n k long =
     let more : n + k ≡ suc (length front + k) = omega arith in
     ap (λ (m : ℕ). take m (byte ∷ (front ++ rest))) more ∙ ap (λ (l : List ℕ). byte ∷ l) (take_past front rest (length front) k refl)
 
-part_first : (one : Kept) (others : List Kept) → IsTrue (list_all (is_message 1073741824) one.messages) → IsTrue (all_read others) → IsPart (framed one.messages ++ bytes_of others) (one ∷ others) 0 (section_of one) (map section_of others) one.messages others
+part_first : (one : Kept) (others : List Kept) → IsTrue (list_all (is_message 1073741824) one.messages) → IsTrue (all_read others)
+    → IsPart (framed one.messages ++ bytes_of others) (one ∷ others) 0 (section_of one) (map section_of others) one.messages others
 part_first one others read more = record {
   inside = omega (arith, length-framed one.messages, length-append (framed one.messages) (bytes_of others));
   part = take_at (framed one.messages) (bytes_of others) (stored_size one.messages) (length-framed one.messages);
@@ -45,7 +47,9 @@ part_first one others read more = record {
   blocks = refl;
 }
 
-part_later : (one : Kept) (kept : List Kept) (start : ℕ) (section : Section) (sections : List Section) (messages : List (List ℕ)) (others : List Kept) → IsTrue (list_all (is_message 1073741824) one.messages) → IsPart (bytes_of kept) kept start section sections messages others → IsPart (framed one.messages ++ bytes_of kept) (one ∷ kept) (stored_size one.messages + start) section (section_of one ∷ sections) messages (one ∷ others)
+part_later : (one : Kept) (kept : List Kept) (start : ℕ) (section : Section) (sections : List Section) (messages : List (List ℕ)) (others : List Kept)
+    → IsTrue (list_all (is_message 1073741824) one.messages) → IsPart (bytes_of kept) kept start section sections messages others
+    → IsPart (framed one.messages ++ bytes_of kept) (one ∷ kept) (stored_size one.messages + start) section (section_of one ∷ sections) messages (one ∷ others)
 part_later one kept start section sections messages others read is =
     let front = framed one.messages in
     let size = stored_size one.messages in
@@ -71,12 +75,22 @@ part_later one kept start section sections messages others read is =
     }
 
 -- the first section of a unit that is kept is its part
-pub part_of : (kept : List Kept) (unit : ℕ) → IsTrue (all_read kept) → IsTrue (has_section (map section_of kept) unit) → IsPart (bytes_of kept) kept (start_by (map section_of kept) unit) (section_by (map section_of kept) unit) (without_section (map section_of kept) unit) (messages_by kept unit) (without_unit kept unit)
+pub part_of : (kept : List Kept) (unit : ℕ) → IsTrue (all_read kept) → IsTrue (has_section (map section_of kept) unit)
+    → IsPart (bytes_of kept) kept (start_by (map section_of kept) unit) (section_by (map section_of kept) unit) (without_section (map section_of kept) unit)
+    (messages_by kept unit) (without_unit kept unit)
 part_of [] unit read there = absurd (cc)
 part_of (one ∷ kept) unit read there =
     let parts = and_parts (list_all (is_message 1073741824) one.messages) (all_read kept) read in
     go (one.unit == unit) there parts.0 parts.1 (λ has. part_of kept unit parts.1 has) where
-      go : (here : Bool) → IsTrue (here || has_section (map section_of kept) unit) → IsTrue (list_all (is_message 1073741824) one.messages) → IsTrue (all_read kept) → (IsTrue (has_section (map section_of kept) unit) → IsPart (bytes_of kept) kept (start_by (map section_of kept) unit) (section_by (map section_of kept) unit) (without_section (map section_of kept) unit) (messages_by kept unit) (without_unit kept unit)) → IsPart (bytes_of (one ∷ kept)) (one ∷ kept) (cond here 0 (stored_size one.messages + start_by (map section_of kept) unit)) (cond here (section_of one) (section_by (map section_of kept) unit)) (cond here (map section_of kept) (section_of one ∷ without_section (map section_of kept) unit)) (cond here one.messages (messages_by kept unit)) (cond here kept (one ∷ without_unit kept unit))
+      go : (here : Bool) → IsTrue (here || has_section (map section_of kept) unit) → IsTrue (list_all (is_message 1073741824) one.messages)
+          → IsTrue (all_read kept)
+          → (IsTrue (has_section (map section_of kept) unit)
+          → IsPart (bytes_of kept) kept (start_by (map section_of kept) unit) (section_by (map section_of kept) unit)
+          (without_section (map section_of kept) unit) (messages_by kept unit) (without_unit kept unit))
+          → IsPart (bytes_of (one ∷ kept)) (one ∷ kept) (cond here 0 (stored_size one.messages + start_by (map section_of kept) unit))
+          (cond here (section_of one) (section_by (map section_of kept) unit))
+          (cond here (map section_of kept) (section_of one ∷ without_section (map section_of kept) unit)) (cond here one.messages (messages_by kept unit))
+          (cond here kept (one ∷ without_unit kept unit))
       go true there first more later = part_first one kept first more
       go false there first more later = part_later one kept _ _ _ _ _ first (later there)
 

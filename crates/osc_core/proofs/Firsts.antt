@@ -76,7 +76,8 @@ pub record IsItem (state : State) (kept : List Kept) (items : List (Item ℕ)) (
   pub invocations_are : (decided state release).invocations ≡ invocations_of unit (calls_from state.methods 0 (messages_by kept unit))
   pub state_is : (decided state release).state ≡ record state { queue = drop 1 (queue_of kept items) }
 
-pub is_item : (state : State) (kept : List Kept) (items : List (Item ℕ)) (unit : ℕ) (hits : List Hit) → state.queue ≡ queue_of kept items → AreKept kept items → IsDue state unit hits → IsItem state kept items unit hits
+pub is_item : (state : State) (kept : List Kept) (items : List (Item ℕ)) (unit : ℕ) (hits : List Hit) → state.queue ≡ queue_of kept items → AreKept kept items
+    → IsDue state unit hits → IsItem state kept items unit hits
 is_item state kept [] unit hits queue are is = let f : nothing_due None ≡ released unit hits = rw queue at is in absurd (cc)
 is_item state kept (item ∷ items) unit hits queue are is = cases (nat_le (due_of item) state.clock) refl where
   cases : (t : Bool) → nat_le (due_of item) state.clock ≡ t → IsItem state kept (item ∷ items) unit hits
@@ -95,7 +96,8 @@ is_item state kept (item ∷ items) unit hits queue are is = cases (nat_le (due_
       }
   cases false le = let f : nothing_due (Some (due_of item)) ≡ released unit hits = rw (queue, le) at is in absurd (cc)
 
-pub first_answer : (state : State) (kept : List Kept) (items : List (Item ℕ)) (due unit tag : ℕ) → state.queue ≡ queue_of kept items → slice_get items 0 ≡ Some (due, unit, tag) → due ≤ state.clock → IsDue state unit (hits_of (calls_from state.methods 0 (messages_by kept unit)))
+pub first_answer : (state : State) (kept : List Kept) (items : List (Item ℕ)) (due unit tag : ℕ) → state.queue ≡ queue_of kept items
+    → slice_get items 0 ≡ Some (due, unit, tag) → due ≤ state.clock → IsDue state unit (hits_of (calls_from state.methods 0 (messages_by kept unit)))
 first_answer state kept [] due unit tag queue at now = absurd (cc)
 first_answer state kept (item ∷ items) due unit tag queue at now =
     let same : item ≡ (due, unit, tag) = ap (λ (o : Option (Item ℕ)). unwrap_or o item) at in
@@ -104,7 +106,8 @@ first_answer state kept (item ∷ items) due unit tag queue at now =
     subst (λ (n : ℕ). IsDue state n (hits_of (calls_from state.methods 0 (messages_by kept n)))) (ap unit_of same) here
 
 -- the first item's number was given
-pub first_below : (items : List (Item ℕ)) (due unit tag next : ℕ) → slice_get items 0 ≡ Some (due, unit, tag) → AllByRecursion (λ item. unit_of item < next) items → unit < next
+pub first_below : (items : List (Item ℕ)) (due unit tag next : ℕ) → slice_get items 0 ≡ Some (due, unit, tag)
+    → AllByRecursion (λ item. unit_of item < next) items → unit < next
 first_below [] due unit tag next at below = absurd (cc)
 first_below (item ∷ items) due unit tag next at below =
     let same : unit_of item ≡ unit = ap (λ (o : Option (Item ℕ)). unit_of (unwrap_or o item)) at in

@@ -29,7 +29,8 @@ other_text xs ys other = go (bytes_eq xs ys) refl where
   go true e = absurd (other ((bytes_eq-Decides xs ys).0 e))
   go false e = refl
 
-others_agree : (first : Method) (methods : List Method) → AllByRecursion (λ other. first.id ≢ other.id) methods → AllByRecursion (λ other. first.address ≢ other.address) methods → AllByRecursion (Agrees first.address first.id) methods
+others_agree : (first : Method) (methods : List Method) → AllByRecursion (λ other. first.id ≢ other.id) methods
+    → AllByRecursion (λ other. first.address ≢ other.address) methods → AllByRecursion (Agrees first.address first.id) methods
 others_agree first [] ids addresses = tt
 others_agree first (other ∷ methods) ids addresses =
     let a : bytes_eq other.address first.address ≡ false = other_text other.address first.address (λ same. addresses.0 (sym same)) in
@@ -47,31 +48,41 @@ found_among (method ∷ methods) address id n at none = go (bytes_eq method.addr
   go true e more = let f : Some method.id ≡ Some id = rw e at at in λ same. none.0 (same ∙ sym (ap (λ (o : Option ℕ). unwrap_or o 0) f))
   go false e more = more (rw e at at) none.1
 
-all_agree : (methods : List Method) (address : List ℕ) (id : ℕ) → AllPairs (λ a b. a.id ≢ b.id) methods → AllPairs (λ a b. a.address ≢ b.address) methods → id_at methods address ≡ Some id → AllByRecursion (Agrees address id) methods
+all_agree : (methods : List Method) (address : List ℕ) (id : ℕ) → AllPairs (λ a b. a.id ≢ b.id) methods → AllPairs (λ a b. a.address ≢ b.address) methods
+    → id_at methods address ≡ Some id → AllByRecursion (Agrees address id) methods
 all_agree [] address id ids addresses at = tt
 all_agree (method ∷ methods) address id ids addresses at =
-    go (bytes_eq method.address address) refl (all_agree methods address id (pairs_behind (λ a b. a.id ≢ b.id) method methods ids) (pairs_behind (λ a b. a.address ≢ b.address) method methods addresses))
+    go (bytes_eq method.address address) refl
+        (all_agree methods address id (pairs_behind (λ a b. a.id ≢ b.id) method methods ids)
+        (pairs_behind (λ a b. a.address ≢ b.address) method methods addresses))
   where
-    go : (t : Bool) → bytes_eq method.address address ≡ t → (id_at methods address ≡ Some id → AllByRecursion (Agrees address id) methods) → AllByRecursion (Agrees address id) (method ∷ methods)
+    go : (t : Bool) → bytes_eq method.address address ≡ t → (id_at methods address ≡ Some id → AllByRecursion (Agrees address id) methods)
+        → AllByRecursion (Agrees address id) (method ∷ methods)
     go true e more =
         let f : Some method.id ≡ Some id = rw e at at in
         let same : method.id ≡ id = ap (λ (o : Option ℕ). unwrap_or o 0) f in
         let text : method.address ≡ address = (bytes_eq-Decides method.address address).0 e in
         let b : (method.id == id) ≡ true = grind (arith, nat_tests) in
-        let others = others_agree method methods (pairs_ahead (λ a b. a.id ≢ b.id) method methods ids) (pairs_ahead (λ a b. a.address ≢ b.address) method methods addresses) in
-        (e ∙ sym b, subst (λ (n : ℕ). AllByRecursion (Agrees address n) methods) same (subst (λ (l : List ℕ). AllByRecursion (Agrees l method.id) methods) text others))
+        let others = others_agree method methods (pairs_ahead (λ a b. a.id ≢ b.id) method methods ids)
+            (pairs_ahead (λ a b. a.address ≢ b.address) method methods addresses) in
+        (e ∙ sym b, subst (λ (n : ℕ). AllByRecursion (Agrees address n) methods) same
+            (subst (λ (l : List ℕ). AllByRecursion (Agrees l method.id) methods) text others))
     go false e more =
         let f : id_at methods address ≡ Some id = rw e at at in
         let other : method.id ≢ id = found_among methods address id method.id f (pairs_ahead (λ a b. a.id ≢ b.id) method methods ids) in
         let b : (method.id == id) ≡ false = grind (arith, nat_tests) in
         (e ∙ sym b, more f)
 
-same_left : (methods : List Method) (address : List ℕ) (id : ℕ) → AllByRecursion (Agrees address id) methods → map (λ method. method.id) (left_at methods address) ≡ without id (map (λ method. method.id) methods)
+same_left : (methods : List Method) (address : List ℕ) (id : ℕ) → AllByRecursion (Agrees address id) methods
+    → map (λ method. method.id) (left_at methods address) ≡ without id (map (λ method. method.id) methods)
 same_left [] address id agree = refl
 same_left (method ∷ methods) address id agree = rw agree.0 (go (method.id == id) (same_left methods address id agree.1)) where
-  go : (t : Bool) → map (λ method. method.id) (left_at methods address) ≡ without id (map (λ method. method.id) methods) → map (λ method. method.id) (cond (not t) (method ∷ left_at methods address) (left_at methods address)) ≡ cond (not t) (method.id ∷ without id (map (λ method. method.id) methods)) (without id (map (λ method. method.id) methods))
+  go : (t : Bool) → map (λ method. method.id) (left_at methods address) ≡ without id (map (λ method. method.id) methods)
+      → map (λ method. method.id) (cond (not t) (method ∷ left_at methods address) (left_at methods address))
+      ≡ cond (not t) (method.id ∷ without id (map (λ method. method.id) methods)) (without id (map (λ method. method.id) methods))
   go true more = more
   go false more = ap (λ (l : List ℕ). method.id ∷ l) more
 
-pub ids_left : (methods : List Method) (address : List ℕ) (id : ℕ) → IsMethodList methods → id_at methods address ≡ Some id → map (λ method. method.id) (left_at methods address) ≡ without id (map (λ method. method.id) methods)
+pub ids_left : (methods : List Method) (address : List ℕ) (id : ℕ) → IsMethodList methods → id_at methods address ≡ Some id
+    → map (λ method. method.id) (left_at methods address) ≡ without id (map (λ method. method.id) methods)
 ids_left methods address id list at = same_left methods address id (all_agree methods address id list.ids list.addresses at)

@@ -24,13 +24,17 @@ pub record IsLeft (answer : Releasing) (now : Performance) (caller : ℕ) (serve
   pub playing : IsPlaying next recorder entries
   pub invocations : (stepped_in now release).invocations ≡ made_by answer (decided server release).invocations
 
-same_playing : (server next : State) (before after : Recording) (entries : ℕ) → next ≡ server → after ≡ before → IsPlaying server before entries → IsPlaying next after entries
-same_playing server next before after entries s r playing = subst (λ (t : State). IsPlaying t after entries) (sym s) (subst (λ (t : Recording). IsPlaying server t entries) (sym r) playing)
+same_playing : (server next : State) (before after : Recording) (entries : ℕ) → next ≡ server → after ≡ before → IsPlaying server before entries
+    → IsPlaying next after entries
+same_playing server next before after entries s r playing =
+    subst (λ (t : State). IsPlaying t after entries) (sym s) (subst (λ (t : Recording). IsPlaying server t entries) (sym r) playing)
 
-pub release_leaves : PlayedLaw → FullLaw → (answer : Releasing) (server next : State) (before after : Recording) (entries caller : ℕ) (now : Performance) → IsPlaying server before entries → performance_of before ≡ now → caller < (state_of now).callers
+pub release_leaves : PlayedLaw → FullLaw → (answer : Releasing) (server next : State) (before after : Recording) (entries caller : ℕ) (now : Performance)
+    → IsPlaying server before entries → performance_of before ≡ now → caller < (state_of now).callers
     → Releases answer caller server next before after → IsLeft answer now caller server next after (entries_after answer entries)
 release_leaves played full (releasing.Released unit calls) server next before after entries caller now playing view enrolled is =
-    let on = releases_on played server before entries caller unit calls is.hits next (with_release before caller unit calls) after now playing view enrolled is.due is.many is.fits is.state refl is.recorder in
+    let on = releases_on played server before entries caller unit calls is.hits next
+        (with_release before caller unit calls) after now playing view enrolled is.due is.many is.fits is.state refl is.recorder in
     record { told = (is.hits, on.0.answer_is, is.many); performance = on.0.performance; playing = on.0.playing; invocations = on.1 }
 release_leaves played full (releasing.NothingDue least) server next before after entries caller now playing view enrolled is =
     let answer = idle_answer server before entries now least playing view is.none in

@@ -33,7 +33,8 @@ quiet_silent state event quiet =
       released = λ unit units first quiet. absurd quiet;
     }) quiet in
     step_so (IsSilent state) state event
-    (record { silent = λ none. here; full = λ some full. record { methods = refl; none = refl }; room = λ some fits. record { methods = here.methods; none = here.none } })
+    (record { silent = λ none. here; full = λ some full. record { methods = refl; none = refl };
+        room = λ some fits. record { methods = here.methods; none = here.none } })
 
 pub release_keeps : (state : State) → (step state release).state.methods ≡ state.methods
 release_keeps state =
@@ -48,8 +49,10 @@ release_keeps state =
       go false = refl
 
 -- the ids of the boxes stay those of the methods
-pub still_alike : (now next onwards : Performance) (ids : List ℕ) → next ≡ onwards → (state_of onwards).methods ≡ (state_of now).methods → ids ≡ map (λ method. method.id) (state_of now).methods → ids ≡ map (λ method. method.id) (state_of next).methods
-still_alike now next onwards ids is same alike = alike ∙ sym (ap (map (λ (method : Method). method.id)) (ap (λ (p : Performance). (state_of p).methods) is ∙ same))
+pub still_alike : (now next onwards : Performance) (ids : List ℕ) → next ≡ onwards → (state_of onwards).methods ≡ (state_of now).methods
+    → ids ≡ map (λ method. method.id) (state_of now).methods → ids ≡ map (λ method. method.id) (state_of next).methods
+still_alike now next onwards ids is same alike =
+    alike ∙ sym (ap (map (λ (method : Method). method.id)) (ap (λ (p : Performance). (state_of p).methods) is ∙ same))
 
 pub still_reserved : (now next onwards : Performance) (room : ℕ) → next ≡ onwards → onwards.caps ≡ now.caps → now.caps.methods ≤ room → next.caps.methods ≤ room
 still_reserved now next onwards room is same reserved = subst (λ (l : Limits). l.methods ≤ room) (sym (ap (λ (p : Performance). p.caps) is ∙ same)) reserved

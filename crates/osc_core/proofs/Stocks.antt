@@ -12,7 +12,8 @@ use Rattle.osc_core.proofs.Storing.{stored_is, stored_more, sized, bytes_within,
 use Rattle.osc_core.proofs.Finding.{IsPart, part_of, has_kept}
 
 -- the bytes of a store are no more than its limit
-stock_small : {sections : List Section} {bytes : List ℕ} {used limit places bytes_room places_room : ℕ} → IsStock sections bytes used limit places bytes_room places_room → length bytes ≤ 64 * used
+stock_small : {sections : List Section} {bytes : List ℕ} {used limit places bytes_room places_room : ℕ}
+    → IsStock sections bytes used limit places bytes_room places_room → length bytes ≤ 64 * used
 stock_small {sections} {bytes} is =
     let within = bytes_within (kept_of sections bytes) in
     let same : length bytes ≡ length (bytes_of (kept_of sections bytes)) = ap length is.stored.bytes_are in
@@ -25,7 +26,9 @@ pub record IsHere (sections : List Section) (bytes : List ℕ) (unit : ℕ) : Ty
   pub small : sizes sections ≤ 67108864
   pub within : length bytes ≤ 67108864
 
-pub is_here : {sections : List Section} {bytes : List ℕ} {used limit places bytes_room places_room : ℕ} (kept : List Kept) (unit : ℕ) → IsStock sections bytes used limit places bytes_room places_room → kept_of sections bytes ≡ kept → Contains (map (λ one. one.unit) kept) unit → IsHere sections bytes unit
+pub is_here : {sections : List Section} {bytes : List ℕ} {used limit places bytes_room places_room : ℕ} (kept : List Kept) (unit : ℕ)
+    → IsStock sections bytes used limit places bytes_room places_room → kept_of sections bytes ≡ kept → Contains (map (λ one. one.unit) kept) unit
+    → IsHere sections bytes unit
 is_here {sections} {bytes} kept unit is same there =
     let listed : sections ≡ map section_of kept = is.stored.sections_are ∙ ap (map section_of) same in
     let spelled : bytes ≡ bytes_of kept = is.stored.bytes_are ∙ ap bytes_of same in
@@ -41,7 +44,10 @@ is_here {sections} {bytes} kept unit is same there =
     }
 
 -- what is found by the sections is the part of the unit
-pub found_part : {sections : List Section} {bytes : List ℕ} {used limit places bytes_room places_room : ℕ} (kept : List Kept) (unit : ℕ) (seen : List Section) (start : ℕ) (section : Section) (fewer : List Section) → IsStock sections bytes used limit places bytes_room places_room → kept_of sections bytes ≡ kept → Contains (map (λ one. one.unit) kept) unit → seen ≡ sections → start ≡ start_by seen unit → section ≡ section_by seen unit → fewer ≡ without_section seen unit → IsPart bytes kept start section fewer (messages_by kept unit) (without_unit kept unit)
+pub found_part : {sections : List Section} {bytes : List ℕ} {used limit places bytes_room places_room : ℕ} (kept : List Kept) (unit : ℕ) (seen : List Section)
+    (start : ℕ) (section : Section) (fewer : List Section) → IsStock sections bytes used limit places bytes_room places_room → kept_of sections bytes ≡ kept
+    → Contains (map (λ one. one.unit) kept) unit → seen ≡ sections → start ≡ start_by seen unit → section ≡ section_by seen unit
+    → fewer ≡ without_section seen unit → IsPart bytes kept start section fewer (messages_by kept unit) (without_unit kept unit)
 found_part {sections} {bytes} kept unit seen start section fewer is same there saw begun found left =
     let listed : seen ≡ map section_of kept = saw ∙ is.stored.sections_are ∙ ap (map section_of) same in
     let spelled : bytes ≡ bytes_of kept = is.stored.bytes_are ∙ ap bytes_of same in
@@ -49,7 +55,9 @@ found_part {sections} {bytes} kept unit seen start section fewer is same there s
     rw (spelled, begun, found, left, listed) (part_of kept unit read (has_kept kept unit there))
 
 -- a store of these units
-pub stock_of : (sections : List Section) (bytes : List ℕ) (kept : List Kept) (used limit places bytes_room places_room : ℕ) → IsStored sections bytes kept → used ≡ kept_blocks kept → used ≤ limit → limit ≤ 1048576 → 64 * limit ≤ bytes_room → places ≤ places_room → IsStock sections bytes used limit places bytes_room places_room
+pub stock_of : (sections : List Section) (bytes : List ℕ) (kept : List Kept) (used limit places bytes_room places_room : ℕ) → IsStored sections bytes kept
+    → used ≡ kept_blocks kept → used ≤ limit → limit ≤ 1048576 → 64 * limit ≤ bytes_room → places ≤ places_room
+    → IsStock sections bytes used limit places bytes_room places_room
 stock_of sections bytes kept used limit places bytes_room places_room stored counted within few reserved placed =
     let same : kept ≡ kept_of sections bytes = sym (stored_is sections bytes kept stored) in
     record {
@@ -62,7 +70,9 @@ stock_of sections bytes kept used limit places bytes_room places_room stored cou
     }
 
 -- without a part the others are kept
-pub stored_less : {bytes : List ℕ} {kept : List Kept} {start : ℕ} {section : Section} {fewer : List Section} {messages : List (List ℕ)} {others : List Kept} (sections : List Section) (cut : List ℕ) → IsPart bytes kept start section fewer messages others → sections ≡ fewer → cut ≡ take start bytes ++ drop (start + section.size) bytes → IsStored sections cut others
+pub stored_less : {bytes : List ℕ} {kept : List Kept} {start : ℕ} {section : Section} {fewer : List Section} {messages : List (List ℕ)} {others : List Kept}
+    (sections : List Section) (cut : List ℕ) → IsPart bytes kept start section fewer messages others → sections ≡ fewer
+    → cut ≡ take start bytes ++ drop (start + section.size) bytes → IsStored sections cut others
 stored_less sections cut is left cuts = record {
   sections_are = left ∙ is.sections_are;
   bytes_are = cuts ∙ is.rest;
@@ -70,7 +80,9 @@ stored_less sections cut is left cuts = record {
 }
 
 -- a unit has room where its blocks have
-pub stock_room : {sections : List Section} {bytes : List ℕ} {used limit places bytes_room places_room : ℕ} (kept : List Kept) (size : ℕ) → IsStock sections bytes used limit places bytes_room places_room → kept_of sections bytes ≡ kept → (size + 63) / 64 + kept_blocks kept ≤ limit → length bytes + size ≤ bytes_room
+pub stock_room : {sections : List Section} {bytes : List ℕ} {used limit places bytes_room places_room : ℕ} (kept : List Kept) (size : ℕ)
+    → IsStock sections bytes used limit places bytes_room places_room → kept_of sections bytes ≡ kept → (size + 63) / 64 + kept_blocks kept ≤ limit
+    → length bytes + size ≤ bytes_room
 stock_room {sections} {bytes} kept size is same fits =
     let small = stock_small is in
     let counted = is.counted in
@@ -79,18 +91,25 @@ stock_room {sections} {bytes} kept size is same fits =
     omega arith
 
 -- the bytes of a part are the unit's messages
-pub part_messages : {bytes : List ℕ} {kept : List Kept} {start : ℕ} {section : Section} {fewer : List Section} {messages : List (List ℕ)} {others : List Kept} (shown : List ℕ) → IsPart bytes kept start section fewer messages others → shown ≡ take section.size (drop start bytes) → unframed section.count shown ≡ messages
+pub part_messages : {bytes : List ℕ} {kept : List Kept} {start : ℕ} {section : Section} {fewer : List Section} {messages : List (List ℕ)} {others : List Kept}
+    (shown : List ℕ) → IsPart bytes kept start section fewer messages others → shown ≡ take section.size (drop start bytes)
+    → unframed section.count shown ≡ messages
 part_messages {messages = messages} shown is shows =
     let spelled : shown ≡ framed messages ++ [] = shows ∙ is.part ∙ sym (append-nil (framed messages)) in
     rw (is.count, spelled) (unframed-framed messages [] is.read)
 
-pub part_framed : {bytes : List ℕ} {kept : List Kept} {start : ℕ} {section : Section} {fewer : List Section} {messages : List (List ℕ)} {others : List Kept} (shown : List ℕ) → IsPart bytes kept start section fewer messages others → shown ≡ take section.size (drop start bytes) → IsFramed section.count shown
+pub part_framed : {bytes : List ℕ} {kept : List Kept} {start : ℕ} {section : Section} {fewer : List Section} {messages : List (List ℕ)} {others : List Kept}
+    (shown : List ℕ) → IsPart bytes kept start section fewer messages others → shown ≡ take section.size (drop start bytes) → IsFramed section.count shown
 part_framed {messages = messages} shown is shows =
     let spelled : shown ≡ framed messages ++ [] = shows ∙ is.part ∙ sym (append-nil (framed messages)) in
     rw (is.count, spelled) (framed_stands messages [] is.read)
 
 -- with a unit more it is kept behind the others
-pub stored_put : {sections : List Section} {bytes : List ℕ} (kept : List Kept) (one : Kept) (size count : ℕ) (messages : List (List ℕ)) (entered : List Section) (appended : List ℕ) → IsStored sections bytes (kept_of sections bytes) → kept_of sections bytes ≡ kept → size ≡ stored_size one.messages → count ≡ length one.messages → messages ≡ one.messages → IsTrue (list_all (is_message 1073741824) messages) → entered ≡ sections ++ record { unit = one.unit; size = size; count = count } ∷ [] → appended ≡ bytes ++ framed messages → IsStored entered appended (kept ++ one ∷ [])
+pub stored_put : {sections : List Section} {bytes : List ℕ} (kept : List Kept) (one : Kept) (size count : ℕ) (messages : List (List ℕ)) (entered : List Section)
+    (appended : List ℕ) → IsStored sections bytes (kept_of sections bytes) → kept_of sections bytes ≡ kept → size ≡ stored_size one.messages
+    → count ≡ length one.messages → messages ≡ one.messages → IsTrue (list_all (is_message 1073741824) messages)
+    → entered ≡ sections ++ record { unit = one.unit; size = size; count = count } ∷ [] → appended ≡ bytes ++ framed messages
+    → IsStored entered appended (kept ++ one ∷ [])
 stored_put {sections} {bytes} kept one size count messages entered appended stored same sized counted told read enters appends =
     let before : IsStored sections bytes kept = subst (λ (k : List Kept). IsStored sections bytes k) same stored in
     let known : IsTrue (list_all (is_message 1073741824) one.messages) = subst (λ (l : List (List ℕ)). IsTrue (list_all (is_message 1073741824) l)) told read in

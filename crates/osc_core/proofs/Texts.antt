@@ -29,15 +29,18 @@ use Rattle.osc_core.proofs.Played.{few_entries, after_caps}
 pub record TextLaws : Type 0 where
   pub all : (caps : Limits) (history : List Entry) → Legal caps history → AllByRecursion (λ entry. IsRecordable entry.caller entry.event entry.answer) history
   pub within : (caps : Limits) (history : List Entry) → Legal caps history → length (record_text caps history) ≤ caps.recording
-  pub again : (caller : ℕ) (event : Event) (answer : Answer) (rest : List ℕ) → IsRecordable caller event answer → length (entry_text caller event answer) ≤ 1073741824
+  pub again : (caller : ℕ) (event : Event) (answer : Answer) (rest : List ℕ) → IsRecordable caller event answer
+      → length (entry_text caller event answer) ≤ 1073741824
       → entry_in (entry_text caller event answer ++ rest) ≡ Some (record { caller = caller; event = event; answer = answer })
 
 -- Texts one after another.
 
-pub read_more : (texts : List (List ℕ)) (text : List ℕ) (entry : Entry) → entry_in text ≡ Some entry → history_in (texts ++ text ∷ []) ≡ history_in texts ++ entry ∷ []
+pub read_more : (texts : List (List ℕ)) (text : List ℕ) (entry : Entry) → entry_in text ≡ Some entry
+    → history_in (texts ++ text ∷ []) ≡ history_in texts ++ entry ∷ []
 read_more texts text entry is = filter_map-append entry_in texts (text ∷ []) ∙ ap (λ (o : Option Entry). history_in texts ++ cons_option o []) is
 
-pub written_more : (entries : List Entry) (texts : List (List ℕ)) (entry : Entry) (mark : ℕ) → AreTexts entries texts → AreTexts (entries ++ entry ∷ []) (texts ++ text_with mark entry ∷ [])
+pub written_more : (entries : List Entry) (texts : List (List ℕ)) (entry : Entry) (mark : ℕ) → AreTexts entries texts
+    → AreTexts (entries ++ entry ∷ []) (texts ++ text_with mark entry ∷ [])
 written_more [] [] entry mark are = ((mark, refl), tt)
 written_more [] (text ∷ texts) entry mark are = absurd are
 written_more (first ∷ entries) [] entry mark are = absurd are
@@ -47,7 +50,8 @@ pub carries_more : (texts : List (List ℕ)) (text : List ℕ) (id mark : ℕ) �
 carries_more texts text id mark (entry, is, read, there) = (
   entry,
   is,
-  subst (λ (h : List Entry). Contains h entry) (sym (filter_map-append entry_in texts (text ∷ []))) (Contains-append_left (history_in texts) (history_in (text ∷ [])) entry read),
+  subst (λ (h : List Entry). Contains h entry) (sym (filter_map-append entry_in texts (text ∷ [])))
+      (Contains-append_left (history_in texts) (history_in (text ∷ [])) entry read),
   Contains-append_left texts (text ∷ []) (text_with mark entry) there,
 )
 
@@ -77,10 +81,12 @@ reset_mark told = ap (λ (t : Bool). cond t (told.keep + 1) 0) (some told.heard)
   some None = refl
   some (Some bytes) = refl
 
-pub called_marked : (texts : List (List ℕ)) (invocations : List Invocation) (boxes : List Told) → AreMarked texts boxes → AreMarked texts (all_hear invocations boxes)
+pub called_marked : (texts : List (List ℕ)) (invocations : List Invocation) (boxes : List Told) → AreMarked texts boxes
+    → AreMarked texts (all_hear invocations boxes)
 called_marked texts invocations [] are = tt
 called_marked texts invocations (told ∷ boxes) are = (
-  subst (λ (m : ℕ). CarriesMark texts (hear_all invocations told).id m) (sym (hear_all_mark invocations told)) (subst (λ (n : ℕ). CarriesMark texts n (mark_of told)) (sym (ids_stay invocations told)) are.0),
+  subst (λ (m : ℕ). CarriesMark texts (hear_all invocations told).id m) (sym (hear_all_mark invocations told))
+      (subst (λ (n : ℕ). CarriesMark texts n (mark_of told)) (sym (ids_stay invocations told)) are.0),
   called_marked texts invocations boxes are.1,
 )
 
@@ -117,7 +123,8 @@ last_of_all P [] x all = all.0
 last_of_all P (y ∷ xs) x all = last_of_all P xs x all.1
 
 -- the last entry of a legal history is read in its text
-pub last_read : TextLaws → (caps : Limits) (history : List Entry) (entry : Entry) (mark : ℕ) → Legal caps (history ++ entry ∷ []) → entry_in (text_with mark entry) ≡ Some entry
+pub last_read : TextLaws → (caps : Limits) (history : List Entry) (entry : Entry) (mark : ℕ) → Legal caps (history ++ entry ∷ [])
+    → entry_in (text_with mark entry) ≡ Some entry
 last_read laws caps history entry mark legal =
     let recordable = last_of_all (λ entry. IsRecordable entry.caller entry.event entry.answer) history entry (laws.all caps (history ++ entry ∷ []) legal) in
     let within = laws.within caps (history ++ entry ∷ []) legal in
@@ -128,19 +135,22 @@ last_read laws caps history entry mark legal =
 
 -- Where a server stood for texts, its boxes have heard the event, and each has its mark then, it stands for one text more
 -- where the event adds an entry, and for the same texts where it adds none.
-stands_next : TextLaws → (performance : Performance) (caller : ℕ) (event : Event) (before boxes : List Told) (texts : List (List ℕ)) (mark : ℕ) → StandsFor performance before texts
+stands_next : TextLaws → (performance : Performance) (caller : ℕ) (event : Event) (before boxes : List Told) (texts : List (List ℕ)) (mark : ℕ)
+    → StandsFor performance before texts
     → Legal performance.caps (onward performance caller event).history → HaveHeard (onward performance caller event) boxes
     → (adds_entry (stepped_in performance event).answer ≡ true → AreMarked (texts ++ text_with mark (entry_on performance caller event) ∷ []) boxes)
     → (adds_entry (stepped_in performance event).answer ≡ false → AreMarked texts boxes)
     → StandsNext (StandsFor (onward performance caller event) boxes) (adds_entry (stepped_in performance event).answer) texts
-stands_next laws performance caller event before boxes texts mark stands legal heard marked unmarked = go (adds_entry (stepped_in performance event).answer) refl legal heard where
+stands_next laws performance caller event before boxes texts mark stands legal heard marked unmarked =
+    go (adds_entry (stepped_in performance event).answer) refl legal heard where
   entry : Entry
   entry = entry_on performance caller event
 
   next : Bool → Performance
   next t = cond t (record performance { history = performance.history ++ entry ∷ [] }) performance
 
-  go : (t : Bool) → adds_entry (stepped_in performance event).answer ≡ t → Legal performance.caps (next t).history → HaveHeard (next t) boxes → StandsNext (StandsFor (next t) boxes) t texts
+  go : (t : Bool) → adds_entry (stepped_in performance event).answer ≡ t → Legal performance.caps (next t).history → HaveHeard (next t) boxes
+      → StandsNext (StandsFor (next t) boxes) t texts
   go true is legal heard =
       let read = last_read laws performance.caps performance.history entry mark legal in
       let written = written_more performance.history texts entry mark stands.written in (
@@ -151,33 +161,43 @@ stands_next laws performance caller event before boxes texts mark stands legal h
           read = read_more texts (text_with mark entry) entry read ∙ ap (λ (h : List Entry). h ++ entry ∷ []) stands.read;
           heard = heard;
           marked = marked is;
-          few = omega (arith, few_legal performance.caps (performance.history ++ entry ∷ []) legal, as_many (performance.history ++ entry ∷ []) (texts ++ text_with mark entry ∷ []) written);
+          few = omega (arith, few_legal performance.caps (performance.history ++ entry ∷ []) legal, as_many (performance.history ++ entry ∷ [])
+              (texts ++ text_with mark entry ∷ []) written);
         },
       )
   go false is legal heard = record { legal = legal; written = stands.written; read = stands.read; heard = heard; marked = unmarked is; few = stands.few }
 
-pub same_next : TextLaws → (performance : Performance) (caller : ℕ) (event : Event) (boxes : List Told) (texts : List (List ℕ)) → StandsFor performance boxes texts
+pub same_next : TextLaws → (performance : Performance) (caller : ℕ) (event : Event) (boxes : List Told) (texts : List (List ℕ))
+    → StandsFor performance boxes texts
     → Legal performance.caps (onward performance caller event).history → HaveHeard (onward performance caller event) boxes
     → StandsNext (StandsFor (onward performance caller event) boxes) (adds_entry (stepped_in performance event).answer) texts
 same_next laws performance caller event boxes texts stands legal heard =
-    stands_next laws performance caller event boxes boxes texts 0 stands legal heard (λ is. marked_more texts (text_with 0 (entry_on performance caller event)) boxes stands.marked) (λ is. stands.marked)
+    stands_next laws performance caller event boxes boxes texts 0 stands legal heard
+        (λ is. marked_more texts (text_with 0 (entry_on performance caller event)) boxes stands.marked) (λ is. stands.marked)
 
-pub called_next : TextLaws → (performance : Performance) (caller : ℕ) (event : Event) (invocations : List Invocation) (boxes : List Told) (texts : List (List ℕ)) → StandsFor performance boxes texts
+pub called_next : TextLaws
+    → (performance : Performance) (caller : ℕ) (event : Event) (invocations : List Invocation) (boxes : List Told) (texts : List (List ℕ))
+    → StandsFor performance boxes texts
     → Legal performance.caps (onward performance caller event).history → HaveHeard (onward performance caller event) (all_hear invocations boxes)
     → StandsNext (StandsFor (onward performance caller event) (all_hear invocations boxes)) (adds_entry (stepped_in performance event).answer) texts
 called_next laws performance caller event invocations boxes texts stands legal heard =
     let marked = called_marked texts invocations boxes stands.marked in
-    stands_next laws performance caller event boxes (all_hear invocations boxes) texts 0 stands legal heard (λ is. marked_more texts (text_with 0 (entry_on performance caller event)) (all_hear invocations boxes) marked) (λ is. marked)
+    stands_next laws performance caller event boxes (all_hear invocations boxes) texts 0 stands legal heard
+        (λ is. marked_more texts (text_with 0 (entry_on performance caller event)) (all_hear invocations boxes) marked) (λ is. marked)
 
-pub fewer_next : TextLaws → (performance : Performance) (caller : ℕ) (event : Event) (id : ℕ) (boxes : List Told) (texts : List (List ℕ)) → StandsFor performance boxes texts
+pub fewer_next : TextLaws → (performance : Performance) (caller : ℕ) (event : Event) (id : ℕ) (boxes : List Told) (texts : List (List ℕ))
+    → StandsFor performance boxes texts
     → Legal performance.caps (onward performance caller event).history → HaveHeard (onward performance caller event) (without_id id boxes)
     → StandsNext (StandsFor (onward performance caller event) (without_id id boxes)) (adds_entry (stepped_in performance event).answer) texts
 fewer_next laws performance caller event id boxes texts stands legal heard =
     let marked = fewer_marked texts id boxes stands.marked in
-    stands_next laws performance caller event boxes (without_id id boxes) texts 0 stands legal heard (λ is. marked_more texts (text_with 0 (entry_on performance caller event)) (without_id id boxes) marked) (λ is. marked)
+    stands_next laws performance caller event boxes (without_id id boxes) texts 0 stands legal heard
+        (λ is. marked_more texts (text_with 0 (entry_on performance caller event)) (without_id id boxes) marked) (λ is. marked)
 
-pub more_next : TextLaws → (performance : Performance) (caller : ℕ) (event : Event) (told : Told) (boxes : List Told) (texts : List (List ℕ)) → StandsFor performance boxes texts
-    → Legal performance.caps (onward performance caller event).history → (stepped_in performance event).answer ≡ added told.id → HaveHeard (onward performance caller event) (boxes ++ reset told ∷ [])
+pub more_next : TextLaws → (performance : Performance) (caller : ℕ) (event : Event) (told : Told) (boxes : List Told) (texts : List (List ℕ))
+    → StandsFor performance boxes texts
+    → Legal performance.caps (onward performance caller event).history → (stepped_in performance event).answer ≡ added told.id
+        → HaveHeard (onward performance caller event) (boxes ++ reset told ∷ [])
     → StandsNext (StandsFor (onward performance caller event) (boxes ++ reset told ∷ [])) (adds_entry (stepped_in performance event).answer) texts
 more_next laws performance caller event told boxes texts stands legal is heard =
     stands_next laws performance caller event boxes (boxes ++ reset told ∷ []) texts (mark_of told) stands legal heard
@@ -194,18 +214,24 @@ more_next laws performance caller event told boxes texts stands legal is heard =
 
     own : adds_entry (stepped_in performance event).answer ≡ true → CarriesMark (texts ++ text ∷ []) told.id (mark_of (reset told))
     own adds =
-        let whole : Legal performance.caps (performance.history ++ entry ∷ []) = subst (λ (t : Bool). Legal performance.caps (cond t (record performance { history = performance.history ++ entry ∷ [] }) performance).history) adds legal in
+        let whole : Legal performance.caps (performance.history ++ entry ∷ []) =
+            subst (λ (t : Bool). Legal performance.caps (cond t (record performance { history = performance.history ++ entry ∷ [] }) performance).history) adds
+            legal in
         let read : entry_in text ≡ Some entry = last_read laws performance.caps performance.history entry (mark_of told) whole in (
           entry,
           is,
-          subst (λ (h : List Entry). Contains h entry) (sym (read_more texts text entry read)) (Contains-append_right (history_in texts) (entry ∷ []) entry (0, omega arith, refl)),
-          subst (λ (m : ℕ). Contains (texts ++ text ∷ []) (text_with m entry)) (sym (reset_mark told)) (Contains-append_right texts (text ∷ []) text (0, omega arith, refl)),
+          subst (λ (h : List Entry). Contains h entry) (sym (read_more texts text entry read))
+              (Contains-append_right (history_in texts) (entry ∷ []) entry (0, omega arith, refl)),
+          subst (λ (m : ℕ). Contains (texts ++ text ∷ []) (text_with m entry)) (sym (reset_mark told))
+              (Contains-append_right texts (text ∷ []) text (0, omega arith, refl)),
         )
 
 -- what is stood for stays as performance and boxes are spelled otherwise
-pub stood : (next onwards : Performance) (new boxes : List Told) (t : Bool) (texts : List (List ℕ)) → next ≡ onwards → new ≡ boxes → StandsNext (StandsFor onwards boxes) t texts → StandsNext (StandsFor next new) t texts
+pub stood : (next onwards : Performance) (new boxes : List Told) (t : Bool) (texts : List (List ℕ)) → next ≡ onwards → new ≡ boxes
+    → StandsNext (StandsFor onwards boxes) t texts → StandsNext (StandsFor next new) t texts
 stood next onwards new boxes t texts is same stands =
-    subst (λ (p : Performance). StandsNext (StandsFor p new) t texts) (sym is) (subst (λ (b : List Told). StandsNext (StandsFor onwards b) t texts) (sym same) stands)
+    subst (λ (p : Performance). StandsNext (StandsFor p new) t texts) (sym is)
+        (subst (λ (b : List Told). StandsNext (StandsFor onwards b) t texts) (sym same) stands)
 
 -- The texts in which boxes that left have the mark 0.
 
@@ -213,13 +239,15 @@ own_written : (boxes : List Told) (entries : List Entry) → AreTexts entries (t
 own_written boxes [] = tt
 own_written boxes (entry ∷ entries) = ((mark_by boxes entry.answer, refl), own_written boxes entries)
 
-own_read : TextLaws → (caps : Limits) (boxes : List Told) (past entries : List Entry) → Legal caps (past ++ entries) → history_in (texts_of boxes entries) ≡ entries
+own_read : TextLaws → (caps : Limits) (boxes : List Told) (past entries : List Entry) → Legal caps (past ++ entries)
+    → history_in (texts_of boxes entries) ≡ entries
 own_read laws caps boxes past [] legal = refl
 own_read laws caps boxes past (entry ∷ entries) legal =
     let whole : Legal caps ((past ++ entry ∷ []) ++ entries) = subst (Legal caps) (sym (append_assoc past (entry ∷ []) entries)) legal in
     let until : Legal caps (past ++ entry ∷ []) = (whole.0, (legal_split (opening caps) (past ++ entry ∷ []) entries whole.1).0) in
     let read = last_read laws caps past entry (mark_by boxes entry.answer) until in
-    ap (λ (o : Option Entry). cons_option o (history_in (texts_of boxes entries))) read ∙ ap (λ (l : List Entry). entry ∷ l) (own_read laws caps boxes (past ++ entry ∷ []) entries whole)
+    ap (λ (o : Option Entry). cons_option o (history_in (texts_of boxes entries))) read
+        ∙ ap (λ (l : List Entry). entry ∷ l) (own_read laws caps boxes (past ++ entry ∷ []) entries whole)
 
 contains_map : {X Y : Type 0} (f : X → Y) (xs : List X) (x : X) → Contains xs x → Contains (map f xs) (f x)
 contains_map f [] x (k, lt, is) = absurd (omega arith)
@@ -240,11 +268,14 @@ own_marks (told ∷ boxes) ascending =
     other : (a b : ℕ) → b ≢ a → (a == b) ≡ false
     other a b apart = grind (arith, nat_tests)
 
-    later : (others : List Told) → AllByRecursion (λ id. id ≢ told.id) (map (λ (one : Told). one.id) others) → AllByRecursion (λ one. mark_in boxes one.id ≡ mark_of one) others → AllByRecursion (λ one. mark_in (told ∷ boxes) one.id ≡ mark_of one) others
+    later : (others : List Told) → AllByRecursion (λ id. id ≢ told.id) (map (λ (one : Told). one.id) others)
+        → AllByRecursion (λ one. mark_in boxes one.id ≡ mark_of one) others → AllByRecursion (λ one. mark_in (told ∷ boxes) one.id ≡ mark_of one) others
     later [] apart are = tt
-    later (one ∷ others) apart are = (ap (λ (t : Bool). cond t (mark_of told) (mark_in boxes one.id)) (other told.id one.id apart.0) ∙ are.0, later others apart.1 are.1)
+    later (one ∷ others) apart are =
+        (ap (λ (t : Bool). cond t (mark_of told) (mark_in boxes one.id)) (other told.id one.id apart.0) ∙ are.0, later others apart.1 are.1)
 
-own_marked : (entries : List Entry) (all boxes : List Told) → history_in (texts_of all entries) ≡ entries → AllByRecursion (IsAdded entries) (map (λ told. told.id) boxes)
+own_marked : (entries : List Entry) (all boxes : List Told) → history_in (texts_of all entries) ≡ entries
+    → AllByRecursion (IsAdded entries) (map (λ told. told.id) boxes)
     → AllByRecursion (λ told. mark_in all told.id ≡ mark_of told) boxes → AreMarked (texts_of all entries) boxes
 own_marked entries all [] again are marks = tt
 own_marked entries all (told ∷ boxes) again are marks = (one are.0 marks.0, own_marked entries all boxes again are.1 marks.1) where
@@ -254,11 +285,13 @@ own_marked entries all (told ∷ boxes) again are marks = (one are.0 marks.0, ow
         entry,
         is,
         subst (λ (h : List Entry). Contains h entry) (sym again) held,
-        subst (λ (m : ℕ). Contains (texts_of all entries) (text_with m entry)) same (contains_map (λ (e : Entry). text_with (mark_by all e.answer) e) entries entry held),
+        subst (λ (m : ℕ). Contains (texts_of all entries) (text_with m entry)) same
+            (contains_map (λ (e : Entry). text_with (mark_by all e.answer) e) entries entry held),
       )
 
 -- a server whose boxes have heard its history stands for these texts
-pub own_texts : TextLaws → (performance : Performance) (boxes : List Told) → is_ascending (map (λ told. told.id) boxes) ≡ true → Legal performance.caps performance.history → HaveHeard performance boxes
+pub own_texts : TextLaws → (performance : Performance) (boxes : List Told) → is_ascending (map (λ told. told.id) boxes) ≡ true
+    → Legal performance.caps performance.history → HaveHeard performance boxes
     → StandsFor performance boxes (texts_of boxes performance.history)
 own_texts laws performance boxes ascending legal heard =
     let read = own_read laws performance.caps boxes [] performance.history legal in
@@ -269,5 +302,6 @@ own_texts laws performance boxes ascending legal heard =
       read = read;
       heard = heard;
       marked = own_marked performance.history boxes boxes read added (own_marks boxes ascending);
-      few = omega (arith, few_legal performance.caps performance.history legal, as_many performance.history (texts_of boxes performance.history) (own_written boxes performance.history));
+      few = omega (arith, few_legal performance.caps performance.history legal, as_many performance.history (texts_of boxes performance.history)
+          (own_written boxes performance.history));
     }

@@ -84,6 +84,7 @@ ticking_of (ticking.ClockBack clock) = clock_back clock
 
 -- what a release is told of an answer: of the hits it is told how many there are
 abbrev pub TellsRelease : Releasing → Answer → Type 0
-TellsRelease (releasing.Released unit calls) answer = (hits : List Hit) × (answer ≡ released unit hits) × (calls ≡ length hits)
+TellsRelease (releasing.Released unit calls) answer =
+    (hits : List Hit) × (answer ≡ released unit hits) × (calls ≡ length hits)
 TellsRelease (releasing.NothingDue next) answer = answer ≡ nothing_due next
 TellsRelease (releasing.RecordFull room) answer = answer ≡ record_full (room_of room)

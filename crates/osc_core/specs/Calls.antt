@@ -1,4 +1,4 @@
--- Calls by the ids of methods.
+-- Inside the crate: calls by the ids of methods.
 use Rattle.std.specs.Prelude.{ℕ, List, [], unwrap_or, if◌then◌else◌, is_some}
 use Rattle.osc_pattern.specs.Methods.{Method}
 use Rattle.osc_message.specs.Reading.{pattern_of}
@@ -10,15 +10,19 @@ use Rattle.osc_model.specs.Events.{Call, Hit, Invocation}
 
 -- the call of the method with an id, with the unit's message at an index
 abbrev pub call_by : List Method → ℕ → List ℕ → ℕ → Call
-call_by methods index message id = record { index = index; id = id; address = unwrap_or (address_by_id methods id) []; message = message }
+call_by methods index message id =
+    record { index = index; id = id; address = unwrap_or (address_by_id methods id) [];
+    message = message }
 
 -- the invocation that a call makes of the method with an id
 abbrev pub invocation_by : List Method → CodeCall → ℕ → Invocation
-invocation_by methods call id = record { unit = call.unit; call = call_by methods call.index call.message id }
+invocation_by methods call id =
+    record { unit = call.unit; call = call_by methods call.index call.message id }
 
 -- the ids of the methods that a message invokes
 abbrev pub invoked_ids : List Method → List ℕ → List ℕ
-invoked_ids methods message = if is_some (unknown_of message) then [] else matching_ids (pattern_of message) methods
+invoked_ids methods message = if is_some (unknown_of message) then []
+    else matching_ids (pattern_of message) methods
 
 -- the hit of an invocation
 abbrev pub hit_by : Invocation → Hit

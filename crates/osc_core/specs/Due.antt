@@ -1,4 +1,4 @@
--- What a release comes to.
+-- Inside the crate: what a release comes to.
 use Rattle.std.specs.Prelude.{◌≡◌, ℕ, ◌+◌, ◌*◌, ◌≤◌, List, [], length, map, Option, Some}
 use Rattle.osc_atoms.specs.declared.room.Room.{Room}
 use Rattle.osc_model.specs.State.{State}
@@ -15,13 +15,16 @@ abbrev pub IsDue : State → ℕ → List Hit → Type 0
 IsDue state unit hits = (decided state release).answer ≡ released unit hits
 
 -- the unit that is due leaves the tables, and its release is recorded with its hits
-pub record IsReleased (unit calls caller : ℕ) (old new : State) (before after : Recording) : Type 0 where
+pub record IsReleased (unit calls caller : ℕ) (old new : State)
+    (before after : Recording) : Type 0 where
   pub hits : List Hit
   pub due : IsDue old unit hits
   pub many : calls ≡ length hits
   pub fits : length (recording_text before) + (44 + 8 * calls) ≤ before.caps.recording
   pub state : new ≡ (decided old release).state
-  pub recorder : after ≡ with_hits (with_release before caller unit calls) (map hit_by (decided old release).invocations)
+  pub recorder : after
+      ≡ with_hits (with_release before caller unit calls)
+      (map hit_by (decided old release).invocations)
 
 -- there is no room for the entry of the unit that is due, and all stays
 pub record IsKeptBack (room : Room) (old new : State) (before after : Recording) : Type 0 where
@@ -40,9 +43,11 @@ pub record IsIdle (next : Option ℕ) (old new : State) (before after : Recordin
 
 -- what becomes of the tables and of the recording, by what a caller's release is answered
 abbrev pub Releases : Releasing → ℕ → State → State → Recording → Recording → Type 0
-Releases (releasing.Released unit calls) caller old new before after = IsReleased unit calls caller old new before after
+Releases (releasing.Released unit calls) caller old new before after =
+    IsReleased unit calls caller old new before after
 Releases (releasing.NothingDue next) caller old new before after = IsIdle next old new before after
-Releases (releasing.RecordFull room) caller old new before after = IsKeptBack room old new before after
+Releases (releasing.RecordFull room) caller old new before after =
+    IsKeptBack room old new before after
 
 -- the invocations that are made: none, unless a unit is released
 abbrev pub made_by : Releasing → List Invocation → List Invocation

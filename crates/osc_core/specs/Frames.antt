@@ -1,4 +1,5 @@
 -- How messages are kept in a list of bytes: each after its length in 4 bytes.
+use Rattle.osc_atoms.specs.declared.limits.TheConstants.{MAX_BYTES}
 use Rattle.std.specs.Prelude.{ℕ, zero, suc, ◌+◌, ◌≤◌, IsTrue, List, [], ◌∷◌, ◌++◌, length, take, drop}
 use Rattle.std.specs.Int.{w32, from_be_bytes}
 use Rattle.osc_atoms.specs.Atoms.{word}
@@ -29,4 +30,5 @@ unframed (suc count) bytes = first_framed bytes ∷ unframed count (after_framed
 abbrev pub IsFramed : ℕ → List ℕ → Type 0
 IsFramed zero bytes = Unit {0}
 IsFramed (suc count) bytes =
-    (4 + first_length bytes ≤ length bytes) × IsTrue (is_message 1073741824 (first_framed bytes)) × IsFramed count (after_framed bytes)
+    (4 + first_length bytes ≤ length bytes) × IsTrue (is_message MAX_BYTES (first_framed bytes))
+        × IsFramed count (after_framed bytes)

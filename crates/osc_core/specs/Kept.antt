@@ -7,7 +7,8 @@ pub record Kept : Type 0 where
   pub unit : ℕ
   pub messages : List (List ℕ)
 
--- what a contract sees of a store: for how many units and blocks of 64 bytes there is room, and what it keeps in the
+-- what a contract sees of a store: for how many units and blocks of 64 bytes there is room, and
+-- what it keeps in the
 -- order of entering
 pub record Stock : Type 0 where
   pub places : ℕ
@@ -27,4 +28,5 @@ messages_by (one ∷ others) unit = if one.unit == unit then one.messages else m
 -- what is kept but for the first unit with this number
 abbrev pub without_unit : List Kept → ℕ → List Kept
 without_unit [] unit = []
-without_unit (one ∷ others) unit = if one.unit == unit then others else one ∷ without_unit others unit
+without_unit (one ∷ others) unit = if one.unit == unit then others
+    else one ∷ without_unit others unit

@@ -1,4 +1,4 @@
--- What a removal is answered.
+-- Inside the crate: what a removal is answered.
 use Rattle.std.specs.Prelude.{ℕ}
 use Rattle.osc_model.specs.Events.{Answer, removed, not_there, record_full}
 use Rattle.osc_core.specs.Answers.{room_of}

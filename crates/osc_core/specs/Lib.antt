@@ -1,14 +1,17 @@
+-- What public contracts cite.
 pub mod Answers
-pub mod Calls
-pub mod Due
 pub mod Frames
-pub mod Hearing
 pub mod Ids
 pub mod Kept
-pub mod Leaving
 pub mod Playing
+pub mod Standing
+pub mod Telling
+
+-- Inside the crate.
+pub mod Calls
+pub mod Due
+pub mod Hearing
+pub mod Leaving
 pub mod Recorded
 pub mod Sections
-pub mod Standing
 pub mod Views
-pub mod Telling

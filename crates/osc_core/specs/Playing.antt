@@ -15,7 +15,8 @@ tables state = record state { caps = record state.caps { recording = 0 }; record
 abbrev pub performance_of : Recording → Performance
 performance_of recording = record { caps = recording.caps; history = recording.entries }
 
--- the recording is of a legal history, whose entries are counted, and owes no hit; and the server is what that left
+-- the recording is of a legal history, whose entries are counted, and owes no hit; and the server
+-- is what that left
 pub record IsPlaying (server : State) (recorder : Recording) (entries : ℕ) : Type 0 where
   pub legal : Legal recorder.caps recorder.entries
   pub server_is : server ≡ tables (state_of (performance_of recorder))
@@ -32,19 +33,27 @@ pub record AreSmall (server : State) (count : ℕ) : Type 0 where
   pub few : count ≤ 1073741824
 
 -- an event for whose entry there is no room
-pub record IsFull (performance : Performance) (caller : ℕ) (event : Event) (need free : ℕ) : Type 0 where
-  pub answer : (stepped_in performance event).answer ≡ record_full (record { need = need; free = free })
+pub record IsFull (performance : Performance) (caller : ℕ) (event : Event)
+    (need free : ℕ) : Type 0 where
+  pub answer : (stepped_in performance event).answer
+      ≡ record_full (record { need = need; free = free })
   pub silent : (stepped_in performance event).invocations ≡ []
   pub stays : onward performance caller event ≡ performance
 
 -- an event that is answered, and whose entry is appended
-pub record IsPlayed (server : State) (recorder : Recording) (entries caller : ℕ) (event : Event) (answer : Answer) : Type 0 where
+pub record IsPlayed (server : State) (recorder : Recording) (entries caller : ℕ) (event : Event)
+    (answer : Answer) : Type 0 where
   pub answer_is : (stepped_in (performance_of recorder) event).answer ≡ answer
-  pub invocations : (stepped_in (performance_of recorder) event).invocations ≡ (decided server event).invocations
-  pub goes_on : onward (performance_of recorder) caller event ≡ performance_of (appended recorder (record { caller = caller; event = event; answer = answer }))
+  pub invocations : (stepped_in (performance_of recorder) event).invocations
+      ≡ (decided server event).invocations
+  pub goes_on : onward (performance_of recorder) caller event
+      ≡ performance_of
+      (appended recorder (record { caller = caller; event = event; answer = answer }))
   pub recordable : IsRecordable caller event answer
-  pub fits : length (recording_text recorder) + length (entry_text caller event answer) ≤ recorder.caps.recording
-  pub playing : IsPlaying (decided server event).state (appended recorder (record { caller = caller; event = event; answer = answer })) (entries + 1)
+  pub fits : length (recording_text recorder) + length (entry_text caller event answer)
+      ≤ recorder.caps.recording
+  pub playing : IsPlaying (decided server event).state
+      (appended recorder (record { caller = caller; event = event; answer = answer })) (entries + 1)
 
 -- an event that neither adds nor removes a method, nor calls one
 abbrev pub IsQuiet : Event → Type 0

@@ -1,4 +1,4 @@
--- The hits of a release that is being recorded.
+-- Inside the crate: the hits of a release that is being recorded.
 use Rattle.std.specs.Prelude.{ℕ, ◌+◌, ◌*◌, ◌≤◌, ◌≡◌, List, [], ◌∷◌, length, Option, Some, None, Result, Ok, Err}
 use Rattle.osc_model.specs.Events.{Call, Hit}
 use Rattle.osc_model.specs.Step.{hits_of}
@@ -21,12 +21,15 @@ with_hits recording (hit ∷ hits) = with_hits (with_hit recording hit) hits
 -- there is room for so many bytes; or it tells how many are free, which are fewer
 abbrev pub TellsRoom : Option Room → Recording → ℕ → Type 0
 TellsRoom None recording size = length (recording_text recording) + size ≤ recording.caps.recording
-TellsRoom (Some room) recording size = (room.need ≡ size) × (room.free + length (recording_text recording) ≡ recording.caps.recording)
+TellsRoom (Some room) recording size =
+    (room.need ≡ size) × (room.free + length (recording_text recording) ≡ recording.caps.recording)
 
--- the calls of a unit that a caller releases are recorded, where there is room for the entry; else all stays
+-- the calls of a unit that a caller releases are recorded, where there is room for the entry; else
+-- all stays
 abbrev pub RecordsCalls : Result ℕ Room → ℕ → ℕ → List Call → Recording → Recording → Type 0
 RecordsCalls (Ok count) caller unit calls old new =
     (count ≡ length calls)
     × (length (recording_text old) + (44 + 8 * count) ≤ old.caps.recording)
     × (new ≡ with_hits (with_release old caller unit count) (hits_of calls))
-RecordsCalls (Err room) caller unit calls old new = TellsRoom (Some room) old (44 + 8 * length calls) × (new ≡ old)
+RecordsCalls (Err room) caller unit calls old new =
+    TellsRoom (Some room) old (44 + 8 * length calls) × (new ≡ old)

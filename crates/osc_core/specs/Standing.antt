@@ -20,16 +20,19 @@ mark_after _ mark = []
 
 -- an entry's text: its bytes, and a mark where a method was added
 abbrev pub text_with : ℕ → Entry → List ℕ
-text_with mark entry = entry_text entry.caller entry.event entry.answer ++ mark_after entry.answer mark
+text_with mark entry =
+    entry_text entry.caller entry.event entry.answer ++ mark_after entry.answer mark
 
 -- each text is that of an entry, with some mark
 abbrev pub AreTexts : List Entry → List (List ℕ) → Type 0
 AreTexts [] [] = Unit {0}
-AreTexts (entry ∷ entries) (text ∷ texts) = ((mark : ℕ) × (text ≡ text_with mark entry)) × AreTexts entries texts
+AreTexts (entry ∷ entries) (text ∷ texts) =
+    ((mark : ℕ) × (text ≡ text_with mark entry)) × AreTexts entries texts
 AreTexts _ _ = ⊥
 
 -- so there are as many texts as entries
-pub as_many : (entries : List Entry) (texts : List (List ℕ)) → AreTexts entries texts → length texts ≡ length entries
+pub as_many : (entries : List Entry) (texts : List (List ℕ)) → AreTexts entries texts
+    → length texts ≡ length entries
 as_many [] [] are = refl
 as_many [] (text ∷ texts) are = absurd are
 as_many (entry ∷ entries) [] are = absurd are
@@ -41,15 +44,18 @@ history_in texts = filter_map entry_in texts
 
 -- the entry that added the method with the id has this mark
 abbrev pub CarriesMark : List (List ℕ) → ℕ → ℕ → Type 0
-CarriesMark texts id mark = (entry : Entry) × (entry.answer ≡ added id) × Contains (history_in texts) entry × Contains texts (text_with mark entry)
+CarriesMark texts id mark = (entry : Entry) × (entry.answer ≡ added id)
+    × Contains (history_in texts) entry × Contains texts (text_with mark entry)
 
 -- each box has the mark of its id's entry
 abbrev pub AreMarked : List (List ℕ) → List Told → Type 0
 AreMarked texts boxes = AllByRecursion (λ told. CarriesMark texts told.id (mark_of told)) boxes
 
--- The texts are those of a server's history, which is legal and which its boxes have heard, and each box has the mark of
+-- The texts are those of a server's history, which is legal and which its boxes have heard, and
+-- each box has the mark of
 -- its id's entry; and there are so few that the turn can count them.
-pub record StandsFor (performance : Performance) (boxes : List Told) (texts : List (List ℕ)) : Type 0 where
+pub record StandsFor (performance : Performance) (boxes : List Told)
+    (texts : List (List ℕ)) : Type 0 where
   pub legal : Legal performance.caps performance.history
   pub written : AreTexts performance.history texts
   pub read : history_in texts ≡ performance.history
@@ -57,14 +63,19 @@ pub record StandsFor (performance : Performance) (boxes : List Told) (texts : Li
   pub marked : AreMarked texts boxes
   pub few : length texts < 2 ^ 62
 
--- what a server stood for before an event, it stands for then, with one text more where the event adds an entry
+-- what a server stood for before an event, it stands for then, with one text more where the event
+-- adds an entry
 abbrev pub GoesOn : Event → Performance → List Told → Performance → List Told → Type 0
 GoesOn event before boxes after left = (texts : List (List ℕ)) → StandsFor before boxes texts
     → StandsNext (StandsFor after left) (adds_entry (stepped_in before event).answer) texts
 
 -- all lists of texts that a server stands for have one length
-pub one_length : (performance : Performance) (boxes : List Told) (texts others : List (List ℕ)) → StandsFor performance boxes texts → StandsFor performance boxes others → length texts ≡ length others
-one_length performance boxes texts others one two = as_many performance.history texts one.written ∙ sym (as_many performance.history others two.written)
+pub one_length : (performance : Performance) (boxes : List Told) (texts others : List (List ℕ))
+    → StandsFor performance boxes texts → StandsFor performance boxes others
+    → length texts ≡ length others
+one_length performance boxes texts others one two =
+    as_many performance.history texts one.written
+    ∙ sym (as_many performance.history others two.written)
 
 -- the mark of the box with the id
 abbrev pub mark_in : List Told → ℕ → ℕ

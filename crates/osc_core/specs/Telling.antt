@@ -4,4 +4,5 @@ use Rattle.osc_model.specs.Heard.{Told}
 
 -- of each box its id, how many bytes it keeps, and the bytes that it tells
 abbrev pub told : {M : Type 0} → (M → ℕ) → (M → Option (List ℕ)) → List (ℕ × M) → List Told
-told keep heard boxes = map (λ one. record { id = one.0; keep = keep one.1; heard = heard one.1 }) boxes
+told keep heard boxes =
+    map (λ one. record { id = one.0; keep = keep one.1; heard = heard one.1 }) boxes

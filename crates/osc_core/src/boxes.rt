@@ -11,8 +11,11 @@ use osc_method::{Call, Method};
 /// Keeps a box, which is reset, in room that is there.
 pub(crate) fn keep_box<M: Method>(boxes: &mut Vec<(u32, M)>, id: u32, mut method: M)
     requires { vec_len boxes.old < vec_capacity boxes.old }
-    ensures boxes { told M.keep M.heard boxes.new.items ≡ told M.keep M.heard boxes.old.items ++ reset (record { id = id; keep = M.keep method; heard = M.heard method }) ∷ [] }
-    ensures ids { map (λ one. one.0) boxes.new.items ≡ map (λ one. one.0) boxes.old.items ++ id ∷ [] }
+    ensures boxes { told M.keep M.heard boxes.new.items
+        ≡ told M.keep M.heard boxes.old.items
+        ++ reset (record { id = id; keep = M.keep method; heard = M.heard method }) ∷ [] }
+    ensures ids { map (λ one. one.0) boxes.new.items
+        ≡ map (λ one. one.0) boxes.old.items ++ id ∷ [] }
     ensures capacity { vec_capacity boxes.old ≤ vec_capacity boxes.new }
 {
     method.reset();
@@ -26,9 +29,13 @@ pub(crate) fn keep_box<M: Method>(boxes: &mut Vec<(u32, M)>, id: u32, mut method
 pub(crate) fn hand_out<M: Method>(boxes: &mut Vec<(u32, M)>, id: u32) -> M
     requires ascending { IsTrue (is_ascending (map (λ one. one.0) boxes.old.items)) }
     requires held { Contains (map (λ one. one.0) boxes.old.items) id }
-    ensures removed { Contains {X = Told} (map (λ one. record { id = one.0; keep = M.keep one.1; heard = M.heard one.1 }) boxes.old.items) (record { id = id; keep = M.keep result; heard = M.heard result }) }
-    ensures others { told M.keep M.heard boxes.new.items ≡ without_id id (told M.keep M.heard boxes.old.items) }
-    ensures ids { map (λ one. one.0) boxes.new.items ≡ without id (map (λ one. one.0) boxes.old.items) }
+    ensures removed { Contains {X = Told}
+        (map (λ one. record { id = one.0; keep = M.keep one.1; heard = M.heard one.1 })
+        boxes.old.items) (record { id = id; keep = M.keep result; heard = M.heard result }) }
+    ensures others { told M.keep M.heard boxes.new.items
+        ≡ without_id id (told M.keep M.heard boxes.old.items) }
+    ensures ids { map (λ one. one.0) boxes.new.items
+        ≡ without id (map (λ one. one.0) boxes.old.items) }
     ensures capacity { vec_capacity boxes.old ≤ vec_capacity boxes.new }
 {
     match place_of(boxes, id) {
@@ -42,7 +49,10 @@ pub(crate) fn invoke_one<M: Method>(boxes: &mut Vec<(u32, M)>, id: u32, call: &C
     requires { IsTrue (is_ascending (map (λ one. one.0) boxes.old.items)) }
     ensures ids { map (λ one. one.0) boxes.new.items ≡ map (λ one. one.0) boxes.old.items }
     ensures capacity { vec_capacity boxes.old ≤ vec_capacity boxes.new }
-    ensures boxes { (methods : List MethodAt) → told M.keep M.heard boxes.new.items ≡ map (λ told. hear told (invocation_by methods call.now id)) (told M.keep M.heard boxes.old.items) }
+    ensures boxes { (methods : List MethodAt)
+        → told M.keep M.heard boxes.new.items
+        ≡ map (λ told. hear told (invocation_by methods call.now id))
+        (told M.keep M.heard boxes.old.items) }
 {
     if let Some(place) = place_of(boxes, id) {
         invoke(&mut boxes[place], call);
@@ -52,7 +62,10 @@ pub(crate) fn invoke_one<M: Method>(boxes: &mut Vec<(u32, M)>, id: u32, call: &C
 /// A box hears a call.
 fn invoke<M: Method>(boxed: &mut (u32, M), call: &Call<'_>)
     ensures id { boxed.new.0 ≡ boxed.old.0 }
-    ensures told { (methods : List MethodAt) → record { id = boxed.new.0; keep = M.keep boxed.new.1; heard = M.heard boxed.new.1 } ≡ hear (record { id = boxed.old.0; keep = M.keep boxed.old.1; heard = M.heard boxed.old.1 }) (invocation_by methods call.now boxed.old.0) }
+    ensures told { (methods : List MethodAt)
+        → record { id = boxed.new.0; keep = M.keep boxed.new.1; heard = M.heard boxed.new.1 }
+        ≡ hear (record { id = boxed.old.0; keep = M.keep boxed.old.1; heard = M.heard boxed.old.1 })
+        (invocation_by methods call.now boxed.old.0) }
 {
     boxed.1.invoke(call);
 }

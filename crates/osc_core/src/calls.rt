@@ -18,7 +18,7 @@ use osc_atoms::Room;
 use osc_message::Message;
 use osc_method::{Call, Method as Called};
 use osc_pattern::{Pattern, Steps};
-use osc_record::Recorder;
+use osc_record::{Recorder, release_size};
 use osc_tree::{Hits, Tree};
 use std::marker::Brand;
 use std::sync::ledger::{Blank, Ledger};
@@ -42,7 +42,8 @@ pub(crate) fn release_unit<M: Called>(
     requires whole { recorder.old.begun ≡ None }
     requires small { recorder.old.caps.recording < 2 ^ 32 }
     requires ascending { IsTrue (is_ascending (map (λ one. one.0) boxes.old.items)) }
-    ensures recorder { RecordsCalls result caller unit (calls_from tree.now.methods 0 messages.entry)
+    ensures recorder { RecordsCalls result caller unit
+        (calls_from tree.now.methods 0 messages.entry)
         recorder.old recorder.new }
     ensures boxes { OnOk result (told M.keep M.heard boxes.new.items
         ≡ all_hear (invocations_of unit (calls_from tree.now.methods 0 messages.entry))
@@ -84,7 +85,8 @@ fn release_all<M: Called>(
     requires whole { recorder.old.begun ≡ None }
     requires small { recorder.old.caps.recording < 2 ^ 32 }
     requires ascending { IsTrue (is_ascending (map (λ one. one.0) boxes.old.items)) }
-    ensures recorder { RecordsCalls result caller unit (calls_from tree.now.methods 0 messages.entry)
+    ensures recorder { RecordsCalls result caller unit
+        (calls_from tree.now.methods 0 messages.entry)
         recorder.old recorder.new }
     ensures boxes { OnOk result (told M.keep M.heard boxes.new.items
         ≡ all_hear (invocations_of unit (calls_from tree.now.methods 0 messages.entry))
@@ -114,7 +116,7 @@ fn start_release(recorder: &mut Recorder, caller: u32, unit: u64, calls: u64) ->
     ensures full { IfErr result (λ room. TellsRoom (Some room) recorder.old (44 + 8 * calls)) }
     ensures same { OnErr result (recorder.new ≡ recorder.old) }
 {
-    if let Some(room) = shortage(recorder, 44 + 8 * calls) {
+    if let Some(room) = shortage(recorder, release_size(calls)) {
         return Err(room);
     }
     let calls = calls as u32;
@@ -142,7 +144,8 @@ fn count_calls(tree: &Tree, hits: &mut Hits, messages: Messages<'_>) -> u64
 fn count_hits(tree: &Tree, hits: &mut Hits, message: &Message<'_>) -> usize
     requires { tree.now.method_limit ≤ hits.old.limit }
     ensures count { result ≡ length (invoked_ids tree.now.methods message.now) }
-    ensures calls { (index : ℕ) → map (call_by tree.now.methods index message.now) (take result hits.new.ids)
+    ensures calls { (index : ℕ)
+        → map (call_by tree.now.methods index message.now) (take result hits.new.ids)
         ≡ calls_of tree.now.methods index message.now }
     ensures within { result ≤ length hits.new.ids }
     ensures few { result ≤ tree.now.method_limit }
@@ -169,8 +172,11 @@ fn invoke_unit<M: Called>(
     requires few { length messages < 2 ^ 32 }
     requires owed { owed_by recorder.old ≡ length (calls_from tree.now.methods 0 messages) }
     requires ascending { IsTrue (is_ascending (map (λ one. one.0) boxes.old.items)) }
-    ensures recorder { recorder.new ≡ with_hits recorder.old (hits_of (calls_from tree.now.methods 0 messages.entry)) }
-    ensures boxes { told M.keep M.heard boxes.new.items ≡ all_hear (invocations_of unit (calls_from tree.now.methods 0 messages.entry)) (told M.keep M.heard boxes.old.items) }
+    ensures recorder { recorder.new
+        ≡ with_hits recorder.old (hits_of (calls_from tree.now.methods 0 messages.entry)) }
+    ensures boxes { told M.keep M.heard boxes.new.items
+        ≡ all_hear (invocations_of unit (calls_from tree.now.methods 0 messages.entry))
+        (told M.keep M.heard boxes.old.items) }
     ensures ids { map (λ one. one.0) boxes.new.items ≡ map (λ one. one.0) boxes.old.items }
     ensures capacity { vec_capacity boxes.old ≤ vec_capacity boxes.new }
     ensures limit { hits.new.limit ≡ hits.old.limit }
@@ -196,10 +202,16 @@ fn invoke_message<M: Called>(
     boxes: &mut Vec<(u32, M)>,
 )
     requires limit { tree.now.method_limit ≤ hits.old.limit }
-    requires owed { length (calls_of tree.now.methods call.now.index call.now.message) ≤ owed_by recorder.old }
+    requires owed { length (calls_of tree.now.methods call.now.index call.now.message)
+        ≤ owed_by recorder.old }
     requires ascending { IsTrue (is_ascending (map (λ one. one.0) boxes.old.items)) }
-    ensures recorder { recorder.new ≡ with_hits recorder.old (hits_of (calls_of tree.now.methods call.now.index call.now.message)) }
-    ensures boxes { told M.keep M.heard boxes.new.items ≡ all_hear (invocations_of call.now.unit (calls_of tree.now.methods call.now.index call.now.message)) (told M.keep M.heard boxes.old.items) }
+    ensures recorder { recorder.new
+        ≡ with_hits recorder.old
+        (hits_of (calls_of tree.now.methods call.now.index call.now.message)) }
+    ensures boxes { told M.keep M.heard boxes.new.items
+        ≡ all_hear (invocations_of call.now.unit
+        (calls_of tree.now.methods call.now.index call.now.message))
+        (told M.keep M.heard boxes.old.items) }
     ensures ids { map (λ one. one.0) boxes.new.items ≡ map (λ one. one.0) boxes.old.items }
     ensures capacity { vec_capacity boxes.old ≤ vec_capacity boxes.new }
     ensures limit { hits.new.limit ≡ hits.old.limit }
@@ -217,8 +229,12 @@ fn invoke_ids<M: Called>(
 )
     requires owed { length ids.now ≤ owed_by recorder.old }
     requires ascending { IsTrue (is_ascending (map (λ one. one.0) boxes.old.items)) }
-    ensures recorder { recorder.new ≡ with_hits recorder.old (map (λ id. record { index = call.now.index; id = id }) ids.now) }
-    ensures boxes { (methods : List Method) → told M.keep M.heard boxes.new.items ≡ all_hear (map (invocation_by methods call.now) ids.now) (told M.keep M.heard boxes.old.items) }
+    ensures recorder { recorder.new
+        ≡ with_hits recorder.old (map (λ id. record { index = call.now.index; id = id }) ids.now) }
+    ensures boxes { (methods : List Method)
+        → told M.keep M.heard boxes.new.items
+        ≡ all_hear (map (invocation_by methods call.now) ids.now)
+        (told M.keep M.heard boxes.old.items) }
     ensures ids { map (λ one. one.0) boxes.new.items ≡ map (λ one. one.0) boxes.old.items }
     ensures capacity { vec_capacity boxes.old ≤ vec_capacity boxes.new }
 {
@@ -233,7 +249,8 @@ fn find_hits(tree: &Tree, hits: &mut Hits, pattern: &Pattern<'_>)
     requires { tree.now.method_limit ≤ hits.old.limit }
     ensures ids { hits.new.ids ≡ matching_ids pattern.now tree.now.methods }
     ensures few { length hits.new.ids ≤ tree.now.method_limit }
-    ensures named { All (λ method. address_by_id tree.now.methods method.id ≡ Some method.address) (matching pattern.now tree.now.methods) }
+    ensures named { All (λ method. address_by_id tree.now.methods method.id ≡ Some method.address)
+        (matching pattern.now tree.now.methods) }
     ensures limit { hits.new.limit ≡ hits.old.limit }
 {
     osc_tree::laws::the_matching_methods_ascend();

@@ -103,10 +103,14 @@ impl Performance {
     ) -> Result<u32, (AddRefusal, Address)>
         requires { caller < (state_of self.old).callers }
         ensures added { IfOk result (λ id. (stepped_in self.old (add address)).answer ≡ added id) }
-        ensures refused { IfErr result (λ refused. (stepped_in self.old (add address)).answer ≡ refusal_of refused.0) }
+        ensures refused { IfErr result
+            (λ refused. (stepped_in self.old (add address)).answer ≡ refusal_of refused.0) }
         ensures performance { self.new ≡ onward self.old caller (add address) }
-        ensures new { IfOk result (λ id. All (λ method. method.id < id) (state_of self.old).methods) }
-        ensures ids { IfOk result (λ id. map (λ method. method.id) (state_of self.new).methods ≡ map (λ method. method.id) (state_of self.old).methods ++ id ∷ []) }
+        ensures new { IfOk result
+            (λ id. All (λ method. method.id < id) (state_of self.old).methods) }
+        ensures ids { IfOk result
+            (λ id. map (λ method. method.id) (state_of self.new).methods
+            ≡ map (λ method. method.id) (state_of self.old).methods ++ id ∷ []) }
         ensures room { OnOk result (length (state_of self.old).methods < self.old.caps.methods) }
         ensures handed_back { IfErr result (λ refused. refused.1 ≡ address) }
         ensures legal { Legal self.old.caps self.old.history }
@@ -138,8 +142,11 @@ impl Performance {
         requires { caller < (state_of self.old).callers }
         ensures answer { leaving_of result ≡ (stepped_in self.old (remove address.now)).answer }
         ensures performance { self.new ≡ onward self.old caller (remove address.now) }
-        ensures held { OnLeft result (λ id. Contains (map (λ method. method.id) (state_of self.old).methods) id) }
-        ensures others { OnLeft result (λ id. map (λ method. method.id) (state_of self.new).methods ≡ without id (map (λ method. method.id) (state_of self.old).methods)) }
+        ensures held { OnLeft result
+            (λ id. Contains (map (λ method. method.id) (state_of self.old).methods) id) }
+        ensures others { OnLeft result
+            (λ id. map (λ method. method.id) (state_of self.new).methods
+            ≡ without id (map (λ method. method.id) (state_of self.old).methods)) }
         ensures legal { Legal self.old.caps self.old.history }
     {
         a_performance_is_played();
@@ -176,7 +183,9 @@ impl Performance {
         requires ascending { IsTrue (is_ascending (map (λ one. one.0) boxes.old.items)) }
         ensures answer { TellsRelease result (stepped_in self.old release).answer }
         ensures performance { self.new ≡ onward self.old caller release }
-        ensures boxes { told M.keep M.heard boxes.new.items ≡ all_hear (stepped_in self.old release).invocations (told M.keep M.heard boxes.old.items) }
+        ensures boxes { told M.keep M.heard boxes.new.items
+            ≡ all_hear (stepped_in self.old release).invocations
+            (told M.keep M.heard boxes.old.items) }
         ensures ids { map (λ one. one.0) boxes.new.items ≡ map (λ one. one.0) boxes.old.items }
         ensures capacity { vec_capacity boxes.old ≤ vec_capacity boxes.new }
     {

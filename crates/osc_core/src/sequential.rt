@@ -35,19 +35,24 @@ use std::alloc::{AllocError, Global};
 pub struct Core<M: Method> {
     performance: Performance,
     boxes: Vec<(u32, M)>,
-    ghost alike: { map (λ one. one.0) boxes.items ≡ map (λ method. method.id) (state_of performance).methods },
+    ghost alike: { map (λ one. one.0) boxes.items
+        ≡ map (λ method. method.id) (state_of performance).methods },
     ghost ascending: { IsTrue (is_ascending (map (λ one. one.0) boxes.items)) },
     ghost reserved: { performance.caps.methods ≤ vec_capacity boxes },
-    ghost heard: { HaveHeard performance (told M.keep M.heard boxes.items) } by { HaveHeard-prop performance _ },
+    ghost heard: { HaveHeard performance
+        (told M.keep M.heard boxes.items) } by { HaveHeard-prop performance _ },
 }
 
 impl<M: Method> Core<M> {
     /// A server with these limits. Its clock stands at 1. The `Err` means that there is no memory for its tables.
     pub fn open(alloc: Global, caps: Caps) -> Result<Core<M>, AllocError>
-        ensures performance { IfOk result (λ core. core.performance ≡ record { caps = caps; history = [] }) }
+        ensures performance { IfOk result
+            (λ core. core.performance ≡ record { caps = caps; history = [] }) }
         ensures boxes { IfOk result (λ core. told M.keep M.heard core.boxes.items ≡ []) }
-        ensures heard { IfOk result (λ core. HaveHeard core.performance (told M.keep M.heard core.boxes.items)) }
-        ensures stands { IfOk result (λ core. StandsFor core.performance (told M.keep M.heard core.boxes.items) []) }
+        ensures heard { IfOk result
+            (λ core. HaveHeard core.performance (told M.keep M.heard core.boxes.items)) }
+        ensures stands { IfOk result
+            (λ core. StandsFor core.performance (told M.keep M.heard core.boxes.items) []) }
     {
         boxes_hear_the_history();
         Ok(Core {
@@ -61,8 +66,10 @@ impl<M: Method> Core<M> {
         requires { caller < (state_of self.old.performance).callers }
         ensures answer { enrolled_of result ≡ (stepped_in self.old.performance enrol).answer }
         ensures performance { self.new.performance ≡ onward self.old.performance caller enrol }
-        ensures boxes { told M.keep M.heard self.new.boxes.items ≡ told M.keep M.heard self.old.boxes.items }
-        ensures stands { GoesOn enrol self.old.performance (told M.keep M.heard self.old.boxes.items)
+        ensures boxes { told M.keep M.heard self.new.boxes.items
+            ≡ told M.keep M.heard self.old.boxes.items }
+        ensures stands { GoesOn enrol self.old.performance
+            (told M.keep M.heard self.old.boxes.items)
             self.new.performance (told M.keep M.heard self.new.boxes.items) }
     {
         boxes_stay();
@@ -73,10 +80,14 @@ impl<M: Method> Core<M> {
     /// Queues the packet's units, numbered in their order (docs/SERVER.md, "Units").
     pub fn submit(&mut self, caller: u32, packet: &Packet<'_>) -> Submitted
         requires { caller < (state_of self.old.performance).callers }
-        ensures answer { submitted_of result ≡ (stepped_in self.old.performance (submit packet.now)).answer }
-        ensures performance { self.new.performance ≡ onward self.old.performance caller (submit packet.now) }
-        ensures boxes { told M.keep M.heard self.new.boxes.items ≡ told M.keep M.heard self.old.boxes.items }
-        ensures stands { GoesOn (submit packet.now) self.old.performance (told M.keep M.heard self.old.boxes.items)
+        ensures answer { submitted_of result
+            ≡ (stepped_in self.old.performance (submit packet.now)).answer }
+        ensures performance { self.new.performance
+            ≡ onward self.old.performance caller (submit packet.now) }
+        ensures boxes { told M.keep M.heard self.new.boxes.items
+            ≡ told M.keep M.heard self.old.boxes.items }
+        ensures stands { GoesOn (submit packet.now) self.old.performance
+            (told M.keep M.heard self.old.boxes.items)
             self.new.performance (told M.keep M.heard self.new.boxes.items) }
     {
         boxes_stay();
@@ -90,11 +101,19 @@ impl<M: Method> Core<M> {
     pub fn add(&mut self, caller: u32, address: Address, method: M) -> Adding<M>
         requires { caller < (state_of self.old.performance).callers }
         ensures answer { adding_of result ≡ (stepped_in self.old.performance (add address)).answer }
-        ensures performance { self.new.performance ≡ onward self.old.performance caller (add address) }
-        ensures added { OnAdded result (λ id. told M.keep M.heard self.new.boxes.items ≡ told M.keep M.heard self.old.boxes.items ++ reset (record { id = id; keep = M.keep method; heard = M.heard method }) ∷ []) }
-        ensures boxes { OnRefused result (λ _ _. told M.keep M.heard self.new.boxes.items ≡ told M.keep M.heard self.old.boxes.items) }
-        ensures handed_back { OnRefused result (λ back untouched. (back ≡ address) × (untouched ≡ method)) }
-        ensures stands { GoesOn (add address) self.old.performance (told M.keep M.heard self.old.boxes.items)
+        ensures performance { self.new.performance
+            ≡ onward self.old.performance caller (add address) }
+        ensures added { OnAdded result
+            (λ id. told M.keep M.heard self.new.boxes.items
+            ≡ told M.keep M.heard self.old.boxes.items
+            ++ reset (record { id = id; keep = M.keep method; heard = M.heard method }) ∷ []) }
+        ensures boxes { OnRefused result
+            (λ _ _. told M.keep M.heard self.new.boxes.items
+            ≡ told M.keep M.heard self.old.boxes.items) }
+        ensures handed_back { OnRefused result
+            (λ back untouched. (back ≡ address) × (untouched ≡ method)) }
+        ensures stands { GoesOn (add address) self.old.performance
+            (told M.keep M.heard self.old.boxes.items)
             self.new.performance (told M.keep M.heard self.new.boxes.items) }
     {
         boxes_stay();
@@ -118,12 +137,20 @@ impl<M: Method> Core<M> {
     /// Removes the method at the address, and hands its box out with what it heard.
     pub fn remove(&mut self, caller: u32, address: &Address) -> Removing<M>
         requires { caller < (state_of self.old.performance).callers }
-        ensures answer { removing_of result ≡ (stepped_in self.old.performance (remove address.now)).answer }
-        ensures performance { self.new.performance ≡ onward self.old.performance caller (remove address.now) }
-        ensures removed { OnRemoved result (λ id method. Contains {X = Told} (told M.keep M.heard self.old.boxes.items) (record { id = id; keep = M.keep method; heard = M.heard method })) }
-        ensures others { OnRemoved result (λ id _. told M.keep M.heard self.new.boxes.items ≡ without_id id (told M.keep M.heard self.old.boxes.items)) }
-        ensures boxes { OnKept result (told M.keep M.heard self.new.boxes.items ≡ told M.keep M.heard self.old.boxes.items) }
-        ensures stands { GoesOn (remove address.now) self.old.performance (told M.keep M.heard self.old.boxes.items)
+        ensures answer { removing_of result
+            ≡ (stepped_in self.old.performance (remove address.now)).answer }
+        ensures performance { self.new.performance
+            ≡ onward self.old.performance caller (remove address.now) }
+        ensures removed { OnRemoved result
+            (λ id method. Contains {X = Told} (told M.keep M.heard self.old.boxes.items)
+            (record { id = id; keep = M.keep method; heard = M.heard method })) }
+        ensures others { OnRemoved result
+            (λ id _. told M.keep M.heard self.new.boxes.items
+            ≡ without_id id (told M.keep M.heard self.old.boxes.items)) }
+        ensures boxes { OnKept result
+            (told M.keep M.heard self.new.boxes.items ≡ told M.keep M.heard self.old.boxes.items) }
+        ensures stands { GoesOn (remove address.now) self.old.performance
+            (told M.keep M.heard self.old.boxes.items)
             self.new.performance (told M.keep M.heard self.new.boxes.items) }
     {
         boxes_stay();
@@ -146,8 +173,10 @@ impl<M: Method> Core<M> {
         requires { caller < (state_of self.old.performance).callers }
         ensures answer { ticking_of result ≡ (stepped_in self.old.performance (tick now)).answer }
         ensures performance { self.new.performance ≡ onward self.old.performance caller (tick now) }
-        ensures boxes { told M.keep M.heard self.new.boxes.items ≡ told M.keep M.heard self.old.boxes.items }
-        ensures stands { GoesOn (tick now) self.old.performance (told M.keep M.heard self.old.boxes.items)
+        ensures boxes { told M.keep M.heard self.new.boxes.items
+            ≡ told M.keep M.heard self.old.boxes.items }
+        ensures stands { GoesOn (tick now) self.old.performance
+            (told M.keep M.heard self.old.boxes.items)
             self.new.performance (told M.keep M.heard self.new.boxes.items) }
     {
         boxes_stay();
@@ -162,8 +191,11 @@ impl<M: Method> Core<M> {
         requires { caller < (state_of self.old.performance).callers }
         ensures answer { TellsRelease result (stepped_in self.old.performance release).answer }
         ensures performance { self.new.performance ≡ onward self.old.performance caller release }
-        ensures boxes { told M.keep M.heard self.new.boxes.items ≡ all_hear (stepped_in self.old.performance release).invocations (told M.keep M.heard self.old.boxes.items) }
-        ensures stands { GoesOn release self.old.performance (told M.keep M.heard self.old.boxes.items)
+        ensures boxes { told M.keep M.heard self.new.boxes.items
+            ≡ all_hear (stepped_in self.old.performance release).invocations
+            (told M.keep M.heard self.old.boxes.items) }
+        ensures stands { GoesOn release self.old.performance
+            (told M.keep M.heard self.old.boxes.items)
             self.new.performance (told M.keep M.heard self.new.boxes.items) }
     {
         boxes_stay();
@@ -197,7 +229,8 @@ impl<M: Method> Core<M> {
 
     /// The recording so far (docs/FORMATS.md, "The recording").
     pub fn bytes(&self) -> &[u8]
-        ensures text { result.now ≡ record_text self.now.performance.caps self.now.performance.history }
+        ensures text { result.now
+            ≡ record_text self.now.performance.caps self.now.performance.history }
         ensures legal { Legal self.now.performance.caps self.now.performance.history }
     {
         self.performance.bytes()
@@ -205,12 +238,15 @@ impl<M: Method> Core<M> {
 
     /// Ends the server, and hands out its recording, and its boxes with what they heard.
     pub fn close(self) -> Closed<M>
-        ensures text { result.bytes.items ≡ record_text self.performance.caps self.performance.history }
+        ensures text { result.bytes.items
+            ≡ record_text self.performance.caps self.performance.history }
         ensures legal { Legal self.performance.caps self.performance.history }
         ensures laws { KeepsTheLaws self.performance.caps self.performance.history }
-        ensures kept { told M.keep M.heard result.kept.items ≡ told M.keep M.heard self.boxes.items }
+        ensures kept { told M.keep M.heard result.kept.items
+            ≡ told M.keep M.heard self.boxes.items }
         ensures heard { HaveHeard self.performance (told M.keep M.heard result.kept.items) }
-        ensures ids { map (λ one. one.0) result.kept.items ≡ map (λ method. method.id) (state_of self.performance).methods }
+        ensures ids { map (λ one. one.0) result.kept.items
+            ≡ map (λ method. method.id) (state_of self.performance).methods }
         ensures ascending { IsTrue (is_ascending (map (λ one. one.0) result.kept.items)) }
     {
         every_history_keeps_the_laws();

@@ -52,9 +52,15 @@ impl Model for Server {
 
     ghost Value = { State };
 
-    ghost view = { λ s. record { caps = record { units = s.queue.limit; blocks = s.store.limit; methods = s.tree.method_limit; nodes = s.tree.node_limit; callers = s.caller_limit; recording = 0 }; methods = s.tree.methods; queue = queue_of s.store.kept s.queue.items; clock = s.clock; next_id = s.next_id; next_unit = s.next_unit; callers = s.callers; recorded = 0 } };
+    ghost view =
+        { λ s. record { caps = record { units = s.queue.limit; blocks = s.store.limit;
+        methods = s.tree.method_limit; nodes = s.tree.node_limit; callers =
+        s.caller_limit; recording = 0 }; methods = s.tree.methods;
+        queue = queue_of s.store.kept s.queue.items; clock = s.clock; next_id =
+        s.next_id; next_unit = s.next_unit; callers = s.callers; recorded = 0 } };
 
-    ghost invariant = { λ s. IsRunning s.tree s.hits s.store s.queue s.next_id s.next_unit s.callers s.caller_limit };
+    ghost invariant =
+        { λ s. IsRunning s.tree s.hits s.store s.queue s.next_id s.next_unit s.callers s.caller_limit };
 }
 
 impl Server {
@@ -114,10 +120,13 @@ impl Server {
     pub(crate) fn add(&mut self, address: Address) -> Result<u32, (TreeRefusal, Address)>
         requires { self.old.next_id + 1 < 2 ^ 32 }
         ensures added { IfOk result (λ id. (decided self.old (add address)).answer ≡ added id) }
-        ensures refused { IfErr result (λ why. (decided self.old (add address)).answer ≡ refused (refusal_of why.0)) }
+        ensures refused { IfErr result
+            (λ why. (decided self.old (add address)).answer ≡ refused (refusal_of why.0)) }
         ensures state { self.new ≡ (decided self.old (add address)).state }
         ensures new { IfOk result (λ id. All (λ method. method.id < id) self.old.methods) }
-        ensures ids { IfOk result (λ id. map (λ method. method.id) self.new.methods ≡ map (λ method. method.id) self.old.methods ++ id ∷ []) }
+        ensures ids { IfOk result
+            (λ id. map (λ method. method.id) self.new.methods
+            ≡ map (λ method. method.id) self.old.methods ++ id ∷ []) }
         ensures found { IfOk result (λ id. address_by_id self.new.methods id ≡ Some address) }
         ensures room { OnOk result (length self.old.methods < self.old.caps.methods) }
         ensures handed_back { IfErr result (λ refused. refused.1 ≡ address) }
@@ -149,8 +158,11 @@ impl Server {
         ensures answer { leaving_of result ≡ (decided self.old (remove address.now)).answer }
         ensures entry { IsTrue (adds_entry (leaving_of result)) }
         ensures state { self.new ≡ (decided self.old (remove address.now)).state }
-        ensures held { OnLeft result (λ id. Contains (map (λ method. method.id) self.old.methods) id) }
-        ensures others { OnLeft result (λ id. map (λ method. method.id) self.new.methods ≡ without id (map (λ method. method.id) self.old.methods)) }
+        ensures held { OnLeft result
+            (λ id. Contains (map (λ method. method.id) self.old.methods) id) }
+        ensures others { OnLeft result
+            (λ id. map (λ method. method.id) self.new.methods
+            ≡ without id (map (λ method. method.id) self.old.methods)) }
     {
         let Ok(id) = self.tree.remove(address) else {
             return Leaving::NotThere;
@@ -186,7 +198,9 @@ impl Server {
         requires small { recorder.old.caps.recording < 2 ^ 32 }
         requires ascending { IsTrue (is_ascending (map (λ one. one.0) boxes.old.items)) }
         ensures answer { Releases result caller self.old self.new recorder.old recorder.new }
-        ensures boxes { told M.keep M.heard boxes.new.items ≡ all_hear (made_by result (decided self.old release).invocations) (told M.keep M.heard boxes.old.items) }
+        ensures boxes { told M.keep M.heard boxes.new.items
+            ≡ all_hear (made_by result (decided self.old release).invocations)
+            (told M.keep M.heard boxes.old.items) }
         ensures ids { map (λ one. one.0) boxes.new.items ≡ map (λ one. one.0) boxes.old.items }
         ensures capacity { vec_capacity boxes.old ≤ vec_capacity boxes.new }
     {

@@ -1,4 +1,5 @@
 // The messages of the queued units, in room that is reserved at opening.
+ghost use Rattle.osc_atoms.specs.declared.limits.TheConstants.{MAX_BYTES};
 ghost use Rattle.std.specs.Prelude.{◌≡◌, ◌+◌, ◌/◌, ◌<◌, ◌≤◌, ◌^◌, ◌==◌, ◌++◌, ◌∷◌, [], length, map, take, drop, remove, Contains, IsTrue, IfOk, vec_len, vec_capacity};
 ghost use Rattle.std.specs.List.{list_all, list_any};
 ghost use Rattle.osc_message.specs.Reading.{is_message};
@@ -44,9 +45,13 @@ impl Model for Store {
 
     ghost Value = { Stock };
 
-    ghost view = { λ s. record { places = s.places; limit = s.limit; kept = kept_of s.sections.items s.bytes.items } };
+    ghost view =
+        { λ s. record { places = s.places; limit = s.limit;
+        kept = kept_of s.sections.items s.bytes.items } };
 
-    ghost invariant = { λ s. IsStock s.sections.items s.bytes.items s.used s.limit s.places (vec_capacity s.bytes) (vec_capacity s.sections) };
+    ghost invariant =
+        { λ s. IsStock s.sections.items s.bytes.items s.used s.limit s.places (vec_capacity s.bytes)
+        (vec_capacity s.sections) };
 }
 
 impl Store {
@@ -78,7 +83,8 @@ impl Store {
     pub(crate) fn put(&mut self, number: u64, unit: &Unit<'_>)
         requires place { length self.old.kept < self.old.places }
         requires blocks { blocks unit.now + kept_blocks self.old.kept ≤ self.old.limit }
-        ensures kept { self.new.kept ≡ self.old.kept ++ record { unit = number; messages = unit.now.messages } ∷ [] }
+        ensures kept { self.new.kept ≡ self.old.kept
+            ++ record { unit = number; messages = unit.now.messages } ∷ [] }
         ensures places { self.new.places ≡ self.old.places }
         ensures limit { self.new.limit ≡ self.old.limit }
     {
@@ -130,7 +136,7 @@ fn append(bytes: &mut Vec<u8>, messages: UnitMessages<'_>)
     requires { vec_len bytes.old + stored_size messages ≤ vec_capacity bytes.old }
     ensures items { bytes.new.items ≡ bytes.old.items ++ framed messages.entry }
     ensures capacity { vec_capacity bytes.old ≤ vec_capacity bytes.new }
-    ensures read { IsTrue (list_all (is_message 1073741824) messages.entry) }
+    ensures read { IsTrue (list_all (is_message MAX_BYTES) messages.entry) }
 {
     for message in messages {
         append_message(bytes, message.bytes());
@@ -141,7 +147,8 @@ fn append(bytes: &mut Vec<u8>, messages: UnitMessages<'_>)
 fn append_message(bytes: &mut Vec<u8>, message: &[u8])
     requires room { vec_len bytes.old + (4 + length message.now) ≤ vec_capacity bytes.old }
     requires small { length message.now < 2 ^ 32 }
-    ensures items { bytes.new.items ≡ bytes.old.items ++ (word (length message.now) ++ message.now) }
+    ensures items { bytes.new.items
+        ≡ bytes.old.items ++ (word (length message.now) ++ message.now) }
     ensures len { vec_len bytes.new ≡ vec_len bytes.old + (4 + length message.now) }
     ensures capacity { vec_capacity bytes.old ≤ vec_capacity bytes.new }
 {
@@ -173,7 +180,8 @@ fn part(bytes: &[u8], start: usize, size: usize) -> &[u8]
 /// Takes so many bytes out, from a place on. Those behind them close up.
 fn cut(bytes: &mut Vec<u8>, start: usize, size: usize)
     requires { start + size ≤ vec_len bytes.old }
-    ensures items { bytes.new.items ≡ take start bytes.old.items ++ drop (start + size) bytes.old.items }
+    ensures items { bytes.new.items
+        ≡ take start bytes.old.items ++ drop (start + size) bytes.old.items }
     ensures capacity { vec_capacity bytes.old ≤ vec_capacity bytes.new }
 {
     bytes.copy_within(start + size.., start);

@@ -37,8 +37,11 @@ pub(crate) fn enter_all(
     requires running { AreQueued store.old queue.old first }
     requires numbers { first + length (units_read packet.now) < 2 ^ 64 }
     requires places { length queue.old.items + length (units_read packet.now) ≤ queue.old.limit }
-    requires blocks { kept_blocks store.old.kept + counts.blocks_of (units_read packet.now) ≤ store.old.limit }
-    ensures queue { queue_of store.new.kept queue.new.items ≡ step.enter_all (step.numbered clock first (units_read packet.now)) (queue_of store.old.kept queue.old.items) }
+    requires blocks { kept_blocks store.old.kept + counts.blocks_of (units_read packet.now)
+        ≤ store.old.limit }
+    ensures queue { queue_of store.new.kept queue.new.items
+        ≡ step.enter_all (step.numbered clock first (units_read packet.now))
+        (queue_of store.old.kept queue.old.items) }
     ensures running { AreQueued store.new queue.new (first + length (units_read packet.now)) }
     ensures places { queue.new.limit ≡ queue.old.limit }
     ensures limit { store.new.limit ≡ store.old.limit }
@@ -55,7 +58,9 @@ fn enter(queue: &mut Queue<u64>, store: &mut Store, unit: &Unit<'_>, clock: u64,
     requires running { AreQueued store.old queue.old number }
     requires place { length queue.old.items < queue.old.limit }
     requires blocks { blocks unit.now + kept_blocks store.old.kept ≤ store.old.limit }
-    ensures queue { queue_of store.new.kept queue.new.items ≡ timed.enter (step.waiting clock number unit.now) (queue_of store.old.kept queue.old.items) }
+    ensures queue { queue_of store.new.kept queue.new.items
+        ≡ timed.enter (step.waiting clock number unit.now)
+        (queue_of store.old.kept queue.old.items) }
     ensures running { AreQueued store.new queue.new (number + 1) }
     ensures length { length queue.new.items ≡ length queue.old.items + 1 }
     ensures blocks { kept_blocks store.new.kept ≡ blocks unit.now + kept_blocks store.old.kept }
@@ -88,7 +93,8 @@ fn push<L: Ledger>(queue: &mut Queue<u64>, due: u64, unit: u64, tag: u64, blank:
 pub(crate) fn take_first(queue: &mut Queue<u64>, store: &mut Store, due: u64)
     requires kept { AreKept store.old.kept queue.old.items }
     requires due { timed.NoneIsDue due queue.old.items → ⊥ }
-    ensures queue { queue_of store.new.kept queue.new.items ≡ drop 1 (queue_of store.old.kept queue.old.items) }
+    ensures queue { queue_of store.new.kept queue.new.items
+        ≡ drop 1 (queue_of store.old.kept queue.old.items) }
     ensures items { queue.new.items ≡ drop 1 queue.old.items }
     ensures kept { AreKept store.new.kept queue.new.items }
     ensures places { queue.new.limit ≡ queue.old.limit }

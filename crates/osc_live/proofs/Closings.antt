@@ -33,7 +33,8 @@ later y ys x (k, within, is) = (suc k, omega arith, is)
 times_in : (n : ℕ) (passes : List Pass) → 0 < times n (map turn.number passes) → (p : Pass) × Contains passes p × (turn.number p ≡ n)
 times_in n [] some = absurd (omega arith)
 times_in n (p ∷ passes) some = go (turn.number p == n) refl some (times_in n passes) where
-  go : (t : Bool) → (turn.number p == n) ≡ t → 0 < cond t 1 0 + times n (map turn.number passes) → (0 < times n (map turn.number passes) → (q : Pass) × Contains passes q × (turn.number q ≡ n))
+  go : (t : Bool) → (turn.number p == n) ≡ t → 0 < cond t 1 0 + times n (map turn.number passes)
+      → (0 < times n (map turn.number passes) → (q : Pass) × Contains passes q × (turn.number q ≡ n))
       → (q : Pass) × Contains (p ∷ passes) q × (turn.number q ≡ n)
   go true is some more = (p, (0, omega arith, refl), eqb-true (turn.number p) n is)
   go false is some more = let found = more (omega arith) in (found.0, later p passes found.0 found.1, found.2)
@@ -46,7 +47,8 @@ from_map f (x ∷ xs) y (suc k, within, is) = let found = from_map f xs y (k, om
 own_holds : (history : List Seen) (one : Seen) → Contains history one → Contains (own one.number history) one
 own_holds [] one (k, within, is) = absurd (omega arith)
 own_holds (first ∷ history) one (zero, within, is) =
-    subst (λ (t : Bool). Contains (cond t (first ∷ own one.number history) (own one.number history)) one) (sym (eq-eqb first.number one.number (ap (λ (e : Seen). e.number) is))) (0, omega arith, is)
+    subst (λ (t : Bool). Contains (cond t (first ∷ own one.number history) (own one.number history)) one)
+        (sym (eq-eqb first.number one.number (ap (λ (e : Seen). e.number) is))) (0, omega arith, is)
 own_holds (first ∷ history) one (suc k, within, is) = go (first.number == one.number) (own_holds history one (k, omega arith, is)) where
   go : (t : Bool) → Contains (own one.number history) one → Contains (cond t (first ∷ own one.number history) (own one.number history)) one
   go true there = later first (own one.number history) one there
@@ -72,7 +74,8 @@ to_map f (y ∷ xs) x (zero, within, is) = (0, omega arith, ap f is)
 to_map f (y ∷ xs) x (suc k, within, is) = later (f y) (map f xs) (f x) (to_map f xs x (k, omega arith, is))
 
 -- each entry is a caller's, and names it
-named : (callers : List Caller) (guests : List Guest) (history : List Seen) → All (Carries history) (passes_of callers guests) → All (IsOwnOfOne (passes_of callers guests)) history → All (IsOfCaller (known callers)) history
+named : (callers : List Caller) (guests : List Guest) (history : List Seen) → All (Carries history) (passes_of callers guests)
+    → All (IsOwnOfOne (passes_of callers guests)) history → All (IsOfCaller (known callers)) history
 named callers guests history carried once k d within = go (times_in one.number (passes_of callers guests) (omega (arith, once k d within))) where
   one : Seen
   one = get_or history k d
@@ -81,25 +84,30 @@ named callers guests history carried once k d within = go (times_in one.number (
   here = Contains-get_or history k d within
 
   go : (p : Pass) × Contains (passes_of callers guests) p × (turn.number p ≡ one.number) → IsOfCaller (known callers) one
-  go (p, there, same) = cases (Contains-append_cases (map (λ (caller : Caller). caller.pass) callers) (map (λ (guest : Guest). guest.pass) guests) p there) where
+  go (p, there, same) =
+      cases (Contains-append_cases (map (λ (caller : Caller). caller.pass) callers) (map (λ (guest : Guest). guest.pass) guests) p there) where
     mine : own (turn.number p) history ≡ own (turn.number p) (view p).seen
     mine = (All-contains (Carries history) (passes_of callers guests) p carried there).1
 
     held : Contains (own (turn.number p) (view p).seen) one
     held = subst (λ (l : List Seen). Contains l one) mine (subst (λ (n : ℕ). Contains (own n history) one) (sym same) (own_holds history one here))
 
-    cases : Contains (map (λ (caller : Caller). caller.pass) callers) p ⊎ Contains (map (λ (guest : Guest). guest.pass) guests) p → IsOfCaller (known callers) one
+    cases : Contains (map (λ (caller : Caller). caller.pass) callers) p ⊎ Contains (map (λ (guest : Guest). guest.pass) guests) p
+        → IsOfCaller (known callers) one
     cases (inl caller) =
         let found = from_map (λ (caller : Caller). caller.pass) callers p caller in
         let c : Caller = found.0 in (
           (c.number, view c.pass),
           to_map (λ (caller : Caller). (caller.number, view caller.pass)) callers c found.1,
           ap (λ (q : Pass). turn.number q) found.2 ∙ same,
-          all_hold (names c.number) (own (number_of (view c.pass)) (view c.pass).seen) one c.named (subst (λ (q : Pass). Contains (own (turn.number q) (view q).seen) one) (sym found.2) held),
+          all_hold (names c.number) (own (number_of (view c.pass)) (view c.pass).seen) one c.named
+              (subst (λ (q : Pass). Contains (own (turn.number q) (view q).seen) one) (sym found.2) held),
         )
     cases (inr guest) =
         let found = from_map (λ (guest : Guest). guest.pass) guests p guest in
-        absurd (none_there one (subst (λ (l : List Seen). Contains l one) found.0.none_own (subst (λ (q : Pass). Contains (own (turn.number q) (view q).seen) one) (sym found.2) held)))
+        absurd (none_there one
+            (subst (λ (l : List Seen). Contains l one) found.0.none_own
+            (subst (λ (q : Pass). Contains (own (turn.number q) (view q).seen) one) (sym found.2) held)))
 
 views_same : (callers : List Caller) (guests : List Guest) → map view (passes_of callers guests) ≡ views_of callers guests
 views_same callers guests =
@@ -110,15 +118,19 @@ numbers_same : (passes : List Pass) → map turn.number passes ≡ map number_of
 numbers_same [] = refl
 numbers_same (p ∷ passes) = ap (λ (l : List ℕ). turn.number p ∷ l) (numbers_same passes)
 
-pub closes : (caps : Limits) (performance : Performance) (boxes kept : List Told) (bytes : List ℕ) (callers : List Caller) (guests : List Guest) (passes : List Pass) (history : List Seen) → passes ≡ passes_of callers guests → StandsFor performance boxes (texts history) → performance.caps ≡ caps
-    → All (Carries history) passes → All (IsOwnOfOne passes) history → bytes ≡ record_text performance.caps performance.history → KeepsTheLaws performance.caps performance.history → kept ≡ boxes → Closes caps (known callers) (views_of callers guests) bytes kept
+pub closes : (caps : Limits) (performance : Performance) (boxes kept : List Told) (bytes : List ℕ) (callers : List Caller) (guests : List Guest)
+    (passes : List Pass) (history : List Seen) → passes ≡ passes_of callers guests → StandsFor performance boxes (texts history) → performance.caps ≡ caps
+    → All (Carries history) passes → All (IsOwnOfOne passes) history → bytes ≡ record_text performance.caps performance.history
+        → KeepsTheLaws performance.caps performance.history → kept ≡ boxes → Closes caps (known callers) (views_of callers guests) bytes kept
 closes caps performance boxes kept bytes callers guests passes history all stands limits carried once recorded laws is = record {
   history = history;
   legal = subst (λ (l : Limits). Legal l (history_in (texts history))) limits (subst (Legal performance.caps) (sym stands.read) stands.legal);
   laws = subst (λ (l : Limits). KeepsTheLaws l (history_in (texts history))) limits (subst (KeepsTheLaws performance.caps) (sym stands.read) laws);
   recorded = recorded ∙ (λ i. record_text (limits i) (sym stands.read i));
-  carried = subst (λ (l : List View). All (λ v. StartsWith history v.seen) l) (ap (map view) all ∙ views_same callers guests) (All-map (λ (v : View). StartsWith history v.seen) view passes (λ k d within. (carried k d within).0));
-  each_once = λ k d within. ap (λ (l : List ℕ). times (get_or history k d).number l) (sym (numbers_same passes ∙ ap (map number_of) (ap (map view) all ∙ views_same callers guests))) ∙ once k d within;
+  carried = subst (λ (l : List View). All (λ v. StartsWith history v.seen) l) (ap (map view) all ∙ views_same callers guests)
+      (All-map (λ (v : View). StartsWith history v.seen) view passes (λ k d within. (carried k d within).0));
+  each_once = λ k d within. ap (λ (l : List ℕ). times (get_or history k d).number l)
+      (sym (numbers_same passes ∙ ap (map number_of) (ap (map view) all ∙ views_same callers guests))) ∙ once k d within;
   named = named callers guests history (subst (All (Carries history)) all carried) (subst (λ (l : List Pass). All (IsOwnOfOne l) history) all once);
   heard = subst (HaveHeard (performance_in caps (texts history))) (sym is) (subst (λ (p : Performance). HaveHeard p boxes) whole stands.heard);
   marked = subst (λ (l : List Told). AreMarked (texts history) l) (sym is) stands.marked;
@@ -129,19 +141,23 @@ closes caps performance boxes kept bytes callers guests passes history all stand
 
 -- The first token was looked at, and came back.
 
-pub still_known : (callers others : List Caller) (one back : Caller) → callers ≡ one ∷ others → back.number ≡ one.number → view back.pass ≡ view one.pass → known (back ∷ others) ≡ known callers
+pub still_known : (callers others : List Caller) (one back : Caller) → callers ≡ one ∷ others → back.number ≡ one.number → view back.pass ≡ view one.pass
+    → known (back ∷ others) ≡ known callers
 still_known callers others one back is number same = (λ i. (number i, same i) ∷ known others) ∙ ap known (sym is)
 
-pub still_viewed : (callers others : List Caller) (guests : List Guest) (one back : Caller) → callers ≡ one ∷ others → view back.pass ≡ view one.pass → views_of (back ∷ others) guests ≡ views_of callers guests
+pub still_viewed : (callers others : List Caller) (guests : List Guest) (one back : Caller) → callers ≡ one ∷ others → view back.pass ≡ view one.pass
+    → views_of (back ∷ others) guests ≡ views_of callers guests
 still_viewed callers others guests one back is same = (λ i. same i ∷ views_of others guests) ∙ ap (λ (l : List Caller). views_of l guests) (sym is)
 
-pub all_ours : {S : Type 0} (turn_of : Turn S) (caps : Limits) (callers others : List Caller) (one back : Caller) (guests : List Guest) (passes : List Pass) → callers ≡ one ∷ others → All (λ caller. IsTokenOf turn_of caps caller.pass) callers → All (λ guest. IsTokenOf turn_of caps guest.pass) guests
+pub all_ours : {S : Type 0} (turn_of : Turn S) (caps : Limits) (callers others : List Caller) (one back : Caller) (guests : List Guest) (passes : List Pass)
+    → callers ≡ one ∷ others → All (λ caller. IsTokenOf turn_of caps caller.pass) callers → All (λ guest. IsTokenOf turn_of caps guest.pass) guests
     → IsPassOf turn_of back.pass → passes ≡ passes_of (back ∷ others) guests → All (IsPassOf turn_of) passes
 all_ours turn_of caps callers others one back guests passes is ours these first all =
     let rest = subst (λ (l : List Caller). All (λ caller. IsTokenOf turn_of caps caller.pass) l) is ours in
     subst (All (IsPassOf turn_of)) (sym all)
     (All-append (IsPassOf turn_of) (map (λ (caller : Caller). caller.pass) (back ∷ others)) (map (λ (guest : Guest). guest.pass) guests)
-    (All-cons (IsPassOf turn_of) back.pass (map (λ (caller : Caller). caller.pass) others) first (All-map (IsPassOf turn_of) (λ (caller : Caller). caller.pass) others (λ k d within. (rest (suc k) d (omega arith)).0)))
+    (All-cons (IsPassOf turn_of) back.pass (map (λ (caller : Caller). caller.pass) others) first
+        (All-map (IsPassOf turn_of) (λ (caller : Caller). caller.pass) others (λ k d within. (rest (suc k) d (omega arith)).0)))
     (All-map (IsPassOf turn_of) (λ (guest : Guest). guest.pass) guests (λ k d within. (these k d within).0)))
 
 pub some_first : (callers : List Caller) → StartsAtZero callers → 0 < length callers
@@ -152,19 +168,23 @@ inserted_first : {X : Type 0} (xs : List X) (x : X) → insert xs 0 x ≡ x ∷ 
 inserted_first [] x = refl
 inserted_first (y ∷ xs) x = refl
 
-pub handed : (start between all : List Pass) (again others : List Caller) (back : Caller) (guests : List Guest) → start ≡ [] → again ≡ insert others 0 back → between ≡ start ++ map (λ (caller : Caller). caller.pass) again → all ≡ between ++ map (λ (guest : Guest). guest.pass) guests → all ≡ passes_of (back ∷ others) guests
+pub handed : (start between all : List Pass) (again others : List Caller) (back : Caller) (guests : List Guest) → start ≡ [] → again ≡ insert others 0 back
+    → between ≡ start ++ map (λ (caller : Caller). caller.pass) again → all ≡ between ++ map (λ (guest : Guest). guest.pass) guests
+    → all ≡ passes_of (back ∷ others) guests
 handed start between all again others back guests none inserted first then =
     then ∙ ap (λ (l : List Pass). l ++ map (λ (guest : Guest). guest.pass) guests)
     (first ∙ (λ i. none i ++ map (λ (caller : Caller). caller.pass) ((inserted ∙ inserted_first others back) i)))
 
 -- the kind of the value is the header of the limits
-pub kind_is : {S : Type 0} (turn_of : Turn S) (caps : Limits) (kind : List ℕ) (callers others : List Caller) (one back : Caller) (guests : List Guest) (passes : List Pass) → callers ≡ one ∷ others → All (λ caller. IsTokenOf turn_of caps caller.pass) callers → view back.pass ≡ view one.pass
+pub kind_is : {S : Type 0} (turn_of : Turn S) (caps : Limits) (kind : List ℕ) (callers others : List Caller) (one back : Caller) (guests : List Guest)
+    (passes : List Pass) → callers ≡ one ∷ others → All (λ caller. IsTokenOf turn_of caps caller.pass) callers → view back.pass ≡ view one.pass
     → passes ≡ passes_of (back ∷ others) guests → kind ≡ (turn.first_view passes).kind → kind ≡ header_text caps
 kind_is turn_of caps kind callers others one back guests passes is ours same all kinds =
     kinds ∙ ap (λ (l : List Pass). (turn.first_view l).kind) all ∙ ap (λ (v : View). v.kind) same
     ∙ (subst (λ (l : List Caller). All (λ caller. IsTokenOf turn_of caps caller.pass) l) is ours 0 one (omega arith)).1
 
-pub closes_still : (caps : Limits) (callers others : List Caller) (one back : Caller) (guests : List Guest) (bytes : List ℕ) (kept : List Told) → callers ≡ one ∷ others → back.number ≡ one.number → view back.pass ≡ view one.pass
+pub closes_still : (caps : Limits) (callers others : List Caller) (one back : Caller) (guests : List Guest) (bytes : List ℕ) (kept : List Told)
+    → callers ≡ one ∷ others → back.number ≡ one.number → view back.pass ≡ view one.pass
     → Closes caps (known (back ∷ others)) (views_of (back ∷ others) guests) bytes kept → Closes caps (known callers) (views_of callers guests) bytes kept
 closes_still caps callers others one back guests bytes kept is number same closed =
     subst (λ (l : List (ℕ × View)). Closes caps l (views_of callers guests) bytes kept) (still_known callers others one back is number same)

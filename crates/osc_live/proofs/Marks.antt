@@ -25,7 +25,8 @@ last_marked texts [] told are = are.0
 last_marked texts (first ∷ boxes) told are = last_marked texts boxes told are.1
 
 -- the entry of an added method has the mark of its box
-pub added_tells : {M : Type 0} (keep : M → ℕ) (heard : M → Option (List ℕ)) (answer : Adding M) (method : M) (performance : Performance) (old new : List Told) (after : List (List ℕ)) → StandsFor performance new after
+pub added_tells : {M : Type 0} (keep : M → ℕ) (heard : M → Option (List ℕ)) (answer : Adding M) (method : M) (performance : Performance) (old new : List Told)
+    (after : List (List ℕ)) → StandsFor performance new after
     → OnAdded answer (λ id. new ≡ old ++ reset (record { id = id; keep = keep method; heard = heard method }) ∷ [])
     → OnAdded answer (λ id. CarriesMark after id (mark_of (record { id = id; keep = keep method; heard = heard method })))
 added_tells keep heard (Added id) method performance old new after stands is =
@@ -37,7 +38,8 @@ carries_on : (after before : List (List ℕ)) (id mark : ℕ) → StartsWith aft
 carries_on after before id mark (rest, is) (entry, adds, read, there) = (
   entry,
   adds,
-  subst (λ (h : List Entry). Contains h entry) (sym (ap history_in is ∙ filter_map-append entry_in before rest)) (Contains-append_left (history_in before) (history_in rest) entry read),
+  subst (λ (h : List Entry). Contains h entry) (sym (ap history_in is ∙ filter_map-append entry_in before rest))
+      (Contains-append_left (history_in before) (history_in rest) entry read),
   subst (λ (l : List (List ℕ)). Contains l (text_with mark entry)) (sym is) (Contains-append_left before rest (text_with mark entry) there),
 )
 
@@ -47,7 +49,8 @@ one_of P (box ∷ boxes) told all (zero, within, is) = subst P is all.0
 one_of P (box ∷ boxes) told all (suc k, within, is) = one_of P boxes told all.1 (k, omega arith, is)
 
 -- a removal invokes nothing
-removal_silent : (state : State) (address : List ℕ) (id : ℕ) → (step state (remove address)).answer ≡ removed id → (step state (remove address)).invocations ≡ []
+removal_silent : (state : State) (address : List ℕ) (id : ℕ) → (step state (remove address)).answer ≡ removed id
+    → (step state (remove address)).invocations ≡ []
 removal_silent state address id is = go (changes state (remove address)) where
   go : Changes state (remove address) (step state (remove address)) → (step state (remove address)).invocations ≡ []
   go (inl kept) = let yes : tells_change (step state (remove address)).answer ≡ true = ap tells_change is in let no = kept.answer in absurd (cc)
@@ -55,17 +58,22 @@ removal_silent state address id is = go (changes state (remove address)) where
   go (inr (inr fewer)) = fewer.silent
 
 -- a box that is handed out has the mark of its id's entry, and has heard the history
-pub removed_tells : {M : Type 0} (keep : M → ℕ) (heard : M → Option (List ℕ)) (given : Removing M) (old new : Performance) (caller : ℕ) (address : List ℕ) (boxes others : List Told) (before after : List (List ℕ))
-    → ((performance : Performance) (caller : ℕ) (event : Event) → invoked_in (onward performance caller event) ≡ invoked_in performance ++ (stepped_in performance event).invocations)
-    → StandsFor old boxes before → StandsFor new others after → StartsWith after before → new ≡ onward old caller (remove address) → new.caps ≡ old.caps → removing_of given ≡ (stepped_in old (remove address)).answer
+pub removed_tells : {M : Type 0} (keep : M → ℕ) (heard : M → Option (List ℕ)) (given : Removing M) (old new : Performance) (caller : ℕ) (address : List ℕ)
+    (boxes others : List Told) (before after : List (List ℕ))
+    → ((performance : Performance) (caller : ℕ) (event : Event)
+        → invoked_in (onward performance caller event) ≡ invoked_in performance ++ (stepped_in performance event).invocations)
+    → StandsFor old boxes before → StandsFor new others after → StartsWith after before → new ≡ onward old caller (remove address) → new.caps ≡ old.caps
+        → removing_of given ≡ (stepped_in old (remove address)).answer
     → OnRemoved given (λ id method. Contains {X = Told} boxes (record { id = id; keep = keep method; heard = heard method }))
-    → OnRemoved given (λ id method. CarriesMark after id (mark_of (record { id = id; keep = keep method; heard = heard method })) × HasHeard (invoked_in (performance_in old.caps after)) (record { id = id; keep = keep method; heard = heard method }))
+    → OnRemoved given (λ id method. CarriesMark after id (mark_of (record { id = id; keep = keep method; heard = heard method }))
+        × HasHeard (invoked_in (performance_in old.caps after)) (record { id = id; keep = keep method; heard = heard method }))
 removed_tells keep heard (removing.Removed id method) old new caller address boxes others before after invoked one two starts onwards caps is held =
     let told : Told = record { id = id; keep = keep method; heard = heard method } in
     let whole : new ≡ performance_in old.caps after = λ i. record { caps = caps i; history = sym two.read i } in
     let none = removal_silent (state_of old) address id (sym is) in
     let same : invoked_in old ≡ invoked_in (performance_in old.caps after) =
-    sym (append-nil (invoked_in old)) ∙ ap (λ (l : List Invocation). invoked_in old ++ l) (sym none) ∙ sym (invoked old caller (remove address)) ∙ ap invoked_in (sym onwards) ∙ ap invoked_in whole in (
+    sym (append-nil (invoked_in old)) ∙ ap (λ (l : List Invocation). invoked_in old ++ l) (sym none) ∙ sym (invoked old caller (remove address))
+        ∙ ap invoked_in (sym onwards) ∙ ap invoked_in whole in (
       carries_on after before id (mark_of told) starts (one_of (λ box. CarriesMark before box.id (mark_of box)) boxes told one.marked held),
       subst (λ (l : List Invocation). HasHeard l told) same (one_of (HasHeard (invoked_in old)) boxes told one.heard.heard held),
     )

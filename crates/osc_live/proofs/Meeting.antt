@@ -19,9 +19,13 @@ use Rattle.osc_live.proofs.Answered.{texts_more}
 use Rattle.osc_live.proofs.Asks.{read_more}
 
 -- a call of a token that was told before it is one of the token as it was
-pub calls_met : (caps : Limits) (caller : ℕ) (event : Event) (answer : Answer) (v g v1 w : View) → v1 ≡ met_by v g → StartsWith v1.seen v.seen → own (number_of v) v1.seen ≡ own (number_of v) v.seen → Calls caps caller event answer v1 w → Calls caps caller event answer v w
-calls_met caps caller event answer v g v1 w is starts own_same calls = go (subst (λ (u : View). Calls caps caller event answer u w) is calls) (subst (λ (u : View). StartsWith u.seen v.seen) is starts) (sym (ap (λ (u : View). own (number_of v) u.seen) is) ∙ own_same) where
-  go : Calls caps caller event answer (met_by v g) w → StartsWith (met_by v g).seen v.seen → own (number_of v) (met_by v g).seen ≡ own (number_of v) v.seen → Calls caps caller event answer v w
+pub calls_met : (caps : Limits) (caller : ℕ) (event : Event) (answer : Answer) (v g v1 w : View) → v1 ≡ met_by v g → StartsWith v1.seen v.seen
+    → own (number_of v) v1.seen ≡ own (number_of v) v.seen → Calls caps caller event answer v1 w → Calls caps caller event answer v w
+calls_met caps caller event answer v g v1 w is starts own_same calls =
+    go (subst (λ (u : View). Calls caps caller event answer u w) is calls) (subst (λ (u : View). StartsWith u.seen v.seen) is starts)
+    (sym (ap (λ (u : View). own (number_of v) u.seen) is) ∙ own_same) where
+  go : Calls caps caller event answer (met_by v g) w → StartsWith (met_by v g).seen v.seen → own (number_of v) (met_by v g).seen ≡ own (number_of v) v.seen
+      → Calls caps caller event answer v w
   go calls starts same = record {
     goes_on = starts_on w.seen (met_by v g).seen v.seen calls.goes_on starts;
     legal = calls.legal;
@@ -31,8 +35,11 @@ calls_met caps caller event answer v g v1 w is starts own_same calls = go (subst
     counted = calls.counted;
   }
     where
-      answered : (t : Bool) → MatchBool t (EndsWith caps caller event answer (met_by v g) w) (AddsNone caps event answer (met_by v g) w) → MatchBool t (EndsWith caps caller event answer v w) (AddsNone caps event answer v w)
-      answered true ends = record { before = ends.before; text = ends.text; mark = ends.mark; last = ends.last; text_is = ends.text_is; read = ends.read; answered = ends.answered; own_once = ends.own_once ∙ ap (λ (l : List Seen). l ++ entry (number_of v) ends.text ∷ []) same }
+      answered : (t : Bool) → MatchBool t (EndsWith caps caller event answer (met_by v g) w) (AddsNone caps event answer (met_by v g) w)
+          → MatchBool t (EndsWith caps caller event answer v w) (AddsNone caps event answer v w)
+      answered true ends =
+          record { before = ends.before; text = ends.text; mark = ends.mark; last = ends.last; text_is = ends.text_is; read = ends.read;
+          answered = ends.answered; own_once = ends.own_once ∙ ap (λ (l : List Seen). l ++ entry (number_of v) ends.text ∷ []) same }
       answered false none = record { answered = none.answered; own_same = none.own_same ∙ same }
 
 abbrev pub Enrols : Type 0
@@ -44,7 +51,8 @@ pub newly_enrolled : Enrols → (caps : Limits) (caller n : ℕ) (v w : View) �
 newly_enrolled enrols caps caller n v w calls =
     let ends : EndsWith caps caller enrol (number n) v w = calls.answered in
     let one : Entry = record { caller = caller; event = enrol; answer = number n } in
-    let history : history_of w ≡ history_in (texts ends.before) ++ one ∷ [] = ap history_in (ap texts ends.last ∙ texts_more ends.before (entry (number_of v) ends.text)) ∙ read_more (texts ends.before) ends.text one ends.read in
+    let history : history_of w ≡ history_in (texts ends.before) ++ one ∷ [] =
+        ap history_in (ap texts ends.last ∙ texts_more ends.before (entry (number_of v) ends.text)) ∙ read_more (texts ends.before) ends.text one ends.read in
     let next = enrols caps (history_in (texts ends.before)) caller n (subst (Legal caps) history calls.legal) in
     (next.0, omega (arith, next.1, ap callers_in history))
 
@@ -53,7 +61,8 @@ pub longer_is : (a b : List Seen) → StartsWith b a → longer a b ≡ b
 longer_is a b (rest, is) = ap (λ (t : Bool). cond t b a) (le-leb (length a) (length b) (omega (arith, ap length is, length-append a rest)))
 
 -- a token that is told stays its caller's
-pub met_named : (caller : ℕ) (v g v1 : View) → v1 ≡ met_by v g → own (number_of v) v1.seen ≡ own (number_of v) v.seen → names_own caller v ≡ true → names_own caller v1 ≡ true
+pub met_named : (caller : ℕ) (v g v1 : View) → v1 ≡ met_by v g → own (number_of v) v1.seen ≡ own (number_of v) v.seen → names_own caller v ≡ true
+    → names_own caller v1 ≡ true
 met_named caller v g v1 is same named = ap (λ (n : ℕ). list_all (names caller) (own n v1.seen)) (ap number_of is) ∙ ap (list_all (names caller)) same ∙ named
 
 -- a guest that is told what was seen then has seen it

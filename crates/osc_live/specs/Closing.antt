@@ -22,7 +22,8 @@ known callers = map (λ caller. (caller.number, view caller.pass)) callers
 
 -- what all tokens know
 abbrev pub views_of : List Caller → List Guest → List View
-views_of callers guests = map (λ caller. view caller.pass) callers ++ map (λ guest. view guest.pass) guests
+views_of callers guests =
+    map (λ caller. view caller.pass) callers ++ map (λ guest. view guest.pass) guests
 
 -- the first of the callers is caller 0
 abbrev pub StartsAtZero : List Caller → Type 0
@@ -36,12 +37,16 @@ made_by (caller ∷ callers) = (view caller.pass).made
 
 -- the entry is one of a caller's token, and names this caller
 abbrev pub IsOfCaller : List (ℕ × View) → Seen → Type 0
-IsOfCaller callers one = (caller : ℕ × View) × Contains callers caller × (number_of caller.1 ≡ one.number) × (names caller.0 one ≡ true)
+IsOfCaller callers one = (caller : ℕ × View) × Contains callers caller
+    × (number_of caller.1 ≡ one.number) × (names caller.0 one ≡ true)
 
--- There is one history: it is legal, keeps the four laws and is what was recorded; it begins with what each token has seen; each entry is an own
--- one of exactly one token, which is that of the caller whom the entry names; and the boxes have heard it, each with the
+-- There is one history: it is legal, keeps the four laws and is what was recorded; it begins with
+-- what each token has seen; each entry is an own
+-- one of exactly one token, which is that of the caller whom the entry names; and the boxes have
+-- heard it, each with the
 -- mark of its id's entry.
-pub record Closes (caps : Limits) (callers : List (ℕ × View)) (views : List View) (bytes : List ℕ) (kept : List Told) : Type 0 where
+pub record Closes (caps : Limits) (callers : List (ℕ × View)) (views : List View) (bytes : List ℕ)
+    (kept : List Told) : Type 0 where
   pub history : List Seen
   pub legal : Legal caps (history_in (texts history))
   pub laws : KeepsTheLaws caps (history_in (texts history))

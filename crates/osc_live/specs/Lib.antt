@@ -1,7 +1,10 @@
-pub mod Asked
+-- What public contracts cite.
 pub mod Calls
 pub mod Closing
 pub mod Enrolments
 pub mod Outs
 pub mod Pumps
 pub mod Seen
+
+-- Inside the crate.
+pub mod Asked

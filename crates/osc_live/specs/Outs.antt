@@ -31,7 +31,8 @@ module _ {M : Type 0} {G : Ghosts M} where
   TellsMade (StillOut made handed live callers guests) first others =
       (made ≡ made_by first) × (handed ≡ length first + length others) × (made ≢ handed)
 
-  -- all that comes back belongs together: the tokens are the server's, whose limits are these, and caller 0 is the first
+  -- all that comes back belongs together: the tokens are the server's, whose limits are these, and
+  -- caller 0 is the first
   abbrev pub AreOurs : LiveOut M G → Limits → Type 0
   AreOurs (NoMemory live callers guests) caps = (live.caps ≡ caps)
       × All (λ caller. IsTokenOf live.turn live.caps caller.pass) callers.items

@@ -11,13 +11,16 @@ use Rattle.osc_live.specs.Calls.{Calls}
 
 -- one release of a unit, which makes so many calls
 abbrev pub ReleasesOne : Limits → ℕ → ℕ → View → View → Type 0
-ReleasesOne caps caller calls v w = (unit : ℕ) × (hits : List Hit) × (calls ≡ length hits) × Calls caps caller release (released unit hits) v w
+ReleasesOne caps caller calls v w =
+    (unit : ℕ) × (hits : List Hit) × (calls ≡ length hits)
+    × Calls caps caller release (released unit hits) v w
 
 -- so many releases, one after another, which make so many calls together
 abbrev pub Releases : Limits → ℕ → ℕ → ℕ → View → View → Type 0
 Releases caps caller zero calls v w = (w ≡ v) × (calls ≡ 0)
 Releases caps caller (suc count) calls v w =
-    (between : View) × (before : ℕ) × (last : ℕ) × (calls ≡ before + last) × Releases caps caller count before v between × ReleasesOne caps caller last between w
+    (between : View) × (before : ℕ) × (last : ℕ) × (calls ≡ before + last)
+        × Releases caps caller count before v between × ReleasesOne caps caller last between w
 
 -- the answer of the release that ends a pump
 abbrev pub end_of : PumpEnd → Answer

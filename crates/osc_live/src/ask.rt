@@ -23,10 +23,13 @@ pub(crate) trait Ask<M: Method, B> {
     /// Plays the event as the caller's. Answers also whether the answer adds an entry.
     fn ask(self, caller: u32, core: &mut Core<M>) -> (B, bool)
         requires { caller < (state_of core.old.performance).callers }
-        ensures performance { core.new.performance ≡ onward core.old.performance caller (event self) }
+        ensures performance { core.new.performance
+            ≡ onward core.old.performance caller (event self) }
         ensures answer { (answer : Answer) × says result.0 answer
-            × (answer ≡ (stepped_in core.old.performance (event self)).answer) × (result.1 ≡ adds_entry answer) }
-        ensures stands { GoesOn (event self) core.old.performance (told M.keep M.heard core.old.boxes.items)
+            × (answer ≡ (stepped_in core.old.performance (event self)).answer)
+            × (result.1 ≡ adds_entry answer) }
+        ensures stands { GoesOn (event self) core.old.performance
+            (told M.keep M.heard core.old.boxes.items)
             core.new.performance (told M.keep M.heard core.new.boxes.items) }
         ensures tells { (before after : List (List ℕ))
             → StandsFor core.old.performance (told M.keep M.heard core.old.boxes.items) before

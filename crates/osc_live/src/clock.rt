@@ -36,7 +36,8 @@ impl<M: Method> Live<M> {
         ensures ours { IsTokenOf self.now.turn self.now.caps result.0.pass }
         ensures number { result.0.number ≡ caller.number }
         ensures call { (answer : Answer) × TellsRelease result.1 answer
-            × Calls self.now.caps caller.number release answer (view caller.pass) (view result.0.pass) }
+            × Calls self.now.caps caller.number release answer (view caller.pass)
+            (view result.0.pass) }
     {
         self.play(rt, caller, Release)
     }
@@ -47,9 +48,11 @@ impl<M: Method> Live<M> {
         ensures ours { IsTokenOf self.now.turn self.now.caps result.0.pass }
         ensures number { result.0.number ≡ caller.number }
         ensures call { IfOk result.1 (λ releasing. (answer : Answer) × TellsRelease releasing answer
-            × Calls self.now.caps caller.number release answer (view caller.pass) (view result.0.pass)) }
+            × Calls self.now.caps caller.number release answer (view caller.pass)
+            (view result.0.pass)) }
         ensures words { IfOk result.1 (λ _. FindsTwice (view caller.pass) (view result.0.pass)) }
-        ensures busy { IfErr result.1 (λ busy. IsBusy busy.found (view caller.pass) (view result.0.pass)) }
+        ensures busy { IfErr result.1
+            (λ busy. IsBusy busy.found (view caller.pass) (view result.0.pass)) }
     {
         self.try_play(caller, Release)
     }
@@ -59,7 +62,8 @@ impl<M: Method> Live<M> {
         requires ours { IsTokenOf self.now.turn self.now.caps caller.pass }
         ensures ours { IsTokenOf self.now.turn self.now.caps result.0.pass }
         ensures number { result.0.number ≡ caller.number }
-        ensures calls { Pumps self.now.caps caller.number result.1 (view caller.pass) (view result.0.pass) }
+        ensures calls { Pumps self.now.caps caller.number result.1 (view caller.pass)
+            (view result.0.pass) }
     {
         let mut caller = caller;
         let mut released = 0;

@@ -57,16 +57,21 @@ impl<M: Method> Live<M> {
         mut callers: Vec<Caller>,
         guests: Vec<Guest>,
     ) -> Result<Closed<M>, LiveOut<M>>
-        requires callers_ours { All (λ caller. IsTokenOf self.turn self.caps caller.pass) callers.items }
-        requires guests_ours { All (λ guest. IsTokenOf self.turn self.caps guest.pass) guests.items }
+        requires callers_ours { All (λ caller. IsTokenOf self.turn self.caps caller.pass)
+            callers.items }
+        requires guests_ours { All (λ guest. IsTokenOf self.turn self.caps guest.pass)
+            guests.items }
         requires first { StartsAtZero callers.items }
         requires few { length callers.items + length guests.items ≤ 65536 }
-        ensures all_in { OnOk result (made_by callers.items ≡ length callers.items + length guests.items) }
+        ensures all_in { OnOk result
+            (made_by callers.items ≡ length callers.items + length guests.items) }
         ensures closes { IfOk result (λ closed. Closes self.caps (known callers.items)
-            (views_of callers.items guests.items) closed.bytes.items (told M.keep M.heard closed.kept.items)) }
+            (views_of callers.items guests.items) closed.bytes.items
+            (told M.keep M.heard closed.kept.items)) }
         ensures made { IfErr result (λ out. TellsMade out callers.items guests.items) }
         ensures live_back { IfErr result (λ out. live_back out ≡ self) }
-        ensures callers_back { IfErr result (λ out. known (callers_back out) ≡ known callers.items) }
+        ensures callers_back { IfErr result
+            (λ out. known (callers_back out) ≡ known callers.items) }
         ensures back_ours { IfErr result (λ out. AreOurs out self.caps) }
         ensures guests_back { IfErr result (λ out. guests_back out ≡ guests.items) }
     {
@@ -106,7 +111,8 @@ impl<M: Method> Live<M> {
 /// Adds the passes of the callers, in room that is there.
 fn hand_callers(passes: &mut Vec<Pass>, callers: Vec<Caller>)
     requires { vec_len passes.old + vec_len callers ≤ vec_capacity passes.old }
-    ensures items { passes.new.items ≡ passes.old.items ++ map (λ caller. caller.pass) callers.items }
+    ensures items { passes.new.items
+        ≡ passes.old.items ++ map (λ caller. caller.pass) callers.items }
     ensures capacity { vec_capacity passes.new ≡ vec_capacity passes.old }
 {
     for caller in callers {

@@ -26,9 +26,11 @@ impl<M: Method> Live<M> {
         requires first { caller.number ≡ 0 }
         ensures ours { IsTokenOf self.now.turn self.now.caps result.0.pass }
         ensures number { result.0.number ≡ caller.number }
-        ensures guest_ours { IfOk result.1 (λ guest. IsTokenOf self.now.turn self.now.caps guest.pass) }
+        ensures guest_ours { IfOk result.1
+            (λ guest. IsTokenOf self.now.turn self.now.caps guest.pass) }
         ensures guest { IfOk result.1 (λ guest. view guest.pass ≡ guest_of (view caller.pass)) }
-        ensures no_entries { IfOk result.1 (λ guest. own (number_of (view guest.pass)) (view guest.pass).seen ≡ []) }
+        ensures no_entries { IfOk result.1
+            (λ guest. own (number_of (view guest.pass)) (view guest.pass).seen ≡ []) }
         ensures room { OnOk result.1 ((view caller.pass).made < 65536) }
         ensures made { OnOk result.1 (view result.0.pass ≡ one_more (view caller.pass)) }
         ensures full { IfErr result.1 (λ refusal.
@@ -58,11 +60,14 @@ impl<M: Method> Live<M> {
             (view caller.pass) (view result.0.pass) }
         ensures told { StartsWith (view result.0.pass).seen (view guest.pass).seen }
         ensures new_ours { IfOk result.1 (λ new. IsTokenOf self.now.turn self.now.caps new.pass) }
-        ensures new_number { IfOk result.1 (λ new. number_of (view new.pass) ≡ number_of (view guest.pass)) }
+        ensures new_number { IfOk result.1
+            (λ new. number_of (view new.pass) ≡ number_of (view guest.pass)) }
         ensures new_seen { IfOk result.1 (λ new. (view new.pass).seen ≡ (view result.0.pass).seen) }
-        ensures no_entries { IfOk result.1 (λ new. own (number_of (view new.pass)) (view new.pass).seen ≡ []) }
+        ensures no_entries { IfOk result.1
+            (λ new. own (number_of (view new.pass)) (view new.pass).seen ≡ []) }
         ensures guest_back { IfErr result.1 (λ refused. view refused.1.pass ≡ view guest.pass) }
-        ensures back_ours { IfErr result.1 (λ refused. IsTokenOf self.now.turn self.now.caps refused.1.pass) }
+        ensures back_ours { IfErr result.1
+            (λ refused. IsTokenOf self.now.turn self.now.caps refused.1.pass) }
     {
         callers_are_counted();
         let Caller { pass, number } = caller;

@@ -34,7 +34,8 @@ impl<M: Method> Live<M> {
             (view caller.pass) (view result.0.pass) }
         ensures marked { OnAdded result.1 (λ id. CarriesMark (texts (view result.0.pass).seen) id
             (mark_of (record { id = id; keep = M.keep method; heard = M.heard method }))) }
-        ensures handed_back { OnRefused result.1 (λ back untouched. (back ≡ address) × (untouched ≡ method)) }
+        ensures handed_back { OnRefused result.1
+            (λ back untouched. (back ≡ address) × (untouched ≡ method)) }
     {
         self.play(rt, caller, Add { address, method })
     }
@@ -51,7 +52,8 @@ impl<M: Method> Live<M> {
         ensures number { result.0.number ≡ caller.number }
         ensures call { Calls self.now.caps caller.number (remove address.now) (removing_of result.1)
             (view caller.pass) (view result.0.pass) }
-        ensures marked { OnRemoved result.1 (λ id method. CarriesMark (texts (view result.0.pass).seen) id
+        ensures marked { OnRemoved result.1
+            (λ id method. CarriesMark (texts (view result.0.pass).seen) id
             (mark_of (record { id = id; keep = M.keep method; heard = M.heard method }))) }
         ensures heard { OnRemoved result.1 (λ id method.
             HasHeard (invoked_in (performance_in self.now.caps (texts (view result.0.pass).seen)))

@@ -25,7 +25,9 @@ impl<M: Method, B: Drop, A: Ask<M, B> + Drop> Job<Core<M>> for Playing<A, B> {
 
     ghost base = { λ job. texts (view job.asking.was.value).seen };
 
-    ghost did = { λ old new before after. Did A.event A.says A.tells old.asking.caps old.asking.caller old.asked new.answer before after };
+    ghost did = { λ old new before after.
+        Did A.event A.says A.tells old.asking.caps old.asking.caller old.asked new.answer before
+        after };
 
     fn run(&mut self, state: &mut Core<M>) -> bool {
         callers_are_counted();

@@ -28,7 +28,8 @@ impl<'a, M: Method> Ask<M, Removing<M>> for Remove<'a> {
 
     ghost tells = { λ asked given caps after. OnRemoved given (λ id method.
         CarriesMark after id (mark_of (record { id = id; keep = M.keep method; heard = M.heard method }))
-        × HasHeard (invoked_in (performance_in caps after)) (record { id = id; keep = M.keep method; heard = M.heard method })) };
+        × HasHeard (invoked_in (performance_in caps after))
+        (record { id = id; keep = M.keep method; heard = M.heard method })) };
 
     fn ask(self, caller: u32, core: &mut Core<M>) -> (Removing<M>, bool) {
         a_performance_goes_on();

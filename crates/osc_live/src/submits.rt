@@ -42,10 +42,12 @@ impl<M: Method> Live<M> {
         requires ours { IsTokenOf self.now.turn self.now.caps caller.pass }
         ensures ours { IsTokenOf self.now.turn self.now.caps result.0.pass }
         ensures number { result.0.number ≡ caller.number }
-        ensures call { IfOk result.1 (λ submitted. Calls self.now.caps caller.number (submit packet.now)
+        ensures call { IfOk result.1
+            (λ submitted. Calls self.now.caps caller.number (submit packet.now)
             (submitted_of submitted) (view caller.pass) (view result.0.pass)) }
         ensures words { IfOk result.1 (λ _. FindsTwice (view caller.pass) (view result.0.pass)) }
-        ensures busy { IfErr result.1 (λ busy. IsBusy busy.found (view caller.pass) (view result.0.pass)) }
+        ensures busy { IfErr result.1
+            (λ busy. IsBusy busy.found (view caller.pass) (view result.0.pass)) }
     {
         self.try_play(caller, Submit { packet })
     }

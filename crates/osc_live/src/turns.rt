@@ -30,7 +30,8 @@ impl<M: Method> Live<M> {
         ensures ours { IsTokenOf self.now.turn self.now.caps result.0.pass }
         ensures number { result.0.number ≡ caller.number }
         ensures call { (answer : Answer) × A.says result.1 answer
-            × Calls self.now.caps caller.number (A.event asked) answer (view caller.pass) (view result.0.pass) }
+            × Calls self.now.caps caller.number (A.event asked) answer (view caller.pass)
+            (view result.0.pass) }
         ensures tells { A.tells asked result.1 self.now.caps (texts (view result.0.pass).seen) }
     {
         callers_are_counted();
@@ -56,9 +57,11 @@ impl<M: Method> Live<M> {
         ensures ours { IsTokenOf self.now.turn self.now.caps result.0.pass }
         ensures number { result.0.number ≡ caller.number }
         ensures call { IfOk result.1 (λ given. (answer : Answer) × A.says given answer
-            × Calls self.now.caps caller.number (A.event asked) answer (view caller.pass) (view result.0.pass)) }
+            × Calls self.now.caps caller.number (A.event asked) answer (view caller.pass)
+            (view result.0.pass)) }
         ensures words { IfOk result.1 (λ _. FindsTwice (view caller.pass) (view result.0.pass)) }
-        ensures busy { IfErr result.1 (λ busy. IsBusy busy.found (view caller.pass) (view result.0.pass)) }
+        ensures busy { IfErr result.1
+            (λ busy. IsBusy busy.found (view caller.pass) (view result.0.pass)) }
     {
         callers_are_counted();
         let Caller { pass, number } = caller;

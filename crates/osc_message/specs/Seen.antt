@@ -1,4 +1,4 @@
--- What the slices of a message hold.
+-- Inside the crate: what the slices of a message hold.
 use Rattle.std.specs.Prelude.{◌≡◌, ℕ, Option, option_and_then, find}
 use Rattle.std.specs.Option.{option_map}
 use Rattle.osc_message.specs.declared.reading.Slices.{Slices}
@@ -7,7 +7,8 @@ use Rattle.osc_message.specs.Reading.{Parts}
 
 -- the parts that they are
 abbrev pub seen : Slices → Parts
-seen s = record { pattern = s.pattern.now; tags = option_map (λ tags. tags.now) s.tags; place = s.place }
+seen s = record { pattern = s.pattern.now; tags = option_map (λ tags. tags.now) s.tags;
+    place = s.place }
 
 -- the first unknown tag of a message with these parts
 abbrev pub unknown_in : Parts → Option ℕ

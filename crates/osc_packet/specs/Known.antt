@@ -1,4 +1,4 @@
--- What is known of messages where packets are read.
+-- Inside the crate: what is known of messages where packets are read.
 use Rattle.std.specs.Prelude.{◌≡◌, ℕ, ◌%◌, ◌<◌, List, length, slice_index, Some, None}
 use Rattle.osc_atoms.specs.declared.fault.Fault.{Fault}
 use Rattle.osc_atoms.specs.Atoms.{AreBytes}

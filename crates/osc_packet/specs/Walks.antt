@@ -1,4 +1,4 @@
--- The bundles that are open where a packet is gone through from front to back.
+-- Inside the crate: the bundles that are open where a packet is gone through from front to back.
 use Rattle.std.specs.Prelude.{◌≡◌, ℕ, zero, suc, ◌-◌, ◌<◌, ◌≤◌, IsTrue, List, [], ◌++◌, length, slice_index_or, Some, None}
 use Rattle.osc_packet.specs.declared.walk.OpenBundle.{OpenBundle}
 use Rattle.osc_packet.specs.declared.walk.Found.{Found}

@@ -1,3 +1,4 @@
+-- What public contracts cite.
 pub mod Items
 pub mod Parts
 pub mod Cuts
@@ -5,4 +6,6 @@ pub mod Reading
 pub mod Patterns
 pub mod Addresses
 pub mod Methods
+
+-- Inside the crate.
 pub mod Views

@@ -1,4 +1,4 @@
--- How the code's items stand for items, and its sets for places of a name.
+-- Inside the crate: how the code's items stand for items, and its sets for places of a name.
 use Rattle.std.specs.Prelude.{ℕ, Bool, ◌==◌, List}
 use Rattle.std.specs.Int.{bit_at}
 use Rattle.osc_pattern.specs.declared.item.Item.{Item as Borrowed}

@@ -59,4 +59,6 @@ entry_text entry = line (event_words entry.caller entry.event ++ spaced (answer_
 
 -- the line of an invocation
 abbrev pub invocation_text : Invocation → List ℕ
-invocation_text invocation = call_text invocation.unit invocation.call.index invocation.call.id invocation.call.address invocation.call.message
+invocation_text invocation =
+    call_text invocation.unit invocation.call.index invocation.call.id invocation.call.address
+    invocation.call.message

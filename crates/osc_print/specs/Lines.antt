@@ -12,14 +12,19 @@ line words = words ++ 10 ∷ []
 
 -- the unit's number, the message's index, the method's id and its address
 abbrev pub call_head : ℕ → ℕ → ℕ → List ℕ → List ℕ
-call_head unit index id address = codes "call" ++ spaced (decimal unit) ++ spaced (decimal index) ++ spaced (decimal id) ++ spaced address
+call_head unit index id address =
+    codes "call" ++ spaced (decimal unit) ++ spaced (decimal index) ++ spaced (decimal id)
+    ++ spaced address
 
 -- the line of a call, with the message's tags and a word for each argument
 abbrev pub call_text : ℕ → ℕ → ℕ → List ℕ → List ℕ → List ℕ
 call_text unit index id address message =
     line (call_head unit index id address
-    ++ (spaced (tags_word (tags_of message)) ++ flat_map (λ argument. spaced (argument_word argument)) (message_arguments message)))
+    ++ (spaced (tags_word (tags_of message))
+        ++ flat_map (λ argument. spaced (argument_word argument)) (message_arguments message)))
 
 -- the line of a fault of the packet in a line of a script
 abbrev pub fault_text : ℕ → Fault → List ℕ
-fault_text number fault = line (codes "fault" ++ spaced (decimal number) ++ spaced (decimal fault.kind) ++ spaced (decimal fault.at))
+fault_text number fault =
+    line (codes "fault" ++ spaced (decimal number) ++ spaced (decimal fault.kind)
+    ++ spaced (decimal fault.at))

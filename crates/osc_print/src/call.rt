@@ -22,7 +22,11 @@ pub fn call_line(
     id: u32,
     address: &Address,
 ) -> Result<(), AllocError>
-    ensures ok { OnOk result (text.new ≡ text.old ++ invocation_text (record { unit = call.now.unit; call = record { index = call.now.index; id = id; address = address.now; message = call.now.message } })) }
+    ensures ok { OnOk result
+        (text.new ≡ text.old ++ invocation_text
+        (record { unit = call.now.unit;
+        call = record { index = call.now.index; id = id; address = address.now;
+        message = call.now.message } })) }
     ensures err { OnErr result (text.new ≡ text.old) }
 {
     let start = text.bytes().len();

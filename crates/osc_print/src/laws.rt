@@ -6,21 +6,53 @@ ghost use Rattle.osc_print.specs.Entries.{entry_text, invocation_text};
 
 /// A line of each kind of answer, and the line of a call.
 pub fn examples()
-    ensures number { entry_text (record { caller = 0; event = enrol; answer = number 1 }) ≡ codes "enrol 0 1\n" }
-    ensures callers_full { entry_text (record { caller = 3; event = enrol; answer = callers_full }) ≡ codes "enrol 3 full\n" }
-    ensures queued { entry_text (record { caller = 0; event = submit []; answer = queued 12 2 }) ≡ codes "submit 0 queued 12 2\n" }
-    ensures units_full { entry_text (record { caller = 1; event = submit []; answer = units_full (record { need = 3; free = 2 }) }) ≡ codes "submit 1 units-full 3 2\n" }
-    ensures pool_full { entry_text (record { caller = 0; event = submit []; answer = pool_full (record { need = 1; free = 0 }) }) ≡ codes "submit 0 pool-full 1 0\n" }
-    ensures added { entry_text (record { caller = 0; event = add (codes "/light/dim"); answer = added 0 }) ≡ codes "add 0 /light/dim id 0\n" }
-    ensures taken { entry_text (record { caller = 0; event = add (codes "/a"); answer = refused (taken 7) }) ≡ codes "add 0 /a taken 7\n" }
-    ensures under_method { entry_text (record { caller = 0; event = add (codes "/a/b"); answer = refused (under_method 7) }) ≡ codes "add 0 /a/b under-method 7\n" }
-    ensures is_container { entry_text (record { caller = 0; event = add (codes "/a"); answer = refused is_container }) ≡ codes "add 0 /a is-container\n" }
-    ensures methods_full { entry_text (record { caller = 0; event = add (codes "/a"); answer = refused (methods_full 1024) }) ≡ codes "add 0 /a methods-full 1024\n" }
-    ensures nodes_full { entry_text (record { caller = 0; event = add (codes "/a/b"); answer = refused (nodes_full 2 1) }) ≡ codes "add 0 /a/b nodes-full 2 1\n" }
-    ensures removed { entry_text (record { caller = 2; event = remove (codes "/a"); answer = removed 5 }) ≡ codes "remove 2 /a id 5\n" }
-    ensures not_there { entry_text (record { caller = 2; event = remove (codes "/a"); answer = not_there }) ≡ codes "remove 2 /a not-there\n" }
-    ensures ticked { entry_text (record { caller = 0; event = tick 5; answer = ticked }) ≡ codes "tick 0 0000000000000005 ticked\n" }
-    ensures clock_back { entry_text (record { caller = 0; event = tick 0; answer = clock_back 1 }) ≡ codes "tick 0 0000000000000000 clock-back 0000000000000001\n" }
-    ensures released { entry_text (record { caller = 0; event = release; answer = released 12 (record { index = 0; id = 4 } ∷ record { index = 1; id = 4 } ∷ []) }) ≡ codes "release 0 12 2\n" }
-    ensures call { invocation_text (record { unit = 0; call = record { index = 0; id = 0; address = codes "/light/dim"; message = codes "/light/dim\0\0,i\0\0\0\0\0\u{7}" } }) ≡ codes "call 0 0 0 /light/dim ,i i:7\n" }
+    ensures number { entry_text (record { caller = 0; event = enrol; answer = number 1 })
+        ≡ codes "enrol 0 1\n" }
+    ensures callers_full { entry_text (record { caller = 3; event = enrol; answer = callers_full })
+        ≡ codes "enrol 3 full\n" }
+    ensures queued { entry_text (record { caller = 0; event = submit []; answer = queued 12 2 })
+        ≡ codes "submit 0 queued 12 2\n" }
+    ensures units_full { entry_text
+        (record { caller = 1; event = submit [];
+        answer = units_full (record { need = 3; free = 2 }) }) ≡ codes "submit 1 units-full 3 2\n" }
+    ensures pool_full { entry_text
+        (record { caller = 0; event = submit [];
+        answer = pool_full (record { need = 1; free = 0 }) }) ≡ codes "submit 0 pool-full 1 0\n" }
+    ensures added { entry_text
+        (record { caller = 0; event = add (codes "/light/dim"); answer = added 0 })
+        ≡ codes "add 0 /light/dim id 0\n" }
+    ensures taken { entry_text
+        (record { caller = 0; event = add (codes "/a"); answer = refused (taken 7) })
+        ≡ codes "add 0 /a taken 7\n" }
+    ensures under_method { entry_text
+        (record { caller = 0; event = add (codes "/a/b"); answer = refused (under_method 7) })
+        ≡ codes "add 0 /a/b under-method 7\n" }
+    ensures is_container { entry_text
+        (record { caller = 0; event = add (codes "/a"); answer = refused is_container })
+        ≡ codes "add 0 /a is-container\n" }
+    ensures methods_full { entry_text
+        (record { caller = 0; event = add (codes "/a"); answer = refused (methods_full 1024) })
+        ≡ codes "add 0 /a methods-full 1024\n" }
+    ensures nodes_full { entry_text
+        (record { caller = 0; event = add (codes "/a/b"); answer = refused (nodes_full 2 1) })
+        ≡ codes "add 0 /a/b nodes-full 2 1\n" }
+    ensures removed { entry_text
+        (record { caller = 2; event = remove (codes "/a"); answer = removed 5 })
+        ≡ codes "remove 2 /a id 5\n" }
+    ensures not_there { entry_text
+        (record { caller = 2; event = remove (codes "/a"); answer = not_there })
+        ≡ codes "remove 2 /a not-there\n" }
+    ensures ticked { entry_text (record { caller = 0; event = tick 5; answer = ticked })
+        ≡ codes "tick 0 0000000000000005 ticked\n" }
+    ensures clock_back { entry_text (record { caller = 0; event = tick 0; answer = clock_back 1 })
+        ≡ codes "tick 0 0000000000000000 clock-back 0000000000000001\n" }
+    ensures released { entry_text
+        (record { caller = 0; event = release;
+        answer = released 12 (record { index = 0; id = 4 } ∷ record { index = 1; id = 4 } ∷ []) })
+        ≡ codes "release 0 12 2\n" }
+    ensures call { invocation_text
+        (record { unit = 0;
+        call = record { index = 0; id = 0; address = codes "/light/dim";
+        message = codes "/light/dim\0\0,i\0\0\0\0\0\u{7}" } })
+        ≡ codes "call 0 0 0 /light/dim ,i i:7\n" }
 {}

@@ -1,9 +1,12 @@
+-- What public contracts cite.
 pub mod Plain
 pub mod Printing
 pub mod Bank
-pub mod Tally
 pub mod Commands
 pub mod Ends
 pub mod Enough
+
+-- Inside the crate.
+pub mod Tally
 pub mod Whole
 pub mod Tallied

@@ -1,4 +1,4 @@
--- What a server that plays a script has come to, some entries on.
+-- Inside the crate: what a server that plays a script has come to, some entries on.
 use Rattle.std.specs.Prelude.{◌≡◌, ℕ, ◌<◌, if◌then◌else◌, List, [], ◌∷◌, ◌++◌, length, map, drop, Option, Some, None}
 use Rattle.std.specs.List.{AllByRecursion}
 use Rattle.std.specs.List.Sorted.{IsPermutation}
@@ -44,10 +44,14 @@ abbrev pub IsRising : List Told → Type 0
 IsRising [] = Unit {0}
 IsRising (box ∷ boxes) = AllByRecursion (λ other. box.id < other.id) boxes × IsRising boxes
 
--- After calls, and answers to adds that were given a bank: the boxes that were refused, and those that no add has taken;
--- and the boxes that the server has and those that were removed, which have heard the calls. Ids rise, and each that was
+-- After calls, and answers to adds that were given a bank: the boxes that were refused, and those
+-- that no add has taken;
+-- and the boxes that the server has and those that were removed, which have heard the calls. Ids
+-- rise, and each that was
 -- given or called is below the next one.
-pub record Tally {X : Type 0} (meaning : X → Meaning) (calls : List Invocation) (answers : List Answer) (bank : List X) (next : ℕ) (boxes removed : List Told) (left rest : List X) : Type 0 where
+pub record Tally {X : Type 0} (meaning : X → Meaning) (calls : List Invocation)
+    (answers : List Answer) (bank : List X) (next : ℕ) (boxes removed : List Told)
+    (left rest : List X) : Type 0 where
   pub refused : left ≡ refused_boxes answers bank
   pub waiting : rest ≡ drop (length answers) bank
   pub told : IsPermutation (boxes_heard calls answers (map meaning bank)) (boxes ++ removed)
@@ -56,17 +60,26 @@ pub record Tally {X : Type 0} (meaning : X → Meaning) (calls : List Invocation
   pub given : AllByRecursion (λ call. call.call.id < next) calls
 
 -- the tally after a performance
-abbrev pub IsAt : {X : Type 0} → (X → Meaning) → List X → Performance → List Told → List Told → List X → List X → Type 0
+abbrev pub IsAt : {X : Type 0} → (X → Meaning) → List X → Performance → List Told → List Told
+    → List X → List X → Type 0
 IsAt meaning bank performance boxes removed left rest =
-    Tally meaning (invoked_in performance) (add_answers performance.history) bank (state_of performance).next_id boxes removed left rest
+    Tally meaning (invoked_in performance) (add_answers performance.history) bank
+        (state_of performance).next_id boxes removed left rest
 
 -- The same where the last add may have no entry: the box that it was given is among the others.
-pub record IsOver {X : Type 0} (meaning : X → Meaning) (bank : List X) (performance : Performance) (boxes removed : List Told) (left rest : List X) : Type 0 where
+pub record IsOver {X : Type 0} (meaning : X → Meaning) (bank : List X) (performance : Performance)
+    (boxes removed : List Told) (left rest : List X) : Type 0 where
   pub others : left ++ rest ≡ boxes_left (add_answers performance.history) bank
-  pub told : IsPermutation (boxes_heard (invoked_in performance) (add_answers performance.history) (map meaning bank)) (boxes ++ removed)
-  pub rising : IsRising (boxes_heard (invoked_in performance) (add_answers performance.history) (map meaning bank))
+  pub told : IsPermutation
+      (boxes_heard (invoked_in performance) (add_answers performance.history) (map meaning bank))
+      (boxes ++ removed)
+  pub rising : IsRising
+      (boxes_heard (invoked_in performance) (add_answers performance.history) (map meaning bank))
 
 -- where a line stops the script, it is over
-abbrev pub IsAtUnless : Option Room → {X : Type 0} → (X → Meaning) → List X → Performance → List Told → List Told → List X → List X → Type 0
-IsAtUnless None meaning bank performance boxes removed left rest = IsAt meaning bank performance boxes removed left rest
-IsAtUnless (Some room) meaning bank performance boxes removed left rest = IsOver meaning bank performance boxes removed left rest
+abbrev pub IsAtUnless : Option Room → {X : Type 0} → (X → Meaning) → List X → Performance
+    → List Told → List Told → List X → List X → Type 0
+IsAtUnless None meaning bank performance boxes removed left rest =
+    IsAt meaning bank performance boxes removed left rest
+IsAtUnless (Some room) meaning bank performance boxes removed left rest =
+    IsOver meaning bank performance boxes removed left rest

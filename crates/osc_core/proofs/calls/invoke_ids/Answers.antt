@@ -7,7 +7,8 @@ use Rattle.osc_core.proofs.Recorded.{owes, hit_put, hits_all_put, owed_put}
 use Rattle.osc_core.proofs.calls.invoke_ids.Goals as goal
 
 pub put_hit-requires : goal.put_hit-requires
-put_hit-requires g c = record { owed = owes c.loop-id.recorder (omega (arith, c.loop-id-test.true, length-drop c.loop-id.id-index c.args.ids.now, c.loop-id.invariant.owed)) }
+put_hit-requires g c =
+    record { owed = owes c.loop-id.recorder (omega (arith, c.loop-id-test.true, length-drop c.loop-id.id-index c.args.ids.now, c.loop-id.invariant.owed)) }
 
 pub invoke_one-requires : goal.invoke_one-requires
 invoke_one-requires g c = rw c.loop-id.invariant.ids c.requires.ascending
@@ -20,7 +21,8 @@ loop-id-preserved g c =
     record {
       recorder = hit_put c.loop-id.recorder c.put_hit.new.self hit_of ids i c.loop-id-test.true c.put_hit.ensures ∙ c.loop-id.invariant.recorder;
       owed = owed_put c.loop-id.recorder c.put_hit.new.self _ ids i c.loop-id-test.true c.put_hit.ensures c.loop-id.invariant.owed;
-      boxes = λ methods. call_made (invocation_by methods c.args.call.now) ids i _ _ c.loop-id-test.true (c.invoke_one.ensures.boxes methods) ∙ c.loop-id.invariant.boxes methods;
+      boxes = λ methods. call_made (invocation_by methods c.args.call.now) ids i _ _ c.loop-id-test.true (c.invoke_one.ensures.boxes methods)
+          ∙ c.loop-id.invariant.boxes methods;
       ids = c.invoke_one.ensures.ids ∙ c.loop-id.invariant.ids;
       capacity = omega (arith, c.invoke_one.ensures.capacity, c.loop-id.invariant.capacity);
     }

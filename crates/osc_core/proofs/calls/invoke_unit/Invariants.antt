@@ -10,7 +10,8 @@ abbrev pub invariant-loop-message : goal.invariant-loop-message
 invariant-loop-message g l = record {
   can : (goal.iterator-loop-message g).can_next l.message-iterator;
   finite : (goal.iterator-loop-message g).is_finite l.message-iterator;
-  recorder : with_hits l.recorder (hits_of (calls_from l.tree.methods l.index l.message-iterator)) ≡ with_hits l.initial.recorder (hits_of (calls_from l.tree.methods 0 l.fn.messages));
+  recorder : with_hits l.recorder (hits_of (calls_from l.tree.methods l.index l.message-iterator))
+      ≡ with_hits l.initial.recorder (hits_of (calls_from l.tree.methods 0 l.fn.messages));
   owed : owed_by l.recorder ≡ length (calls_from l.tree.methods l.index l.message-iterator);
   boxes : all_hear (invocations_of l.unit (calls_from l.tree.methods l.index l.message-iterator)) (told g.M.Method.keep g.M.Method.heard l.boxes.items)
       ≡ all_hear (invocations_of l.unit (calls_from l.tree.methods 0 l.fn.messages)) (told g.M.Method.keep g.M.Method.heard l.initial.boxes.items);

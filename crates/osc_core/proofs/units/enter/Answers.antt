@@ -15,7 +15,9 @@ returns-clause-queue c =
 
 pub returns-clause-running : goal.returns-clause-running
 returns-clause-running c = record {
-  kept = rw (c.put.ensures.kept, c.push.ensures.items) (are_entered c.args.store.now.kept _ _ _ c.args.queue.now.items c.requires.running.kept (new_unit c.args.number c.args.queue.now.items c.requires.running.numbers));
+  kept = rw (c.put.ensures.kept, c.push.ensures.items)
+      (are_entered c.args.store.now.kept _ _ _ c.args.queue.now.items c.requires.running.kept
+      (new_unit c.args.number c.args.queue.now.items c.requires.running.numbers));
   numbers = rw c.push.ensures.items (numbers_entered _ c.args.number _ c.args.queue.now.items c.requires.running.numbers);
   places = rw (c.put.ensures.places, c.push.ensures.limit) c.requires.running.places;
 }

@@ -10,7 +10,8 @@ abbrev pub invariant-loop-unit : goal.invariant-loop-unit
 invariant-loop-unit l = record {
   can : (goal.iterator-loop-unit).can_next l.unit-iterator;
   finite : (goal.iterator-loop-unit).is_finite l.unit-iterator;
-  queue : step.enter_all (step.numbered l.clock l.number l.unit-iterator) (queue_of l.store.kept l.queue.items) ≡ step.enter_all (step.numbered l.clock l.first (units_read l.packet)) (queue_of l.initial.store.kept l.initial.queue.items);
+  queue : step.enter_all (step.numbered l.clock l.number l.unit-iterator) (queue_of l.store.kept l.queue.items)
+      ≡ step.enter_all (step.numbered l.clock l.first (units_read l.packet)) (queue_of l.initial.store.kept l.initial.queue.items);
   running : AreQueued l.store l.queue l.number;
   numbers : l.number + length l.unit-iterator ≡ l.first + length (units_read l.packet);
   room : length l.queue.items + length l.unit-iterator ≤ l.queue.limit;

@@ -14,4 +14,6 @@ give-requires c =
     subst (λ (number : ℕ). Contains (map (λ (one : Kept). one.unit) kept) number) first.number_is (contains_kept kept (unit_of first.item) are.0)
 
 pub returns-clause-queue : goal.returns-clause-queue
-returns-clause-queue c = rw c.give.ensures.kept (queue_taken c.args.store.now.kept c.args.queue.now.items c.pop-unit.new.queue.items c.pop-unit.result c.pop-unit.ensures.items c.requires.kept)
+returns-clause-queue c =
+    rw c.give.ensures.kept
+    (queue_taken c.args.store.now.kept c.args.queue.now.items c.pop-unit.new.queue.items c.pop-unit.result c.pop-unit.ensures.items c.requires.kept)

@@ -18,10 +18,14 @@ invariant_of-self g c =
     let ascending = subst (λ (l : List ℕ). is_ascending l ≡ true) old.alike old.ascending in
     record {
       alike = ids ∙ sym c.in-Ok.ensures.ids;
-      ascending = subst (λ (l : List ℕ). is_ascending l ≡ true) (sym ids) (ascending_pushed (map (λ method. method.id) methods) id ascending (ids_below methods id c.in-Ok.ensures.new));
-      heard = heard_on c.add.new.self (onward old.performance c.args.caller (add c.args.address)) _ c.add.ensures.performance (heard_more _ _ _ c.keep_box.ensures.boxes
-          (c.boxes_hear_the_history.ensures.added old.performance c.args.caller c.args.address (record { id = id; keep = _; heard = _ }) _ c.add.ensures.legal old.heard c.in-Ok.ensures.added));
-      reserved = still_reserved old.performance c.add.new.self (onward old.performance c.args.caller (add c.args.address)) _ c.add.ensures.performance (c.boxes_stay.ensures.caps old.performance c.args.caller (add c.args.address)) (omega (arith, old.reserved, c.keep_box.ensures.capacity));
+      ascending = subst (λ (l : List ℕ). is_ascending l ≡ true) (sym ids)
+          (ascending_pushed (map (λ method. method.id) methods) id ascending (ids_below methods id c.in-Ok.ensures.new));
+      heard = heard_on c.add.new.self (onward old.performance c.args.caller (add c.args.address)) _ c.add.ensures.performance
+          (heard_more _ _ _ c.keep_box.ensures.boxes
+          (c.boxes_hear_the_history.ensures.added old.performance c.args.caller c.args.address
+              (record { id = id; keep = _; heard = _ }) _ c.add.ensures.legal old.heard c.in-Ok.ensures.added));
+      reserved = still_reserved old.performance c.add.new.self (onward old.performance c.args.caller (add c.args.address)) _ c.add.ensures.performance
+          (c.boxes_stay.ensures.caps old.performance c.args.caller (add c.args.address)) (omega (arith, old.reserved, c.keep_box.ensures.capacity));
     }
 
 pub invariant_of-self-in-Err-1 : goal.invariant_of-self-in-Err-1
@@ -30,10 +34,13 @@ invariant_of-self-in-Err-1 g c =
     let next = onward old.performance c.args.caller (add c.args.address) in
     let refused = subst IsRefusal (sym c.in-Err.ensures.refused) (refusals_refuse _) in
     record {
-      alike = still_alike old.performance c.add.new.self next _ c.add.ensures.performance (c.boxes_stay.ensures.refused_methods old.performance c.args.caller (add c.args.address) refused) old.alike;
+      alike = still_alike old.performance c.add.new.self next _ c.add.ensures.performance
+          (c.boxes_stay.ensures.refused_methods old.performance c.args.caller (add c.args.address) refused) old.alike;
       ascending = old.ascending;
-      heard = heard_on c.add.new.self next _ c.add.ensures.performance (c.boxes_stay.ensures.refused old.performance c.args.caller (add c.args.address) _ refused old.heard);
-      reserved = still_reserved old.performance c.add.new.self next _ c.add.ensures.performance (c.boxes_stay.ensures.caps old.performance c.args.caller (add c.args.address)) old.reserved;
+      heard = heard_on c.add.new.self next _ c.add.ensures.performance
+          (c.boxes_stay.ensures.refused old.performance c.args.caller (add c.args.address) _ refused old.heard);
+      reserved = still_reserved old.performance c.add.new.self next _ c.add.ensures.performance
+          (c.boxes_stay.ensures.caps old.performance c.args.caller (add c.args.address)) old.reserved;
     }
 
 pub returns-in-Ok-clause-stands : goal.returns-in-Ok-clause-stands
@@ -41,9 +48,11 @@ returns-in-Ok-clause-stands g c texts stands =
     let old = c.args.self.now.performance in
     let event = add c.args.address in
     let lawful : is_address c.args.address ≡ true = subst (λ (a : List ℕ). is_address a ≡ true) c.bytes.ensures.value c.bytes.ensures.test in
-    let heard = c.boxes_hear_the_history.ensures.added old c.args.caller c.args.address (record { id = c.in-Ok.id; keep = _; heard = _ }) _ c.add.ensures.legal stands.heard c.in-Ok.ensures.added in
+    let heard = c.boxes_hear_the_history.ensures.added old c.args.caller c.args.address
+        (record { id = c.in-Ok.id; keep = _; heard = _ }) _ c.add.ensures.legal stands.heard c.in-Ok.ensures.added in
     stood _ _ _ _ _ _ c.add.ensures.performance c.keep_box.ensures.boxes
-    (c.a_server_stands_for_more.ensures.more old c.args.caller event (record { id = c.in-Ok.id; keep = _; heard = _ }) _ texts stands c.requires lawful c.in-Ok.ensures.added heard)
+    (c.a_server_stands_for_more.ensures.more old c.args.caller event
+        (record { id = c.in-Ok.id; keep = _; heard = _ }) _ texts stands c.requires lawful c.in-Ok.ensures.added heard)
 
 pub returns-in-Err-clause-stands : goal.returns-in-Err-clause-stands
 returns-in-Err-clause-stands g c texts stands =

@@ -10,10 +10,12 @@ invariant_of-self g c =
     let old = c.args.self.now in
     let next = onward old.performance c.args.caller enrol in
     record {
-      alike = still_alike old.performance c.enrol.new.self next _ c.enrol.ensures.performance (c.boxes_stay.ensures.quiet_methods old.performance c.args.caller enrol tt) old.alike;
+      alike = still_alike old.performance c.enrol.new.self next _ c.enrol.ensures.performance
+          (c.boxes_stay.ensures.quiet_methods old.performance c.args.caller enrol tt) old.alike;
       ascending = old.ascending;
       heard = heard_on c.enrol.new.self next _ c.enrol.ensures.performance (c.boxes_stay.ensures.quiet old.performance c.args.caller enrol _ tt old.heard);
-      reserved = still_reserved old.performance c.enrol.new.self next _ c.enrol.ensures.performance (c.boxes_stay.ensures.caps old.performance c.args.caller enrol) old.reserved;
+      reserved = still_reserved old.performance c.enrol.new.self next _ c.enrol.ensures.performance
+          (c.boxes_stay.ensures.caps old.performance c.args.caller enrol) old.reserved;
     }
 
 pub returns-clause-stands : goal.returns-clause-stands

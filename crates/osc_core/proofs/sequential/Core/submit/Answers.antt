@@ -10,10 +10,13 @@ invariant_of-self g c =
     let old = c.args.self.now in
     let next = onward old.performance c.args.caller (submit c.args.packet.now) in
     record {
-      alike = still_alike old.performance c.submit.new.self next _ c.submit.ensures.performance (c.boxes_stay.ensures.quiet_methods old.performance c.args.caller (submit c.args.packet.now) tt) old.alike;
+      alike = still_alike old.performance c.submit.new.self next _ c.submit.ensures.performance
+          (c.boxes_stay.ensures.quiet_methods old.performance c.args.caller (submit c.args.packet.now) tt) old.alike;
       ascending = old.ascending;
-      heard = heard_on c.submit.new.self next _ c.submit.ensures.performance (c.boxes_stay.ensures.quiet old.performance c.args.caller (submit c.args.packet.now) _ tt old.heard);
-      reserved = still_reserved old.performance c.submit.new.self next _ c.submit.ensures.performance (c.boxes_stay.ensures.caps old.performance c.args.caller (submit c.args.packet.now)) old.reserved;
+      heard = heard_on c.submit.new.self next _ c.submit.ensures.performance
+          (c.boxes_stay.ensures.quiet old.performance c.args.caller (submit c.args.packet.now) _ tt old.heard);
+      reserved = still_reserved old.performance c.submit.new.self next _ c.submit.ensures.performance
+          (c.boxes_stay.ensures.caps old.performance c.args.caller (submit c.args.packet.now)) old.reserved;
     }
 
 pub returns-clause-stands : goal.returns-clause-stands
@@ -21,4 +24,5 @@ returns-clause-stands g c texts stands =
     let old = c.args.self.now.performance in
     let event = submit c.args.packet.now in
     let heard = c.boxes_stay.ensures.quiet old c.args.caller event _ tt stands.heard in
-    stood _ _ _ _ _ _ c.submit.ensures.performance refl (c.a_server_stands_for_more.ensures.same old c.args.caller event _ texts stands c.requires c.bytes.ensures.read heard)
+    stood _ _ _ _ _ _ c.submit.ensures.performance refl
+        (c.a_server_stands_for_more.ensures.same old c.args.caller event _ texts stands c.requires c.bytes.ensures.read heard)

@@ -10,14 +10,18 @@ invariant_of-self g c =
     let old = c.args.self.now in
     let next = onward old.performance c.args.caller (tick c.args.now) in
     record {
-      alike = still_alike old.performance c.tick.new.self next _ c.tick.ensures.performance (c.boxes_stay.ensures.quiet_methods old.performance c.args.caller (tick c.args.now) tt) old.alike;
+      alike = still_alike old.performance c.tick.new.self next _ c.tick.ensures.performance
+          (c.boxes_stay.ensures.quiet_methods old.performance c.args.caller (tick c.args.now) tt) old.alike;
       ascending = old.ascending;
-      heard = heard_on c.tick.new.self next _ c.tick.ensures.performance (c.boxes_stay.ensures.quiet old.performance c.args.caller (tick c.args.now) _ tt old.heard);
-      reserved = still_reserved old.performance c.tick.new.self next _ c.tick.ensures.performance (c.boxes_stay.ensures.caps old.performance c.args.caller (tick c.args.now)) old.reserved;
+      heard = heard_on c.tick.new.self next _ c.tick.ensures.performance
+          (c.boxes_stay.ensures.quiet old.performance c.args.caller (tick c.args.now) _ tt old.heard);
+      reserved = still_reserved old.performance c.tick.new.self next _ c.tick.ensures.performance
+          (c.boxes_stay.ensures.caps old.performance c.args.caller (tick c.args.now)) old.reserved;
     }
 
 pub returns-clause-stands : goal.returns-clause-stands
 returns-clause-stands g c texts stands =
     let old = c.args.self.now.performance in
     let heard = c.boxes_stay.ensures.quiet old c.args.caller (tick c.args.now) _ tt stands.heard in
-    stood _ _ _ _ _ _ c.tick.ensures.performance refl (c.a_server_stands_for_more.ensures.same old c.args.caller (tick c.args.now) _ texts stands c.requires (omega (arith, c.ranges.now)) heard)
+    stood _ _ _ _ _ _ c.tick.ensures.performance refl
+        (c.a_server_stands_for_more.ensures.same old c.args.caller (tick c.args.now) _ texts stands c.requires (omega (arith, c.ranges.now)) heard)

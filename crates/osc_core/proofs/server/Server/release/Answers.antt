@@ -28,14 +28,16 @@ messages-messages-requires g c =
 pub release_unit-requires-clause-unit : goal.release_unit-requires-clause-unit
 release_unit-requires-clause-unit g c =
     let s = c.self.inside in
-    let below = first_below s.queue.items c.in-Some.due c.in-Some.unit c.in-Some.field-0-2.now s.next_unit c.in-Some.ensures.head c.self.invariant.units.numbers in
+    let below = first_below s.queue.items c.in-Some.due c.in-Some.unit c.in-Some.field-0-2.now s.next_unit c.in-Some.ensures.head c.self.invariant.units.numbers
+        in
     omega (arith, below, c.requires.units, ap (λ (state : State). state.next_unit) c.self.view_is)
 
 pub take_first-requires-clause-due : goal.take_first-requires-clause-due
 take_first-requires-clause-due g c =
     let s = c.self.inside in
     let hits = hits_of (calls_from s.tree.methods 0 (messages_by s.store.kept c.in-Some.unit)) in
-    let due = first_answer (the_view s) s.store.kept s.queue.items c.in-Some.due c.in-Some.unit c.in-Some.field-0-2.now refl c.in-Some.ensures.head (omega (arith, c.if-due-self.false)) in
+    let due = first_answer (the_view s) s.store.kept s.queue.items c.in-Some.due c.in-Some.unit c.in-Some.field-0-2.now refl c.in-Some.ensures.head
+        (omega (arith, c.if-due-self.false)) in
     let item = is_item (the_view s) s.store.kept s.queue.items c.in-Some.unit hits refl c.self.invariant.units.kept due in
     item.due
 
@@ -44,7 +46,8 @@ returns-in-Ok-clause-answer g c =
     let s = c.self.inside in
     let unit = c.in-Some.unit in
     let calls = calls_from s.tree.methods 0 (messages_by s.store.kept unit) in
-    let due = first_answer (the_view s) s.store.kept s.queue.items c.in-Some.due unit c.in-Some.field-0-2.now refl c.in-Some.ensures.head (omega (arith, c.if-due-self.false)) in
+    let due = first_answer (the_view s) s.store.kept s.queue.items c.in-Some.due unit c.in-Some.field-0-2.now refl c.in-Some.ensures.head
+        (omega (arith, c.if-due-self.false)) in
     let item = is_item (the_view s) s.store.kept s.queue.items unit (hits_of calls) refl c.self.invariant.units.kept due in
     let kept = c.messages-messages.ensures.value in
     let begun = with_release c.args.recorder.now c.args.caller unit c.in-Ok.calls in
@@ -54,8 +57,10 @@ returns-in-Ok-clause-answer g c =
       due = subst (λ (state : State). IsDue state unit (hits_of calls)) c.self.view_is due;
       many = c.in-Ok.ensures.recorder.0 ∙ ap (λ (l : List (List ℕ)). length (calls_from s.tree.methods 0 l)) kept ∙ sym (length-hits_of calls);
       fits = c.in-Ok.ensures.recorder.1;
-      state = rw (c.take_first.ensures.queue, c.take_first.ensures.places, c.take_first.ensures.limit) (sym (ap (λ (state : State). (decided state release).state) (sym c.self.view_is) ∙ item.state_is));
-      recorder = c.in-Ok.ensures.recorder.2 ∙ ap (λ (l : List (List ℕ)). with_hits begun (hits_of (calls_from s.tree.methods 0 l))) kept ∙ ap (with_hits begun) (sym (ap (map hit_by) invocations ∙ hits_by unit calls));
+      state = rw (c.take_first.ensures.queue, c.take_first.ensures.places, c.take_first.ensures.limit)
+          (sym (ap (λ (state : State). (decided state release).state) (sym c.self.view_is) ∙ item.state_is));
+      recorder = c.in-Ok.ensures.recorder.2 ∙ ap (λ (l : List (List ℕ)). with_hits begun (hits_of (calls_from s.tree.methods 0 l))) kept
+          ∙ ap (with_hits begun) (sym (ap (map hit_by) invocations ∙ hits_by unit calls));
     }
 
 pub returns-in-Ok-clause-boxes : goal.returns-in-Ok-clause-boxes
@@ -63,18 +68,22 @@ returns-in-Ok-clause-boxes g c =
     let s = c.self.inside in
     let unit = c.in-Some.unit in
     let calls = calls_from s.tree.methods 0 (messages_by s.store.kept unit) in
-    let due = first_answer (the_view s) s.store.kept s.queue.items c.in-Some.due unit c.in-Some.field-0-2.now refl c.in-Some.ensures.head (omega (arith, c.if-due-self.false)) in
+    let due = first_answer (the_view s) s.store.kept s.queue.items c.in-Some.due unit c.in-Some.field-0-2.now refl c.in-Some.ensures.head
+        (omega (arith, c.if-due-self.false)) in
     let item = is_item (the_view s) s.store.kept s.queue.items unit (hits_of calls) refl c.self.invariant.units.kept due in
     let invocations = ap (λ (state : State). (decided state release).invocations) (sym c.self.view_is) ∙ item.invocations_are in
-    hear_same _ _ _ _ c.in-Ok.ensures.boxes (ap (λ (l : List (List ℕ)). invocations_of unit (calls_from s.tree.methods 0 l)) c.messages-messages.ensures.value ∙ sym invocations)
+    hear_same _ _ _ _ c.in-Ok.ensures.boxes
+        (ap (λ (l : List (List ℕ)). invocations_of unit (calls_from s.tree.methods 0 l)) c.messages-messages.ensures.value ∙ sym invocations)
 
 pub returns-in-Err-clause-answer : goal.returns-in-Err-clause-answer
 returns-in-Err-clause-answer g c =
     let s = c.self.inside in
     let unit = c.in-Some.unit in
     let calls = calls_from s.tree.methods 0 (messages_by s.store.kept unit) in
-    let due = first_answer (the_view s) s.store.kept s.queue.items c.in-Some.due unit c.in-Some.field-0-2.now refl c.in-Some.ensures.head (omega (arith, c.if-due-self.false)) in
-    let many : length (calls_from s.tree.methods 0 c.messages-messages.result) ≡ length (hits_of calls) = ap (λ (l : List (List ℕ)). length (calls_from s.tree.methods 0 l)) c.messages-messages.ensures.value ∙ sym (length-hits_of calls) in
+    let due = first_answer (the_view s) s.store.kept s.queue.items c.in-Some.due unit c.in-Some.field-0-2.now refl c.in-Some.ensures.head
+        (omega (arith, c.if-due-self.false)) in
+    let many : length (calls_from s.tree.methods 0 c.messages-messages.result) ≡ length (hits_of calls) =
+        ap (λ (l : List (List ℕ)). length (calls_from s.tree.methods 0 l)) c.messages-messages.ensures.value ∙ sym (length-hits_of calls) in
     record {
       unit = unit;
       hits = hits_of calls;

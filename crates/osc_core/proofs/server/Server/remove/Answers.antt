@@ -11,7 +11,9 @@ pub invariant_of-self-2 : goal.invariant_of-self-2
 invariant_of-self-2 c = record {
   methods = record {
     lawful = c.remove.ensures.lawful;
-    ids = subst (λ (tree : Registry). All (λ method. method.id < c.self.inside.next_id) tree.methods) (sym c.in-Ok.ensures.others) (All-filter (λ method. not (bytes_eq method.address c.args.address.now)) (λ method. method.id < c.self.inside.next_id) c.self.inside.tree.methods c.self.invariant.methods.ids);
+    ids = subst (λ (tree : Registry). All (λ method. method.id < c.self.inside.next_id) tree.methods) (sym c.in-Ok.ensures.others)
+        (All-filter (λ method. not (bytes_eq method.address c.args.address.now))
+        (λ method. method.id < c.self.inside.next_id) c.self.inside.tree.methods c.self.invariant.methods.ids);
     room = subst (λ (tree : Registry). tree.method_limit ≤ c.self.inside.hits.limit) (sym c.in-Ok.ensures.others) c.self.invariant.methods.room;
   };
   units = c.self.invariant.units;

@@ -8,7 +8,8 @@ use Rattle.osc_print.proofs.text.Text.shown.Goals as goal
 shown_whole : (text : List ℕ) → list_all is_shown text ≡ true → flat_map shown_byte text ≡ text
 shown_whole [] all = refl
 shown_whole (byte ∷ text) all = go (is_shown byte) all (shown_whole text) where
-  go : (t : Bool) → (t && list_all is_shown text) ≡ true → (list_all is_shown text ≡ true → flat_map shown_byte text ≡ text) → cond t (byte ∷ []) (92 ∷ 120 ∷ encode_lower (byte ∷ [])) ++ flat_map shown_byte text ≡ byte ∷ text
+  go : (t : Bool) → (t && list_all is_shown text) ≡ true → (list_all is_shown text ≡ true → flat_map shown_byte text ≡ text)
+      → cond t (byte ∷ []) (92 ∷ 120 ∷ encode_lower (byte ∷ [])) ++ flat_map shown_byte text ≡ byte ∷ text
   go true more rest = ap (λ (l : List ℕ). byte ∷ l) (rest more)
   go false more rest = absurd (cc)
 
