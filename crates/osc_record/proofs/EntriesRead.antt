@@ -158,29 +158,40 @@ no_fault_range limits is =
       recording = within_is 56 1073741824 limits.recording s6.0;
     }
 
+-- a header that is read stands before what follows it
+pub record HeaderWas (bytes : List ℕ) (limits : Limits) : Type 0 where
+  pub range : AreInRange limits
+  pub text : bytes ≡ header_text limits ++ drop 56 bytes
+
+pub header_first_was : (bytes : List ℕ) (limits : Limits) → AreBytes bytes → header_read bytes ≡ Some limits → HeaderWas bytes limits
+header_first_was bytes limits small is = go (message_first bytes) refl is where
+  go : (o : Option (List ℕ)) → message_first bytes ≡ o → option_and_then header_of o ≡ Some limits → HeaderWas bytes limits
+  go None found is = absurd (none_some limits is)
+  go (Some message) found is =
+      let was = header_was message limits (message_bytes bytes message small found) is in
+      let size : length message ≡ 52 = ap length was.0 in
+      let place : 4 + length message ≡ 56 = omega arith in
+      record {
+        range = no_fault_range limits was.1;
+        text = first_was bytes message small found ∙ (λ i. sized (was.0 i) ++ drop (place i) bytes);
+      }
+
 -- bytes that are read as a recording are one
 pub record RecordWas (bytes : List ℕ) (limits : Limits) (entries : List Recorded) : Type 0 where
   pub lawful : IsRecord limits entries
   pub text : bytes ≡ record_text limits entries
 
 pub record_was : (bytes : List ℕ) (limits : Limits) → AreBytes bytes → header_read bytes ≡ Some limits → IsTrue (is_ok (entries_after limits bytes)) → RecordWas bytes limits (map (λ (p : Placed). p.entry) (placed_in (entries_after limits bytes)))
-record_was bytes limits small header read = go (message_first bytes) refl header where
-  go : (o : Option (List ℕ)) → message_first bytes ≡ o → option_and_then header_of o ≡ Some limits → RecordWas bytes limits (map (λ (p : Placed). p.entry) (placed_in (entries_after limits bytes)))
-  go None found is = absurd (none_some limits is)
-  go (Some message) found is = inner (entries_after limits bytes) refl read where
-    inner : (r : Result (List Placed) ℕ) → entries_after limits bytes ≡ r → IsTrue (is_ok r) → RecordWas bytes limits (map (λ (p : Placed). p.entry) (placed_in r))
-    inner (Err at) e ok = absurd (cc)
-    inner (Ok xs) e ok =
-        let was = header_was message limits (message_bytes bytes message small found) is in
-        let range = no_fault_range limits was.1 in
-        let size : length message ≡ 52 = ap length was.0 in
-        let place : 4 + length message ≡ 56 = omega arith in
-        let split : bytes ≡ header_text limits ++ drop 56 bytes = first_was bytes message small found ∙ (λ i. sized (was.0 i) ++ drop (place i) bytes) in
-        let above = range.recording.above in
-        let were = entries_were (length bytes) limits.recording 56 (drop 56 bytes) xs (rest_bytes 56 bytes small) above e in
-        let text : bytes ≡ record_text limits (map (λ (p : Placed). p.entry) xs) = split ∙ ap (λ l. header_text limits ++ l) were.text in
-        let within = were.within in
-        record {
-          lawful = record { lawful = range; all = were.all; fits = omega (arith, sym (ap length text), ap length split, length-append (header_text limits) (drop 56 bytes)) };
-          text = text;
-        }
+record_was bytes limits small header read = go (entries_after limits bytes) refl read where
+  go : (r : Result (List Placed) ℕ) → entries_after limits bytes ≡ r → IsTrue (is_ok r) → RecordWas bytes limits (map (λ (p : Placed). p.entry) (placed_in r))
+  go (Err at) e ok = absurd (cc)
+  go (Ok xs) e ok =
+      let first = header_first_was bytes limits small header in
+      let above = first.range.recording.above in
+      let were = entries_were (length bytes) limits.recording 56 (drop 56 bytes) xs (rest_bytes 56 bytes small) above e in
+      let text : bytes ≡ record_text limits (map (λ (p : Placed). p.entry) xs) = first.text ∙ ap (λ l. header_text limits ++ l) were.text in
+      let within = were.within in
+      record {
+        lawful = record { lawful = first.range; all = were.all; fits = omega (arith, sym (ap length text), ap length first.text, length-append (header_text limits) (drop 56 bytes)) };
+        text = text;
+      }

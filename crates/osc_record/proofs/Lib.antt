@@ -10,5 +10,6 @@ pub mod Spelled
 pub mod RowsRead
 pub mod EntriesRead
 pub mod Stops
+pub mod Remaining
 pub mod Hits
 pub mod Apart

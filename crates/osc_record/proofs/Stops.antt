@@ -1,16 +1,15 @@
 -- The first malformed place, by the recording that is read.
 use Rattle.std.proofs.Common.{◌≡◌, ℕ, ◌+◌, ◌<◌, ◌≤◌, zero, suc, List, [], ◌∷◌, ◌++◌, length, drop, Option, Some, None, Ok, Err, Result, refl, sym, ap, ◌∙◌, subst, arith, length-append, length-drop, append_assoc}
 use Rattle.std.specs.List.{flat_map, AllByRecursion}
-use Rattle.std.specs.Prelude.{option_and_then}
 use Rattle.osc_atoms.specs.Atoms.{AreBytes}
 use Rattle.osc_model.specs.Limits.{Limits}
 use Rattle.osc_model.specs.Events.{Entry as Recorded}
-use Rattle.osc_model.specs.Recordings.{sized, entry_text, header_text, IsRecordable}
-use Rattle.osc_record.specs.Reading.{message_first, entry_first, Placed, onto_read, before_read, entries_read, entries_after, header_of, header_read, HasNoHeader, HasNoEntry}
+use Rattle.osc_model.specs.Recordings.{entry_text, header_text, IsRecordable}
+use Rattle.osc_record.specs.Reading.{entry_first, Placed, onto_read, before_read, entries_read, entries_after, header_read, HasNoHeader, HasNoEntry}
 use Rattle.osc_record.proofs.Again.{first_more, entry_first_again}
 use Rattle.osc_record.proofs.Readings.{header_again}
-use Rattle.osc_record.proofs.Spelled.{rest_bytes, message_bytes, header_was, none_some}
-use Rattle.osc_record.proofs.EntriesRead.{entry_first_was, first_was, no_fault_range}
+use Rattle.osc_record.proofs.Spelled.{rest_bytes, none_some}
+use Rattle.osc_record.proofs.EntriesRead.{entry_first_was, header_first_was}
 
 abbrev pub texts : List Recorded → List ℕ
 texts entries = flat_map (λ (e : Recorded). entry_text e.caller e.event e.answer) entries
@@ -67,27 +66,20 @@ pub no_header : (bytes : List ℕ) → header_read bytes ≡ None → HasNoHeade
 no_header bytes is = record { first = refl; none = λ limits rest range same. none_some limits (sym is ∙ ap header_read same ∙ header_again limits rest range) }
 
 pub no_entry : (bytes : List ℕ) (limits : Limits) (at : ℕ) → AreBytes bytes → header_read bytes ≡ Some limits → entries_after limits bytes ≡ Err at → HasNoEntry bytes at
-no_entry bytes limits at small header read = go (message_first bytes) refl header where
-  go : (o : Option (List ℕ)) → message_first bytes ≡ o → option_and_then header_of o ≡ Some limits → HasNoEntry bytes at
-  go None found is = absurd (none_some limits is)
-  go (Some message) found is =
-      let was = header_was message limits (message_bytes bytes message small found) is in
-      let range = no_fault_range limits was.1 in
-      let size : length message ≡ 52 = ap length was.0 in
-      let place : 4 + length message ≡ 56 = omega arith in
-      let split : bytes ≡ header_text limits ++ drop 56 bytes = first_was bytes message small found ∙ (λ i. sized (was.0 i) ++ drop (place i) bytes) in
-      let above = range.recording.above in
-      let below = range.recording.below in
-      let stop = stops (length bytes) limits.recording 56 (drop 56 bytes) at (rest_bytes 56 bytes small) (omega (arith, length-drop 56 bytes)) above read in
-      let end = stop.end in
-      let within = stop.within in
-      record {
-        limits = limits;
-        entries = stop.entries;
-        rest = stop.rest;
-        lawful = record { lawful = range; all = stop.all; fits = omega arith };
-        text = split ∙ ap (λ (l : List ℕ). header_text limits ++ l) stop.text ∙ sym (append_assoc (header_text limits) (texts stop.entries) stop.rest);
-        place = omega arith;
-        some = stop.some;
-        none = λ e more lawful fits same. none_some (e, length (entry_text e.caller e.event e.answer)) (sym stop.none ∙ ap (entry_first limits.recording at) same ∙ entry_first_again e.caller e.event e.answer more limits.recording at lawful fits below);
-      }
+no_entry bytes limits at small header read =
+    let first = header_first_was bytes limits small header in
+    let above = first.range.recording.above in
+    let below = first.range.recording.below in
+    let stop = stops (length bytes) limits.recording 56 (drop 56 bytes) at (rest_bytes 56 bytes small) (omega (arith, length-drop 56 bytes)) above read in
+    let end = stop.end in
+    let within = stop.within in
+    record {
+      limits = limits;
+      entries = stop.entries;
+      rest = stop.rest;
+      lawful = record { lawful = first.range; all = stop.all; fits = omega arith };
+      text = first.text ∙ ap (λ (l : List ℕ). header_text limits ++ l) stop.text ∙ sym (append_assoc (header_text limits) (texts stop.entries) stop.rest);
+      place = omega arith;
+      some = stop.some;
+      none = λ e more lawful fits same. none_some (e, length (entry_text e.caller e.event e.answer)) (sym stop.none ∙ ap (entry_first limits.recording at) same ∙ entry_first_again e.caller e.event e.answer more limits.recording at lawful fits below);
+    }

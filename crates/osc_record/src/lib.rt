@@ -17,6 +17,7 @@ mod rows;
 mod sized_entry;
 mod sized_reading;
 mod sizes;
+mod unread;
 
 pub use caps::{CapFault, Caps};
 pub use entries_left::Entries;
@@ -25,3 +26,4 @@ pub use reader::{Malformed, Reader};
 pub use recorder::Recorder;
 pub use sized_entry::entry_bytes;
 pub use sizes::{ENROL_SIZE, TICK_SIZE, add_size, release_size, remove_size, submit_size};
+pub use unread::Unread;
