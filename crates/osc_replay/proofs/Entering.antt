@@ -3,7 +3,9 @@ use Rattle.std.proofs.Common.{◌≡◌, ℕ, ◌+◌, ◌%◌, ◌<◌, ◌≤�
 use Rattle.std.proofs.lemmas.Bool.{cond-true}
 use Rattle.std.specs.List.{flat_map, AllByRecursion}
 use Rattle.osc_print.specs.Entries.{invocation_text}
-use Rattle.osc_queue.specs.Timed.{due_of, unit_of}
+use Rattle.osc_packet.specs.Units.{Timed as Messages}
+use Rattle.osc_queue.specs.Timed.{Timed, due_of, unit_of}
+use Rattle.osc_tree.specs.Registry.{Registry}
 use Rattle.osc_model.specs.State.{State, Queued, registry}
 use Rattle.osc_model.specs.Counts.{free_bytes}
 use Rattle.osc_model.specs.Events.{Event, add, release, released, refused, adds_entry, Hit, Call}
@@ -17,6 +19,19 @@ use Rattle.osc_record.specs.Shown.{answer_of, HasWholeHits}
 use Rattle.osc_record.proofs.Lawful.{hits_again}
 use Rattle.osc_replay.specs.Calls.{hits_bytes, call_lines}
 use Rattle.osc_replay.specs.Playing.{Decides, Enters}
+
+-- the state of a server with these parts
+abbrev pub server_state : Registry → Timed Messages → (blocks clock next_id next_unit callers caller_limit recorded record_limit : ℕ) → State
+server_state tree queue blocks clock next_id next_unit callers caller_limit recorded record_limit = record {
+  caps = record { units = queue.limit; blocks = blocks; methods = tree.method_limit; nodes = tree.node_limit; callers = caller_limit; recording = record_limit };
+  methods = tree.methods;
+  queue = queue.items;
+  clock = clock;
+  next_id = next_id;
+  next_unit = next_unit;
+  callers = callers;
+  recorded = recorded;
+}
 
 -- where there is no room for its entry, an event adds none
 pub full_adds_none : (state : State) (event : Event) → free_bytes state < entry_size event (decided state event).answer → adds_entry (step state event).answer ≡ false

@@ -1,5 +1,6 @@
--- Recordings whose packets and addresses are lawful, and the place of the first entry whose aren't.
-use Rattle.std.proofs.Common.{◌≡◌, ℕ, ◌+◌, ◌≤◌, ◌^◌, Bool, true, false, cond, List, [], ◌∷◌, ◌++◌, length, take, Option, Some, None, inl, inr, refl, sym, ap, subst, ◌∙◌, arith, length-append, append_assoc, lt-ltb}
+-- Recordings whose packets and addresses are lawful, read entry by entry.
+use Rattle.std.proofs.Common.{◌≡◌, ℕ, ◌+◌, ◌<◌, ◌≤◌, ◌^◌, true, false, List, [], ◌∷◌, ◌++◌, length, drop, Option, Some, None, inl, inr, refl, sym, ap, subst, ◌∙◌, arith, length-append, append_assoc, lt-ltb}
+use Rattle.std.specs.Prelude.{IfSome, IfNone}
 use Rattle.std.proofs.lemmas.Bool.{ltb-true}
 use Rattle.std.proofs.lemmas.Grind.{flat_map-append}
 use Rattle.std.proofs.lemmas.List.{append-nil}
@@ -9,11 +10,25 @@ use Rattle.osc_model.specs.Events.{Event, enrol, submit, add, remove, tick, rele
 use Rattle.osc_model.specs.Recordings.{IsRecordable, entry_text, header_text, record_text}
 use Rattle.osc_model.specs.History.{IsLawful}
 use Rattle.osc_model.proofs.Sizes.{header_size}
-use Rattle.osc_record.specs.Reading.{Placed, placed_from, unplaced, entry_first, IsRecord, IsMalformedAt, HasNoEntry}
-use Rattle.osc_record.proofs.Again.{take_front, entry_first_again}
-use Rattle.osc_record.proofs.Kept.{entry_some}
-use Rattle.osc_replay.specs.Lawful.{is_lawful, first_unlawful}
-use Rattle.osc_replay.specs.Formed.{HasUnformed, IsUnformedAt}
+use Rattle.osc_record.specs.Reading.{Placed, entry_first, header_read}
+use Rattle.osc_record.specs.Unread.{Remaining, HasHeader, Reads, HasNoNext}
+use Rattle.osc_record.proofs.Again.{drop_front, entry_first_again}
+use Rattle.osc_record.proofs.Kept.{record_more}
+use Rattle.osc_record.proofs.Readings.{header_again}
+use Rattle.osc_record.specs.Shown.{event_of}
+use Rattle.osc_replay.specs.declared.row.Row.{Row}
+use Rattle.osc_replay.specs.Events.{event_in}
+use Rattle.osc_replay.specs.Lawful.{is_lawful}
+use Rattle.osc_replay.specs.Formed.{IsFormed, IsUnformedAt, HasNoLawful, IsFormedTo, EndsFormed, IsStuckAt}
+
+-- what holds of a value that is there
+pub of_some : {X : Type 0} (P : X → Type 0) (o : Option X) (x : X) → o ≡ Some x → IfSome o P → P x
+of_some P o x is holds = subst (λ o. IfSome o P) is holds
+
+-- what holds where none is there
+pub of_none : {X P : Type 0} (o : Option X) → ((x : X) → o ≡ Some x → ⊥) → IfNone o P → P
+of_none None none holds = holds
+of_none (Some x) none holds = absurd (none x refl)
 
 -- the test says what is lawful
 
@@ -33,8 +48,11 @@ is_lawful_so (remove address) is = is
 is_lawful_so (tick now) is = lt-ltb now (2 ^ 64) is
 is_lawful_so release is = refl
 
-not_lawful : (event : Event) → is_lawful event ≡ false → IsLawful event → ⊥
+pub not_lawful : (event : Event) → is_lawful event ≡ false → IsLawful event → ⊥
 not_lawful event not is = let so = is_lawful_so event is in absurd (cc)
+
+pub row_lawful : (row : Row) → IsLawful (event_of row.entry.event)
+row_lawful row = subst IsLawful row.same (lawful_is (event_in row.event) row.lawful)
 
 -- the bytes of entries
 abbrev pub texts : List Entry → List ℕ
@@ -44,68 +62,13 @@ texts entries = flat_map (λ (e : Entry). entry_text e.caller e.event e.answer) 
 abbrev pub AreLawful : List Entry → Type 0
 AreLawful entries = AllByRecursion (λ (e : Entry). IsLawful e.event) entries
 
--- The first entry that isn't lawful, and its place.
-pub record Split (place : ℕ) (entries : List Entry) (at : ℕ) : Type 0 where
-  pub front : List Entry
-  pub first : Entry
-  pub later : List Entry
-  pub is : entries ≡ front ++ first ∷ later
-  pub place_is : at ≡ place + length (texts front)
-  pub lawful : AreLawful front
-  pub unlawful : IsLawful first.event → ⊥
+abbrev pub Recordable : Entry → Type 0
+Recordable e = IsRecordable e.caller e.event e.answer
 
-split_later : (place : ℕ) (entry : Entry) (entries : List Entry) (at : ℕ) → IsLawful entry.event → Split (place + length (entry_text entry.caller entry.event entry.answer)) entries at → Split place (entry ∷ entries) at
-split_later place entry entries at lawful more = record {
-  front = entry ∷ more.front;
-  first = more.first;
-  later = more.later;
-  is = ap (λ (l : List Entry). entry ∷ l) more.is;
-  place_is = omega (arith, more.place_is, length-append (entry_text entry.caller entry.event entry.answer) (texts more.front));
-  lawful = (lawful, more.lawful);
-  unlawful = more.unlawful;
-}
-
-pub split : (place : ℕ) (entries : List Entry) (at : ℕ) → first_unlawful (placed_from place entries) ≡ Some at → Split place entries at
-split place [] at e = absurd (cc)
-split place (entry ∷ entries) at e =
-    go (is_lawful entry.event) refl e (split (place + length (entry_text entry.caller entry.event entry.answer)) entries at)
-  where
-    some_is : (x y : ℕ) → ◌≡◌ {A = Option ℕ} (Some x) (Some y) → x ≡ y
-    some_is x y e = cc
-
-    go : (t : Bool) → is_lawful entry.event ≡ t → cond t (first_unlawful (placed_from (place + length (entry_text entry.caller entry.event entry.answer)) entries)) (Some place) ≡ Some at
-        → (first_unlawful (placed_from (place + length (entry_text entry.caller entry.event entry.answer)) entries) ≡ Some at → Split (place + length (entry_text entry.caller entry.event entry.answer)) entries at) → Split place (entry ∷ entries) at
-    go true is e more = split_later place entry entries at (lawful_is entry.event is) (more e)
-    go false is e more = record {
-      front = [];
-      first = entry;
-      later = entries;
-      is = refl;
-      place_is = let same : place ≡ at = some_is place at e in omega arith;
-      lawful = tt;
-      unlawful = not_lawful entry.event is;
-    }
-
--- where none is found, all are lawful; and where all are lawful, none is found
-pub all_lawful : (place : ℕ) (entries : List Entry) → first_unlawful (placed_from place entries) ≡ None → AreLawful entries
-all_lawful place [] e = tt
-all_lawful place (entry ∷ entries) e =
-    go (is_lawful entry.event) refl e (all_lawful (place + length (entry_text entry.caller entry.event entry.answer)) entries)
-  where
-    go : (t : Bool) → is_lawful entry.event ≡ t → cond t (first_unlawful (placed_from (place + length (entry_text entry.caller entry.event entry.answer)) entries)) (Some place) ≡ None
-        → (first_unlawful (placed_from (place + length (entry_text entry.caller entry.event entry.answer)) entries) ≡ None → AreLawful entries) → AreLawful (entry ∷ entries)
-    go true is e more = (lawful_is entry.event is, more e)
-    go false is e more = absurd (cc)
-
-pub none_unlawful : (place : ℕ) (entries : List Entry) → AreLawful entries → first_unlawful (placed_from place entries) ≡ None
-none_unlawful place [] all = refl
-none_unlawful place (entry ∷ entries) all =
-    rw (is_lawful_so entry.event all.0) (none_unlawful (place + length (entry_text entry.caller entry.event entry.answer)) entries all.1)
-
--- entries stand at their places
-pub unplaced_again : (place : ℕ) (entries : List Entry) → unplaced (placed_from place entries) ≡ entries
-unplaced_again place [] = refl
-unplaced_again place (entry ∷ entries) = ap (λ (l : List Entry). entry ∷ l) (unplaced_again (place + length (entry_text entry.caller entry.event entry.answer)) entries)
+-- one entry more of which something holds
+all_more : {X : Type 0} (P : X → Type 0) (front : List X) (x : X) → AllByRecursion P front → P x → AllByRecursion P (front ++ x ∷ [])
+all_more P [] x all is = (is, tt)
+all_more P (y ∷ front) x all is = (all.0, all_more P front x all.1 is)
 
 -- a recording, up to an entry and from there on
 pub record_split : (limits : Limits) (front more : List Entry) → record_text limits (front ++ more) ≡ record_text limits front ++ texts more
@@ -115,26 +78,6 @@ record_split limits front more =
 
 pub record_length : (limits : Limits) (entries : List Entry) → length (record_text limits entries) ≡ 56 + length (texts entries)
 record_length limits entries = omega (arith, header_size limits, length-append (header_text limits) (texts entries))
-
--- the entries before some others are entries of a recording
-
-pub all_front : {X : Type 0} (P : X → Type 0) (front more : List X) → AllByRecursion P (front ++ more) → AllByRecursion P front
-all_front P [] more all = tt
-all_front P (x ∷ front) more all = (all.0, all_front P front more all.1)
-
-pub all_back : {X : Type 0} (P : X → Type 0) (front more : List X) → AllByRecursion P (front ++ more) → AllByRecursion P more
-all_back P [] more all = all
-all_back P (x ∷ front) more all = all_back P front more all.1
-
-abbrev pub Recordable : Entry → Type 0
-Recordable e = IsRecordable e.caller e.event e.answer
-
-pub record_front : (limits : Limits) (front more : List Entry) → IsRecord limits (front ++ more) → IsRecord limits front
-record_front limits front more is = record {
-  lawful = is.lawful;
-  all = all_front Recordable front more is.all;
-  fits = omega (arith, is.fits, ap length (record_split limits front more), length-append (record_text limits front) (texts more));
-}
 
 -- two entries that some bytes begin with are one
 pub same_first : (limit place : ℕ) (one two : Entry) (after behind : List ℕ) → Recordable one → Recordable two → place + length (entry_text one.caller one.event one.answer) ≤ limit → place + length (entry_text two.caller two.event two.answer) ≤ limit
@@ -146,72 +89,130 @@ same_first limit place one two after behind first second fits within small same 
     some_is : (p q : Entry × ℕ) → ◌≡◌ {A = Option (Entry × ℕ)} (Some p) (Some q) → p ≡ q
     some_is p q e = cc
 
--- a recording whose first unlawful entry stands at a place isn't formed there
-pub unformed : (bytes rest : List ℕ) (limits : Limits) (entries : List Entry) (at : ℕ) → IsRecord limits entries → bytes ≡ record_text limits entries ++ rest → Split 56 entries at → HasUnformed bytes at
-unformed bytes rest limits entries at is text s =
-    let front = s.front in
-    let first = s.first in
-    let bytes_of : List ℕ = entry_text first.caller first.event first.answer in
-    let whole : IsRecord limits (front ++ first ∷ s.later) = subst (IsRecord limits) s.is is in
-    let placed : at ≡ length (record_text limits front) = s.place_is ∙ sym (record_length limits front) in
-    let own = (all_back Recordable front (first ∷ s.later) whole.all).0 in
-    let within : at + length bytes_of ≤ limits.recording =
-    omega (arith, whole.fits, placed, ap length (record_split limits front (first ∷ s.later)), length-append (record_text limits front) (bytes_of ++ texts s.later), length-append bytes_of (texts s.later)) in
+-- What is read of a recording, entry by entry.
+
+-- where the header is read, all is formed so far
+pub opened : (bytes : List ℕ) (left : Remaining) → HasHeader bytes left → IsFormedTo bytes left.caps [] left
+opened bytes left is =
+    let above = is.lawful.recording.above in
     record {
-      limits = limits;
-      entries = front;
-      rest = (bytes_of ++ texts s.later) ++ rest;
-      formed = record { record_ = record_front limits front (first ∷ s.later) whole; lawful = s.lawful };
-      text =
-          text ∙ ap (λ (l : List Entry). record_text limits l ++ rest) s.is ∙ ap (λ (l : List ℕ). l ++ rest) (record_split limits front (first ∷ s.later))
-          ∙ append_assoc (record_text limits front) (bytes_of ++ texts s.later) rest;
-      place = placed;
-      some = omega (arith, entry_some first.caller first.event first.answer own.fits, length-append (bytes_of ++ texts s.later) rest, length-append bytes_of (texts s.later));
-      none = λ entry more recordable lawful fits same.
-          s.unlawful (subst (λ (e : Entry). IsLawful e.event) (sym (same_first limits.recording at first entry (texts s.later ++ rest) more own recordable within fits whole.lawful.recording.below (sym (append_assoc bytes_of (texts s.later) rest) ∙ same))) lawful);
+      caps_are = refl;
+      formed = record { record_ = record { lawful = is.lawful; all = tt; fits = omega (arith, record_length left.caps []) }; lawful = tt };
+      text = is.text ∙ ap (λ (l : List ℕ). l ++ left.rest) (sym (append-nil (header_text left.caps)));
+      place = is.at_is ∙ sym (record_length left.caps []);
     }
 
--- the same of a recording that is read to its end
-pub found_unformed : (bytes : List ℕ) (limits : Limits) (placed : List Placed) (at : ℕ) → IsRecord limits (unplaced placed) → bytes ≡ record_text limits (unplaced placed) → placed ≡ placed_from 56 (unplaced placed) → first_unlawful placed ≡ Some at → IsUnformedAt bytes at
-found_unformed bytes limits placed at is text places found =
-    inr (unformed bytes [] limits (unplaced placed) at is (text ∙ sym (append-nil (record_text limits (unplaced placed)))) (split 56 (unplaced placed) at (ap first_unlawful (sym places) ∙ found)))
+-- with one lawful entry more
+pub formed_more : (bytes : List ℕ) (caps : Limits) (before : List Entry) (old new : Remaining) (placed : Placed) → IsFormedTo bytes caps before old → Reads old placed new → IsLawful placed.entry.event → IsFormedTo bytes caps (before ++ placed.entry ∷ []) new
+formed_more bytes caps before old new placed is reads lawful =
+    let entry = placed.entry in
+    let own : List ℕ = entry_text entry.caller entry.event entry.answer in
+    let text = record_more caps before entry in
+    let size : length (record_text caps (before ++ entry ∷ [])) ≡ length (record_text caps before) + length own = ap length text ∙ length-append (record_text caps before) own in
+    let within = reads.within in
+    record {
+      caps_are = reads.caps_stay ∙ is.caps_are;
+      formed = record {
+        record_ = record {
+          lawful = is.formed.record_.lawful;
+          all = all_more Recordable before entry is.formed.record_.all reads.recordable;
+          fits = omega (arith, size, reads.moved, is.place, ap (λ (l : Limits). l.recording) is.caps_are);
+        };
+        lawful = all_more (λ (e : Entry). IsLawful e.event) before entry is.formed.lawful lawful;
+      };
+      text =
+          is.text ∙ ap (λ (l : List ℕ). record_text caps before ++ l) reads.text ∙ sym (append_assoc (record_text caps before) own new.rest)
+          ∙ ap (λ (l : List ℕ). l ++ new.rest) (sym text);
+      place = omega (arith, reads.moved, is.place, size);
+    }
 
--- The entries before a malformed place, as they are read.
+-- where nothing is left, the bytes are a recording
+pub formed_all : (bytes : List ℕ) (caps : Limits) (before : List Entry) (left : Remaining) → IsFormedTo bytes caps before left → left.rest ≡ [] → bytes ≡ record_text caps before
+formed_all bytes caps before left is none = is.text ∙ ap (λ (l : List ℕ). record_text caps before ++ l) none ∙ append-nil (record_text caps before)
 
--- what is read of the bytes before the place
-abbrev pub ReadsBefore : List ℕ → ℕ → (Limits → List Entry → Type 0) → Type 0
-ReadsBefore bytes at holds = (limits : Limits) (entries : List Entry) → IsRecord limits entries → take at bytes ≡ record_text limits entries → holds limits entries
+pub nothing_left : (left : Remaining) → left.rest ≡ [] → EndsFormed left
+nothing_left left none bytes caps before is =
+    let all = append-nil before in
+    ([], subst (IsFormed caps) (sym all) is.formed, formed_all bytes caps before left is none ∙ ap (record_text caps) (sym all))
 
-before : (bytes : List ℕ) (at : ℕ) (is : HasNoEntry bytes at) → take at bytes ≡ record_text is.limits is.entries
-before bytes at is = rw (is.text, is.place) (take_front (record_text is.limits is.entries) is.rest)
+-- no entry is next, or one that isn't lawful
+pub none_lawful : (left : Remaining) (at : ℕ) → HasNoNext left at → HasNoLawful left at
+none_lawful left at is = record { at_is = is.at_is; some = is.some; none = λ entry more recordable lawful fits same. is.none entry more recordable fits same }
 
--- one of them is unlawful
-pub unlawful_within : (bytes : List ℕ) (at unlawful : ℕ) (left : List Placed) → (at ≡ 0 → ⊥) → IsMalformedAt bytes at → ReadsBefore bytes at (λ limits entries. left ≡ placed_from 56 entries) → first_unlawful left ≡ Some unlawful → IsUnformedAt bytes unlawful
-unlawful_within bytes at unlawful left some (inl none) reads found = absurd (some none.first)
-unlawful_within bytes at unlawful left some (inr is) reads found =
-    inr (unformed bytes is.rest is.limits is.entries unlawful is.lawful is.text (split 56 is.entries unlawful (ap first_unlawful (sym (reads is.limits is.entries is.lawful (before bytes at is))) ∙ found)))
+pub unlawful_next : (old new : Remaining) (placed : Placed) → Reads old placed new → is_lawful placed.entry.event ≡ false → HasNoLawful old placed.at
+unlawful_next old new placed reads unlawful =
+    let first = placed.entry in
+    let own : List ℕ = entry_text first.caller first.event first.answer in
+    let small = reads.small in
+    let shorter = reads.shorter in
+    record {
+      at_is = reads.at_is;
+      some = omega arith;
+      none = λ entry more recordable lawful fits same.
+          not_lawful first.event unlawful
+          (subst (λ (e : Entry). IsLawful e.event) (sym (same_first 1073741824 old.at first entry new.rest more reads.recordable recordable
+          (omega (arith, ap length reads.text, length-append own new.rest))
+          (omega (arith, ap length same, length-append (entry_text entry.caller entry.event entry.answer) more))
+          (omega arith) (sym reads.text ∙ same))) lawful);
+    }
 
--- none of them is
-pub lawful_before : (bytes : List ℕ) (at : ℕ) (left : List Placed) → (at ≡ 0 → ⊥) → IsMalformedAt bytes at → ReadsBefore bytes at (λ limits entries. left ≡ placed_from 56 entries) → first_unlawful left ≡ None → IsUnformedAt bytes at
-lawful_before bytes at left some (inl none) reads found = absurd (some none.first)
-lawful_before bytes at left some (inr is) reads found =
-    inr (record {
-      limits = is.limits;
-      entries = is.entries;
-      rest = is.rest;
-      formed = record { record_ = is.lawful; lawful = all_lawful 56 is.entries (ap first_unlawful (sym (reads is.limits is.entries is.lawful (before bytes at is))) ∙ found) };
-      text = is.text;
-      place = is.place;
-      some = is.some;
-      none = λ entry more recordable lawful fits same. is.none entry more recordable fits same;
-    })
+pub stuck_here : (left : Remaining) (at : ℕ) → HasNoLawful left at → IsStuckAt left at
+stuck_here left at is bytes caps before formed = record {
+  limits = caps;
+  entries = before;
+  rest = left.rest;
+  formed = formed.formed;
+  text = formed.text;
+  place = is.at_is ∙ formed.place;
+  some = is.some;
+  none = λ entry more recordable lawful fits same. is.none entry more recordable lawful (omega (arith, fits, ap (λ (l : Limits). l.recording) formed.caps_are)) same;
+}
 
--- they are read
-pub read_before : (bytes : List ℕ) (at : ℕ) → (at ≡ 0 → ⊥) → IsMalformedAt bytes at → ReadsBefore bytes at (λ limits entries. ⊥) → ⊥
-read_before bytes at some (inl none) reads = some none.first
-read_before bytes at some (inr is) reads = reads is.limits is.entries is.lawful (before bytes at is)
+-- what comes of the entries behind a lawful one comes of all
+pub ends_behind : (old new : Remaining) (placed : Placed) → Reads old placed new → IsLawful placed.entry.event → EndsFormed new → EndsFormed old
+ends_behind old new placed reads lawful ends bytes caps before is =
+    let rest = ends bytes caps (before ++ placed.entry ∷ []) (formed_more bytes caps before old new placed is reads lawful) in
+    let joined = append_assoc before (placed.entry ∷ []) rest.0 in
+    (placed.entry ∷ rest.0, subst (IsFormed caps) joined rest.1, rest.2 ∙ ap (record_text caps) joined)
 
--- a recording that stops at no header stops at the beginning
-pub no_header_at : (bytes : List ℕ) (at : ℕ) → at ≡ 0 → IsMalformedAt bytes at → IsUnformedAt bytes at
-no_header_at bytes at none (inl is) = inl is
-no_header_at bytes at none (inr is) = let place = is.place in absurd (omega (arith, record_length is.limits is.entries))
+pub stuck_behind : (old new : Remaining) (placed : Placed) (at : ℕ) → Reads old placed new → IsLawful placed.entry.event → IsStuckAt new at → IsStuckAt old at
+stuck_behind old new placed at reads lawful stuck bytes caps before is = stuck bytes caps (before ++ placed.entry ∷ []) (formed_more bytes caps before old new placed is reads lawful)
+
+-- A recording has no such place.
+
+never : (limit place at : ℕ) (entries history : List Entry) (rest : List ℕ) → AllByRecursion Recordable entries → AllByRecursion Recordable history → AreLawful history → place + length (texts history) ≤ limit → limit ≤ 1073741824
+    → at ≡ place + length (texts entries) → 0 < length rest
+    → ((entry : Entry) (more : List ℕ) → Recordable entry → IsLawful entry.event → at + length (entry_text entry.caller entry.event entry.answer) ≤ limit → rest ≡ entry_text entry.caller entry.event entry.answer ++ more → ⊥)
+    → texts entries ++ rest ≡ texts history → ⊥
+never limit place at [] [] rest all others lawful fits small at_is some none same = absurd (omega (arith, ap length same))
+never limit place at [] (h ∷ history) rest all others lawful fits small at_is some none same =
+    none h (texts history) others.0 lawful.0 (omega (arith, length-append (entry_text h.caller h.event h.answer) (texts history))) same
+never limit place at (e ∷ entries) [] rest all others lawful fits small at_is some none same =
+    absurd (omega (arith, ap length same, length-append (entry_text e.caller e.event e.answer ++ texts entries) rest))
+never limit place at (e ∷ entries) (h ∷ history) rest all others lawful fits small at_is some none same =
+    let own : List ℕ = entry_text e.caller e.event e.answer in
+    let other : List ℕ = entry_text h.caller h.event h.answer in
+    let joined : own ++ (texts entries ++ rest) ≡ other ++ texts history = sym (append_assoc own (texts entries) rest) ∙ same in
+    let size = length-append own (texts entries ++ rest) in
+    let long = length-append other (texts history) in
+    let one : e ≡ h = same_first limit place e h (texts entries ++ rest) (texts history) all.0 others.0 (omega (arith, ap length joined)) (omega arith) small joined in
+    let text : own ≡ other = ap (λ (x : Entry). entry_text x.caller x.event x.answer) one in
+    let behind : texts entries ++ rest ≡ texts history =
+    sym (drop_front own (texts entries ++ rest)) ∙ ap (drop (length own)) joined ∙ ap (λ (l : List ℕ). drop (length l) (other ++ texts history)) text ∙ drop_front other (texts history) in
+    never limit (place + length own) at entries history rest all.1 others.1 lawful.1 (omega (arith, ap length text)) small (omega (arith, length-append own (texts entries))) some none behind
+
+pub no_place : (bytes : List ℕ) (at : ℕ) (caps : Limits) (history : List Entry) → IsFormed caps history → bytes ≡ record_text caps history → IsUnformedAt bytes at → ⊥
+no_place bytes at caps history formed same (inl is) = is.none caps (texts history) formed.record_.lawful same
+no_place bytes at caps history formed same (inr is) =
+    let split : bytes ≡ header_text is.limits ++ (texts is.entries ++ is.rest) = is.text ∙ append_assoc (header_text is.limits) (texts is.entries) is.rest in
+    let one : is.limits ≡ caps = some_is is.limits caps (sym (header_again is.limits (texts is.entries ++ is.rest) is.formed.record_.lawful) ∙ ap header_read (sym split ∙ same) ∙ header_again caps (texts history) formed.record_.lawful) in
+    let header : header_text is.limits ≡ header_text caps = ap header_text one in
+    let behind : texts is.entries ++ is.rest ≡ texts history =
+    sym (drop_front (header_text is.limits) (texts is.entries ++ is.rest)) ∙ ap (drop (length (header_text is.limits))) (sym split ∙ same)
+    ∙ ap (λ (l : List ℕ). drop (length l) (header_text caps ++ texts history)) header ∙ drop_front (header_text caps) (texts history) in
+    let limit = ap (λ (l : Limits). l.recording) one in
+    never caps.recording 56 at is.entries history is.rest is.formed.record_.all formed.record_.all formed.lawful (omega (arith, formed.record_.fits, record_length caps history)) formed.record_.lawful.recording.below
+    (is.place ∙ record_length is.limits is.entries) is.some (λ entry more recordable lawful fits rest. is.none entry more recordable lawful (omega (arith, fits, limit)) rest) behind
+  where
+    some_is : (x y : Limits) → ◌≡◌ {A = Option Limits} (Some x) (Some y) → x ≡ y
+    some_is x y e = cc

@@ -1,6 +1,7 @@
 pub mod Printed
 pub mod Formed
 pub mod Lawful
+pub mod Events
 pub mod Kept
 pub mod Calls
 pub mod Disagreeing

@@ -1,7 +1,6 @@
 -- What an event comes to in a plain server.
-use Rattle.std.specs.Prelude.{◌≡◌, ◌≢◌, ℕ, ◌<◌, ◌≤◌, ◌+◌, ◌%◌, true, false, List, [], ◌++◌, length, take, drop}
+use Rattle.std.specs.Prelude.{◌≡◌, ◌≢◌, ℕ, ◌<◌, ◌≤◌, ◌%◌, true, false, List, [], ◌++◌, length}
 use Rattle.std.specs.List.{flat_map}
-use Rattle.std.specs.Int.{w32, from_be_bytes}
 use Rattle.osc_print.specs.Entries.{entry_text as entry_line, invocation_text}
 use Rattle.osc_queue.specs.Timed.{Timed}
 use Rattle.osc_packet.specs.Units.{Timed as Messages}
@@ -9,12 +8,13 @@ use Rattle.osc_tree.specs.Registry.{Registry}
 use Rattle.osc_tree.specs.Matching.{HitList}
 use Rattle.osc_model.specs.State.{State}
 use Rattle.osc_model.specs.Counts.{queued_blocks}
-use Rattle.osc_model.specs.Events.{Event, Answer, Entry, released, adds_entry}
+use Rattle.osc_model.specs.Events.{Event, release, Answer, Entry, released, adds_entry}
 use Rattle.osc_model.specs.Recordings.{hits_in}
 use Rattle.osc_model.specs.Step.{decided, step}
 use Rattle.osc_model.specs.History.{Performance, Legal, AddsEntry, state_of}
 use Rattle.osc_record.specs.declared.event.Answer.{Answer as Given}
 use Rattle.osc_record.specs.Shown.{answer_of, HasWholeHits}
+use Rattle.osc_replay.specs.declared.calls.Calls.{Calls}
 use Rattle.osc_replay.specs.declared.fault.ReplayFault.{ReplayFault}
 use Rattle.osc_replay.specs.declared.fault.ReplayFault.TheVariants.{Malformed, Disagrees, NoMemory}
 use Rattle.osc_replay.specs.declared.outcome.Outcome.{Outcome}
@@ -42,38 +42,33 @@ pub record Enters (answer : Answer) (lines : List ℕ) (old : State) (event : Ev
   pub state_is : new ≡ (step old event).state
   pub lines_are : lines ≡ flat_map invocation_text (step old event).invocations
 
--- what an event comes to where its caller is enrolled
+-- the entry of a release of a unit, whose calls these are
+abbrev pub EntersRelease : ℕ → Calls → State → State → Type 0
+EntersRelease unit calls old new = (length calls.hits.items % 8 ≡ 0) × Enters (released unit (hits_in calls.hits.items)) calls.lines old release new
+
+-- what an event that isn't a release comes to where its caller is enrolled
 abbrev pub Does : Outcome → State → Event → State → Type 0
 Does (Answered answer) old event new = HasWholeHits answer × Enters (answer_of answer) [] old event new
-Does (Released unit calls) old event new = (length calls.hits.items % 8 ≡ 0) × Enters (released unit (hits_in calls.hits.items)) calls.lines old event new
+Does (Released unit) old event new = ⊥
 Does Nothing old event new = adds_entry (step old event).answer ≡ false
 
+-- what a release comes to where its caller is enrolled
+abbrev pub Releases : Outcome → Calls → State → State → Type 0
+Releases (Answered answer) calls old new = ⊥
+Releases (Released unit) calls old new = EntersRelease unit calls old new
+Releases Nothing calls old new = adds_entry (step old release).answer ≡ false
+
 -- what an event of any caller comes to
-abbrev pub ComesTo : Outcome → ℕ → State → Event → State → Type 0
-ComesTo (Answered answer) caller old event new = (caller < old.callers) × HasWholeHits answer × Enters (answer_of answer) [] old event new
-ComesTo (Released unit calls) caller old event new =
-    (caller < old.callers) × (length calls.hits.items % 8 ≡ 0) × Enters (released unit (hits_in calls.hits.items)) calls.lines old event new
-ComesTo Nothing caller old event new = computed_text old caller event ≡ []
+abbrev pub ComesTo : Outcome → Calls → ℕ → State → Event → State → Type 0
+ComesTo (Answered answer) calls caller old event new = (caller < old.callers) × HasWholeHits answer × Enters (answer_of answer) [] old event new
+ComesTo (Released unit) calls caller old event new = (caller < old.callers) × (event ≡ release) × EntersRelease unit calls old new
+ComesTo Nothing calls caller old event new = computed_text old caller event ≡ []
 
 -- a server with these limits played a legal history to this state
 pub record IsReached (state : State) : Type 0 where
   pub performance : Performance
   pub legal : Legal performance.caps performance.history
   pub is : state ≡ state_of performance
-
--- the bytes have an entry's bytes at a place
-pub record HasAt (bytes : List ℕ) (at : ℕ) (text : List ℕ) : Type 0 where
-  pub rest : List ℕ
-  pub inside : at ≤ length bytes
-  pub is : drop at bytes ≡ text ++ rest
-
--- the bytes after a size at a place, and the size
-abbrev pub sized_at : List ℕ → ℕ → List ℕ
-sized_at bytes at = take (4 + from_be_bytes w32 (take 4 (drop at bytes))) (drop at bytes)
-
--- a size and as many bytes stand at a place
-abbrev pub HasSizedAt : List ℕ → ℕ → Type 0
-HasSizedAt bytes at = (at ≤ length bytes) × (4 + from_be_bytes w32 (take 4 (drop at bytes)) ≤ length (drop at bytes))
 
 -- a server plays an entry as it is recorded, and prints it
 pub record Goes (entry : Entry) (old new : State) (printed after : List ℕ) : Type 0 where

@@ -1,12 +1,11 @@
 // The calls that a release makes.
-ghost use Rattle.std.specs.Prelude.{◌≡◌, ◌<◌, ◌≤◌, ◌++◌, ◌∷◌, [], map, All, Some, IsSome, IsTrue, IfOk, OnOk};
-ghost use Rattle.osc_message.specs.Reading.{is_message};
+ghost use Rattle.std.specs.Prelude.{◌≡◌, ◌<◌, ◌≤◌, ◌++◌, ◌∷◌, [], map, All, Some, IsSome, OnOk};
 ghost use Rattle.osc_tree.specs.Registry.{IsLawful, address_by_id};
 ghost use Rattle.osc_tree.specs.Matching.{matching, matching_ids};
 ghost use Rattle.osc_model.specs.Step.{calls_of, calls_from};
 ghost use Rattle.osc_replay.specs.Calls.{call_by, hits_bytes, call_lines};
 
-use crate::units::Unit;
+use crate::units::Queued;
 use osc_atoms::put_word;
 use osc_message::Message;
 use osc_method::Call;
@@ -24,29 +23,49 @@ pub(crate) struct Calls {
     pub(crate) lines: Text,
 }
 
-/// The calls of the messages of the unit with a number, in order.
-pub(crate) fn calls_of_unit(
-    alloc: Global,
+impl Calls {
+    ghost use Rattle.std.specs.Prelude.{◌≡◌, []};
+
+    /// None. Takes no memory.
+    pub(crate) fn none(alloc: Global) -> Calls
+        ensures hits { result.hits.items ≡ [] }
+        ensures lines { result.lines ≡ [] }
+    {
+        Calls {
+            hits: Vec::new(alloc),
+            lines: Text::open(alloc),
+        }
+    }
+
+    fn clear(&mut self)
+        ensures hits { self.new.hits.items ≡ [] }
+        ensures lines { self.new.lines ≡ [] }
+    {
+        self.hits.clear();
+        self.lines.clear();
+    }
+}
+
+/// Makes `calls` those of the messages of the unit with a number, in order.
+pub(crate) fn find_calls(
     tree: &Tree,
     room: &mut Hits,
     number: u64,
-    unit: &Unit,
-) -> Result<Calls, AllocError>
+    unit: &Queued<'_>,
+    calls: &mut Calls,
+) -> Result<(), AllocError>
     requires { tree.now.method_limit ≤ room.old.limit }
-    ensures hits { IfOk result (λ calls. calls.hits.items ≡ hits_bytes (calls_from tree.now.methods 0 unit.now.messages)) }
-    ensures lines { IfOk result (λ calls. calls.lines ≡ call_lines number (calls_from tree.now.methods 0 unit.now.messages)) }
+    ensures hits { OnOk result (calls.new.hits.items ≡ hits_bytes (calls_from tree.now.methods 0 unit.now.messages)) }
+    ensures lines { OnOk result (calls.new.lines ≡ call_lines number (calls_from tree.now.methods 0 unit.now.messages)) }
     ensures limit { room.new.limit ≡ room.old.limit }
 {
-    let mut calls = Calls {
-        hits: Vec::new(alloc),
-        lines: Text::open(alloc),
-    };
+    calls.clear();
     let mut index = 0;
     for message in unit.messages() {
-        push_calls(tree, room, number, index, message.as_slice(), &mut calls)?;
+        push_calls(tree, room, number, index, message, calls)?;
         index += 1;
     }
-    Ok(calls)
+    Ok(())
 }
 
 /// Adds the calls of the message at an index. One with an unknown tag has none.
@@ -55,16 +74,14 @@ fn push_calls(
     room: &mut Hits,
     unit: u64,
     index: u32,
-    message: &[u8],
+    message: Message<'_>,
     calls: &mut Calls,
 ) -> Result<(), AllocError>
-    requires message { IsTrue (is_message 1073741824 message.now) }
-    requires limit { tree.now.method_limit ≤ room.old.limit }
-    ensures hits { OnOk result (calls.new.hits.items ≡ calls.old.hits.items ++ hits_bytes (calls_of tree.now.methods index message.now)) }
-    ensures lines { OnOk result (calls.new.lines ≡ calls.old.lines ++ call_lines unit (calls_of tree.now.methods index message.now)) }
+    requires { tree.now.method_limit ≤ room.old.limit }
+    ensures hits { OnOk result (calls.new.hits.items ≡ calls.old.hits.items ++ hits_bytes (calls_of tree.now.methods index message.entry)) }
+    ensures lines { OnOk result (calls.new.lines ≡ calls.old.lines ++ call_lines unit (calls_of tree.now.methods index message.entry)) }
     ensures limit { room.new.limit ≡ room.old.limit }
 {
-    let message = as_message(message);
     if message.unknown().is_some() {
         return Ok(());
     }
@@ -75,17 +92,6 @@ fn push_calls(
         message,
     };
     push_hits(tree, room.ids(), &call, calls)
-}
-
-/// The message that the bytes are.
-fn as_message(bytes: &[u8]) -> Message<'_>
-    requires { IsTrue (is_message 1073741824 bytes.now) }
-    ensures { result ≡ bytes.now }
-{
-    match Message::check(bytes, 1_073_741_824) {
-        Ok(message) => message,
-        Err(_) => unreachable!(),
-    }
 }
 
 /// Adds the calls of the methods with these ids.

@@ -1,8 +1,9 @@
 // Why a recording isn't replayed.
 ghost use Rattle.std.specs.Prelude.{◌≡◌};
-ghost use Rattle.osc_replay.specs.declared.fault.ReplayFault.TheVariants.{NoMemory};
+ghost use Rattle.osc_replay.specs.declared.fault.ReplayFault.TheVariants.{Malformed as MalformedAt, NoMemory};
 
 use osc_message::Bytes;
+use osc_record::Malformed;
 use std::alloc::AllocError;
 
 /// The bytes aren't the recording of a server, or there is no memory.
@@ -27,5 +28,13 @@ impl From<AllocError> for ReplayFault {
 
     fn from(_error: AllocError) -> ReplayFault {
         ReplayFault::NoMemory
+    }
+}
+
+impl From<Malformed> for ReplayFault {
+    ghost from_gives = { λ malformed fault. fault ≡ MalformedAt malformed.at };
+
+    fn from(malformed: Malformed) -> ReplayFault {
+        ReplayFault::Malformed { at: malformed.at }
     }
 }

@@ -2,15 +2,17 @@
 //! (docs/FORMATS.md, "The recording" and "Printed text").
 #![tactic(auto)]
 
+mod agreement;
 mod calls;
+mod event;
 mod fault;
 mod forming;
 pub mod laws;
 mod outcome;
 mod replaying;
+mod row;
 mod server;
 mod units;
 
 pub use fault::ReplayFault;
-pub use forming::well_formed;
 pub use replaying::replay;

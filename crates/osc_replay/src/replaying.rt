@@ -11,15 +11,18 @@ ghost use Rattle.osc_replay.specs.Answers.{OnMalformed, OnDisagrees, IsTextUnles
 ghost use Rattle.osc_replay.specs.Disagreeing.{IsRecordingOf, DisagreesAt, computed_text};
 ghost use Rattle.osc_replay.specs.Formed.{IsUnformedAt};
 ghost use Rattle.osc_replay.specs.Printed.{printed};
-ghost use Rattle.osc_replay.specs.Playing.{IsReached, HasAt, HasSizedAt, sized_at, Goes, Differs};
+ghost use Rattle.osc_replay.specs.Playing.{IsReached, Goes, Differs};
 
+use crate::agreement::agree;
+use crate::calls::Calls;
 use crate::fault::ReplayFault;
-use crate::forming::well_formed;
+use crate::forming::{first_malformed, next_row};
 use crate::outcome::Outcome;
+use crate::row::Row;
 use crate::server::Server;
 use osc_message::Bytes;
 use osc_print::{Text, entry_line};
-use osc_record::{Answer, Entry, entry_bytes};
+use osc_record::{Answer, Entry, Unread, entry_bytes};
 use std::alloc::Global;
 
 /// The printed history of a recording (docs/FORMATS.md, "Printed text"), as a server with its limits plays it again.
@@ -32,105 +35,83 @@ pub fn replay(alloc: Global, recording: &[u8]) -> Result<Text, ReplayFault>
     ensures complete { (caps : Limits) (history : List Recorded) → IsRecordingOf recording.now caps history → IsTextUnlessShort result (printed caps history) }
 {
     osc_model::laws::a_legal_history_is_recordable();
-    let reader = match well_formed(recording) {
-        Ok(reader) => reader,
-        Err(malformed) => return Err(ReplayFault::Malformed { at: malformed.at }),
-    };
-    let mut server = Server::open(alloc, reader.caps())?;
+    let mut unread = Unread::open(recording)?;
+    let mut server = Server::open(alloc, unread.caps())?;
+    let mut calls = Calls::none(alloc);
     let mut text = Text::open(alloc);
     let mut number = 0;
-    for entry in reader.entries() {
-        replay_entry(alloc, recording, &mut server, &mut text, number, &entry)?;
+    while let Some(row) = next_row(&mut unread)? {
+        if let Err(fault) = replay_row(alloc, &mut server, &mut calls, &mut text, number, row) {
+            if let Some(at) = first_malformed(unread) {
+                return Err(ReplayFault::Malformed { at });
+            }
+            return Err(fault);
+        }
         number += 1;
     }
     Ok(text)
 }
 
 /// Plays the entry with a number, and prints it with its invocations.
-fn replay_entry(
+fn replay_row<'a>(
     alloc: Global,
-    recording: &[u8],
-    server: &mut Server,
+    server: &mut Server<'a>,
+    calls: &mut Calls,
     text: &mut Text,
     number: u32,
-    entry: &Entry<'_>,
+    row: Row<'a>,
 ) -> Result<(), ReplayFault>
     requires reached { IsReached server.old }
-    requires lawful { IsLawful (event_of entry.now.event) }
-    requires recordable { IsRecordable entry.now.caller (event_of entry.now.event) (answer_of entry.now.answer) }
-    requires there { HasAt recording.now entry.now.at (entry_text entry.now.caller (event_of entry.now.event) (answer_of entry.now.answer)) }
-    requires small { length recording.now ≤ 1073741824 }
-    ensures ok { OnOk result (Goes (placed_of entry.now).entry server.old server.new text.old text.new) }
-    ensures differs { IfErr result (λ fault. Differs fault number (entry_text entry.now.caller (event_of entry.now.event) (answer_of entry.now.answer)) (computed_text server.old entry.now.caller (event_of entry.now.event))) }
+    requires recordable { IsRecordable row.entry.caller (event_of row.entry.event) (answer_of row.entry.answer) }
+    requires small { length (entry_text row.entry.caller (event_of row.entry.event) (answer_of row.entry.answer)) ≤ 1073741824 }
+    ensures ok { OnOk result (Goes (placed_of row.entry.entry).entry server.old server.new text.old text.new) }
+    ensures differs { IfErr result (λ fault. Differs fault number (entry_text row.entry.entry.caller (event_of row.entry.entry.event) (answer_of row.entry.entry.answer)) (computed_text server.old row.entry.entry.caller (event_of row.entry.entry.event))) }
 {
     osc_model::laws::a_legal_history_is_recordable();
     osc_model::laws::a_performance_goes_on();
-    let kept = kept_bytes(recording, entry.at);
-    match server.play(entry.caller, entry.event)? {
-        Outcome::Answered(answer) => {
-            let computed = with_answer(entry, answer);
-            print_agreed(alloc, text, number, kept, &computed, b"")
-        }
-        Outcome::Released { unit, calls } => {
+    let Row { entry, event } = row;
+    match server.play(entry.caller, event, calls)? {
+        Outcome::Answered(answer) => print_agreed(alloc, text, number, &entry, answer, b""),
+        Outcome::Released(unit) => {
             let hits = calls.hits.as_slice();
-            let computed = with_answer(entry, Answer::Released { unit, hits });
-            print_agreed(alloc, text, number, kept, &computed, calls.lines.bytes())
+            let answer = Answer::Released { unit, hits };
+            print_agreed(alloc, text, number, &entry, answer, calls.lines.bytes())
         }
         Outcome::Nothing => Err(ReplayFault::Disagrees {
             entry: number,
-            kept: Bytes::copied(alloc, kept)?,
+            kept: entry_bytes(alloc, entry.caller, entry.event, entry.answer)?,
             computed: Bytes::of(Vec::new(alloc)),
         }),
     }
 }
 
-/// The bytes of the entry at a place.
-fn kept_bytes(recording: &[u8], at: u32) -> &[u8]
-    requires { HasSizedAt recording.now at }
-    ensures { result.now ≡ sized_at recording.now at }
-{
-    let rest = &recording[at as usize..];
-    let size = u32::from_be_bytes([rest[0], rest[1], rest[2], rest[3]]);
-    &rest[..4 + size as usize]
-}
-
-/// The entry with another answer.
-fn with_answer<'a>(entry: &Entry<'a>, answer: Answer<'a>) -> Entry<'a>
-    requires { HasWholeHits answer }
-    ensures { placed_of result ≡ record { at = entry.now.at; entry = record { caller = entry.now.caller; event = event_of entry.now.event; answer = answer_of answer.entry } } }
-{
-    Entry {
-        at: entry.at,
-        caller: entry.caller,
-        event: entry.event,
-        answer,
-    }
-}
-
-/// Prints the entry with a number and its lines, if its bytes are those that are kept.
+/// Prints the entry with a number and its lines, if its answer is the one that is computed.
 fn print_agreed(
     alloc: Global,
     text: &mut Text,
     number: u32,
-    kept: &[u8],
-    computed: &Entry<'_>,
+    entry: &Entry<'_>,
+    answer: Answer<'_>,
     lines: &[u8],
 ) -> Result<(), ReplayFault>
-    requires recordable { IsRecordable computed.now.caller (event_of computed.now.event) (answer_of computed.now.answer) }
-    requires small { length (entry_text computed.now.caller (event_of computed.now.event) (answer_of computed.now.answer)) ≤ 1073741824 }
-    ensures agree { OnOk result (kept.now ≡ entry_text computed.now.caller (event_of computed.now.event) (answer_of computed.now.answer)) }
-    ensures text { OnOk result (text.new ≡ text.old ++ (line_of (placed_of computed.now).entry ++ lines.now)) }
-    ensures differs { IfErr result (λ fault. Differs fault number kept.now (entry_text computed.now.caller (event_of computed.now.event) (answer_of computed.now.answer))) }
+    requires whole { HasWholeHits answer }
+    requires kept { IsRecordable entry.now.caller (event_of entry.now.event) (answer_of entry.now.answer) }
+    requires kept_small { length (entry_text entry.now.caller (event_of entry.now.event) (answer_of entry.now.answer)) ≤ 1073741824 }
+    requires computed { IsRecordable entry.now.caller (event_of entry.now.event) (answer_of answer) }
+    requires computed_small { length (entry_text entry.now.caller (event_of entry.now.event) (answer_of answer)) ≤ 1073741824 }
+    ensures agree { OnOk result (answer_of entry.now.answer ≡ answer_of answer.entry) }
+    ensures text { OnOk result (text.new ≡ text.old ++ (line_of (placed_of entry.now).entry ++ lines.now)) }
+    ensures differs { IfErr result (λ fault. Differs fault number (entry_text entry.now.caller (event_of entry.now.event) (answer_of entry.now.answer)) (entry_text entry.now.caller (event_of entry.now.event) (answer_of answer.entry))) }
 {
-    let bytes = entry_bytes(alloc, computed.caller, computed.event, computed.answer)?;
-    if bytes.as_slice() != kept {
+    osc_record::laws::entries_have_their_own_texts();
+    if !agree(entry.answer, answer) {
         return Err(ReplayFault::Disagrees {
             entry: number,
-            kept: Bytes::copied(alloc, kept)?,
-            computed: bytes,
+            kept: entry_bytes(alloc, entry.caller, entry.event, entry.answer)?,
+            computed: entry_bytes(alloc, entry.caller, entry.event, answer)?,
         });
     }
-    entry_line(text, computed)?;
+    entry_line(text, entry)?;
     text.word(lines)?;
     Ok(())
 }

@@ -1,36 +1,37 @@
 // A plain sequential server over lists.
 ghost use Rattle.std.specs.Prelude.{◌≡◌, ◌<◌, ◌++◌, ◌∷◌, [], length, option_map, IsTrue, IfOk, IfSome, IfNone};
-ghost use Rattle.osc_packet.specs.Reading.{is_packet};
 ghost use Rattle.osc_tree.specs.Adding.{refusal_of, add_refusal};
 ghost use Rattle.osc_tree.specs.Registry.{IsNewId};
 ghost use Rattle.osc_atoms.specs.Atoms as atoms;
 ghost use Rattle.osc_model.specs.Events.{release, ticked};
 ghost use Rattle.osc_model.specs.Events as events;
 ghost use Rattle.osc_model.specs.Recordings.{entry_size};
-ghost use Rattle.osc_record.specs.Shown.{event_of, answer_of, HasWholeHits};
+ghost use Rattle.osc_record.specs.Shown.{answer_of, HasWholeHits};
+ghost use Rattle.osc_replay.specs.Events.{event_in};
 
-use crate::calls::calls_of_unit;
+use crate::calls::{Calls, find_calls};
+use crate::event::LawfulEvent;
 use crate::outcome::Outcome;
-use crate::units::{Unit, blocks_of, copied_units, enter_all, take_due};
+use crate::units::{Queued, blocks_of, enter_all, take_due};
 use osc_atoms::Room;
 use osc_packet::Packet;
 use osc_pattern::Address;
 use osc_queue::Queue;
-use osc_record::{Answer, Caps, Event};
+use osc_record::{Answer, Caps};
 use osc_tree::{Hits, Tree, TreeRefusal};
 use std::alloc::{AllocError, Global};
 use std::marker::Model;
 
 /// A server: methods by address, units that wait for their moment, a clock, callers, and how many bytes are recorded.
-/// A contract sees its state.
+/// The units stay where they stand in the recording. A contract sees its state.
 ///
 /// An `Err` of its calls is want of memory. After it, and where no entry is added, the server isn't to be used again.
 #[derive(Drop)]
-pub(crate) struct Server {
+pub(crate) struct Server<'a> {
     alloc: Global,
     tree: Tree,
     hits: Hits,
-    queue: Queue<Unit>,
+    queue: Queue<Queued<'a>>,
     /// How many blocks there may be, and how many the queued units take.
     blocks: u32,
     used: u32,
@@ -43,7 +44,7 @@ pub(crate) struct Server {
     record_limit: u32,
 }
 
-impl Model for Server {
+impl<'a> Model for Server<'a> {
     ghost use Rattle.osc_model.specs.State.{State};
     ghost use Rattle.osc_replay.specs.Playing.{IsRunning};
 
@@ -54,17 +55,16 @@ impl Model for Server {
     ghost invariant = { λ s. IsRunning s.tree s.hits s.queue s.used };
 }
 
-impl Server {
+impl<'a> Server<'a> {
     ghost use Rattle.std.specs.Prelude.{◌≡◌, ◌≢◌, ◌+◌, ◌<◌, ◌≤◌, ◌^◌, length, IsTrue, IfOk};
     ghost use Rattle.osc_pattern.specs.Addresses.{is_address};
-    ghost use Rattle.osc_packet.specs.Reading.{is_packet};
     ghost use Rattle.osc_model.specs.State.{opening};
     ghost use Rattle.osc_model.specs.Events.{enrol, submit, add, remove, tick, release};
     ghost use Rattle.osc_model.specs.History.{IsLawful, IsSound, IsCounted};
-    ghost use Rattle.osc_record.specs.Shown.{event_of, answer_of};
-    ghost use Rattle.osc_replay.specs.Playing.{IsReached, Decides, Does, ComesTo};
+    ghost use Rattle.osc_replay.specs.Events.{event_in};
+    ghost use Rattle.osc_replay.specs.Playing.{IsReached, Decides, Does, Releases, ComesTo};
 
-    pub(crate) fn open(alloc: Global, caps: Caps) -> Result<Server, AllocError>
+    pub(crate) fn open(alloc: Global, caps: Caps) -> Result<Server<'a>, AllocError>
         ensures { IfOk result (λ server. server ≡ opening caps) }
     {
         Ok(Server {
@@ -84,30 +84,36 @@ impl Server {
         })
     }
 
-    /// What a caller's event comes to. It is no entry where the caller isn't enrolled or the rules add none.
-    pub(crate) fn play(&mut self, caller: u32, event: Event<'_>) -> Result<Outcome, AllocError>
-        requires lawful { IsLawful (event_of event) }
+    /// What a caller's event comes to. It is no entry where the caller isn't enrolled or the rules add none. A release
+    /// makes `calls` its own.
+    pub(crate) fn play(
+        &mut self,
+        caller: u32,
+        event: LawfulEvent<'a>,
+        calls: &mut Calls,
+    ) -> Result<Outcome, AllocError>
+        requires lawful { IsLawful (event_in event) }
         requires reached { IsReached self.old }
-        ensures { IfOk result (λ outcome. ComesTo outcome caller self.old (event_of event.entry) self.new) }
+        ensures { IfOk result (λ outcome. ComesTo outcome calls.new caller self.old (event_in event.entry) self.new) }
     {
         if caller >= self.callers {
             return Ok(Outcome::Nothing);
         }
         match event {
-            Event::Release => self.release(),
+            LawfulEvent::Release => self.release(calls),
             _ => self.play_other(event),
         }
     }
 
     /// What an event comes to that isn't a release.
-    fn play_other(&mut self, event: Event<'_>) -> Result<Outcome, AllocError>
-        requires no_release { event_of event ≢ release }
-        requires lawful { IsLawful (event_of event) }
+    fn play_other(&mut self, event: LawfulEvent<'a>) -> Result<Outcome, AllocError>
+        requires no_release { event_in event ≢ release }
+        requires lawful { IsLawful (event_in event) }
         requires reached { IsReached self.old }
-        ensures { IfOk result (λ outcome. Does outcome self.old (event_of event.entry) self.new) }
+        ensures { IfOk result (λ outcome. Does outcome self.old (event_in event.entry) self.new) }
     {
         osc_model::laws::a_server_stays_sound();
-        let size = entry_size(event);
+        let size = entry_size(&event);
         if size > (self.record_limit - self.recorded) as usize {
             return Ok(Outcome::Nothing);
         }
@@ -117,20 +123,20 @@ impl Server {
     }
 
     /// The answer to an event that isn't a release, for whose entry there is room.
-    fn decide(&mut self, event: Event<'_>) -> Result<Answer<'static>, AllocError>
-        requires no_release { event_of event ≢ release }
-        requires lawful { IsLawful (event_of event) }
+    fn decide(&mut self, event: LawfulEvent<'a>) -> Result<Answer<'static>, AllocError>
+        requires no_release { event_in event ≢ release }
+        requires lawful { IsLawful (event_in event) }
         requires sound { IsSound self.old }
         requires counted { IsCounted self.old }
-        ensures { IfOk result (λ answer. Decides answer self.old (event_of event.entry) self.new) }
+        ensures { IfOk result (λ answer. Decides answer self.old (event_in event.entry) self.new) }
     {
         match event {
-            Event::Enrol => Ok(self.enrol()),
-            Event::Submit(packet) => self.submit(packet),
-            Event::Add(address) => self.add(address),
-            Event::Remove(address) => self.remove(address),
-            Event::Tick(now) => Ok(self.tick(now)),
-            Event::Release => unreachable!(),
+            LawfulEvent::Enrol => Ok(self.enrol()),
+            LawfulEvent::Submit(packet) => Ok(self.submit(&packet)),
+            LawfulEvent::Add(address) => self.add(address),
+            LawfulEvent::Remove(address) => self.remove(address),
+            LawfulEvent::Tick(now) => Ok(self.tick(now)),
+            LawfulEvent::Release => unreachable!(),
         }
     }
 
@@ -147,29 +153,26 @@ impl Server {
     }
 
     /// Queues all of the packet's units, or none of them.
-    fn submit(&mut self, packet: &[u8]) -> Result<Answer<'static>, AllocError>
-        requires lawful { IsTrue (is_packet 65504 packet.now) }
+    fn submit(&mut self, packet: &Packet<'a>) -> Answer<'static>
         requires sound { IsSound self.old }
         requires counted { IsCounted self.old }
-        ensures { IfOk result (λ answer. Decides answer self.old (submit packet.now) self.new) }
+        ensures { Decides result self.old (submit packet.now) self.new }
     {
-        let packet = as_packet(packet);
         let count = packet.count();
         let places = self.queue.free();
         if count > places {
-            return Ok(Answer::UnitsFull(Room::new(count as u64, places as u64)));
+            return Answer::UnitsFull(Room::new(count as u64, places as u64));
         }
-        let need = blocks_of(&packet);
+        let need = blocks_of(packet);
         let free = self.blocks - self.used;
         if need > free {
-            return Ok(Answer::PoolFull(Room::new(need as u64, free as u64)));
+            return Answer::PoolFull(Room::new(need as u64, free as u64));
         }
-        let units = copied_units(self.alloc, &packet)?;
         let first = self.next_unit;
-        enter_all(&mut self.queue, units, self.clock, first);
+        enter_all(&mut self.queue, packet.units(), self.clock, first);
         self.used += need;
         self.next_unit += count as u64;
-        Ok(Answer::Queued { first, count })
+        Answer::Queued { first, count }
     }
 
     fn add(&mut self, address: &[u8]) -> Result<Answer<'static>, AllocError>
@@ -209,9 +212,9 @@ impl Server {
     }
 
     /// Takes the first unit, if it is due and there is room for the entry, and tells its calls.
-    fn release(&mut self) -> Result<Outcome, AllocError>
+    fn release(&mut self, calls: &mut Calls) -> Result<Outcome, AllocError>
         requires { IsReached self.old }
-        ensures { IfOk result (λ outcome. Does outcome self.old release self.new) }
+        ensures { IfOk result (λ outcome. Releases outcome calls.new self.old self.new) }
     {
         osc_model::laws::a_legal_history_is_recordable();
         osc_model::laws::a_server_stays_sound();
@@ -219,27 +222,30 @@ impl Server {
             return Ok(Outcome::Nothing);
         };
         self.used -= taken.blocks();
-        let calls = calls_of_unit(self.alloc, &self.tree, &mut self.hits, unit, &taken)?;
+        find_calls(&self.tree, &mut self.hits, unit, &taken, calls)?;
         let size = 44 + calls.hits.len();
         if size > (self.record_limit - self.recorded) as usize {
             return Ok(Outcome::Nothing);
         }
         self.recorded += size as u32;
-        Ok(Outcome::Released { unit, calls })
+        Ok(Outcome::Released(unit))
     }
 }
 
 /// How many bytes the entry of an event has; that of a release, as long as it has no hits.
-fn entry_size(event: Event<'_>) -> usize
-    ensures { result ≡ entry_size (event_of event.entry) ticked }
+fn entry_size(event: &LawfulEvent<'_>) -> usize
+    ensures { result ≡ entry_size (event_in event.now) ticked }
 {
     match event {
-        Event::Enrol => 28,
-        Event::Submit(packet) => 48 + (packet.len() + blob_end(packet.len())),
-        Event::Add(address) => 40 + string_size(address),
-        Event::Remove(address) => 36 + string_size(address),
-        Event::Tick(_) => 48,
-        Event::Release => 44,
+        LawfulEvent::Enrol => 28,
+        LawfulEvent::Submit(packet) => {
+            let size = packet.bytes().len();
+            48 + (size + blob_end(size))
+        }
+        LawfulEvent::Add(address) => 40 + string_size(address),
+        LawfulEvent::Remove(address) => 36 + string_size(address),
+        LawfulEvent::Tick(_) => 48,
+        LawfulEvent::Release => 44,
     }
 }
 
@@ -256,17 +262,6 @@ fn string_size(text: &[u8]) -> usize
     ensures { result ≡ length (atoms.string text.now) }
 {
     text.len() + (4 - text.len() % 4)
-}
-
-/// The packet that the bytes are.
-fn as_packet(bytes: &[u8]) -> Packet<'_>
-    requires { IsTrue (is_packet 65504 bytes.now) }
-    ensures { result ≡ bytes.now }
-{
-    match Packet::check(bytes, 65_504) {
-        Ok(packet) => packet,
-        Err(_) => unreachable!(),
-    }
 }
 
 /// The address that the bytes are. The `Err` is want of memory.

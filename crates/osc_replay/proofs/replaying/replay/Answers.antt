@@ -1,82 +1,77 @@
-use Rattle.std.proofs.Common.{◌≡◌, ◌∷◌, [], ap, ◌∙◌, Err, arith, rules}
+use Rattle.std.proofs.Common.{◌≡◌, Err, inl, ap, ◌∙◌, arith, rules}
 use Rattle.osc_model.specs.State.{opening}
-use Rattle.osc_record.specs.Reading.{placed_from, unplaced}
-use Rattle.osc_record.specs.Left.{placed_of, entries_left}
-use Rattle.osc_replay.proofs.Replayed.{formed_of, played_none, next_is, played_more, few_played, played_all, one_printed, stops_disagreeing, stops_short}
+use Rattle.osc_record.specs.Left.{placed_of}
+use Rattle.osc_record.specs.Unread.{Reads}
+use Rattle.osc_replay.specs.declared.row.Row.{Row}
+use Rattle.osc_replay.specs.declared.fault.ReplayFault.TheVariants.{Malformed}
+use Rattle.osc_replay.proofs.Formed.{of_some, of_none, row_lawful}
+use Rattle.osc_replay.proofs.Replayed.{played_none, reached, played_more, few_played, played_all, one_printed, stops_disagreeing, stops_short, next_unformed, later_unformed, none_malformed}
 use Rattle.osc_replay.proofs.replaying.replay.Goals as goal
+
+pub returns-in_err-unread-clause-complete : goal.returns-in_err-unread-clause-complete
+returns-in_err-unread-clause-complete c =
+    let at = c.in_err-unread.field-0.0.at in
+    let same : c.from_residual.result ≡ Err (Malformed at) = search rules in
+    λ caps history is. rw same (none_malformed c.a_legal_history_is_recordable.ensures.all c.a_legal_history_is_recordable.ensures.within c.args.recording.now at caps history (inl c.in_err-unread.ensures.err) is)
+
+pub loop-text-init : goal.loop-text-init
+loop-text-init c =
+    let unread = c.in_ok-unread.unread in
+    let opened : c.in_ok-server.server ≡ opening unread.caps = c.in_ok-server.ensures ∙ ap opening c.caps.ensures in
+    record { played = rw (opened, c.open-text.ensures) (played_none c.args.recording.now unread c.in_ok-unread.ensures.ok) }
+
+pub returns-in_err-row-clause-malformed : goal.returns-in_err-row-clause-malformed
+returns-in_err-row-clause-malformed c =
+    let at = c.in_err-row.field-0.0.at in
+    let same : c.from_residual-in_err-row.result ≡ Err (Malformed at) = search rules in
+    rw same (next_unformed c.args.recording.now c.loop-text.unread c.loop-text.server c.loop-text.text c.loop-text.number at c.loop-text.invariant.played c.in_err-row.ensures.err)
+
+pub returns-in_err-row-clause-complete : goal.returns-in_err-row-clause-complete
+returns-in_err-row-clause-complete c =
+    let at = c.in_err-row.field-0.0.at in
+    let same : c.from_residual-in_err-row.result ≡ Err (Malformed at) = search rules in
+    λ caps history is. rw same
+    (none_malformed c.a_legal_history_is_recordable.ensures.all c.a_legal_history_is_recordable.ensures.within c.args.recording.now at caps history
+    (next_unformed c.args.recording.now c.loop-text.unread c.loop-text.server c.loop-text.text c.loop-text.number at c.loop-text.invariant.played c.in_err-row.ensures.err) is)
+
+pub replay_row-requires-clause-reached : goal.replay_row-requires-clause-reached
+replay_row-requires-clause-reached c = reached c.args.recording.now c.loop-text.unread c.loop-text.server c.loop-text.text c.loop-text.number c.loop-text.invariant.played
+
+pub returns-in-Some-first_malformed-clause-malformed : goal.returns-in-Some-first_malformed-clause-malformed
+returns-in-Some-first_malformed-clause-malformed c =
+    let row = c.in-Some.row in
+    let reads = of_some (λ (row : Row). Reads c.loop-text.unread (placed_of row.entry) c.next_row.new.unread) c.in_ok-row.field-0 c.in-Some.row c.in-Some.is c.in_ok-row.ensures.read in
+    later_unformed c.args.recording.now c.loop-text.unread c.next_row.new.unread (placed_of row.entry) c.loop-text.server c.loop-text.text c.loop-text.number c.in-Some-first_malformed.at c.loop-text.invariant.played reads (row_lawful row) c.in-Some-first_malformed.ensures.some
+
+pub returns-in-Some-first_malformed-clause-complete : goal.returns-in-Some-first_malformed-clause-complete
+returns-in-Some-first_malformed-clause-complete c = λ caps history is.
+    (let row = c.in-Some.row in
+    let reads = of_some (λ (row : Row). Reads c.loop-text.unread (placed_of row.entry) c.next_row.new.unread) c.in_ok-row.field-0 c.in-Some.row c.in-Some.is c.in_ok-row.ensures.read in
+    none_malformed c.a_legal_history_is_recordable.ensures.all c.a_legal_history_is_recordable.ensures.within c.args.recording.now c.in-Some-first_malformed.at caps history
+    (later_unformed c.args.recording.now c.loop-text.unread c.next_row.new.unread (placed_of row.entry) c.loop-text.server c.loop-text.text c.loop-text.number c.in-Some-first_malformed.at c.loop-text.invariant.played reads (row_lawful row) c.in-Some-first_malformed.ensures.some) is)
+
+pub returns-in-Err-clause-disagrees : goal.returns-in-Err-clause-disagrees
+returns-in-Err-clause-disagrees c =
+    let row = c.in-Some.row in
+    let reads = of_some (λ (row : Row). Reads c.loop-text.unread (placed_of row.entry) c.next_row.new.unread) c.in_ok-row.field-0 c.in-Some.row c.in-Some.is c.in_ok-row.ensures.read in
+    stops_disagreeing c.args.recording.now c.loop-text.unread c.next_row.new.unread (placed_of row.entry) c.loop-text.server c.loop-text.text c.loop-text.number c.in-Err.fault c.loop-text.invariant.played reads (row_lawful row) c.in_default-first_malformed.ensures.none c.in-Err.ensures.differs
 
 pub returns-in-Err-clause-complete : goal.returns-in-Err-clause-complete
 returns-in-Err-clause-complete c = λ caps history is.
-    c.in-Err.ensures.complete caps history (formed_of c.a_legal_history_is_recordable.ensures.all c.a_legal_history_is_recordable.ensures.within caps history is.legal) is.text
-
-pub loop-entry-init : goal.loop-entry-init
-loop-entry-init c =
-    let reader = c.in-Ok.reader in
-    let left : entries_left c.into_iter-entry-iterator.result ≡ placed_from 56 (unplaced reader.entries) = ap entries_left c.into_iter-entry-iterator.ensures.into_iter_gives ∙ c.entries-entry-items.ensures ∙ c.in-Ok.ensures.entries in
-    let opened : c.in_ok-server.server ≡ opening reader.caps = c.in_ok-server.ensures ∙ ap opening c.caps.ensures in
-    record {
-      can = tt;
-      finite = tt;
-      played = record {
-        caps = reader.caps;
-        played = rw (opened, c.open-text.ensures) (played_none c.args.recording.now reader.caps (entries_left c.into_iter-entry-iterator.result) (unplaced reader.entries) c.in-Ok.ensures.ok.0 c.in-Ok.ensures.ok.1 left);
-      };
-    }
-
-pub replay_entry-requires-clause-reached : goal.replay_entry-requires-clause-reached
-replay_entry-requires-clause-reached c = (next_is c.args.recording.now c.loop-entry.invariant.played.caps (placed_of c.in-Some.entry) (entries_left c.next.new.self) (entries_left c.loop-entry.entry-iterator) c.loop-entry.server c.loop-entry.text c.loop-entry.number c.loop-entry.invariant.played.played c.in-Some.ensures.steps).reached
-
-pub replay_entry-requires-clause-lawful : goal.replay_entry-requires-clause-lawful
-replay_entry-requires-clause-lawful c = (next_is c.args.recording.now c.loop-entry.invariant.played.caps (placed_of c.in-Some.entry) (entries_left c.next.new.self) (entries_left c.loop-entry.entry-iterator) c.loop-entry.server c.loop-entry.text c.loop-entry.number c.loop-entry.invariant.played.played c.in-Some.ensures.steps).lawful
-
-pub replay_entry-requires-clause-recordable : goal.replay_entry-requires-clause-recordable
-replay_entry-requires-clause-recordable c = (next_is c.args.recording.now c.loop-entry.invariant.played.caps (placed_of c.in-Some.entry) (entries_left c.next.new.self) (entries_left c.loop-entry.entry-iterator) c.loop-entry.server c.loop-entry.text c.loop-entry.number c.loop-entry.invariant.played.played c.in-Some.ensures.steps).recordable
-
-pub replay_entry-requires-clause-there : goal.replay_entry-requires-clause-there
-replay_entry-requires-clause-there c = (next_is c.args.recording.now c.loop-entry.invariant.played.caps (placed_of c.in-Some.entry) (entries_left c.next.new.self) (entries_left c.loop-entry.entry-iterator) c.loop-entry.server c.loop-entry.text c.loop-entry.number c.loop-entry.invariant.played.played c.in-Some.ensures.steps).there
+    (let row = c.in-Some.row in
+    let reads = of_some (λ (row : Row). Reads c.loop-text.unread (placed_of row.entry) c.next_row.new.unread) c.in_ok-row.field-0 c.in-Some.row c.in-Some.is c.in_ok-row.ensures.read in
+    stops_short c.a_legal_history_is_recordable.ensures.all c.a_legal_history_is_recordable.ensures.within c.args.recording.now c.loop-text.unread c.next_row.new.unread caps history (placed_of row.entry) c.loop-text.server c.loop-text.text c.loop-text.number c.in-Err.fault c.loop-text.invariant.played reads (row_lawful row) c.in_default-first_malformed.ensures.none c.in-Err.ensures.differs is)
 
 pub overflow_add-number : goal.overflow_add-number
-overflow_add-number c =
-    let is = c.loop-entry.invariant.played in
-    omega (arith, c.requires, few_played c.args.recording.now is.caps (entries_left c.loop-entry.entry-iterator) c.loop-entry.server c.loop-entry.text c.loop-entry.number is.played)
+overflow_add-number c = omega (arith, c.requires, few_played c.args.recording.now c.loop-text.unread c.loop-text.server c.loop-text.text c.loop-text.number c.loop-text.invariant.played)
 
-pub loop-entry-preserved : goal.loop-entry-preserved
-loop-entry-preserved c =
-    let is = c.loop-entry.invariant.played in
-    let first : entries_left c.loop-entry.entry-iterator ≡ placed_of c.in-Some.entry ∷ entries_left c.next.new.self = c.in-Some.ensures.steps in
-    record {
-      can = tt;
-      finite = tt;
-      played = record {
-        caps = is.caps;
-        played = played_more c.args.recording.now is.caps (placed_of c.in-Some.entry) (entries_left c.next.new.self) (entries_left c.loop-entry.entry-iterator) c.loop-entry.server c.replay_entry.new.server c.loop-entry.text c.replay_entry.new.text c.loop-entry.number is.played first c.in_ok-replay_entry.ensures.ok;
-      };
-    }
-
-pub returns-clause-ok : goal.returns-clause-ok
-returns-clause-ok c =
-    let is = c.loop-entry.invariant.played in
-    let none : entries_left c.loop-entry.entry-iterator ≡ [] = c.in-None.ensures.steps.0 in
-    let all = played_all c.args.recording.now is.caps (entries_left c.loop-entry.entry-iterator) c.loop-entry.server c.loop-entry.text c.loop-entry.number is.played none in
-    (is.caps, all.0, all.1, all.2)
+pub loop-text-preserved : goal.loop-text-preserved
+loop-text-preserved c =
+    let row = c.in-Some.row in
+    let reads = of_some (λ (row : Row). Reads c.loop-text.unread (placed_of row.entry) c.next_row.new.unread) c.in_ok-row.field-0 c.in-Some.row c.in-Some.is c.in_ok-row.ensures.read in
+    record { played = played_more c.args.recording.now c.loop-text.unread c.next_row.new.unread (placed_of row.entry) c.loop-text.server c.replay_row.new.server c.loop-text.text c.replay_row.new.text c.loop-text.number c.loop-text.invariant.played reads (row_lawful row) c.in_default-replay_row.ensures.ok }
 
 pub returns-clause-complete : goal.returns-clause-complete
 returns-clause-complete c = λ caps history recording.
-    (let is = c.loop-entry.invariant.played in
-    let none : entries_left c.loop-entry.entry-iterator ≡ [] = c.in-None.ensures.steps.0 in
-    let all = played_all c.args.recording.now is.caps (entries_left c.loop-entry.entry-iterator) c.loop-entry.server c.loop-entry.text c.loop-entry.number is.played none in
-    one_printed c.a_legal_history_is_recordable.ensures.all c.a_legal_history_is_recordable.ensures.within c.args.recording.now c.loop-entry.text is.caps caps all.0 history all.1 all.2 recording)
-
-pub returns-in_err-replay_entry-clause-disagrees : goal.returns-in_err-replay_entry-clause-disagrees
-returns-in_err-replay_entry-clause-disagrees c =
-    let is = c.loop-entry.invariant.played in
-    let same : c.from_residual-in_err-replay_entry.result ≡ Err c.in_err-replay_entry.field-0.0 = search rules in
-    rw same
-    (stops_disagreeing c.args.recording.now is.caps (placed_of c.in-Some.entry) (entries_left c.next.new.self) (entries_left c.loop-entry.entry-iterator) c.loop-entry.server c.loop-entry.text c.loop-entry.number c.in_err-replay_entry.field-0.0 is.played c.in-Some.ensures.steps c.in_err-replay_entry.ensures.differs)
-
-pub returns-in_err-replay_entry-clause-complete : goal.returns-in_err-replay_entry-clause-complete
-returns-in_err-replay_entry-clause-complete c =
-    let is = c.loop-entry.invariant.played in
-    let same : c.from_residual-in_err-replay_entry.result ≡ Err c.in_err-replay_entry.field-0.0 = search rules in
-    λ caps history recording. rw same
-    (stops_short c.a_legal_history_is_recordable.ensures.all c.a_legal_history_is_recordable.ensures.within c.args.recording.now is.caps caps history (placed_of c.in-Some.entry) (entries_left c.next.new.self) (entries_left c.loop-entry.entry-iterator) c.loop-entry.server c.loop-entry.text c.loop-entry.number c.in_err-replay_entry.field-0.0 is.played c.in-Some.ensures.steps c.in_err-replay_entry.ensures.differs recording)
+    (let is = c.loop-text.invariant.played in
+    one_printed c.a_legal_history_is_recordable.ensures.all c.a_legal_history_is_recordable.ensures.within c.args.recording.now c.loop-text.text is.caps caps is.before history (played_all c.args.recording.now c.loop-text.unread c.loop-text.server c.loop-text.text c.loop-text.number is (of_none c.in_ok-row.field-0 c.in_default.not-Some c.in_ok-row.ensures.end)) is.text_is recording)

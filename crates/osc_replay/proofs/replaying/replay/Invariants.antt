@@ -1,11 +1,10 @@
-use Rattle.osc_record.specs.Left.{entries_left}
-use Rattle.osc_replay.proofs.Replayed.{HasPlayed}
+use Rattle.std.proofs.Common.{length}
+use Rattle.osc_replay.proofs.Replayed.{IsPlayed}
 use Rattle.osc_replay.proofs.replaying.replay.Given as goal
 
--- the entries so far are played and printed, and the others are left
-abbrev pub invariant-loop-entry : goal.invariant-loop-entry
-invariant-loop-entry l = record {
-  can : (goal.iterator-loop-entry).can_next l.entry-iterator;
-  finite : (goal.iterator-loop-entry).is_finite l.entry-iterator;
-  played : HasPlayed l.recording (entries_left l.entry-iterator) l.server l.text l.number;
-}
+-- the entries so far are played and printed
+abbrev pub invariant-loop-text : goal.invariant-loop-text
+invariant-loop-text l = record { played : IsPlayed l.recording l.unread l.server l.text l.number }
+
+abbrev pub decreases-loop-text : goal.decreases-loop-text
+decreases-loop-text l = length l.unread.rest

@@ -1,5 +1,4 @@
 use Rattle.std.proofs.Common.{◌≡◌, ◌+◌, ◌≤◌, length}
-use Rattle.std.specs.Vec.Iter.{into_iter_items}
 use Rattle.osc_model.specs.State.{AreNumbered}
 use Rattle.osc_model.specs.Step.{enter_all, numbered}
 use Rattle.osc_replay.proofs.units.enter_all.Given as goal
@@ -9,9 +8,9 @@ abbrev pub invariant-loop-unit : goal.invariant-loop-unit
 invariant-loop-unit l = record {
   can : (goal.iterator-loop-unit).can_next l.unit-iterator;
   finite : (goal.iterator-loop-unit).is_finite l.unit-iterator;
-  said : enter_all (numbered l.clock l.number (into_iter_items l.unit-iterator)) l.queue.items ≡ enter_all (numbered l.clock l.first l.fn.units.items) l.initial.queue.items;
+  said : enter_all (numbered l.clock l.number l.unit-iterator) l.queue.items ≡ enter_all (numbered l.clock l.first l.fn.units) l.initial.queue.items;
   given : AreNumbered l.number l.queue.items;
-  numbers : l.number + length (into_iter_items l.unit-iterator) ≡ l.first + length l.fn.units.items;
-  room : length l.queue.items + length (into_iter_items l.unit-iterator) ≤ l.queue.limit;
+  numbers : l.number + length l.unit-iterator ≡ l.first + length l.fn.units;
+  room : length l.queue.items + length l.unit-iterator ≤ l.queue.limit;
   limit : l.queue.limit ≡ l.initial.queue.limit;
 }

@@ -9,8 +9,8 @@ use Rattle.osc_replay.proofs.server.Server.submit.Goals as goal
 pub invariant_of-self : goal.invariant_of-self
 invariant_of-self c =
     let s = c.self.inside in
-    let copies = ap (λ (units : List Timed). queued_blocks (enter_all (numbered s.clock s.next_unit units) s.queue.items)) c.in_ok-units.ensures in
+    let copies = ap (λ (units : List Timed). queued_blocks (enter_all (numbered s.clock s.next_unit units) s.queue.items)) c.units.ensures.value in
     record {
       room = c.self.invariant.room;
-      counted = omega (arith, ap queued_blocks c.enter_all.ensures.items, copies, all_blocks s.clock s.next_unit (units_read c.as_packet-packet.result) s.queue.items, c.blocks_of-need.ensures, c.self.invariant.counted);
+      counted = omega (arith, ap queued_blocks c.enter_all.ensures.items, copies, all_blocks s.clock s.next_unit (units_read c.args.packet.now) s.queue.items, c.blocks_of-need.ensures, c.self.invariant.counted);
     }
