@@ -5,6 +5,7 @@ ghost use Rattle.osc_message.specs.ArgumentReading.{arguments_end, arguments_of}
 
 use crate::Arg;
 use crate::argument_reading::known_argument;
+use crate::reading::check_arguments;
 
 /// The arguments of a message that are left, in order.
 #[derive(Drop)]
@@ -22,8 +23,25 @@ pub struct Args<'a> {
 impl<'a> Args<'a> {
     ghost use Rattle.osc_atoms.specs.declared.limits.TheConstants.{MAX_BYTES};
     ghost use Rattle.osc_message.specs.Left.{left};
-    ghost use Rattle.std.specs.Prelude.{◌≡◌, ◌%◌, ◌≤◌, length, IsTrue, is_ok};
+    ghost use Rattle.std.specs.Prelude.{◌≡◌, ◌%◌, ◌≤◌, length, IsTrue, IfSome, is_ok, is_some};
     ghost use Rattle.osc_message.specs.ArgumentReading.{arguments_end, arguments_of};
+    ghost use Rattle.osc_message.specs.Reading.{arguments_read};
+
+    /// The arguments of these tags from `place` on, if they end where the bytes end. So the arguments of a message are
+    /// read whose pattern and tags are known by their bytes.
+    pub fn read(tags: &'a [u8], bytes: &'a [u8], place: u32) -> Option<Args<'a>>
+        requires whole { length bytes.now % 4 ≡ 0 }
+        requires aligned { place % 4 ≡ 0 }
+        requires inside { place ≤ length bytes.now }
+        requires small { length bytes.now ≤ MAX_BYTES }
+        ensures exact { is_some result ≡ is_ok (arguments_read bytes.now tags.now place) }
+        ensures read { IfSome result (λ args. left args ≡ arguments_of tags.now bytes.now place) }
+    {
+        match check_arguments(bytes, tags, place) {
+            Ok(()) => Some(Args::new(tags, bytes, place)),
+            Err(_) => None,
+        }
+    }
 
     /// The arguments of these tags, from `place` on.
     pub(crate) fn new(tags: &'a [u8], bytes: &'a [u8], place: u32) -> Self

@@ -136,7 +136,8 @@ fn check_tags(bytes: &[u8], place: u32, tags: &[u8], start: u32) -> Result<(), F
     check_arguments(bytes, tags, start)
 }
 
-fn check_arguments(bytes: &[u8], tags: &[u8], start: u32) -> Result<(), Fault>
+/// Checks that the arguments of the tags, which stand from `start` on, end where the bytes end.
+pub(crate) fn check_arguments(bytes: &[u8], tags: &[u8], start: u32) -> Result<(), Fault>
     requires whole { length bytes.now % 4 ≡ 0 }
     requires aligned { start % 4 ≡ 0 }
     requires inside { start ≤ length bytes.now }

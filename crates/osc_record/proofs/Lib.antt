@@ -9,6 +9,7 @@ pub mod Checked
 pub mod Spelled
 pub mod RowsRead
 pub mod EntriesRead
+pub mod Fronts
 pub mod Stops
 pub mod Remaining
 pub mod Hits

@@ -1,7 +1,7 @@
 // Entries, read from the messages that they are.
-ghost use Rattle.std.specs.Prelude.{◌≡◌, option_map, IfSome};
+ghost use Rattle.std.specs.Prelude.{◌≡◌, ◌≤◌, ◌%◌, length, option_map, IfSome};
 ghost use Rattle.osc_message.specs.Left.{left};
-ghost use Rattle.osc_record.specs.Reading.{enrol_read, submit_read, add_read, remove_read, tick_read, release_read, row_read, entry_of};
+ghost use Rattle.osc_record.specs.Reading.{enrol_read, submit_read, add_read, remove_read, tick_read, release_read, entry_of};
 ghost use Rattle.osc_record.specs.Shown.{parts_of, HasWholeHits};
 
 use crate::answers::{
@@ -10,36 +10,40 @@ use crate::answers::{
 use crate::arguments::{next_blob, next_int, next_long, next_signed, next_text, next_time};
 use crate::event::Event;
 use crate::parts::Parts;
-use osc_message::{Args, Message};
+use osc_message::Args;
+
+/// What the message of each event begins with: its address, and the tags of its arguments.
+const ENROL: [u8; 16] = *b"/osc/enrol\0\0,ii\0";
+
+const SUBMIT: [u8; 20] = *b"/osc/submit\0,ibihi\0\0";
+
+const ADD: [u8; 20] = *b"/osc/add\0\0\0\0,isiii\0\0";
+
+const REMOVE: [u8; 20] = *b"/osc/remove\0,isii\0\0\0";
+
+const TICK: [u8; 20] = *b"/osc/tick\0\0\0,itit\0\0\0";
+
+const RELEASE: [u8; 24] = *b"/osc/release\0\0\0\0,ihb\0\0\0\0";
 
 /// The entry that the message is.
 pub(crate) fn read_message(bytes: &[u8]) -> Option<Parts<'_>>
+    requires fours { length bytes.now % 4 ≡ 0 }
+    requires small { length bytes.now ≤ 1073741824 }
     ensures value { option_map parts_of result ≡ entry_of bytes.now }
     ensures whole { IfSome result (λ parts. HasWholeHits parts.answer) }
 {
-    match Message::check(bytes, 1073741824) {
-        Ok(message) => read_row(message.pattern().bytes(), message.args()),
-        Err(_) => None,
-    }
-}
-
-/// The entry of a message to the address with these arguments.
-fn read_row<'a>(address: &[u8], args: Args<'a>) -> Option<Parts<'a>>
-    ensures value { option_map parts_of result ≡ row_read address.now (left args.entry) }
-    ensures whole { IfSome result (λ parts. HasWholeHits parts.answer) }
-{
-    if address == b"/osc/enrol".as_slice() {
-        read_enrol(args)
-    } else if address == b"/osc/submit".as_slice() {
-        read_submit(args)
-    } else if address == b"/osc/add".as_slice() {
-        read_add(args)
-    } else if address == b"/osc/remove".as_slice() {
-        read_remove(args)
-    } else if address == b"/osc/tick".as_slice() {
-        read_tick(args)
-    } else if address == b"/osc/release".as_slice() {
-        read_release(args)
+    if bytes.starts_with(&ENROL) {
+        read_enrol(Args::read(b"ii", bytes, 16)?)
+    } else if bytes.starts_with(&SUBMIT) {
+        read_submit(Args::read(b"ibihi", bytes, 20)?)
+    } else if bytes.starts_with(&ADD) {
+        read_add(Args::read(b"isiii", bytes, 20)?)
+    } else if bytes.starts_with(&REMOVE) {
+        read_remove(Args::read(b"isii", bytes, 20)?)
+    } else if bytes.starts_with(&TICK) {
+        read_tick(Args::read(b"itit", bytes, 20)?)
+    } else if bytes.starts_with(&RELEASE) {
+        read_release(Args::read(b"ihb", bytes, 24)?)
     } else {
         None
     }

@@ -1,5 +1,5 @@
 // Messages after their size, read from borrowed bytes.
-ghost use Rattle.std.specs.Prelude.{◌≡◌, ◌+◌, ◌-◌, ◌<◌, ◌≤◌, length, drop, option_map, IfSome, None, codes, if◌then◌else◌};
+ghost use Rattle.std.specs.Prelude.{◌≡◌, ◌+◌, ◌-◌, ◌%◌, ◌<◌, ◌≤◌, length, drop, option_map, IfSome, None, codes, if◌then◌else◌};
 ghost use Rattle.std.specs.Str.{bytes_eq};
 ghost use Rattle.osc_message.specs.Left.{left};
 ghost use Rattle.osc_record.specs.Reading.{message_first, entry_first, entries_at, outcome, limits_read, lawful_limits, header_of, header_read};
@@ -15,6 +15,7 @@ use osc_message::{Args, Message};
 fn first_message(bytes: &[u8]) -> Option<&[u8]>
     ensures value { option_map (λ message. message.now) result ≡ message_first bytes.now }
     ensures within { IfSome result (λ message. 4 + length message.now ≤ length bytes.now) }
+    ensures fours { IfSome result (λ message. length message.now % 4 ≡ 0) }
 {
     if bytes.len() < 4 {
         return None;

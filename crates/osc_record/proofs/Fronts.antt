@@ -1,0 +1,243 @@
+-- Messages of a recording, by the address and the tags that they begin with.
+use Rattle.std.proofs.Common.{◌≡◌, ℕ, ◌+◌, ◌%◌, ◌<◌, ◌≤◌, Bool, true, false, cond, ◌==◌, ℤ, List, [], ◌∷◌, ◌++◌, length, drop, Option, Some, None, Ok, Err, Result, refl, sym, ap, ◌∙◌, subst, arith, codes, length-append, eqb-true, eq-eqb, le-leb}
+use Rattle.std.specs.Prelude.{⊤, option_map, is_ok, if◌then◌else◌}
+use Rattle.std.specs.List.{list_any, starts_with}
+use Rattle.std.specs.Option.{option_map_or}
+use Rattle.std.specs.Result.{result_ok}
+use Rattle.std.proofs.lemmas.Bool.{cond-true, cond-false}
+use Rattle.std.proofs.lemmas.Bool.Decides.{Decides-eqb}
+use Rattle.std.proofs.lemmas.Slice.Eq.{starts_is}
+use Rattle.osc_atoms.specs.declared.fault.Fault.{Fault}
+use Rattle.osc_atoms.specs.Atoms.{AreBytes, string}
+use Rattle.osc_atoms.specs.Standing.{StartsWithString}
+use Rattle.osc_atoms.proofs.Strings.{string_again}
+use Rattle.osc_atoms.specs.Reading.{and_then}
+use Rattle.osc_pattern.specs.declared.faults.PatternFault.{PatternFault}
+use Rattle.osc_pattern.specs.Patterns.{IsPattern}
+use Rattle.osc_pattern.proofs.PatternLaws.{IsPattern-read}
+use Rattle.osc_message.specs.Tags.{is_unknown}
+use Rattle.osc_message.specs.ArgumentReading.{arguments_of}
+use Rattle.osc_message.specs.Reading.{Parts, begins, brackets_read, tags_read, unless_fault, comma_read, lawful_read, message_read, arguments_read, limited_read, parts_of, pattern_of}
+use Rattle.osc_message.specs.Arguments.{arguments_in, message_arguments}
+use Rattle.osc_model.specs.Events.{Event, enrol, submit, add, remove, tick, release, Answer, Hit}
+use Rattle.osc_model.specs.Events.{Entry as Recorded}
+use Rattle.osc_model.specs.Recordings.{row_of, row_text, sized, entry_text, FitsRow, enrolled, submitted, adding, removing, ticking, releasing, hits_text, enrol_row, submit_row, add_row, remove_row, tick_row, release_row}
+use Rattle.osc_record.specs.Reading.{row_read, entry_of}
+use Rattle.osc_record.proofs.Lawful.{enrol_address, submit_address, add_address, remove_address, tick_address, release_address}
+use Rattle.osc_record.proofs.EntriesRead.{entry_was}
+
+-- what is read of bytes that begin with an address and tags
+pub record Front (front address tags : List ℕ) : Type 0 where
+  pub reads : (rest : List ℕ) → message_read (front ++ rest) 0 ≡ and_then (arguments_read (front ++ rest) tags (length front)) (λ _. Ok (record { pattern = address; tags = Some tags; place = length front }))
+  pub pattern : (rest : List ℕ) → pattern_of (front ++ rest) ≡ address
+  pub known : list_any is_unknown tags ≡ false
+  pub some : 0 < length front
+
+-- a place before the end isn't the end
+not_end : (place : ℕ) (bytes : List ℕ) → place < length bytes → (place == length bytes) ≡ false
+not_end place bytes before = go (place == length bytes) refl where
+  go : (t : Bool) → (place == length bytes) ≡ t → t ≡ false
+  go true is = let end = eqb-true place (length bytes) is in absurd (omega arith)
+  go false is = refl
+
+-- so they are read as a message with these parts, if the arguments are read
+front_read : (front address tags : List ℕ) → Front front address tags → (rest : List ℕ) → length (front ++ rest) % 4 ≡ 0 → length (front ++ rest) ≤ 1073741824
+    → limited_read 1073741824 (front ++ rest) ≡ and_then (arguments_read (front ++ rest) tags (length front)) (λ _. Ok (record { pattern = address; tags = Some tags; place = length front }))
+front_read front address tags f rest four small =
+    let some = f.some in
+    let size = length-append front rest in
+    cond-false _ _ _ (sized_some (length (front ++ rest)) (omega arith))
+    ∙ cond-true _ _ _ (le-leb (length (front ++ rest)) 1073741824 small)
+    ∙ cond-true _ _ _ (eq-eqb (length (front ++ rest) % 4) 0 four)
+    ∙ f.reads rest
+  where
+    sized_some : (size : ℕ) → 0 < size → (size == 0) ≡ false
+    sized_some size some = go (size == 0) refl where
+      go : (t : Bool) → (size == 0) ≡ t → t ≡ false
+      go true is = let none = eqb-true size 0 is in absurd (omega arith)
+      go false is = refl
+
+-- and as the entry of that address with these arguments
+front_is : (front address tags : List ℕ) → Front front address tags → (rest : List ℕ) → length (front ++ rest) % 4 ≡ 0 → length (front ++ rest) ≤ 1073741824
+    → entry_of (front ++ rest) ≡ (if is_ok (arguments_read (front ++ rest) tags (length front)) then row_read address (arguments_of tags (front ++ rest) (length front)) else None)
+front_is front address tags f rest four small = go (arguments_read (front ++ rest) tags (length front)) refl where
+  parts : Parts
+  parts = record { pattern = address; tags = Some tags; place = length front }
+
+  go : (r : Result ⊤ Fault) → arguments_read (front ++ rest) tags (length front) ≡ r → entry_of (front ++ rest) ≡ cond (is_ok r) (row_read address (arguments_of tags (front ++ rest) (length front))) None
+  go (Err fault) is =
+      cond-false _ _ _ (ap is_ok (front_read front address tags f rest four small ∙ ap (λ (r : Result ⊤ Fault). and_then r (λ _. Ok parts)) is))
+  go (Ok done) is =
+      let read : message_read (front ++ rest) 0 ≡ Ok parts = f.reads rest ∙ ap (λ (r : Result ⊤ Fault). and_then r (λ _. Ok parts)) is in
+      let parted : parts_of (front ++ rest) ≡ Some parts = cond-true _ _ _ (eq-eqb (length (front ++ rest) % 4) 0 four) ∙ ap result_ok read in
+      let arguments : message_arguments (front ++ rest) ≡ arguments_of tags (front ++ rest) (length front) =
+      ap (λ (o : Option Parts). option_map_or (arguments_in (front ++ rest)) o []) parted ∙ cond-false _ _ _ f.known in
+      cond-true _ _ _ (ap is_ok (front_read front address tags f rest four small ∙ ap (λ (r : Result ⊤ Fault). and_then r (λ _. Ok parts)) is))
+      ∙ (λ i. row_read (f.pattern rest i) (arguments i))
+
+split : (bytes front : List ℕ) → starts_with ◌==◌ bytes front ≡ true → bytes ≡ front ++ drop (length front) bytes
+split bytes front is = (starts_is Decides-eqb bytes front (starts_with ◌==◌ bytes front) refl).0 is
+
+front_entry : (front address tags : List ℕ) → Front front address tags → (bytes : List ℕ) → starts_with ◌==◌ bytes front ≡ true → length bytes % 4 ≡ 0 → length bytes ≤ 1073741824
+    → entry_of bytes ≡ (if is_ok (arguments_read bytes tags (length front)) then row_read address (arguments_of tags bytes (length front)) else None)
+front_entry front address tags f bytes begins four small =
+    let parts = split bytes front begins in
+    subst (λ (l : List ℕ). entry_of l ≡ (if is_ok (arguments_read l tags (length front)) then row_read address (arguments_of tags l (length front)) else None)) (sym parts)
+    (front_is front address tags f (drop (length front) bytes) (subst (λ (l : List ℕ). length l % 4 ≡ 0) parts four) (subst (λ (l : List ℕ). length l ≤ 1073741824) parts small))
+
+-- where the arguments are read, and where they aren't
+pub front_some : (front address tags : List ℕ) → Front front address tags → (bytes : List ℕ) → starts_with ◌==◌ bytes front ≡ true → length bytes % 4 ≡ 0 → length bytes ≤ 1073741824
+    → is_ok (arguments_read bytes tags (length front)) ≡ true → entry_of bytes ≡ row_read address (arguments_of tags bytes (length front))
+front_some front address tags f bytes begins four small read = front_entry front address tags f bytes begins four small ∙ cond-true _ _ _ read
+
+pub front_none : (front address tags : List ℕ) → Front front address tags → (bytes : List ℕ) → starts_with ◌==◌ bytes front ≡ true → length bytes % 4 ≡ 0 → length bytes ≤ 1073741824
+    → is_ok (arguments_read bytes tags (length front)) ≡ false → entry_of bytes ≡ None
+front_none front address tags f bytes begins four small read = front_entry front address tags f bytes begins four small ∙ cond-false _ _ _ read
+
+-- a lawful pattern, and known tags behind it, under which arguments are read
+read_front : (address tags bytes : List ℕ) (end start : ℕ) → begins 47 (drop 0 bytes) ≡ true → StartsWithString bytes 0 address → 0 + length (string address) ≡ end → IsPattern address
+    → end < length bytes → begins 44 (drop end bytes) ≡ true → StartsWithString bytes end (44 ∷ tags) → end + length (string (44 ∷ tags)) ≡ start
+    → list_any is_unknown tags ≡ false → brackets_read 0 (end + 1) tags (end + 1) ≡ Ok tt
+    → message_read bytes 0 ≡ and_then (arguments_read bytes tags start) (λ _. Ok (record { pattern = address; tags = Some tags; place = start }))
+unfolding message_read
+read_front address tags bytes end start slash named ends lawful more comma listed starts none even =
+    cond-true _ _ _ slash
+    ∙ ap (λ (r : Result (List ℕ × ℕ) Fault). and_then r (λ text. lawful_read bytes 0 text.0 text.1)) (string_again bytes 0 address named)
+    ∙ ap (lawful_read bytes 0 address) ends
+    ∙ ap (λ (o : Option PatternFault). unless_fault 0 o (comma_read bytes address end)) (IsPattern-read address lawful)
+    ∙ cond-false _ _ _ (not_end end bytes more)
+    ∙ cond-true _ _ _ comma
+    ∙ ap (λ (r : Result (List ℕ × ℕ) Fault). and_then r (λ text. and_then (tags_read bytes (end + 1) (drop 1 text.0) text.1) (λ _. Ok (record { pattern = address; tags = Some (drop 1 text.0); place = text.1 })))) (string_again bytes end (44 ∷ tags) listed)
+    ∙ ap (λ (place : ℕ). and_then (tags_read bytes (end + 1) tags place) (λ _. Ok (record { pattern = address; tags = Some tags; place = place }))) starts
+    ∙ ap (λ (r : Result ⊤ Fault). and_then r (λ _. Ok (record { pattern = address; tags = Some tags; place = start }))) (cond-false _ _ _ none ∙ ap (λ (r : Result ⊤ Fault). and_then r (λ _. arguments_read bytes tags start)) even)
+
+-- The six fronts.
+
+abbrev pub enrol_bytes : List ℕ
+enrol_bytes = codes "/osc/enrol" ++ 0 ∷ 0 ∷ codes ",ii" ++ 0 ∷ []
+
+abbrev pub submit_bytes : List ℕ
+submit_bytes = codes "/osc/submit" ++ 0 ∷ codes ",ibihi" ++ 0 ∷ 0 ∷ []
+
+abbrev pub add_bytes : List ℕ
+add_bytes = codes "/osc/add" ++ 0 ∷ 0 ∷ 0 ∷ 0 ∷ codes ",isiii" ++ 0 ∷ 0 ∷ []
+
+abbrev pub remove_bytes : List ℕ
+remove_bytes = codes "/osc/remove" ++ 0 ∷ codes ",isii" ++ 0 ∷ 0 ∷ 0 ∷ []
+
+abbrev pub tick_bytes : List ℕ
+tick_bytes = codes "/osc/tick" ++ 0 ∷ 0 ∷ 0 ∷ codes ",itit" ++ 0 ∷ 0 ∷ 0 ∷ []
+
+abbrev pub release_bytes : List ℕ
+release_bytes = codes "/osc/release" ++ 0 ∷ 0 ∷ 0 ∷ 0 ∷ codes ",ihb" ++ 0 ∷ 0 ∷ 0 ∷ 0 ∷ []
+
+pub enrol_front : Front enrol_bytes (codes "/osc/enrol") (codes "ii")
+enrol_front = record {
+  reads = λ rest.
+      read_front (codes "/osc/enrol") (codes "ii") (enrol_bytes ++ rest) 12 16 refl (record { no_zero = refl; written = record { rest = drop 12 (enrol_bytes ++ rest); parts = refl } }) refl enrol_address
+      (omega arith) refl (record { no_zero = refl; written = record { rest = rest; parts = refl } }) refl refl refl;
+  pattern = λ rest. refl;
+  known = refl;
+  some = omega arith;
+}
+
+pub submit_front : Front submit_bytes (codes "/osc/submit") (codes "ibihi")
+submit_front = record {
+  reads = λ rest.
+      read_front (codes "/osc/submit") (codes "ibihi") (submit_bytes ++ rest) 12 20 refl (record { no_zero = refl; written = record { rest = drop 12 (submit_bytes ++ rest); parts = refl } }) refl submit_address
+      (omega arith) refl (record { no_zero = refl; written = record { rest = rest; parts = refl } }) refl refl refl;
+  pattern = λ rest. refl;
+  known = refl;
+  some = omega arith;
+}
+
+pub add_front : Front add_bytes (codes "/osc/add") (codes "isiii")
+add_front = record {
+  reads = λ rest.
+      read_front (codes "/osc/add") (codes "isiii") (add_bytes ++ rest) 12 20 refl (record { no_zero = refl; written = record { rest = drop 12 (add_bytes ++ rest); parts = refl } }) refl add_address
+      (omega arith) refl (record { no_zero = refl; written = record { rest = rest; parts = refl } }) refl refl refl;
+  pattern = λ rest. refl;
+  known = refl;
+  some = omega arith;
+}
+
+pub remove_front : Front remove_bytes (codes "/osc/remove") (codes "isii")
+remove_front = record {
+  reads = λ rest.
+      read_front (codes "/osc/remove") (codes "isii") (remove_bytes ++ rest) 12 20 refl (record { no_zero = refl; written = record { rest = drop 12 (remove_bytes ++ rest); parts = refl } }) refl remove_address
+      (omega arith) refl (record { no_zero = refl; written = record { rest = rest; parts = refl } }) refl refl refl;
+  pattern = λ rest. refl;
+  known = refl;
+  some = omega arith;
+}
+
+pub tick_front : Front tick_bytes (codes "/osc/tick") (codes "itit")
+tick_front = record {
+  reads = λ rest.
+      read_front (codes "/osc/tick") (codes "itit") (tick_bytes ++ rest) 12 20 refl (record { no_zero = refl; written = record { rest = drop 12 (tick_bytes ++ rest); parts = refl } }) refl tick_address
+      (omega arith) refl (record { no_zero = refl; written = record { rest = rest; parts = refl } }) refl refl refl;
+  pattern = λ rest. refl;
+  known = refl;
+  some = omega arith;
+}
+
+pub release_front : Front release_bytes (codes "/osc/release") (codes "ihb")
+release_front = record {
+  reads = λ rest.
+      read_front (codes "/osc/release") (codes "ihb") (release_bytes ++ rest) 16 24 refl (record { no_zero = refl; written = record { rest = drop 16 (release_bytes ++ rest); parts = refl } }) refl release_address
+      (omega arith) refl (record { no_zero = refl; written = record { rest = rest; parts = refl } }) refl refl refl;
+  pattern = λ rest. refl;
+  known = refl;
+  some = omega arith;
+}
+
+-- A message with none of them is no entry.
+
+begun : (bytes text front : List ℕ) → sized bytes ≡ sized text → starts_with ◌==◌ text front ≡ true → starts_with ◌==◌ bytes front ≡ true
+begun bytes text front same is = ap (λ (l : List ℕ). starts_with ◌==◌ (drop 4 l) front) same ∙ is
+
+-- no front is that of the bytes
+pub record BeginsNone (bytes : List ℕ) : Type 0 where
+  pub enrol_none : starts_with ◌==◌ bytes enrol_bytes ≡ false
+  pub submit_none : starts_with ◌==◌ bytes submit_bytes ≡ false
+  pub add_none : starts_with ◌==◌ bytes add_bytes ≡ false
+  pub remove_none : starts_with ◌==◌ bytes remove_bytes ≡ false
+  pub tick_none : starts_with ◌==◌ bytes tick_bytes ≡ false
+  pub release_none : starts_with ◌==◌ bytes release_bytes ≡ false
+
+apart : (b : Bool) → b ≡ true → b ≡ false → ⊥
+apart b is isnt = absurd (cc)
+
+row_begins : (bytes : List ℕ) (caller : ℕ) (event : Event) (answer : Answer) → BeginsNone bytes → FitsRow (row_of caller event answer) → sized bytes ≡ entry_text caller event answer → ⊥
+row_begins bytes caller enrol answer none fit same = go (enrolled answer) fit same where
+  go : (o : Option ℤ) → FitsRow (option_map (enrol_row caller) o) → sized bytes ≡ option_map_or (λ row. sized (row_text row)) (option_map (enrol_row caller) o) [] → ⊥
+  go None f is = f
+  go (Some told) f is = apart (starts_with ◌==◌ bytes enrol_bytes) (begun bytes (row_text (enrol_row caller told)) enrol_bytes is refl) none.enrol_none
+row_begins bytes caller (submit packet) answer none fit same = go (submitted answer) fit same where
+  go : (o : Option (ℕ × ℕ × ℕ)) → FitsRow (option_map (submit_row caller packet) o) → sized bytes ≡ option_map_or (λ row. sized (row_text row)) (option_map (submit_row caller packet) o) [] → ⊥
+  go None f is = f
+  go (Some told) f is = apart (starts_with ◌==◌ bytes submit_bytes) (begun bytes (row_text (submit_row caller packet told)) submit_bytes is refl) none.submit_none
+row_begins bytes caller (add address) answer none fit same = go (adding answer) fit same where
+  go : (o : Option (ℕ × ℕ × ℕ)) → FitsRow (option_map (add_row caller address) o) → sized bytes ≡ option_map_or (λ row. sized (row_text row)) (option_map (add_row caller address) o) [] → ⊥
+  go None f is = f
+  go (Some told) f is = apart (starts_with ◌==◌ bytes add_bytes) (begun bytes (row_text (add_row caller address told)) add_bytes is refl) none.add_none
+row_begins bytes caller (remove address) answer none fit same = go (removing answer) fit same where
+  go : (o : Option (ℕ × ℕ)) → FitsRow (option_map (remove_row caller address) o) → sized bytes ≡ option_map_or (λ row. sized (row_text row)) (option_map (remove_row caller address) o) [] → ⊥
+  go None f is = f
+  go (Some told) f is = apart (starts_with ◌==◌ bytes remove_bytes) (begun bytes (row_text (remove_row caller address told)) remove_bytes is refl) none.remove_none
+row_begins bytes caller (tick moment) answer none fit same = go (ticking moment answer) fit same where
+  go : (o : Option (ℕ × ℕ)) → FitsRow (option_map (tick_row caller moment) o) → sized bytes ≡ option_map_or (λ row. sized (row_text row)) (option_map (tick_row caller moment) o) [] → ⊥
+  go None f is = f
+  go (Some told) f is = apart (starts_with ◌==◌ bytes tick_bytes) (begun bytes (row_text (tick_row caller moment told)) tick_bytes is refl) none.tick_none
+row_begins bytes caller release answer none fit same = go (releasing answer) fit same where
+  go : (o : Option (ℕ × List Hit)) → FitsRow (option_map (λ r. release_row caller r.0 (hits_text r.1)) o) → sized bytes ≡ option_map_or (λ row. sized (row_text row)) (option_map (λ r. release_row caller r.0 (hits_text r.1)) o) [] → ⊥
+  go None f is = f
+  go (Some told) f is = apart (starts_with ◌==◌ bytes release_bytes) (begun bytes (row_text (release_row caller told.0 (hits_text told.1))) release_bytes is refl) none.release_none
+
+pub other_none : (bytes : List ℕ) → AreBytes bytes → BeginsNone bytes → None ≡ entry_of bytes
+other_none bytes all none = go (entry_of bytes) refl where
+  go : (o : Option Recorded) → entry_of bytes ≡ o → None ≡ o
+  go None is = refl
+  go (Some e) is =
+      let was = entry_was bytes e all is in
+      absurd (row_begins bytes e.caller e.event e.answer none was.lawful.fits was.text)
