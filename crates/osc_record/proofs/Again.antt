@@ -42,7 +42,8 @@ message_again bytes rest some four small =
     let within : length bytes ≤ length (bytes ++ rest) = omega (arith, length-append bytes rest) in
     cond-true _ _ _ (le-leb 4 (length (sized bytes ++ rest)) (omega arith))
     ∙ ap (λ n. bytes_of_size n (bytes ++ rest)) size
-    ∙ cond-true _ _ _ (all_three _ _ _ (lt-ltb 0 (length bytes) some) (eq-eqb (length bytes % 4) 0 four) (le-leb (length bytes) (length (bytes ++ rest)) within))
+    ∙ cond-true _ _ _
+        (all_three _ _ _ (lt-ltb 0 (length bytes) some) (eq-eqb (length bytes % 4) 0 four) (le-leb (length bytes) (length (bytes ++ rest)) within))
     ∙ ap (λ l. Some l) (take_front bytes rest)
 
 pub sized_length : (message : List ℕ) → 4 + length message ≡ length (sized message)
@@ -51,10 +52,14 @@ sized_length message = omega arith
 -- an entry that is written is read, whatever follows it
 pub entry_first_again : (caller : ℕ) (event : Event) (answer : Answer) (rest : List ℕ) (limit place : ℕ) → IsRecordable caller event answer
     → place + length (entry_text caller event answer) ≤ limit → limit ≤ 1073741824
-    → entry_first limit place (entry_text caller event answer ++ rest) ≡ Some (record { caller = caller; event = event; answer = answer }, length (entry_text caller event answer))
-entry_first_again caller event answer rest limit place is fits small = go (row_of caller event answer) is.fits (row_lawful caller event answer is.fits) (entry_again caller event answer is.sound) fits where
-  go : (o : Option Row) → FitsRow o → LawfulRow o → ReadAs (record { caller = caller; event = event; answer = answer }) o → place + length (option_map_or (λ row. sized (row_text row)) o []) ≤ limit
-      → entry_first limit place (option_map_or (λ row. sized (row_text row)) o [] ++ rest) ≡ Some (record { caller = caller; event = event; answer = answer }, length (option_map_or (λ row. sized (row_text row)) o []))
+    → entry_first limit place (entry_text caller event answer ++ rest)
+        ≡ Some (record { caller = caller; event = event; answer = answer }, length (entry_text caller event answer))
+entry_first_again caller event answer rest limit place is fits small =
+    go (row_of caller event answer) is.fits (row_lawful caller event answer is.fits) (entry_again caller event answer is.sound) fits where
+  go : (o : Option Row) → FitsRow o → LawfulRow o → ReadAs (record { caller = caller; event = event; answer = answer }) o
+      → place + length (option_map_or (λ row. sized (row_text row)) o []) ≤ limit
+      → entry_first limit place (option_map_or (λ row. sized (row_text row)) o [] ++ rest)
+          ≡ Some (record { caller = caller; event = event; answer = answer }, length (option_map_or (λ row. sized (row_text row)) o []))
   go None f l r within = absurd f
   go (Some row) f l r within =
       let message : List ℕ = row_text row in
@@ -62,7 +67,8 @@ entry_first_again caller event answer rest limit place is fits small = go (row_o
       let four : length message % 4 ≡ 0 = text_fours (known row.address row.arguments) l in
       let most : length message ≤ 1073741824 = omega (arith, length-append (to_be_bytes w32 (length message)) message) in
       let read : entry_of message ≡ Some (record { caller = caller; event = event; answer = answer }) = row_again row l most ∙ r in
-      ap (option_and_then (λ m. if nat_le (place + 4 + length m) limit then option_map (λ entry. (entry, 4 + length m)) (entry_of m) else None)) (message_again message rest some four (omega arith))
+      ap (option_and_then (λ m. if nat_le (place + 4 + length m) limit then option_map (λ entry. (entry, 4 + length m)) (entry_of m) else None))
+          (message_again message rest some four (omega arith))
       ∙ cond-true _ _ _ (le-leb (place + 4 + length message) limit (omega arith))
       ∙ ap (option_map (λ entry. (entry, 4 + length message))) read
       ∙ ap (λ (n : ℕ). Some (record { caller = caller; event = event; answer = answer }, n)) (sized_length message)
@@ -74,7 +80,8 @@ none_some : {X : Type 0} (x : X) → ◌≡◌ {A = Option X} None (Some x) → 
 none_some x e = cc
 
 -- the message that bytes begin with is that of more bytes
-pub message_more : (bytes next message : List ℕ) → message_first bytes ≡ Some message → (message_first (bytes ++ next) ≡ Some message) × (4 + length message ≤ length bytes)
+pub message_more : (bytes next message : List ℕ) → message_first bytes ≡ Some message
+    → (message_first (bytes ++ next) ≡ Some message) × (4 + length message ≤ length bytes)
 message_more bytes next message is =
     let size = from_be_bytes w32 (take 4 bytes) in
     let outer = cond_gives (nat_le 4 (length bytes)) (bytes_of_size size (drop 4 bytes)) message is in
@@ -87,25 +94,30 @@ message_more bytes next message is =
     let back : drop 4 (bytes ++ next) ≡ drop 4 bytes ++ next = drop-append-le 4 bytes next four in
     let longer : size ≤ length (drop 4 bytes ++ next) = omega (arith, length-append (drop 4 bytes) next) in
     let long : 4 ≤ length (bytes ++ next) = omega (arith, length-append bytes next) in (
-      cond-true (nat_le 4 (length (bytes ++ next))) (bytes_of_size (from_be_bytes w32 (take 4 (bytes ++ next))) (drop 4 (bytes ++ next))) None (le-leb 4 (length (bytes ++ next)) long)
+      cond-true (nat_le 4 (length (bytes ++ next))) (bytes_of_size (from_be_bytes w32 (take 4 (bytes ++ next))) (drop 4 (bytes ++ next))) None
+          (le-leb 4 (length (bytes ++ next)) long)
           ∙ (λ i. bytes_of_size (from_be_bytes w32 (front i)) (back i))
-          ∙ cond-true (nat_lt 0 size && size % 4 == 0 && nat_le size (length (drop 4 bytes ++ next))) (Some (take size (drop 4 bytes ++ next))) None (all_three _ _ _ tests.0 tests.1 (le-leb size (length (drop 4 bytes ++ next)) longer))
+          ∙ cond-true (nat_lt 0 size && size % 4 == 0 && nat_le size (length (drop 4 bytes ++ next))) (Some (take size (drop 4 bytes ++ next))) None
+              (all_three _ _ _ tests.0 tests.1 (le-leb size (length (drop 4 bytes ++ next)) longer))
           ∙ ap (λ (l : List ℕ). Some l) (take-append-le size (drop 4 bytes) next within)
           ∙ ap (λ (l : List ℕ). Some l) same,
       omega (arith, length-drop 4 bytes, length-take-le size (drop 4 bytes) within, ap length same),
     )
 
 -- so is the entry
-pub first_more : (limit place : ℕ) (bytes next : List ℕ) (first : Recorded × ℕ) → entry_first limit place bytes ≡ Some first → (entry_first limit place (bytes ++ next) ≡ Some first) × (first.1 ≤ length bytes) × (4 ≤ first.1)
+pub first_more : (limit place : ℕ) (bytes next : List ℕ) (first : Recorded × ℕ) → entry_first limit place bytes ≡ Some first
+    → (entry_first limit place (bytes ++ next) ≡ Some first) × (first.1 ≤ length bytes) × (4 ≤ first.1)
 first_more limit place bytes next first is = go (message_first bytes) refl is where
-  go : (o : Option (List ℕ)) → message_first bytes ≡ o → option_and_then (λ m. if nat_le (place + 4 + length m) limit then option_map (λ entry. (entry, 4 + length m)) (entry_of m) else None) o ≡ Some first
+  go : (o : Option (List ℕ)) → message_first bytes ≡ o
+      → option_and_then (λ m. if nat_le (place + 4 + length m) limit then option_map (λ entry. (entry, 4 + length m)) (entry_of m) else None) o ≡ Some first
       → (entry_first limit place (bytes ++ next) ≡ Some first) × (first.1 ≤ length bytes) × (4 ≤ first.1)
   go None found read = absurd (none_some first read)
   go (Some message) found read =
       let more = message_more bytes next message found in
       let inner = cond_gives (nat_le (place + 4 + length message) limit) (option_map (λ entry. (entry, 4 + length message)) (entry_of message)) first read in
       let size : 4 + length message ≡ first.1 = sized_by (entry_of message) inner.1 in (
-        ap (option_and_then (λ m. if nat_le (place + 4 + length m) limit then option_map (λ entry. (entry, 4 + length m)) (entry_of m) else None)) more.0 ∙ read,
+        ap (option_and_then (λ m. if nat_le (place + 4 + length m) limit then option_map (λ entry. (entry, 4 + length m)) (entry_of m) else None)) more.0
+            ∙ read,
         omega (arith, more.1),
         omega arith,
       )
@@ -122,7 +134,8 @@ ok_is : {X : Type 0} (x y : X) → ◌≡◌ {A = Result X ℕ} (Ok x) (Ok y) �
 ok_is x y e = cc
 
 -- an entry alone is read
-read_one : (most limit place : ℕ) (next : List ℕ) (entry : Recorded) → 0 < most → 0 < length next → entry_first limit place next ≡ Some (entry, length next) → entries_read most limit place next ≡ Ok (record { at = place; entry = entry } ∷ [])
+read_one : (most limit place : ℕ) (next : List ℕ) (entry : Recorded) → 0 < most → 0 < length next → entry_first limit place next ≡ Some (entry, length next)
+    → entries_read most limit place next ≡ Ok (record { at = place; entry = entry } ∷ [])
 read_one most limit place [] entry some long first = absurd (omega arith)
 read_one zero limit place (byte ∷ next) entry some long first = absurd (omega arith)
 read_one (suc most) limit place (byte ∷ next) entry some long first =
@@ -133,7 +146,8 @@ read_one (suc most) limit place (byte ∷ next) entry some long first =
     ∙ ap (onto_read (record { at = place; entry = entry })) (read_none most limit (place + length all))
 
 -- what is read stays the same with one more entry behind it
-pub entries_more : (most more limit place : ℕ) (bytes next : List ℕ) (xs : List Placed) (entry : Recorded) → entries_read most limit place bytes ≡ Ok xs → most < more
+pub entries_more : (most more limit place : ℕ) (bytes next : List ℕ) (xs : List Placed) (entry : Recorded) → entries_read most limit place bytes ≡ Ok xs
+    → most < more
     → entry_first limit (place + length bytes) next ≡ Some (entry, length next) → 0 < length next
     → entries_read more limit place (bytes ++ next) ≡ Ok (xs ++ record { at = place + length bytes; entry = entry } ∷ [])
 entries_more most zero limit place bytes next xs entry read fewer first some = absurd (omega arith)
@@ -144,15 +158,20 @@ entries_more most (suc more) limit place [] next xs entry read fewer first some 
     ∙ (λ i. Ok (none i ++ record { at = sym here i; entry = entry } ∷ []))
 entries_more zero (suc more) limit place (byte ∷ bytes) next xs entry read fewer first some = absurd (cc)
 entries_more (suc most) (suc more) limit place (byte ∷ bytes) next xs entry read fewer first some =
-    go (entry_first limit place (byte ∷ bytes)) refl read (λ size ys rest there. entries_more most more limit (place + size) (drop size (byte ∷ bytes)) next ys entry rest (omega arith) there some)
+    go (entry_first limit place (byte ∷ bytes)) refl read
+        (λ size ys rest there. entries_more most more limit (place + size) (drop size (byte ∷ bytes)) next ys entry rest (omega arith) there some)
   where
-    go : (o : Option (Recorded × ℕ)) → entry_first limit place (byte ∷ bytes) ≡ o → before_read place o (λ size. entries_read most limit (place + size) (drop size (byte ∷ bytes))) ≡ Ok xs
-        → ((size : ℕ) (ys : List Placed) → entries_read most limit (place + size) (drop size (byte ∷ bytes)) ≡ Ok ys → entry_first limit (place + size + length (drop size (byte ∷ bytes))) next ≡ Some (entry, length next)
-        → entries_read more limit (place + size) (drop size (byte ∷ bytes) ++ next) ≡ Ok (ys ++ record { at = place + size + length (drop size (byte ∷ bytes)); entry = entry } ∷ []))
+    go : (o : Option (Recorded × ℕ)) → entry_first limit place (byte ∷ bytes) ≡ o
+        → before_read place o (λ size. entries_read most limit (place + size) (drop size (byte ∷ bytes))) ≡ Ok xs
+        → ((size : ℕ) (ys : List Placed) → entries_read most limit (place + size) (drop size (byte ∷ bytes)) ≡ Ok ys
+            → entry_first limit (place + size + length (drop size (byte ∷ bytes))) next ≡ Some (entry, length next)
+        → entries_read more limit (place + size) (drop size (byte ∷ bytes) ++ next)
+            ≡ Ok (ys ++ record { at = place + size + length (drop size (byte ∷ bytes)); entry = entry } ∷ []))
         → entries_read (suc more) limit place ((byte ∷ bytes) ++ next) ≡ Ok (xs ++ record { at = place + length (byte ∷ bytes); entry = entry } ∷ [])
     go None found is again = absurd (cc)
     go (Some head) found is again = inner (entries_read most limit (place + head.1) (drop head.1 (byte ∷ bytes))) refl is where
-      inner : (r : Result (List Placed) ℕ) → entries_read most limit (place + head.1) (drop head.1 (byte ∷ bytes)) ≡ r → onto_read (record { at = place; entry = head.0 }) r ≡ Ok xs
+      inner : (r : Result (List Placed) ℕ) → entries_read most limit (place + head.1) (drop head.1 (byte ∷ bytes)) ≡ r
+          → onto_read (record { at = place; entry = head.0 }) r ≡ Ok xs
           → entries_read (suc more) limit place ((byte ∷ bytes) ++ next) ≡ Ok (xs ++ record { at = place + length (byte ∷ bytes); entry = entry } ∷ [])
       inner (Err at) rest e = absurd (cc)
       inner (Ok ys) rest e =
@@ -161,14 +180,18 @@ entries_more (suc most) (suc more) limit place (byte ∷ bytes) next xs entry re
           let same : place + head.1 + length (drop head.1 (byte ∷ bytes)) ≡ place + length (byte ∷ bytes) = omega (arith, length-drop head.1 (byte ∷ bytes)) in
           let all : record { at = place; entry = head.0 } ∷ ys ≡ xs = ok_is (record { at = place; entry = head.0 } ∷ ys) xs e in
           ap (λ o. before_read place o (λ size. entries_read more limit (place + size) (drop size ((byte ∷ bytes) ++ next)))) more_is.0
-          ∙ ap (λ l. onto_read (record { at = place; entry = head.0 }) (entries_read more limit (place + head.1) l)) (drop-append-le head.1 (byte ∷ bytes) next size)
-          ∙ ap (onto_read (record { at = place; entry = head.0 })) (again head.1 ys rest (subst (λ (p : ℕ). entry_first limit p next ≡ Some (entry, length next)) (sym same) first))
+          ∙ ap (λ l. onto_read (record { at = place; entry = head.0 }) (entries_read more limit (place + head.1) l))
+              (drop-append-le head.1 (byte ∷ bytes) next size)
+          ∙ ap (onto_read (record { at = place; entry = head.0 }))
+              (again head.1 ys rest (subst (λ (p : ℕ). entry_first limit p next ≡ Some (entry, length next)) (sym same) first))
           ∙ (λ i. Ok (all i ++ record { at = same i; entry = entry } ∷ []))
 
 -- the first entry is the one that the bytes begin with
 first_in : (limit place : ℕ) (bytes : List ℕ) (first : Recorded × ℕ) → entry_first limit place bytes ≡ Some first → entry_in bytes ≡ Some first.0
 first_in limit place bytes first is = go (message_first bytes) refl is where
-  go : (o : Option (List ℕ)) → message_first bytes ≡ o → option_and_then (λ m. if nat_le (place + 4 + length m) limit then option_map (λ entry. (entry, 4 + length m)) (entry_of m) else None) o ≡ Some first → entry_in bytes ≡ Some first.0
+  go : (o : Option (List ℕ)) → message_first bytes ≡ o
+      → option_and_then (λ m. if nat_le (place + 4 + length m) limit then option_map (λ entry. (entry, 4 + length m)) (entry_of m) else None) o ≡ Some first
+      → entry_in bytes ≡ Some first.0
   go None found read = absurd (none_some first read)
   go (Some message) found read =
       let inner = cond_gives (nat_le (place + 4 + length message) limit) (option_map (λ entry. (entry, 4 + length message)) (entry_of message)) first read in
@@ -178,8 +201,10 @@ first_in limit place bytes first is = go (message_first bytes) refl is where
       by None e = absurd (none_some first e)
       by (Some entry) e = ap (λ (p : Recorded × ℕ). Some p.0) (some_is (entry, 4 + length message) first e)
 
-pub entry_in_again : (caller : ℕ) (event : Event) (answer : Answer) (rest : List ℕ) → IsRecordable caller event answer → length (entry_text caller event answer) ≤ 1073741824
+pub entry_in_again : (caller : ℕ) (event : Event) (answer : Answer) (rest : List ℕ) → IsRecordable caller event answer
+    → length (entry_text caller event answer) ≤ 1073741824
     → entry_in (entry_text caller event answer ++ rest) ≡ Some (record { caller = caller; event = event; answer = answer })
 entry_in_again caller event answer rest is small =
-    first_in 1073741824 0 (entry_text caller event answer ++ rest) (record { caller = caller; event = event; answer = answer }, length (entry_text caller event answer))
+    first_in 1073741824 0 (entry_text caller event answer ++ rest)
+        (record { caller = caller; event = event; answer = answer }, length (entry_text caller event answer))
     (entry_first_again caller event answer rest 1073741824 0 is (omega arith) (omega arith))

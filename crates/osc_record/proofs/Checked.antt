@@ -14,7 +14,8 @@ ok_entries limits (Ok entries) is = refl
 ok_entries limits (Err at) is = absurd (cc)
 
 -- the entries are read where a walk ends well
-pub read_after : (limits : Limits) (bytes : List ℕ) → Ok tt ≡ outcome (entries_at limits.recording 56 (drop 56 bytes)) → IsTrue (is_ok (entries_after limits bytes))
+pub read_after : (limits : Limits) (bytes : List ℕ) → Ok tt ≡ outcome (entries_at limits.recording 56 (drop 56 bytes))
+    → IsTrue (is_ok (entries_after limits bytes))
 read_after limits bytes is = ok_entries limits (entries_after limits bytes) (is ∙ sym (ap outcome (after_is limits bytes)))
 
 err_entries : (at : ℕ) (r : Result (List Placed) ℕ) → Err at ≡ outcome r → r ≡ Err at
@@ -24,19 +25,25 @@ err_entries at (Err place) is = same at place is where
   same a b e = cc
 
 -- the place where a walk ends
-pub err_after : (limits : Limits) (bytes : List ℕ) (at : ℕ) → Err at ≡ outcome (entries_at limits.recording 56 (drop 56 bytes)) → entries_after limits bytes ≡ Err at
+pub err_after : (limits : Limits) (bytes : List ℕ) (at : ℕ) → Err at ≡ outcome (entries_at limits.recording 56 (drop 56 bytes))
+    → entries_after limits bytes ≡ Err at
 err_after limits bytes at is = err_entries at (entries_after limits bytes) (is ∙ sym (ap outcome (after_is limits bytes)))
 
-read_at : (bytes : List ℕ) (limits : Limits) → header_read bytes ≡ Some limits → (r : Result (List Placed) ℕ) → entries_after limits bytes ≡ r → record_read bytes ≡ elim r [ Ok entries ↦ Ok (limits, entries) | Err at ↦ Err at ]
-read_at bytes limits header r is = ap (with_entries bytes) header ∙ ap (λ (e : Result (List Placed) ℕ). elim e [ Ok entries ↦ Ok (limits, entries) | Err at ↦ Err at ]) is
+read_at : (bytes : List ℕ) (limits : Limits) → header_read bytes ≡ Some limits → (r : Result (List Placed) ℕ) → entries_after limits bytes ≡ r
+    → record_read bytes ≡ elim r [ Ok entries ↦ Ok (limits, entries) | Err at ↦ Err at ]
+read_at bytes limits header r is =
+    ap (with_entries bytes) header ∙ ap (λ (e : Result (List Placed) ℕ). elim e [ Ok entries ↦ Ok (limits, entries) | Err at ↦ Err at ]) is
 
-pub record_ok : (bytes : List ℕ) (limits : Limits) → header_read bytes ≡ Some limits → Ok tt ≡ outcome (entries_at limits.recording 56 (drop 56 bytes)) → record_read bytes ≡ Ok (limits, placed_in (entries_after limits bytes))
+pub record_ok : (bytes : List ℕ) (limits : Limits) → header_read bytes ≡ Some limits → Ok tt ≡ outcome (entries_at limits.recording 56 (drop 56 bytes))
+    → record_read bytes ≡ Ok (limits, placed_in (entries_after limits bytes))
 record_ok bytes limits header is = go (entries_after limits bytes) refl (is ∙ sym (ap outcome (after_is limits bytes))) where
-  go : (r : Result (List Placed) ℕ) → entries_after limits bytes ≡ r → Ok tt ≡ outcome r → record_read bytes ≡ Ok (limits, placed_in (entries_after limits bytes))
+  go : (r : Result (List Placed) ℕ) → entries_after limits bytes ≡ r → Ok tt ≡ outcome r
+      → record_read bytes ≡ Ok (limits, placed_in (entries_after limits bytes))
   go (Ok entries) e o = read_at bytes limits header (Ok entries) e ∙ ap (λ (r : Result (List Placed) ℕ). Ok (limits, placed_in r)) (sym e)
   go (Err at) e o = absurd (cc)
 
-pub record_err : (bytes : List ℕ) (limits : Limits) (at : ℕ) → header_read bytes ≡ Some limits → Err at ≡ outcome (entries_at limits.recording 56 (drop 56 bytes)) → record_read bytes ≡ Err at
+pub record_err : (bytes : List ℕ) (limits : Limits) (at : ℕ) → header_read bytes ≡ Some limits
+    → Err at ≡ outcome (entries_at limits.recording 56 (drop 56 bytes)) → record_read bytes ≡ Err at
 record_err bytes limits at header is = go (entries_after limits bytes) refl (is ∙ sym (ap outcome (after_is limits bytes))) where
   go : (r : Result (List Placed) ℕ) → entries_after limits bytes ≡ r → Err at ≡ outcome r → record_read bytes ≡ Err at
   go (Ok entries) e o = absurd (cc)
@@ -48,17 +55,21 @@ ok_is : (x y : Limits × List Placed) → ◌≡◌ {A = Result (Limits × List 
 ok_is x y e = cc
 
 -- a recording is read as itself
-pub complete_ok : (bytes : List ℕ) (caps : Limits) (placed : List Placed) → record_read bytes ≡ Ok (caps, placed) → (limits : Limits) (entries : List Recorded) → IsRecord limits entries → bytes ≡ record_text limits entries → (caps ≡ limits) × (placed ≡ placed_from 56 entries)
+pub complete_ok : (bytes : List ℕ) (caps : Limits) (placed : List Placed) → record_read bytes ≡ Ok (caps, placed) → (limits : Limits) (entries : List Recorded)
+    → IsRecord limits entries → bytes ≡ record_text limits entries → (caps ≡ limits) × (placed ≡ placed_from 56 entries)
 complete_ok bytes caps placed read limits entries is same =
     let both = ok_is (caps, placed) (limits, placed_from 56 entries) (sym read ∙ ap record_read same ∙ record_again limits entries is) in
     (ap (λ (p : Limits × List Placed). p.0) both, ap (λ (p : Limits × List Placed). p.1) both)
 
-pub complete_err : (bytes : List ℕ) (at : ℕ) → record_read bytes ≡ Err at → (limits : Limits) (entries : List Recorded) → IsRecord limits entries → bytes ≡ record_text limits entries → ⊥
-complete_err bytes at read limits entries is same = clash (limits, placed_from 56 entries) (sym read ∙ ap record_read same ∙ record_again limits entries is) where
+pub complete_err : (bytes : List ℕ) (at : ℕ) → record_read bytes ≡ Err at → (limits : Limits) (entries : List Recorded) → IsRecord limits entries
+    → bytes ≡ record_text limits entries → ⊥
+complete_err bytes at read limits entries is same =
+    clash (limits, placed_from 56 entries) (sym read ∙ ap record_read same ∙ record_again limits entries is) where
   clash : (x : Limits × List Placed) → ◌≡◌ {A = Result (Limits × List Placed) ℕ} (Err at) (Ok x) → ⊥
   clash x e = cc
 
-pub complete_header : (bytes : List ℕ) → header_read bytes ≡ None → (limits : Limits) (entries : List Recorded) → IsRecord limits entries → bytes ≡ record_text limits entries → ⊥
+pub complete_header : (bytes : List ℕ) → header_read bytes ≡ None → (limits : Limits) (entries : List Recorded) → IsRecord limits entries
+    → bytes ≡ record_text limits entries → ⊥
 complete_header bytes none limits entries is same =
     clash limits (sym none ∙ ap header_read same ∙ header_again limits (flat_map (λ (e : Recorded). entry_text e.caller e.event e.answer) entries) is.lawful)
   where

@@ -20,7 +20,8 @@ use Rattle.osc_record.proofs.ArgumentsRead.{some_is}
 use Rattle.osc_record.proofs.Spelled.{Spelled, spelled, front_bytes, rest_bytes, message_bytes, header_was, none_some, both_true}
 use Rattle.osc_record.proofs.RowsRead.{row_was, back_bytes, mapped}
 
-no_row : (b1 b2 b3 b4 b5 b6 : Bool) (e : Recorded) → cond {A = Option Recorded} b1 None (cond b2 None (cond b3 None (cond b4 None (cond b5 None (cond b6 None None))))) ≡ Some e → ⊥
+no_row : (b1 b2 b3 b4 b5 b6 : Bool) (e : Recorded)
+    → cond {A = Option Recorded} b1 None (cond b2 None (cond b3 None (cond b4 None (cond b5 None (cond b6 None None))))) ≡ Some e → ⊥
 no_row true b2 b3 b4 b5 b6 e is = none_some e is
 no_row false true b3 b4 b5 b6 e is = none_some e is
 no_row false false true b4 b5 b6 e is = none_some e is
@@ -40,7 +41,11 @@ entry_was message e small is =
     go (spelled message small inner.0) inner.1
   where
     go : Spelled message ⊎ (message_arguments message ≡ []) → row_read (pattern_of message) (message_arguments message) ≡ Some e → EntryWas message e
-    go (inr none) read = absurd (no_row (bytes_eq (pattern_of message) (codes "/osc/enrol")) (bytes_eq (pattern_of message) (codes "/osc/submit")) (bytes_eq (pattern_of message) (codes "/osc/add")) (bytes_eq (pattern_of message) (codes "/osc/remove")) (bytes_eq (pattern_of message) (codes "/osc/tick")) (bytes_eq (pattern_of message) (codes "/osc/release")) e (ap (row_read (pattern_of message)) (sym none) ∙ read))
+    go (inr none) read =
+        absurd (no_row (bytes_eq (pattern_of message) (codes "/osc/enrol")) (bytes_eq (pattern_of message) (codes "/osc/submit"))
+        (bytes_eq (pattern_of message) (codes "/osc/add")) (bytes_eq (pattern_of message) (codes "/osc/remove"))
+        (bytes_eq (pattern_of message) (codes "/osc/tick")) (bytes_eq (pattern_of message) (codes "/osc/release")) e
+        (ap (row_read (pattern_of message)) (sym none) ∙ read))
     go (inl s) read =
         let tags : List ℕ = tag_string (map tag_of (message_arguments message)) in
         let atoms : List ℕ = flat_map atom_of (message_arguments message) in
@@ -62,7 +67,8 @@ first_was bytes message small is =
     let within : size ≤ length (drop 4 bytes) = leb-true size (length (drop 4 bytes)) tests.2 in
     let same : take size (drop 4 bytes) ≡ message = some_is (take size (drop 4 bytes)) message inner.1 in
     let count : length message ≡ size = sym (ap length same) ∙ length-take-le size (drop 4 bytes) within in
-    let word_is : to_be_bytes w32 (length message) ≡ take 4 bytes = be_bytes_4 (take 4 bytes) (length message) (length-take-le 4 bytes four) (front_bytes 4 bytes small) count in
+    let word_is : to_be_bytes w32 (length message) ≡ take 4 bytes =
+        be_bytes_4 (take 4 bytes) (length message) (length-take-le 4 bytes four) (front_bytes 4 bytes small) count in
     let behind : drop size (drop 4 bytes) ≡ drop (4 + length message) bytes = drop-drop size 4 bytes ∙ ap (λ n. drop (4 + n) bytes) (sym count) in
     sym (take-append-drop 4 bytes) ∙ ap (λ l. take 4 bytes ++ l) (sym (take-append-drop size (drop 4 bytes)))
     ∙ (λ i. sym word_is i ++ (same i ++ behind i))
@@ -75,9 +81,12 @@ pub record FirstWas (limit place : ℕ) (bytes : List ℕ) (first : Recorded × 
   pub size : length (entry_text first.0.caller first.0.event first.0.answer) ≡ first.1
   pub within : place + first.1 ≤ limit
 
-pub entry_first_was : (limit place : ℕ) (bytes : List ℕ) (first : Recorded × ℕ) → AreBytes bytes → entry_first limit place bytes ≡ Some first → FirstWas limit place bytes first
+pub entry_first_was : (limit place : ℕ) (bytes : List ℕ) (first : Recorded × ℕ) → AreBytes bytes → entry_first limit place bytes ≡ Some first
+    → FirstWas limit place bytes first
 entry_first_was limit place bytes first small is = go (message_first bytes) refl is where
-  go : (o : Option (List ℕ)) → message_first bytes ≡ o → option_and_then (λ m. if nat_le (place + 4 + length m) limit then option_map (λ entry. (entry, 4 + length m)) (entry_of m) else None) o ≡ Some first → FirstWas limit place bytes first
+  go : (o : Option (List ℕ)) → message_first bytes ≡ o
+      → option_and_then (λ m. if nat_le (place + 4 + length m) limit then option_map (λ entry. (entry, 4 + length m)) (entry_of m) else None) o ≡ Some first
+      → FirstWas limit place bytes first
   go None found read = absurd (none_some first read)
   go (Some message) found read =
       let inner = cond_gives (nat_le (place + 4 + length message) limit) (option_map (λ entry. (entry, 4 + length message)) (entry_of message)) first read in
@@ -100,19 +109,26 @@ pub record EntriesWere (limit place : ℕ) (bytes : List ℕ) (xs : List Placed)
 ok_is : (x y : List Placed) → ◌≡◌ {A = Result (List Placed) ℕ} (Ok x) (Ok y) → x ≡ y
 ok_is x y e = cc
 
-pub entries_were : (most limit place : ℕ) (bytes : List ℕ) (xs : List Placed) → AreBytes bytes → place ≤ limit → entries_read most limit place bytes ≡ Ok xs → EntriesWere limit place bytes xs
-entries_were zero limit place [] xs small inside read = subst (EntriesWere limit place []) (ok_is [] xs read) (record { text = refl; all = tt; within = omega arith })
-entries_were (suc most) limit place [] xs small inside read = subst (EntriesWere limit place []) (ok_is [] xs read) (record { text = refl; all = tt; within = omega arith })
+pub entries_were : (most limit place : ℕ) (bytes : List ℕ) (xs : List Placed) → AreBytes bytes → place ≤ limit → entries_read most limit place bytes ≡ Ok xs
+    → EntriesWere limit place bytes xs
+entries_were zero limit place [] xs small inside read =
+    subst (EntriesWere limit place []) (ok_is [] xs read) (record { text = refl; all = tt; within = omega arith })
+entries_were (suc most) limit place [] xs small inside read =
+    subst (EntriesWere limit place []) (ok_is [] xs read) (record { text = refl; all = tt; within = omega arith })
 entries_were zero limit place (byte ∷ bytes) xs small inside read = absurd (cc)
 entries_were (suc most) limit place (byte ∷ bytes) xs small inside read =
-    go (entry_first limit place (byte ∷ bytes)) refl read (λ size ys rest there. entries_were most limit (place + size) (drop size (byte ∷ bytes)) ys (rest_bytes size (byte ∷ bytes) small) there rest)
+    go (entry_first limit place (byte ∷ bytes)) refl read
+        (λ size ys rest there. entries_were most limit (place + size) (drop size (byte ∷ bytes)) ys (rest_bytes size (byte ∷ bytes) small) there rest)
   where
-    go : (o : Option (Recorded × ℕ)) → entry_first limit place (byte ∷ bytes) ≡ o → before_read place o (λ size. entries_read most limit (place + size) (drop size (byte ∷ bytes))) ≡ Ok xs
-        → ((size : ℕ) (ys : List Placed) → entries_read most limit (place + size) (drop size (byte ∷ bytes)) ≡ Ok ys → place + size ≤ limit → EntriesWere limit (place + size) (drop size (byte ∷ bytes)) ys)
+    go : (o : Option (Recorded × ℕ)) → entry_first limit place (byte ∷ bytes) ≡ o
+        → before_read place o (λ size. entries_read most limit (place + size) (drop size (byte ∷ bytes))) ≡ Ok xs
+        → ((size : ℕ) (ys : List Placed) → entries_read most limit (place + size) (drop size (byte ∷ bytes)) ≡ Ok ys → place + size ≤ limit
+            → EntriesWere limit (place + size) (drop size (byte ∷ bytes)) ys)
         → EntriesWere limit place (byte ∷ bytes) xs
     go None found is more = absurd (cc)
     go (Some head) found is more = inner (entries_read most limit (place + head.1) (drop head.1 (byte ∷ bytes))) refl is where
-      inner : (r : Result (List Placed) ℕ) → entries_read most limit (place + head.1) (drop head.1 (byte ∷ bytes)) ≡ r → onto_read (record { at = place; entry = head.0 }) r ≡ Ok xs → EntriesWere limit place (byte ∷ bytes) xs
+      inner : (r : Result (List Placed) ℕ) → entries_read most limit (place + head.1) (drop head.1 (byte ∷ bytes)) ≡ r
+          → onto_read (record { at = place; entry = head.0 }) r ≡ Ok xs → EntriesWere limit place (byte ∷ bytes) xs
       inner (Err at) rest e = absurd (cc)
       inner (Ok ys) rest e =
           let first = entry_first_was limit place (byte ∷ bytes) head small found in
@@ -181,7 +197,8 @@ pub record RecordWas (bytes : List ℕ) (limits : Limits) (entries : List Record
   pub lawful : IsRecord limits entries
   pub text : bytes ≡ record_text limits entries
 
-pub record_was : (bytes : List ℕ) (limits : Limits) → AreBytes bytes → header_read bytes ≡ Some limits → IsTrue (is_ok (entries_after limits bytes)) → RecordWas bytes limits (map (λ (p : Placed). p.entry) (placed_in (entries_after limits bytes)))
+pub record_was : (bytes : List ℕ) (limits : Limits) → AreBytes bytes → header_read bytes ≡ Some limits → IsTrue (is_ok (entries_after limits bytes))
+    → RecordWas bytes limits (map (λ (p : Placed). p.entry) (placed_in (entries_after limits bytes)))
 record_was bytes limits small header read = go (entries_after limits bytes) refl read where
   go : (r : Result (List Placed) ℕ) → entries_after limits bytes ≡ r → IsTrue (is_ok r) → RecordWas bytes limits (map (λ (p : Placed). p.entry) (placed_in r))
   go (Err at) e ok = absurd (cc)
@@ -192,6 +209,7 @@ record_was bytes limits small header read = go (entries_after limits bytes) refl
       let text : bytes ≡ record_text limits (map (λ (p : Placed). p.entry) xs) = first.text ∙ ap (λ l. header_text limits ++ l) were.text in
       let within = were.within in
       record {
-        lawful = record { lawful = first.range; all = were.all; fits = omega (arith, sym (ap length text), ap length first.text, length-append (header_text limits) (drop 56 bytes)) };
+        lawful = record { lawful = first.range; all = were.all;
+            fits = omega (arith, sym (ap length text), ap length first.text, length-append (header_text limits) (drop 56 bytes)) };
         text = text;
       }

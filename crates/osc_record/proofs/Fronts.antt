@@ -28,7 +28,8 @@ use Rattle.osc_record.proofs.EntriesRead.{entry_was}
 
 -- what is read of bytes that begin with an address and tags
 pub record Front (front address tags : List ℕ) : Type 0 where
-  pub reads : (rest : List ℕ) → message_read (front ++ rest) 0 ≡ and_then (arguments_read (front ++ rest) tags (length front)) (λ _. Ok (record { pattern = address; tags = Some tags; place = length front }))
+  pub reads : (rest : List ℕ) → message_read (front ++ rest) 0
+      ≡ and_then (arguments_read (front ++ rest) tags (length front)) (λ _. Ok (record { pattern = address; tags = Some tags; place = length front }))
   pub pattern : (rest : List ℕ) → pattern_of (front ++ rest) ≡ address
   pub known : list_any is_unknown tags ≡ false
   pub some : 0 < length front
@@ -42,7 +43,8 @@ not_end place bytes before = go (place == length bytes) refl where
 
 -- so they are read as a message with these parts, if the arguments are read
 front_read : (front address tags : List ℕ) → Front front address tags → (rest : List ℕ) → length (front ++ rest) % 4 ≡ 0 → length (front ++ rest) ≤ 1073741824
-    → limited_read 1073741824 (front ++ rest) ≡ and_then (arguments_read (front ++ rest) tags (length front)) (λ _. Ok (record { pattern = address; tags = Some tags; place = length front }))
+    → limited_read 1073741824 (front ++ rest)
+        ≡ and_then (arguments_read (front ++ rest) tags (length front)) (λ _. Ok (record { pattern = address; tags = Some tags; place = length front }))
 front_read front address tags f rest four small =
     let some = f.some in
     let size = length-append front rest in
@@ -59,12 +61,14 @@ front_read front address tags f rest four small =
 
 -- and as the entry of that address with these arguments
 front_is : (front address tags : List ℕ) → Front front address tags → (rest : List ℕ) → length (front ++ rest) % 4 ≡ 0 → length (front ++ rest) ≤ 1073741824
-    → entry_of (front ++ rest) ≡ (if is_ok (arguments_read (front ++ rest) tags (length front)) then row_read address (arguments_of tags (front ++ rest) (length front)) else None)
+    → entry_of (front ++ rest)
+        ≡ (if is_ok (arguments_read (front ++ rest) tags (length front)) then row_read address (arguments_of tags (front ++ rest) (length front)) else None)
 front_is front address tags f rest four small = go (arguments_read (front ++ rest) tags (length front)) refl where
   parts : Parts
   parts = record { pattern = address; tags = Some tags; place = length front }
 
-  go : (r : Result ⊤ Fault) → arguments_read (front ++ rest) tags (length front) ≡ r → entry_of (front ++ rest) ≡ cond (is_ok r) (row_read address (arguments_of tags (front ++ rest) (length front))) None
+  go : (r : Result ⊤ Fault) → arguments_read (front ++ rest) tags (length front) ≡ r
+      → entry_of (front ++ rest) ≡ cond (is_ok r) (row_read address (arguments_of tags (front ++ rest) (length front))) None
   go (Err fault) is =
       cond-false _ _ _ (ap is_ok (front_read front address tags f rest four small ∙ ap (λ (r : Result ⊤ Fault). and_then r (λ _. Ok parts)) is))
   go (Ok done) is =
@@ -78,24 +82,30 @@ front_is front address tags f rest four small = go (arguments_read (front ++ res
 split : (bytes front : List ℕ) → starts_with ◌==◌ bytes front ≡ true → bytes ≡ front ++ drop (length front) bytes
 split bytes front is = (starts_is Decides-eqb bytes front (starts_with ◌==◌ bytes front) refl).0 is
 
-front_entry : (front address tags : List ℕ) → Front front address tags → (bytes : List ℕ) → starts_with ◌==◌ bytes front ≡ true → length bytes % 4 ≡ 0 → length bytes ≤ 1073741824
+front_entry : (front address tags : List ℕ) → Front front address tags → (bytes : List ℕ) → starts_with ◌==◌ bytes front ≡ true → length bytes % 4 ≡ 0
+    → length bytes ≤ 1073741824
     → entry_of bytes ≡ (if is_ok (arguments_read bytes tags (length front)) then row_read address (arguments_of tags bytes (length front)) else None)
 front_entry front address tags f bytes begins four small =
     let parts = split bytes front begins in
-    subst (λ (l : List ℕ). entry_of l ≡ (if is_ok (arguments_read l tags (length front)) then row_read address (arguments_of tags l (length front)) else None)) (sym parts)
-    (front_is front address tags f (drop (length front) bytes) (subst (λ (l : List ℕ). length l % 4 ≡ 0) parts four) (subst (λ (l : List ℕ). length l ≤ 1073741824) parts small))
+    subst (λ (l : List ℕ). entry_of l ≡ (if is_ok (arguments_read l tags (length front)) then row_read address (arguments_of tags l (length front)) else None))
+        (sym parts)
+    (front_is front address tags f (drop (length front) bytes) (subst (λ (l : List ℕ). length l % 4 ≡ 0) parts four)
+        (subst (λ (l : List ℕ). length l ≤ 1073741824) parts small))
 
 -- where the arguments are read, and where they aren't
-pub front_some : (front address tags : List ℕ) → Front front address tags → (bytes : List ℕ) → starts_with ◌==◌ bytes front ≡ true → length bytes % 4 ≡ 0 → length bytes ≤ 1073741824
+pub front_some : (front address tags : List ℕ) → Front front address tags → (bytes : List ℕ) → starts_with ◌==◌ bytes front ≡ true → length bytes % 4 ≡ 0
+    → length bytes ≤ 1073741824
     → is_ok (arguments_read bytes tags (length front)) ≡ true → entry_of bytes ≡ row_read address (arguments_of tags bytes (length front))
 front_some front address tags f bytes begins four small read = front_entry front address tags f bytes begins four small ∙ cond-true _ _ _ read
 
-pub front_none : (front address tags : List ℕ) → Front front address tags → (bytes : List ℕ) → starts_with ◌==◌ bytes front ≡ true → length bytes % 4 ≡ 0 → length bytes ≤ 1073741824
+pub front_none : (front address tags : List ℕ) → Front front address tags → (bytes : List ℕ) → starts_with ◌==◌ bytes front ≡ true → length bytes % 4 ≡ 0
+    → length bytes ≤ 1073741824
     → is_ok (arguments_read bytes tags (length front)) ≡ false → entry_of bytes ≡ None
 front_none front address tags f bytes begins four small read = front_entry front address tags f bytes begins four small ∙ cond-false _ _ _ read
 
 -- a lawful pattern, and known tags behind it, under which arguments are read
-read_front : (address tags bytes : List ℕ) (end start : ℕ) → begins 47 (drop 0 bytes) ≡ true → StartsWithString bytes 0 address → 0 + length (string address) ≡ end → IsPattern address
+read_front : (address tags bytes : List ℕ) (end start : ℕ) → begins 47 (drop 0 bytes) ≡ true → StartsWithString bytes 0 address
+    → 0 + length (string address) ≡ end → IsPattern address
     → end < length bytes → begins 44 (drop end bytes) ≡ true → StartsWithString bytes end (44 ∷ tags) → end + length (string (44 ∷ tags)) ≡ start
     → list_any is_unknown tags ≡ false → brackets_read 0 (end + 1) tags (end + 1) ≡ Ok tt
     → message_read bytes 0 ≡ and_then (arguments_read bytes tags start) (λ _. Ok (record { pattern = address; tags = Some tags; place = start }))
@@ -107,9 +117,12 @@ read_front address tags bytes end start slash named ends lawful more comma liste
     ∙ ap (λ (o : Option PatternFault). unless_fault 0 o (comma_read bytes address end)) (IsPattern-read address lawful)
     ∙ cond-false _ _ _ (not_end end bytes more)
     ∙ cond-true _ _ _ comma
-    ∙ ap (λ (r : Result (List ℕ × ℕ) Fault). and_then r (λ text. and_then (tags_read bytes (end + 1) (drop 1 text.0) text.1) (λ _. Ok (record { pattern = address; tags = Some (drop 1 text.0); place = text.1 })))) (string_again bytes end (44 ∷ tags) listed)
+    ∙ ap (λ (r : Result (List ℕ × ℕ) Fault). and_then r
+        (λ text. and_then (tags_read bytes (end + 1) (drop 1 text.0) text.1)
+        (λ _. Ok (record { pattern = address; tags = Some (drop 1 text.0); place = text.1 })))) (string_again bytes end (44 ∷ tags) listed)
     ∙ ap (λ (place : ℕ). and_then (tags_read bytes (end + 1) tags place) (λ _. Ok (record { pattern = address; tags = Some tags; place = place }))) starts
-    ∙ ap (λ (r : Result ⊤ Fault). and_then r (λ _. Ok (record { pattern = address; tags = Some tags; place = start }))) (cond-false _ _ _ none ∙ ap (λ (r : Result ⊤ Fault). and_then r (λ _. arguments_read bytes tags start)) even)
+    ∙ ap (λ (r : Result ⊤ Fault). and_then r (λ _. Ok (record { pattern = address; tags = Some tags; place = start })))
+        (cond-false _ _ _ none ∙ ap (λ (r : Result ⊤ Fault). and_then r (λ _. arguments_read bytes tags start)) even)
 
 -- The six fronts.
 
@@ -134,7 +147,8 @@ release_bytes = codes "/osc/release" ++ 0 ∷ 0 ∷ 0 ∷ 0 ∷ codes ",ihb" ++ 
 pub enrol_front : Front enrol_bytes (codes "/osc/enrol") (codes "ii")
 enrol_front = record {
   reads = λ rest.
-      read_front (codes "/osc/enrol") (codes "ii") (enrol_bytes ++ rest) 12 16 refl (record { no_zero = refl; written = record { rest = drop 12 (enrol_bytes ++ rest); parts = refl } }) refl enrol_address
+      read_front (codes "/osc/enrol") (codes "ii") (enrol_bytes ++ rest) 12 16 refl
+          (record { no_zero = refl; written = record { rest = drop 12 (enrol_bytes ++ rest); parts = refl } }) refl enrol_address
       (omega arith) refl (record { no_zero = refl; written = record { rest = rest; parts = refl } }) refl refl refl;
   pattern = λ rest. refl;
   known = refl;
@@ -144,7 +158,8 @@ enrol_front = record {
 pub submit_front : Front submit_bytes (codes "/osc/submit") (codes "ibihi")
 submit_front = record {
   reads = λ rest.
-      read_front (codes "/osc/submit") (codes "ibihi") (submit_bytes ++ rest) 12 20 refl (record { no_zero = refl; written = record { rest = drop 12 (submit_bytes ++ rest); parts = refl } }) refl submit_address
+      read_front (codes "/osc/submit") (codes "ibihi") (submit_bytes ++ rest) 12 20 refl
+          (record { no_zero = refl; written = record { rest = drop 12 (submit_bytes ++ rest); parts = refl } }) refl submit_address
       (omega arith) refl (record { no_zero = refl; written = record { rest = rest; parts = refl } }) refl refl refl;
   pattern = λ rest. refl;
   known = refl;
@@ -154,7 +169,8 @@ submit_front = record {
 pub add_front : Front add_bytes (codes "/osc/add") (codes "isiii")
 add_front = record {
   reads = λ rest.
-      read_front (codes "/osc/add") (codes "isiii") (add_bytes ++ rest) 12 20 refl (record { no_zero = refl; written = record { rest = drop 12 (add_bytes ++ rest); parts = refl } }) refl add_address
+      read_front (codes "/osc/add") (codes "isiii") (add_bytes ++ rest) 12 20 refl
+          (record { no_zero = refl; written = record { rest = drop 12 (add_bytes ++ rest); parts = refl } }) refl add_address
       (omega arith) refl (record { no_zero = refl; written = record { rest = rest; parts = refl } }) refl refl refl;
   pattern = λ rest. refl;
   known = refl;
@@ -164,7 +180,8 @@ add_front = record {
 pub remove_front : Front remove_bytes (codes "/osc/remove") (codes "isii")
 remove_front = record {
   reads = λ rest.
-      read_front (codes "/osc/remove") (codes "isii") (remove_bytes ++ rest) 12 20 refl (record { no_zero = refl; written = record { rest = drop 12 (remove_bytes ++ rest); parts = refl } }) refl remove_address
+      read_front (codes "/osc/remove") (codes "isii") (remove_bytes ++ rest) 12 20 refl
+          (record { no_zero = refl; written = record { rest = drop 12 (remove_bytes ++ rest); parts = refl } }) refl remove_address
       (omega arith) refl (record { no_zero = refl; written = record { rest = rest; parts = refl } }) refl refl refl;
   pattern = λ rest. refl;
   known = refl;
@@ -174,7 +191,8 @@ remove_front = record {
 pub tick_front : Front tick_bytes (codes "/osc/tick") (codes "itit")
 tick_front = record {
   reads = λ rest.
-      read_front (codes "/osc/tick") (codes "itit") (tick_bytes ++ rest) 12 20 refl (record { no_zero = refl; written = record { rest = drop 12 (tick_bytes ++ rest); parts = refl } }) refl tick_address
+      read_front (codes "/osc/tick") (codes "itit") (tick_bytes ++ rest) 12 20 refl
+          (record { no_zero = refl; written = record { rest = drop 12 (tick_bytes ++ rest); parts = refl } }) refl tick_address
       (omega arith) refl (record { no_zero = refl; written = record { rest = rest; parts = refl } }) refl refl refl;
   pattern = λ rest. refl;
   known = refl;
@@ -184,7 +202,8 @@ tick_front = record {
 pub release_front : Front release_bytes (codes "/osc/release") (codes "ihb")
 release_front = record {
   reads = λ rest.
-      read_front (codes "/osc/release") (codes "ihb") (release_bytes ++ rest) 16 24 refl (record { no_zero = refl; written = record { rest = drop 16 (release_bytes ++ rest); parts = refl } }) refl release_address
+      read_front (codes "/osc/release") (codes "ihb") (release_bytes ++ rest) 16 24 refl
+          (record { no_zero = refl; written = record { rest = drop 16 (release_bytes ++ rest); parts = refl } }) refl release_address
       (omega arith) refl (record { no_zero = refl; written = record { rest = rest; parts = refl } }) refl refl refl;
   pattern = λ rest. refl;
   known = refl;
@@ -208,31 +227,42 @@ pub record BeginsNone (bytes : List ℕ) : Type 0 where
 apart : (b : Bool) → b ≡ true → b ≡ false → ⊥
 apart b is isnt = absurd (cc)
 
-row_begins : (bytes : List ℕ) (caller : ℕ) (event : Event) (answer : Answer) → BeginsNone bytes → FitsRow (row_of caller event answer) → sized bytes ≡ entry_text caller event answer → ⊥
+row_begins : (bytes : List ℕ) (caller : ℕ) (event : Event) (answer : Answer) → BeginsNone bytes → FitsRow (row_of caller event answer)
+    → sized bytes ≡ entry_text caller event answer → ⊥
 row_begins bytes caller enrol answer none fit same = go (enrolled answer) fit same where
-  go : (o : Option ℤ) → FitsRow (option_map (enrol_row caller) o) → sized bytes ≡ option_map_or (λ row. sized (row_text row)) (option_map (enrol_row caller) o) [] → ⊥
+  go : (o : Option ℤ) → FitsRow (option_map (enrol_row caller) o)
+      → sized bytes ≡ option_map_or (λ row. sized (row_text row)) (option_map (enrol_row caller) o) [] → ⊥
   go None f is = f
   go (Some told) f is = apart (starts_with ◌==◌ bytes enrol_bytes) (begun bytes (row_text (enrol_row caller told)) enrol_bytes is refl) none.enrol_none
 row_begins bytes caller (submit packet) answer none fit same = go (submitted answer) fit same where
-  go : (o : Option (ℕ × ℕ × ℕ)) → FitsRow (option_map (submit_row caller packet) o) → sized bytes ≡ option_map_or (λ row. sized (row_text row)) (option_map (submit_row caller packet) o) [] → ⊥
+  go : (o : Option (ℕ × ℕ × ℕ)) → FitsRow (option_map (submit_row caller packet) o)
+      → sized bytes ≡ option_map_or (λ row. sized (row_text row)) (option_map (submit_row caller packet) o) [] → ⊥
   go None f is = f
-  go (Some told) f is = apart (starts_with ◌==◌ bytes submit_bytes) (begun bytes (row_text (submit_row caller packet told)) submit_bytes is refl) none.submit_none
+  go (Some told) f is =
+      apart (starts_with ◌==◌ bytes submit_bytes) (begun bytes (row_text (submit_row caller packet told)) submit_bytes is refl) none.submit_none
 row_begins bytes caller (add address) answer none fit same = go (adding answer) fit same where
-  go : (o : Option (ℕ × ℕ × ℕ)) → FitsRow (option_map (add_row caller address) o) → sized bytes ≡ option_map_or (λ row. sized (row_text row)) (option_map (add_row caller address) o) [] → ⊥
+  go : (o : Option (ℕ × ℕ × ℕ)) → FitsRow (option_map (add_row caller address) o)
+      → sized bytes ≡ option_map_or (λ row. sized (row_text row)) (option_map (add_row caller address) o) [] → ⊥
   go None f is = f
   go (Some told) f is = apart (starts_with ◌==◌ bytes add_bytes) (begun bytes (row_text (add_row caller address told)) add_bytes is refl) none.add_none
 row_begins bytes caller (remove address) answer none fit same = go (removing answer) fit same where
-  go : (o : Option (ℕ × ℕ)) → FitsRow (option_map (remove_row caller address) o) → sized bytes ≡ option_map_or (λ row. sized (row_text row)) (option_map (remove_row caller address) o) [] → ⊥
+  go : (o : Option (ℕ × ℕ)) → FitsRow (option_map (remove_row caller address) o)
+      → sized bytes ≡ option_map_or (λ row. sized (row_text row)) (option_map (remove_row caller address) o) [] → ⊥
   go None f is = f
-  go (Some told) f is = apart (starts_with ◌==◌ bytes remove_bytes) (begun bytes (row_text (remove_row caller address told)) remove_bytes is refl) none.remove_none
+  go (Some told) f is =
+      apart (starts_with ◌==◌ bytes remove_bytes) (begun bytes (row_text (remove_row caller address told)) remove_bytes is refl) none.remove_none
 row_begins bytes caller (tick moment) answer none fit same = go (ticking moment answer) fit same where
-  go : (o : Option (ℕ × ℕ)) → FitsRow (option_map (tick_row caller moment) o) → sized bytes ≡ option_map_or (λ row. sized (row_text row)) (option_map (tick_row caller moment) o) [] → ⊥
+  go : (o : Option (ℕ × ℕ)) → FitsRow (option_map (tick_row caller moment) o)
+      → sized bytes ≡ option_map_or (λ row. sized (row_text row)) (option_map (tick_row caller moment) o) [] → ⊥
   go None f is = f
   go (Some told) f is = apart (starts_with ◌==◌ bytes tick_bytes) (begun bytes (row_text (tick_row caller moment told)) tick_bytes is refl) none.tick_none
 row_begins bytes caller release answer none fit same = go (releasing answer) fit same where
-  go : (o : Option (ℕ × List Hit)) → FitsRow (option_map (λ r. release_row caller r.0 (hits_text r.1)) o) → sized bytes ≡ option_map_or (λ row. sized (row_text row)) (option_map (λ r. release_row caller r.0 (hits_text r.1)) o) [] → ⊥
+  go : (o : Option (ℕ × List Hit)) → FitsRow (option_map (λ r. release_row caller r.0 (hits_text r.1)) o)
+      → sized bytes ≡ option_map_or (λ row. sized (row_text row)) (option_map (λ r. release_row caller r.0 (hits_text r.1)) o) [] → ⊥
   go None f is = f
-  go (Some told) f is = apart (starts_with ◌==◌ bytes release_bytes) (begun bytes (row_text (release_row caller told.0 (hits_text told.1))) release_bytes is refl) none.release_none
+  go (Some told) f is =
+      apart (starts_with ◌==◌ bytes release_bytes) (begun bytes (row_text (release_row caller told.0 (hits_text told.1))) release_bytes is refl)
+      none.release_none
 
 pub other_none : (bytes : List ℕ) → AreBytes bytes → BeginsNone bytes → None ≡ entry_of bytes
 other_none bytes all none = go (entry_of bytes) refl where

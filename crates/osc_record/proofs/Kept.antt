@@ -23,13 +23,19 @@ map_more : (xs : List Placed) (x : Placed) → map (λ (p : Placed). p.entry) (x
 map_more [] x = refl
 map_more (y ∷ xs) x = ap (λ (l : List Recorded). y.entry ∷ l) (map_more xs x)
 
-texts_more : (xs : List Recorded) (x : Recorded) → flat_map (λ (e : Recorded). entry_text e.caller e.event e.answer) (xs ++ x ∷ []) ≡ flat_map (λ (e : Recorded). entry_text e.caller e.event e.answer) xs ++ entry_text x.caller x.event x.answer
+texts_more : (xs : List Recorded) (x : Recorded)
+    → flat_map (λ (e : Recorded). entry_text e.caller e.event e.answer) (xs ++ x ∷ [])
+    ≡ flat_map (λ (e : Recorded). entry_text e.caller e.event e.answer) xs ++ entry_text x.caller x.event x.answer
 texts_more [] x = append-nil (entry_text x.caller x.event x.answer)
-texts_more (y ∷ xs) x = ap (λ (l : List ℕ). entry_text y.caller y.event y.answer ++ l) (texts_more xs x) ∙ sym (append_assoc (entry_text y.caller y.event y.answer) (flat_map (λ (e : Recorded). entry_text e.caller e.event e.answer) xs) (entry_text x.caller x.event x.answer))
+texts_more (y ∷ xs) x = ap (λ (l : List ℕ). entry_text y.caller y.event y.answer ++ l) (texts_more xs x)
+    ∙ sym (append_assoc (entry_text y.caller y.event y.answer) (flat_map (λ (e : Recorded). entry_text e.caller e.event e.answer) xs)
+    (entry_text x.caller x.event x.answer))
 
 -- the bytes with one more entry
-pub record_more : (limits : Limits) (xs : List Recorded) (x : Recorded) → record_text limits (xs ++ x ∷ []) ≡ record_text limits xs ++ entry_text x.caller x.event x.answer
-record_more limits xs x = ap (λ (l : List ℕ). header_text limits ++ l) (texts_more xs x) ∙ sym (append_assoc (header_text limits) (flat_map (λ (e : Recorded). entry_text e.caller e.event e.answer) xs) (entry_text x.caller x.event x.answer))
+pub record_more : (limits : Limits) (xs : List Recorded) (x : Recorded)
+    → record_text limits (xs ++ x ∷ []) ≡ record_text limits xs ++ entry_text x.caller x.event x.answer
+record_more limits xs x = ap (λ (l : List ℕ). header_text limits ++ l) (texts_more xs x)
+    ∙ sym (append_assoc (header_text limits) (flat_map (λ (e : Recorded). entry_text e.caller e.event e.answer) xs) (entry_text x.caller x.event x.answer))
 
 -- whole entries with one more
 pub record MoreWhole (limits : Limits) (bytes : List ℕ) (entry : Recorded) : Type 0 where
@@ -55,24 +61,28 @@ whole_more limits bytes entry whole is fits small = go (entries_after limits byt
       ap (entries_read (length (bytes ++ text)) limits.recording 56) (drop-append-le 56 bytes text header)
       ∙ entries_more (length bytes) (length (bytes ++ text)) limits.recording 56 rest text xs entry read fewer first some in
       let entries : entries_in limits (bytes ++ text) ≡ entries_in limits bytes ++ entry ∷ [] =
-      ap entries_of new ∙ map_more xs (record { at = 56 + length rest; entry = entry }) ∙ ap (λ (l : List Recorded). l ++ entry ∷ []) (sym (ap entries_of read)) in
+      ap entries_of new ∙ map_more xs (record { at = 56 + length rest; entry = entry })
+          ∙ ap (λ (l : List Recorded). l ++ entry ∷ []) (sym (ap entries_of read)) in
       record {
         whole = record {
           header = omega (arith, length-append bytes text);
           read = ap is_ok new;
-          spelled = ap (λ (l : List ℕ). l ++ text) whole.spelled ∙ sym (record_more limits (entries_in limits bytes) entry) ∙ ap (record_text limits) (sym entries);
+          spelled = ap (λ (l : List ℕ). l ++ text) whole.spelled ∙ sym (record_more limits (entries_in limits bytes) entry)
+              ∙ ap (record_text limits) (sym entries);
         };
         entries = entries;
       }
 
 -- the kept bytes are those of what they stand for
-pub text_is : (limits : Limits) (bytes : List ℕ) (start caller unit owed capacity : ℕ) → IsKept limits bytes start caller unit owed capacity → recording_text (recording_of limits bytes start caller unit owed) ≡ bytes
+pub text_is : (limits : Limits) (bytes : List ℕ) (start caller unit owed capacity : ℕ) → IsKept limits bytes start caller unit owed capacity
+    → recording_text (recording_of limits bytes start caller unit owed) ≡ bytes
 text_is limits bytes start caller unit owed capacity kept =
     (λ i. sym kept.whole.spelled i ++ sym kept.begun i) ∙ take-append-drop start bytes
 
 pub none_owed : (caller unit owed : ℕ) (bytes : List ℕ) → begun_in caller unit owed bytes ≡ None → owed ≡ 0
 none_owed caller unit owed bytes is = go (owed == 0) refl is where
-  go : (t : Bool) → (owed == 0) ≡ t → cond {A = Option Begun} t None (Some (record { caller = caller; unit = unit; hits = hits_in (drop 44 bytes); owed = owed })) ≡ None → owed ≡ 0
+  go : (t : Bool) → (owed == 0) ≡ t
+      → cond {A = Option Begun} t None (Some (record { caller = caller; unit = unit; hits = hits_in (drop 44 bytes); owed = owed })) ≡ None → owed ≡ 0
   go true e i = eqb-true owed 0 e
   go false e i = absurd (cc)
 
@@ -81,13 +91,16 @@ some_owed caller unit zero bytes some = absurd (some refl)
 some_owed caller unit (suc owed) bytes some = omega arith
 
 -- without a release that is owed hits, all bytes are whole entries
-pub all_whole : (limits : Limits) (bytes : List ℕ) (start caller unit owed capacity : ℕ) → IsKept limits bytes start caller unit owed capacity → (recording_of limits bytes start caller unit owed).begun ≡ None → take start bytes ≡ bytes
+pub all_whole : (limits : Limits) (bytes : List ℕ) (start caller unit owed capacity : ℕ) → IsKept limits bytes start caller unit owed capacity
+    → (recording_of limits bytes start caller unit owed).begun ≡ None → take start bytes ≡ bytes
 all_whole limits bytes start caller unit owed capacity kept none =
     let rest : drop start bytes ≡ [] = kept.begun ∙ ap begun_text none in
     take_all start bytes (omega (arith, ap length rest, length-drop start bytes))
 
 -- whole entries are kept
-pub whole_kept : (limits : Limits) (bytes : List ℕ) (start caller unit owed capacity : ℕ) → AreWhole limits bytes → start ≡ length bytes → owed ≡ 0 → length bytes ≤ limits.recording → limits.recording ≤ 1073741824 → limits.recording ≤ capacity → caller < 2 ^ 31 → unit < 2 ^ 63 → IsKept limits bytes start caller unit owed capacity
+pub whole_kept : (limits : Limits) (bytes : List ℕ) (start caller unit owed capacity : ℕ) → AreWhole limits bytes → start ≡ length bytes → owed ≡ 0
+    → length bytes ≤ limits.recording → limits.recording ≤ 1073741824 → limits.recording ≤ capacity → caller < 2 ^ 31 → unit < 2 ^ 63
+    → IsKept limits bytes start caller unit owed capacity
 whole_kept limits bytes start caller unit owed capacity whole end none room small reserved caller_fits unit_fits =
     let all : take start bytes ≡ bytes = take_all start bytes (omega arith) in
     let rest : drop start bytes ≡ [] = drop_all start bytes (omega arith) in
@@ -103,7 +116,8 @@ whole_kept limits bytes start caller unit owed capacity whole end none room smal
       unit_fits = unit_fits;
     }
 
-pub whole_view : (limits : Limits) (bytes : List ℕ) (start caller unit owed : ℕ) → start ≡ length bytes → owed ≡ 0 → recording_of limits bytes start caller unit owed ≡ record { caps = limits; entries = entries_in limits bytes; begun = None }
+pub whole_view : (limits : Limits) (bytes : List ℕ) (start caller unit owed : ℕ) → start ≡ length bytes → owed ≡ 0
+    → recording_of limits bytes start caller unit owed ≡ record { caps = limits; entries = entries_in limits bytes; begun = None }
 whole_view limits bytes start caller unit owed end none =
     let all : take start bytes ≡ bytes = take_all start bytes (omega arith) in
     λ i. record { caps = limits; entries = entries_in limits (all i); begun = begun_in caller unit (none i) (drop start bytes) }
@@ -116,7 +130,8 @@ pub record Put (limits : Limits) (bytes : List ℕ) (start caller unit owed capa
 pub put_keeps : (limits : Limits) (bytes : List ℕ) (start caller unit owed capacity : ℕ) (entry : Recorded) (new : List ℕ) (end after : ℕ)
     → IsKept limits bytes start caller unit owed capacity → (recording_of limits bytes start caller unit owed).begun ≡ None
     → IsRecordable entry.caller entry.event entry.answer → length bytes + length (entry_text entry.caller entry.event entry.answer) ≤ limits.recording
-    → new ≡ bytes ++ entry_text entry.caller entry.event entry.answer → end ≡ length new → capacity ≤ after → Put limits bytes start caller unit owed capacity entry new end after
+    → new ≡ bytes ++ entry_text entry.caller entry.event entry.answer → end ≡ length new → capacity ≤ after
+        → Put limits bytes start caller unit owed capacity entry new end after
 put_keeps limits bytes start caller unit owed capacity entry new end after kept none is fits out ends more =
     let all = all_whole limits bytes start caller unit owed capacity kept none in
     let owes : owed ≡ 0 = none_owed caller unit owed (drop start bytes) none in
@@ -128,5 +143,7 @@ put_keeps limits bytes start caller unit owed capacity entry new end after kept 
     record {
       kept = whole_kept limits new end caller unit owed after whole ends owes size small (omega arith) kept.caller_fits kept.unit_fits;
       view = whole_view limits new end caller unit owed ends owes
-          ∙ (λ i. record { caps = limits; entries = (ap (entries_in limits) out ∙ grown.entries ∙ ap (λ (l : List ℕ). entries_in limits l ++ entry ∷ []) (sym all)) i; begun = sym none i });
+          ∙ (λ i. record { caps = limits;
+              entries = (ap (entries_in limits) out ∙ grown.entries ∙ ap (λ (l : List ℕ). entries_in limits l ++ entry ∷ []) (sym all)) i; begun =
+              sym none i });
     }

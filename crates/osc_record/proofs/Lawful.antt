@@ -97,12 +97,14 @@ row_lawful caller (tick moment) answer fit = go (ticking moment answer) fit wher
   go None f = tt
   go (Some told) f = (tick_address, f, balanced (105 ∷ 116 ∷ 105 ∷ 116 ∷ []) refl)
 row_lawful caller release answer fit = go (releasing answer) fit where
-  go : (o : Option (ℕ × List Hit)) → FitsRow (option_map (λ r. release_row caller r.0 (hits_text r.1)) o) → LawfulRow (option_map (λ r. release_row caller r.0 (hits_text r.1)) o)
+  go : (o : Option (ℕ × List Hit)) → FitsRow (option_map (λ r. release_row caller r.0 (hits_text r.1)) o)
+      → LawfulRow (option_map (λ r. release_row caller r.0 (hits_text r.1)) o)
   go None f = tt
   go (Some told) f = (release_address, f, balanced (105 ∷ 104 ∷ 98 ∷ []) refl)
 
 -- the entry that a lawful message stands for
-pub row_again : (row : Row) → IsLawful (known row.address row.arguments) → length (row_text row) ≤ 1073741824 → entry_of (row_text row) ≡ row_read row.address row.arguments
+pub row_again : (row : Row) → IsLawful (known row.address row.arguments) → length (row_text row) ≤ 1073741824
+    → entry_of (row_text row) ≡ row_read row.address row.arguments
 row_again row lawful short =
     let form = known row.address row.arguments in
     cond-true _ _ _ (ap is_ok (limited_again 1073741824 (row_text row) form lawful refl short))
@@ -119,7 +121,8 @@ self_eq n = eq-eqb n n refl
 eighths : (hits : List Hit) → (length (hits_text hits) % 8 == 0) ≡ true
 eighths hits = eq-eqb (length (hits_text hits) % 8) 0 (omega (arith, length-hits_text hits))
 
-pub entry_again : (caller : ℕ) (event : Event) (answer : Answer) → IsSound answer → ReadAs (record { caller = caller; event = event; answer = answer }) (row_of caller event answer)
+pub entry_again : (caller : ℕ) (event : Event) (answer : Answer) → IsSound answer
+    → ReadAs (record { caller = caller; event = event; answer = answer }) (row_of caller event answer)
 entry_again caller enrol (number n) sound = refl
 entry_again caller enrol callers_full sound = refl
 entry_again caller (submit packet) (queued first count) sound = refl
@@ -135,7 +138,8 @@ entry_again caller (remove address) (removed id) sound = refl
 entry_again caller (remove address) not_there sound = refl
 entry_again caller (tick moment) ticked sound = rw (self_eq moment) refl
 entry_again caller (tick moment) (clock_back kept) sound = refl
-entry_again caller release (released unit hits) sound = rw (eighths hits) (ap (λ h. Some (record { caller = caller; event = release; answer = released unit h })) (hits_again hits sound))
+entry_again caller release (released unit hits) sound =
+    rw (eighths hits) (ap (λ h. Some (record { caller = caller; event = release; answer = released unit h })) (hits_again hits sound))
 entry_again caller enrol (queued first count) sound = tt
 entry_again caller enrol (units_full room) sound = tt
 entry_again caller enrol (pool_full room) sound = tt

@@ -21,7 +21,8 @@ within_true least most n is = let above = is.above in let below = is.below in rw
 -- limits in their ranges have no fault
 pub no_limit_fault : (limits : Limits) → AreInRange limits → limit_fault limits ≡ None
 no_limit_fault limits is =
-    rw (within_true 1 1048576 limits.units is.units, within_true 1 1048576 limits.blocks is.blocks, within_true 1 65536 limits.methods is.methods, within_true 1 1048576 limits.nodes is.nodes, within_true 1 1024 limits.callers is.callers, within_true 56 1073741824 limits.recording is.recording) refl
+    rw (within_true 1 1048576 limits.units is.units, within_true 1 1048576 limits.blocks is.blocks, within_true 1 65536 limits.methods is.methods, within_true 1 1048576 limits.nodes is.nodes, within_true 1 1024 limits.callers is.callers, within_true 56 1073741824 limits.recording is.recording)
+        refl
 
 small_int : (n : ℕ) → n ≤ 1073741824 → n < 2147483648
 small_int n small = omega arith
@@ -35,7 +36,10 @@ header_lawful limits is =
     let callers = is.callers.below in
     let recording = is.recording.below in
     let fit : AllFit (header_row limits).arguments =
-    (record { sfits = omega arith }, (record { sfits = omega arith }, (record { sfits = omega arith }, (record { sfits = omega arith }, (record { sfits = omega arith }, (record { sfits = omega arith }, (record { sfits = omega arith }, tt))))))) in
+    (record { sfits = omega arith },
+        (record { sfits = omega arith },
+        (record { sfits = omega arith },
+        (record { sfits = omega arith }, (record { sfits = omega arith }, (record { sfits = omega arith }, (record { sfits = omega arith }, tt))))))) in
     (rec_address, fit, balanced (105 ∷ 105 ∷ 105 ∷ 105 ∷ 105 ∷ 105 ∷ 105 ∷ []) refl)
 
 -- the header that is written is read, whatever follows it
@@ -46,21 +50,24 @@ header_again limits rest is =
     let message : List ℕ = row_text (header_row limits) in
     let accepted : is_message 1073741824 message ≡ true = ap is_ok (limited_again 1073741824 message form lawful refl (omega arith)) in
     ap (option_and_then header_of) (message_again message rest (omega arith) refl (omega arith))
-    ∙ (λ i. if accepted i && bytes_eq (pattern_again form lawful i) (codes "/osc/rec") then limits_read (known_arguments_again (codes "/osc/rec") (header_row limits).arguments lawful i) else None)
+    ∙ (λ i. if accepted i && bytes_eq (pattern_again form lawful i) (codes "/osc/rec")
+        then limits_read (known_arguments_again (codes "/osc/rec") (header_row limits).arguments lawful i) else None)
     ∙ ap (λ o. if is_none o then Some limits else None) (no_limit_fault limits is)
 
 -- what is read of some bytes begins with the first entry
 read_first : (most limit place : ℕ) (bytes : List ℕ) (entry : Recorded) (size : ℕ) → 0 < length bytes → entry_first limit place bytes ≡ Some (entry, size)
     → entries_read (suc most) limit place bytes ≡ onto_read (record { at = place; entry = entry }) (entries_read most limit (place + size) (drop size bytes))
 read_first most limit place [] entry size some first = absurd (omega arith)
-read_first most limit place (byte ∷ bytes) entry size some first = ap (λ o. before_read place o (λ size. entries_read most limit (place + size) (drop size (byte ∷ bytes)))) first
+read_first most limit place (byte ∷ bytes) entry size some first =
+    ap (λ o. before_read place o (λ size. entries_read most limit (place + size) (drop size (byte ∷ bytes)))) first
 
 texts : List Recorded → List ℕ
 texts entries = flat_map (λ (e : Recorded). entry_text e.caller e.event e.answer) entries
 
 -- entries that are written one after another are read
 pub entries_again : (entries : List Recorded) (most limit place : ℕ) → AllByRecursion (λ (e : Recorded). IsRecordable e.caller e.event e.answer) entries
-    → length (flat_map (λ (e : Recorded). entry_text e.caller e.event e.answer) entries) ≤ most → place + length (flat_map (λ (e : Recorded). entry_text e.caller e.event e.answer) entries) ≤ limit → limit ≤ 1073741824
+    → length (flat_map (λ (e : Recorded). entry_text e.caller e.event e.answer) entries) ≤ most
+        → place + length (flat_map (λ (e : Recorded). entry_text e.caller e.event e.answer) entries) ≤ limit → limit ≤ 1073741824
     → entries_read most limit place (flat_map (λ (e : Recorded). entry_text e.caller e.event e.answer) entries) ≡ Ok (placed_from place entries)
 entries_again [] zero limit place all few within small = refl
 entries_again [] (suc most) limit place all few within small = refl
@@ -72,11 +79,13 @@ entries_again (e ∷ entries) (suc most) limit place all few within small =
     let rest : List ℕ = flat_map (λ (e : Recorded). entry_text e.caller e.event e.answer) entries in
     let some : 0 < length text = entry_some e.caller e.event e.answer all.0.fits in
     let size : length (text ++ rest) ≡ length text + length rest = length-append text rest in
-    read_first most limit place (text ++ rest) e (length text) (omega arith) (entry_first_again e.caller e.event e.answer rest limit place all.0 (omega arith) small)
+    read_first most limit place (text ++ rest) e (length text) (omega arith)
+        (entry_first_again e.caller e.event e.answer rest limit place all.0 (omega arith) small)
     ∙ ap (λ l. onto_read (record { at = place; entry = e }) (entries_read most limit (place + length text) l)) (drop_front text rest)
     ∙ ap (onto_read (record { at = place; entry = e })) (entries_again entries most limit (place + length text) all.1 (omega arith) (omega arith) small)
 
-pub record_again : (limits : Limits) (entries : List Recorded) → IsRecord limits entries → record_read (record_text limits entries) ≡ Ok (limits, placed_from 56 entries)
+pub record_again : (limits : Limits) (entries : List Recorded) → IsRecord limits entries
+    → record_read (record_text limits entries) ≡ Ok (limits, placed_from 56 entries)
 record_again limits entries is =
     let rest : List ℕ = flat_map (λ (e : Recorded). entry_text e.caller e.event e.answer) entries in
     let small = is.lawful.recording.below in
@@ -92,16 +101,20 @@ entries_of_placed : (place : ℕ) (entries : List Recorded) → map (λ (p : Pla
 entries_of_placed place [] = refl
 entries_of_placed place (e ∷ entries) = ap (λ (l : List Recorded). e ∷ l) (entries_of_placed (place + length (entry_text e.caller e.event e.answer)) entries)
 
-pub texts_differ : (limits other : Limits) (entries others : List Recorded) → IsRecord limits entries → IsRecord other others → record_text limits entries ≡ record_text other others → (limits ≡ other) × (entries ≡ others)
+pub texts_differ : (limits other : Limits) (entries others : List Recorded) → IsRecord limits entries → IsRecord other others
+    → record_text limits entries ≡ record_text other others → (limits ≡ other) × (entries ≡ others)
 texts_differ limits other entries others one two same =
-    let both = value_is (limits, placed_from 56 entries) (other, placed_from 56 others) (sym (record_again limits entries one) ∙ ap record_read same ∙ record_again other others two) in
-    (ap (λ (p : Limits × List Placed). p.0) both, sym (entries_of_placed 56 entries) ∙ ap (λ (p : Limits × List Placed). map (λ (x : Placed). x.entry) p.1) both ∙ entries_of_placed 56 others)
+    let both = value_is (limits, placed_from 56 entries) (other, placed_from 56 others)
+        (sym (record_again limits entries one) ∙ ap record_read same ∙ record_again other others two) in
+    (ap (λ (p : Limits × List Placed). p.0) both, sym (entries_of_placed 56 entries) ∙ ap (λ (p : Limits × List Placed). map (λ (x : Placed). x.entry) p.1) both
+        ∙ entries_of_placed 56 others)
   where
     value_is : (x y : Limits × List Placed) → ◌≡◌ {A = Result (Limits × List Placed) ℕ} (Ok x) (Ok y) → x ≡ y
     value_is x y e = cc
 
 -- so no two limits have one header
 pub headers_differ : (limits other : Limits) → AreInRange limits → AreInRange other → header_text limits ≡ header_text other → limits ≡ other
-headers_differ limits other one two same = value_is (sym (header_again limits [] one) ∙ ap (λ (bytes : List ℕ). header_read (bytes ++ [])) same ∙ header_again other [] two) where
+headers_differ limits other one two same =
+    value_is (sym (header_again limits [] one) ∙ ap (λ (bytes : List ℕ). header_read (bytes ++ [])) same ∙ header_again other [] two) where
   value_is : ◌≡◌ {A = Option Limits} (Some limits) (Some other) → limits ≡ other
   value_is e = cc

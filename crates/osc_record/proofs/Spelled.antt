@@ -67,7 +67,8 @@ lawful_is limits read is = go (limit_fault limits) refl is where
   go (Some field) e i = absurd (cc)
 
 -- the arguments of a header
-pub limits_were : (arguments : List Argument) (limits : Limits) → limits_read arguments ≡ Some limits → (arguments ≡ (header_row limits).arguments) × (limit_fault limits ≡ None)
+pub limits_were : (arguments : List Argument) (limits : Limits) → limits_read arguments ≡ Some limits
+    → (arguments ≡ (header_row limits).arguments) × (limit_fault limits ≡ None)
 limits_were arguments limits is =
     let version = read_then _ (int_first arguments) limits is in
     let units = read_then _ (int_first version.0.1) limits version.1.1 in
@@ -76,7 +77,8 @@ limits_were arguments limits is =
     let nodes = read_then _ (int_first methods.0.1) limits methods.1.1 in
     let callers = read_then _ (int_first nodes.0.1) limits nodes.1.1 in
     let recording = read_then _ (int_first callers.0.1) limits callers.1.1 in
-    let told : Limits = record { units = units.0.0; blocks = blocks.0.0; methods = methods.0.0; nodes = nodes.0.0; callers = callers.0.0; recording = recording.0.0 } in
+    let told : Limits =
+        record { units = units.0.0; blocks = blocks.0.0; methods = methods.0.0; nodes = nodes.0.0; callers = callers.0.0; recording = recording.0.0 } in
     let last = end_was recording.0.1 (cond (version.0.0 == 1) (lawful_limits told) None) limits recording.1.1 in
     let first = cond_gives (version.0.0 == 1) (lawful_limits told) limits last.1 in
     let one : version.0.0 ≡ 1 = eqb-true version.0.0 1 first.0 in
@@ -105,15 +107,18 @@ both_true true false is = absurd (cc)
 both_true false b is = absurd (cc)
 
 -- what is read as a header is one
-pub header_was : (message : List ℕ) (limits : Limits) → AreBytes message → header_of message ≡ Some limits → (message ≡ row_text (header_row limits)) × (limit_fault limits ≡ None)
+pub header_was : (message : List ℕ) (limits : Limits) → AreBytes message → header_of message ≡ Some limits
+    → (message ≡ row_text (header_row limits)) × (limit_fault limits ≡ None)
 header_was message limits small is =
-    let inner = cond_gives (is_message 1073741824 message && bytes_eq (pattern_of message) (codes "/osc/rec")) (limits_read (message_arguments message)) limits is in
+    let inner = cond_gives (is_message 1073741824 message && bytes_eq (pattern_of message) (codes "/osc/rec"))
+        (limits_read (message_arguments message)) limits is in
     let tests = both_true (is_message 1073741824 message) (bytes_eq (pattern_of message) (codes "/osc/rec")) inner.0 in
     let name : pattern_of message ≡ codes "/osc/rec" = (bytes_eq-Decides (pattern_of message) (codes "/osc/rec")).0 tests.1 in
     let were = limits_were (message_arguments message) limits inner.1 in
     go (spelled message small tests.0) name were
   where
-    go : Spelled message ⊎ (message_arguments message ≡ []) → pattern_of message ≡ codes "/osc/rec" → (message_arguments message ≡ (header_row limits).arguments) × (limit_fault limits ≡ None)
+    go : Spelled message ⊎ (message_arguments message ≡ []) → pattern_of message ≡ codes "/osc/rec"
+        → (message_arguments message ≡ (header_row limits).arguments) × (limit_fault limits ≡ None)
         → (message ≡ row_text (header_row limits)) × (limit_fault limits ≡ None)
     go (inl s) name were = (s.text ∙ (λ i. message_text (known (name i) (were.0 i))), were.1)
     go (inr none) name were = absurd (no_arguments (sym none ∙ were.0)) where

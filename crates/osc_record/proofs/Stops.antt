@@ -28,21 +28,28 @@ pub record Stops (limit place : ℕ) (bytes : List ℕ) (at : ℕ) : Type 0 wher
 err_is : (a b : ℕ) → ◌≡◌ {A = Result (List Placed) ℕ} (Err a) (Err b) → a ≡ b
 err_is a b e = cc
 
-pub stops : (most limit place : ℕ) (bytes : List ℕ) (at : ℕ) → AreBytes bytes → length bytes ≤ most → place ≤ limit → entries_read most limit place bytes ≡ Err at → Stops limit place bytes at
+pub stops : (most limit place : ℕ) (bytes : List ℕ) (at : ℕ) → AreBytes bytes → length bytes ≤ most → place ≤ limit
+    → entries_read most limit place bytes ≡ Err at → Stops limit place bytes at
 stops zero limit place [] at small few inside read = absurd (cc)
 stops (suc most) limit place [] at small few inside read = absurd (cc)
 stops zero limit place (byte ∷ bytes) at small few inside read = absurd (omega arith)
 stops (suc most) limit place (byte ∷ bytes) at small few inside read =
-    go (entry_first limit place (byte ∷ bytes)) refl read (λ size some rest there. stops most limit (place + size) (drop size (byte ∷ bytes)) at (rest_bytes size (byte ∷ bytes) small) (omega (arith, length-drop size (byte ∷ bytes))) there rest)
+    go (entry_first limit place (byte ∷ bytes)) refl read
+        (λ size some rest there. stops most limit (place + size) (drop size (byte ∷ bytes)) at (rest_bytes size (byte ∷ bytes) small)
+        (omega (arith, length-drop size (byte ∷ bytes))) there rest)
   where
-    go : (o : Option (Recorded × ℕ)) → entry_first limit place (byte ∷ bytes) ≡ o → before_read place o (λ size. entries_read most limit (place + size) (drop size (byte ∷ bytes))) ≡ Err at
-        → ((size : ℕ) → 4 ≤ size → entries_read most limit (place + size) (drop size (byte ∷ bytes)) ≡ Err at → place + size ≤ limit → Stops limit (place + size) (drop size (byte ∷ bytes)) at)
+    go : (o : Option (Recorded × ℕ)) → entry_first limit place (byte ∷ bytes) ≡ o
+        → before_read place o (λ size. entries_read most limit (place + size) (drop size (byte ∷ bytes))) ≡ Err at
+        → ((size : ℕ) → 4 ≤ size → entries_read most limit (place + size) (drop size (byte ∷ bytes)) ≡ Err at → place + size ≤ limit
+            → Stops limit (place + size) (drop size (byte ∷ bytes)) at)
         → Stops limit place (byte ∷ bytes) at
     go None found is more =
         let here : place ≡ at = err_is place at is in
-        subst (Stops limit place (byte ∷ bytes)) here (record { entries = []; rest = byte ∷ bytes; text = refl; all = tt; end = omega arith; within = inside; some = omega arith; none = found })
+        subst (Stops limit place (byte ∷ bytes)) here
+            (record { entries = []; rest = byte ∷ bytes; text = refl; all = tt; end = omega arith; within = inside; some = omega arith; none = found })
     go (Some head) found is more = inner (entries_read most limit (place + head.1) (drop head.1 (byte ∷ bytes))) refl is where
-      inner : (r : Result (List Placed) ℕ) → entries_read most limit (place + head.1) (drop head.1 (byte ∷ bytes)) ≡ r → onto_read (record { at = place; entry = head.0 }) r ≡ Err at → Stops limit place (byte ∷ bytes) at
+      inner : (r : Result (List Placed) ℕ) → entries_read most limit (place + head.1) (drop head.1 (byte ∷ bytes)) ≡ r
+          → onto_read (record { at = place; entry = head.0 }) r ≡ Err at → Stops limit place (byte ∷ bytes) at
       inner (Ok ys) rest e = absurd (cc)
       inner (Err a) rest e =
           let first = entry_first_was limit place (byte ∷ bytes) head small found in
@@ -65,7 +72,8 @@ stops (suc most) limit place (byte ∷ bytes) at small few inside read =
 pub no_header : (bytes : List ℕ) → header_read bytes ≡ None → HasNoHeader bytes 0
 no_header bytes is = record { first = refl; none = λ limits rest range same. none_some limits (sym is ∙ ap header_read same ∙ header_again limits rest range) }
 
-pub no_entry : (bytes : List ℕ) (limits : Limits) (at : ℕ) → AreBytes bytes → header_read bytes ≡ Some limits → entries_after limits bytes ≡ Err at → HasNoEntry bytes at
+pub no_entry : (bytes : List ℕ) (limits : Limits) (at : ℕ) → AreBytes bytes → header_read bytes ≡ Some limits → entries_after limits bytes ≡ Err at
+    → HasNoEntry bytes at
 no_entry bytes limits at small header read =
     let first = header_first_was bytes limits small header in
     let above = first.range.recording.above in
@@ -81,5 +89,6 @@ no_entry bytes limits at small header read =
       text = first.text ∙ ap (λ (l : List ℕ). header_text limits ++ l) stop.text ∙ sym (append_assoc (header_text limits) (texts stop.entries) stop.rest);
       place = omega arith;
       some = stop.some;
-      none = λ e more lawful fits same. none_some (e, length (entry_text e.caller e.event e.answer)) (sym stop.none ∙ ap (entry_first limits.recording at) same ∙ entry_first_again e.caller e.event e.answer more limits.recording at lawful fits below);
+      none = λ e more lawful fits same. none_some (e, length (entry_text e.caller e.event e.answer))
+          (sym stop.none ∙ ap (entry_first limits.recording at) same ∙ entry_first_again e.caller e.event e.answer more limits.recording at lawful fits below);
     }

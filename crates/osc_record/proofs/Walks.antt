@@ -8,7 +8,8 @@ use Rattle.osc_record.proofs.Again.{first_more}
 use Rattle.osc_model.specs.Limits.{Limits}
 
 -- no more is read than there are bytes
-pub enough : (most more limit place : ℕ) (bytes : List ℕ) → length bytes ≤ most → length bytes ≤ more → entries_read most limit place bytes ≡ entries_read more limit place bytes
+pub enough : (most more limit place : ℕ) (bytes : List ℕ) → length bytes ≤ most → length bytes ≤ more
+    → entries_read most limit place bytes ≡ entries_read more limit place bytes
 enough zero zero limit place [] a b = refl
 enough zero (suc more) limit place [] a b = refl
 enough (suc most) zero limit place [] a b = refl
@@ -16,11 +17,15 @@ enough (suc most) (suc more) limit place [] a b = refl
 enough zero more limit place (byte ∷ bytes) a b = absurd (omega arith)
 enough (suc most) zero limit place (byte ∷ bytes) a b = absurd (omega arith)
 enough (suc most) (suc more) limit place (byte ∷ bytes) a b =
-    go (entry_first limit place (byte ∷ bytes)) refl (λ size some. enough most more limit (place + size) (drop size (byte ∷ bytes)) (omega (arith, length-drop size (byte ∷ bytes))) (omega (arith, length-drop size (byte ∷ bytes))))
+    go (entry_first limit place (byte ∷ bytes)) refl
+        (λ size some. enough most more limit (place + size) (drop size (byte ∷ bytes)) (omega (arith, length-drop size (byte ∷ bytes)))
+        (omega (arith, length-drop size (byte ∷ bytes))))
   where
     go : (o : Option (Recorded × ℕ)) → entry_first limit place (byte ∷ bytes) ≡ o
-        → ((size : ℕ) → 4 ≤ size → entries_read most limit (place + size) (drop size (byte ∷ bytes)) ≡ entries_read more limit (place + size) (drop size (byte ∷ bytes)))
-        → before_read place o (λ size. entries_read most limit (place + size) (drop size (byte ∷ bytes))) ≡ before_read place o (λ size. entries_read more limit (place + size) (drop size (byte ∷ bytes)))
+        → ((size : ℕ) → 4 ≤ size → entries_read most limit (place + size) (drop size (byte ∷ bytes))
+            ≡ entries_read more limit (place + size) (drop size (byte ∷ bytes)))
+        → before_read place o (λ size. entries_read most limit (place + size) (drop size (byte ∷ bytes)))
+            ≡ before_read place o (λ size. entries_read more limit (place + size) (drop size (byte ∷ bytes)))
     go None is rest = refl
     go (Some first) is rest = ap (onto_read (record { at = place; entry = first.0 })) (rest first.1 (first_more limit place (byte ∷ bytes) [] first is).2)
 
@@ -31,12 +36,15 @@ at_first limit place [] first some is = absurd (omega arith)
 at_first limit place (byte ∷ bytes) first some is =
     let size = (first_more limit place (byte ∷ bytes) [] first is).2 in
     ap (λ o. before_read place o (λ size. entries_read (length bytes) limit (place + size) (drop size (byte ∷ bytes)))) is
-    ∙ ap (onto_read (record { at = place; entry = first.0 })) (enough (length bytes) (length (drop first.1 (byte ∷ bytes))) limit (place + first.1) (drop first.1 (byte ∷ bytes)) (omega (arith, length-drop first.1 (byte ∷ bytes))) (omega arith))
+    ∙ ap (onto_read (record { at = place; entry = first.0 }))
+        (enough (length bytes) (length (drop first.1 (byte ∷ bytes))) limit (place + first.1) (drop first.1 (byte ∷ bytes))
+        (omega (arith, length-drop first.1 (byte ∷ bytes))) (omega arith))
 
 -- no entry stands first
 pub at_none : (limit place : ℕ) (bytes : List ℕ) → 0 < length bytes → entry_first limit place bytes ≡ None → entries_at limit place bytes ≡ Err place
 at_none limit place [] some is = absurd (omega arith)
-at_none limit place (byte ∷ bytes) some is = ap (λ o. before_read place o (λ size. entries_read (length bytes) limit (place + size) (drop size (byte ∷ bytes)))) is
+at_none limit place (byte ∷ bytes) some is =
+    ap (λ o. before_read place o (λ size. entries_read (length bytes) limit (place + size) (drop size (byte ∷ bytes)))) is
 
 -- those after a header
 pub after_is : (limits : Limits) (bytes : List ℕ) → entries_after limits bytes ≡ entries_at limits.recording 56 (drop 56 bytes)
@@ -73,11 +81,14 @@ placed_onto first (Err at) read = absurd (cc)
 
 -- the first entry of those that are read, and the others
 pub left_first : (limit place : ℕ) (bytes : List ℕ) (first : Recorded × ℕ) → place < length bytes → entry_first limit place (drop place bytes) ≡ Some first
-    → IsTrue (is_ok (entries_at limit place (drop place bytes))) → placed_in (entries_at limit place (drop place bytes)) ≡ record { at = place; entry = first.0 } ∷ placed_in (entries_at limit (place + first.1) (drop (place + first.1) bytes))
+    → IsTrue (is_ok (entries_at limit place (drop place bytes)))
+        → placed_in (entries_at limit place (drop place bytes))
+        ≡ record { at = place; entry = first.0 } ∷ placed_in (entries_at limit (place + first.1) (drop (place + first.1) bytes))
 left_first limit place bytes first some is read =
     ap placed_in (at_first limit place (drop place bytes) first (omega (arith, length-drop place bytes)) is
     ∙ ap (λ l. onto_read (record { at = place; entry = first.0 }) (entries_at limit (place + first.1) l)) (drop-drop first.1 place bytes))
-    ∙ placed_onto (record { at = place; entry = first.0 }) (entries_at limit (place + first.1) (drop (place + first.1) bytes)) (rest_read limit place bytes first some is read)
+    ∙ placed_onto (record { at = place; entry = first.0 }) (entries_at limit (place + first.1) (drop (place + first.1) bytes))
+        (rest_read limit place bytes first some is read)
 
 -- the bytes from a place on, as a slice of all has them
 pub slice_rest : (place : ℕ) (bytes : List ℕ) → take (length bytes - place) (drop place bytes) ≡ drop place bytes

@@ -1,4 +1,6 @@
--- A recording, read: its limits and its entries, or the first malformed place. `laws` ties them to what is written.
+-- A recording, read: its limits and its entries, or the first malformed place. `laws` ties them to
+-- what is written.
+use Rattle.osc_atoms.specs.declared.limits.TheConstants.{MAX_BYTES}
 use Rattle.std.specs.Prelude.{◌≡◌, ◌⊎◌, ◌<◌, ◌++◌, ℕ, ⊤, IsTrue, is_ok, zero, suc, ◌+◌, ◌%◌, Bool, ◌&&◌, ◌==◌, nat_lt, nat_le, ◌≤◌, if◌then◌else◌, ℤ, pos, negsuc, List, [], ◌∷◌, length, take, drop, map, codes, Option, Some, None, option_and_then, option_map, is_none, Result, Ok, Err}
 use Rattle.std.specs.List.{AllByRecursion}
 use Rattle.std.specs.Int.{w32, from_be_bytes}
@@ -8,7 +10,7 @@ use Rattle.osc_message.specs.Reading.{is_message, pattern_of}
 use Rattle.osc_message.specs.Arguments.{message_arguments}
 use Rattle.osc_model.specs.Events.{enrol, submit, add, remove, tick, release, Answer, number, callers_full, queued, units_full, pool_full, added, refused, removed, not_there, ticked, clock_back, released}
 use Rattle.osc_tree.specs.Adding.{taken, under_method, is_container, methods_full, nodes_full}
-use Rattle.osc_model.specs.Limits.{Limits, AreInRange, limit_fault}
+use Rattle.osc_model.specs.Limits.{AreInRange, Limits, header_size, limit_fault, max_recording}
 use Rattle.osc_model.specs.Events.{Entry as Recorded}
 use Rattle.osc_model.specs.Recordings.{IsRecordable, hits_in, header_text, entry_text, record_text}
 
@@ -66,8 +68,12 @@ enrol_answer (negsuc (suc k)) = None
 abbrev pub submit_answer : ℕ → ℕ → ℕ → Option Answer
 submit_answer code first second =
     if code == 0 then Some (queued first second) else
-    if code == 1 then answer_if (nat_lt second first) (units_full (record { need = first; free = second })) else
-    if code == 2 then answer_if (nat_lt second first) (pool_full (record { need = first; free = second })) else None
+    if code == 1
+        then answer_if (nat_lt second first)
+        (units_full (record { need = first; free = second })) else
+    if code == 2
+        then answer_if (nat_lt second first) (pool_full (record { need = first; free = second }))
+        else None
 
 -- what adding a method is answered by a code and two numbers
 abbrev pub add_answer : ℕ → ℕ → ℕ → Option Answer
@@ -81,11 +87,13 @@ add_answer code first second =
 
 -- what removing a method is answered by a code and an id
 abbrev pub remove_answer : ℕ → ℕ → Option Answer
-remove_answer code id = if code == 0 then Some (removed id) else if code == 1 then answer_if (id == 0) not_there else None
+remove_answer code id = if code == 0 then Some (removed id)
+    else if code == 1 then answer_if (id == 0) not_there else None
 
 -- what a moment is answered by a code and the clock after it
 abbrev pub tick_answer : ℕ → ℕ → ℕ → Option Answer
-tick_answer moment code clock = if code == 0 then answer_if (clock == moment) ticked else if code == 1 then Some (clock_back clock) else None
+tick_answer moment code clock = if code == 0 then answer_if (clock == moment) ticked
+    else if code == 1 then Some (clock_back clock) else None
 
 -- what a release is answered by a unit's number and the bytes of its hits
 abbrev pub release_answer : ℕ → List ℕ → Option Answer
@@ -95,7 +103,9 @@ abbrev pub enrol_read : List Argument → Option Recorded
 enrol_read arguments =
     option_and_then (λ caller.
     option_and_then (λ answer.
-    at_end answer.1 (option_map (λ a. record { caller = caller.0; event = enrol; answer = a }) (enrol_answer answer.0)))
+    at_end answer.1
+        (option_map (λ a. record { caller = caller.0; event = enrol; answer = a })
+        (enrol_answer answer.0)))
     (signed_first caller.1)) (int_first arguments)
 
 abbrev pub submit_read : List Argument → Option Recorded
@@ -105,8 +115,11 @@ submit_read arguments =
     option_and_then (λ code.
     option_and_then (λ first.
     option_and_then (λ second.
-    at_end second.1 (option_map (λ a. record { caller = caller.0; event = submit packet.0; answer = a }) (submit_answer code.0 first.0 second.0)))
-    (int_first first.1)) (long_first code.1)) (int_first packet.1)) (content_first caller.1)) (int_first arguments)
+    at_end second.1
+        (option_map (λ a. record { caller = caller.0; event = submit packet.0; answer = a })
+        (submit_answer code.0 first.0 second.0)))
+    (int_first first.1)) (long_first code.1)) (int_first packet.1)) (content_first caller.1))
+        (int_first arguments)
 
 abbrev pub add_read : List Argument → Option Recorded
 add_read arguments =
@@ -115,8 +128,11 @@ add_read arguments =
     option_and_then (λ code.
     option_and_then (λ first.
     option_and_then (λ second.
-    at_end second.1 (option_map (λ a. record { caller = caller.0; event = add address.0; answer = a }) (add_answer code.0 first.0 second.0)))
-    (int_first first.1)) (int_first code.1)) (int_first address.1)) (text_first caller.1)) (int_first arguments)
+    at_end second.1
+        (option_map (λ a. record { caller = caller.0; event = add address.0; answer = a })
+        (add_answer code.0 first.0 second.0)))
+    (int_first first.1)) (int_first code.1)) (int_first address.1)) (text_first caller.1))
+        (int_first arguments)
 
 abbrev pub remove_read : List Argument → Option Recorded
 remove_read arguments =
@@ -124,7 +140,9 @@ remove_read arguments =
     option_and_then (λ address.
     option_and_then (λ code.
     option_and_then (λ id.
-    at_end id.1 (option_map (λ a. record { caller = caller.0; event = remove address.0; answer = a }) (remove_answer code.0 id.0)))
+    at_end id.1 (option_map
+        (λ a. record { caller = caller.0; event = remove address.0; answer = a })
+        (remove_answer code.0 id.0)))
     (int_first code.1)) (int_first address.1)) (text_first caller.1)) (int_first arguments)
 
 abbrev pub tick_read : List Argument → Option Recorded
@@ -133,7 +151,9 @@ tick_read arguments =
     option_and_then (λ moment.
     option_and_then (λ code.
     option_and_then (λ clock.
-    at_end clock.1 (option_map (λ a. record { caller = caller.0; event = tick moment.0; answer = a }) (tick_answer moment.0 code.0 clock.0)))
+    at_end clock.1
+        (option_map (λ a. record { caller = caller.0; event = tick moment.0; answer = a })
+        (tick_answer moment.0 code.0 clock.0)))
     (time_first code.1)) (int_first moment.1)) (time_first caller.1)) (int_first arguments)
 
 abbrev pub release_read : List Argument → Option Recorded
@@ -141,7 +161,9 @@ release_read arguments =
     option_and_then (λ caller.
     option_and_then (λ unit.
     option_and_then (λ hits.
-    at_end hits.1 (option_map (λ a. record { caller = caller.0; event = release; answer = a }) (release_answer unit.0 hits.0)))
+    at_end hits.1
+        (option_map (λ a. record { caller = caller.0; event = release; answer = a })
+        (release_answer unit.0 hits.0)))
     (content_first unit.1)) (long_first caller.1)) (int_first arguments)
 
 -- the entry of a message to an address with these arguments
@@ -156,21 +178,26 @@ row_read address arguments =
 
 -- the entry that a message is
 abbrev pub entry_of : List ℕ → Option Recorded
-entry_of message = if is_message 1073741824 message then row_read (pattern_of message) (message_arguments message) else None
+entry_of message = if is_message MAX_BYTES message
+    then row_read (pattern_of message) (message_arguments message) else None
 
 -- so many of the bytes, where that is a size: a positive multiple of 4, and no more than there are
 abbrev pub bytes_of_size : ℕ → List ℕ → Option (List ℕ)
-bytes_of_size size bytes = if nat_lt 0 size && size % 4 == 0 && nat_le size (length bytes) then Some (take size bytes) else None
+bytes_of_size size bytes = if nat_lt 0 size && size % 4 == 0 && nat_le size (length bytes)
+    then Some (take size bytes) else None
 
 -- the message after the size that the bytes begin with
 abbrev pub message_first : List ℕ → Option (List ℕ)
-message_first bytes = if nat_le 4 (length bytes) then bytes_of_size (from_be_bytes w32 (take 4 bytes)) (drop 4 bytes) else None
+message_first bytes = if nat_le 4 (length bytes)
+    then bytes_of_size (from_be_bytes w32 (take 4 bytes)) (drop 4 bytes) else None
 
--- the entry that the bytes begin with and its size, where its place is given and it ends within a limit
+-- the entry that the bytes begin with and its size, where its place is given and it ends within a
+-- limit
 abbrev pub entry_first : ℕ → ℕ → List ℕ → Option (Recorded × ℕ)
 entry_first limit place bytes =
     option_and_then (λ message.
-    if nat_le (place + 4 + length message) limit then option_map (λ entry. (entry, 4 + length message)) (entry_of message) else None)
+    if nat_le (place + 4 + length message) limit
+        then option_map (λ entry. (entry, 4 + length message)) (entry_of message) else None)
     (message_first bytes)
 
 -- the entry that bytes begin with, whatever follows it
@@ -188,16 +215,20 @@ onto_read first (Ok entries) = Ok (first ∷ entries)
 onto_read first (Err at) = Err at
 
 -- the first entry and those after it, or the place where none is
-abbrev pub before_read : ℕ → Option (Recorded × ℕ) → (ℕ → Result (List Placed) ℕ) → Result (List Placed) ℕ
+abbrev pub before_read : ℕ → Option (Recorded × ℕ) → (ℕ → Result (List Placed) ℕ)
+    → Result (List Placed) ℕ
 before_read place None next = Err place
-before_read place (Some first) next = onto_read (record { at = place; entry = first.0 }) (next first.1)
+before_read place (Some first) next =
+    onto_read (record { at = place; entry = first.0 }) (next first.1)
 
--- the entries that stand one after another from a place on, or the first malformed place; at most so many are read
+-- the entries that stand one after another from a place on, or the first malformed place; at most
+-- so many are read
 abbrev pub entries_read : ℕ → ℕ → ℕ → List ℕ → Result (List Placed) ℕ
 entries_read most limit place [] = Ok []
 entries_read zero limit place (byte ∷ bytes) = Err place
 entries_read (suc most) limit place (byte ∷ bytes) =
-    before_read place (entry_first limit place (byte ∷ bytes)) (λ size. entries_read most limit (place + size) (drop size (byte ∷ bytes)))
+    before_read place (entry_first limit place (byte ∷ bytes))
+        (λ size. entries_read most limit (place + size) (drop size (byte ∷ bytes)))
 
 -- all the entries that stand one after another from a place on, or the first malformed place
 abbrev pub entries_at : ℕ → ℕ → List ℕ → Result (List Placed) ℕ
@@ -227,13 +258,19 @@ limits_read arguments =
     option_and_then (λ nodes.
     option_and_then (λ callers.
     option_and_then (λ recording.
-    at_end recording.1 (if version.0 == 1 then lawful_limits (record { units = units.0; blocks = blocks.0; methods = methods.0; nodes = nodes.0; callers = callers.0; recording = recording.0 }) else None))
-    (int_first callers.1)) (int_first nodes.1)) (int_first methods.1)) (int_first blocks.1)) (int_first units.1)) (int_first version.1)) (int_first arguments)
+    at_end recording.1
+        (if version.0 == 1
+        then lawful_limits
+        (record { units = units.0; blocks = blocks.0; methods = methods.0; nodes = nodes.0;
+        callers = callers.0; recording = recording.0 }) else None))
+    (int_first callers.1)) (int_first nodes.1)) (int_first methods.1)) (int_first blocks.1))
+        (int_first units.1)) (int_first version.1)) (int_first arguments)
 
 -- the limits that a message is the header of
 abbrev pub header_of : List ℕ → Option Limits
 header_of message =
-    if is_message 1073741824 message && bytes_eq (pattern_of message) (codes "/osc/rec") then limits_read (message_arguments message) else None
+    if is_message MAX_BYTES message && bytes_eq (pattern_of message) (codes "/osc/rec")
+        then limits_read (message_arguments message) else None
 
 -- the limits that the bytes begin with
 abbrev pub header_read : List ℕ → Option Limits
@@ -241,7 +278,8 @@ header_read bytes = option_and_then header_of (message_first bytes)
 
 -- the entries after the header of a recording with these limits
 abbrev pub entries_after : Limits → List ℕ → Result (List Placed) ℕ
-entries_after limits bytes = entries_read (length bytes) limits.recording 56 (drop 56 bytes)
+entries_after limits bytes =
+    entries_read (length bytes) limits.recording header_size (drop header_size bytes)
 
 -- the limits and the entries of a recording
 abbrev pub with_entries : List ℕ → Option Limits → Result (Limits × List Placed) ℕ
@@ -259,7 +297,8 @@ record_read bytes = with_entries bytes (header_read bytes)
 abbrev pub placed_from : ℕ → List Recorded → List Placed
 placed_from place [] = []
 placed_from place (entry ∷ entries) =
-    record { at = place; entry = entry } ∷ placed_from (place + length (entry_text entry.caller entry.event entry.answer)) entries
+    record { at = place; entry = entry } ∷ placed_from
+        (place + length (entry_text entry.caller entry.event entry.answer)) entries
 
 -- the entries without their places
 abbrev pub unplaced : List Placed → List Recorded
@@ -284,15 +323,17 @@ read_of limits bytes = record { caps = limits; entries = placed_in (entries_afte
 pub record AreRead (limits : Limits) (bytes : List ℕ) : Type 0 where
   pub header : header_read bytes ≡ Some limits
   pub entries : IsTrue (is_ok (entries_after limits bytes))
-  pub long : 56 ≤ length bytes
-  pub small : length bytes ≤ 1073741824
+  pub long : header_size ≤ length bytes
+  pub small : length bytes ≤ max_recording
 
 -- the bytes don't begin with the header of lawful limits
 pub record HasNoHeader (bytes : List ℕ) (at : ℕ) : Type 0 where
   pub first : at ≡ 0
-  pub none : (limits : Limits) (rest : List ℕ) → AreInRange limits → bytes ≡ header_text limits ++ rest → ⊥
+  pub none : (limits : Limits) (rest : List ℕ) → AreInRange limits
+      → bytes ≡ header_text limits ++ rest → ⊥
 
--- the bytes are a recording up to a place, and are followed there by some bytes that don't begin with an entry within the limit
+-- the bytes are a recording up to a place, and are followed there by some bytes that don't begin
+-- with an entry within the limit
 pub record HasNoEntry (bytes : List ℕ) (at : ℕ) : Type 0 where
   pub limits : Limits
   pub entries : List Recorded
@@ -301,7 +342,8 @@ pub record HasNoEntry (bytes : List ℕ) (at : ℕ) : Type 0 where
   pub text : bytes ≡ record_text limits entries ++ rest
   pub place : at ≡ length (record_text limits entries)
   pub some : 0 < length rest
-  pub none : (entry : Recorded) (more : List ℕ) → IsRecordable entry.caller entry.event entry.answer → at + length (entry_text entry.caller entry.event entry.answer) ≤ limits.recording
+  pub none : (entry : Recorded) (more : List ℕ) → IsRecordable entry.caller entry.event entry.answer
+      → at + length (entry_text entry.caller entry.event entry.answer) ≤ limits.recording
       → rest ≡ entry_text entry.caller entry.event entry.answer ++ more → ⊥
 
 -- the place of the header or of the first entry that doesn't read

@@ -62,4 +62,5 @@ listed args = map shown args
 
 -- the caller, the event and the answer
 abbrev pub parts_of : Parts → Recorded
-parts_of parts = record { caller = parts.caller; event = event_of parts.event; answer = answer_of parts.answer }
+parts_of parts =
+    record { caller = parts.caller; event = event_of parts.event; answer = answer_of parts.answer }

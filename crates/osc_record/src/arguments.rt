@@ -57,7 +57,8 @@ pub(crate) fn next_text<'a>(args: &mut Args<'a>) -> Option<&'a [u8]>
 
 /// Where it is a blob.
 pub(crate) fn next_blob<'a>(args: &mut Args<'a>) -> Option<&'a [u8]>
-    ensures { option_map (λ blob. (blob.now, left args.new)) result ≡ content_first (left args.old) }
+    ensures { option_map (λ blob. (blob.now, left args.new)) result
+        ≡ content_first (left args.old) }
 {
     match args.next() {
         Some(Arg::Blob(blob)) => Some(blob),

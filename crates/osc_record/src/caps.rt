@@ -2,6 +2,7 @@
 ghost use Rattle.std.specs.Prelude.{◌≡◌, ◌↔◌, IsOk, IfOk, IfErr, Some, None};
 ghost use Rattle.osc_model.specs.Limits.{Limits, AreInRange, is_within, limit_fault};
 
+use crate::limits::{HEADER_SIZE, MAX_CALLERS, MAX_METHODS, MAX_RECORDING, MAX_RESERVED};
 use std::marker::Model;
 use thiserror::Error;
 
@@ -29,16 +30,23 @@ impl Model for Caps {
 
     ghost Value = { Limits };
 
-    ghost view = { λ c. record { units = c.units; blocks = c.blocks; methods = c.methods; nodes = c.nodes; callers = c.callers; recording = c.recording } };
+    ghost view =
+        { λ c. record { units = c.units; blocks = c.blocks; methods = c.methods; nodes = c.nodes;
+        callers = c.callers; recording = c.recording } };
 
-    ghost invariant = { λ c. AreInRange (record { units = c.units; blocks = c.blocks; methods = c.methods; nodes = c.nodes; callers = c.callers; recording = c.recording }) };
+    ghost invariant =
+        { λ c. AreInRange
+        (record { units = c.units; blocks = c.blocks; methods = c.methods; nodes = c.nodes;
+        callers = c.callers; recording = c.recording }) };
 
-    ghost inverse = { λ l. record { units = l.units; blocks = l.blocks; methods = l.methods; nodes = l.nodes; callers = l.callers; recording = l.recording } };
+    ghost inverse =
+        { λ l. record { units = l.units; blocks = l.blocks; methods = l.methods; nodes = l.nodes;
+        callers = l.callers; recording = l.recording } };
 }
 
 impl Caps {
-    /// The limits, or the first of them that is outside its range: units, blocks and nodes from 1 to 1,048,576, methods
-    /// from 1 to 65,536, callers from 1 to 1,024, and recording from 56 to 1,073,741,824.
+    /// The limits, or the first of them that is outside its range: units, blocks and nodes from 1 to `MAX_RESERVED`, methods
+    /// from 1 to `MAX_METHODS`, callers from 1 to `MAX_CALLERS`, and recording from `HEADER_SIZE` to `MAX_RECORDING`.
     pub fn new(
         units: u32,
         blocks: u32,
@@ -47,27 +55,39 @@ impl Caps {
         callers: u32,
         recording: u32,
     ) -> Result<Caps, CapFault>
-        ensures ok { IfOk result (λ caps. caps ≡ record { units = units; blocks = blocks; methods = methods; nodes = nodes; callers = callers; recording = recording }) }
-        ensures exact { IsOk result ↔ AreInRange (record { units = units; blocks = blocks; methods = methods; nodes = nodes; callers = callers; recording = recording }) }
-        ensures read { IsOk result ↔ (limit_fault (record { units = units; blocks = blocks; methods = methods; nodes = nodes; callers = callers; recording = recording }) ≡ None) }
-        ensures fault { IfErr result (λ fault. limit_fault (record { units = units; blocks = blocks; methods = methods; nodes = nodes; callers = callers; recording = recording }) ≡ Some fault.field) }
+        ensures ok { IfOk result
+            (λ caps. caps
+            ≡ record { units = units; blocks = blocks; methods = methods; nodes = nodes;
+            callers = callers; recording = recording }) }
+        ensures exact { IsOk result
+            ↔ AreInRange
+            (record { units = units; blocks = blocks; methods = methods; nodes = nodes;
+            callers = callers; recording = recording }) }
+        ensures read { IsOk result
+            ↔ (limit_fault
+            (record { units = units; blocks = blocks; methods = methods; nodes = nodes;
+            callers = callers; recording = recording }) ≡ None) }
+        ensures fault { IfErr result
+            (λ fault. limit_fault
+            (record { units = units; blocks = blocks; methods = methods; nodes = nodes;
+            callers = callers; recording = recording }) ≡ Some fault.field) }
     {
-        if !lies_within(1, 1048576, units) {
+        if !lies_within(1, MAX_RESERVED, units) {
             return Err(CapFault { field: 1 });
         }
-        if !lies_within(1, 1048576, blocks) {
+        if !lies_within(1, MAX_RESERVED, blocks) {
             return Err(CapFault { field: 2 });
         }
-        if !lies_within(1, 65536, methods) {
+        if !lies_within(1, MAX_METHODS, methods) {
             return Err(CapFault { field: 3 });
         }
-        if !lies_within(1, 1048576, nodes) {
+        if !lies_within(1, MAX_RESERVED, nodes) {
             return Err(CapFault { field: 4 });
         }
-        if !lies_within(1, 1024, callers) {
+        if !lies_within(1, MAX_CALLERS, callers) {
             return Err(CapFault { field: 5 });
         }
-        if !lies_within(56, 1073741824, recording) {
+        if !lies_within(HEADER_SIZE, MAX_RECORDING, recording) {
             return Err(CapFault { field: 6 });
         }
         Ok(Caps {

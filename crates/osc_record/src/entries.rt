@@ -1,4 +1,5 @@
 // Entries, appended to bytes that have room for them.
+ghost use Rattle.osc_model.specs.Limits.{max_recording};
 ghost use Rattle.std.specs.Prelude.{◌≡◌, ◌≢◌, ◌+◌, ◌≤◌, ◌++◌, length};
 ghost use Rattle.std.specs.Vec.{vec_len, vec_capacity};
 ghost use Rattle.osc_model.specs.Events.{enrol, submit, add, remove, tick, release};
@@ -12,9 +13,12 @@ use crate::rows::{append_add, append_enrol, append_remove, append_submit, append
 pub(crate) fn append_entry(out: &mut Vec<u8>, caller: u32, event: Event<'_>, answer: Answer<'_>)
     requires no_release { event_of event ≢ release }
     requires fits { FitsRow (row_of caller (event_of event) (answer_of answer)) }
-    requires small { length (entry_text caller (event_of event) (answer_of answer)) ≤ 1073741824 }
-    requires room { vec_len out.old + length (entry_text caller (event_of event) (answer_of answer)) ≤ vec_capacity out.old }
-    ensures out { out.new.items ≡ out.old.items ++ entry_text caller (event_of event.entry) (answer_of answer.entry) }
+    requires small { length (entry_text caller (event_of event) (answer_of answer))
+        ≤ max_recording }
+    requires room { vec_len out.old + length (entry_text caller (event_of event) (answer_of answer))
+        ≤ vec_capacity out.old }
+    ensures out { out.new.items ≡ out.old.items
+        ++ entry_text caller (event_of event.entry) (answer_of answer.entry) }
     ensures capacity { vec_capacity out.old ≤ vec_capacity out.new }
 {
     match event {
@@ -29,8 +33,10 @@ pub(crate) fn append_entry(out: &mut Vec<u8>, caller: u32, event: Event<'_>, ans
 
 fn enrol_entry(out: &mut Vec<u8>, caller: u32, answer: Answer<'_>)
     requires fits { FitsRow (row_of caller enrol (answer_of answer)) }
-    requires room { vec_len out.old + length (entry_text caller enrol (answer_of answer)) ≤ vec_capacity out.old }
-    ensures out { out.new.items ≡ out.old.items ++ entry_text caller enrol (answer_of answer.entry) }
+    requires room { vec_len out.old + length (entry_text caller enrol (answer_of answer))
+        ≤ vec_capacity out.old }
+    ensures out { out.new.items ≡ out.old.items
+        ++ entry_text caller enrol (answer_of answer.entry) }
     ensures capacity { vec_capacity out.old ≤ vec_capacity out.new }
 {
     match answer {
@@ -42,9 +48,12 @@ fn enrol_entry(out: &mut Vec<u8>, caller: u32, answer: Answer<'_>)
 
 fn submit_entry(out: &mut Vec<u8>, caller: u32, packet: &[u8], answer: Answer<'_>)
     requires fits { FitsRow (row_of caller (submit packet.now) (answer_of answer)) }
-    requires small { length (entry_text caller (submit packet.now) (answer_of answer)) ≤ 1073741824 }
-    requires room { vec_len out.old + length (entry_text caller (submit packet.now) (answer_of answer)) ≤ vec_capacity out.old }
-    ensures out { out.new.items ≡ out.old.items ++ entry_text caller (submit packet.now) (answer_of answer.entry) }
+    requires small { length (entry_text caller (submit packet.now) (answer_of answer))
+        ≤ max_recording }
+    requires room { vec_len out.old + length
+        (entry_text caller (submit packet.now) (answer_of answer)) ≤ vec_capacity out.old }
+    ensures out { out.new.items ≡ out.old.items
+        ++ entry_text caller (submit packet.now) (answer_of answer.entry) }
     ensures capacity { vec_capacity out.old ≤ vec_capacity out.new }
 {
     match answer {
@@ -61,9 +70,12 @@ fn submit_entry(out: &mut Vec<u8>, caller: u32, packet: &[u8], answer: Answer<'_
 
 fn add_entry(out: &mut Vec<u8>, caller: u32, address: &[u8], answer: Answer<'_>)
     requires fits { FitsRow (row_of caller (add address.now) (answer_of answer)) }
-    requires small { length (entry_text caller (add address.now) (answer_of answer)) ≤ 1073741824 }
-    requires room { vec_len out.old + length (entry_text caller (add address.now) (answer_of answer)) ≤ vec_capacity out.old }
-    ensures out { out.new.items ≡ out.old.items ++ entry_text caller (add address.now) (answer_of answer.entry) }
+    requires small { length (entry_text caller (add address.now) (answer_of answer))
+        ≤ max_recording }
+    requires room { vec_len out.old + length
+        (entry_text caller (add address.now) (answer_of answer)) ≤ vec_capacity out.old }
+    ensures out { out.new.items ≡ out.old.items
+        ++ entry_text caller (add address.now) (answer_of answer.entry) }
     ensures capacity { vec_capacity out.old ≤ vec_capacity out.new }
 {
     match answer {
@@ -81,9 +93,12 @@ fn add_entry(out: &mut Vec<u8>, caller: u32, address: &[u8], answer: Answer<'_>)
 
 fn remove_entry(out: &mut Vec<u8>, caller: u32, address: &[u8], answer: Answer<'_>)
     requires fits { FitsRow (row_of caller (remove address.now) (answer_of answer)) }
-    requires small { length (entry_text caller (remove address.now) (answer_of answer)) ≤ 1073741824 }
-    requires room { vec_len out.old + length (entry_text caller (remove address.now) (answer_of answer)) ≤ vec_capacity out.old }
-    ensures out { out.new.items ≡ out.old.items ++ entry_text caller (remove address.now) (answer_of answer.entry) }
+    requires small { length (entry_text caller (remove address.now) (answer_of answer))
+        ≤ max_recording }
+    requires room { vec_len out.old + length
+        (entry_text caller (remove address.now) (answer_of answer)) ≤ vec_capacity out.old }
+    ensures out { out.new.items ≡ out.old.items
+        ++ entry_text caller (remove address.now) (answer_of answer.entry) }
     ensures capacity { vec_capacity out.old ≤ vec_capacity out.new }
 {
     match answer {
@@ -95,8 +110,10 @@ fn remove_entry(out: &mut Vec<u8>, caller: u32, address: &[u8], answer: Answer<'
 
 fn tick_entry(out: &mut Vec<u8>, caller: u32, moment: u64, answer: Answer<'_>)
     requires fits { FitsRow (row_of caller (tick moment) (answer_of answer)) }
-    requires room { vec_len out.old + length (entry_text caller (tick moment) (answer_of answer)) ≤ vec_capacity out.old }
-    ensures out { out.new.items ≡ out.old.items ++ entry_text caller (tick moment) (answer_of answer.entry) }
+    requires room { vec_len out.old + length (entry_text caller (tick moment) (answer_of answer))
+        ≤ vec_capacity out.old }
+    ensures out { out.new.items ≡ out.old.items
+        ++ entry_text caller (tick moment) (answer_of answer.entry) }
     ensures capacity { vec_capacity out.old ≤ vec_capacity out.new }
 {
     match answer {

@@ -1,7 +1,9 @@
 // The entries of a recording, one after another.
+ghost use Rattle.osc_model.specs.Limits.{max_recording};
 ghost use Rattle.std.specs.Prelude.{◌≡◌, ◌≤◌, length, drop, IsTrue, is_ok};
 ghost use Rattle.osc_record.specs.Reading.{entries_at};
 
+use crate::limits::HEADER_SIZE;
 use crate::event::Entry;
 use crate::sized_reading::first_entry;
 
@@ -11,27 +13,30 @@ pub struct Entries<'a> {
     bytes: &'a [u8],
     limit: u32,
     at: u32,
-    ghost small: { length bytes.now ≤ 1073741824 },
+    ghost small: { length bytes.now ≤ max_recording },
     ghost inside: { at ≤ length bytes.now },
     ghost readable: { IsTrue (is_ok (entries_at limit at (drop at bytes.now))) },
 }
 
 impl<'a> Entries<'a> {
+    ghost use Rattle.osc_model.specs.Limits.{header_size, max_recording};
     ghost use Rattle.std.specs.Prelude.{◌≡◌, ◌≤◌, length, drop, IsTrue, is_ok};
     ghost use Rattle.osc_record.specs.Reading.{entries_at, placed_in};
     ghost use Rattle.osc_record.specs.Left.{entries_left};
 
     /// The entries from the header's end on.
     pub(crate) fn new(bytes: &'a [u8], limit: u32) -> Entries<'a>
-        requires long { 56 ≤ length bytes.now }
-        requires small { length bytes.now ≤ 1073741824 }
-        requires readable { IsTrue (is_ok (entries_at limit 56 (drop 56 bytes.now))) }
-        ensures { entries_left result ≡ placed_in (entries_at limit 56 (drop 56 bytes.now)) }
+        requires long { header_size ≤ length bytes.now }
+        requires small { length bytes.now ≤ max_recording }
+        requires readable { IsTrue
+            (is_ok (entries_at limit header_size (drop header_size bytes.now))) }
+        ensures { entries_left result
+            ≡ placed_in (entries_at limit header_size (drop header_size bytes.now)) }
     {
         Entries {
             bytes,
             limit,
-            at: 56,
+            at: HEADER_SIZE,
         }
     }
 }

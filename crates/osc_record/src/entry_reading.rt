@@ -1,4 +1,5 @@
 // Entries, read from the messages that they are.
+ghost use Rattle.osc_model.specs.Limits.{max_recording};
 ghost use Rattle.std.specs.Prelude.{◌≡◌, ◌≤◌, ◌%◌, length, option_map, IfSome};
 ghost use Rattle.osc_message.specs.Left.{left};
 ghost use Rattle.osc_record.specs.Reading.{enrol_read, submit_read, add_read, remove_read, tick_read, release_read, entry_of};
@@ -28,7 +29,7 @@ const RELEASE: [u8; 24] = *b"/osc/release\0\0\0\0,ihb\0\0\0\0";
 /// The entry that the message is.
 pub(crate) fn read_message(bytes: &[u8]) -> Option<Parts<'_>>
     requires fours { length bytes.now % 4 ≡ 0 }
-    requires small { length bytes.now ≤ 1073741824 }
+    requires small { length bytes.now ≤ max_recording }
     ensures value { option_map parts_of result ≡ entry_of bytes.now }
     ensures whole { IfSome result (λ parts. HasWholeHits parts.answer) }
 {

@@ -2,24 +2,29 @@
 ghost use Rattle.std.specs.Prelude.{◌≡◌, ℕ, ◌%◌, ◌≤◌, List, [], ◌∷◌, ◌++◌, length, codes, Ok, Some};
 ghost use Rattle.osc_atoms.specs.Atoms.{AreBytes};
 ghost use Rattle.osc_model.specs.Events.{Event, Answer, tick, ticked};
-ghost use Rattle.osc_model.specs.Limits.{Limits, AreInRange};
+ghost use Rattle.osc_model.specs.Limits.{AreInRange, Limits, header_size, max_recording};
 ghost use Rattle.osc_model.specs.Events.{Entry as Recorded};
 ghost use Rattle.osc_model.specs.Recordings.{IsRecordable, FitsRow, row_of, entry_size, entry_text, hits_text, hits_in, header_text, record_text};
 ghost use Rattle.osc_record.specs.Reading.{entry_in, record_read, placed_from, IsRecord};
 
 /// A recording that is written is read again: its limits, and its entries, each at its place.
 pub fn written_is_read_again()
-    ensures { (limits : Limits) (entries : List Recorded) → IsRecord limits entries → record_read (record_text limits entries) ≡ Ok (limits, placed_from 56 entries) }
+    ensures { (limits : Limits) (entries : List Recorded) → IsRecord limits entries
+        → record_read (record_text limits entries) ≡ Ok (limits, placed_from header_size entries) }
 {}
 
 /// No two recordings have one text: the bytes determine the limits and the entries.
 pub fn texts_differ()
-    ensures { (limits other : Limits) (entries others : List Recorded) → IsRecord limits entries → IsRecord other others → record_text limits entries ≡ record_text other others → (limits ≡ other) × (entries ≡ others) }
+    ensures { (limits other : Limits) (entries others : List Recorded) → IsRecord limits entries
+        → IsRecord other others → record_text limits entries ≡ record_text other others
+        → (limits ≡ other) × (entries ≡ others) }
 {}
 
 /// An entry that is written is read again, whatever follows it.
 pub fn a_written_entry_is_read_again()
-    ensures { (caller : ℕ) (event : Event) (answer : Answer) (rest : List ℕ) → IsRecordable caller event answer → length (entry_text caller event answer) ≤ 1073741824 →
+    ensures { (caller : ℕ) (event : Event) (answer : Answer) (rest : List ℕ)
+        → IsRecordable caller event answer
+        → length (entry_text caller event answer) ≤ max_recording →
         entry_in (entry_text caller event answer ++ rest) ≡ Some (record { caller = caller; event = event; answer = answer }) }
 {}
 
@@ -41,13 +46,16 @@ pub fn entries_have_their_own_texts()
 
 /// No two limits have one header.
 pub fn headers_differ()
-    ensures { (limits other : Limits) → AreInRange limits → AreInRange other → header_text limits ≡ header_text other → limits ≡ other }
+    ensures { (limits other : Limits) → AreInRange limits → AreInRange other
+        → header_text limits ≡ header_text other → limits ≡ other }
 {}
 
 /// How many bytes an entry has, whatever it is answered: but a release's size counts its hits.
 pub fn sizes()
-    ensures header { (limits : Limits) → length (header_text limits) ≡ 56 }
-    ensures entry { (caller : ℕ) (event : Event) (answer : Answer) → FitsRow (row_of caller event answer) → length (entry_text caller event answer) ≡ entry_size event answer }
+    ensures header { (limits : Limits) → length (header_text limits) ≡ header_size }
+    ensures entry { (caller : ℕ) (event : Event) (answer : Answer)
+        → FitsRow (row_of caller event answer)
+        → length (entry_text caller event answer) ≡ entry_size event answer }
 {}
 
 /// Bytes that are eights are the text of the hits that stand in them.
@@ -58,8 +66,14 @@ pub fn whole_hits_are_their_bytes()
 
 /// A header and an entry, byte by byte.
 pub fn examples()
-    ensures header { header_text (record { units = 4096; blocks = 16384; methods = 1024; nodes = 4096; callers = 1; recording = 67108864 })
-        ≡ 0 ∷ 0 ∷ 0 ∷ 0x34 ∷ codes "/osc/rec" ++ 0 ∷ 0 ∷ 0 ∷ 0 ∷ codes ",iiiiiii" ++ 0 ∷ 0 ∷ 0 ∷ 0 ∷ 0 ∷ 0 ∷ 0 ∷ 1 ∷ 0 ∷ 0 ∷ 0x10 ∷ 0 ∷ 0 ∷ 0 ∷ 0x40 ∷ 0 ∷ 0 ∷ 0 ∷ 4 ∷ 0 ∷ 0 ∷ 0 ∷ 0x10 ∷ 0 ∷ 0 ∷ 0 ∷ 0 ∷ 1 ∷ 4 ∷ 0 ∷ 0 ∷ 0 ∷ [] }
+    ensures header { header_text
+        (record { units = 4096; blocks = 16384; methods = 1024; nodes = 4096; callers = 1;
+        recording = 67108864 })
+        ≡ 0 ∷ 0 ∷ 0 ∷ 0x34 ∷ codes "/osc/rec" ++ 0 ∷ 0 ∷ 0 ∷ 0 ∷ codes ",iiiiiii"
+        ++ 0 ∷ 0 ∷ 0 ∷ 0 ∷ 0 ∷ 0 ∷ 0 ∷ 1 ∷ 0 ∷ 0 ∷ 0x10 ∷ 0 ∷ 0 ∷ 0 ∷ 0x40 ∷ 0 ∷ 0 ∷ 0 ∷ 4 ∷ 0 ∷ 0
+        ∷ 0 ∷ 0x10 ∷ 0 ∷ 0 ∷ 0 ∷ 0 ∷ 1 ∷ 4 ∷ 0 ∷ 0 ∷ 0 ∷ [] }
     ensures entry { entry_text 0 (tick 5) ticked
-        ≡ 0 ∷ 0 ∷ 0 ∷ 0x2c ∷ codes "/osc/tick" ++ 0 ∷ 0 ∷ 0 ∷ codes ",itit" ++ 0 ∷ 0 ∷ 0 ∷ 0 ∷ 0 ∷ 0 ∷ 0 ∷ 0 ∷ 0 ∷ 0 ∷ 0 ∷ 0 ∷ 0 ∷ 0 ∷ 5 ∷ 0 ∷ 0 ∷ 0 ∷ 0 ∷ 0 ∷ 0 ∷ 0 ∷ 0 ∷ 0 ∷ 0 ∷ 0 ∷ 5 ∷ [] }
+        ≡ 0 ∷ 0 ∷ 0 ∷ 0x2c ∷ codes "/osc/tick" ++ 0 ∷ 0 ∷ 0 ∷ codes ",itit"
+        ++ 0 ∷ 0 ∷ 0 ∷ 0 ∷ 0 ∷ 0 ∷ 0 ∷ 0 ∷ 0 ∷ 0 ∷ 0 ∷ 0 ∷ 0 ∷ 0 ∷ 5 ∷ 0 ∷ 0 ∷ 0 ∷ 0 ∷ 0 ∷ 0 ∷ 0 ∷ 0
+        ∷ 0 ∷ 0 ∷ 0 ∷ 5 ∷ [] }
 {}

@@ -1,4 +1,5 @@
 // Messages, appended after their size to bytes that have room for them.
+ghost use Rattle.osc_model.specs.Limits.{max_recording};
 ghost use Rattle.std.specs.Prelude.{◌≡◌, ◌+◌, ◌≤◌, ◌∷◌, ◌++◌, length, map, IsTrue};
 ghost use Rattle.std.specs.List.{flat_map};
 ghost use Rattle.std.specs.Vec.{vec_len, vec_capacity};
@@ -15,9 +16,11 @@ pub(crate) fn append_message(out: &mut Vec<u8>, address: &[u8], tags: &[u8], arg
     requires address { IsTrue (has_no_zero address.now) }
     requires tags { tags.now ≡ 44 ∷ map tag_of (listed args.now) }
     requires fit { AllFit (listed args.now) }
-    requires small { length (message_text (known address.now (listed args.now))) ≤ 1073741824 }
-    requires room { vec_len out.old + length (sized (message_text (known address.now (listed args.now)))) ≤ vec_capacity out.old }
-    ensures out { out.new.items ≡ out.old.items ++ sized (message_text (known address.now (listed args.now))) }
+    requires small { length (message_text (known address.now (listed args.now))) ≤ max_recording }
+    requires room { vec_len out.old + length
+        (sized (message_text (known address.now (listed args.now)))) ≤ vec_capacity out.old }
+    ensures out { out.new.items ≡ out.old.items
+        ++ sized (message_text (known address.now (listed args.now))) }
     ensures capacity { vec_capacity out.old ≤ vec_capacity out.new }
 {
     let size = string_size(address.len()) + string_size(tags.len()) + atoms_size(args);
@@ -29,7 +32,7 @@ pub(crate) fn append_message(out: &mut Vec<u8>, address: &[u8], tags: &[u8], arg
 
 /// How many bytes the arguments have behind their tags.
 fn atoms_size(args: &[Arg<'_>]) -> usize
-    requires { length (flat_map atom_of (listed args.now)) ≤ 1073741824 }
+    requires { length (flat_map atom_of (listed args.now)) ≤ max_recording }
     ensures { result ≡ length (flat_map atom_of (listed args.now)) }
 {
     let mut size = 0;
@@ -42,8 +45,9 @@ fn atoms_size(args: &[Arg<'_>]) -> usize
 /// Appends the arguments' bytes.
 fn append_atoms(out: &mut Vec<u8>, args: &[Arg<'_>])
     requires fit { AllFit (listed args.now) }
-    requires small { length (flat_map atom_of (listed args.now)) ≤ 1073741824 }
-    requires room { vec_len out.old + length (flat_map atom_of (listed args.now)) ≤ vec_capacity out.old }
+    requires small { length (flat_map atom_of (listed args.now)) ≤ max_recording }
+    requires room { vec_len out.old + length (flat_map atom_of (listed args.now))
+        ≤ vec_capacity out.old }
     ensures out { out.new.items ≡ out.old.items ++ flat_map atom_of (listed args.now) }
     ensures capacity { vec_capacity out.old ≤ vec_capacity out.new }
 {

@@ -35,7 +35,7 @@ impl<'a> Model for Reader<'a> {
 
 impl<'a> Reader<'a> {
     ghost use Rattle.std.specs.Prelude.{◌≡◌, ◌≤◌, ℕ, List, length, IfOk, IfErr, IsOkAnd, Ok, Err};
-    ghost use Rattle.osc_model.specs.Limits.{Limits};
+    ghost use Rattle.osc_model.specs.Limits.{Limits, header_size, max_recording};
     ghost use Rattle.osc_model.specs.Events.{Entry as Recorded};
     ghost use Rattle.osc_model.specs.Recordings.{record_text};
     ghost use Rattle.osc_record.specs.Reading.{record_read, placed_from, unplaced, IsRecord, IsMalformedAt};
@@ -44,12 +44,19 @@ impl<'a> Reader<'a> {
     /// Accepts exactly a recording, and borrows it. Else tells the first malformed place. Packets and addresses may be
     /// any bytes that their arguments can hold. Takes no memory.
     pub fn check(bytes: &'a [u8]) -> Result<Reader<'a>, Malformed>
-        requires { length bytes.now ≤ 1073741824 }
-        ensures ok { IfOk result (λ reader. record_read bytes.now ≡ Ok (reader.caps, reader.entries)) }
+        requires { length bytes.now ≤ max_recording }
+        ensures ok { IfOk result
+            (λ reader. record_read bytes.now ≡ Ok (reader.caps, reader.entries)) }
         ensures first { IfErr result (λ malformed. IsMalformedAt bytes.now malformed.at) }
         ensures err { IfErr result (λ malformed. record_read bytes.now ≡ Err malformed.at) }
-        ensures written { IfOk result (λ reader. IsRecord reader.caps (unplaced reader.entries) × (bytes.now ≡ record_text reader.caps (unplaced reader.entries))) }
-        ensures complete { (limits : Limits) (entries : List Recorded) → IsRecord limits entries → bytes.now ≡ record_text limits entries → IsOkAnd result (λ reader. (reader.caps ≡ limits) × (reader.entries ≡ placed_from 56 entries)) }
+        ensures written { IfOk result
+            (λ reader. IsRecord reader.caps (unplaced reader.entries)
+            × (bytes.now ≡ record_text reader.caps (unplaced reader.entries))) }
+        ensures complete { (limits : Limits) (entries : List Recorded) → IsRecord limits entries
+            → bytes.now ≡ record_text limits entries
+            → IsOkAnd result
+            (λ reader. (reader.caps ≡ limits)
+            × (reader.entries ≡ placed_from header_size entries)) }
     {
         let Some(caps) = read_header(bytes) else {
             return Err(Malformed { at: 0 });

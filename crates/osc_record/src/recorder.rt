@@ -4,6 +4,7 @@ ghost use Rattle.std.specs.Vec.{vec_len, vec_capacity};
 ghost use Rattle.osc_model.specs.Recordings.{hit_text};
 ghost use Rattle.osc_record.specs.Writing.{release_head};
 
+use crate::limits::HEADER_SIZE;
 use crate::caps::Caps;
 use crate::entries::append_entry;
 use crate::event::{Answer, Event};
@@ -34,7 +35,8 @@ impl Model for Recorder {
 
     ghost view = { λ r. recording_of r.caps r.bytes.items r.start r.caller r.unit r.owed };
 
-    ghost invariant = { λ r. IsKept r.caps r.bytes.items r.start r.caller r.unit r.owed (vec_capacity r.bytes) };
+    ghost invariant =
+        { λ r. IsKept r.caps r.bytes.items r.start r.caller r.unit r.owed (vec_capacity r.bytes) };
 }
 
 impl Recorder {
@@ -46,14 +48,15 @@ impl Recorder {
 
     /// A recording without entries. The `Err` means that there is no memory for it.
     pub fn open(alloc: Global, caps: Caps) -> Result<Recorder, AllocError>
-        ensures { IfOk result (λ recorder. recorder ≡ record { caps = caps; entries = []; begun = None }) }
+        ensures { IfOk result
+            (λ recorder. recorder ≡ record { caps = caps; entries = []; begun = None }) }
     {
         let mut bytes = Vec::with_capacity(alloc, caps.recording() as usize)?;
         append_header(&mut bytes, caps);
         Ok(Recorder {
             caps,
             bytes,
-            start: 56,
+            start: HEADER_SIZE,
             caller: 0,
             unit: 0,
             owed: 0,
@@ -69,7 +72,8 @@ impl Recorder {
 
     /// Whether so many bytes are free.
     pub fn fits(&self, need: u64) -> bool
-        ensures { IsTrue result ↔ (length (recording_text self.now) + need ≤ self.now.caps.recording) }
+        ensures { IsTrue result
+            ↔ (length (recording_text self.now) + need ≤ self.now.caps.recording) }
     {
         need <= self.free()
     }
@@ -78,9 +82,14 @@ impl Recorder {
     pub fn put(&mut self, caller: u32, event: Event<'_>, answer: Answer<'_>)
         requires no_release { event_of event ≢ release }
         requires lawful { IsRecordable caller (event_of event) (answer_of answer) }
-        requires fits { length (recording_text self.old) + length (entry_text caller (event_of event) (answer_of answer)) ≤ self.old.caps.recording }
+        requires fits { length (recording_text self.old)
+            + length (entry_text caller (event_of event) (answer_of answer))
+            ≤ self.old.caps.recording }
         requires none_owed { self.old.begun ≡ None }
-        ensures { self.new ≡ appended self.old (record { caller = caller; event = event_of event.entry; answer = answer_of answer.entry }) }
+        ensures { self.new
+            ≡ appended self.old
+            (record { caller = caller; event = event_of event.entry;
+            answer = answer_of answer.entry }) }
     {
         append_entry(&mut self.bytes, caller, event, answer);
         self.start = self.bytes.len() as u32;
@@ -90,7 +99,8 @@ impl Recorder {
     pub fn start_release(&mut self, caller: u32, unit: u64, hits: u32)
         requires caller { caller < 2 ^ 31 }
         requires unit { unit < 2 ^ 63 }
-        requires fits { length (recording_text self.old) + (44 + 8 * hits) ≤ self.old.caps.recording }
+        requires fits { length (recording_text self.old) + (44 + 8 * hits)
+            ≤ self.old.caps.recording }
         requires none_owed { self.old.begun ≡ None }
         ensures { self.new ≡ with_release self.old caller unit hits }
     {

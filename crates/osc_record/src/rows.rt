@@ -1,4 +1,5 @@
 // The header and the messages of entries, appended to bytes that have room for them.
+ghost use Rattle.osc_model.specs.Limits.{max_recording};
 ghost use Rattle.std.specs.Prelude.{◌≡◌, ◌+◌, ◌≤◌, ◌++◌, ℤ, length};
 ghost use Rattle.std.specs.Vec.{vec_len, vec_capacity};
 ghost use Rattle.osc_message.specs.Messages.{AllFit};
@@ -32,7 +33,8 @@ pub(crate) fn append_header(out: &mut Vec<u8>, caps: Caps)
 
 pub(crate) fn append_enrol(out: &mut Vec<u8>, caller: u32, answer: i32)
     requires fits { AllFit (enrol_row caller answer).arguments }
-    requires room { vec_len out.old + length (sized (row_text (enrol_row caller answer))) ≤ vec_capacity out.old }
+    requires room { vec_len out.old + length (sized (row_text (enrol_row caller answer)))
+        ≤ vec_capacity out.old }
     ensures out { out.new.items ≡ out.old.items ++ sized (row_text (enrol_row caller answer)) }
     ensures capacity { vec_capacity out.old ≤ vec_capacity out.new }
 {
@@ -54,9 +56,13 @@ pub(crate) fn append_submit(
     second: u32,
 )
     requires fits { AllFit (submit_row caller packet.now (code, first, second)).arguments }
-    requires small { length (row_text (submit_row caller packet.now (code, first, second))) ≤ 1073741824 }
-    requires room { vec_len out.old + length (sized (row_text (submit_row caller packet.now (code, first, second)))) ≤ vec_capacity out.old }
-    ensures out { out.new.items ≡ out.old.items ++ sized (row_text (submit_row caller packet.now (code, first, second))) }
+    requires small { length (row_text (submit_row caller packet.now (code, first, second)))
+        ≤ max_recording }
+    requires room { vec_len out.old + length
+        (sized (row_text (submit_row caller packet.now (code, first, second))))
+        ≤ vec_capacity out.old }
+    ensures out { out.new.items ≡ out.old.items
+        ++ sized (row_text (submit_row caller packet.now (code, first, second))) }
     ensures capacity { vec_capacity out.old ≤ vec_capacity out.new }
 {
     append_message(
@@ -83,9 +89,13 @@ pub(crate) fn append_add(
     second: u32,
 )
     requires fits { AllFit (add_row caller address.now (code, first, second)).arguments }
-    requires small { length (row_text (add_row caller address.now (code, first, second))) ≤ 1073741824 }
-    requires room { vec_len out.old + length (sized (row_text (add_row caller address.now (code, first, second)))) ≤ vec_capacity out.old }
-    ensures out { out.new.items ≡ out.old.items ++ sized (row_text (add_row caller address.now (code, first, second))) }
+    requires small { length (row_text (add_row caller address.now (code, first, second)))
+        ≤ max_recording }
+    requires room { vec_len out.old + length
+        (sized (row_text (add_row caller address.now (code, first, second))))
+        ≤ vec_capacity out.old }
+    ensures out { out.new.items ≡ out.old.items
+        ++ sized (row_text (add_row caller address.now (code, first, second))) }
     ensures capacity { vec_capacity out.old ≤ vec_capacity out.new }
 {
     append_message(
@@ -105,9 +115,11 @@ pub(crate) fn append_add(
 /// Appends a remove with the code and the id of its answer.
 pub(crate) fn append_remove(out: &mut Vec<u8>, caller: u32, address: &[u8], code: u32, id: u32)
     requires fits { AllFit (remove_row caller address.now (code, id)).arguments }
-    requires small { length (row_text (remove_row caller address.now (code, id))) ≤ 1073741824 }
-    requires room { vec_len out.old + length (sized (row_text (remove_row caller address.now (code, id)))) ≤ vec_capacity out.old }
-    ensures out { out.new.items ≡ out.old.items ++ sized (row_text (remove_row caller address.now (code, id))) }
+    requires small { length (row_text (remove_row caller address.now (code, id))) ≤ max_recording }
+    requires room { vec_len out.old + length
+        (sized (row_text (remove_row caller address.now (code, id)))) ≤ vec_capacity out.old }
+    ensures out { out.new.items ≡ out.old.items
+        ++ sized (row_text (remove_row caller address.now (code, id))) }
     ensures capacity { vec_capacity out.old ≤ vec_capacity out.new }
 {
     append_message(
@@ -126,8 +138,10 @@ pub(crate) fn append_remove(out: &mut Vec<u8>, caller: u32, address: &[u8], code
 /// Appends a tick with the code of its answer and the clock after it.
 pub(crate) fn append_tick(out: &mut Vec<u8>, caller: u32, moment: u64, code: u32, clock: u64)
     requires fits { AllFit (tick_row caller moment (code, clock)).arguments }
-    requires room { vec_len out.old + length (sized (row_text (tick_row caller moment (code, clock)))) ≤ vec_capacity out.old }
-    ensures out { out.new.items ≡ out.old.items ++ sized (row_text (tick_row caller moment (code, clock))) }
+    requires room { vec_len out.old + length
+        (sized (row_text (tick_row caller moment (code, clock)))) ≤ vec_capacity out.old }
+    ensures out { out.new.items ≡ out.old.items
+        ++ sized (row_text (tick_row caller moment (code, clock))) }
     ensures capacity { vec_capacity out.old ≤ vec_capacity out.new }
 {
     append_message(

@@ -1,4 +1,5 @@
 // The bytes of an entry, on their own.
+ghost use Rattle.osc_model.specs.Limits.{max_recording};
 ghost use Rattle.std.specs.Prelude.{◌≡◌, ◌+◌, ◌%◌, ◌≤◌, [], ◌++◌, length, IfOk};
 ghost use Rattle.std.specs.Option.{option_map_or};
 ghost use Rattle.std.specs.Vec.{vec_len, vec_capacity};
@@ -23,8 +24,10 @@ pub fn entry_bytes(
 ) -> Result<Bytes, AllocError>
     requires lawful { IsRecordable caller (event_of event) (answer_of answer) }
     requires whole { HasWholeHits answer }
-    requires small { length (entry_text caller (event_of event) (answer_of answer)) ≤ 1073741824 }
-    ensures { IfOk result (λ bytes. bytes ≡ entry_text caller (event_of event.entry) (answer_of answer.entry)) }
+    requires small { length (entry_text caller (event_of event) (answer_of answer))
+        ≤ max_recording }
+    ensures { IfOk result
+        (λ bytes. bytes ≡ entry_text caller (event_of event.entry) (answer_of answer.entry)) }
 {
     let mut out = Vec::with_capacity(alloc, entry_size(event, answer) as usize)?;
     match event {
@@ -36,7 +39,7 @@ pub fn entry_bytes(
 
 /// How many bytes an entry has.
 fn entry_size(event: Event<'_>, answer: Answer<'_>) -> u64
-    requires { entry_size (event_of event) (answer_of answer) ≤ 1073741824 }
+    requires { entry_size (event_of event) (answer_of answer) ≤ max_recording }
     ensures { result ≡ entry_size (event_of event.entry) (answer_of answer.entry) }
 {
     match event {
@@ -62,8 +65,9 @@ fn hits(answer: Answer<'_>) -> u64
 fn release_entry(out: &mut Vec<u8>, caller: u32, answer: Answer<'_>)
     requires fits { FitsRow (row_of caller release (answer_of answer)) }
     requires whole { HasWholeHits answer }
-    requires small { length (entry_text caller release (answer_of answer)) ≤ 1073741824 }
-    requires room { vec_len out.old + length (entry_text caller release (answer_of answer)) ≤ vec_capacity out.old }
+    requires small { length (entry_text caller release (answer_of answer)) ≤ max_recording }
+    requires room { vec_len out.old + length (entry_text caller release (answer_of answer))
+        ≤ vec_capacity out.old }
     ensures { out.new.items ≡ out.old.items ++ entry_text caller release (answer_of answer.entry) }
 {
     match answer {
@@ -76,17 +80,21 @@ fn release_entry(out: &mut Vec<u8>, caller: u32, answer: Answer<'_>)
 fn append_released(out: &mut Vec<u8>, caller: u32, unit: u64, hits: &[u8])
     requires fits { FitsRow (row_of caller release (released unit (hits_in hits.now))) }
     requires whole { length hits.now % 8 ≡ 0 }
-    requires small { length (entry_text caller release (released unit (hits_in hits.now))) ≤ 1073741824 }
-    requires room { vec_len out.old + length (entry_text caller release (released unit (hits_in hits.now))) ≤ vec_capacity out.old }
-    ensures { out.new.items ≡ out.old.items ++ entry_text caller release (released unit (hits_in hits.now)) }
+    requires small { length (entry_text caller release (released unit (hits_in hits.now)))
+        ≤ max_recording }
+    requires room { vec_len out.old + length
+        (entry_text caller release (released unit (hits_in hits.now))) ≤ vec_capacity out.old }
+    ensures { out.new.items ≡ out.old.items
+        ++ entry_text caller release (released unit (hits_in hits.now)) }
 {
     append_release(out, caller, unit, hits);
 }
 
 fn append_release(out: &mut Vec<u8>, caller: u32, unit: u64, hits: &[u8])
     requires fits { AllFit (release_row caller unit hits.now).arguments }
-    requires small { length (row_text (release_row caller unit hits.now)) ≤ 1073741824 }
-    requires room { vec_len out.old + length (sized (row_text (release_row caller unit hits.now))) ≤ vec_capacity out.old }
+    requires small { length (row_text (release_row caller unit hits.now)) ≤ max_recording }
+    requires room { vec_len out.old + length (sized (row_text (release_row caller unit hits.now)))
+        ≤ vec_capacity out.old }
     ensures { out.new.items ≡ out.old.items ++ sized (row_text (release_row caller unit hits.now)) }
 {
     append_message(

@@ -1,14 +1,17 @@
 // Messages after their size, read from borrowed bytes.
+ghost use Rattle.osc_model.specs.Limits.{header_size, max_recording};
 ghost use Rattle.std.specs.Prelude.{◌≡◌, ◌+◌, ◌-◌, ◌%◌, ◌<◌, ◌≤◌, length, drop, option_map, IfSome, None, codes, if◌then◌else◌};
 ghost use Rattle.std.specs.Str.{bytes_eq};
 ghost use Rattle.osc_message.specs.Left.{left};
 ghost use Rattle.osc_record.specs.Reading.{message_first, entry_first, entries_at, outcome, limits_read, lawful_limits, header_of, header_read};
 ghost use Rattle.osc_record.specs.Shown.{parts_of, HasWholeHits};
 
+use crate::limits::HEADER_SIZE;
 use crate::arguments::next_int;
 use crate::caps::Caps;
 use crate::entry_reading::read_message;
 use crate::parts::Parts;
+use osc_atoms::MAX_BYTES;
 use osc_message::{Args, Message};
 
 /// The message after the size that the bytes begin with.
@@ -30,8 +33,9 @@ fn first_message(bytes: &[u8]) -> Option<&[u8]>
 
 /// The entry that the bytes begin with, and its size.
 pub(crate) fn first_entry(limit: u32, place: u32, bytes: &[u8]) -> Option<(Parts<'_>, u32)>
-    requires small { place + length bytes.now ≤ 1073741824 }
-    ensures value { option_map (λ x. (parts_of x.0, x.1)) result ≡ entry_first limit place bytes.now }
+    requires small { place + length bytes.now ≤ max_recording }
+    ensures value { option_map (λ x. (parts_of x.0, x.1)) result
+        ≡ entry_first limit place bytes.now }
     ensures within { IfSome result (λ x. (x.1 ≤ length bytes.now) × (4 ≤ x.1)) }
     ensures whole { IfSome result (λ x. HasWholeHits x.0.answer) }
 {
@@ -55,7 +59,7 @@ pub(crate) fn read_header(bytes: &[u8]) -> Option<Caps>
 fn header_caps(message: &[u8]) -> Option<Caps>
     ensures { result ≡ header_of message.now }
 {
-    match Message::check(message, 1073741824) {
+    match Message::check(message, MAX_BYTES) {
         Ok(message) => named_caps(message.pattern().bytes(), message.args()),
         Err(_) => None,
     }
@@ -63,7 +67,9 @@ fn header_caps(message: &[u8]) -> Option<Caps>
 
 /// The limits that a message to the address tells by these arguments.
 fn named_caps(address: &[u8], args: Args<'_>) -> Option<Caps>
-    ensures { result ≡ (if bytes_eq address.now (codes "/osc/rec") then limits_read (left args.entry) else None) }
+    ensures { result
+        ≡ (if bytes_eq address.now (codes "/osc/rec") then limits_read (left args.entry)
+        else None) }
 {
     if address == b"/osc/rec".as_slice() {
         read_limits(args)
@@ -96,7 +102,10 @@ fn lawful_caps(
     callers: u32,
     recording: u32,
 ) -> Option<Caps>
-    ensures { result ≡ lawful_limits (record { units = units; blocks = blocks; methods = methods; nodes = nodes; callers = callers; recording = recording }) }
+    ensures { result
+        ≡ lawful_limits
+        (record { units = units; blocks = blocks; methods = methods; nodes = nodes;
+        callers = callers; recording = recording }) }
 {
     match Caps::new(units, blocks, methods, nodes, callers, recording) {
         Ok(caps) => Some(caps),
@@ -106,11 +115,11 @@ fn lawful_caps(
 
 /// Whether entries stand one after another to the end, or the place of the first that doesn't read.
 pub(crate) fn check_entries(bytes: &[u8], limit: u32) -> Result<(), u32>
-    requires long { 56 ≤ length bytes.now }
-    requires small { length bytes.now ≤ 1073741824 }
-    ensures { result ≡ outcome (entries_at limit 56 (drop 56 bytes.now)) }
+    requires long { header_size ≤ length bytes.now }
+    requires small { length bytes.now ≤ max_recording }
+    ensures { result ≡ outcome (entries_at limit header_size (drop header_size bytes.now)) }
 {
-    let mut at = 56;
+    let mut at = HEADER_SIZE;
     while (at as usize) < bytes.len() {
         match first_entry(limit, at, &bytes[at as usize..]) {
             Some((_, size)) => at += size,

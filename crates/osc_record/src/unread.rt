@@ -1,6 +1,7 @@
 // Recordings, read entry by entry.
 ghost use Rattle.std.specs.Prelude.{◌≡◌, ◌≤◌, length};
 
+use crate::limits::HEADER_SIZE;
 use crate::caps::Caps;
 use crate::event::Entry;
 use crate::reader::Malformed;
@@ -27,6 +28,7 @@ impl<'a> Model for Unread<'a> {
 }
 
 impl<'a> Unread<'a> {
+    ghost use Rattle.osc_model.specs.Limits.{max_recording};
     ghost use Rattle.std.specs.Prelude.{◌≡◌, ◌≤◌, [], length, IfOk, IfErr, IfSome, IfNone, OnErr};
     ghost use Rattle.osc_record.specs.Left.{placed_of};
     ghost use Rattle.osc_record.specs.Reading.{HasNoHeader};
@@ -34,15 +36,19 @@ impl<'a> Unread<'a> {
 
     /// Reads the header alone. Takes no memory, as reading an entry takes none.
     pub fn open(bytes: &'a [u8]) -> Result<Unread<'a>, Malformed>
-        requires { length bytes.now ≤ 1073741824 }
+        requires { length bytes.now ≤ max_recording }
         ensures ok { IfOk result (λ unread. HasHeader bytes.now unread) }
         ensures err { IfErr result (λ malformed. HasNoHeader bytes.now malformed.at) }
     {
         let Some(caps) = read_header(bytes) else {
             return Err(Malformed { at: 0 });
         };
-        let (_, rest) = bytes.split_at(56);
-        Ok(Unread { caps, at: 56, rest })
+        let (_, rest) = bytes.split_at(HEADER_SIZE as usize);
+        Ok(Unread {
+            caps,
+            at: HEADER_SIZE,
+            rest,
+        })
     }
 
     /// The limits.
@@ -55,7 +61,8 @@ impl<'a> Unread<'a> {
     /// Reads the next entry. Packets and addresses may be any bytes that their arguments can hold.
     pub fn next_entry(&mut self) -> Result<Option<Entry<'a>>, Malformed>
         ensures end { IfOk result (λ next. IfNone next (self.old.rest ≡ [])) }
-        ensures read { IfOk result (λ next. IfSome next (λ entry. Reads self.old (placed_of entry) self.new)) }
+        ensures read { IfOk result
+            (λ next. IfSome next (λ entry. Reads self.old (placed_of entry) self.new)) }
         ensures err { IfErr result (λ malformed. HasNoNext self.old malformed.at) }
         ensures unchanged { OnErr result (self.new ≡ self.old) }
     {

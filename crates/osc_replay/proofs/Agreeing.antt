@@ -27,7 +27,8 @@ use Rattle.osc_replay.proofs.Reached.{NextFits, GoesOn, StaysWithin, recordable,
 
 -- What is computed for an enrolled caller.
 
-pub computed_is : (state : State) (caller : ℕ) (event : Event) (answer : Answer) → caller < state.callers → answer ≡ (step state event).answer → adds_entry (step state event).answer ≡ true → computed_text state caller event ≡ entry_text caller event answer
+pub computed_is : (state : State) (caller : ℕ) (event : Event) (answer : Answer) → caller < state.callers → answer ≡ (step state event).answer
+    → adds_entry (step state event).answer ≡ true → computed_text state caller event ≡ entry_text caller event answer
 computed_is state caller event answer enrolled is adds =
     cond-true _ _ _ (lt-ltb caller state.callers enrolled) ∙ cond-true _ _ _ adds ∙ ap (entry_text caller event) (sym is)
 
@@ -37,7 +38,8 @@ on_both (Ok x) f a b = f a b
 on_both (Err e) f a b = tt
 
 -- an entry isn't empty
-kept_some : (caller : ℕ) (event : Event) (answer : Answer) (computed : List ℕ) → IsRecordable caller event answer → computed ≡ [] → entry_text caller event answer ≢ computed
+kept_some : (caller : ℕ) (event : Event) (answer : Answer) (computed : List ℕ) → IsRecordable caller event answer → computed ≡ []
+    → entry_text caller event answer ≢ computed
 kept_some caller event answer computed recordable none = λ same. absurd (omega (arith, entry_some caller event answer recordable.fits, ap length (same ∙ none)))
 
 -- An entry that is played: the one that is kept, and the answer that is computed for its caller and event.
@@ -51,14 +53,19 @@ pub record Played (state new : State) (kept : Entry) (answer : Answer) (lines : 
 abbrev pub text_of : Entry → List ℕ
 text_of entry = entry_text entry.caller entry.event entry.answer
 
-pub made_fits : NextFits → (state new : State) (kept : Entry) (answer : Answer) (lines : List ℕ) → Played state new kept answer lines → IsRecordable kept.caller kept.event answer
-made_fits next state new kept answer lines is = recordable next state is.reached kept.caller kept.event answer is.enrolled is.lawful is.enters.answer_is is.enters.adds
+pub made_fits : NextFits → (state new : State) (kept : Entry) (answer : Answer) (lines : List ℕ) → Played state new kept answer lines
+    → IsRecordable kept.caller kept.event answer
+made_fits next state new kept answer lines is =
+    recordable next state is.reached kept.caller kept.event answer is.enrolled is.lawful is.enters.answer_is is.enters.adds
 
-pub made_small : GoesOn → StaysWithin → (state new : State) (kept : Entry) (answer : Answer) (lines : List ℕ) → Played state new kept answer lines → length (entry_text kept.caller kept.event answer) ≤ 1073741824
-made_small on within state new kept answer lines is = entry_small on within state is.reached kept.caller kept.event answer is.enrolled is.lawful is.enters.answer_is is.enters.adds
+pub made_small : GoesOn → StaysWithin → (state new : State) (kept : Entry) (answer : Answer) (lines : List ℕ) → Played state new kept answer lines
+    → length (entry_text kept.caller kept.event answer) ≤ 1073741824
+made_small on within state new kept answer lines is =
+    entry_small on within state is.reached kept.caller kept.event answer is.enrolled is.lawful is.enters.answer_is is.enters.adds
 
 -- where the two answers are one, the entry is played
-pub made_goes : (r : Result (Unit {0}) ReplayFault) (state new : State) (kept : Entry) (answer : Answer) (lines before after : List ℕ) → Played state new kept answer lines
+pub made_goes : (r : Result (Unit {0}) ReplayFault) (state new : State) (kept : Entry) (answer : Answer) (lines before after : List ℕ)
+    → Played state new kept answer lines
     → OnOk r (kept.answer ≡ answer) → OnOk r (after ≡ before ++ (entry_line kept ++ lines)) → OnOk r (Goes kept state new before after)
 made_goes r state new kept answer lines before after is agree text =
     on_both r (λ agree text.
@@ -71,34 +78,48 @@ made_goes r state new kept answer lines before after is agree text =
       text = text ∙ ap (λ (l : List ℕ). before ++ (entry_line kept ++ l)) is.enters.lines_are;
     })) agree text
 
-pub made_differs : (r : Result (Unit {0}) ReplayFault) (number : ℕ) (state new : State) (kept : Entry) (answer : Answer) (lines : List ℕ) → Played state new kept answer lines
-    → IfErr r (λ fault. Differs fault number (text_of kept) (entry_text kept.caller kept.event answer)) → IfErr r (λ fault. Differs fault number (text_of kept) (computed_text state kept.caller kept.event))
+pub made_differs : (r : Result (Unit {0}) ReplayFault) (number : ℕ) (state new : State) (kept : Entry) (answer : Answer) (lines : List ℕ)
+    → Played state new kept answer lines
+    → IfErr r (λ fault. Differs fault number (text_of kept) (entry_text kept.caller kept.event answer))
+        → IfErr r (λ fault. Differs fault number (text_of kept) (computed_text state kept.caller kept.event))
 made_differs r number state new kept answer lines is differs =
-    subst (λ (l : List ℕ). IfErr r (λ fault. Differs fault number (text_of kept) l)) (sym (computed_is state kept.caller kept.event answer is.enrolled is.enters.answer_is is.enters.adds)) differs
+    subst (λ (l : List ℕ). IfErr r (λ fault. Differs fault number (text_of kept) l))
+        (sym (computed_is state kept.caller kept.event answer is.enrolled is.enters.answer_is is.enters.adds)) differs
 
-pub played_answered : (state new : State) (row : Row) (calls : Calls) (outcome : Outcome) (answer : Given) → IsReached state → outcome ≡ Answered answer → ComesTo outcome calls row.entry.caller state (event_in row.event) new → Played state new (placed_of row.entry).entry (answer_of answer) []
+pub played_answered : (state new : State) (row : Row) (calls : Calls) (outcome : Outcome) (answer : Given) → IsReached state → outcome ≡ Answered answer
+    → ComesTo outcome calls row.entry.caller state (event_in row.event) new → Played state new (placed_of row.entry).entry (answer_of answer) []
 played_answered state new row calls outcome answer reached is comes =
-    let came : (row.entry.caller < state.callers) × HasWholeHits answer × Enters (answer_of answer) [] state (event_in row.event) new = subst (λ (o : Outcome). ComesTo o calls row.entry.caller state (event_in row.event) new) is comes in
-    record { reached = reached; lawful = row_lawful row; enrolled = came.0; enters = subst (λ (e : Event). Enters (answer_of answer) [] state e new) row.same came.2 }
+    let came : (row.entry.caller < state.callers) × HasWholeHits answer
+        × Enters (answer_of answer) [] state (event_in row.event) new =
+        subst (λ (o : Outcome). ComesTo o calls row.entry.caller state (event_in row.event) new) is comes in
+    record { reached = reached; lawful = row_lawful row; enrolled = came.0;
+        enters = subst (λ (e : Event). Enters (answer_of answer) [] state e new) row.same came.2 }
 
-pub played_released : (state new : State) (row : Row) (calls : Calls) (outcome : Outcome) (unit : ℕ) (hits lines : List ℕ) → IsReached state → outcome ≡ Released unit → ComesTo outcome calls row.entry.caller state (event_in row.event) new
+pub played_released : (state new : State) (row : Row) (calls : Calls) (outcome : Outcome) (unit : ℕ) (hits lines : List ℕ) → IsReached state
+    → outcome ≡ Released unit → ComesTo outcome calls row.entry.caller state (event_in row.event) new
     → hits ≡ calls.hits.items → lines ≡ calls.lines → Played state new (placed_of row.entry).entry (released unit (hits_in hits)) lines
 played_released state new row calls outcome unit hits lines reached is comes hits_are lines_are =
-    let came : (row.entry.caller < state.callers) × (event_in row.event ≡ release) × EntersRelease unit calls state new = subst (λ (o : Outcome). ComesTo o calls row.entry.caller state (event_in row.event) new) is comes in
+    let came : (row.entry.caller < state.callers) × (event_in row.event ≡ release)
+        × EntersRelease unit calls state new = subst (λ (o : Outcome). ComesTo o calls row.entry.caller state (event_in row.event) new) is comes in
     let event = event_of row.entry.event in
-    let enters : Enters (released unit (hits_in calls.hits.items)) calls.lines state event new = subst (λ (e : Event). Enters (released unit (hits_in calls.hits.items)) calls.lines state e new) (sym came.1 ∙ row.same) came.2.1 in
+    let enters : Enters (released unit (hits_in calls.hits.items)) calls.lines state event new =
+        subst (λ (e : Event). Enters (released unit (hits_in calls.hits.items)) calls.lines state e new) (sym came.1 ∙ row.same) came.2.1 in
     record {
       reached = reached;
       lawful = row_lawful row;
       enrolled = came.0;
-      enters = subst (λ (l : List ℕ). Enters (released unit (hits_in l)) lines state event new) (sym hits_are) (subst (λ (l : List ℕ). Enters (released unit (hits_in calls.hits.items)) l state event new) (sym lines_are) enters);
+      enters = subst (λ (l : List ℕ). Enters (released unit (hits_in l)) lines state event new) (sym hits_are)
+          (subst (λ (l : List ℕ). Enters (released unit (hits_in calls.hits.items)) l state event new) (sym lines_are) enters);
     }
 
 -- where nothing is computed, the entry differs
-pub nothing_differs : (state new : State) (row : Row) (calls : Calls) (outcome : Outcome) (own given : List ℕ) (number : ℕ) → Recordable (placed_of row.entry).entry → outcome ≡ Nothing → ComesTo outcome calls row.entry.caller state (event_in row.event) new → own ≡ text_of (placed_of row.entry).entry → given ≡ []
+pub nothing_differs : (state new : State) (row : Row) (calls : Calls) (outcome : Outcome) (own given : List ℕ) (number : ℕ)
+    → Recordable (placed_of row.entry).entry → outcome ≡ Nothing → ComesTo outcome calls row.entry.caller state (event_in row.event) new
+    → own ≡ text_of (placed_of row.entry).entry → given ≡ []
     → Differs (Disagrees number own given) number (text_of (placed_of row.entry).entry) (computed_text state row.entry.caller (event_of row.entry.event))
 nothing_differs state new row calls outcome own given number recordable is comes copied empty =
     let event = event_of row.entry.event in
-    let came : computed_text state row.entry.caller (event_in row.event) ≡ [] = subst (λ (o : Outcome). ComesTo o calls row.entry.caller state (event_in row.event) new) is comes in
+    let came : computed_text state row.entry.caller (event_in row.event) ≡ [] =
+        subst (λ (o : Outcome). ComesTo o calls row.entry.caller state (event_in row.event) new) is comes in
     let none : computed_text state row.entry.caller event ≡ [] = ap (computed_text state row.entry.caller) (sym row.same) ∙ came in
     (refl, copied, empty ∙ sym none, kept_some row.entry.caller event (answer_of row.entry.answer) (computed_text state row.entry.caller event) recordable none)

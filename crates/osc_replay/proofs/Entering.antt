@@ -23,7 +23,8 @@ use Rattle.osc_replay.specs.Playing.{Decides, Enters}
 -- the state of a server with these parts
 abbrev pub server_state : Registry → Timed Messages → (blocks clock next_id next_unit callers caller_limit recorded record_limit : ℕ) → State
 server_state tree queue blocks clock next_id next_unit callers caller_limit recorded record_limit = record {
-  caps = record { units = queue.limit; blocks = blocks; methods = tree.method_limit; nodes = tree.node_limit; callers = caller_limit; recording = record_limit };
+  caps = record { units = queue.limit; blocks = blocks; methods = tree.method_limit; nodes = tree.node_limit; callers = caller_limit;
+      recording = record_limit };
   methods = tree.methods;
   queue = queue.items;
   clock = clock;
@@ -34,14 +35,16 @@ server_state tree queue blocks clock next_id next_unit callers caller_limit reco
 }
 
 -- where there is no room for its entry, an event adds none
-pub full_adds_none : (state : State) (event : Event) → free_bytes state < entry_size event (decided state event).answer → adds_entry (step state event).answer ≡ false
+pub full_adds_none : (state : State) (event : Event) → free_bytes state < entry_size event (decided state event).answer
+    → adds_entry (step state event).answer ≡ false
 full_adds_none state event full = go (adds_entry (decided state event).answer) refl where
   go : (t : Bool) → adds_entry (decided state event).answer ≡ t → adds_entry (step state event).answer ≡ false
   go true adds = ap (λ (s : Stepped). adds_entry s.answer) (full_refuses state event adds full)
   go false adds = ap (λ (s : Stepped). adds_entry s.answer) (none_decided state event adds) ∙ adds
 
 -- an address that is refused is answered so, and all stays
-pub add_refuses : (old new : State) (given address : List ℕ) (answer : Given) (why : Refusal) → given ≡ address → Some why ≡ add_refusal (registry old) given → answer_of answer ≡ refused why → HasWholeHits answer → new ≡ old → Decides answer old (add address) new
+pub add_refuses : (old new : State) (given address : List ℕ) (answer : Given) (why : Refusal) → given ≡ address → Some why ≡ add_refusal (registry old) given
+    → answer_of answer ≡ refused why → HasWholeHits answer → new ≡ old → Decides answer old (add address) new
 add_refuses old new given address answer why same is told whole stays =
     let stepped : decided old (add address) ≡ leaves old (refused why) = ap (add_at old address) (ap (add_refusal (registry old)) (sym same) ∙ sym is) in
     record {
@@ -54,22 +57,26 @@ add_refuses old new given address answer why same is told whole stays =
     }
 
 -- the first unit is released where it is due
-pub first_released : (state : State) (unit : Queued) (others : List Queued) → state.queue ≡ unit ∷ others → due_of unit ≤ state.clock → decided state release ≡ releases state unit others
+pub first_released : (state : State) (unit : Queued) (others : List Queued) → state.queue ≡ unit ∷ others → due_of unit ≤ state.clock
+    → decided state release ≡ releases state unit others
 first_released state unit others first due = ap (release_first state) first ∙ cond-true _ _ _ (le-leb (due_of unit) state.clock due)
 
-release_size : (state : State) (unit : Queued) (others : List Queued) (hits : List ℕ) → state.queue ≡ unit ∷ others → due_of unit ≤ state.clock → hits ≡ hits_bytes (calls_of_unit state.methods unit)
+release_size : (state : State) (unit : Queued) (others : List Queued) (hits : List ℕ) → state.queue ≡ unit ∷ others → due_of unit ≤ state.clock
+    → hits ≡ hits_bytes (calls_of_unit state.methods unit)
     → entry_size release (decided state release).answer ≡ 44 + length hits
 release_size state unit others hits first due is =
     ap (λ (s : Stepped). entry_size release s.answer) (first_released state unit others first due)
     ∙ omega (arith, ap length is, length-hits_text (hits_of (calls_of_unit state.methods unit)))
 
 -- a release for whose entry there is no room adds none
-pub release_full : (state : State) (unit : Queued) (others : List Queued) (hits : List ℕ) → state.queue ≡ unit ∷ others → due_of unit ≤ state.clock → hits ≡ hits_bytes (calls_of_unit state.methods unit)
+pub release_full : (state : State) (unit : Queued) (others : List Queued) (hits : List ℕ) → state.queue ≡ unit ∷ others → due_of unit ≤ state.clock
+    → hits ≡ hits_bytes (calls_of_unit state.methods unit)
     → free_bytes state < 44 + length hits → adds_entry (step state release).answer ≡ false
 release_full state unit others hits first due is full = full_adds_none state release (omega (arith, release_size state unit others hits first due is))
 
 -- a release for whose entry there is room
-pub release_enters : (state after : State) (unit : Queued) (others : List Queued) (hits lines : List ℕ) → state.queue ≡ unit ∷ others → due_of unit ≤ state.clock
+pub release_enters : (state after : State) (unit : Queued) (others : List Queued) (hits lines : List ℕ) → state.queue ≡ unit ∷ others
+    → due_of unit ≤ state.clock
     → hits ≡ hits_bytes (calls_of_unit state.methods unit) → lines ≡ call_lines (unit_of unit) (calls_of_unit state.methods unit)
     → (adds_entry (step state release).answer ≡ true → (u : ℕ) (hs : List Hit) → (step state release).answer ≡ released u hs → AllByRecursion IsHit hs)
     → 44 + length hits ≤ free_bytes state → after ≡ record state { queue = others; recorded = state.recorded + (44 + length hits) }
@@ -80,13 +87,17 @@ release_enters state after unit others hits lines first due hits_are lines_are f
     let size = release_size state unit others hits first due hits_are in
     let adds : adds_entry (decided state release).answer ≡ true = ap (λ (s : Stepped). adds_entry s.answer) is in
     let stepped = room_records state release adds (omega (arith, size)) in
-    let answer : (step state release).answer ≡ released (unit_of unit) (hits_of calls) = ap (λ (s : Stepped). s.answer) stepped ∙ ap (λ (s : Stepped). s.answer) is in
+    let answer : (step state release).answer ≡ released (unit_of unit) (hits_of calls) =
+        ap (λ (s : Stepped). s.answer) stepped ∙ ap (λ (s : Stepped). s.answer) is in
     let whole = fit (ap adds_entry answer) (unit_of unit) (hits_of calls) answer in (
       omega (arith, ap length hits_are, length-hits_text (hits_of calls)),
       record {
         answer_is = ap (released (unit_of unit)) (ap hits_in hits_are ∙ hits_again (hits_of calls) whole) ∙ sym answer;
         adds = ap adds_entry answer;
-        state_is = ends ∙ ap (λ (n : ℕ). record state { queue = others; recorded = state.recorded + n }) (sym size) ∙ sym (ap (λ (s : Stepped). s.state) stepped ∙ ap (λ (s : Stepped). record s.state { recorded = state.recorded + entry_size release (decided state release).answer }) is);
-        lines_are = lines_are ∙ sym (ap (λ (s : Stepped). flat_map invocation_text s.invocations) stepped ∙ ap (λ (s : Stepped). flat_map invocation_text s.invocations) is);
+        state_is = ends ∙ ap (λ (n : ℕ). record state { queue = others; recorded = state.recorded + n }) (sym size)
+            ∙ sym (ap (λ (s : Stepped). s.state) stepped
+            ∙ ap (λ (s : Stepped). record s.state { recorded = state.recorded + entry_size release (decided state release).answer }) is);
+        lines_are = lines_are
+            ∙ sym (ap (λ (s : Stepped). flat_map invocation_text s.invocations) stepped ∙ ap (λ (s : Stepped). flat_map invocation_text s.invocations) is);
       },
     )

@@ -21,7 +21,8 @@ later x y ys (k, within, is) = (suc k, omega arith, is)
 found : (test : Method → Bool) (xs : List Method) (x : Method) → find test xs ≡ Some x → Contains xs x × (test x ≡ true)
 found test [] x e = absurd (cc)
 found test (y ∷ ys) x e = go (test y) refl e (found test ys x) where
-  go : (t : Bool) → test y ≡ t → cond t (Some y) (find test ys) ≡ Some x → (find test ys ≡ Some x → Contains ys x × (test x ≡ true)) → Contains (y ∷ ys) x × (test x ≡ true)
+  go : (t : Bool) → test y ≡ t → cond t (Some y) (find test ys) ≡ Some x → (find test ys ≡ Some x → Contains ys x × (test x ≡ true))
+      → Contains (y ∷ ys) x × (test x ≡ true)
   go true is e more = let same : y ≡ x = cc in ((0, omega arith, same), ap test (sym same) ∙ is)
   go false is e more = let first = more e in (later x y ys first.0, first.1)
 
@@ -29,7 +30,8 @@ found test (y ∷ ys) x e = go (test y) refl e (found test ys x) where
 not_found : (test : Method → Bool) (xs : List Method) → find test xs ≡ None → All (λ x. test x ≡ false) xs
 not_found test [] e = All-nil (λ x. test x ≡ false)
 not_found test (y ∷ ys) e = go (test y) refl e (not_found test ys) where
-  go : (t : Bool) → test y ≡ t → cond t (Some y) (find test ys) ≡ None → (find test ys ≡ None → All (λ x. test x ≡ false) ys) → All (λ x. test x ≡ false) (y ∷ ys)
+  go : (t : Bool) → test y ≡ t → cond t (Some y) (find test ys) ≡ None → (find test ys ≡ None → All (λ x. test x ≡ false) ys)
+      → All (λ x. test x ≡ false) (y ∷ ys)
   go true is e more = absurd (cc)
   go false is e more = All-cons (λ x. test x ≡ false) y ys is (more e)
 
@@ -42,7 +44,8 @@ one_by_id methods x y apart (i, i_below, at_i) (j, j_below, at_j) same = elim (c
 ]
 
 -- the address by a method's id is its own
-pub address_found : (methods : List Method) (method : Method) → AllPairs (λ a b. a.id ≢ b.id) methods → Contains methods method → address_by_id methods method.id ≡ Some method.address
+pub address_found : (methods : List Method) (method : Method) → AllPairs (λ a b. a.id ≢ b.id) methods → Contains methods method
+    → address_by_id methods method.id ≡ Some method.address
 address_found methods method apart here = go (find (λ other. other.id == method.id) methods) refl where
   go : (o : Option Method) → find (λ other. other.id == method.id) methods ≡ o → option_map (λ m. m.address) o ≡ Some method.address
   go None e =
@@ -55,23 +58,31 @@ address_found methods method apart here = go (find (λ other. other.id == method
       ap (λ (m : Method). Some m.address) (one_by_id methods other method apart is.0 here same)
 
 -- the matching methods have their addresses by their ids
-pub matching_found : (pattern : List ℕ) (tree : Registry) → IsLawful tree → IsPermutation (matched pattern tree.methods) (matching pattern tree.methods) → All (λ method. address_by_id tree.methods method.id ≡ Some method.address) (matching pattern tree.methods)
+pub matching_found : (pattern : List ℕ) (tree : Registry) → IsLawful tree → IsPermutation (matched pattern tree.methods) (matching pattern tree.methods)
+    → All (λ method. address_by_id tree.methods method.id ≡ Some method.address) (matching pattern tree.methods)
 matching_found pattern tree lawful same =
     let own : Method → Type 0 = λ method. address_by_id tree.methods method.id ≡ Some method.address in
     All-permutation own (matched pattern tree.methods) (matching pattern tree.methods) same
     (All-filter (λ method. matches pattern method.address) own tree.methods
-    (λ k d below. address_found tree.methods (get_or tree.methods k d) lawful.list.ids (k, below, get_or_default tree.methods k (get_or tree.methods k d) d below)))
+    (λ k d below. address_found tree.methods (get_or tree.methods k d) lawful.list.ids
+        (k, below, get_or_default tree.methods k (get_or tree.methods k d) d below)))
 
 -- calls by ids are the calls of the methods
-pub called : (all methods : List Method) (index : ℕ) (message : List ℕ) → All (λ method. address_by_id all method.id ≡ Some method.address) methods → map (call_by all index message) (map (λ method. method.id) methods) ≡ map (λ method. record { index = index; id = method.id; address = method.address; message = message }) methods
+pub called : (all methods : List Method) (index : ℕ) (message : List ℕ) → All (λ method. address_by_id all method.id ≡ Some method.address) methods
+    → map (call_by all index message) (map (λ method. method.id) methods)
+    ≡ map (λ method. record { index = index; id = method.id; address = method.address; message = message }) methods
 called all [] index message known = refl
 called all (method ∷ methods) index message known =
     let own : Method → Type 0 = λ m. address_by_id all m.id ≡ Some m.address in
-    rw (All-head own method methods known) (ap (λ (l : List Call). record { index = index; id = method.id; address = method.address; message = message } ∷ l) (called all methods index message (All-tail own method methods known)))
+    rw (All-head own method methods known)
+        (ap (λ (l : List Call). record { index = index; id = method.id; address = method.address; message = message } ∷ l)
+        (called all methods index message (All-tail own method methods known)))
 
 -- each of their ids has an address
-pub named : (all methods : List Method) → All (λ method. address_by_id all method.id ≡ Some method.address) methods → All (λ id. IsSome (address_by_id all id)) (map (λ method. method.id) methods)
+pub named : (all methods : List Method) → All (λ method. address_by_id all method.id ≡ Some method.address) methods
+    → All (λ id. IsSome (address_by_id all id)) (map (λ method. method.id) methods)
 named all [] known = All-nil (λ id. IsSome (address_by_id all id))
 named all (method ∷ methods) known =
     let own : Method → Type 0 = λ m. address_by_id all m.id ≡ Some m.address in
-    All-cons (λ id. IsSome (address_by_id all id)) method.id (map (λ m. m.id) methods) (subst (λ o. IsSome o) (sym (All-head own method methods known)) refl) (named all methods (All-tail own method methods known))
+    All-cons (λ id. IsSome (address_by_id all id)) method.id (map (λ m. m.id) methods) (subst (λ o. IsSome o) (sym (All-head own method methods known)) refl)
+        (named all methods (All-tail own method methods known))

@@ -19,9 +19,12 @@ lines-append unit xs ys =
     ap (λ (l : List Invocation). flat_map invocation_text l) (map-append of xs ys) ∙ flat_map-append invocation_text (map of xs) (map of ys)
 
 -- what is told of some calls, and then of one more
-pub one_more : (tell : List Call → List ℕ) (joined : (xs ys : List Call) → tell (xs ++ ys) ≡ tell xs ++ tell ys) (f : ℕ → Call) (ids : List ℕ) (i : ℕ) (old now new : List ℕ) → i < length ids
+pub one_more : (tell : List Call → List ℕ) (joined : (xs ys : List Call) → tell (xs ++ ys) ≡ tell xs ++ tell ys) (f : ℕ → Call) (ids : List ℕ) (i : ℕ)
+    (old now new : List ℕ) → i < length ids
     → now ≡ old ++ tell (map f (take i ids)) → new ≡ now ++ tell (f (get_or ids i 0) ∷ []) → new ≡ old ++ tell (map f (take (i + 1) ids))
 one_more tell joined f ids i old now new below so is =
     is ∙ ap (λ (l : List ℕ). l ++ tell (f (get_or ids i 0) ∷ [])) so
     ∙ append_assoc old (tell (map f (take i ids))) (tell (f (get_or ids i 0) ∷ []))
-    ∙ ap (λ (l : List ℕ). old ++ l) (sym (joined (map f (take i ids)) (f (get_or ids i 0) ∷ [])) ∙ ap tell (sym (ap (map f) (take_more ids i 0 below) ∙ map-append f (take i ids) (get_or ids i 0 ∷ []))))
+    ∙ ap (λ (l : List ℕ). old ++ l)
+        (sym (joined (map f (take i ids)) (f (get_or ids i 0) ∷ []))
+        ∙ ap tell (sym (ap (map f) (take_more ids i 0 below) ∙ map-append f (take i ids) (get_or ids i 0 ∷ []))))

@@ -8,7 +8,8 @@ abbrev pub OnMalformed : Result (List ℕ) ReplayFault → (ℕ → Type 0) → 
 OnMalformed (Err (Malformed at)) holds = holds at
 OnMalformed _ holds = Unit {0}
 
--- where an entry disagrees, this holds of its number, of the bytes that are kept, and of those that the server computed
+-- where an entry disagrees, this holds of its number, of the bytes that are kept, and of those that
+-- the server computed
 abbrev pub OnDisagrees : Result (List ℕ) ReplayFault → (ℕ → List ℕ → List ℕ → Type 0) → Type 0
 OnDisagrees (Err (Disagrees entry kept computed)) holds = holds entry kept computed
 OnDisagrees _ holds = Unit {0}

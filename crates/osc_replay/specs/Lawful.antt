@@ -1,4 +1,5 @@
 -- Events whose packets and addresses are lawful.
+use Rattle.osc_packet.specs.declared.limits.TheConstants.{MAX_PACKET}
 use Rattle.std.specs.Prelude.{Bool, true, nat_lt, ◌^◌}
 use Rattle.osc_pattern.specs.Addresses.{is_address}
 use Rattle.osc_packet.specs.Reading.{is_packet}
@@ -7,7 +8,7 @@ use Rattle.osc_model.specs.Events.{Event, enrol, submit, add, remove, tick, rele
 -- whether a caller can hand the event in
 abbrev pub is_lawful : Event → Bool
 is_lawful enrol = true
-is_lawful (submit packet) = is_packet 65504 packet
+is_lawful (submit packet) = is_packet MAX_PACKET packet
 is_lawful (add address) = is_address address
 is_lawful (remove address) = is_address address
 is_lawful (tick now) = nat_lt now (2 ^ 64)

@@ -22,11 +22,13 @@ use Rattle.osc_replay.specs.declared.outcome.Outcome.TheVariants.{Answered, Rele
 use Rattle.osc_replay.specs.Disagreeing.{computed_text}
 
 -- the hits have room for the ids of all methods, and the blocks of the queued units are counted
-pub record IsRunning (tree : Registry) (hits : HitList) (queue : Timed Messages) (used : ℕ) : Type 0 where
+pub record IsRunning (tree : Registry) (hits : HitList) (queue : Timed Messages)
+    (used : ℕ) : Type 0 where
   pub room : tree.method_limit ≤ hits.limit
   pub counted : used ≡ queued_blocks queue.items
 
--- the answer and the state that the rules give, as long as there is room for the entry; nothing is invoked
+-- the answer and the state that the rules give, as long as there is room for the entry; nothing is
+-- invoked
 pub record Decides (answer : Given) (old : State) (event : Event) (new : State) : Type 0 where
   pub answer_is : answer_of answer ≡ (decided old event).answer
   pub whole : HasWholeHits answer
@@ -35,8 +37,10 @@ pub record Decides (answer : Given) (old : State) (event : Event) (new : State) 
   pub adds : adds_entry (answer_of answer) ≡ true
   pub recorded : new.recorded ≡ old.recorded
 
--- an entry with the answer that the rules give, the lines of its invocations, and the state after it
-pub record Enters (answer : Answer) (lines : List ℕ) (old : State) (event : Event) (new : State) : Type 0 where
+-- an entry with the answer that the rules give, the lines of its invocations, and the state after
+-- it
+pub record Enters (answer : Answer) (lines : List ℕ) (old : State) (event : Event)
+    (new : State) : Type 0 where
   pub answer_is : answer ≡ (step old event).answer
   pub adds : adds_entry (step old event).answer ≡ true
   pub state_is : new ≡ (step old event).state
@@ -44,11 +48,14 @@ pub record Enters (answer : Answer) (lines : List ℕ) (old : State) (event : Ev
 
 -- the entry of a release of a unit, whose calls these are
 abbrev pub EntersRelease : ℕ → Calls → State → State → Type 0
-EntersRelease unit calls old new = (length calls.hits.items % 8 ≡ 0) × Enters (released unit (hits_in calls.hits.items)) calls.lines old release new
+EntersRelease unit calls old new =
+    (length calls.hits.items % 8 ≡ 0)
+    × Enters (released unit (hits_in calls.hits.items)) calls.lines old release new
 
 -- what an event that isn't a release comes to where its caller is enrolled
 abbrev pub Does : Outcome → State → Event → State → Type 0
-Does (Answered answer) old event new = HasWholeHits answer × Enters (answer_of answer) [] old event new
+Does (Answered answer) old event new =
+    HasWholeHits answer × Enters (answer_of answer) [] old event new
 Does (Released unit) old event new = ⊥
 Does Nothing old event new = adds_entry (step old event).answer ≡ false
 
@@ -60,8 +67,10 @@ Releases Nothing calls old new = adds_entry (step old release).answer ≡ false
 
 -- what an event of any caller comes to
 abbrev pub ComesTo : Outcome → Calls → ℕ → State → Event → State → Type 0
-ComesTo (Answered answer) calls caller old event new = (caller < old.callers) × HasWholeHits answer × Enters (answer_of answer) [] old event new
-ComesTo (Released unit) calls caller old event new = (caller < old.callers) × (event ≡ release) × EntersRelease unit calls old new
+ComesTo (Answered answer) calls caller old event new =
+    (caller < old.callers) × HasWholeHits answer × Enters (answer_of answer) [] old event new
+ComesTo (Released unit) calls caller old event new =
+    (caller < old.callers) × (event ≡ release) × EntersRelease unit calls old new
 ComesTo Nothing calls caller old event new = computed_text old caller event ≡ []
 
 -- a server with these limits played a legal history to this state
@@ -76,10 +85,13 @@ pub record Goes (entry : Entry) (old new : State) (printed after : List ℕ) : T
   pub adds : AddsEntry entry.answer
   pub answer_is : entry.answer ≡ (step old entry.event).answer
   pub state_is : new ≡ (step old entry.event).state
-  pub text : after ≡ printed ++ (entry_line entry ++ flat_map invocation_text (step old entry.event).invocations)
+  pub text : after
+      ≡ printed ++ (entry_line entry ++ flat_map invocation_text (step old entry.event).invocations)
 
--- why an entry isn't played: its bytes that are kept aren't those that are computed, or there is no memory
+-- why an entry isn't played: its bytes that are kept aren't those that are computed, or there is no
+-- memory
 abbrev pub Differs : ReplayFault → ℕ → List ℕ → List ℕ → Type 0
 Differs (Malformed at) number kept computed = ⊥
-Differs (Disagrees entry recorded given) number kept computed = (entry ≡ number) × (recorded ≡ kept) × (given ≡ computed) × (kept ≢ computed)
+Differs (Disagrees entry recorded given) number kept computed =
+    (entry ≡ number) × (recorded ≡ kept) × (given ≡ computed) × (kept ≢ computed)
 Differs NoMemory number kept computed = Unit {0}

@@ -55,8 +55,10 @@ pub(crate) fn find_calls(
     calls: &mut Calls,
 ) -> Result<(), AllocError>
     requires { tree.now.method_limit ≤ room.old.limit }
-    ensures hits { OnOk result (calls.new.hits.items ≡ hits_bytes (calls_from tree.now.methods 0 unit.now.messages)) }
-    ensures lines { OnOk result (calls.new.lines ≡ call_lines number (calls_from tree.now.methods 0 unit.now.messages)) }
+    ensures hits { OnOk result
+        (calls.new.hits.items ≡ hits_bytes (calls_from tree.now.methods 0 unit.now.messages)) }
+    ensures lines { OnOk result
+        (calls.new.lines ≡ call_lines number (calls_from tree.now.methods 0 unit.now.messages)) }
     ensures limit { room.new.limit ≡ room.old.limit }
 {
     calls.clear();
@@ -78,8 +80,12 @@ fn push_calls(
     calls: &mut Calls,
 ) -> Result<(), AllocError>
     requires { tree.now.method_limit ≤ room.old.limit }
-    ensures hits { OnOk result (calls.new.hits.items ≡ calls.old.hits.items ++ hits_bytes (calls_of tree.now.methods index message.entry)) }
-    ensures lines { OnOk result (calls.new.lines ≡ calls.old.lines ++ call_lines unit (calls_of tree.now.methods index message.entry)) }
+    ensures hits { OnOk result
+        (calls.new.hits.items ≡ calls.old.hits.items
+        ++ hits_bytes (calls_of tree.now.methods index message.entry)) }
+    ensures lines { OnOk result
+        (calls.new.lines ≡ calls.old.lines
+        ++ call_lines unit (calls_of tree.now.methods index message.entry)) }
     ensures limit { room.new.limit ≡ room.old.limit }
 {
     if message.unknown().is_some() {
@@ -97,8 +103,13 @@ fn push_calls(
 /// Adds the calls of the methods with these ids.
 fn push_hits(tree: &Tree, ids: &[u32], call: &Call<'_>, calls: &mut Calls) -> Result<(), AllocError>
     requires { All (λ id. IsSome (address_by_id tree.now.methods id)) ids.now }
-    ensures hits { OnOk result (calls.new.hits.items ≡ calls.old.hits.items ++ hits_bytes (map (call_by tree.now.methods call.now.index call.now.message) ids.now)) }
-    ensures lines { OnOk result (calls.new.lines ≡ calls.old.lines ++ call_lines call.now.unit (map (call_by tree.now.methods call.now.index call.now.message) ids.now)) }
+    ensures hits { OnOk result
+        (calls.new.hits.items ≡ calls.old.hits.items
+        ++ hits_bytes (map (call_by tree.now.methods call.now.index call.now.message) ids.now)) }
+    ensures lines { OnOk result
+        (calls.new.lines ≡ calls.old.lines
+        ++ call_lines call.now.unit
+        (map (call_by tree.now.methods call.now.index call.now.message) ids.now)) }
 {
     for id in ids {
         push_hit(tree, *id, call, calls)?;
@@ -109,8 +120,13 @@ fn push_hits(tree: &Tree, ids: &[u32], call: &Call<'_>, calls: &mut Calls) -> Re
 /// Adds the call of the method with an id.
 fn push_hit(tree: &Tree, id: u32, call: &Call<'_>, calls: &mut Calls) -> Result<(), AllocError>
     requires { IsSome (address_by_id tree.now.methods id) }
-    ensures hits { OnOk result (calls.new.hits.items ≡ calls.old.hits.items ++ hits_bytes (call_by tree.now.methods call.now.index call.now.message id ∷ [])) }
-    ensures lines { OnOk result (calls.new.lines ≡ calls.old.lines ++ call_lines call.now.unit (call_by tree.now.methods call.now.index call.now.message id ∷ [])) }
+    ensures hits { OnOk result
+        (calls.new.hits.items ≡ calls.old.hits.items
+        ++ hits_bytes (call_by tree.now.methods call.now.index call.now.message id ∷ [])) }
+    ensures lines { OnOk result
+        (calls.new.lines ≡ calls.old.lines
+        ++ call_lines call.now.unit
+        (call_by tree.now.methods call.now.index call.now.message id ∷ [])) }
 {
     let Some(address) = tree.address_of(id) else {
         unreachable!();
@@ -124,7 +140,8 @@ fn push_hit(tree: &Tree, id: u32, call: &Call<'_>, calls: &mut Calls) -> Result<
 fn find_hits(tree: &Tree, room: &mut Hits, pattern: &Pattern<'_>)
     requires { tree.now.method_limit ≤ room.old.limit }
     ensures ids { room.new.ids ≡ matching_ids pattern.now tree.now.methods }
-    ensures named { All (λ method. address_by_id tree.now.methods method.id ≡ Some method.address) (matching pattern.now tree.now.methods) }
+    ensures named { All (λ method. address_by_id tree.now.methods method.id ≡ Some method.address)
+        (matching pattern.now tree.now.methods) }
     ensures limit { room.new.limit ≡ room.old.limit }
 {
     osc_tree::laws::the_matching_methods_ascend();

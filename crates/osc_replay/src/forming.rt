@@ -9,14 +9,15 @@ ghost use Rattle.osc_replay.specs.Events.{event_in};
 
 use crate::event::LawfulEvent;
 use crate::row::Row;
-use osc_packet::Packet;
+use osc_packet::{MAX_PACKET, Packet};
 use osc_pattern::Address;
 use osc_record::{Event, Malformed, Unread};
 
 /// Reads the next entry, whose packet or address has to be lawful.
 pub(crate) fn next_row<'a>(unread: &mut Unread<'a>) -> Result<Option<Row<'a>>, Malformed>
     ensures end { IfOk result (λ next. IfNone next (unread.old.rest ≡ [])) }
-    ensures read { IfOk result (λ next. IfSome next (λ row. Reads unread.old (placed_of row.entry) unread.new)) }
+    ensures read { IfOk result
+        (λ next. IfSome next (λ row. Reads unread.old (placed_of row.entry) unread.new)) }
     ensures err { IfErr result (λ malformed. HasNoLawful unread.old malformed.at) }
 {
     let Some(entry) = unread.next_entry()? else {
@@ -36,7 +37,7 @@ fn lawful_event(event: Event<'_>) -> Option<LawfulEvent<'_>>
 {
     match event {
         Event::Enrol => Some(LawfulEvent::Enrol),
-        Event::Submit(packet) => match Packet::check(packet, 65_504) {
+        Event::Submit(packet) => match Packet::check(packet, MAX_PACKET) {
             Ok(packet) => Some(LawfulEvent::Submit(packet)),
             Err(_) => None,
         },

@@ -1,7 +1,7 @@
 // Recordings, replayed entry by entry.
 ghost use Rattle.std.specs.Prelude.{◌≡◌, ◌≢◌, ◌+◌, ◌≤◌, ◌<◌, ◌^◌, ◌%◌, ◌++◌, ℕ, List, length, IfOk, IfErr, OnOk};
 ghost use Rattle.osc_print.specs.Entries.{entry_text as line_of};
-ghost use Rattle.osc_model.specs.Limits.{Limits};
+ghost use Rattle.osc_model.specs.Limits.{Limits, max_recording};
 ghost use Rattle.osc_model.specs.Events.{Entry as Recorded};
 ghost use Rattle.osc_model.specs.Recordings.{IsRecordable, entry_text};
 ghost use Rattle.osc_model.specs.History.{IsLawful};
@@ -28,11 +28,16 @@ use std::alloc::Global;
 /// The printed history of a recording (docs/FORMATS.md, "Printed text"), as a server with its limits plays it again.
 /// Refuses bytes that are malformed anywhere, and else the first entry that the server doesn't give.
 pub fn replay(alloc: Global, recording: &[u8]) -> Result<Text, ReplayFault>
-    requires { length recording.now ≤ 1073741824 }
-    ensures ok { IfOk result (λ text. (caps : Limits) × (history : List Recorded) × IsRecordingOf recording.now caps history × (text ≡ printed caps history)) }
+    requires { length recording.now ≤ max_recording }
+    ensures ok { IfOk result
+        (λ text. (caps : Limits) × (history : List Recorded)
+        × IsRecordingOf recording.now caps history × (text ≡ printed caps history)) }
     ensures malformed { OnMalformed result (λ at. IsUnformedAt recording.now at) }
-    ensures disagrees { OnDisagrees result (λ entry kept computed. DisagreesAt recording.now entry kept computed) }
-    ensures complete { (caps : Limits) (history : List Recorded) → IsRecordingOf recording.now caps history → IsTextUnlessShort result (printed caps history) }
+    ensures disagrees { OnDisagrees result
+        (λ entry kept computed. DisagreesAt recording.now entry kept computed) }
+    ensures complete { (caps : Limits) (history : List Recorded)
+        → IsRecordingOf recording.now caps history
+        → IsTextUnlessShort result (printed caps history) }
 {
     osc_model::laws::a_legal_history_is_recordable();
     let mut unread = Unread::open(recording)?;
@@ -62,10 +67,18 @@ fn replay_row<'a>(
     row: Row<'a>,
 ) -> Result<(), ReplayFault>
     requires reached { IsReached server.old }
-    requires recordable { IsRecordable row.entry.caller (event_of row.entry.event) (answer_of row.entry.answer) }
-    requires small { length (entry_text row.entry.caller (event_of row.entry.event) (answer_of row.entry.answer)) ≤ 1073741824 }
-    ensures ok { OnOk result (Goes (placed_of row.entry.entry).entry server.old server.new text.old text.new) }
-    ensures differs { IfErr result (λ fault. Differs fault number (entry_text row.entry.entry.caller (event_of row.entry.entry.event) (answer_of row.entry.entry.answer)) (computed_text server.old row.entry.entry.caller (event_of row.entry.entry.event))) }
+    requires recordable { IsRecordable row.entry.caller (event_of row.entry.event)
+        (answer_of row.entry.answer) }
+    requires small { length
+        (entry_text row.entry.caller (event_of row.entry.event) (answer_of row.entry.answer))
+        ≤ max_recording }
+    ensures ok { OnOk result
+        (Goes (placed_of row.entry.entry).entry server.old server.new text.old text.new) }
+    ensures differs { IfErr result
+        (λ fault. Differs fault number
+        (entry_text row.entry.entry.caller (event_of row.entry.entry.event)
+        (answer_of row.entry.entry.answer))
+        (computed_text server.old row.entry.entry.caller (event_of row.entry.entry.event))) }
 {
     osc_model::laws::a_legal_history_is_recordable();
     osc_model::laws::a_performance_goes_on();
@@ -95,13 +108,23 @@ fn print_agreed(
     lines: &[u8],
 ) -> Result<(), ReplayFault>
     requires whole { HasWholeHits answer }
-    requires kept { IsRecordable entry.now.caller (event_of entry.now.event) (answer_of entry.now.answer) }
-    requires kept_small { length (entry_text entry.now.caller (event_of entry.now.event) (answer_of entry.now.answer)) ≤ 1073741824 }
-    requires computed { IsRecordable entry.now.caller (event_of entry.now.event) (answer_of answer) }
-    requires computed_small { length (entry_text entry.now.caller (event_of entry.now.event) (answer_of answer)) ≤ 1073741824 }
+    requires kept { IsRecordable entry.now.caller (event_of entry.now.event)
+        (answer_of entry.now.answer) }
+    requires kept_small { length
+        (entry_text entry.now.caller (event_of entry.now.event) (answer_of entry.now.answer))
+        ≤ max_recording }
+    requires computed { IsRecordable entry.now.caller (event_of entry.now.event)
+        (answer_of answer) }
+    requires computed_small { length
+        (entry_text entry.now.caller (event_of entry.now.event) (answer_of answer))
+        ≤ max_recording }
     ensures agree { OnOk result (answer_of entry.now.answer ≡ answer_of answer.entry) }
-    ensures text { OnOk result (text.new ≡ text.old ++ (line_of (placed_of entry.now).entry ++ lines.now)) }
-    ensures differs { IfErr result (λ fault. Differs fault number (entry_text entry.now.caller (event_of entry.now.event) (answer_of entry.now.answer)) (entry_text entry.now.caller (event_of entry.now.event) (answer_of answer.entry))) }
+    ensures text { OnOk result
+        (text.new ≡ text.old ++ (line_of (placed_of entry.now).entry ++ lines.now)) }
+    ensures differs { IfErr result
+        (λ fault. Differs fault number
+        (entry_text entry.now.caller (event_of entry.now.event) (answer_of entry.now.answer))
+        (entry_text entry.now.caller (event_of entry.now.event) (answer_of answer.entry))) }
 {
     osc_record::laws::entries_have_their_own_texts();
     if !agree(entry.answer, answer) {

@@ -2,7 +2,6 @@
 ghost use Rattle.std.specs.Prelude.{◌≡◌, ◌<◌, ◌++◌, ◌∷◌, [], length, option_map, IsTrue, IfOk, IfSome, IfNone};
 ghost use Rattle.osc_tree.specs.Adding.{refusal_of, add_refusal};
 ghost use Rattle.osc_tree.specs.Registry.{IsNewId};
-ghost use Rattle.osc_atoms.specs.Atoms as atoms;
 ghost use Rattle.osc_model.specs.Events.{release, ticked};
 ghost use Rattle.osc_model.specs.Events as events;
 ghost use Rattle.osc_model.specs.Recordings.{entry_size};
@@ -17,7 +16,7 @@ use osc_atoms::Room;
 use osc_packet::Packet;
 use osc_pattern::Address;
 use osc_queue::Queue;
-use osc_record::{Answer, Caps};
+use osc_record::{Answer, Caps, ENROL_SIZE, HEADER_SIZE, TICK_SIZE, add_size, release_size, remove_size, submit_size};
 use osc_tree::{Hits, Tree, TreeRefusal};
 use std::alloc::{AllocError, Global};
 use std::marker::Model;
@@ -50,7 +49,12 @@ impl<'a> Model for Server<'a> {
 
     ghost Value = { State };
 
-    ghost view = { λ s. record { caps = record { units = s.queue.limit; blocks = s.blocks; methods = s.tree.method_limit; nodes = s.tree.node_limit; callers = s.caller_limit; recording = s.record_limit }; methods = s.tree.methods; queue = s.queue.items; clock = s.clock; next_id = s.next_id; next_unit = s.next_unit; callers = s.callers; recorded = s.recorded } };
+    ghost view =
+        { λ s. record { caps = record { units = s.queue.limit; blocks = s.blocks;
+        methods = s.tree.method_limit; nodes = s.tree.node_limit; callers =
+        s.caller_limit; recording = s.record_limit }; methods = s.tree.methods;
+        queue = s.queue.items; clock = s.clock; next_id = s.next_id; next_unit =
+        s.next_unit; callers = s.callers; recorded = s.recorded } };
 
     ghost invariant = { λ s. IsRunning s.tree s.hits s.queue s.used };
 }
@@ -79,7 +83,7 @@ impl<'a> Server<'a> {
             next_unit: 0,
             callers: 1,
             caller_limit: caps.callers(),
-            recorded: 56,
+            recorded: HEADER_SIZE,
             record_limit: caps.recording(),
         })
     }
@@ -94,7 +98,8 @@ impl<'a> Server<'a> {
     ) -> Result<Outcome, AllocError>
         requires lawful { IsLawful (event_in event) }
         requires reached { IsReached self.old }
-        ensures { IfOk result (λ outcome. ComesTo outcome calls.new caller self.old (event_in event.entry) self.new) }
+        ensures { IfOk result
+            (λ outcome. ComesTo outcome calls.new caller self.old (event_in event.entry) self.new) }
     {
         if caller >= self.callers {
             return Ok(Outcome::Nothing);
@@ -114,7 +119,7 @@ impl<'a> Server<'a> {
     {
         osc_model::laws::a_server_stays_sound();
         let size = entry_size(&event);
-        if size > (self.record_limit - self.recorded) as usize {
+        if size > u64::from(self.record_limit - self.recorded) {
             return Ok(Outcome::Nothing);
         }
         let answer = self.decide(event)?;
@@ -181,7 +186,7 @@ impl<'a> Server<'a> {
         requires counted { IsCounted self.old }
         ensures { IfOk result (λ answer. Decides answer self.old (add address.now) self.new) }
     {
-        let address = read_address(self.alloc, address)?;
+        let address = Address::known(self.alloc, address)?;
         let id = self.next_id;
         if let Some(refusal) = add_to(&mut self.tree, address, id) {
             return Ok(refused(refusal));
@@ -194,7 +199,7 @@ impl<'a> Server<'a> {
         requires { IsTrue (is_address address.now) }
         ensures { IfOk result (λ answer. Decides answer self.old (remove address.now) self.new) }
     {
-        let address = read_address(self.alloc, address)?;
+        let address = Address::known(self.alloc, address)?;
         match self.tree.remove(&address) {
             Ok(id) => Ok(Answer::Removed(id)),
             Err(_) => Ok(Answer::NotThere),
@@ -233,44 +238,16 @@ impl<'a> Server<'a> {
 }
 
 /// How many bytes the entry of an event has; that of a release, as long as it has no hits.
-fn entry_size(event: &LawfulEvent<'_>) -> usize
+fn entry_size(event: &LawfulEvent<'_>) -> u64
     ensures { result ≡ entry_size (event_in event.now) ticked }
 {
     match event {
-        LawfulEvent::Enrol => 28,
-        LawfulEvent::Submit(packet) => {
-            let size = packet.bytes().len();
-            48 + (size + blob_end(size))
-        }
-        LawfulEvent::Add(address) => 40 + string_size(address),
-        LawfulEvent::Remove(address) => 36 + string_size(address),
-        LawfulEvent::Tick(_) => 48,
-        LawfulEvent::Release => 44,
-    }
-}
-
-/// How many zero bytes pad a blob of so many bytes.
-fn blob_end(size: usize) -> usize
-    ensures value { result ≡ atoms.blob_end size }
-    ensures below { result < 4 }
-{
-    (4 - size % 4) % 4
-}
-
-/// How many bytes the string of a text has.
-fn string_size(text: &[u8]) -> usize
-    ensures { result ≡ length (atoms.string text.now) }
-{
-    text.len() + (4 - text.len() % 4)
-}
-
-/// The address that the bytes are. The `Err` is want of memory.
-fn read_address(alloc: Global, bytes: &[u8]) -> Result<Address, AllocError>
-    ensures { IfOk result (λ address. address ≡ bytes.now) }
-{
-    match Address::read(alloc, bytes) {
-        Ok(address) => Ok(address),
-        Err(_) => Err(AllocError),
+        LawfulEvent::Enrol => ENROL_SIZE,
+        LawfulEvent::Submit(packet) => submit_size(packet.bytes()),
+        LawfulEvent::Add(address) => add_size(address),
+        LawfulEvent::Remove(address) => remove_size(address),
+        LawfulEvent::Tick(_) => TICK_SIZE,
+        LawfulEvent::Release => release_size(0),
     }
 }
 
@@ -278,7 +255,9 @@ fn read_address(alloc: Global, bytes: &[u8]) -> Result<Address, AllocError>
 fn add_to(tree: &mut Tree, address: Address, id: u32) -> Option<TreeRefusal>
     requires { IsNewId tree.old.methods id }
     ensures refusal { option_map refusal_of result ≡ add_refusal tree.old address }
-    ensures added { IfNone result (tree.new ≡ record tree.old { methods = tree.old.methods ++ record { id = id; address = address } ∷ [] }) }
+    ensures added { IfNone result
+        (tree.new ≡ record tree.old { methods = tree.old.methods
+        ++ record { id = id; address = address } ∷ [] }) }
     ensures unchanged { IfSome result (λ refusal. tree.new ≡ tree.old) }
 {
     match tree.add(address, id) {

@@ -79,7 +79,8 @@ pub(crate) fn enter_all<'a>(queue: &mut Queue<Queued<'a>>, units: Units<'a>, clo
     requires given { AreNumbered first queue.old.items }
     requires numbers { first + length units < 2 ^ 64 }
     requires places { length queue.old.items + length units ≤ queue.old.limit }
-    ensures items { queue.new.items ≡ step.enter_all (step.numbered clock first units.entry) queue.old.items }
+    ensures items { queue.new.items
+        ≡ step.enter_all (step.numbered clock first units.entry) queue.old.items }
     ensures limit { queue.new.limit ≡ queue.old.limit }
 {
     let mut number = first;
@@ -93,7 +94,8 @@ pub(crate) fn enter_all<'a>(queue: &mut Queue<Queued<'a>>, units: Units<'a>, clo
 fn enter<'a>(queue: &mut Queue<Queued<'a>>, unit: Queued<'a>, clock: u64, number: u64)
     requires given { AreNumbered number queue.old.items }
     requires place { length queue.old.items < queue.old.limit }
-    ensures items { queue.new.items ≡ timed.enter (step.waiting clock number unit.entry) queue.old.items }
+    ensures items { queue.new.items
+        ≡ timed.enter (step.waiting clock number unit.entry) queue.old.items }
     ensures given { AreNumbered (number + 1) queue.new.items }
     ensures length { length queue.new.items ≡ length queue.old.items + 1 }
     ensures limit { queue.new.limit ≡ queue.old.limit }

@@ -10,13 +10,21 @@ moved : (P : List ℕ → Type 0) (hits : List ℕ) → AreBytes hits → length
 moved P hits small whole p = subst P (hits_back hits small whole).0 p
 
 pub append_release-requires-clause-fits : goal.append_release-requires-clause-fits
-append_release-requires-clause-fits c = moved (λ h. AllFit (release_row c.args.caller c.args.unit h).arguments) c.args.hits.now (λ i. omega (arith, c.type_inv.hits i)) c.requires.whole c.requires.fits
+append_release-requires-clause-fits c =
+    moved (λ h. AllFit (release_row c.args.caller c.args.unit h).arguments) c.args.hits.now
+    (λ i. omega (arith, c.type_inv.hits i)) c.requires.whole c.requires.fits
 
 pub append_release-requires-clause-small : goal.append_release-requires-clause-small
-append_release-requires-clause-small c = moved (λ h. length (row_text (release_row c.args.caller c.args.unit h)) ≤ 1073741824) c.args.hits.now (λ i. omega (arith, c.type_inv.hits i)) c.requires.whole (omega (arith, c.requires.small))
+append_release-requires-clause-small c =
+    moved (λ h. length (row_text (release_row c.args.caller c.args.unit h)) ≤ 1073741824) c.args.hits.now
+    (λ i. omega (arith, c.type_inv.hits i)) c.requires.whole (omega (arith, c.requires.small))
 
 pub append_release-requires-clause-room : goal.append_release-requires-clause-room
-append_release-requires-clause-room c = moved (λ h. vec_len c.args.out.now + length (sized (row_text (release_row c.args.caller c.args.unit h))) ≤ vec_capacity c.args.out.now) c.args.hits.now (λ i. omega (arith, c.type_inv.hits i)) c.requires.whole c.requires.room
+append_release-requires-clause-room c =
+    moved (λ h. vec_len c.args.out.now + length (sized (row_text (release_row c.args.caller c.args.unit h))) ≤ vec_capacity c.args.out.now) c.args.hits.now
+    (λ i. omega (arith, c.type_inv.hits i)) c.requires.whole c.requires.room
 
 pub returns : goal.returns
-returns c = c.append_release.ensures ∙ sym (ap (λ h. c.args.out.now.items ++ sized (row_text (release_row c.args.caller c.args.unit h))) (hits_back c.args.hits.now (λ i. omega (arith, c.type_inv.hits i)) c.requires.whole).0)
+returns c = c.append_release.ensures
+    ∙ sym (ap (λ h. c.args.out.now.items ++ sized (row_text (release_row c.args.caller c.args.unit h)))
+    (hits_back c.args.hits.now (λ i. omega (arith, c.type_inv.hits i)) c.requires.whole).0)

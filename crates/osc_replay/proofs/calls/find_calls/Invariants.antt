@@ -10,6 +10,7 @@ invariant-loop-message l = record {
   finite : (goal.iterator-loop-message).is_finite l.message-iterator;
   few : l.index + length l.message-iterator ≤ 16377;
   hits : l.calls.hits.items ++ hits_bytes (calls_from l.tree.methods l.index l.message-iterator) ≡ hits_bytes (calls_from l.tree.methods 0 l.unit.messages);
-  lines : l.calls.lines ++ call_lines l.number (calls_from l.tree.methods l.index l.message-iterator) ≡ call_lines l.number (calls_from l.tree.methods 0 l.unit.messages);
+  lines : l.calls.lines ++ call_lines l.number (calls_from l.tree.methods l.index l.message-iterator)
+      ≡ call_lines l.number (calls_from l.tree.methods 0 l.unit.messages);
   limit : l.room.limit ≡ l.initial.room.limit;
 }

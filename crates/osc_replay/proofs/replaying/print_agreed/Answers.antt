@@ -14,5 +14,7 @@ returns-then-not-agree-clause-differs c =
       refl,
       c.in_ok-entry_bytes.ensures,
       c.in_ok-entry_bytes-2.ensures,
-      λ same. clash c.agree.result c.if-not-agree.true (c.agree.ensures.1 (ap (λ (e : Entry). e.answer) (c.entries_have_their_own_texts.ensures.same kept computed c.requires.kept c.requires.computed same))),
+      λ same. clash c.agree.result c.if-not-agree.true
+          (c.agree.ensures.1
+          (ap (λ (e : Entry). e.answer) (c.entries_have_their_own_texts.ensures.same kept computed c.requires.kept c.requires.computed same))),
     )

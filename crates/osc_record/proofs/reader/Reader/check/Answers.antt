@@ -28,14 +28,18 @@ returns-in-Ok-clause-ok c = record_ok c.args.bytes.now c.in-Some.caps (sym c.in-
 
 pub returns-in-Ok-clause-written : goal.returns-in-Ok-clause-written
 returns-in-Ok-clause-written c =
-    let was = record_was c.args.bytes.now c.in-Some.caps (λ i. omega (arith, c.type_inv.bytes i)) (sym c.in-Some.ensures) (read_after c.in-Some.caps c.args.bytes.now (walked c)) in
+    let was = record_was c.args.bytes.now c.in-Some.caps (λ i. omega (arith, c.type_inv.bytes i)) (sym c.in-Some.ensures)
+        (read_after c.in-Some.caps c.args.bytes.now (walked c)) in
     (was.lawful, was.text)
 
 pub returns-in-Ok-clause-complete : goal.returns-in-Ok-clause-complete
-returns-in-Ok-clause-complete c = complete_ok c.args.bytes.now c.in-Some.caps (placed_in (entries_after c.in-Some.caps c.args.bytes.now)) (record_ok c.args.bytes.now c.in-Some.caps (sym c.in-Some.ensures) (walked c))
+returns-in-Ok-clause-complete c =
+    complete_ok c.args.bytes.now c.in-Some.caps (placed_in (entries_after c.in-Some.caps c.args.bytes.now))
+    (record_ok c.args.bytes.now c.in-Some.caps (sym c.in-Some.ensures) (walked c))
 
 failed : (c : goal.In-Err) → record_read c.args.bytes.now ≡ Err c.in-Err.at
-failed c = record_err c.args.bytes.now c.in-Some.caps c.in-Err.at (sym c.in-Some.ensures) (c.in-Err.ensures ∙ ap (λ (n : ℕ). outcome (entries_at n 56 (drop 56 c.args.bytes.now))) c.recording.ensures.value)
+failed c = record_err c.args.bytes.now c.in-Some.caps c.in-Err.at (sym c.in-Some.ensures)
+    (c.in-Err.ensures ∙ ap (λ (n : ℕ). outcome (entries_at n 56 (drop 56 c.args.bytes.now))) c.recording.ensures.value)
 
 pub returns-in-Err-clause-err : goal.returns-in-Err-clause-err
 returns-in-Err-clause-err c = failed c
@@ -46,7 +50,8 @@ returns-in-Err-clause-complete c = complete_err c.args.bytes.now c.in-Err.at (fa
 pub returns-in-Err-clause-first : goal.returns-in-Err-clause-first
 returns-in-Err-clause-first c =
     inr (no_entry c.args.bytes.now c.in-Some.caps c.in-Err.at (λ i. omega (arith, c.type_inv.bytes i)) (sym c.in-Some.ensures)
-    (err_after c.in-Some.caps c.args.bytes.now c.in-Err.at (c.in-Err.ensures ∙ ap (λ (n : ℕ). outcome (entries_at n 56 (drop 56 c.args.bytes.now))) c.recording.ensures.value)))
+    (err_after c.in-Some.caps c.args.bytes.now c.in-Err.at
+        (c.in-Err.ensures ∙ ap (λ (n : ℕ). outcome (entries_at n 56 (drop 56 c.args.bytes.now))) c.recording.ensures.value)))
 
 pub returns-in_default-clause-first : goal.returns-in_default-clause-first
 returns-in_default-clause-first c = inl (no_header c.args.bytes.now (sym c.in_default.ensures))

@@ -4,4 +4,5 @@ use Rattle.osc_replay.proofs.Sizing.{messages_within}
 use Rattle.osc_replay.proofs.units.Queued.messages.Goals as goal
 
 pub returns-clause-few : goal.returns-clause-few
-returns-clause-few c = omega (arith, messages_within c.self.inside.unit.messages, c.self.invariant.small, ap (λ (unit : Timed). length unit.messages) c.self.view_is)
+returns-clause-few c =
+    omega (arith, messages_within c.self.inside.unit.messages, c.self.invariant.small, ap (λ (unit : Timed). length unit.messages) c.self.view_is)
