@@ -43,7 +43,7 @@ message_again bytes rest some four small =
     cond-true _ _ _ (le-leb 4 (length (sized bytes ++ rest)) (omega arith))
     ∙ ap (λ n. bytes_of_size n (bytes ++ rest)) size
     ∙ cond-true _ _ _
-        (all_three _ _ _ (lt-ltb 0 (length bytes) some) (eq-eqb (length bytes % 4) 0 four) (le-leb (length bytes) (length (bytes ++ rest)) within))
+    (all_three _ _ _ (lt-ltb 0 (length bytes) some) (eq-eqb (length bytes % 4) 0 four) (le-leb (length bytes) (length (bytes ++ rest)) within))
     ∙ ap (λ l. Some l) (take_front bytes rest)
 
 pub sized_length : (message : List ℕ) → 4 + length message ≡ length (sized message)
@@ -53,25 +53,25 @@ sized_length message = omega arith
 pub entry_first_again : (caller : ℕ) (event : Event) (answer : Answer) (rest : List ℕ) (limit place : ℕ) → IsRecordable caller event answer
     → place + length (entry_text caller event answer) ≤ limit → limit ≤ 1073741824
     → entry_first limit place (entry_text caller event answer ++ rest)
-        ≡ Some (record { caller = caller; event = event; answer = answer }, length (entry_text caller event answer))
+    ≡ Some (record { caller = caller; event = event; answer = answer }, length (entry_text caller event answer))
 entry_first_again caller event answer rest limit place is fits small =
     go (row_of caller event answer) is.fits (row_lawful caller event answer is.fits) (entry_again caller event answer is.sound) fits where
-  go : (o : Option Row) → FitsRow o → LawfulRow o → ReadAs (record { caller = caller; event = event; answer = answer }) o
-      → place + length (option_map_or (λ row. sized (row_text row)) o []) ≤ limit
-      → entry_first limit place (option_map_or (λ row. sized (row_text row)) o [] ++ rest)
+      go : (o : Option Row) → FitsRow o → LawfulRow o → ReadAs (record { caller = caller; event = event; answer = answer }) o
+          → place + length (option_map_or (λ row. sized (row_text row)) o []) ≤ limit
+          → entry_first limit place (option_map_or (λ row. sized (row_text row)) o [] ++ rest)
           ≡ Some (record { caller = caller; event = event; answer = answer }, length (option_map_or (λ row. sized (row_text row)) o []))
-  go None f l r within = absurd f
-  go (Some row) f l r within =
-      let message : List ℕ = row_text row in
-      let some : 0 < length message = text_some (known row.address row.arguments) l in
-      let four : length message % 4 ≡ 0 = text_fours (known row.address row.arguments) l in
-      let most : length message ≤ 1073741824 = omega (arith, length-append (to_be_bytes w32 (length message)) message) in
-      let read : entry_of message ≡ Some (record { caller = caller; event = event; answer = answer }) = row_again row l most ∙ r in
-      ap (option_and_then (λ m. if nat_le (place + 4 + length m) limit then option_map (λ entry. (entry, 4 + length m)) (entry_of m) else None))
+      go None f l r within = absurd f
+      go (Some row) f l r within =
+          let message : List ℕ = row_text row in
+          let some : 0 < length message = text_some (known row.address row.arguments) l in
+          let four : length message % 4 ≡ 0 = text_fours (known row.address row.arguments) l in
+          let most : length message ≤ 1073741824 = omega (arith, length-append (to_be_bytes w32 (length message)) message) in
+          let read : entry_of message ≡ Some (record { caller = caller; event = event; answer = answer }) = row_again row l most ∙ r in
+          ap (option_and_then (λ m. if nat_le (place + 4 + length m) limit then option_map (λ entry. (entry, 4 + length m)) (entry_of m) else None))
           (message_again message rest some four (omega arith))
-      ∙ cond-true _ _ _ (le-leb (place + 4 + length message) limit (omega arith))
-      ∙ ap (option_map (λ entry. (entry, 4 + length message))) read
-      ∙ ap (λ (n : ℕ). Some (record { caller = caller; event = event; answer = answer }, n)) (sized_length message)
+          ∙ cond-true _ _ _ (le-leb (place + 4 + length message) limit (omega arith))
+          ∙ ap (option_map (λ entry. (entry, 4 + length message))) read
+          ∙ ap (λ (n : ℕ). Some (record { caller = caller; event = event; answer = answer }, n)) (sized_length message)
 
 some_is : {X : Type 0} (x y : X) → ◌≡◌ {A = Option X} (Some x) (Some y) → x ≡ y
 some_is x y e = cc
@@ -98,7 +98,7 @@ message_more bytes next message is =
           (le-leb 4 (length (bytes ++ next)) long)
           ∙ (λ i. bytes_of_size (from_be_bytes w32 (front i)) (back i))
           ∙ cond-true (nat_lt 0 size && size % 4 == 0 && nat_le size (length (drop 4 bytes ++ next))) (Some (take size (drop 4 bytes ++ next))) None
-              (all_three _ _ _ tests.0 tests.1 (le-leb size (length (drop 4 bytes ++ next)) longer))
+          (all_three _ _ _ tests.0 tests.1 (le-leb size (length (drop 4 bytes ++ next)) longer))
           ∙ ap (λ (l : List ℕ). Some l) (take-append-le size (drop 4 bytes) next within)
           ∙ ap (λ (l : List ℕ). Some l) same,
       omega (arith, length-drop 4 bytes, length-take-le size (drop 4 bytes) within, ap length same),
@@ -159,14 +159,14 @@ entries_more most (suc more) limit place [] next xs entry read fewer first some 
 entries_more zero (suc more) limit place (byte ∷ bytes) next xs entry read fewer first some = absurd (cc)
 entries_more (suc most) (suc more) limit place (byte ∷ bytes) next xs entry read fewer first some =
     go (entry_first limit place (byte ∷ bytes)) refl read
-        (λ size ys rest there. entries_more most more limit (place + size) (drop size (byte ∷ bytes)) next ys entry rest (omega arith) there some)
+    (λ size ys rest there. entries_more most more limit (place + size) (drop size (byte ∷ bytes)) next ys entry rest (omega arith) there some)
   where
     go : (o : Option (Recorded × ℕ)) → entry_first limit place (byte ∷ bytes) ≡ o
         → before_read place o (λ size. entries_read most limit (place + size) (drop size (byte ∷ bytes))) ≡ Ok xs
         → ((size : ℕ) (ys : List Placed) → entries_read most limit (place + size) (drop size (byte ∷ bytes)) ≡ Ok ys
-            → entry_first limit (place + size + length (drop size (byte ∷ bytes))) next ≡ Some (entry, length next)
+        → entry_first limit (place + size + length (drop size (byte ∷ bytes))) next ≡ Some (entry, length next)
         → entries_read more limit (place + size) (drop size (byte ∷ bytes) ++ next)
-            ≡ Ok (ys ++ record { at = place + size + length (drop size (byte ∷ bytes)); entry = entry } ∷ []))
+        ≡ Ok (ys ++ record { at = place + size + length (drop size (byte ∷ bytes)); entry = entry } ∷ []))
         → entries_read (suc more) limit place ((byte ∷ bytes) ++ next) ≡ Ok (xs ++ record { at = place + length (byte ∷ bytes); entry = entry } ∷ [])
     go None found is again = absurd (cc)
     go (Some head) found is again = inner (entries_read most limit (place + head.1) (drop head.1 (byte ∷ bytes))) refl is where
@@ -181,9 +181,9 @@ entries_more (suc most) (suc more) limit place (byte ∷ bytes) next xs entry re
           let all : record { at = place; entry = head.0 } ∷ ys ≡ xs = ok_is (record { at = place; entry = head.0 } ∷ ys) xs e in
           ap (λ o. before_read place o (λ size. entries_read more limit (place + size) (drop size ((byte ∷ bytes) ++ next)))) more_is.0
           ∙ ap (λ l. onto_read (record { at = place; entry = head.0 }) (entries_read more limit (place + head.1) l))
-              (drop-append-le head.1 (byte ∷ bytes) next size)
+          (drop-append-le head.1 (byte ∷ bytes) next size)
           ∙ ap (onto_read (record { at = place; entry = head.0 }))
-              (again head.1 ys rest (subst (λ (p : ℕ). entry_first limit p next ≡ Some (entry, length next)) (sym same) first))
+          (again head.1 ys rest (subst (λ (p : ℕ). entry_first limit p next ≡ Some (entry, length next)) (sym same) first))
           ∙ (λ i. Ok (all i ++ record { at = same i; entry = entry } ∷ []))
 
 -- the first entry is the one that the bytes begin with
@@ -206,5 +206,5 @@ pub entry_in_again : (caller : ℕ) (event : Event) (answer : Answer) (rest : Li
     → entry_in (entry_text caller event answer ++ rest) ≡ Some (record { caller = caller; event = event; answer = answer })
 entry_in_again caller event answer rest is small =
     first_in 1073741824 0 (entry_text caller event answer ++ rest)
-        (record { caller = caller; event = event; answer = answer }, length (entry_text caller event answer))
+    (record { caller = caller; event = event; answer = answer }, length (entry_text caller event answer))
     (entry_first_again caller event answer rest 1073741824 0 is (omega arith) (omega arith))

@@ -26,9 +26,9 @@ strings_apart : (one other x y : List ℕ) → has_no_zero one ≡ true → has_
 strings_apart one other x y nonzero nonzero_other same =
     let bytes : List ℕ = string one ++ x in
     let first : string_read bytes 0 ≡ Ok (one, 0 + length (string one)) =
-        string_again bytes 0 one (record { no_zero = nonzero; written = record { rest = x; parts = refl } }) in
+    string_again bytes 0 one (record { no_zero = nonzero; written = record { rest = x; parts = refl } }) in
     let second : string_read bytes 0 ≡ Ok (other, 0 + length (string other)) =
-        string_again bytes 0 other (record { no_zero = nonzero_other; written = record { rest = y; parts = same } }) in
+    string_again bytes 0 other (record { no_zero = nonzero_other; written = record { rest = y; parts = same } }) in
     let text : one ≡ other = read_is (one, 0 + length (string one)) (other, 0 + length (string other)) (sym first ∙ second) in
     (text, append_cancel_left (string one) x y (same ∙ ap (λ (t : List ℕ). string t ++ y) (sym text)))
   where
@@ -40,11 +40,11 @@ argument_apart : (one other : Argument) (x y : List ℕ) → Fits one → Fits o
 argument_apart one other x y fits fits_other tags same =
     let bytes : List ℕ = atom_of one ++ x in
     let first : argument_read (tag_of one) bytes 0 ≡ Ok (one, 0 + length (atom_of one)) =
-        argument_again bytes 0 one (record { fits = fits; written = record { rest = x; parts = refl } }) in
+    argument_again bytes 0 one (record { fits = fits; written = record { rest = x; parts = refl } }) in
     let second : argument_read (tag_of other) bytes 0 ≡ Ok (other, 0 + length (atom_of other)) =
-        argument_again bytes 0 other (record { fits = fits_other; written = record { rest = y; parts = same } }) in
+    argument_again bytes 0 other (record { fits = fits_other; written = record { rest = y; parts = same } }) in
     let argument : one ≡ other = read_is (one, 0 + length (atom_of one)) (other, 0 + length (atom_of other))
-        (sym first ∙ ap (λ (n : ℕ). argument_read n bytes 0) tags ∙ second) in
+    (sym first ∙ ap (λ (n : ℕ). argument_read n bytes 0) tags ∙ second) in
     (argument, append_cancel_left (atom_of one) x y (same ∙ ap (λ (a : Argument). atom_of a ++ y) (sym argument)))
   where
     read_is : (p q : Argument × ℕ) → ◌≡◌ {A = Result (Argument × ℕ) Fault} (Ok p) (Ok q) → p.0 ≡ q.0
@@ -59,7 +59,7 @@ arguments_apart (a ∷ one) (b ∷ other) x y fit fit_other tags same =
     let tag : tag_of a ≡ tag_of b = cc in
     let behind : map tag_of one ≡ map tag_of other = cc in
     let parts : atom_of a ++ (flat_map atom_of one ++ x) ≡ atom_of b ++ (flat_map atom_of other ++ y) =
-        sym (append_assoc (atom_of a) (flat_map atom_of one) x) ∙ same ∙ append_assoc (atom_of b) (flat_map atom_of other) y in
+    sym (append_assoc (atom_of a) (flat_map atom_of one) x) ∙ same ∙ append_assoc (atom_of b) (flat_map atom_of other) y in
     let head = argument_apart a b (flat_map atom_of one ++ x) (flat_map atom_of other ++ y) fit.0 fit_other.0 tag parts in
     let more = arguments_apart one other x y fit.1 fit_other.1 behind head.1 in
     ((λ i. head.0 i ∷ more.0 i), more.1)
@@ -68,9 +68,9 @@ rows_apart : (one other : Row) (x y : List ℕ) → IsLawful (known one.address 
     → row_text one ++ x ≡ row_text other ++ y → (one ≡ other) × (x ≡ y)
 rows_apart one other x y lawful lawful_other same =
     let address = strings_apart one.address other.address (behind one x) (behind other y) (pattern_nonzero one.address lawful.0)
-        (pattern_nonzero other.address lawful_other.0) (sym (in_parts one x) ∙ same ∙ in_parts other y) in
+    (pattern_nonzero other.address lawful_other.0) (sym (in_parts one x) ∙ same ∙ in_parts other y) in
     let tags = strings_apart (44 ∷ map tag_of one.arguments) (44 ∷ map tag_of other.arguments) (flat_map atom_of one.arguments ++ x)
-        (flat_map atom_of other.arguments ++ y) (nonzero_tags one.arguments) (nonzero_tags other.arguments) address.1 in
+    (flat_map atom_of other.arguments ++ y) (nonzero_tags one.arguments) (nonzero_tags other.arguments) address.1 in
     let listed = arguments_apart one.arguments other.arguments x y lawful.1 lawful_other.1 (tail_is 44 _ _ tags.0) tags.1 in
     ((λ i. record { address = address.0 i; arguments = listed.0 i }), listed.1)
   where
@@ -102,10 +102,10 @@ text_again : (entry : Recorded) → CanBeRecorded entry → behind_size (text_of
 text_again entry is =
     go (row_of entry.caller entry.event entry.answer) is.fits (row_lawful entry.caller entry.event entry.answer is.fits)
     (entry_again entry.caller entry.event entry.answer is.sound) where
-  go : (o : Option Row) → FitsRow o → LawfulRow o → ReadAs entry o → behind_size (option_map_or (λ row. sized (row_text row)) o []) ≡ Some entry
-  go None fits lawful read = absurd fits
-  go (Some row) fits lawful read =
-      (λ i. row_read (pattern_again (known row.address row.arguments) lawful i) (known_arguments_again row.address row.arguments lawful i)) ∙ read
+      go : (o : Option Row) → FitsRow o → LawfulRow o → ReadAs entry o → behind_size (option_map_or (λ row. sized (row_text row)) o []) ≡ Some entry
+      go None fits lawful read = absurd fits
+      go (Some row) fits lawful read =
+          (λ i. row_read (pattern_again (known row.address row.arguments) lawful i) (known_arguments_again row.address row.arguments lawful i)) ∙ read
 
 value_is : (one other : Recorded) → ◌≡◌ {A = Option Recorded} (Some one) (Some other) → one ≡ other
 value_is one other e = cc
@@ -117,7 +117,7 @@ one_text one other is is_other same = value_is one other (sym (text_again one is
 pub no_more : (one other : Recorded) (rest : List ℕ) → CanBeRecorded one → CanBeRecorded other → text_of one ≡ text_of other ++ rest → rest ≡ []
 no_more one other rest is is_other same =
     go (row_of one.caller one.event one.answer) (row_of other.caller other.event other.answer) is.fits is_other.fits
-        (row_lawful one.caller one.event one.answer is.fits) (row_lawful other.caller other.event other.answer is_other.fits) same
+    (row_lawful one.caller one.event one.answer is.fits) (row_lawful other.caller other.event other.answer is_other.fits) same
   where
     go : (o p : Option Row) → FitsRow o → FitsRow p → LawfulRow o → LawfulRow p
         → option_map_or (λ row. sized (row_text row)) o [] ≡ option_map_or (λ row. sized (row_text row)) p [] ++ rest → rest ≡ []

@@ -65,8 +65,8 @@ pub complete_err : (bytes : List ℕ) (at : ℕ) → record_read bytes ≡ Err a
     → bytes ≡ record_text limits entries → ⊥
 complete_err bytes at read limits entries is same =
     clash (limits, placed_from 56 entries) (sym read ∙ ap record_read same ∙ record_again limits entries is) where
-  clash : (x : Limits × List Placed) → ◌≡◌ {A = Result (Limits × List Placed) ℕ} (Err at) (Ok x) → ⊥
-  clash x e = cc
+      clash : (x : Limits × List Placed) → ◌≡◌ {A = Result (Limits × List Placed) ℕ} (Err at) (Ok x) → ⊥
+      clash x e = cc
 
 pub complete_header : (bytes : List ℕ) → header_read bytes ≡ None → (limits : Limits) (entries : List Recorded) → IsRecord limits entries
     → bytes ≡ record_text limits entries → ⊥

@@ -68,7 +68,7 @@ first_was bytes message small is =
     let same : take size (drop 4 bytes) ≡ message = some_is (take size (drop 4 bytes)) message inner.1 in
     let count : length message ≡ size = sym (ap length same) ∙ length-take-le size (drop 4 bytes) within in
     let word_is : to_be_bytes w32 (length message) ≡ take 4 bytes =
-        be_bytes_4 (take 4 bytes) (length message) (length-take-le 4 bytes four) (front_bytes 4 bytes small) count in
+    be_bytes_4 (take 4 bytes) (length message) (length-take-le 4 bytes four) (front_bytes 4 bytes small) count in
     let behind : drop size (drop 4 bytes) ≡ drop (4 + length message) bytes = drop-drop size 4 bytes ∙ ap (λ n. drop (4 + n) bytes) (sym count) in
     sym (take-append-drop 4 bytes) ∙ ap (λ l. take 4 bytes ++ l) (sym (take-append-drop size (drop 4 bytes)))
     ∙ (λ i. sym word_is i ++ (same i ++ behind i))
@@ -118,12 +118,12 @@ entries_were (suc most) limit place [] xs small inside read =
 entries_were zero limit place (byte ∷ bytes) xs small inside read = absurd (cc)
 entries_were (suc most) limit place (byte ∷ bytes) xs small inside read =
     go (entry_first limit place (byte ∷ bytes)) refl read
-        (λ size ys rest there. entries_were most limit (place + size) (drop size (byte ∷ bytes)) ys (rest_bytes size (byte ∷ bytes) small) there rest)
+    (λ size ys rest there. entries_were most limit (place + size) (drop size (byte ∷ bytes)) ys (rest_bytes size (byte ∷ bytes) small) there rest)
   where
     go : (o : Option (Recorded × ℕ)) → entry_first limit place (byte ∷ bytes) ≡ o
         → before_read place o (λ size. entries_read most limit (place + size) (drop size (byte ∷ bytes))) ≡ Ok xs
         → ((size : ℕ) (ys : List Placed) → entries_read most limit (place + size) (drop size (byte ∷ bytes)) ≡ Ok ys → place + size ≤ limit
-            → EntriesWere limit (place + size) (drop size (byte ∷ bytes)) ys)
+        → EntriesWere limit (place + size) (drop size (byte ∷ bytes)) ys)
         → EntriesWere limit place (byte ∷ bytes) xs
     go None found is more = absurd (cc)
     go (Some head) found is more = inner (entries_read most limit (place + head.1) (drop head.1 (byte ∷ bytes))) refl is where
@@ -209,7 +209,10 @@ record_was bytes limits small header read = go (entries_after limits bytes) refl
       let text : bytes ≡ record_text limits (map (λ (p : Placed). p.entry) xs) = first.text ∙ ap (λ l. header_text limits ++ l) were.text in
       let within = were.within in
       record {
-        lawful = record { lawful = first.range; all = were.all;
-            fits = omega (arith, sym (ap length text), ap length first.text, length-append (header_text limits) (drop 56 bytes)) };
+        lawful = record {
+          lawful = first.range;
+          all = were.all;
+          fits = omega (arith, sym (ap length text), ap length first.text, length-append (header_text limits) (drop 56 bytes));
+        };
         text = text;
       }

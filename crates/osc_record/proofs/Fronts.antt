@@ -44,7 +44,7 @@ not_end place bytes before = go (place == length bytes) refl where
 -- so they are read as a message with these parts, if the arguments are read
 front_read : (front address tags : List ℕ) → Front front address tags → (rest : List ℕ) → length (front ++ rest) % 4 ≡ 0 → length (front ++ rest) ≤ 1073741824
     → limited_read 1073741824 (front ++ rest)
-        ≡ and_then (arguments_read (front ++ rest) tags (length front)) (λ _. Ok (record { pattern = address; tags = Some tags; place = length front }))
+    ≡ and_then (arguments_read (front ++ rest) tags (length front)) (λ _. Ok (record { pattern = address; tags = Some tags; place = length front }))
 front_read front address tags f rest four small =
     let some = f.some in
     let size = length-append front rest in
@@ -62,7 +62,7 @@ front_read front address tags f rest four small =
 -- and as the entry of that address with these arguments
 front_is : (front address tags : List ℕ) → Front front address tags → (rest : List ℕ) → length (front ++ rest) % 4 ≡ 0 → length (front ++ rest) ≤ 1073741824
     → entry_of (front ++ rest)
-        ≡ (if is_ok (arguments_read (front ++ rest) tags (length front)) then row_read address (arguments_of tags (front ++ rest) (length front)) else None)
+    ≡ (if is_ok (arguments_read (front ++ rest) tags (length front)) then row_read address (arguments_of tags (front ++ rest) (length front)) else None)
 front_is front address tags f rest four small = go (arguments_read (front ++ rest) tags (length front)) refl where
   parts : Parts
   parts = record { pattern = address; tags = Some tags; place = length front }
@@ -88,9 +88,9 @@ front_entry : (front address tags : List ℕ) → Front front address tags → (
 front_entry front address tags f bytes begins four small =
     let parts = split bytes front begins in
     subst (λ (l : List ℕ). entry_of l ≡ (if is_ok (arguments_read l tags (length front)) then row_read address (arguments_of tags l (length front)) else None))
-        (sym parts)
+    (sym parts)
     (front_is front address tags f (drop (length front) bytes) (subst (λ (l : List ℕ). length l % 4 ≡ 0) parts four)
-        (subst (λ (l : List ℕ). length l ≤ 1073741824) parts small))
+    (subst (λ (l : List ℕ). length l ≤ 1073741824) parts small))
 
 -- where the arguments are read, and where they aren't
 pub front_some : (front address tags : List ℕ) → Front front address tags → (bytes : List ℕ) → starts_with ◌==◌ bytes front ≡ true → length bytes % 4 ≡ 0
@@ -118,11 +118,11 @@ read_front address tags bytes end start slash named ends lawful more comma liste
     ∙ cond-false _ _ _ (not_end end bytes more)
     ∙ cond-true _ _ _ comma
     ∙ ap (λ (r : Result (List ℕ × ℕ) Fault). and_then r
-        (λ text. and_then (tags_read bytes (end + 1) (drop 1 text.0) text.1)
-        (λ _. Ok (record { pattern = address; tags = Some (drop 1 text.0); place = text.1 })))) (string_again bytes end (44 ∷ tags) listed)
+    (λ text. and_then (tags_read bytes (end + 1) (drop 1 text.0) text.1)
+    (λ _. Ok (record { pattern = address; tags = Some (drop 1 text.0); place = text.1 })))) (string_again bytes end (44 ∷ tags) listed)
     ∙ ap (λ (place : ℕ). and_then (tags_read bytes (end + 1) tags place) (λ _. Ok (record { pattern = address; tags = Some tags; place = place }))) starts
     ∙ ap (λ (r : Result ⊤ Fault). and_then r (λ _. Ok (record { pattern = address; tags = Some tags; place = start })))
-        (cond-false _ _ _ none ∙ ap (λ (r : Result ⊤ Fault). and_then r (λ _. arguments_read bytes tags start)) even)
+    (cond-false _ _ _ none ∙ ap (λ (r : Result ⊤ Fault). and_then r (λ _. arguments_read bytes tags start)) even)
 
 -- The six fronts.
 
@@ -148,7 +148,7 @@ pub enrol_front : Front enrol_bytes (codes "/osc/enrol") (codes "ii")
 enrol_front = record {
   reads = λ rest.
       read_front (codes "/osc/enrol") (codes "ii") (enrol_bytes ++ rest) 12 16 refl
-          (record { no_zero = refl; written = record { rest = drop 12 (enrol_bytes ++ rest); parts = refl } }) refl enrol_address
+      (record { no_zero = refl; written = record { rest = drop 12 (enrol_bytes ++ rest); parts = refl } }) refl enrol_address
       (omega arith) refl (record { no_zero = refl; written = record { rest = rest; parts = refl } }) refl refl refl;
   pattern = λ rest. refl;
   known = refl;
@@ -159,7 +159,7 @@ pub submit_front : Front submit_bytes (codes "/osc/submit") (codes "ibihi")
 submit_front = record {
   reads = λ rest.
       read_front (codes "/osc/submit") (codes "ibihi") (submit_bytes ++ rest) 12 20 refl
-          (record { no_zero = refl; written = record { rest = drop 12 (submit_bytes ++ rest); parts = refl } }) refl submit_address
+      (record { no_zero = refl; written = record { rest = drop 12 (submit_bytes ++ rest); parts = refl } }) refl submit_address
       (omega arith) refl (record { no_zero = refl; written = record { rest = rest; parts = refl } }) refl refl refl;
   pattern = λ rest. refl;
   known = refl;
@@ -170,7 +170,7 @@ pub add_front : Front add_bytes (codes "/osc/add") (codes "isiii")
 add_front = record {
   reads = λ rest.
       read_front (codes "/osc/add") (codes "isiii") (add_bytes ++ rest) 12 20 refl
-          (record { no_zero = refl; written = record { rest = drop 12 (add_bytes ++ rest); parts = refl } }) refl add_address
+      (record { no_zero = refl; written = record { rest = drop 12 (add_bytes ++ rest); parts = refl } }) refl add_address
       (omega arith) refl (record { no_zero = refl; written = record { rest = rest; parts = refl } }) refl refl refl;
   pattern = λ rest. refl;
   known = refl;
@@ -181,7 +181,7 @@ pub remove_front : Front remove_bytes (codes "/osc/remove") (codes "isii")
 remove_front = record {
   reads = λ rest.
       read_front (codes "/osc/remove") (codes "isii") (remove_bytes ++ rest) 12 20 refl
-          (record { no_zero = refl; written = record { rest = drop 12 (remove_bytes ++ rest); parts = refl } }) refl remove_address
+      (record { no_zero = refl; written = record { rest = drop 12 (remove_bytes ++ rest); parts = refl } }) refl remove_address
       (omega arith) refl (record { no_zero = refl; written = record { rest = rest; parts = refl } }) refl refl refl;
   pattern = λ rest. refl;
   known = refl;
@@ -192,7 +192,7 @@ pub tick_front : Front tick_bytes (codes "/osc/tick") (codes "itit")
 tick_front = record {
   reads = λ rest.
       read_front (codes "/osc/tick") (codes "itit") (tick_bytes ++ rest) 12 20 refl
-          (record { no_zero = refl; written = record { rest = drop 12 (tick_bytes ++ rest); parts = refl } }) refl tick_address
+      (record { no_zero = refl; written = record { rest = drop 12 (tick_bytes ++ rest); parts = refl } }) refl tick_address
       (omega arith) refl (record { no_zero = refl; written = record { rest = rest; parts = refl } }) refl refl refl;
   pattern = λ rest. refl;
   known = refl;
@@ -203,7 +203,7 @@ pub release_front : Front release_bytes (codes "/osc/release") (codes "ihb")
 release_front = record {
   reads = λ rest.
       read_front (codes "/osc/release") (codes "ihb") (release_bytes ++ rest) 16 24 refl
-          (record { no_zero = refl; written = record { rest = drop 16 (release_bytes ++ rest); parts = refl } }) refl release_address
+      (record { no_zero = refl; written = record { rest = drop 16 (release_bytes ++ rest); parts = refl } }) refl release_address
       (omega arith) refl (record { no_zero = refl; written = record { rest = rest; parts = refl } }) refl refl refl;
   pattern = λ rest. refl;
   known = refl;

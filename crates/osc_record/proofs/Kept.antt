@@ -62,7 +62,7 @@ whole_more limits bytes entry whole is fits small = go (entries_after limits byt
       ∙ entries_more (length bytes) (length (bytes ++ text)) limits.recording 56 rest text xs entry read fewer first some in
       let entries : entries_in limits (bytes ++ text) ≡ entries_in limits bytes ++ entry ∷ [] =
       ap entries_of new ∙ map_more xs (record { at = 56 + length rest; entry = entry })
-          ∙ ap (λ (l : List Recorded). l ++ entry ∷ []) (sym (ap entries_of read)) in
+      ∙ ap (λ (l : List Recorded). l ++ entry ∷ []) (sym (ap entries_of read)) in
       record {
         whole = record {
           header = omega (arith, length-append bytes text);
@@ -131,7 +131,7 @@ pub put_keeps : (limits : Limits) (bytes : List ℕ) (start caller unit owed cap
     → IsKept limits bytes start caller unit owed capacity → (recording_of limits bytes start caller unit owed).begun ≡ None
     → IsRecordable entry.caller entry.event entry.answer → length bytes + length (entry_text entry.caller entry.event entry.answer) ≤ limits.recording
     → new ≡ bytes ++ entry_text entry.caller entry.event entry.answer → end ≡ length new → capacity ≤ after
-        → Put limits bytes start caller unit owed capacity entry new end after
+    → Put limits bytes start caller unit owed capacity entry new end after
 put_keeps limits bytes start caller unit owed capacity entry new end after kept none is fits out ends more =
     let all = all_whole limits bytes start caller unit owed capacity kept none in
     let owes : owed ≡ 0 = none_owed caller unit owed (drop start bytes) none in
@@ -143,7 +143,10 @@ put_keeps limits bytes start caller unit owed capacity entry new end after kept 
     record {
       kept = whole_kept limits new end caller unit owed after whole ends owes size small (omega arith) kept.caller_fits kept.unit_fits;
       view = whole_view limits new end caller unit owed ends owes
-          ∙ (λ i. record { caps = limits;
-              entries = (ap (entries_in limits) out ∙ grown.entries ∙ ap (λ (l : List ℕ). entries_in limits l ++ entry ∷ []) (sym all)) i; begun =
-              sym none i });
+          ∙ (λ i. record {
+            caps = limits;
+            entries = (ap (entries_in limits) out ∙ grown.entries ∙ ap (λ (l : List ℕ). entries_in limits l ++ entry ∷ []) (sym all)) i;
+            begun =
+                sym none i;
+          });
     }

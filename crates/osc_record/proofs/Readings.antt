@@ -22,7 +22,7 @@ within_true least most n is = let above = is.above in let below = is.below in rw
 pub no_limit_fault : (limits : Limits) → AreInRange limits → limit_fault limits ≡ None
 no_limit_fault limits is =
     rw (within_true 1 1048576 limits.units is.units, within_true 1 1048576 limits.blocks is.blocks, within_true 1 65536 limits.methods is.methods, within_true 1 1048576 limits.nodes is.nodes, within_true 1 1024 limits.callers is.callers, within_true 56 1073741824 limits.recording is.recording)
-        refl
+    refl
 
 small_int : (n : ℕ) → n ≤ 1073741824 → n < 2147483648
 small_int n small = omega arith
@@ -35,11 +35,16 @@ header_lawful limits is =
     let nodes = is.nodes.below in
     let callers = is.callers.below in
     let recording = is.recording.below in
-    let fit : AllFit (header_row limits).arguments =
-    (record { sfits = omega arith },
-        (record { sfits = omega arith },
-        (record { sfits = omega arith },
-        (record { sfits = omega arith }, (record { sfits = omega arith }, (record { sfits = omega arith }, (record { sfits = omega arith }, tt))))))) in
+    let fit : AllFit (header_row limits).arguments = (
+      record { sfits = omega arith },
+      (
+        record { sfits = omega arith },
+        (
+          record { sfits = omega arith },
+          (record { sfits = omega arith }, (record { sfits = omega arith }, (record { sfits = omega arith }, (record { sfits = omega arith }, tt)))),
+        ),
+      ),
+    ) in
     (rec_address, fit, balanced (105 ∷ 105 ∷ 105 ∷ 105 ∷ 105 ∷ 105 ∷ 105 ∷ []) refl)
 
 -- the header that is written is read, whatever follows it
@@ -51,7 +56,7 @@ header_again limits rest is =
     let accepted : is_message 1073741824 message ≡ true = ap is_ok (limited_again 1073741824 message form lawful refl (omega arith)) in
     ap (option_and_then header_of) (message_again message rest (omega arith) refl (omega arith))
     ∙ (λ i. if accepted i && bytes_eq (pattern_again form lawful i) (codes "/osc/rec")
-        then limits_read (known_arguments_again (codes "/osc/rec") (header_row limits).arguments lawful i) else None)
+    then limits_read (known_arguments_again (codes "/osc/rec") (header_row limits).arguments lawful i) else None)
     ∙ ap (λ o. if is_none o then Some limits else None) (no_limit_fault limits is)
 
 -- what is read of some bytes begins with the first entry
@@ -67,7 +72,7 @@ texts entries = flat_map (λ (e : Recorded). entry_text e.caller e.event e.answe
 -- entries that are written one after another are read
 pub entries_again : (entries : List Recorded) (most limit place : ℕ) → AllByRecursion (λ (e : Recorded). IsRecordable e.caller e.event e.answer) entries
     → length (flat_map (λ (e : Recorded). entry_text e.caller e.event e.answer) entries) ≤ most
-        → place + length (flat_map (λ (e : Recorded). entry_text e.caller e.event e.answer) entries) ≤ limit → limit ≤ 1073741824
+    → place + length (flat_map (λ (e : Recorded). entry_text e.caller e.event e.answer) entries) ≤ limit → limit ≤ 1073741824
     → entries_read most limit place (flat_map (λ (e : Recorded). entry_text e.caller e.event e.answer) entries) ≡ Ok (placed_from place entries)
 entries_again [] zero limit place all few within small = refl
 entries_again [] (suc most) limit place all few within small = refl
@@ -80,7 +85,7 @@ entries_again (e ∷ entries) (suc most) limit place all few within small =
     let some : 0 < length text = entry_some e.caller e.event e.answer all.0.fits in
     let size : length (text ++ rest) ≡ length text + length rest = length-append text rest in
     read_first most limit place (text ++ rest) e (length text) (omega arith)
-        (entry_first_again e.caller e.event e.answer rest limit place all.0 (omega arith) small)
+    (entry_first_again e.caller e.event e.answer rest limit place all.0 (omega arith) small)
     ∙ ap (λ l. onto_read (record { at = place; entry = e }) (entries_read most limit (place + length text) l)) (drop_front text rest)
     ∙ ap (onto_read (record { at = place; entry = e })) (entries_again entries most limit (place + length text) all.1 (omega arith) (omega arith) small)
 
@@ -105,9 +110,11 @@ pub texts_differ : (limits other : Limits) (entries others : List Recorded) → 
     → record_text limits entries ≡ record_text other others → (limits ≡ other) × (entries ≡ others)
 texts_differ limits other entries others one two same =
     let both = value_is (limits, placed_from 56 entries) (other, placed_from 56 others)
-        (sym (record_again limits entries one) ∙ ap record_read same ∙ record_again other others two) in
-    (ap (λ (p : Limits × List Placed). p.0) both, sym (entries_of_placed 56 entries) ∙ ap (λ (p : Limits × List Placed). map (λ (x : Placed). x.entry) p.1) both
-        ∙ entries_of_placed 56 others)
+    (sym (record_again limits entries one) ∙ ap record_read same ∙ record_again other others two) in (
+      ap (λ (p : Limits × List Placed). p.0) both,
+      sym (entries_of_placed 56 entries) ∙ ap (λ (p : Limits × List Placed). map (λ (x : Placed). x.entry) p.1) both
+          ∙ entries_of_placed 56 others,
+    )
   where
     value_is : (x y : Limits × List Placed) → ◌≡◌ {A = Result (Limits × List Placed) ℕ} (Ok x) (Ok y) → x ≡ y
     value_is x y e = cc
@@ -116,5 +123,5 @@ texts_differ limits other entries others one two same =
 pub headers_differ : (limits other : Limits) → AreInRange limits → AreInRange other → header_text limits ≡ header_text other → limits ≡ other
 headers_differ limits other one two same =
     value_is (sym (header_again limits [] one) ∙ ap (λ (bytes : List ℕ). header_read (bytes ++ [])) same ∙ header_again other [] two) where
-  value_is : ◌≡◌ {A = Option Limits} (Some limits) (Some other) → limits ≡ other
-  value_is e = cc
+      value_is : ◌≡◌ {A = Option Limits} (Some limits) (Some other) → limits ≡ other
+      value_is e = cc

@@ -20,7 +20,7 @@ pub release_shape : (caller unit : ℕ) (content : List ℕ) (k : ℕ) → lengt
 release_shape caller unit content k is =
     let body : List ℕ = string (codes "/osc/release") ++ (tag_string (codes "ihb") ++ (word caller ++ (tag unit ++ (word (8 * k) ++ content)))) in
     let text : row_text (release_row caller unit content) ≡ body =
-        ap (λ l. string (codes "/osc/release") ++ (tag_string (codes "ihb") ++ (word caller ++ (tag unit ++ l)))) (eights content k is) in
+    ap (λ l. string (codes "/osc/release") ++ (tag_string (codes "ihb") ++ (word caller ++ (tag unit ++ l)))) (eights content k is) in
     let size : length (row_text (release_row caller unit content)) ≡ 40 + 8 * k = ap length text ∙ omega arith in
     λ i. word (sym size i) ++ sym text i
 
@@ -36,9 +36,9 @@ pub record Settles (limits : Limits) (old : Recording) (begun : Begun) (new : Li
 pub settle : (limits : Limits) (old : Recording) (front : List ℕ) (begun : Begun) (new : List ℕ) (end after : ℕ) → old.caps ≡ limits
     → old.entries ≡ entries_in limits front → AreWhole limits front
     → AllByRecursion IsHit begun.hits → begun.caller < 2 ^ 31 → begun.unit < 2 ^ 63 → length new + 8 * begun.owed ≤ limits.recording
-        → limits.recording ≤ 1073741824 → limits.recording ≤ after
+    → limits.recording ≤ 1073741824 → limits.recording ≤ after
     → new ≡ front ++ (release_head begun.caller begun.unit (length begun.hits + begun.owed) ++ hits_text begun.hits)
-        → end ≡ cond (begun.owed == 0) (length new) (length front) → Settles limits old begun new end after
+    → end ≡ cond (begun.owed == 0) (length new) (length front) → Settles limits old begun new end after
 settle limits old front begun new end after caps entries whole hits caller_fits unit_fits room small reserved out ends = go (begun.owed == 0) refl ends where
   go : (t : Bool) → (begun.owed == 0) ≡ t → end ≡ cond t (length new) (length front) → Settles limits old begun new end after
   go true is there =
@@ -46,21 +46,30 @@ settle limits old front begun new end after caps entries whole hits caller_fits 
       let text : List ℕ = entry_text begun.caller release (released begun.unit begun.hits) in
       let count : length begun.hits + begun.owed ≡ length begun.hits = omega arith in
       let text_is : new ≡ front ++ text = out ∙ ap (λ n. front ++ (release_head begun.caller begun.unit n ++ hits_text begun.hits)) count
-          ∙ ap (λ l. front ++ l) (release_text begun.caller begun.unit begun.hits) in
+      ∙ ap (λ l. front ++ l) (release_text begun.caller begun.unit begun.hits) in
       let entry : Recorded = record { caller = begun.caller; event = release; answer = released begun.unit begun.hits } in
       let size : length begun.hits * 8 ≤ 1073741824 =
-          omega (arith, length-hits_text begun.hits, ap length out, length-append front
-          (release_head begun.caller begun.unit (length begun.hits + begun.owed) ++ hits_text begun.hits), length-append
-          (release_head begun.caller begun.unit (length begun.hits + begun.owed)) (hits_text begun.hits)) in
+      omega (
+        arith,
+        length-hits_text begun.hits,
+        ap length out,
+        length-append front
+            (release_head begun.caller begun.unit (length begun.hits + begun.owed) ++ hits_text begun.hits),
+        length-append
+            (release_head begun.caller begun.unit (length begun.hits + begun.owed)) (hits_text begun.hits),
+      ) in
       let lawful : IsRecordable begun.caller release (released begun.unit begun.hits) =
-          record { fits = (record { sfits = caller_fits }, (record { sfits = unit_fits }, (omega (arith, length-hits_text begun.hits), tt))); sound = hits } in
+      record { fits = (record { sfits = caller_fits }, (record { sfits = unit_fits }, (omega (arith, length-hits_text begun.hits), tt))); sound = hits } in
       let grown = whole_more limits front entry whole lawful (omega (arith, ap length text_is, length-append front text)) small in
       let all : AreWhole limits new = subst (AreWhole limits) (sym text_is) grown.whole in
       record {
         kept = whole_kept limits new end begun.caller begun.unit begun.owed after all there owes (omega arith) small reserved caller_fits unit_fits;
         view = whole_view limits new end begun.caller begun.unit begun.owed there owes
-            ∙ (λ i. record { caps = sym caps i;
-                entries = (ap (entries_in limits) text_is ∙ grown.entries ∙ ap (λ (l : List Recorded). l ++ entry ∷ []) (sym entries)) i; begun = None })
+            ∙ (λ i. record {
+              caps = sym caps i;
+              entries = (ap (entries_in limits) text_is ∙ grown.entries ∙ ap (λ (l : List Recorded). l ++ entry ∷ []) (sym entries)) i;
+              begun = None;
+            })
             ∙ sym (cond-true (begun.owed == 0) _ _ is);
       }
   go false is there =
@@ -90,7 +99,7 @@ settle limits old front begun new end after caps entries whole hits caller_fits 
 pub release_keeps : (limits : Limits) (bytes : List ℕ) (start c u owed capacity caller unit hits : ℕ) (new : List ℕ) (end after : ℕ)
     → IsKept limits bytes start c u owed capacity → (recording_of limits bytes start c u owed).begun ≡ None
     → caller < 2 ^ 31 → unit < 2 ^ 63 → length bytes + (44 + 8 * hits) ≤ limits.recording → new ≡ bytes ++ release_head caller unit hits
-        → end ≡ cond (hits == 0) (length new) start → capacity ≤ after
+    → end ≡ cond (hits == 0) (length new) start → capacity ≤ after
     → Settles limits (recording_of limits bytes start c u owed) (record { caller = caller; unit = unit; hits = []; owed = hits }) new end after
 release_keeps limits bytes start c u owed capacity caller unit hits new end after kept none caller_fits unit_fits room out ends more =
     let all = all_whole limits bytes start c u owed capacity kept none in
@@ -99,12 +108,12 @@ release_keeps limits bytes start c u owed capacity caller unit hits new end afte
     let start_is : start ≡ length bytes = sym (length-take-le start bytes kept.started) ∙ ap length all in
     let count : 0 + hits ≡ hits = omega arith in
     let text : new ≡ bytes ++ (release_head caller unit (0 + hits) ++ []) =
-        out ∙ ap (λ l. bytes ++ l) (sym (append-nil (release_head caller unit hits)) ∙ ap (λ n. release_head caller unit n ++ []) (sym count)) in
+    out ∙ ap (λ l. bytes ++ l) (sym (append-nil (release_head caller unit hits)) ∙ ap (λ n. release_head caller unit n ++ []) (sym count)) in
     let small = kept.small in
     let reserved = kept.reserved in
     settle limits (recording_of limits bytes start c u owed) bytes begun new end after refl (ap (entries_in limits) all) whole tt caller_fits unit_fits
     (omega (arith, ap length out, length-append bytes (release_head caller unit hits))) small (omega arith) text
-        (ends ∙ ap (cond (hits == 0) (length new)) start_is)
+    (ends ∙ ap (cond (hits == 0) (length new)) start_is)
 
 hits_more : (hits : List Hit) (hit : Hit) → hits_text (hits ++ hit ∷ []) ≡ hits_text hits ++ hit_text hit
 hits_more [] hit = append-nil (hit_text hit)
@@ -121,7 +130,7 @@ pub record HitKeeps (limits : Limits) (bytes : List ℕ) (start caller unit owed
 pub hit_keeps : (limits : Limits) (bytes : List ℕ) (start caller unit owed capacity : ℕ) (hit : Hit) (new : List ℕ) (end left after : ℕ)
     → IsKept limits bytes start caller unit owed capacity → 0 < owed → IsHit hit
     → new ≡ bytes ++ hit_text hit → left ≡ owed - 1 → end ≡ cond (left == 0) (length new) start → capacity ≤ after
-        → HitKeeps limits bytes start caller unit owed hit new end left after
+    → HitKeeps limits bytes start caller unit owed hit new end left after
 hit_keeps limits bytes start caller unit owed capacity hit new end left after kept some is out lefts ends more =
     let old : List Hit = hits_in (drop 44 (drop start bytes)) in
     let was : Begun = record { caller = caller; unit = unit; hits = old; owed = owed } in
@@ -139,14 +148,14 @@ hit_keeps limits bytes start caller unit owed capacity hit new end left after ke
     let room = kept.room in
     let reserved = kept.reserved in
     let done = settle limits (recording_of limits bytes start caller unit owed) front begun new end after refl refl kept.whole
-        (all_more old hit kept.hits is) kept.caller_fits kept.unit_fits
+    (all_more old hit kept.hits is) kept.caller_fits kept.unit_fits
     (omega (arith, ap length out, length-append bytes (hit_text hit))) kept.small (omega arith) text
-        (ends ∙ ap (cond (left == 0) (length new)) (sym (length-take-le start bytes kept.started))) in
+    (ends ∙ ap (cond (left == 0) (length new)) (sym (length-take-le start bytes kept.started))) in
     record {
       kept = done.kept;
       view = done.view
           ∙ ap (λ (n : ℕ). settled (recording_of limits bytes start caller unit owed)
-              (record { caller = caller; unit = unit; hits = old ++ hit ∷ []; owed = n })) lefts
+          (record { caller = caller; unit = unit; hits = old ++ hit ∷ []; owed = n })) lefts
           ∙ sym (ap (hit_onto (recording_of limits bytes start caller unit owed)) seen);
     }
   where

@@ -48,7 +48,7 @@ none_next caps at rest below some none = record {
   none = λ entry more recordable fits same.
       none_some (entry, length (entry_text entry.caller entry.event entry.answer))
       (sym none ∙ ap (entry_first caps.recording at) same
-          ∙ entry_first_again entry.caller entry.event entry.answer more caps.recording at recordable fits below);
+      ∙ entry_first_again entry.caller entry.event entry.answer more caps.recording at recordable fits below);
 }
 
 -- bytes that aren't none

@@ -47,14 +47,14 @@ SubmitTold code first second answer = (submitted answer ≡ Some (code, first, s
 submit_told : (code first second : ℕ) (answer : Answer) → submit_answer code first second ≡ Some answer → SubmitTold code first second answer
 submit_told code first second answer is =
     chosen (SubmitTold code first second) (code == 0) (queued first second)
-        (cond (code == 1) (answer_if (nat_lt second first) (units_full (record { need = first; free = second })))
-        (cond (code == 2) (answer_if (nat_lt second first) (pool_full (record { need = first; free = second }))) None)) answer is
-        (λ c. ((λ i. Some (sym (eqb-true code 0 c) i, first, second)), tt)) (λ is1.
+    (cond (code == 1) (answer_if (nat_lt second first) (units_full (record { need = first; free = second })))
+    (cond (code == 2) (answer_if (nat_lt second first) (pool_full (record { need = first; free = second }))) None)) answer is
+    (λ c. ((λ i. Some (sym (eqb-true code 0 c) i, first, second)), tt)) (λ is1.
     chosen_if (SubmitTold code first second) (code == 1) (nat_lt second first) (units_full (record { need = first; free = second }))
-        (cond (code == 2) (answer_if (nat_lt second first) (pool_full (record { need = first; free = second }))) None) answer is1
-        (λ c u. ((λ i. Some (sym (eqb-true code 1 c) i, first, second)), ltb-true second first u)) (λ is2.
+    (cond (code == 2) (answer_if (nat_lt second first) (pool_full (record { need = first; free = second }))) None) answer is1
+    (λ c u. ((λ i. Some (sym (eqb-true code 1 c) i, first, second)), ltb-true second first u)) (λ is2.
     chosen_if (SubmitTold code first second) (code == 2) (nat_lt second first) (pool_full (record { need = first; free = second })) None answer is2
-        (λ c u. ((λ i. Some (sym (eqb-true code 2 c) i, first, second)), ltb-true second first u)) (λ is3.
+    (λ c u. ((λ i. Some (sym (eqb-true code 2 c) i, first, second)), ltb-true second first u)) (λ is3.
     none_left (SubmitTold code first second) answer is3)))
 
 abbrev pub AddTold : ℕ → ℕ → ℕ → Answer → Type 0
@@ -63,34 +63,41 @@ AddTold code first second answer = (adding answer ≡ Some (code, first, second)
 add_told : (code first second : ℕ) (answer : Answer) → add_answer code first second ≡ Some answer → AddTold code first second answer
 add_told code first second answer is =
     chosen_if (AddTold code first second) (code == 0) (second == 0) (added first)
-        (cond (code == 1) (answer_if (second == 0) (refused (taken first)))
-        (cond (code == 2) (answer_if (second == 0) (refused (under_method first)))
-        (cond (code == 3) (answer_if (first == 0 && second == 0) (refused is_container))
-        (cond (code == 4) (answer_if (second == 0) (refused (methods_full first)))
-        (cond (code == 5) (answer_if (nat_lt second first) (refused (nodes_full first second))) None))))) answer is
-        (λ c u. ((λ i. Some (sym (eqb-true code 0 c) i, first, sym (eqb-true second 0 u) i)), tt)) (λ is1.
+    (cond (code == 1) (answer_if (second == 0) (refused (taken first)))
+    (cond (code == 2) (answer_if (second == 0) (refused (under_method first)))
+    (cond (code == 3) (answer_if (first == 0 && second == 0) (refused is_container))
+    (cond (code == 4) (answer_if (second == 0) (refused (methods_full first)))
+    (cond (code == 5) (answer_if (nat_lt second first) (refused (nodes_full first second))) None))))) answer is
+    (λ c u. ((λ i. Some (sym (eqb-true code 0 c) i, first, sym (eqb-true second 0 u) i)), tt)) (λ is1.
     chosen_if (AddTold code first second) (code == 1) (second == 0) (refused (taken first))
-        (cond (code == 2) (answer_if (second == 0) (refused (under_method first)))
-        (cond (code == 3) (answer_if (first == 0 && second == 0) (refused is_container))
-        (cond (code == 4) (answer_if (second == 0) (refused (methods_full first)))
-        (cond (code == 5) (answer_if (nat_lt second first) (refused (nodes_full first second))) None)))) answer is1
-        (λ c u. ((λ i. Some (sym (eqb-true code 1 c) i, first, sym (eqb-true second 0 u) i)), tt)) (λ is2.
+    (cond (code == 2) (answer_if (second == 0) (refused (under_method first)))
+    (cond (code == 3) (answer_if (first == 0 && second == 0) (refused is_container))
+    (cond (code == 4) (answer_if (second == 0) (refused (methods_full first)))
+    (cond (code == 5) (answer_if (nat_lt second first) (refused (nodes_full first second))) None)))) answer is1
+    (λ c u. ((λ i. Some (sym (eqb-true code 1 c) i, first, sym (eqb-true second 0 u) i)), tt)) (λ is2.
     chosen_if (AddTold code first second) (code == 2) (second == 0) (refused (under_method first))
-        (cond (code == 3) (answer_if (first == 0 && second == 0) (refused is_container))
-        (cond (code == 4) (answer_if (second == 0) (refused (methods_full first)))
-        (cond (code == 5) (answer_if (nat_lt second first) (refused (nodes_full first second))) None))) answer is2
-        (λ c u. ((λ i. Some (sym (eqb-true code 2 c) i, first, sym (eqb-true second 0 u) i)), tt)) (λ is3.
+    (cond (code == 3) (answer_if (first == 0 && second == 0) (refused is_container))
+    (cond (code == 4) (answer_if (second == 0) (refused (methods_full first)))
+    (cond (code == 5) (answer_if (nat_lt second first) (refused (nodes_full first second))) None))) answer is2
+    (λ c u. ((λ i. Some (sym (eqb-true code 2 c) i, first, sym (eqb-true second 0 u) i)), tt)) (λ is3.
     chosen_if (AddTold code first second) (code == 3) (first == 0 && second == 0) (refused is_container)
-        (cond (code == 4) (answer_if (second == 0) (refused (methods_full first)))
-        (cond (code == 5) (answer_if (nat_lt second first) (refused (nodes_full first second))) None)) answer is3
-        (λ c u. ((λ i.
-        Some (sym (eqb-true code 3 c) i, sym (eqb-true first 0 (both_true (first == 0) (second == 0) u).0) i, sym
-        (eqb-true second 0 (both_true (first == 0) (second == 0) u).1) i)), tt)) (λ is4.
+    (cond (code == 4) (answer_if (second == 0) (refused (methods_full first)))
+    (cond (code == 5) (answer_if (nat_lt second first) (refused (nodes_full first second))) None)) answer is3
+    (λ c u. (
+      (λ i.
+          Some (
+            sym (eqb-true code 3 c) i,
+            sym (eqb-true first 0 (both_true (first == 0) (second == 0) u).0) i,
+            sym
+                (eqb-true second 0 (both_true (first == 0) (second == 0) u).1) i,
+          )),
+      tt,
+    )) (λ is4.
     chosen_if (AddTold code first second) (code == 4) (second == 0) (refused (methods_full first))
-        (cond (code == 5) (answer_if (nat_lt second first) (refused (nodes_full first second))) None) answer is4
-        (λ c u. ((λ i. Some (sym (eqb-true code 4 c) i, first, sym (eqb-true second 0 u) i)), tt)) (λ is5.
+    (cond (code == 5) (answer_if (nat_lt second first) (refused (nodes_full first second))) None) answer is4
+    (λ c u. ((λ i. Some (sym (eqb-true code 4 c) i, first, sym (eqb-true second 0 u) i)), tt)) (λ is5.
     chosen_if (AddTold code first second) (code == 5) (nat_lt second first) (refused (nodes_full first second)) None answer is5
-        (λ c u. ((λ i. Some (sym (eqb-true code 5 c) i, first, second)), ltb-true second first u)) (λ is6.
+    (λ c u. ((λ i. Some (sym (eqb-true code 5 c) i, first, second)), ltb-true second first u)) (λ is6.
     none_left (AddTold code first second) answer is6))))))
 
 abbrev pub RemoveTold : ℕ → ℕ → Answer → Type 0
@@ -99,9 +106,9 @@ RemoveTold code id answer = (removing answer ≡ Some (code, id)) × IsSound ans
 remove_told : (code id : ℕ) (answer : Answer) → remove_answer code id ≡ Some answer → RemoveTold code id answer
 remove_told code id answer is =
     chosen (RemoveTold code id) (code == 0) (removed id) (cond (code == 1) (answer_if (id == 0) not_there) None) answer is
-        (λ c. ((λ i. Some (sym (eqb-true code 0 c) i, id)), tt)) (λ is1.
+    (λ c. ((λ i. Some (sym (eqb-true code 0 c) i, id)), tt)) (λ is1.
     chosen_if (RemoveTold code id) (code == 1) (id == 0) not_there None answer is1
-        (λ c u. ((λ i. Some (sym (eqb-true code 1 c) i, sym (eqb-true id 0 u) i)), tt)) (λ is2.
+    (λ c u. ((λ i. Some (sym (eqb-true code 1 c) i, sym (eqb-true id 0 u) i)), tt)) (λ is2.
     none_left (RemoveTold code id) answer is2))
 
 abbrev pub TickTold : ℕ → ℕ → ℕ → Answer → Type 0
@@ -110,7 +117,7 @@ TickTold moment code clock answer = (ticking moment answer ≡ Some (code, clock
 tick_told : (moment code clock : ℕ) (answer : Answer) → tick_answer moment code clock ≡ Some answer → TickTold moment code clock answer
 tick_told moment code clock answer is =
     chosen_if (TickTold moment code clock) (code == 0) (clock == moment) ticked (cond (code == 1) (Some (clock_back clock)) None) answer is
-        (λ c u. ((λ i. Some (sym (eqb-true code 0 c) i, sym (eqb-true clock moment u) i)), tt)) (λ is1.
+    (λ c u. ((λ i. Some (sym (eqb-true code 0 c) i, sym (eqb-true clock moment u) i)), tt)) (λ is1.
     chosen (TickTold moment code clock) (code == 1) (clock_back clock) None answer is1 (λ c. ((λ i. Some (sym (eqb-true code 1 c) i, clock)), tt)) (λ is2.
     none_left (TickTold moment code clock) answer is2))
 
@@ -146,11 +153,12 @@ hits_back (a ∷ b ∷ c ∷ d ∷ e ∷ f ∷ g ∷ []) all whole = absurd (ome
 hits_back (a ∷ b ∷ c ∷ d ∷ e ∷ f ∷ g ∷ h ∷ bytes) all whole =
     let more = hits_back bytes (rest_bytes 8 (a ∷ b ∷ c ∷ d ∷ e ∷ f ∷ g ∷ h ∷ bytes) all) (omega arith) in
     let index : to_be_bytes w32 (from_be_bytes w32 (a ∷ b ∷ c ∷ d ∷ [])) ≡ a ∷ b ∷ c ∷ d ∷ [] =
-        be_bytes_4 (a ∷ b ∷ c ∷ d ∷ []) (from_be_bytes w32 (a ∷ b ∷ c ∷ d ∷ [])) refl (four_bytes a b c d (all 0) (all 1) (all 2) (all 3)) refl in
+    be_bytes_4 (a ∷ b ∷ c ∷ d ∷ []) (from_be_bytes w32 (a ∷ b ∷ c ∷ d ∷ [])) refl (four_bytes a b c d (all 0) (all 1) (all 2) (all 3)) refl in
     let id : to_be_bytes w32 (from_be_bytes w32 (e ∷ f ∷ g ∷ h ∷ [])) ≡ e ∷ f ∷ g ∷ h ∷ [] =
-        be_bytes_4 (e ∷ f ∷ g ∷ h ∷ []) (from_be_bytes w32 (e ∷ f ∷ g ∷ h ∷ [])) refl (four_bytes e f g h (all 4) (all 5) (all 6) (all 7)) refl in
-    ((λ i. (index i ++ id i) ++ more.0 i),
-        (record { index_fits = small_word a b c d (all 0) (all 1) (all 2) (all 3); id_fits = small_word e f g h (all 4) (all 5) (all 6) (all 7) }, more.1))
+    be_bytes_4 (e ∷ f ∷ g ∷ h ∷ []) (from_be_bytes w32 (e ∷ f ∷ g ∷ h ∷ [])) refl (four_bytes e f g h (all 4) (all 5) (all 6) (all 7)) refl in (
+      (λ i. (index i ++ id i) ++ more.0 i),
+      (record { index_fits = small_word a b c d (all 0) (all 1) (all 2) (all 3); id_fits = small_word e f g h (all 4) (all 5) (all 6) (all 7) }, more.1),
+    )
 
 -- an entry whose message has this address and these arguments
 abbrev pub Was : List ℕ → List Argument → Recorded → Type 0
@@ -168,11 +176,13 @@ enrol_was arguments e is =
     let found = mapped (λ a. record { caller = caller.0.0; event = enrol; answer = a }) (enrol_answer answer.0.0) e last.1 in
     let told = enrol_told answer.0.0 found.0 found.1.0 in
     let same = int_was arguments caller.0 caller.1.0
-        ∙ ap (λ (l : List Argument). int caller.0.0 ∷ l)
-        (signed_was caller.0.1 answer.0 answer.1.0 ∙ ap (λ (l : List Argument). integer answer.0.0 ∷ l) (last.0)) in
-    subst (Was (codes "/osc/enrol") arguments) found.1.1
-        (ap (option_map (enrol_row caller.0.0)) told.0
-        ∙ ap (λ (l : List Argument). Some (record { address = codes "/osc/enrol"; arguments = l })) (sym same), told.1)
+    ∙ ap (λ (l : List Argument). int caller.0.0 ∷ l)
+    (signed_was caller.0.1 answer.0 answer.1.0 ∙ ap (λ (l : List Argument). integer answer.0.0 ∷ l) (last.0)) in
+    subst (Was (codes "/osc/enrol") arguments) found.1.1 (
+      ap (option_map (enrol_row caller.0.0)) told.0
+          ∙ ap (λ (l : List Argument). Some (record { address = codes "/osc/enrol"; arguments = l })) (sym same),
+      told.1,
+    )
 
 pub submit_was : (arguments : List Argument) (e : Recorded) → submit_read arguments ≡ Some e → Was (codes "/osc/submit") arguments e
 submit_was arguments e is =
@@ -182,19 +192,21 @@ submit_was arguments e is =
     let first = read_then _ (long_first code.0.1) e code.1.1 in
     let second = read_then _ (int_first first.0.1) e first.1.1 in
     let last = end_was second.0.1
-        (option_map (λ a. record { caller = caller.0.0; event = submit packet.0.0; answer = a }) (submit_answer code.0.0 first.0.0 second.0.0)) e second.1.1 in
+    (option_map (λ a. record { caller = caller.0.0; event = submit packet.0.0; answer = a }) (submit_answer code.0.0 first.0.0 second.0.0)) e second.1.1 in
     let found = mapped (λ a. record { caller = caller.0.0; event = submit packet.0.0; answer = a }) (submit_answer code.0.0 first.0.0 second.0.0) e last.1 in
     let told = submit_told code.0.0 first.0.0 second.0.0 found.0 found.1.0 in
     let same = int_was arguments caller.0 caller.1.0
-        ∙ ap (λ (l : List Argument). int caller.0.0 ∷ l)
-        (content_was caller.0.1 packet.0 packet.1.0
-        ∙ ap (λ (l : List Argument). content packet.0.0 ∷ l)
-        (int_was packet.0.1 code.0 code.1.0 ∙ ap (λ (l : List Argument). int code.0.0 ∷ l)
-        (long_was code.0.1 first.0 first.1.0 ∙ ap (λ (l : List Argument). long (pos first.0.0) ∷ l)
-        (int_was first.0.1 second.0 second.1.0 ∙ ap (λ (l : List Argument). int second.0.0 ∷ l) (last.0))))) in
-    subst (Was (codes "/osc/submit") arguments) found.1.1
-        (ap (option_map (submit_row caller.0.0 packet.0.0)) told.0
-        ∙ ap (λ (l : List Argument). Some (record { address = codes "/osc/submit"; arguments = l })) (sym same), told.1)
+    ∙ ap (λ (l : List Argument). int caller.0.0 ∷ l)
+    (content_was caller.0.1 packet.0 packet.1.0
+    ∙ ap (λ (l : List Argument). content packet.0.0 ∷ l)
+    (int_was packet.0.1 code.0 code.1.0 ∙ ap (λ (l : List Argument). int code.0.0 ∷ l)
+    (long_was code.0.1 first.0 first.1.0 ∙ ap (λ (l : List Argument). long (pos first.0.0) ∷ l)
+    (int_was first.0.1 second.0 second.1.0 ∙ ap (λ (l : List Argument). int second.0.0 ∷ l) (last.0))))) in
+    subst (Was (codes "/osc/submit") arguments) found.1.1 (
+      ap (option_map (submit_row caller.0.0 packet.0.0)) told.0
+          ∙ ap (λ (l : List Argument). Some (record { address = codes "/osc/submit"; arguments = l })) (sym same),
+      told.1,
+    )
 
 pub add_was : (arguments : List Argument) (e : Recorded) → add_read arguments ≡ Some e → Was (codes "/osc/add") arguments e
 add_was arguments e is =
@@ -204,19 +216,21 @@ add_was arguments e is =
     let first = read_then _ (int_first code.0.1) e code.1.1 in
     let second = read_then _ (int_first first.0.1) e first.1.1 in
     let last = end_was second.0.1
-        (option_map (λ a. record { caller = caller.0.0; event = add address.0.0; answer = a }) (add_answer code.0.0 first.0.0 second.0.0)) e second.1.1 in
+    (option_map (λ a. record { caller = caller.0.0; event = add address.0.0; answer = a }) (add_answer code.0.0 first.0.0 second.0.0)) e second.1.1 in
     let found = mapped (λ a. record { caller = caller.0.0; event = add address.0.0; answer = a }) (add_answer code.0.0 first.0.0 second.0.0) e last.1 in
     let told = add_told code.0.0 first.0.0 second.0.0 found.0 found.1.0 in
     let same = int_was arguments caller.0 caller.1.0
-        ∙ ap (λ (l : List Argument). int caller.0.0 ∷ l)
-        (text_was caller.0.1 address.0 address.1.0
-        ∙ ap (λ (l : List Argument). text address.0.0 ∷ l)
-        (int_was address.0.1 code.0 code.1.0 ∙ ap (λ (l : List Argument). int code.0.0 ∷ l)
-        (int_was code.0.1 first.0 first.1.0 ∙ ap (λ (l : List Argument). int first.0.0 ∷ l)
-        (int_was first.0.1 second.0 second.1.0 ∙ ap (λ (l : List Argument). int second.0.0 ∷ l) (last.0))))) in
-    subst (Was (codes "/osc/add") arguments) found.1.1
-        (ap (option_map (add_row caller.0.0 address.0.0)) told.0
-        ∙ ap (λ (l : List Argument). Some (record { address = codes "/osc/add"; arguments = l })) (sym same), told.1)
+    ∙ ap (λ (l : List Argument). int caller.0.0 ∷ l)
+    (text_was caller.0.1 address.0 address.1.0
+    ∙ ap (λ (l : List Argument). text address.0.0 ∷ l)
+    (int_was address.0.1 code.0 code.1.0 ∙ ap (λ (l : List Argument). int code.0.0 ∷ l)
+    (int_was code.0.1 first.0 first.1.0 ∙ ap (λ (l : List Argument). int first.0.0 ∷ l)
+    (int_was first.0.1 second.0 second.1.0 ∙ ap (λ (l : List Argument). int second.0.0 ∷ l) (last.0))))) in
+    subst (Was (codes "/osc/add") arguments) found.1.1 (
+      ap (option_map (add_row caller.0.0 address.0.0)) told.0
+          ∙ ap (λ (l : List Argument). Some (record { address = codes "/osc/add"; arguments = l })) (sym same),
+      told.1,
+    )
 
 pub remove_was : (arguments : List Argument) (e : Recorded) → remove_read arguments ≡ Some e → Was (codes "/osc/remove") arguments e
 remove_was arguments e is =
@@ -225,18 +239,20 @@ remove_was arguments e is =
     let code = read_then _ (int_first address.0.1) e address.1.1 in
     let id = read_then _ (int_first code.0.1) e code.1.1 in
     let last = end_was id.0.1 (option_map (λ a. record { caller = caller.0.0; event = remove address.0.0; answer = a }) (remove_answer code.0.0 id.0.0)) e
-        id.1.1 in
+    id.1.1 in
     let found = mapped (λ a. record { caller = caller.0.0; event = remove address.0.0; answer = a }) (remove_answer code.0.0 id.0.0) e last.1 in
     let told = remove_told code.0.0 id.0.0 found.0 found.1.0 in
     let same = int_was arguments caller.0 caller.1.0
-        ∙ ap (λ (l : List Argument). int caller.0.0 ∷ l)
-        (text_was caller.0.1 address.0 address.1.0
-        ∙ ap (λ (l : List Argument). text address.0.0 ∷ l)
-        (int_was address.0.1 code.0 code.1.0 ∙ ap (λ (l : List Argument). int code.0.0 ∷ l)
-        (int_was code.0.1 id.0 id.1.0 ∙ ap (λ (l : List Argument). int id.0.0 ∷ l) (last.0)))) in
-    subst (Was (codes "/osc/remove") arguments) found.1.1
-        (ap (option_map (remove_row caller.0.0 address.0.0)) told.0
-        ∙ ap (λ (l : List Argument). Some (record { address = codes "/osc/remove"; arguments = l })) (sym same), told.1)
+    ∙ ap (λ (l : List Argument). int caller.0.0 ∷ l)
+    (text_was caller.0.1 address.0 address.1.0
+    ∙ ap (λ (l : List Argument). text address.0.0 ∷ l)
+    (int_was address.0.1 code.0 code.1.0 ∙ ap (λ (l : List Argument). int code.0.0 ∷ l)
+    (int_was code.0.1 id.0 id.1.0 ∙ ap (λ (l : List Argument). int id.0.0 ∷ l) (last.0)))) in
+    subst (Was (codes "/osc/remove") arguments) found.1.1 (
+      ap (option_map (remove_row caller.0.0 address.0.0)) told.0
+          ∙ ap (λ (l : List Argument). Some (record { address = codes "/osc/remove"; arguments = l })) (sym same),
+      told.1,
+    )
 
 pub tick_was : (arguments : List Argument) (e : Recorded) → tick_read arguments ≡ Some e → Was (codes "/osc/tick") arguments e
 tick_was arguments e is =
@@ -245,18 +261,20 @@ tick_was arguments e is =
     let code = read_then _ (int_first moment.0.1) e moment.1.1 in
     let clock = read_then _ (time_first code.0.1) e code.1.1 in
     let last = end_was clock.0.1
-        (option_map (λ a. record { caller = caller.0.0; event = tick moment.0.0; answer = a }) (tick_answer moment.0.0 code.0.0 clock.0.0)) e clock.1.1 in
+    (option_map (λ a. record { caller = caller.0.0; event = tick moment.0.0; answer = a }) (tick_answer moment.0.0 code.0.0 clock.0.0)) e clock.1.1 in
     let found = mapped (λ a. record { caller = caller.0.0; event = tick moment.0.0; answer = a }) (tick_answer moment.0.0 code.0.0 clock.0.0) e last.1 in
     let told = tick_told moment.0.0 code.0.0 clock.0.0 found.0 found.1.0 in
     let same = int_was arguments caller.0 caller.1.0
-        ∙ ap (λ (l : List Argument). int caller.0.0 ∷ l)
-        (time_was caller.0.1 moment.0 moment.1.0
-        ∙ ap (λ (l : List Argument). time moment.0.0 ∷ l)
-        (int_was moment.0.1 code.0 code.1.0 ∙ ap (λ (l : List Argument). int code.0.0 ∷ l)
-        (time_was code.0.1 clock.0 clock.1.0 ∙ ap (λ (l : List Argument). time clock.0.0 ∷ l) (last.0)))) in
-    subst (Was (codes "/osc/tick") arguments) found.1.1
-        (ap (option_map (tick_row caller.0.0 moment.0.0)) told.0
-        ∙ ap (λ (l : List Argument). Some (record { address = codes "/osc/tick"; arguments = l })) (sym same), told.1)
+    ∙ ap (λ (l : List Argument). int caller.0.0 ∷ l)
+    (time_was caller.0.1 moment.0 moment.1.0
+    ∙ ap (λ (l : List Argument). time moment.0.0 ∷ l)
+    (int_was moment.0.1 code.0 code.1.0 ∙ ap (λ (l : List Argument). int code.0.0 ∷ l)
+    (time_was code.0.1 clock.0 clock.1.0 ∙ ap (λ (l : List Argument). time clock.0.0 ∷ l) (last.0)))) in
+    subst (Was (codes "/osc/tick") arguments) found.1.1 (
+      ap (option_map (tick_row caller.0.0 moment.0.0)) told.0
+          ∙ ap (λ (l : List Argument). Some (record { address = codes "/osc/tick"; arguments = l })) (sym same),
+      told.1,
+    )
 
 release_told : (unit : ℕ) (hits : List ℕ) (answer : Answer) → release_answer unit hits ≡ Some answer
     → (length hits % 8 ≡ 0) × (released unit (hits_in hits) ≡ answer)
@@ -277,24 +295,26 @@ release_was arguments e all is =
     let told = release_told unit.0.0 hits.0.0 found.0 found.1.0 in
     let same : arguments ≡ int caller.0.0 ∷ long (pos unit.0.0) ∷ content hits.0.0 ∷ [] =
     int_was arguments caller.0 caller.1.0 ∙ ap (λ (l : List Argument). int caller.0.0 ∷ l)
-        (long_was caller.0.1 unit.0 unit.1.0 ∙ ap (λ (l : List Argument). long (pos unit.0.0) ∷ l)
-        (content_was unit.0.1 hits.0 hits.1.0 ∙ ap (λ (l : List Argument). content hits.0.0 ∷ l) last.0)) in
+    (long_was caller.0.1 unit.0 unit.1.0 ∙ ap (λ (l : List Argument). long (pos unit.0.0) ∷ l)
+    (content_was unit.0.1 hits.0 hits.1.0 ∙ ap (λ (l : List Argument). content hits.0.0 ∷ l) last.0)) in
     let bytes : AreBytes (flat_map atom_of (int caller.0.0 ∷ long (pos unit.0.0) ∷ content hits.0.0 ∷ [])) =
-        subst (λ (l : List Argument). AreBytes (flat_map atom_of l)) same all in
+    subst (λ (l : List Argument). AreBytes (flat_map atom_of l)) same all in
     let tail : AreBytes (blob hits.0.0 ++ []) = rest_bytes 12 (flat_map atom_of (int caller.0.0 ∷ long (pos unit.0.0) ∷ content hits.0.0 ∷ [])) bytes in
     let inner : AreBytes hits.0.0 = fore_bytes hits.0.0 _ (rest_bytes 4 (blob hits.0.0) (fore_bytes (blob hits.0.0) [] tail)) in
     let back = hits_back hits.0.0 inner told.0 in
-    subst (Was (codes "/osc/release") arguments) (ap (λ (a : Answer). record { caller = caller.0.0; event = release; answer = a }) told.1 ∙ found.1.1)
-    ((λ i. Some (release_row caller.0.0 unit.0.0 (back.0 i)))
-        ∙ ap (λ (l : List Argument). Some (record { address = codes "/osc/release"; arguments = l })) (sym same), back.1)
+    subst (Was (codes "/osc/release") arguments) (ap (λ (a : Answer). record { caller = caller.0.0; event = release; answer = a }) told.1 ∙ found.1.1) (
+      (λ i. Some (release_row caller.0.0 unit.0.0 (back.0 i)))
+          ∙ ap (λ (l : List Argument). Some (record { address = codes "/osc/release"; arguments = l })) (sym same),
+      back.1,
+    )
 
 -- what is read of a message to an address with these arguments
 pub row_was : (address : List ℕ) (arguments : List Argument) (e : Recorded) → AreBytes (flat_map atom_of arguments) → row_read address arguments ≡ Some e
     → Was address arguments e
 row_was address arguments e all is =
     go (bytes_eq address (codes "/osc/enrol")) (bytes_eq address (codes "/osc/submit")) (bytes_eq address (codes "/osc/add"))
-        (bytes_eq address (codes "/osc/remove")) (bytes_eq address (codes "/osc/tick"))
-        (bytes_eq address (codes "/osc/release")) refl refl refl refl refl refl is
+    (bytes_eq address (codes "/osc/remove")) (bytes_eq address (codes "/osc/tick"))
+    (bytes_eq address (codes "/osc/release")) refl refl refl refl refl refl is
   where
     named_as : (name : List ℕ) → bytes_eq address name ≡ true → Was name arguments e → Was address arguments e
     named_as name t w = subst (λ (n : List ℕ). Was n arguments e) (sym ((bytes_eq-Decides address name).0 t)) w
@@ -303,9 +323,9 @@ row_was address arguments e all is =
         → bytes_eq address (codes "/osc/add") ≡ b3 → bytes_eq address (codes "/osc/remove") ≡ b4 → bytes_eq address (codes "/osc/tick") ≡ b5
         → bytes_eq address (codes "/osc/release") ≡ b6
         → cond b1 (enrol_read arguments)
-            (cond b2 (submit_read arguments)
-            (cond b3 (add_read arguments) (cond b4 (remove_read arguments) (cond b5 (tick_read arguments) (cond b6 (release_read arguments) None))))) ≡ Some e
-            → Was address arguments e
+        (cond b2 (submit_read arguments)
+        (cond b3 (add_read arguments) (cond b4 (remove_read arguments) (cond b5 (tick_read arguments) (cond b6 (release_read arguments) None))))) ≡ Some e
+        → Was address arguments e
     go true b2 b3 b4 b5 b6 p q r s t u i = named_as (codes "/osc/enrol") p (enrol_was arguments e i)
     go false true b3 b4 b5 b6 p q r s t u i = named_as (codes "/osc/submit") q (submit_was arguments e i)
     go false false true b4 b5 b6 p q r s t u i = named_as (codes "/osc/add") r (add_was arguments e i)

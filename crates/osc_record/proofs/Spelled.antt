@@ -78,7 +78,7 @@ limits_were arguments limits is =
     let callers = read_then _ (int_first nodes.0.1) limits nodes.1.1 in
     let recording = read_then _ (int_first callers.0.1) limits callers.1.1 in
     let told : Limits =
-        record { units = units.0.0; blocks = blocks.0.0; methods = methods.0.0; nodes = nodes.0.0; callers = callers.0.0; recording = recording.0.0 } in
+    record { units = units.0.0; blocks = blocks.0.0; methods = methods.0.0; nodes = nodes.0.0; callers = callers.0.0; recording = recording.0.0 } in
     let last = end_was recording.0.1 (cond (version.0.0 == 1) (lawful_limits told) None) limits recording.1.1 in
     let first = cond_gives (version.0.0 == 1) (lawful_limits told) limits last.1 in
     let one : version.0.0 ≡ 1 = eqb-true version.0.0 1 first.0 in
@@ -111,7 +111,7 @@ pub header_was : (message : List ℕ) (limits : Limits) → AreBytes message →
     → (message ≡ row_text (header_row limits)) × (limit_fault limits ≡ None)
 header_was message limits small is =
     let inner = cond_gives (is_message 1073741824 message && bytes_eq (pattern_of message) (codes "/osc/rec"))
-        (limits_read (message_arguments message)) limits is in
+    (limits_read (message_arguments message)) limits is in
     let tests = both_true (is_message 1073741824 message) (bytes_eq (pattern_of message) (codes "/osc/rec")) inner.0 in
     let name : pattern_of message ≡ codes "/osc/rec" = (bytes_eq-Decides (pattern_of message) (codes "/osc/rec")).0 tests.1 in
     let were = limits_were (message_arguments message) limits inner.1 in

@@ -35,18 +35,18 @@ stops (suc most) limit place [] at small few inside read = absurd (cc)
 stops zero limit place (byte ∷ bytes) at small few inside read = absurd (omega arith)
 stops (suc most) limit place (byte ∷ bytes) at small few inside read =
     go (entry_first limit place (byte ∷ bytes)) refl read
-        (λ size some rest there. stops most limit (place + size) (drop size (byte ∷ bytes)) at (rest_bytes size (byte ∷ bytes) small)
-        (omega (arith, length-drop size (byte ∷ bytes))) there rest)
+    (λ size some rest there. stops most limit (place + size) (drop size (byte ∷ bytes)) at (rest_bytes size (byte ∷ bytes) small)
+    (omega (arith, length-drop size (byte ∷ bytes))) there rest)
   where
     go : (o : Option (Recorded × ℕ)) → entry_first limit place (byte ∷ bytes) ≡ o
         → before_read place o (λ size. entries_read most limit (place + size) (drop size (byte ∷ bytes))) ≡ Err at
         → ((size : ℕ) → 4 ≤ size → entries_read most limit (place + size) (drop size (byte ∷ bytes)) ≡ Err at → place + size ≤ limit
-            → Stops limit (place + size) (drop size (byte ∷ bytes)) at)
+        → Stops limit (place + size) (drop size (byte ∷ bytes)) at)
         → Stops limit place (byte ∷ bytes) at
     go None found is more =
         let here : place ≡ at = err_is place at is in
         subst (Stops limit place (byte ∷ bytes)) here
-            (record { entries = []; rest = byte ∷ bytes; text = refl; all = tt; end = omega arith; within = inside; some = omega arith; none = found })
+        (record { entries = []; rest = byte ∷ bytes; text = refl; all = tt; end = omega arith; within = inside; some = omega arith; none = found })
     go (Some head) found is more = inner (entries_read most limit (place + head.1) (drop head.1 (byte ∷ bytes))) refl is where
       inner : (r : Result (List Placed) ℕ) → entries_read most limit (place + head.1) (drop head.1 (byte ∷ bytes)) ≡ r
           → onto_read (record { at = place; entry = head.0 }) r ≡ Err at → Stops limit place (byte ∷ bytes) at

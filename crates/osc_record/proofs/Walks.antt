@@ -18,14 +18,14 @@ enough zero more limit place (byte ∷ bytes) a b = absurd (omega arith)
 enough (suc most) zero limit place (byte ∷ bytes) a b = absurd (omega arith)
 enough (suc most) (suc more) limit place (byte ∷ bytes) a b =
     go (entry_first limit place (byte ∷ bytes)) refl
-        (λ size some. enough most more limit (place + size) (drop size (byte ∷ bytes)) (omega (arith, length-drop size (byte ∷ bytes)))
-        (omega (arith, length-drop size (byte ∷ bytes))))
+    (λ size some. enough most more limit (place + size) (drop size (byte ∷ bytes)) (omega (arith, length-drop size (byte ∷ bytes)))
+    (omega (arith, length-drop size (byte ∷ bytes))))
   where
     go : (o : Option (Recorded × ℕ)) → entry_first limit place (byte ∷ bytes) ≡ o
         → ((size : ℕ) → 4 ≤ size → entries_read most limit (place + size) (drop size (byte ∷ bytes))
-            ≡ entries_read more limit (place + size) (drop size (byte ∷ bytes)))
+        ≡ entries_read more limit (place + size) (drop size (byte ∷ bytes)))
         → before_read place o (λ size. entries_read most limit (place + size) (drop size (byte ∷ bytes)))
-            ≡ before_read place o (λ size. entries_read more limit (place + size) (drop size (byte ∷ bytes)))
+        ≡ before_read place o (λ size. entries_read more limit (place + size) (drop size (byte ∷ bytes)))
     go None is rest = refl
     go (Some first) is rest = ap (onto_read (record { at = place; entry = first.0 })) (rest first.1 (first_more limit place (byte ∷ bytes) [] first is).2)
 
@@ -37,8 +37,8 @@ at_first limit place (byte ∷ bytes) first some is =
     let size = (first_more limit place (byte ∷ bytes) [] first is).2 in
     ap (λ o. before_read place o (λ size. entries_read (length bytes) limit (place + size) (drop size (byte ∷ bytes)))) is
     ∙ ap (onto_read (record { at = place; entry = first.0 }))
-        (enough (length bytes) (length (drop first.1 (byte ∷ bytes))) limit (place + first.1) (drop first.1 (byte ∷ bytes))
-        (omega (arith, length-drop first.1 (byte ∷ bytes))) (omega arith))
+    (enough (length bytes) (length (drop first.1 (byte ∷ bytes))) limit (place + first.1) (drop first.1 (byte ∷ bytes))
+    (omega (arith, length-drop first.1 (byte ∷ bytes))) (omega arith))
 
 -- no entry stands first
 pub at_none : (limit place : ℕ) (bytes : List ℕ) → 0 < length bytes → entry_first limit place bytes ≡ None → entries_at limit place bytes ≡ Err place
@@ -82,13 +82,13 @@ placed_onto first (Err at) read = absurd (cc)
 -- the first entry of those that are read, and the others
 pub left_first : (limit place : ℕ) (bytes : List ℕ) (first : Recorded × ℕ) → place < length bytes → entry_first limit place (drop place bytes) ≡ Some first
     → IsTrue (is_ok (entries_at limit place (drop place bytes)))
-        → placed_in (entries_at limit place (drop place bytes))
-        ≡ record { at = place; entry = first.0 } ∷ placed_in (entries_at limit (place + first.1) (drop (place + first.1) bytes))
+    → placed_in (entries_at limit place (drop place bytes))
+    ≡ record { at = place; entry = first.0 } ∷ placed_in (entries_at limit (place + first.1) (drop (place + first.1) bytes))
 left_first limit place bytes first some is read =
     ap placed_in (at_first limit place (drop place bytes) first (omega (arith, length-drop place bytes)) is
     ∙ ap (λ l. onto_read (record { at = place; entry = first.0 }) (entries_at limit (place + first.1) l)) (drop-drop first.1 place bytes))
     ∙ placed_onto (record { at = place; entry = first.0 }) (entries_at limit (place + first.1) (drop (place + first.1) bytes))
-        (rest_read limit place bytes first some is read)
+    (rest_read limit place bytes first some is read)
 
 -- the bytes from a place on, as a slice of all has them
 pub slice_rest : (place : ℕ) (bytes : List ℕ) → take (length bytes - place) (drop place bytes) ≡ drop place bytes

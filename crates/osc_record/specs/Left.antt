@@ -8,9 +8,14 @@ use Rattle.osc_record.specs.Reading.{Placed, placed_in, entries_at}
 -- an entry at its place
 abbrev pub placed_of : Entry → Placed
 placed_of entry =
-    record { at = entry.at;
-    entry = record { caller = entry.caller; event = event_of entry.event;
-    answer = answer_of entry.answer } }
+    record {
+      at = entry.at;
+      entry = record {
+        caller = entry.caller;
+        event = event_of entry.event;
+        answer = answer_of entry.answer;
+      };
+    }
 
 -- those from the place on
 abbrev pub entries_left : Entries → List Placed

@@ -69,11 +69,11 @@ abbrev pub submit_answer : ℕ → ℕ → ℕ → Option Answer
 submit_answer code first second =
     if code == 0 then Some (queued first second) else
     if code == 1
-        then answer_if (nat_lt second first)
-        (units_full (record { need = first; free = second })) else
+    then answer_if (nat_lt second first)
+    (units_full (record { need = first; free = second })) else
     if code == 2
-        then answer_if (nat_lt second first) (pool_full (record { need = first; free = second }))
-        else None
+    then answer_if (nat_lt second first) (pool_full (record { need = first; free = second }))
+    else None
 
 -- what adding a method is answered by a code and two numbers
 abbrev pub add_answer : ℕ → ℕ → ℕ → Option Answer
@@ -104,8 +104,8 @@ enrol_read arguments =
     option_and_then (λ caller.
     option_and_then (λ answer.
     at_end answer.1
-        (option_map (λ a. record { caller = caller.0; event = enrol; answer = a })
-        (enrol_answer answer.0)))
+    (option_map (λ a. record { caller = caller.0; event = enrol; answer = a })
+    (enrol_answer answer.0)))
     (signed_first caller.1)) (int_first arguments)
 
 abbrev pub submit_read : List Argument → Option Recorded
@@ -116,10 +116,10 @@ submit_read arguments =
     option_and_then (λ first.
     option_and_then (λ second.
     at_end second.1
-        (option_map (λ a. record { caller = caller.0; event = submit packet.0; answer = a })
-        (submit_answer code.0 first.0 second.0)))
+    (option_map (λ a. record { caller = caller.0; event = submit packet.0; answer = a })
+    (submit_answer code.0 first.0 second.0)))
     (int_first first.1)) (long_first code.1)) (int_first packet.1)) (content_first caller.1))
-        (int_first arguments)
+    (int_first arguments)
 
 abbrev pub add_read : List Argument → Option Recorded
 add_read arguments =
@@ -129,10 +129,10 @@ add_read arguments =
     option_and_then (λ first.
     option_and_then (λ second.
     at_end second.1
-        (option_map (λ a. record { caller = caller.0; event = add address.0; answer = a })
-        (add_answer code.0 first.0 second.0)))
+    (option_map (λ a. record { caller = caller.0; event = add address.0; answer = a })
+    (add_answer code.0 first.0 second.0)))
     (int_first first.1)) (int_first code.1)) (int_first address.1)) (text_first caller.1))
-        (int_first arguments)
+    (int_first arguments)
 
 abbrev pub remove_read : List Argument → Option Recorded
 remove_read arguments =
@@ -141,8 +141,8 @@ remove_read arguments =
     option_and_then (λ code.
     option_and_then (λ id.
     at_end id.1 (option_map
-        (λ a. record { caller = caller.0; event = remove address.0; answer = a })
-        (remove_answer code.0 id.0)))
+    (λ a. record { caller = caller.0; event = remove address.0; answer = a })
+    (remove_answer code.0 id.0)))
     (int_first code.1)) (int_first address.1)) (text_first caller.1)) (int_first arguments)
 
 abbrev pub tick_read : List Argument → Option Recorded
@@ -152,8 +152,8 @@ tick_read arguments =
     option_and_then (λ code.
     option_and_then (λ clock.
     at_end clock.1
-        (option_map (λ a. record { caller = caller.0; event = tick moment.0; answer = a })
-        (tick_answer moment.0 code.0 clock.0)))
+    (option_map (λ a. record { caller = caller.0; event = tick moment.0; answer = a })
+    (tick_answer moment.0 code.0 clock.0)))
     (time_first code.1)) (int_first moment.1)) (time_first caller.1)) (int_first arguments)
 
 abbrev pub release_read : List Argument → Option Recorded
@@ -162,8 +162,8 @@ release_read arguments =
     option_and_then (λ unit.
     option_and_then (λ hits.
     at_end hits.1
-        (option_map (λ a. record { caller = caller.0; event = release; answer = a })
-        (release_answer unit.0 hits.0)))
+    (option_map (λ a. record { caller = caller.0; event = release; answer = a })
+    (release_answer unit.0 hits.0)))
     (content_first unit.1)) (long_first caller.1)) (int_first arguments)
 
 -- the entry of a message to an address with these arguments
@@ -197,7 +197,7 @@ abbrev pub entry_first : ℕ → ℕ → List ℕ → Option (Recorded × ℕ)
 entry_first limit place bytes =
     option_and_then (λ message.
     if nat_le (place + 4 + length message) limit
-        then option_map (λ entry. (entry, 4 + length message)) (entry_of message) else None)
+    then option_map (λ entry. (entry, 4 + length message)) (entry_of message) else None)
     (message_first bytes)
 
 -- the entry that bytes begin with, whatever follows it
@@ -228,7 +228,7 @@ entries_read most limit place [] = Ok []
 entries_read zero limit place (byte ∷ bytes) = Err place
 entries_read (suc most) limit place (byte ∷ bytes) =
     before_read place (entry_first limit place (byte ∷ bytes))
-        (λ size. entries_read most limit (place + size) (drop size (byte ∷ bytes)))
+    (λ size. entries_read most limit (place + size) (drop size (byte ∷ bytes)))
 
 -- all the entries that stand one after another from a place on, or the first malformed place
 abbrev pub entries_at : ℕ → ℕ → List ℕ → Result (List Placed) ℕ
@@ -259,18 +259,24 @@ limits_read arguments =
     option_and_then (λ callers.
     option_and_then (λ recording.
     at_end recording.1
-        (if version.0 == 1
-        then lawful_limits
-        (record { units = units.0; blocks = blocks.0; methods = methods.0; nodes = nodes.0;
-        callers = callers.0; recording = recording.0 }) else None))
+    (if version.0 == 1
+    then lawful_limits
+    (record {
+      units = units.0;
+      blocks = blocks.0;
+      methods = methods.0;
+      nodes = nodes.0;
+      callers = callers.0;
+      recording = recording.0;
+    }) else None))
     (int_first callers.1)) (int_first nodes.1)) (int_first methods.1)) (int_first blocks.1))
-        (int_first units.1)) (int_first version.1)) (int_first arguments)
+    (int_first units.1)) (int_first version.1)) (int_first arguments)
 
 -- the limits that a message is the header of
 abbrev pub header_of : List ℕ → Option Limits
 header_of message =
     if is_message MAX_BYTES message && bytes_eq (pattern_of message) (codes "/osc/rec")
-        then limits_read (message_arguments message) else None
+    then limits_read (message_arguments message) else None
 
 -- the limits that the bytes begin with
 abbrev pub header_read : List ℕ → Option Limits
@@ -298,7 +304,7 @@ abbrev pub placed_from : ℕ → List Recorded → List Placed
 placed_from place [] = []
 placed_from place (entry ∷ entries) =
     record { at = place; entry = entry } ∷ placed_from
-        (place + length (entry_text entry.caller entry.event entry.answer)) entries
+    (place + length (entry_text entry.caller entry.event entry.answer)) entries
 
 -- the entries without their places
 abbrev pub unplaced : List Placed → List Recorded

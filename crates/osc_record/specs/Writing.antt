@@ -27,8 +27,8 @@ pub record Recording : Type 0 where
 abbrev pub release_head : ℕ → ℕ → ℕ → List ℕ
 release_head caller unit count =
     word (40 + 8 * count)
-        ++ (string (codes "/osc/release")
-        ++ (tag_string (codes "ihb") ++ (word caller ++ (tag unit ++ word (8 * count)))))
+    ++ (string (codes "/osc/release")
+    ++ (tag_string (codes "ihb") ++ (word caller ++ (tag unit ++ word (8 * count)))))
 
 -- the bytes of a release that is begun
 abbrev pub begun_text : Option Begun → List ℕ
@@ -44,17 +44,26 @@ recording_text recording =
 -- with one more entry
 abbrev pub appended : Recording → Recorded → Recording
 appended recording entry =
-    record { caps = recording.caps; entries = recording.entries ++ entry ∷ [];
-    begun = recording.begun }
+    record {
+      caps = recording.caps;
+      entries = recording.entries ++ entry ∷ [];
+      begun = recording.begun;
+    }
 
 -- a release that is owed no hit is an entry
 abbrev pub settled : Recording → Begun → Recording
 settled recording begun =
     if begun.owed == 0
-        then record { caps = recording.caps;
-        entries = recording.entries
-        ++ record { caller = begun.caller; event = release;
-        answer = released begun.unit begun.hits } ∷ []; begun = None }
+    then record {
+      caps = recording.caps;
+      entries = recording.entries
+          ++ record {
+            caller = begun.caller;
+            event = release;
+            answer = released begun.unit begun.hits;
+          } ∷ [];
+      begun = None;
+    }
     else record { caps = recording.caps; entries = recording.entries; begun = Some begun }
 
 -- with a release by a caller of a unit, which is owed so many hits
@@ -67,8 +76,12 @@ abbrev pub with_hit : Recording → Hit → Recording
 with_hit recording hit = elim recording.begun [
   | None ↦ recording
   | Some begun ↦ settled recording
-      (record { caller = begun.caller; unit = begun.unit; hits = begun.hits ++ hit ∷ [];
-      owed = begun.owed - 1 })
+      (record {
+        caller = begun.caller;
+        unit = begun.unit;
+        hits = begun.hits ++ hit ∷ [];
+        owed = begun.owed - 1;
+      })
 ]
 
 -- the entries that are read, without their places

@@ -1,6 +1,6 @@
 // The limits of a server's tables and of its recording.
 ghost use Rattle.std.specs.Prelude.{◌≡◌, ◌↔◌, IsOk, IfOk, IfErr, Some, None};
-ghost use Rattle.osc_model.specs.Limits.{Limits, AreInRange, is_within, limit_fault};
+ghost use Rattle.osc_model.specs.Limits.{Limits, limits_of, AreInRange, is_within, limit_fault};
 
 use crate::limits::{HEADER_SIZE, MAX_CALLERS, MAX_METHODS, MAX_RECORDING, MAX_RESERVED};
 use std::marker::Model;
@@ -26,18 +26,14 @@ pub struct Caps {
 }
 
 impl Model for Caps {
-    ghost use Rattle.osc_model.specs.Limits.{Limits, AreInRange};
+    ghost use Rattle.osc_model.specs.Limits.{Limits, limits_of, AreInRange};
 
     ghost Value = { Limits };
 
-    ghost view =
-        { λ c. record { units = c.units; blocks = c.blocks; methods = c.methods; nodes = c.nodes;
-        callers = c.callers; recording = c.recording } };
+    ghost view = { λ c. limits_of c.units c.blocks c.methods c.nodes c.callers c.recording };
 
     ghost invariant =
-        { λ c. AreInRange
-        (record { units = c.units; blocks = c.blocks; methods = c.methods; nodes = c.nodes;
-        callers = c.callers; recording = c.recording }) };
+        { λ c. AreInRange (limits_of c.units c.blocks c.methods c.nodes c.callers c.recording) };
 
     ghost inverse =
         { λ l. record { units = l.units; blocks = l.blocks; methods = l.methods; nodes = l.nodes;
@@ -45,8 +41,9 @@ impl Model for Caps {
 }
 
 impl Caps {
-    /// The limits, or the first of them that is outside its range: units, blocks and nodes from 1 to `MAX_RESERVED`, methods
-    /// from 1 to `MAX_METHODS`, callers from 1 to `MAX_CALLERS`, and recording from `HEADER_SIZE` to `MAX_RECORDING`.
+    /// The limits, or the first of them that is outside its range: units, blocks and nodes from 1 to
+    /// `MAX_RESERVED`, methods to `MAX_METHODS`, callers to `MAX_CALLERS`, and recording from `HEADER_SIZE` to
+    /// `MAX_RECORDING`.
     pub fn new(
         units: u32,
         blocks: u32,
@@ -56,21 +53,14 @@ impl Caps {
         recording: u32,
     ) -> Result<Caps, CapFault>
         ensures ok { IfOk result
-            (λ caps. caps
-            ≡ record { units = units; blocks = blocks; methods = methods; nodes = nodes;
-            callers = callers; recording = recording }) }
+            (λ caps. caps ≡ limits_of units blocks methods nodes callers recording) }
         ensures exact { IsOk result
-            ↔ AreInRange
-            (record { units = units; blocks = blocks; methods = methods; nodes = nodes;
-            callers = callers; recording = recording }) }
+            ↔ AreInRange (limits_of units blocks methods nodes callers recording) }
         ensures read { IsOk result
-            ↔ (limit_fault
-            (record { units = units; blocks = blocks; methods = methods; nodes = nodes;
-            callers = callers; recording = recording }) ≡ None) }
+            ↔ (limit_fault (limits_of units blocks methods nodes callers recording) ≡ None) }
         ensures fault { IfErr result
-            (λ fault. limit_fault
-            (record { units = units; blocks = blocks; methods = methods; nodes = nodes;
-            callers = callers; recording = recording }) ≡ Some fault.field) }
+            (λ fault. limit_fault (limits_of units blocks methods nodes callers recording)
+            ≡ Some fault.field) }
     {
         if !lies_within(1, MAX_RESERVED, units) {
             return Err(CapFault { field: 1 });

@@ -3,8 +3,8 @@ ghost use Rattle.osc_model.specs.Limits.{max_recording};
 ghost use Rattle.std.specs.Prelude.{◌≡◌, ◌≤◌, length, drop, IsTrue, is_ok};
 ghost use Rattle.osc_record.specs.Reading.{entries_at};
 
-use crate::limits::HEADER_SIZE;
 use crate::event::Entry;
+use crate::limits::HEADER_SIZE;
 use crate::sized_reading::first_entry;
 
 /// The entries of a recording that are left, in order.

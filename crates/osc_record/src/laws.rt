@@ -67,8 +67,14 @@ pub fn whole_hits_are_their_bytes()
 /// A header and an entry, byte by byte.
 pub fn examples()
     ensures header { header_text
-        (record { units = 4096; blocks = 16384; methods = 1024; nodes = 4096; callers = 1;
-        recording = 67108864 })
+        (record {
+          units = 4096;
+          blocks = 16384;
+          methods = 1024;
+          nodes = 4096;
+          callers = 1;
+          recording = 67108864;
+        })
         ≡ 0 ∷ 0 ∷ 0 ∷ 0x34 ∷ codes "/osc/rec" ++ 0 ∷ 0 ∷ 0 ∷ 0 ∷ codes ",iiiiiii"
         ++ 0 ∷ 0 ∷ 0 ∷ 0 ∷ 0 ∷ 0 ∷ 0 ∷ 1 ∷ 0 ∷ 0 ∷ 0x10 ∷ 0 ∷ 0 ∷ 0 ∷ 0x40 ∷ 0 ∷ 0 ∷ 0 ∷ 4 ∷ 0 ∷ 0
         ∷ 0 ∷ 0x10 ∷ 0 ∷ 0 ∷ 0 ∷ 0 ∷ 1 ∷ 4 ∷ 0 ∷ 0 ∷ 0 ∷ [] }

@@ -4,10 +4,10 @@ ghost use Rattle.std.specs.Vec.{vec_len, vec_capacity};
 ghost use Rattle.osc_model.specs.Recordings.{hit_text};
 ghost use Rattle.osc_record.specs.Writing.{release_head};
 
-use crate::limits::HEADER_SIZE;
 use crate::caps::Caps;
 use crate::entries::append_entry;
 use crate::event::{Answer, Event};
+use crate::limits::HEADER_SIZE;
 use crate::rows::append_header;
 use osc_atoms::{append_string, append_tag, append_word};
 use std::alloc::{AllocError, Global};
@@ -35,8 +35,7 @@ impl Model for Recorder {
 
     ghost view = { λ r. recording_of r.caps r.bytes.items r.start r.caller r.unit r.owed };
 
-    ghost invariant =
-        { λ r. IsKept r.caps r.bytes.items r.start r.caller r.unit r.owed (vec_capacity r.bytes) };
+    ghost invariant = { λ r. IsKept r.caps r.bytes.items r.start r.caller r.unit r.owed (vec_capacity r.bytes) };
 }
 
 impl Recorder {
@@ -88,8 +87,11 @@ impl Recorder {
         requires none_owed { self.old.begun ≡ None }
         ensures { self.new
             ≡ appended self.old
-            (record { caller = caller; event = event_of event.entry;
-            answer = answer_of answer.entry }) }
+            (record {
+              caller = caller;
+              event = event_of event.entry;
+              answer = answer_of answer.entry;
+            }) }
     {
         append_entry(&mut self.bytes, caller, event, answer);
         self.start = self.bytes.len() as u32;

@@ -6,10 +6,10 @@ ghost use Rattle.osc_message.specs.Left.{left};
 ghost use Rattle.osc_record.specs.Reading.{message_first, entry_first, entries_at, outcome, limits_read, lawful_limits, header_of, header_read};
 ghost use Rattle.osc_record.specs.Shown.{parts_of, HasWholeHits};
 
-use crate::limits::HEADER_SIZE;
 use crate::arguments::next_int;
 use crate::caps::Caps;
 use crate::entry_reading::read_message;
+use crate::limits::HEADER_SIZE;
 use crate::parts::Parts;
 use osc_atoms::MAX_BYTES;
 use osc_message::{Args, Message};
@@ -104,8 +104,14 @@ fn lawful_caps(
 ) -> Option<Caps>
     ensures { result
         ≡ lawful_limits
-        (record { units = units; blocks = blocks; methods = methods; nodes = nodes;
-        callers = callers; recording = recording }) }
+        (record {
+          units = units;
+          blocks = blocks;
+          methods = methods;
+          nodes = nodes;
+          callers = callers;
+          recording = recording;
+        }) }
 {
     match Caps::new(units, blocks, methods, nodes, callers, recording) {
         Ok(caps) => Some(caps),

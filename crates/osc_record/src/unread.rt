@@ -1,9 +1,9 @@
 // Recordings, read entry by entry.
 ghost use Rattle.std.specs.Prelude.{◌≡◌, ◌≤◌, length};
 
-use crate::limits::HEADER_SIZE;
 use crate::caps::Caps;
 use crate::event::Entry;
+use crate::limits::HEADER_SIZE;
 use crate::reader::Malformed;
 use crate::sized_reading::{first_entry, read_header};
 use std::marker::Model;

@@ -9,79 +9,79 @@ pub returns-in_err-read-clause-value : goal.returns-in_err-read-clause-value
 returns-in_err-read-clause-value c =
     let none : c.from_residual.result ≡ None = search rules in
     ap (option_map parts_of) none
-        ∙ sym (front_none enrol_bytes (codes "/osc/enrol") (codes "ii") enrol_front c.args.bytes.now
-        (sym c.starts_with.ensures.value ∙ c.if-starts_with.true) c.requires.fours c.requires.small (sym c.in_err-read.ensures.exact))
+    ∙ sym (front_none enrol_bytes (codes "/osc/enrol") (codes "ii") enrol_front c.args.bytes.now
+    (sym c.starts_with.ensures.value ∙ c.if-starts_with.true) c.requires.fours c.requires.small (sym c.in_err-read.ensures.exact))
 
 pub returns-in_ok-read-clause-value : goal.returns-in_ok-read-clause-value
 returns-in_ok-read-clause-value c =
     c.read_enrol.ensures.value ∙ ap enrol_read c.in_ok-read.ensures.read
     ∙ sym (front_some enrol_bytes (codes "/osc/enrol") (codes "ii") enrol_front c.args.bytes.now
-        (sym c.starts_with.ensures.value ∙ c.if-starts_with.true) c.requires.fours c.requires.small (sym c.in_ok-read.ensures.exact))
+    (sym c.starts_with.ensures.value ∙ c.if-starts_with.true) c.requires.fours c.requires.small (sym c.in_ok-read.ensures.exact))
 
 pub returns-in_err-read-2-clause-value : goal.returns-in_err-read-2-clause-value
 returns-in_err-read-2-clause-value c =
     let none : c.from_residual-in_err-read-2.result ≡ None = search rules in
     ap (option_map parts_of) none
-        ∙ sym (front_none submit_bytes (codes "/osc/submit") (codes "ibihi") submit_front c.args.bytes.now
-        (sym c.starts_with-else-starts_with.ensures.value ∙ c.if-starts_with-2.true) c.requires.fours c.requires.small (sym c.in_err-read-2.ensures.exact))
+    ∙ sym (front_none submit_bytes (codes "/osc/submit") (codes "ibihi") submit_front c.args.bytes.now
+    (sym c.starts_with-else-starts_with.ensures.value ∙ c.if-starts_with-2.true) c.requires.fours c.requires.small (sym c.in_err-read-2.ensures.exact))
 
 pub returns-in_ok-read-2-clause-value : goal.returns-in_ok-read-2-clause-value
 returns-in_ok-read-2-clause-value c =
     c.read_submit.ensures.value ∙ ap submit_read c.in_ok-read-2.ensures.read
     ∙ sym (front_some submit_bytes (codes "/osc/submit") (codes "ibihi") submit_front c.args.bytes.now
-        (sym c.starts_with-else-starts_with.ensures.value ∙ c.if-starts_with-2.true) c.requires.fours c.requires.small (sym c.in_ok-read-2.ensures.exact))
+    (sym c.starts_with-else-starts_with.ensures.value ∙ c.if-starts_with-2.true) c.requires.fours c.requires.small (sym c.in_ok-read-2.ensures.exact))
 
 pub returns-in_err-read-3-clause-value : goal.returns-in_err-read-3-clause-value
 returns-in_err-read-3-clause-value c =
     let none : c.from_residual-in_err-read-3.result ≡ None = search rules in
     ap (option_map parts_of) none
-        ∙ sym (front_none add_bytes (codes "/osc/add") (codes "isiii") add_front c.args.bytes.now
-        (sym c.starts_with-else-starts_with-2.ensures.value ∙ c.if-starts_with-3.true) c.requires.fours c.requires.small (sym c.in_err-read-3.ensures.exact))
+    ∙ sym (front_none add_bytes (codes "/osc/add") (codes "isiii") add_front c.args.bytes.now
+    (sym c.starts_with-else-starts_with-2.ensures.value ∙ c.if-starts_with-3.true) c.requires.fours c.requires.small (sym c.in_err-read-3.ensures.exact))
 
 pub returns-in_ok-read-3-clause-value : goal.returns-in_ok-read-3-clause-value
 returns-in_ok-read-3-clause-value c =
     c.read_add.ensures.value ∙ ap add_read c.in_ok-read-3.ensures.read
     ∙ sym (front_some add_bytes (codes "/osc/add") (codes "isiii") add_front c.args.bytes.now
-        (sym c.starts_with-else-starts_with-2.ensures.value ∙ c.if-starts_with-3.true) c.requires.fours c.requires.small (sym c.in_ok-read-3.ensures.exact))
+    (sym c.starts_with-else-starts_with-2.ensures.value ∙ c.if-starts_with-3.true) c.requires.fours c.requires.small (sym c.in_ok-read-3.ensures.exact))
 
 pub returns-in_err-read-4-clause-value : goal.returns-in_err-read-4-clause-value
 returns-in_err-read-4-clause-value c =
     let none : c.from_residual-in_err-read-4.result ≡ None = search rules in
     ap (option_map parts_of) none
-        ∙ sym (front_none remove_bytes (codes "/osc/remove") (codes "isii") remove_front c.args.bytes.now
-        (sym c.starts_with-else-starts_with-3.ensures.value ∙ c.if-starts_with-4.true) c.requires.fours c.requires.small (sym c.in_err-read-4.ensures.exact))
+    ∙ sym (front_none remove_bytes (codes "/osc/remove") (codes "isii") remove_front c.args.bytes.now
+    (sym c.starts_with-else-starts_with-3.ensures.value ∙ c.if-starts_with-4.true) c.requires.fours c.requires.small (sym c.in_err-read-4.ensures.exact))
 
 pub returns-in_ok-read-4-clause-value : goal.returns-in_ok-read-4-clause-value
 returns-in_ok-read-4-clause-value c =
     c.read_remove.ensures.value ∙ ap remove_read c.in_ok-read-4.ensures.read
     ∙ sym (front_some remove_bytes (codes "/osc/remove") (codes "isii") remove_front c.args.bytes.now
-        (sym c.starts_with-else-starts_with-3.ensures.value ∙ c.if-starts_with-4.true) c.requires.fours c.requires.small (sym c.in_ok-read-4.ensures.exact))
+    (sym c.starts_with-else-starts_with-3.ensures.value ∙ c.if-starts_with-4.true) c.requires.fours c.requires.small (sym c.in_ok-read-4.ensures.exact))
 
 pub returns-in_err-read-5-clause-value : goal.returns-in_err-read-5-clause-value
 returns-in_err-read-5-clause-value c =
     let none : c.from_residual-in_err-read-5.result ≡ None = search rules in
     ap (option_map parts_of) none
-        ∙ sym (front_none tick_bytes (codes "/osc/tick") (codes "itit") tick_front c.args.bytes.now
-        (sym c.starts_with-else-starts_with-4.ensures.value ∙ c.if-starts_with-5.true) c.requires.fours c.requires.small (sym c.in_err-read-5.ensures.exact))
+    ∙ sym (front_none tick_bytes (codes "/osc/tick") (codes "itit") tick_front c.args.bytes.now
+    (sym c.starts_with-else-starts_with-4.ensures.value ∙ c.if-starts_with-5.true) c.requires.fours c.requires.small (sym c.in_err-read-5.ensures.exact))
 
 pub returns-in_ok-read-5-clause-value : goal.returns-in_ok-read-5-clause-value
 returns-in_ok-read-5-clause-value c =
     c.read_tick.ensures.value ∙ ap tick_read c.in_ok-read-5.ensures.read
     ∙ sym (front_some tick_bytes (codes "/osc/tick") (codes "itit") tick_front c.args.bytes.now
-        (sym c.starts_with-else-starts_with-4.ensures.value ∙ c.if-starts_with-5.true) c.requires.fours c.requires.small (sym c.in_ok-read-5.ensures.exact))
+    (sym c.starts_with-else-starts_with-4.ensures.value ∙ c.if-starts_with-5.true) c.requires.fours c.requires.small (sym c.in_ok-read-5.ensures.exact))
 
 pub returns-in_err-read-6-clause-value : goal.returns-in_err-read-6-clause-value
 returns-in_err-read-6-clause-value c =
     let none : c.from_residual-in_err-read-6.result ≡ None = search rules in
     ap (option_map parts_of) none
-        ∙ sym (front_none release_bytes (codes "/osc/release") (codes "ihb") release_front c.args.bytes.now
-        (sym c.starts_with-else-starts_with-5.ensures.value ∙ c.if-starts_with-6.true) c.requires.fours c.requires.small (sym c.in_err-read-6.ensures.exact))
+    ∙ sym (front_none release_bytes (codes "/osc/release") (codes "ihb") release_front c.args.bytes.now
+    (sym c.starts_with-else-starts_with-5.ensures.value ∙ c.if-starts_with-6.true) c.requires.fours c.requires.small (sym c.in_err-read-6.ensures.exact))
 
 pub returns-in_ok-read-6-clause-value : goal.returns-in_ok-read-6-clause-value
 returns-in_ok-read-6-clause-value c =
     c.read_release.ensures.value ∙ ap release_read c.in_ok-read-6.ensures.read
     ∙ sym (front_some release_bytes (codes "/osc/release") (codes "ihb") release_front c.args.bytes.now
-        (sym c.starts_with-else-starts_with-5.ensures.value ∙ c.if-starts_with-6.true) c.requires.fours c.requires.small (sym c.in_ok-read-6.ensures.exact))
+    (sym c.starts_with-else-starts_with-5.ensures.value ∙ c.if-starts_with-6.true) c.requires.fours c.requires.small (sym c.in_ok-read-6.ensures.exact))
 
 pub returns-else-starts_with-6-clause-value : goal.returns-else-starts_with-6-clause-value
 returns-else-starts_with-6-clause-value c =

@@ -14,6 +14,6 @@ six o o1 o2 o3 o4 o5 o6 a b c d e f p1 p2 p3 p4 p5 p6 =
 pub returns-clause-out : goal.returns-clause-out
 returns-clause-out c =
     six c.args.out.now.items _ _ _ _ _ _ (word (40 + 8 * c.args.hits)) (string (codes "/osc/release")) (tag_string (codes "ihb")) (word c.args.caller)
-        (tag c.args.unit) (word (8 * c.args.hits))
+    (tag c.args.unit) (word (8 * c.args.hits))
     c.append_word.ensures.out c.append_string.ensures.out c.append_string-2.ensures.out c.append_word-2.ensures.out c.append_tag.ensures.out
-        c.append_word-3.ensures.out
+    c.append_word-3.ensures.out

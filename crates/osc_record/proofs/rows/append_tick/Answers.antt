@@ -9,6 +9,6 @@ returns-clause-out c =
     let caller : to_z w32 c.args.caller ≡ pos c.args.caller = to_z_pos w32 c.args.caller (omega (arith, c.requires.fits.0)) in
     let code : to_z w32 c.args.code ≡ pos c.args.code = to_z_pos w32 c.args.code (omega (arith, c.requires.fits.1.1.0)) in
     c.append_message.ensures.out
-        ∙ (λ i. c.args.out.now.items
-        ++ sized (row_text
-        (record { address = codes "/osc/tick"; arguments = integer (caller i) ∷ time c.args.moment ∷ integer (code i) ∷ time c.args.clock ∷ [] })))
+    ∙ (λ i. c.args.out.now.items
+    ++ sized (row_text
+    (record { address = codes "/osc/tick"; arguments = integer (caller i) ∷ time c.args.moment ∷ integer (code i) ∷ time c.args.clock ∷ [] })))

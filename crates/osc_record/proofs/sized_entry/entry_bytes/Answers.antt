@@ -12,5 +12,5 @@ pub release_entry-requires-clause-room : goal.release_entry-requires-clause-room
 release_entry-requires-clause-room c =
     let size : length (entry_text c.args.caller release (answer_of c.args.answer)) ≡ entry_size (event_of c.args.event) (answer_of c.args.answer) =
     sym (ap (λ (e : Event). length (entry_text c.args.caller e (answer_of c.args.answer))) (ap event_of c.in-Release.is))
-        ∙ sizes_are c.args.caller (event_of c.args.event) (answer_of c.args.answer) c.requires.lawful.fits in
+    ∙ sizes_are c.args.caller (event_of c.args.event) (answer_of c.args.answer) c.requires.lawful.fits in
     omega (arith, size, c.entry_size.ensures, c.in_ok-out.ensures.len, c.in_ok-out.ensures.capacity)

@@ -10,7 +10,7 @@ invariant_of-self c =
     let inside = s.inside in
     let some : s.at < length s.bytes.now = omega (arith, c.if-self.false) in
     let found : entry_first s.limit s.at (drop s.at s.bytes.now) ≡ Some (parts_of c.in-Some.parts, c.in-Some.size) =
-        ap (entry_first s.limit s.at) (sym (slice_rest s.at s.bytes.now)) ∙ sym c.in-Some.ensures.value in
+    ap (entry_first s.limit s.at) (sym (slice_rest s.at s.bytes.now)) ∙ sym c.in-Some.ensures.value in
     record {
       small = s.small;
       inside = omega (arith, c.in-Some.ensures.within, length-drop s.at s.bytes.now);
@@ -23,7 +23,7 @@ returns-clause-steps c =
     let inside = s.inside in
     let some : s.at < length s.bytes.now = omega (arith, c.if-self.false) in
     let found : entry_first s.limit s.at (drop s.at s.bytes.now) ≡ Some (parts_of c.in-Some.parts, c.in-Some.size) =
-        ap (entry_first s.limit s.at) (sym (slice_rest s.at s.bytes.now)) ∙ sym c.in-Some.ensures.value in
+    ap (entry_first s.limit s.at) (sym (slice_rest s.at s.bytes.now)) ∙ sym c.in-Some.ensures.value in
     left_first s.limit s.at s.bytes.now (parts_of c.in-Some.parts, c.in-Some.size) some found s.readable
 
 pub returns-clause-goes : goal.returns-clause-goes
@@ -32,8 +32,8 @@ returns-clause-goes c =
     let inside = s.inside in
     let some : s.at < length s.bytes.now = omega (arith, c.if-self.false) in
     let found : entry_first s.limit s.at (drop s.at s.bytes.now) ≡ Some (parts_of c.in-Some.parts, c.in-Some.size) =
-        ap (entry_first s.limit s.at) (sym (slice_rest s.at s.bytes.now)) ∙ sym c.in-Some.ensures.value in
+    ap (entry_first s.limit s.at) (sym (slice_rest s.at s.bytes.now)) ∙ sym c.in-Some.ensures.value in
     let size : length (placed_in (entries_at s.limit s.at (drop s.at s.bytes.now)))
-        ≡ suc (length (placed_in (entries_at s.limit (s.at + c.in-Some.size) (drop (s.at + c.in-Some.size) s.bytes.now)))) =
+    ≡ suc (length (placed_in (entries_at s.limit (s.at + c.in-Some.size) (drop (s.at + c.in-Some.size) s.bytes.now)))) =
     ap length (left_first s.limit s.at s.bytes.now (parts_of c.in-Some.parts, c.in-Some.size) some found s.readable) in
     record { on = λ f. (tt, tt, omega arith); keeps = tt; rests = λ f. tt }

@@ -29,7 +29,7 @@ returns-in-Ok-clause-ok c = record_ok c.args.bytes.now c.in-Some.caps (sym c.in-
 pub returns-in-Ok-clause-written : goal.returns-in-Ok-clause-written
 returns-in-Ok-clause-written c =
     let was = record_was c.args.bytes.now c.in-Some.caps (λ i. omega (arith, c.type_inv.bytes i)) (sym c.in-Some.ensures)
-        (read_after c.in-Some.caps c.args.bytes.now (walked c)) in
+    (read_after c.in-Some.caps c.args.bytes.now (walked c)) in
     (was.lawful, was.text)
 
 pub returns-in-Ok-clause-complete : goal.returns-in-Ok-clause-complete
@@ -51,7 +51,7 @@ pub returns-in-Err-clause-first : goal.returns-in-Err-clause-first
 returns-in-Err-clause-first c =
     inr (no_entry c.args.bytes.now c.in-Some.caps c.in-Err.at (λ i. omega (arith, c.type_inv.bytes i)) (sym c.in-Some.ensures)
     (err_after c.in-Some.caps c.args.bytes.now c.in-Err.at
-        (c.in-Err.ensures ∙ ap (λ (n : ℕ). outcome (entries_at n 56 (drop 56 c.args.bytes.now))) c.recording.ensures.value)))
+    (c.in-Err.ensures ∙ ap (λ (n : ℕ). outcome (entries_at n 56 (drop 56 c.args.bytes.now))) c.recording.ensures.value)))
 
 pub returns-in_default-clause-first : goal.returns-in_default-clause-first
 returns-in_default-clause-first c = inl (no_header c.args.bytes.now (sym c.in_default.ensures))

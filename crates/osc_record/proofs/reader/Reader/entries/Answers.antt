@@ -8,7 +8,7 @@ pub new-requires-clause-readable : goal.new-requires-clause-readable
 new-requires-clause-readable c =
     let f = c.self.inside in
     ap (λ (n : ℕ). is_ok (entries_at n 56 (drop 56 f.bytes.now))) c.recording.ensures.value ∙ sym (ap is_ok (after_is f.caps f.bytes.now))
-        ∙ c.self.invariant.entries
+    ∙ c.self.invariant.entries
 
 pub returns : goal.returns
 returns c =

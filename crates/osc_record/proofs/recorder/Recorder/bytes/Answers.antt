@@ -7,4 +7,4 @@ pub returns : goal.returns
 returns c =
     let f = c.self.inside in
     c.as_slice.ensures.value ∙ sym (text_is f.caps f.bytes.items f.start f.caller f.unit f.owed (vec_capacity f.bytes) c.self.invariant)
-        ∙ ap recording_text c.self.view_is
+    ∙ ap recording_text c.self.view_is

@@ -13,12 +13,12 @@ done c =
     let f = c.self.inside in
     let hit : Hit = record { index = c.args.index; id = c.args.id } in
     let some : 0 < f.owed = some_owed f.caller f.unit f.owed (drop f.start f.bytes.items)
-        (λ none. c.requires.owed (sym (ap (λ (r : Recording). r.begun) c.self.view_is) ∙ none)) in
+    (λ none. c.requires.owed (sym (ap (λ (r : Recording). r.begun) c.self.view_is) ∙ none)) in
     let size : c.len.result ≡ length c.append_hit.new.out.items = omega arith in
     hit_keeps f.caps f.bytes.items f.start f.caller f.unit f.owed (vec_capacity f.bytes) hit c.append_hit.new.out.items c.settled_start-self-inside.result
-        (f.owed - 1) (vec_capacity c.append_hit.new.out)
+    (f.owed - 1) (vec_capacity c.append_hit.new.out)
     c.self.invariant some (record { index_fits = omega arith; id_fits = omega arith }) c.append_hit.ensures.out refl
-        (c.settled_start-self-inside.ensures ∙ ap (λ n. cond (f.owed - 1 == 0) n f.start) size) c.append_hit.ensures.capacity
+    (c.settled_start-self-inside.ensures ∙ ap (λ n. cond (f.owed - 1 == 0) n f.start) size) c.append_hit.ensures.capacity
 
 pub invariant_of-self : goal.invariant_of-self
 invariant_of-self c = (done c).kept

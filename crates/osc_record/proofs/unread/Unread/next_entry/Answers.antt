@@ -10,8 +10,10 @@ invariant_of-self c =
     let s = c.self.inside in
     let within = c.in-Some.ensures.within in
     let small = c.self.invariant.small in
-    record { bytes = rest_kept c.in-Some.size s.rest.now c.split_at.result.1.now c.self.invariant.bytes c.split_at.ensures.back;
-        small = omega (arith, ap length c.split_at.ensures.back, length-drop c.in-Some.size s.rest.now, within.0) }
+    record {
+      bytes = rest_kept c.in-Some.size s.rest.now c.split_at.result.1.now c.self.invariant.bytes c.split_at.ensures.back;
+      small = omega (arith, ap length c.split_at.ensures.back, length-drop c.in-Some.size s.rest.now, within.0);
+    }
 
 pub returns-in_default-clause-err : goal.returns-in_default-clause-err
 returns-in_default-clause-err c =
@@ -25,6 +27,6 @@ pub returns-clause-read : goal.returns-clause-read
 returns-clause-read c =
     let s = c.self.inside in
     subst (λ (old : Remaining). Reads old (record { at = s.at; entry = parts_of c.in-Some.parts })
-        (from s.caps (s.at + c.in-Some.size) c.split_at.result.1.now)) c.self.view_is
+    (from s.caps (s.at + c.in-Some.size) c.split_at.result.1.now)) c.self.view_is
     (read_one s.caps s.at s.rest.now c.split_at.result.1.now (parts_of c.in-Some.parts) c.in-Some.size c.self.invariant.bytes c.self.invariant.small
     (sym (c.in-Some.ensures.value ∙ ap (λ (n : ℕ). entry_first n s.at s.rest.now) c.recording.ensures.value)) c.split_at.ensures.back)
