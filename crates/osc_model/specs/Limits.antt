@@ -15,7 +15,12 @@ pub record Limits : Type 0 where
 -- the six limits, in this order
 abbrev pub limits_of : ℕ → ℕ → ℕ → ℕ → ℕ → ℕ → Limits
 limits_of units blocks methods nodes callers recording = record {
-  units = units; blocks = blocks; methods = methods; nodes = nodes; callers = callers; recording = recording
+  units = units;
+  blocks = blocks;
+  methods = methods;
+  nodes = nodes;
+  callers = callers;
+  recording = recording;
 }
 
 -- the most queued units, blocks or nodes

@@ -32,12 +32,16 @@ impl Model for Caps {
 
     ghost view = { λ c. limits_of c.units c.blocks c.methods c.nodes c.callers c.recording };
 
-    ghost invariant =
-        { λ c. AreInRange (limits_of c.units c.blocks c.methods c.nodes c.callers c.recording) };
+    ghost invariant = { λ c. AreInRange (limits_of c.units c.blocks c.methods c.nodes c.callers c.recording) };
 
-    ghost inverse =
-        { λ l. record { units = l.units; blocks = l.blocks; methods = l.methods; nodes = l.nodes;
-        callers = l.callers; recording = l.recording } };
+    ghost inverse = { λ l. record {
+      units = l.units;
+      blocks = l.blocks;
+      methods = l.methods;
+      nodes = l.nodes;
+      callers = l.callers;
+      recording = l.recording;
+    } };
 }
 
 impl Caps {

@@ -1,4 +1,5 @@
 -- What a list of bytes says line by line, or its first fault.
+use Rattle.osc_script.specs.declared.script.TheConstants.{MAX_SCRIPT}
 use Rattle.std.specs.Prelude.{ℕ, ◌+◌, nat_lt, nat_eq, if◌then◌else◌, List, [], ◌∷◌, length, Option, Some, None, Result, Ok, Err, codes}
 use Rattle.std.specs.List.{starts_with, AllByRecursion}
 use Rattle.osc_script.specs.declared.act.Act.{Act}
@@ -45,7 +46,7 @@ script_from mode number (text ∷ texts) =
 -- an input that is too long is a fault in no line
 abbrev pub script_of : Mode → List ℕ → Result (List Line) ScriptFault
 script_of mode bytes =
-    if nat_lt 67108864 (length bytes) then Err (record { line = 0; kind = too_long_kind })
+    if nat_lt MAX_SCRIPT (length bytes) then Err (record { line = 0; kind = too_long_kind })
     else script_from mode 1 (lines_of bytes)
 
 -- each line's act is lawful

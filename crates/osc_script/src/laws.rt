@@ -1,4 +1,5 @@
 //! What the definitions say of all scripts, and of the examples of docs/FORMATS.md.
+ghost use Rattle.osc_script.specs.declared.script.TheConstants.{MAX_SCRIPT};
 ghost use Rattle.std.specs.Prelude.{◌≡◌, ◌≤◌, ◌<◌, ◌↔◌, ◌^◌, ◌%◌, ℕ, true, false, List, [], ◌∷◌, ◌++◌, length, Ok, Err, IsOk, IfOk, codes};
 ghost use Rattle.std.specs.List.{All, AllPass, concat};
 ghost use Rattle.std.specs.Int.{w64, to_be_bytes};
@@ -38,7 +39,7 @@ pub fn scripts_are_lawful()
     ensures few { (mode : Mode) (bytes : List ℕ)
         → IfOk (script_of mode bytes) (λ lines. length lines ≤ length bytes) }
     ensures short { (mode : Mode) (bytes : List ℕ)
-        → IfOk (script_of mode bytes) (λ _. length bytes ≤ 67108864) }
+        → IfOk (script_of mode bytes) (λ _. length bytes ≤ MAX_SCRIPT) }
 {}
 
 /// A fault is of the first line that is neither lawful nor skipped, or there are too many bytes.

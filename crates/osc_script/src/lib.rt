@@ -15,4 +15,4 @@ pub use act::Act;
 pub use fault::{ScriptFault, ScriptRefusal};
 pub use line::Line;
 pub use mode::Mode;
-pub use script::Script;
+pub use script::{MAX_SCRIPT, Script};

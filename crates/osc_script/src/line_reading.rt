@@ -1,4 +1,5 @@
 // Reads the lines of a script.
+ghost use Rattle.osc_script.specs.declared.script.TheConstants.{MAX_SCRIPT};
 ghost use Rattle.std.specs.Prelude.{◌≡◌, ◌≤◌, length, IfOk, Ok, Some};
 ghost use Rattle.osc_script.specs.Words.{lines_of};
 ghost use Rattle.osc_script.specs.Scripts.{script_from, line_from, line_of, AreLawful};
@@ -15,7 +16,7 @@ use std::alloc::Global;
 
 /// The lines of bytes that aren't too many.
 pub(crate) fn read_lines(alloc: Global, bytes: &[u8], mode: Mode) -> Result<Script, ScriptRefusal>
-    requires { length bytes.now ≤ 67108864 }
+    requires { length bytes.now ≤ MAX_SCRIPT }
     ensures reads { Reads result (script_from mode 1 (lines_of bytes.now)) }
     ensures lawful { IfOk result AreLawful }
     ensures few { IfOk result (λ lines. length lines ≤ length bytes.now) }

@@ -6,7 +6,8 @@ use crate::mode::Mode;
 use std::alloc::Global;
 use std::marker::Model;
 
-const MOST_BYTES: usize = 67_108_864;
+/// The most bytes of a script, 64 MiB.
+pub const MAX_SCRIPT: usize = 67_108_864;
 
 /// The lines of a lawful script that say something, in order. A contract sees the list.
 #[derive(Drop)]
@@ -24,6 +25,7 @@ impl Model for Script {
 }
 
 impl Script {
+    ghost use Rattle.osc_script.specs.declared.script.TheConstants.{MAX_SCRIPT};
     ghost use Rattle.std.specs.Prelude.{◌≡◌, ◌≤◌, ◌<◌, length, Err, IfOk};
     ghost use Rattle.osc_script.specs.Scripts.{script_of, AreLawful};
     ghost use Rattle.osc_script.specs.Answers.{Reads};
@@ -36,13 +38,13 @@ impl Script {
         ensures reads { Reads result (script_of mode bytes.now) }
         ensures first { (fault : ScriptFault) → result ≡ Err (ScriptRefusal.Fault fault)
             → 0 < fault.line → IsFirstFault bytes.now fault }
-        ensures long { 67108864 < length bytes.now
+        ensures long { MAX_SCRIPT < length bytes.now
             → result ≡ Err (ScriptRefusal.Fault (record { line = 0; kind = too_long_kind })) }
         ensures lawful { IfOk result AreLawful }
         ensures few { IfOk result (λ lines. length lines ≤ length bytes.now) }
-        ensures short { IfOk result (λ _. length bytes.now ≤ 67108864) }
+        ensures short { IfOk result (λ _. length bytes.now ≤ MAX_SCRIPT) }
     {
-        if bytes.len() > MOST_BYTES {
+        if bytes.len() > MAX_SCRIPT {
             return Err(ScriptRefusal::Fault(ScriptFault {
                 line: 0,
                 kind: ScriptFault::TOO_LONG,

@@ -23,14 +23,17 @@ on_state performance entries = after_more (opening performance.caps) performance
 -- one event of caller 0
 pub onward_is : (performance : Performance) (event : Event) → onward performance 0 event ≡ played_on performance (entry_if (state_of performance) event)
 onward_is performance event = go (adds_entry (stepped_in performance event).answer) where
-  go : (t : Bool) → cond t (played_on performance (entry_of (state_of performance) event ∷ [])) performance ≡ played_on performance (cond {A = List Entry} t (entry_of (state_of performance) event ∷ []) [])
+  go : (t : Bool) → cond t (played_on performance (entry_of (state_of performance) event ∷ [])) performance
+      ≡ played_on performance (cond {A = List Entry} t (entry_of (state_of performance) event ∷ []) [])
   go true = refl
   go false = sym (on_none performance)
 
-pub onward_none : (performance : Performance) (event : Event) → adds_entry (stepped_in performance event).answer ≡ false → onward performance 0 event ≡ performance
+pub onward_none : (performance : Performance) (event : Event) → adds_entry (stepped_in performance event).answer ≡ false
+    → onward performance 0 event ≡ performance
 onward_none performance event none = ap (λ (t : Bool). cond t (played_on performance (entry_of (state_of performance) event ∷ [])) performance) none
 
-pub onward_one : (performance : Performance) (event : Event) → adds_entry (stepped_in performance event).answer ≡ true → onward performance 0 event ≡ played_on performance (entry_of (state_of performance) event ∷ [])
+pub onward_one : (performance : Performance) (event : Event) → adds_entry (stepped_in performance event).answer ≡ true
+    → onward performance 0 event ≡ played_on performance (entry_of (state_of performance) event ∷ [])
 onward_one performance event one = ap (λ (t : Bool). cond t (played_on performance (entry_of (state_of performance) event ∷ [])) performance) one
 
 -- what the adds of more entries are answered
@@ -47,7 +50,8 @@ HasCallers stepped = 0 < stepped.state.callers
 pub one_caller : (state : State) (event : Event) → 0 < state.callers → HasCallers (step state event)
 one_caller state event some =
     let decides = decided_so (λ e stepped. HasCallers stepped) state event
-    (record { refused = λ e answer is. some; enrolled = omega arith; queued = λ packet. some; added = λ address. some; removed = λ address id. some; ticked = λ now on. some; released = λ unit units is. some }) in
+    (record { refused = λ e answer is. some; enrolled = omega arith; queued = λ packet. some; added = λ address. some; removed = λ address id. some;
+        ticked = λ now on. some; released = λ unit units is. some }) in
     step_so HasCallers state event (record { silent = λ none. decides; full = λ adds full. some; room = λ adds fits. decides })
 
 pub callers_stay : (state : State) (entries : List Entry) → 0 < state.callers → 0 < (after state entries).callers

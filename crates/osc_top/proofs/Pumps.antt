@@ -22,22 +22,28 @@ pub record ReleaseWay (state : State) (stepped : Stepped) : Type 0 where
   pub stays : is_released stepped.answer ≡ false → adds_entry stepped.answer ≡ false
   pub shorter : is_released stepped.answer ≡ true → length state.queue ≡ suc (length stepped.state.queue)
 
-decides : (state : State) (recorded : ℕ) → ReleaseWay state (decided state release) × ReleaseWay state (record (decided state release) { state = record (decided state release).state { recorded = recorded } })
+decides : (state : State) (recorded : ℕ) → ReleaseWay state (decided state release)
+    × ReleaseWay state (record (decided state release) { state = record (decided state release).state { recorded = recorded } })
 decides state recorded = go state.queue refl where
   noted : Stepped → Stepped
   noted stepped = record stepped { state = record stepped.state { recorded = recorded } }
 
   go : (queue : List Queued) → state.queue ≡ queue → ReleaseWay state (release_first state queue) × ReleaseWay state (noted (release_first state queue))
-  go [] is = (record { same_ids = refl; stays = λ none. refl; shorter = λ some. absurd (cc) }, record { same_ids = refl; stays = λ none. refl; shorter = λ some. absurd (cc) })
+  go [] is = (record { same_ids = refl; stays = λ none. refl; shorter = λ some. absurd (cc) }, record { same_ids = refl; stays = λ none. refl;
+      shorter = λ some. absurd (cc) })
   go (unit ∷ units) is = due (nat_le (due_of unit) state.clock) where
-    due : (t : Bool) → ReleaseWay state (cond t (releases state unit units) (leaves state (nothing_due (Some (due_of unit))))) × ReleaseWay state (noted (cond t (releases state unit units) (leaves state (nothing_due (Some (due_of unit))))))
-    due true = (record { same_ids = refl; stays = λ none. absurd (cc); shorter = λ some. ap (λ (q : List Queued). length q) is }, record { same_ids = refl; stays = λ none. absurd (cc); shorter = λ some. ap (λ (q : List Queued). length q) is })
-    due false = (record { same_ids = refl; stays = λ none. refl; shorter = λ some. absurd (cc) }, record { same_ids = refl; stays = λ none. refl; shorter = λ some. absurd (cc) })
+    due : (t : Bool) → ReleaseWay state (cond t (releases state unit units) (leaves state (nothing_due (Some (due_of unit)))))
+        × ReleaseWay state (noted (cond t (releases state unit units) (leaves state (nothing_due (Some (due_of unit))))))
+    due true = (record { same_ids = refl; stays = λ none. absurd (cc); shorter = λ some. ap (λ (q : List Queued). length q) is }, record { same_ids = refl;
+        stays = λ none. absurd (cc); shorter = λ some. ap (λ (q : List Queued). length q) is })
+    due false = (record { same_ids = refl; stays = λ none. refl; shorter = λ some. absurd (cc) }, record { same_ids = refl; stays = λ none. refl;
+        shorter = λ some. absurd (cc) })
 
 pub release_way : (state : State) → ReleaseWay state (step state release)
 release_way state =
     step_so (ReleaseWay state) state release
-    (record { silent = λ none. (decides state 0).0; full = λ adds full. record { same_ids = refl; stays = λ none. refl; shorter = λ some. absurd (cc) }; room = λ adds fits. (decides state _).1 })
+    (record { silent = λ none. (decides state 0).0; full = λ adds full. record { same_ids = refl; stays = λ none. refl; shorter = λ some. absurd (cc) };
+        room = λ adds fits. (decides state _).1 })
 
 released_adds : (answer : Answer) → is_released answer ≡ true → adds_entry answer ≡ true
 released_adds (released unit hits) is = refl
@@ -48,7 +54,8 @@ pub record PumpsOn (performance performance' : Performance) : Type 0 where
   pub same_end : played_on performance' (pump (state_of performance')) ≡ played_on performance (pump (state_of performance))
   pub shorter : length (state_of performance').queue < length (state_of performance).queue
 
-pub pump_on : (performance performance' : Performance) → performance' ≡ onward performance 0 release → is_released (stepped_in performance release).answer ≡ true → PumpsOn performance performance'
+pub pump_on : (performance performance' : Performance) → performance' ≡ onward performance 0 release
+    → is_released (stepped_in performance release).answer ≡ true → PumpsOn performance performance'
 pump_on performance performance' next is =
     let state = state_of performance in
     let entry = entry_of state release in
@@ -82,35 +89,47 @@ drained (suc n) state is = go (is_released (step state release).answer) refl (dr
   after_it : State
   after_it = (step state release).state
 
-  go : (t : Bool) → is_released (step state release).answer ≡ t → (length after_it.queue ≡ n → is_released (step (after after_it (pumped n after_it)) release).answer ≡ false)
+  go : (t : Bool) → is_released (step state release).answer ≡ t
+      → (length after_it.queue ≡ n → is_released (step (after after_it (pumped n after_it)) release).answer ≡ false)
       → is_released (step (after state (cond {A = List Entry} t (entry_of state release ∷ pumped n after_it) [])) release).answer ≡ false
   go true taken more = more (omega (arith, (release_way state).shorter taken, is))
   go false none more = none
 
 -- a release that takes none: the pump is over
-pub pump_over : (performance performance' : Performance) → performance' ≡ onward performance 0 release → is_released (stepped_in performance release).answer ≡ false → performance' ≡ played_on performance (pump (state_of performance))
+pub pump_over : (performance performance' : Performance) → performance' ≡ onward performance 0 release
+    → is_released (stepped_in performance release).answer ≡ false → performance' ≡ played_on performance (pump (state_of performance))
 pump_over performance performance' next is =
     next ∙ onward_none performance release ((release_way (state_of performance)).stays is)
-    ∙ sym (on_none performance) ∙ sym (ap (λ (entries : List Entry). played_on performance entries) (pump_ends (state_of performance) (length (state_of performance).queue) is))
+    ∙ sym (on_none performance)
+        ∙ sym (ap (λ (entries : List Entry). played_on performance entries) (pump_ends (state_of performance) (length (state_of performance).queue) is))
 
 -- where it is over, it is in the state after its entries
-pub state_over : (performance whole : Performance) (entries : List Entry) → is_released (stepped_in performance release).answer ≡ false → played_on performance (pump (state_of performance)) ≡ played_on whole entries → state_of performance ≡ after (state_of whole) entries
+pub state_over : (performance whole : Performance) (entries : List Entry) → is_released (stepped_in performance release).answer ≡ false
+    → played_on performance (pump (state_of performance)) ≡ played_on whole entries → state_of performance ≡ after (state_of whole) entries
 state_over performance whole entries is same =
-    sym (ap (λ (p : Performance). state_of p) (ap (λ (l : List Entry). played_on performance l) (pump_ends (state_of performance) (length (state_of performance).queue) is) ∙ on_none performance))
+    sym (ap (λ (p : Performance). state_of p)
+        (ap (λ (l : List Entry). played_on performance l) (pump_ends (state_of performance) (length (state_of performance).queue) is) ∙ on_none performance))
     ∙ ap (λ (p : Performance). state_of p) same ∙ on_state whole entries
 
-pub not_due : (performance : Performance) (next : Option ℕ) → (stepped_in performance release).answer ≡ nothing_due next → is_released (stepped_in performance release).answer ≡ false
+pub not_due : (performance : Performance) (next : Option ℕ) → (stepped_in performance release).answer ≡ nothing_due next
+    → is_released (stepped_in performance release).answer ≡ false
 not_due performance next is = ap is_released is
 
-pub no_room : (performance : Performance) (room : Room) → (stepped_in performance release).answer ≡ record_full room → is_released (stepped_in performance release).answer ≡ false
+pub no_room : (performance : Performance) (room : Room) → (stepped_in performance release).answer ≡ record_full room
+    → is_released (stepped_in performance release).answer ≡ false
 no_room performance room is = ap is_released is
 
-pub is_taken : (performance : Performance) (unit calls : ℕ) → (hits : List Hit) × ((stepped_in performance release).answer ≡ released unit hits) × (calls ≡ length hits) → is_released (stepped_in performance release).answer ≡ true
+pub is_taken : (performance : Performance) (unit calls : ℕ)
+    → (hits : List Hit) × ((stepped_in performance release).answer ≡ released unit hits) × (calls ≡ length hits)
+    → is_released (stepped_in performance release).answer ≡ true
 is_taken performance unit calls told = ap is_released told.1
 
 -- a release, one turn on
-pub turn_at : {X : Type 0} (meaning : X → Meaning) (bank : List X) (performance performance' : Performance) → HearsCalls → InvokesRegistered (state_of performance) (stepped_in performance release) → performance' ≡ onward performance 0 release
-    → (boxes boxes' removed : List Told) (left rest : List X) → boxes' ≡ all_hear (stepped_in performance release).invocations boxes → HaveHeard performance boxes
+pub turn_at : {X : Type 0} (meaning : X → Meaning) (bank : List X) (performance performance' : Performance) → HearsCalls
+    → InvokesRegistered (state_of performance) (stepped_in performance release) → performance' ≡ onward performance 0 release
+    → (boxes boxes' removed : List Told) (left rest : List X) → boxes' ≡ all_hear (stepped_in performance release).invocations boxes
+        → HaveHeard performance boxes
     → IsAt meaning bank performance boxes removed left rest → IsAt meaning bank performance' boxes' removed left rest
 turn_at meaning bank performance performance' law registered next boxes boxes' removed left rest heard have at =
-    at_released meaning bank performance performance' release next law registered (λ answer. refl) (release_way (state_of performance)).same_ids boxes boxes' removed left rest heard have at
+    at_released meaning bank performance performance' release next law registered (λ answer. refl)
+        (release_way (state_of performance)).same_ids boxes boxes' removed left rest heard have at

@@ -70,14 +70,16 @@ once id (box ∷ boxes) rising = go (box.id == id) refl (once id boxes rising.1)
 pub id_counted : (boxes : List Told) (id : ℕ) → Contains (map (λ box. box.id) boxes) id → 1 ≤ count id boxes
 id_counted [] id (k, within, is) = absurd (omega arith)
 id_counted (box ∷ boxes) id there = go (contains_cases box.id (map (λ (other : Told). other.id) boxes) id there) (id_counted boxes id) where
-  go : (box.id ≡ id) ⊎ Contains (map (λ other. other.id) boxes) id → (Contains (map (λ other. other.id) boxes) id → 1 ≤ count id boxes) → 1 ≤ count id (box ∷ boxes)
+  go : (box.id ≡ id) ⊎ Contains (map (λ other. other.id) boxes) id → (Contains (map (λ other. other.id) boxes) id → 1 ≤ count id boxes)
+      → 1 ≤ count id (box ∷ boxes)
   go (inl same) more = omega (arith, sum_by-cons (times id) box boxes, equal_once box.id id same)
   go (inr behind) more = omega (arith, sum_by-cons (times id) box boxes, more behind)
 
 pub id_below : (boxes : List Told) (id next : ℕ) → Contains (map (λ box. box.id) boxes) id → AllByRecursion (λ box. box.id < next) boxes → id < next
 id_below [] id next (k, within, is) below = absurd (omega arith)
 id_below (box ∷ boxes) id next there below = go (contains_cases box.id (map (λ (other : Told). other.id) boxes) id there) (id_below boxes id next) where
-  go : (box.id ≡ id) ⊎ Contains (map (λ other. other.id) boxes) id → (Contains (map (λ other. other.id) boxes) id → AllByRecursion (λ other. other.id < next) boxes → id < next) → id < next
+  go : (box.id ≡ id) ⊎ Contains (map (λ other. other.id) boxes) id
+      → (Contains (map (λ other. other.id) boxes) id → AllByRecursion (λ other. other.id < next) boxes → id < next) → id < next
   go (inl same) more = omega (arith, same, below.0)
   go (inr behind) more = more behind below.1
 
@@ -92,7 +94,8 @@ id_contained n (first ∷ xs) x (suc k, within, is) =
 none_kept : (id : ℕ) (boxes : List Told) → count id boxes ≡ 0 → filter (λ box. box.id == id) boxes ≡ []
 none_kept id [] none = refl
 none_kept id (box ∷ boxes) none = go (box.id == id) refl (none_kept id boxes) where
-  go : (t : Bool) → (box.id == id) ≡ t → (count id boxes ≡ 0 → filter (λ other. other.id == id) boxes ≡ []) → cond t (box ∷ filter (λ other. other.id == id) boxes) (filter (λ other. other.id == id) boxes) ≡ []
+  go : (t : Bool) → (box.id == id) ≡ t → (count id boxes ≡ 0 → filter (λ other. other.id == id) boxes ≡ [])
+      → cond t (box ∷ filter (λ other. other.id == id) boxes) (filter (λ other. other.id == id) boxes) ≡ []
   go true is more = absurd (omega (arith, sum_by-cons (times id) box boxes, ap one_if is))
   go false is more = more (omega (arith, sum_by-cons (times id) box boxes))
 
@@ -102,7 +105,9 @@ one_kept (first ∷ boxes) box there few = go (first.id == box.id) refl (contain
   kept : List Told
   kept = filter (λ other. other.id == box.id) boxes
 
-  go : (t : Bool) → (first.id == box.id) ≡ t → (first ≡ box) ⊎ Contains boxes box → (Contains boxes box → count box.id boxes ≤ 1 → filter (λ other. other.id == box.id) boxes ≡ box ∷ []) → cond t (first ∷ filter (λ other. other.id == box.id) boxes) (filter (λ other. other.id == box.id) boxes) ≡ box ∷ []
+  go : (t : Bool) → (first.id == box.id) ≡ t → (first ≡ box) ⊎ Contains boxes box
+      → (Contains boxes box → count box.id boxes ≤ 1 → filter (λ other. other.id == box.id) boxes ≡ box ∷ [])
+      → cond t (first ∷ filter (λ other. other.id == box.id) boxes) (filter (λ other. other.id == box.id) boxes) ≡ box ∷ []
   go true is (inl same) more =
       let none : count box.id boxes ≡ 0 = omega (arith, sum_by-cons (times box.id) first boxes, ap one_if is) in
       ap (λ (l : List Told). first ∷ l) (none_kept box.id boxes none) ∙ ap (λ (b : Told). b ∷ []) same
@@ -113,14 +118,18 @@ one_kept (first ∷ boxes) box there few = go (first.id == box.id) refl (contain
   go false is (inr behind) more = more behind (omega (arith, sum_by-cons (times box.id) first boxes))
 
 -- a box that is taken out of the list of the boxes, and put behind another list
-pub one_moved : (boxes removed : List Told) (box : Told) → Contains boxes box → count box.id boxes ≤ 1 → IsPermutation (boxes ++ removed) (without_id box.id boxes ++ (removed ++ box ∷ []))
+pub one_moved : (boxes removed : List Told) (box : Told) → Contains boxes box → count box.id boxes ≤ 1
+    → IsPermutation (boxes ++ removed) (without_id box.id boxes ++ (removed ++ box ∷ []))
 one_moved boxes removed box there few =
     let others = without_id box.id boxes in
-    let apart : IsPermutation boxes (filter (λ other. other.id == box.id) boxes ++ others) = IsPermutation-filter_both (λ (other : Told). other.id == box.id) (λ (other : Told). not (other.id == box.id)) (λ other. refl) boxes in
+    let apart : IsPermutation boxes (filter (λ other. other.id == box.id) boxes ++ others) =
+        IsPermutation-filter_both (λ (other : Told). other.id == box.id) (λ (other : Told). not (other.id == box.id)) (λ other. refl) boxes in
     let front : IsPermutation boxes (box ∷ others) = subst (λ (l : List Told). IsPermutation boxes (l ++ others)) (one_kept boxes box there few) apart in
     let joined : IsPermutation (boxes ++ removed) (box ∷ (others ++ removed)) = IsPermutation-append_left removed boxes (box ∷ others) front in
-    let back : IsPermutation (box ∷ (others ++ removed)) ((others ++ removed) ++ box ∷ []) = IsPermutation-sym ((others ++ removed) ++ box ∷ []) (box ∷ (others ++ removed)) (IsPermutation-to_front (others ++ removed) box) in
-    subst (λ (l : List Told). IsPermutation (boxes ++ removed) l) (assoc others removed (box ∷ [])) (IsPermutation-trans (boxes ++ removed) (box ∷ (others ++ removed)) ((others ++ removed) ++ box ∷ []) joined back)
+    let back : IsPermutation (box ∷ (others ++ removed)) ((others ++ removed) ++ box ∷ []) =
+        IsPermutation-sym ((others ++ removed) ++ box ∷ []) (box ∷ (others ++ removed)) (IsPermutation-to_front (others ++ removed) box) in
+    subst (λ (l : List Told). IsPermutation (boxes ++ removed) l) (assoc others removed (box ∷ []))
+        (IsPermutation-trans (boxes ++ removed) (box ∷ (others ++ removed)) ((others ++ removed) ++ box ∷ []) joined back)
   where
     assoc : (xs ys zs : List Told) → (xs ++ ys) ++ zs ≡ xs ++ (ys ++ zs)
     assoc [] ys zs = refl
@@ -128,7 +137,8 @@ one_moved boxes removed box there few =
 
 pub rising_push : (boxes : List Told) (box : Told) → IsRising boxes → AllByRecursion (λ other. other.id < box.id) boxes → IsRising (boxes ++ box ∷ [])
 rising_push [] box rising below = (tt, tt)
-rising_push (first ∷ boxes) box rising below = (all_push (λ (other : Told). first.id < other.id) boxes box rising.0 below.0, rising_push boxes box rising.1 below.1)
+rising_push (first ∷ boxes) box rising below =
+    (all_push (λ (other : Told). first.id < other.id) boxes box rising.0 below.0, rising_push boxes box rising.1 below.1)
 
 -- each id is no higher than those behind it
 abbrev pub IsAscending : List Told → Type 0
@@ -136,25 +146,33 @@ IsAscending [] = Unit {0}
 IsAscending (box ∷ boxes) = AllByRecursion (λ other. box.id ≤ other.id) boxes × IsAscending boxes
 
 -- a sorted list of boxes that are told is ascending
-pub ascending_told : {X : Type 0} (n : X → ℕ) (told : X → Told) → ((x : X) → (told x).id ≡ n x) → (xs : List X) → IsNonDecreasingBy n xs → IsAscending (map told xs)
+pub ascending_told : {X : Type 0} (n : X → ℕ) (told : X → Told) → ((x : X) → (told x).id ≡ n x) → (xs : List X) → IsNonDecreasingBy n xs
+    → IsAscending (map told xs)
 ascending_told n told is [] sorted = tt
-ascending_told {X} n told is (x ∷ xs) sorted = (behind xs (λ j d h. omega (arith, sorted 0 (suc j) d (omega arith) (omega arith))), ascending_told n told is xs (IsNonDecreasingBy-drop n 1 (x ∷ xs) sorted)) where
+ascending_told {X} n told is (x ∷ xs) sorted =
+    (behind xs (λ j d h. omega (arith, sorted 0 (suc j) d (omega arith) (omega arith))), ascending_told n told is xs
+    (IsNonDecreasingBy-drop n 1 (x ∷ xs) sorted)) where
   behind : (ys : List X) → ((j : ℕ) (d : X) → j < length ys → n x ≤ n (get_or ys j d)) → AllByRecursion (λ other. (told x).id ≤ other.id) (map told ys)
   behind [] above = tt
   behind (y ∷ ys) above = (omega (arith, is x, is y, above 0 y (omega arith)), behind ys (λ j d h. above (suc j) d (omega arith)))
 
 all_above : (id : ℕ) (box : Told) (boxes : List Told) → id < box.id → AllByRecursion (λ other. box.id ≤ other.id) boxes → count id (box ∷ boxes) ≡ 0
-all_above id box boxes above ascending = none_counted id (box ∷ boxes) (above, all_weaker (λ (other : Told). box.id ≤ other.id) (λ (other : Told). id < other.id) boxes (λ other le. omega arith) ascending)
+all_above id box boxes above ascending =
+    none_counted id (box ∷ boxes)
+    (above, all_weaker (λ (other : Told). box.id ≤ other.id) (λ (other : Told). id < other.id) boxes (λ other le. omega arith) ascending)
 
 -- two lists of the same boxes, of which one ascends and the other rises, are the same
-pub same_rising : (xs ys : List Told) → IsAscending xs → IsRising ys → ((id : ℕ) → count id xs ≡ count id ys) → ((box : Told) → Contains xs box → Contains ys box) → xs ≡ ys
+pub same_rising : (xs ys : List Told) → IsAscending xs → IsRising ys → ((id : ℕ) → count id xs ≡ count id ys)
+    → ((box : Told) → Contains xs box → Contains ys box) → xs ≡ ys
 same_rising [] [] ascending rising counts there = refl
 same_rising [] (y ∷ ys) ascending rising counts there = absurd (omega (arith, counts y.id, sum_by-cons (times y.id) y ys, equal_once y.id y.id refl))
 same_rising (x ∷ xs) [] ascending rising counts there = absurd (omega (arith, counts x.id, sum_by-cons (times x.id) x xs, equal_once x.id x.id refl))
-same_rising (x ∷ xs) (y ∷ ys) ascending rising counts there = go (contains_cases y ys x (there x (0, omega arith, refl))) (same_rising xs ys ascending.1 rising.1) where
+same_rising (x ∷ xs) (y ∷ ys) ascending rising counts there =
+    go (contains_cases y ys x (there x (0, omega arith, refl))) (same_rising xs ys ascending.1 rising.1) where
   go : (y ≡ x) ⊎ Contains ys x → (((id : ℕ) → count id xs ≡ count id ys) → ((box : Told) → Contains xs box → Contains ys box) → xs ≡ ys) → x ∷ xs ≡ y ∷ ys
   go (inr behind) more =
-      let below : y.id < x.id = All-contains (λ (other : Told). y.id < other.id) ys x (All-from_recursion (λ (other : Told). y.id < other.id) ys rising.0) behind in
+      let below : y.id < x.id = All-contains (λ (other : Told). y.id < other.id) ys x
+          (All-from_recursion (λ (other : Told). y.id < other.id) ys rising.0) behind in
       absurd (omega (arith, counts y.id, sum_by-cons (times y.id) y ys, equal_once y.id y.id refl, all_above y.id x xs below ascending.0))
   go (inl same) more = cc (same, more fewer within) where
     fewer : (id : ℕ) → count id xs ≡ count id ys
@@ -172,5 +190,6 @@ same_rising (x ∷ xs) (y ∷ ys) ascending rising counts there = go (contains_c
             sum_by-cons (times y.id) x xs,
             ap (times y.id) same,
             equal_once y.id y.id refl,
-            id_counted xs y.id (subst (λ (b : Told). Contains (map (λ (other : Told). other.id) xs) b.id) (sym is) (id_contained (λ (b : Told). b.id) xs box inside)),
+            id_counted xs y.id
+                (subst (λ (b : Told). Contains (map (λ (other : Told). other.id) xs) b.id) (sym is) (id_contained (λ (b : Told). b.id) xs box inside)),
           ))

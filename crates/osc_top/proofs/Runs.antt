@@ -21,7 +21,8 @@ no_room (Some room) none = absurd (cc)
 
 count_cons : (line : Line) (lines : List Line) → count_adds (line ∷ lines) ≡ adds_of line.act + count_adds lines
 count_cons line lines = go (is_add line.act) where
-  go : (t : Bool) → length (cond t (line ∷ filter (λ other. is_add other.act) lines) (filter (λ other. is_add other.act) lines)) ≡ cond {A = ℕ} t 1 0 + count_adds lines
+  go : (t : Bool) → length (cond t (line ∷ filter (λ other. is_add other.act) lines) (filter (λ other. is_add other.act) lines))
+      ≡ cond {A = ℕ} t 1 0 + count_adds lines
   go true = omega arith
   go false = omega arith
 
@@ -35,10 +36,13 @@ before entries faults later = followed entries faults None later
 before_none : (later : Played) → before [] [] later ≡ later
 before_none later = refl
 
-before_more : (entries more : List Entry) (faults others : List LineFault) (later : Played) → before entries faults (before more others later) ≡ before (entries ++ more) (faults ++ others) later
+before_more : (entries more : List Entry) (faults others : List LineFault) (later : Played)
+    → before entries faults (before more others later) ≡ before (entries ++ more) (faults ++ others) later
 before_more entries more faults others later =
-    ap (λ (l : List Entry). let played : Played = record { history = l; faults = faults ++ (others ++ later.faults); stop = later.stop } in played) (sym (append_assoc entries more later.history))
-    ∙ ap (λ (l : List LineFault). let played : Played = record { history = (entries ++ more) ++ later.history; faults = l; stop = later.stop } in played) (sym (append_assoc faults others later.faults))
+    ap (λ (l : List Entry). let played : Played = record { history = l; faults = faults ++ (others ++ later.faults); stop = later.stop } in played)
+        (sym (append_assoc entries more later.history))
+    ∙ ap (λ (l : List LineFault). let played : Played = record { history = (entries ++ more) ++ later.history; faults = l; stop = later.stop } in played)
+        (sym (append_assoc faults others later.faults))
 
 -- Lines were played from a performance on, and the rest are not yet: the entries so far, what is said of the faults so
 -- far, the callers, and the boxes that wait.
@@ -51,7 +55,8 @@ pub record RunsOn (initial : Performance) (said : List ℕ) (lines rest : List L
   pub caller : 0 < (state_of performance).callers
   pub handed : count_adds rest ≤ waiting
 
-pub run_begins : (initial : Performance) (said : List ℕ) (lines rest : List Line) (waiting : ℕ) → rest ≡ lines → 0 < (state_of initial).callers → count_adds lines ≤ waiting → RunsOn initial said lines rest initial said waiting
+pub run_begins : (initial : Performance) (said : List ℕ) (lines rest : List Line) (waiting : ℕ) → rest ≡ lines → 0 < (state_of initial).callers
+    → count_adds lines ≤ waiting → RunsOn initial said lines rest initial said waiting
 run_begins initial said lines rest waiting all caller enough = record {
   entries = [];
   faults = [];
@@ -62,7 +67,8 @@ run_begins initial said lines rest waiting all caller enough = record {
   handed = omega (arith, ap (λ (l : List Line). count_adds l) all, enough);
 }
 
-module _ (initial : Performance) (said : List ℕ) (lines rest : List Line) (line : Line) (now : List Line) (is : now ≡ line ∷ rest) (performance : Performance) (text : List ℕ) (waiting : ℕ) (run : RunsOn initial said lines now performance text waiting) where
+module _ (initial : Performance) (said : List ℕ) (lines rest : List Line) (line : Line) (now : List Line) (is : now ≡ line ∷ rest) (performance : Performance)
+    (text : List ℕ) (waiting : ℕ) (run : RunsOn initial said lines now performance text waiting) where
   -- there is a box for the add of the next line
   pub run_handed : adds_of line.act ≤ waiting
   run_handed = omega (arith, ap (λ (l : List Line). count_adds l) is, count_cons line rest, run.handed)
@@ -70,13 +76,16 @@ module _ (initial : Performance) (said : List ℕ) (lines rest : List Line) (lin
   next_whole : before run.entries run.faults (plain_from (state_of performance) (line ∷ rest)) ≡ plain_from (state_of initial) lines
   next_whole = ap (λ (l : List Line). before run.entries run.faults (plain_from (state_of performance) l)) (sym is) ∙ run.whole
 
-  module _ (performance' : Performance) (text' : List ℕ) (on : performance' ≡ played_on performance (entries_of (state_of performance) line.act)) (listed : text' ≡ text ++ printed_faults (act_faults line.number line.act)) where
+  module _ (performance' : Performance) (text' : List ℕ) (on : performance' ≡ played_on performance (entries_of (state_of performance) line.act))
+      (listed : text' ≡ text ++ printed_faults (act_faults line.number line.act)) where
     joined : performance' ≡ played_on initial (run.entries ++ entries_of (state_of performance) line.act)
-    joined = on ∙ ap (λ (p : Performance). played_on p (entries_of (state_of performance) line.act)) run.on ∙ on_more initial run.entries (entries_of (state_of performance) line.act)
+    joined = on ∙ ap (λ (p : Performance). played_on p (entries_of (state_of performance) line.act)) run.on
+        ∙ on_more initial run.entries (entries_of (state_of performance) line.act)
 
     told : text' ≡ said ++ printed_faults (run.faults ++ act_faults line.number line.act)
     told =
-        listed ∙ ap (λ (l : List ℕ). l ++ printed_faults (act_faults line.number line.act)) run.listed ∙ append_assoc said (printed_faults run.faults) (printed_faults (act_faults line.number line.act))
+        listed ∙ ap (λ (l : List ℕ). l ++ printed_faults (act_faults line.number line.act)) run.listed
+            ∙ append_assoc said (printed_faults run.faults) (printed_faults (act_faults line.number line.act))
         ∙ ap (λ (l : List ℕ). said ++ l) (sym (said-append run.faults (act_faults line.number line.act)))
 
     then : state_of performance' ≡ after (state_of performance) (entries_of (state_of performance) line.act)
@@ -86,7 +95,8 @@ module _ (initial : Performance) (said : List ℕ) (lines rest : List Line) (lin
     caller' = subst (λ (s : State). 0 < s.callers) (sym then) (callers_stay (state_of performance) (entries_of (state_of performance) line.act) run.caller)
 
     -- a line that goes on
-    pub run_on : (waiting' : ℕ) (stop : Option CodeRoom) → is_some stop ≡ false → option_map room_of stop ≡ stop_of (state_of performance) line.act → waiting ≤ adds_of line.act + waiting' → RunsOn initial said lines rest performance' text' waiting'
+    pub run_on : (waiting' : ℕ) (stop : Option CodeRoom) → is_some stop ≡ false → option_map room_of stop ≡ stop_of (state_of performance) line.act
+        → waiting ≤ adds_of line.act + waiting' → RunsOn initial said lines rest performance' text' waiting'
     run_on waiting' stop none stops fewer =
         let goes : None ≡ stop_of (state_of performance) line.act = sym (no_room stop none) ∙ stops in
         let entries = entries_of (state_of performance) line.act in

@@ -9,11 +9,14 @@ use Rattle.osc_top.specs.Plain.{default_caps, plain, count_adds}
 use Rattle.osc_top.specs.Printing.{bank_short_text}
 use Rattle.osc_top.specs.Ends.{Gains, GainsFront, GainsUnless, IsLegalRun, IsUnstopped, run_output, EndsLines, EndsRun, EndsLine}
 
-pub line_text : (decided status : ℕ) (text text' : List ℕ) (held after : Option (List ℕ)) (faults now : ℕ) → text ≡ text' → EndsLine decided status text held after faults now → EndsLine decided status text' held after faults now
+pub line_text : (decided status : ℕ) (text text' : List ℕ) (held after : Option (List ℕ)) (faults now : ℕ) → text ≡ text'
+    → EndsLine decided status text held after faults now → EndsLine decided status text' held after faults now
 line_text decided status text text' held after faults now same ends = subst (λ (t : List ℕ). EndsLine decided status t held after faults now) same ends
 
 -- too few boxes
-pub short_ends : (output : Output) (status status' have have' need : ℕ) (lines : List Line) (held after : Option (List ℕ)) (faults now : ℕ) → status' ≡ status → have ≡ have' → need ≡ count_adds lines → have < need → EndsLine 8 status (bank_short_text need have) held after faults now → EndsLines output status' have' lines held after faults now
+pub short_ends : (output : Output) (status status' have have' need : ℕ) (lines : List Line) (held after : Option (List ℕ)) (faults now : ℕ) → status' ≡ status
+    → have ≡ have' → need ≡ count_adds lines → have < need → EndsLine 8 status (bank_short_text need have) held after faults now
+    → EndsLines output status' have' lines held after faults now
 short_ends output status status' have have' need lines held after faults now same boxes adds few ends = go ends.known where
   text : bank_short_text need have ≡ bank_short_text (count_adds lines) have'
   text = ap (λ (n : ℕ). bank_short_text n have) adds ∙ ap (bank_short_text (count_adds lines)) boxes
@@ -39,16 +42,26 @@ module _ (script : List ℕ) (lines : List Line) where
   ok_and P is holds = subst (λ (r : Result (List Line) ScriptFault). IsOkAnd r P) (sym is) holds
 
   -- lines that were read end as their script
-  pub lines_end : (output : Output) (status have : ℕ) (held after : Option (List ℕ)) (faults now : ℕ) → script_of Plain script ≡ Ok lines → EndsLines output status have lines held after faults now → EndsRun output status have script held after faults now
+  pub lines_end : (output : Output) (status have : ℕ) (held after : Option (List ℕ)) (faults now : ℕ) → script_of Plain script ≡ Ok lines
+      → EndsLines output status have lines held after faults now → EndsRun output status have script held after faults now
   lines_end output status have held after faults now is ends = record {
     known = among ends.known;
-    done = λ zero_is. let done = ends.done zero_is in (ok_and (λ (l : List Line). (count_adds l ≤ have) × IsLegalRun l × IsUnstopped l × Gains held after (run_output output l)) is (done.0, done.1, done.2, done.3), done.4);
+    done = λ zero_is. let done = ends.done zero_is in
+        (ok_and (λ (l : List Line). (count_adds l ≤ have) × IsLegalRun l × IsUnstopped l × Gains held after (run_output output l)) is
+        (done.0, done.1, done.2, done.3), done.4);
     refused = λ one_is. not_one ends.known one_is;
-    cut_short = λ five_is. let short = ends.cut_short five_is in (ok_and (λ (l : List Line). (count_adds l ≤ have) × IsLegalRun l × GainsFront held after (run_output output l)) is (short.0, short.1, short.2), short.3);
-    full = λ six_is. let full = ends.full six_is in (ok_and (λ (l : List Line). (count_adds l ≤ have) × IsLegalRun l × IsSome (plain default_caps l).stop × Gains held after (run_output output l)) is (full.0, full.1, full.2, full.3), full.4);
-    bank_short = λ eight_is. ok_and (λ (l : List Line). (have < count_adds l) × GainsUnless held after faults now (bank_short_text (count_adds l) have)) is (ends.bank_short eight_is);
+    cut_short = λ five_is. let short = ends.cut_short five_is in
+        (ok_and (λ (l : List Line). (count_adds l ≤ have) × IsLegalRun l × GainsFront held after (run_output output l)) is
+        (short.0, short.1, short.2), short.3);
+    full = λ six_is. let full = ends.full six_is in
+        (ok_and (λ (l : List Line). (count_adds l ≤ have) × IsLegalRun l × IsSome (plain default_caps l).stop × Gains held after (run_output output l)) is
+        (full.0, full.1, full.2, full.3), full.4);
+    bank_short =
+        λ eight_is. ok_and (λ (l : List Line). (have < count_adds l) × GainsUnless held after faults now (bank_short_text (count_adds l) have)) is
+        (ends.bank_short eight_is);
   } where
-    among : (status ≡ 0) ⊎ (status ≡ 3) ⊎ (status ≡ 5) ⊎ (status ≡ 6) ⊎ (status ≡ 8) → (status ≡ 0) ⊎ (status ≡ 1) ⊎ (status ≡ 3) ⊎ (status ≡ 5) ⊎ (status ≡ 6) ⊎ (status ≡ 8)
+    among : (status ≡ 0) ⊎ (status ≡ 3) ⊎ (status ≡ 5) ⊎ (status ≡ 6) ⊎ (status ≡ 8)
+        → (status ≡ 0) ⊎ (status ≡ 1) ⊎ (status ≡ 3) ⊎ (status ≡ 5) ⊎ (status ≡ 6) ⊎ (status ≡ 8)
     among (inl z) = inl z
     among (inr others) = inr (inr others)
 

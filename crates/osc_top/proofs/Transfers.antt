@@ -13,14 +13,17 @@ pub gains_none : (held : Option (List ℕ)) → Gains held held []
 gains_none None = tt
 gains_none (Some before) = ap Some (sym (append-nil before))
 
-pub gains_more : (held mid after : Option (List ℕ)) (bytes : List ℕ) (at count : ℕ) → Gains held mid (take at bytes) → AddsToEnd mid after (Took count) (drop at bytes) → Gains held after (take (at + count) bytes)
+pub gains_more : (held mid after : Option (List ℕ)) (bytes : List ℕ) (at count : ℕ) → Gains held mid (take at bytes)
+    → AddsToEnd mid after (Took count) (drop at bytes) → Gains held after (take (at + count) bytes)
 gains_more None mid after bytes at count so adds = tt
 gains_more (Some before) mid after bytes at count so adds =
-    let added : AddsToEnd (Some (before ++ take at bytes)) after (Took count) (drop at bytes) = subst (λ m. AddsToEnd m after (Took count) (drop at bytes)) so adds in
+    let added : AddsToEnd (Some (before ++ take at bytes)) after (Took count) (drop at bytes) =
+        subst (λ m. AddsToEnd m after (Took count) (drop at bytes)) so adds in
     added ∙ ap Some (append_assoc before (take at bytes) (take count (drop at bytes)) ∙ ap (λ l. before ++ l) (sym (take-add at count bytes)))
 
 -- a call that takes nothing leaves a front
-pub front_same : (held mid after : Option (List ℕ)) (bytes : List ℕ) (at : ℕ) → Gains held mid (take at bytes) → AddsToEnd mid after Failed (drop at bytes) → GainsFront held after bytes
+pub front_same : (held mid after : Option (List ℕ)) (bytes : List ℕ) (at : ℕ) → Gains held mid (take at bytes) → AddsToEnd mid after Failed (drop at bytes)
+    → GainsFront held after bytes
 front_same None mid after bytes at so adds = tt
 front_same (Some before) mid after bytes at so adds =
     let same : AddsToEnd (Some (before ++ take at bytes)) after Failed (drop at bytes) = subst (λ m. AddsToEnd m after Failed (drop at bytes)) so adds in
@@ -30,7 +33,8 @@ pub read_none : (left : Option (List ℕ)) → ReadSoFar left left []
 read_none None = tt
 read_none (Some all) = (refl, refl, omega arith)
 
-pub read_more : (left mid after : Option (List ℕ)) (bytes into : List ℕ) (count : ℕ) → ReadSoFar left mid bytes → TakesFront mid after (Bytes count) into → count ≤ length into → ReadSoFar left after (bytes ++ take count into)
+pub read_more : (left mid after : Option (List ℕ)) (bytes into : List ℕ) (count : ℕ) → ReadSoFar left mid bytes → TakesFront mid after (Bytes count) into
+    → count ≤ length into → ReadSoFar left after (bytes ++ take count into)
 read_more None mid after bytes into count so takes within = tt
 read_more (Some all) mid after bytes into count so takes within =
     let n = length bytes in
@@ -42,13 +46,16 @@ read_more (Some all) mid after bytes into count so takes within =
     )
 
 -- more than the limit was left
-pub read_long : (most : ℕ) (left mid : Option (List ℕ)) (bytes : List ℕ) → ReadSoFar left mid bytes → most < length bytes → length bytes ≤ most + 1 → IfSome left (λ all. (most < length all) × (mid ≡ Some (left_behind most all)))
+pub read_long : (most : ℕ) (left mid : Option (List ℕ)) (bytes : List ℕ) → ReadSoFar left mid bytes → most < length bytes → length bytes ≤ most + 1
+    → IfSome left (λ all. (most < length all) × (mid ≡ Some (left_behind most all)))
 read_long most None mid bytes so long within = tt
 read_long most (Some all) mid bytes so long within =
     let size : length bytes ≡ most + 1 = omega arith in
     (omega (arith, so.2), so.0 ∙ ap (λ (n : ℕ). Some (drop n all)) size)
 
 -- behind a whole input nothing is left
-pub left_whole : (most : ℕ) (left after : Option (List ℕ)) (bytes : List ℕ) (P Q : Type 0) → IfSome left (λ all. (bytes ≡ all) × (after ≡ Some [])) → length bytes ≤ most → IfSome left (λ all. P → Q → after ≡ Some (left_behind most all))
+pub left_whole : (most : ℕ) (left after : Option (List ℕ)) (bytes : List ℕ) (P Q : Type 0) → IfSome left (λ all. (bytes ≡ all) × (after ≡ Some []))
+    → length bytes ≤ most → IfSome left (λ all. P → Q → after ≡ Some (left_behind most all))
 left_whole most None after bytes P Q is few = tt
-left_whole most (Some all) after bytes P Q is few = λ p q. is.1 ∙ ap Some (sym (drop_all (most + 1) all (omega (arith, few, ap (λ (l : List ℕ). length l) is.0))))
+left_whole most (Some all) after bytes P Q is few =
+    λ p q. is.1 ∙ ap Some (sym (drop_all (most + 1) all (omega (arith, few, ap (λ (l : List ℕ). length l) is.0))))

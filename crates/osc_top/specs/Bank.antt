@@ -1,4 +1,5 @@
--- What becomes of the boxes that a program is handed: which were added and what they heard, and which are left.
+-- What becomes of the boxes that a program is handed: which were added and what they heard, and
+-- which are left.
 use Rattle.std.specs.Prelude.{◌≡◌, ℕ, ◌≤◌, List, [], ◌∷◌, ◌++◌, length, Option}
 use Rattle.std.specs.Option.{option_map}
 use Rattle.osc_model.specs.Limits.{Limits}
@@ -18,21 +19,25 @@ abbrev pub answer_to_add : Event → Answer → List Answer
 answer_to_add (add address) answer = answer ∷ []
 answer_to_add event answer = []
 
--- what the adds of a history are answered, in order; the first add gets the first box, the second the second
+-- what the adds of a history are answered, in order; the first add gets the first box, the second
+-- the second
 abbrev pub add_answers : List Entry → List Answer
 add_answers [] = []
 add_answers (entry ∷ entries) = answer_to_add entry.event entry.answer ++ add_answers entries
 
 -- a box that is added, with what a method of its id has heard of these invocations, where it tells
 abbrev pub box_heard : List Invocation → Answer → Meaning → List Told
-box_heard calls (added id) box = record { id = id; keep = box.keep; heard = option_map (λ _. heard_of calls id box.keep) box.heard } ∷ []
+box_heard calls (added id) box =
+    record { id = id; keep = box.keep;
+    heard = option_map (λ _. heard_of calls id box.keep) box.heard } ∷ []
 box_heard calls _ box = []
 
 -- the boxes that are added, in the order of their ids
 abbrev pub boxes_heard : List Invocation → List Answer → List Meaning → List Told
 boxes_heard calls [] bank = []
 boxes_heard calls (answer ∷ answers) [] = []
-boxes_heard calls (answer ∷ answers) (box ∷ bank) = box_heard calls answer box ++ boxes_heard calls answers bank
+boxes_heard calls (answer ∷ answers) (box ∷ bank) =
+    box_heard calls answer box ++ boxes_heard calls answers bank
 
 module _ {X : Type 0} where
   -- a box that isn't added
@@ -48,11 +53,14 @@ module _ {X : Type 0} where
 
 -- what the boxes of a bank have heard after a history of a server with these limits
 abbrev pub heard_after : Limits → List Entry → List Meaning → List Told
-heard_after caps history bank = boxes_heard (invocations (opening caps) history) (add_answers history) bank
+heard_after caps history bank =
+    boxes_heard (invocations (opening caps) history) (add_answers history) bank
 
--- What came of a bank: there was a box for each add of the lines, and their history is a legal one; the boxes that were
+-- What came of a bank: there was a box for each add of the lines, and their history is a legal one;
+-- the boxes that were
 -- added have heard what it says; and the others are left, as they were.
-pub record IsAccounted {X : Type 0} (lines : List Line) (heard : List Told) (left : List X) (meanings : List Meaning) (bank : List X) : Type 0 where
+pub record IsAccounted {X : Type 0} (lines : List Line) (heard : List Told) (left : List X)
+    (meanings : List Meaning) (bank : List X) : Type 0 where
   pub enough : count_adds lines ≤ length bank
   pub legal : Legal default_caps (plain default_caps lines).history
   pub boxes : heard ≡ heard_after default_caps (plain default_caps lines).history meanings

@@ -1,4 +1,6 @@
 -- What the words of the command line say.
+use Rattle.osc_model.specs.Limits.{max_recording}
+use Rattle.osc_script.specs.declared.script.TheConstants.{MAX_SCRIPT}
 use Rattle.std.specs.Prelude.{ℕ, ◌&&◌, List, [], ◌∷◌, if◌then◌else◌, Option, Some, None, codes}
 use Rattle.std.specs.Str.{bytes_eq}
 use Rattle.osc_top.specs.declared.command.Output.TheVariants.{Text, Recording}
@@ -7,11 +9,13 @@ use Rattle.osc_top.specs.declared.command.Command.TheVariants.{Run, Replay}
 
 -- a command of one word
 abbrev pub command_of_word : List ℕ → Option Command
-command_of_word word = if bytes_eq word (codes "run") then Some (Run Text) else if bytes_eq word (codes "replay") then Some Replay else None
+command_of_word word = if bytes_eq word (codes "run") then Some (Run Text)
+    else if bytes_eq word (codes "replay") then Some Replay else None
 
 -- a command of two words
 abbrev pub command_of_words : List ℕ → List ℕ → Option Command
-command_of_words word next = if bytes_eq word (codes "run") && bytes_eq next (codes "--bytes") then Some (Run Recording) else None
+command_of_words word next = if bytes_eq word (codes "run") && bytes_eq next (codes "--bytes")
+    then Some (Run Recording) else None
 
 -- what the words of the command line say
 abbrev pub command_of : List (List ℕ) → Option Command
@@ -22,5 +26,5 @@ command_of (word ∷ next ∷ another ∷ words) = None
 
 -- how many bytes a command's input may have: a script 64 MiB, a recording 1 GiB
 abbrev pub most_bytes : Command → ℕ
-most_bytes (Run output) = 67108864
-most_bytes Replay = 1073741824
+most_bytes (Run output) = MAX_SCRIPT
+most_bytes Replay = max_recording

@@ -1,7 +1,7 @@
 -- How a program ends, and what it has written then.
 use Rattle.std.specs.Prelude.{◌≡◌, ◌⊎◌, ℕ, ◌+◌, ◌≤◌, ◌<◌, List, ◌++◌, length, take, drop, Option, Some, None, IfSome, IsSome, IsOkAnd, IsErrAnd}
 use Rattle.osc_edge.specs.Faults.{Rose}
-use Rattle.osc_model.specs.Limits.{Limits}
+use Rattle.osc_model.specs.Limits.{Limits, max_recording}
 use Rattle.osc_model.specs.Events.{Room, Entry}
 use Rattle.osc_model.specs.Recordings.{record_text}
 use Rattle.osc_model.specs.History.{Legal}
@@ -25,11 +25,13 @@ Gains held after text = IfSome held (λ before. after ≡ Some (before ++ text))
 
 -- or some front of it
 abbrev pub GainsFront : Option (List ℕ) → Option (List ℕ) → List ℕ → Type 0
-GainsFront held after text = IfSome held (λ before. (count : ℕ) × (after ≡ Some (before ++ take count text)))
+GainsFront held after text =
+    IfSome held (λ before. (count : ℕ) × (after ≡ Some (before ++ take count text)))
 
 -- the text, or a front of it where the count of faults rose
 abbrev pub GainsUnless : Option (List ℕ) → Option (List ℕ) → ℕ → ℕ → List ℕ → Type 0
-GainsUnless held after faults now text = Gains held after text ⊎ (GainsFront held after text × Rose faults now)
+GainsUnless held after faults now text =
+    Gains held after text ⊎ (GainsFront held after text × Rose faults now)
 
 -- what a whole input leaves: nothing, or what stands behind the first byte that is too many
 abbrev pub left_behind : ℕ → List ℕ → List ℕ
@@ -47,7 +49,8 @@ RunsByTheLaws lines = KeepsTheLaws default_caps (plain default_caps lines).histo
 abbrev pub IsUnstopped : List Line → Type 0
 IsUnstopped lines = (plain default_caps lines).stop ≡ None
 
--- the text of a run: the printed history, the lines of the faults, and where it was stopped the line on that
+-- the text of a run: the printed history, the lines of the faults, and where it was stopped the
+-- line on that
 abbrev pub run_text : List Line → List ℕ
 run_text lines = printed_run default_caps (plain default_caps lines)
 
@@ -56,36 +59,68 @@ abbrev pub run_output : Output → List Line → List ℕ
 run_output Text lines = run_text lines
 run_output Recording lines = record_text default_caps (plain default_caps lines).history
 
--- The end of a run of lines over so many boxes, by its status: done (0), where there is a box for each add, no event wanted
--- more room than was left, the history is one that the server's rules give, and what the run writes was gained; cut short
--- (5), where the sink failed, and a front of that was gained; full (6), as done, but where an event wanted more room; bank
--- short (8), where there are fewer boxes than adds, and the line on that was gained. Want of memory (3) promises nothing.
-pub record EndsLines (output : Output) (status have : ℕ) (lines : List Line) (held after : Option (List ℕ)) (faults now : ℕ) : Type 0 where
+-- The end of a run of lines over so many boxes, by its status: done (0), where there is a box for
+-- each add, no event wanted
+-- more room than was left, the history is one that the server's rules give, and what the run writes
+-- was gained; cut short
+-- (5), where the sink failed, and a front of that was gained; full (6), as done, but where an event
+-- wanted more room; bank
+-- short (8), where there are fewer boxes than adds, and the line on that was gained. Want of memory
+-- (3) promises nothing.
+pub record EndsLines (output : Output) (status have : ℕ) (lines : List Line)
+    (held after : Option (List ℕ)) (faults now : ℕ) : Type 0 where
   pub known : (status ≡ 0) ⊎ (status ≡ 3) ⊎ (status ≡ 5) ⊎ (status ≡ 6) ⊎ (status ≡ 8)
-  pub done : status ≡ 0 → (count_adds lines ≤ have) × IsLegalRun lines × IsUnstopped lines × Gains held after (run_output output lines) × (now ≡ faults)
-  pub cut_short : status ≡ 5 → (count_adds lines ≤ have) × IsLegalRun lines × GainsFront held after (run_output output lines) × Rose faults now
-  pub full : status ≡ 6 → (count_adds lines ≤ have) × IsLegalRun lines × IsSome (plain default_caps lines).stop × Gains held after (run_output output lines) × (now ≡ faults)
-  pub bank_short : status ≡ 8 → (have < count_adds lines) × GainsUnless held after faults now (bank_short_text (count_adds lines) have)
+  pub done : status ≡ 0 → (count_adds lines ≤ have) × IsLegalRun lines × IsUnstopped lines
+      × Gains held after (run_output output lines) × (now ≡ faults)
+  pub cut_short : status ≡ 5 → (count_adds lines ≤ have) × IsLegalRun lines
+      × GainsFront held after (run_output output lines) × Rose faults now
+  pub full : status ≡ 6 → (count_adds lines ≤ have) × IsLegalRun lines
+      × IsSome (plain default_caps lines).stop × Gains held after (run_output output lines)
+      × (now ≡ faults)
+  pub bank_short : status ≡ 8 → (have < count_adds lines)
+      × GainsUnless held after faults now (bank_short_text (count_adds lines) have)
 
--- The end of a run of a script, by its status: refused (1), where it has a first fault, and the line on that fault was
+-- The end of a run of a script, by its status: refused (1), where it has a first fault, and the
+-- line on that fault was
 -- gained; else the script is lawful, and the end is that of a run of its lines.
-pub record EndsRun (output : Output) (status have : ℕ) (script : List ℕ) (held after : Option (List ℕ)) (faults now : ℕ) : Type 0 where
-  pub known : (status ≡ 0) ⊎ (status ≡ 1) ⊎ (status ≡ 3) ⊎ (status ≡ 5) ⊎ (status ≡ 6) ⊎ (status ≡ 8)
-  pub done : status ≡ 0 → IsOkAnd (script_of Plain script) (λ lines. (count_adds lines ≤ have) × IsLegalRun lines × IsUnstopped lines × Gains held after (run_output output lines)) × (now ≡ faults)
-  pub refused : status ≡ 1 → IsErrAnd (script_of Plain script) (λ fault. GainsUnless held after faults now (refusal_text fault))
-  pub cut_short : status ≡ 5 → IsOkAnd (script_of Plain script) (λ lines. (count_adds lines ≤ have) × IsLegalRun lines × GainsFront held after (run_output output lines)) × Rose faults now
-  pub full : status ≡ 6 → IsOkAnd (script_of Plain script) (λ lines. (count_adds lines ≤ have) × IsLegalRun lines × IsSome (plain default_caps lines).stop × Gains held after (run_output output lines)) × (now ≡ faults)
-  pub bank_short : status ≡ 8 → IsOkAnd (script_of Plain script) (λ lines. (have < count_adds lines) × GainsUnless held after faults now (bank_short_text (count_adds lines) have))
+pub record EndsRun (output : Output) (status have : ℕ) (script : List ℕ)
+    (held after : Option (List ℕ)) (faults now : ℕ) : Type 0 where
+  pub known : (status ≡ 0) ⊎ (status ≡ 1) ⊎ (status ≡ 3) ⊎ (status ≡ 5) ⊎ (status ≡ 6)
+      ⊎ (status ≡ 8)
+  pub done : status ≡ 0
+      → IsOkAnd (script_of Plain script)
+      (λ lines. (count_adds lines ≤ have) × IsLegalRun lines × IsUnstopped lines
+      × Gains held after (run_output output lines)) × (now ≡ faults)
+  pub refused : status ≡ 1
+      → IsErrAnd (script_of Plain script)
+      (λ fault. GainsUnless held after faults now (refusal_text fault))
+  pub cut_short : status ≡ 5
+      → IsOkAnd (script_of Plain script)
+      (λ lines. (count_adds lines ≤ have) × IsLegalRun lines
+      × GainsFront held after (run_output output lines)) × Rose faults now
+  pub full : status ≡ 6
+      → IsOkAnd (script_of Plain script)
+      (λ lines. (count_adds lines ≤ have) × IsLegalRun lines
+      × IsSome (plain default_caps lines).stop × Gains held after (run_output output lines))
+      × (now ≡ faults)
+  pub bank_short : status ≡ 8
+      → IsOkAnd (script_of Plain script)
+      (λ lines. (have < count_adds lines)
+      × GainsUnless held after faults now (bank_short_text (count_adds lines) have))
 
--- The lines on bytes that aren't the recording of a server: there are too many; or else the first place where they are
+-- The lines on bytes that aren't the recording of a server: there are too many; or else the first
+-- place where they are
 -- malformed; or else the first entry that the server wouldn't have given.
 abbrev pub RefusesRecording : List ℕ → List ℕ → Type 0
 RefusesRecording bytes lines =
-    ((1073741824 < length bytes) × (lines ≡ malformed_text 1073741824))
-    ⊎ ((at : ℕ) × (length bytes ≤ 1073741824) × IsUnformedAt bytes at × (lines ≡ malformed_text at))
-    ⊎ ((entry : ℕ) × (kept : List ℕ) × (computed : List ℕ) × DisagreesAt bytes entry kept computed × (lines ≡ disagrees_text entry kept computed))
+    ((max_recording < length bytes) × (lines ≡ malformed_text max_recording))
+    ⊎ ((at : ℕ) × (length bytes ≤ max_recording) × IsUnformedAt bytes at
+        × (lines ≡ malformed_text at))
+    ⊎ ((entry : ℕ) × (kept : List ℕ) × (computed : List ℕ) × DisagreesAt bytes entry kept computed
+        × (lines ≡ disagrees_text entry kept computed))
 
--- the bytes are the recording of a history that the server's rules give, and this is its printed text
+-- the bytes are the recording of a history that the server's rules give, and this is its printed
+-- text
 pub record ReplaysTo (bytes printed_text : List ℕ) : Type 0 where
   pub caps : Limits
   pub history : List Entry
@@ -99,19 +134,30 @@ pub record RecordsTheLaws (bytes : List ℕ) : Type 0 where
   pub recording_of : IsRecordingOf bytes caps history
   pub laws : KeepsTheLaws caps history
 
--- The end of a replay of a recording, by its status: done (0), where the bytes are the recording of a legal history, and its
--- printed text was gained; refused (1), where they aren't, and the lines on that were gained; cut short (5), where the sink
+-- The end of a replay of a recording, by its status: done (0), where the bytes are the recording of
+-- a legal history, and its
+-- printed text was gained; refused (1), where they aren't, and the lines on that were gained; cut
+-- short (5), where the sink
 -- failed, and a front of the printed text was gained. Want of memory (3) promises nothing.
-pub record EndsReplay (status : ℕ) (bytes : List ℕ) (held after : Option (List ℕ)) (faults now : ℕ) : Type 0 where
+pub record EndsReplay (status : ℕ) (bytes : List ℕ) (held after : Option (List ℕ))
+    (faults now : ℕ) : Type 0 where
   pub known : (status ≡ 0) ⊎ (status ≡ 1) ⊎ (status ≡ 3) ⊎ (status ≡ 5)
-  pub done : status ≡ 0 → ((printed_text : List ℕ) × ReplaysTo bytes printed_text × Gains held after printed_text) × (now ≡ faults)
-  pub refused : status ≡ 1 → (lines : List ℕ) × RefusesRecording bytes lines × GainsUnless held after faults now lines
-  pub cut_short : status ≡ 5 → ((printed_text : List ℕ) × ReplaysTo bytes printed_text × GainsFront held after printed_text) × Rose faults now
+  pub done : status ≡ 0
+      → ((printed_text : List ℕ) × ReplaysTo bytes printed_text × Gains held after printed_text)
+      × (now ≡ faults)
+  pub refused : status ≡ 1 → (lines : List ℕ) × RefusesRecording bytes lines
+      × GainsUnless held after faults now lines
+  pub cut_short : status ≡ 5
+      → ((printed_text : List ℕ) × ReplaysTo bytes printed_text
+      × GainsFront held after printed_text) × Rose faults now
 
 -- the end of a command, of which so many boxes and this input were handed in
-abbrev pub EndsCommand : Command → ℕ → ℕ → List ℕ → Option (List ℕ) → Option (List ℕ) → ℕ → ℕ → Type 0
-EndsCommand (Run output) status have input held after faults now = EndsRun output status have input held after faults now
-EndsCommand Replay status have input held after faults now = EndsReplay status input held after faults now
+abbrev pub EndsCommand : Command → ℕ → ℕ → List ℕ → Option (List ℕ) → Option (List ℕ) → ℕ → ℕ
+    → Type 0
+EndsCommand (Run output) status have input held after faults now =
+    EndsRun output status have input held after faults now
+EndsCommand Replay status have input held after faults now =
+    EndsReplay status input held after faults now
 
 -- what was recorded of a run of lines: its recording, the lines of the faults, and the stop
 pub record IsRunOf (bytes faults : List ℕ) (stop : Option Room) (lines : List Line) : Type 0 where
@@ -119,21 +165,28 @@ pub record IsRunOf (bytes faults : List ℕ) (stop : Option Room) (lines : List 
   pub said : faults ≡ printed_faults (plain default_caps lines).faults
   pub stopped : stop ≡ (plain default_caps lines).stop
 
--- The end of writing what a run of lines came to: done (0) or full (6) where all was gained, cut short (5) where the sink
+-- The end of writing what a run of lines came to: done (0) or full (6) where all was gained, cut
+-- short (5) where the sink
 -- failed.
-pub record EndsPlayed (output : Output) (status : ℕ) (lines : List Line) (held after : Option (List ℕ)) (faults now : ℕ) : Type 0 where
+pub record EndsPlayed (output : Output) (status : ℕ) (lines : List Line)
+    (held after : Option (List ℕ)) (faults now : ℕ) : Type 0 where
   pub known : (status ≡ 0) ⊎ (status ≡ 3) ⊎ (status ≡ 5) ⊎ (status ≡ 6)
-  pub done : status ≡ 0 → IsUnstopped lines × Gains held after (run_output output lines) × (now ≡ faults)
+  pub done : status ≡ 0 → IsUnstopped lines × Gains held after (run_output output lines)
+      × (now ≡ faults)
   pub cut_short : status ≡ 5 → GainsFront held after (run_output output lines) × Rose faults now
-  pub full : status ≡ 6 → IsSome (plain default_caps lines).stop × Gains held after (run_output output lines) × (now ≡ faults)
+  pub full : status ≡ 6 → IsSome (plain default_caps lines).stop
+      × Gains held after (run_output output lines) × (now ≡ faults)
 
--- a text that was made before is written, or a front of it; the status is the decided one where all of it is
-pub record EndsText (decided status : ℕ) (text : List ℕ) (held after : Option (List ℕ)) (faults now : ℕ) : Type 0 where
+-- a text that was made before is written, or a front of it; the status is the decided one where all
+-- of it is
+pub record EndsText (decided status : ℕ) (text : List ℕ) (held after : Option (List ℕ))
+    (faults now : ℕ) : Type 0 where
   pub known : (status ≡ decided) ⊎ (status ≡ 3) ⊎ (status ≡ 5)
   pub done : status ≡ decided → Gains held after text × (now ≡ faults)
   pub cut_short : status ≡ 5 → GainsFront held after text × Rose faults now
 
 -- a last line of a status that is decided
-pub record EndsLine (decided status : ℕ) (text : List ℕ) (held after : Option (List ℕ)) (faults now : ℕ) : Type 0 where
+pub record EndsLine (decided status : ℕ) (text : List ℕ) (held after : Option (List ℕ))
+    (faults now : ℕ) : Type 0 where
   pub known : (status ≡ decided) ⊎ (status ≡ 3)
   pub written : status ≡ decided → GainsUnless held after faults now text

@@ -1,4 +1,6 @@
 -- How many bytes of recording are enough for a script.
+use Rattle.osc_model.specs.Limits.{header_size}
+use Rattle.osc_packet.specs.declared.limits.TheConstants.{MAX_PACKET}
 use Rattle.std.specs.Prelude.{ℕ, ◌+◌, ◌*◌, List, length, if◌then◌else◌}
 use Rattle.std.specs.List.{sum_by}
 use Rattle.osc_packet.specs.Reading.{is_packet, units_read}
@@ -9,7 +11,8 @@ use Rattle.osc_script.specs.declared.act.Act.TheVariants.{Add, Remove, Send, Tic
 use Rattle.osc_script.specs.declared.line.Line.{Line}
 use Rattle.osc_top.specs.Plain.{count_adds}
 
--- the size of the entry of an add, a remove, a tick or a submit, which is the same whatever it is answered
+-- the size of the entry of an add, a remove, a tick or a submit, which is the same whatever it is
+-- answered
 abbrev pub event_size : Event → ℕ
 event_size event = entry_size event ticked
 
@@ -17,23 +20,26 @@ event_size event = entry_size event ticked
 abbrev pub act_size : Act → ℕ
 act_size (Add address) = event_size (add address)
 act_size (Remove address) = event_size (remove address)
-act_size (Send packet) = if is_packet 65504 packet then event_size (submit packet) else 0
+act_size (Send packet) = if is_packet MAX_PACKET packet then event_size (submit packet) else 0
 act_size (Tick moment) = event_size (tick moment)
 act_size Pump = 0
 
 -- the units of a send that is a packet
 abbrev pub act_units : Act → ℕ
-act_units (Send packet) = if is_packet 65504 packet then length (units_read packet) else 0
+act_units (Send packet) = if is_packet MAX_PACKET packet then length (units_read packet) else 0
 act_units _ = 0
 
 -- the messages of all its units
 abbrev pub act_messages : Act → ℕ
-act_messages (Send packet) = if is_packet 65504 packet then sum_by (λ unit. length unit.messages) (units_read packet) else 0
+act_messages (Send packet) = if is_packet MAX_PACKET packet
+    then sum_by (λ unit. length unit.messages) (units_read packet) else 0
 act_messages _ = 0
 
--- The header, the enrolment of a lane, the lines' own entries, a release for each unit, and a hit of each message for each
+-- The header, the enrolment of a lane, the lines' own entries, a release for each unit, and a hit
+-- of each message for each
 -- method that is added.
 abbrev pub enough : List Line → ℕ
 enough lines =
-    56 + 28 + sum_by (λ line. act_size line.act) lines + 44 * sum_by (λ line. act_units line.act) lines
+    header_size + 28 + sum_by (λ line. act_size line.act) lines
+        + 44 * sum_by (λ line. act_units line.act) lines
     + 8 * (sum_by (λ line. act_messages line.act) lines * count_adds lines)

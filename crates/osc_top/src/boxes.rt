@@ -1,4 +1,5 @@
 // The boxes of the program.
+ghost use Rattle.osc_top.specs.declared.boxes.TheConstants.{BOXES};
 ghost use Rattle.std.specs.Prelude.{◌≡◌, Some, [], All, length, IfOk};
 
 use osc_method::{Method, Trace};
@@ -12,9 +13,11 @@ const KEPT: u32 = 64;
 
 /// The boxes that the program hands to `plain_top`. An `Err` is want of memory.
 pub fn traces(alloc: Global) -> Result<Vec<Trace>, AllocError>
-    ensures count { IfOk result (λ traces. length traces.items ≡ 8192) }
-    ensures keep { IfOk result (λ traces. All (λ trace. ⟦<Trace as Method>⟧.keep trace ≡ 64) traces.items) }
-    ensures heard { IfOk result (λ traces. All (λ trace. ⟦<Trace as Method>⟧.heard trace ≡ Some []) traces.items) }
+    ensures count { IfOk result (λ traces. length traces.items ≡ BOXES) }
+    ensures keep { IfOk result
+        (λ traces. All (λ trace. ⟦<Trace as Method>⟧.keep trace ≡ 64) traces.items) }
+    ensures heard { IfOk result
+        (λ traces. All (λ trace. ⟦<Trace as Method>⟧.heard trace ≡ Some []) traces.items) }
 {
     let mut traces = Vec::with_capacity(alloc, BOXES)?;
     while traces.len() < BOXES {

@@ -14,20 +14,27 @@ ghost use Rattle.osc_top.specs.Ends.{run_text};
 
 /// A method, a message to it, and its call.
 pub fn first_light()
-    ensures { IsOkAnd (script_of Plain (codes "add /light/dim\nsend 2f6c696768742f64696d0000 2c690000 00000007\npump\n")) (λ lines. run_text lines ≡ codes "add 0 /light/dim id 0\nsubmit 0 queued 0 1\nrelease 0 0 1\ncall 0 0 0 /light/dim ,i i:7\n") }
+    ensures { IsOkAnd
+        (script_of Plain
+        (codes "add /light/dim\nsend 2f6c696768742f64696d0000 2c690000 00000007\npump\n"))
+        (λ lines. run_text lines
+        ≡ codes "add 0 /light/dim id 0\nsubmit 0 queued 0 1\nrelease 0 0 1\ncall 0 0 0 /light/dim ,i i:7\n") }
 {}
 
 /// A clock that stands at 1 isn't set back.
 pub fn early_tick()
-    ensures { IsOkAnd (script_of Plain (codes "tick 0000000000000000\n")) (λ lines. run_text lines ≡ codes "tick 0 0000000000000000 clock-back 0000000000000001\n") }
+    ensures { IsOkAnd (script_of Plain (codes "tick 0000000000000000\n"))
+        (λ lines. run_text lines ≡ codes "tick 0 0000000000000000 clock-back 0000000000000001\n") }
 {}
 
 /// A recording of as many bytes as `enough` says never stops a script.
 pub fn enough_room_never_stops()
-    ensures { (caps : Limits) (lines : List Line) → enough lines ≤ caps.recording → (plain caps lines).stop ≡ None }
+    ensures { (caps : Limits) (lines : List Line) → enough lines ≤ caps.recording
+        → (plain caps lines).stop ≡ None }
 {}
 
 /// A pump goes on until nothing is due, or until there is no room for the next release.
 pub fn nothing_is_released_after_a_pump()
-    ensures { (state : State) → is_released (step (after state (pump state)) release).answer ≡ false }
+    ensures { (state : State)
+        → is_released (step (after state (pump state)) release).answer ≡ false }
 {}

@@ -1,4 +1,5 @@
 // Plays lines on a server, event by event.
+ghost use Rattle.osc_packet.specs.declared.limits.TheConstants.{MAX_PACKET};
 ghost use Rattle.std.specs.Prelude.{◌≡◌, ◌++◌, ◌+◌, ◌<◌, ◌≤◌, List, map, length, IfOk, OnOk};
 ghost use Rattle.std.specs.Option.{option_map};
 ghost use Rattle.std.specs.Vec.Iter.{into_iter_items};
@@ -17,7 +18,7 @@ use osc_core::{AddRefusal, Adding, Core, Releasing, Removing, Submitted, Ticking
 use osc_message::Bytes;
 use osc_method::Method;
 use osc_model::laws::{a_box_hears_its_calls, invocations_are_of_registered_methods};
-use osc_packet::Packet;
+use osc_packet::{MAX_PACKET, Packet};
 use osc_pattern::Address;
 use osc_print::{Text, fault_line};
 use osc_script::{Act, Line};
@@ -41,10 +42,20 @@ impl<M: Method> Player<M> {
     pub(crate) fn play_lines(&mut self, lines: Vec<Line>) -> Result<Option<Room>, AllocError>
         requires handed { count_adds lines.items ≤ length (into_iter_items self.old.bank) }
         requires caller { 0 < (state_of self.old.core.performance).callers }
-        ensures performance { OnOk result (self.new.core.performance ≡ played_on self.old.core.performance (plain_from (state_of self.old.core.performance) lines.items).history) }
-        ensures faults { OnOk result (self.new.faults ≡ self.old.faults ++ printed_faults (plain_from (state_of self.old.core.performance) lines.items).faults) }
-        ensures stop { IfOk result (λ stop. option_map room_of stop ≡ (plain_from (state_of self.old.core.performance) lines.items).stop) }
-        ensures boxes { OnOk result ((bank : List M) → HasTallied M.keep M.heard bank self.old → IsDone M.keep M.heard bank self.new) }
+        ensures performance { OnOk result
+            (self.new.core.performance
+            ≡ played_on self.old.core.performance
+            (plain_from (state_of self.old.core.performance) lines.items).history) }
+        ensures faults { OnOk result
+            (self.new.faults ≡ self.old.faults
+            ++ printed_faults
+            (plain_from (state_of self.old.core.performance) lines.items).faults) }
+        ensures stop { IfOk result
+            (λ stop. option_map room_of stop
+            ≡ (plain_from (state_of self.old.core.performance) lines.items).stop) }
+        ensures boxes { OnOk result
+            ((bank : List M) → HasTallied M.keep M.heard bank self.old
+            → IsDone M.keep M.heard bank self.new) }
     {
         for line in lines {
             let stop = self.play_act(line.number, line.act)?;
@@ -59,10 +70,17 @@ impl<M: Method> Player<M> {
     fn play_act(&mut self, number: u32, act: Act) -> Result<Option<Room>, AllocError>
         requires handed { adds_of act ≤ length (into_iter_items self.old.bank) }
         requires caller { 0 < (state_of self.old.core.performance).callers }
-        ensures performance { OnOk result (self.new.core.performance ≡ played_on self.old.core.performance (entries_of (state_of self.old.core.performance) act)) }
-        ensures faults { OnOk result (self.new.faults ≡ self.old.faults ++ printed_faults (act_faults number act)) }
-        ensures stop { IfOk result (λ stop. option_map room_of stop ≡ stop_of (state_of self.old.core.performance) act) }
-        ensures waiting { OnOk result (length (into_iter_items self.old.bank) ≤ adds_of act + length (into_iter_items self.new.bank)) }
+        ensures performance { OnOk result
+            (self.new.core.performance
+            ≡ played_on self.old.core.performance
+            (entries_of (state_of self.old.core.performance) act)) }
+        ensures faults { OnOk result
+            (self.new.faults ≡ self.old.faults ++ printed_faults (act_faults number act)) }
+        ensures stop { IfOk result
+            (λ stop. option_map room_of stop ≡ stop_of (state_of self.old.core.performance) act) }
+        ensures waiting { OnOk result
+            (length (into_iter_items self.old.bank)
+            ≤ adds_of act + length (into_iter_items self.new.bank)) }
         ensures boxes { IfOk result (λ stop. TalliesOn M.keep M.heard stop self.old self.new) }
     {
         match act {
@@ -77,10 +95,16 @@ impl<M: Method> Player<M> {
     fn play_add(&mut self, address: Address) -> Result<Option<Room>, AllocError>
         requires handed { 0 < length (into_iter_items self.old.bank) }
         requires caller { 0 < (state_of self.old.core.performance).callers }
-        ensures performance { OnOk result (self.new.core.performance ≡ played_on self.old.core.performance (entry_if (state_of self.old.core.performance) (add address))) }
+        ensures performance { OnOk result
+            (self.new.core.performance
+            ≡ played_on self.old.core.performance
+            (entry_if (state_of self.old.core.performance) (add address))) }
         ensures faults { OnOk result (self.new.faults ≡ self.old.faults) }
-        ensures stop { IfOk result (λ stop. option_map room_of stop ≡ stop_at (state_of self.old.core.performance) (add address)) }
-        ensures waiting { OnOk result (length (into_iter_items self.old.bank) ≤ 1 + length (into_iter_items self.new.bank)) }
+        ensures stop { IfOk result
+            (λ stop. option_map room_of stop
+            ≡ stop_at (state_of self.old.core.performance) (add address)) }
+        ensures waiting { OnOk result
+            (length (into_iter_items self.old.bank) ≤ 1 + length (into_iter_items self.new.bank)) }
         ensures boxes { IfOk result (λ stop. TalliesOn M.keep M.heard stop self.old self.new) }
     {
         let Some(method) = self.bank.next() else {
@@ -94,10 +118,16 @@ impl<M: Method> Player<M> {
 
     fn play_remove(&mut self, address: &Address) -> Result<Option<Room>, AllocError>
         requires caller { 0 < (state_of self.old.core.performance).callers }
-        ensures performance { OnOk result (self.new.core.performance ≡ played_on self.old.core.performance (entry_if (state_of self.old.core.performance) (remove address.now))) }
+        ensures performance { OnOk result
+            (self.new.core.performance
+            ≡ played_on self.old.core.performance
+            (entry_if (state_of self.old.core.performance) (remove address.now))) }
         ensures faults { OnOk result (self.new.faults ≡ self.old.faults) }
-        ensures stop { IfOk result (λ stop. option_map room_of stop ≡ stop_at (state_of self.old.core.performance) (remove address.now)) }
-        ensures waiting { OnOk result (into_iter_items self.new.bank ≡ into_iter_items self.old.bank) }
+        ensures stop { IfOk result
+            (λ stop. option_map room_of stop
+            ≡ stop_at (state_of self.old.core.performance) (remove address.now)) }
+        ensures waiting { OnOk result
+            (into_iter_items self.new.bank ≡ into_iter_items self.old.bank) }
         ensures boxes { IfOk result (λ stop. TalliesOn M.keep M.heard stop self.old self.new) }
     {
         let removing = self.core.remove(0, address);
@@ -108,13 +138,23 @@ impl<M: Method> Player<M> {
 
     fn play_send(&mut self, number: u32, bytes: &Bytes) -> Result<Option<Room>, AllocError>
         requires caller { 0 < (state_of self.old.core.performance).callers }
-        ensures performance { OnOk result (self.new.core.performance ≡ played_on self.old.core.performance (sent (state_of self.old.core.performance) bytes.now (is_packet 65504 bytes.now))) }
-        ensures faults { OnOk result (self.new.faults ≡ self.old.faults ++ printed_faults (fault_at number (packet_fault 65504 bytes.now))) }
-        ensures stop { IfOk result (λ stop. option_map room_of stop ≡ stop_sent (state_of self.old.core.performance) bytes.now (is_packet 65504 bytes.now)) }
-        ensures waiting { OnOk result (into_iter_items self.new.bank ≡ into_iter_items self.old.bank) }
+        ensures performance { OnOk result
+            (self.new.core.performance
+            ≡ played_on self.old.core.performance
+            (sent (state_of self.old.core.performance) bytes.now
+            (is_packet MAX_PACKET bytes.now))) }
+        ensures faults { OnOk result
+            (self.new.faults ≡ self.old.faults
+            ++ printed_faults (fault_at number (packet_fault MAX_PACKET bytes.now))) }
+        ensures stop { IfOk result
+            (λ stop. option_map room_of stop
+            ≡ stop_sent (state_of self.old.core.performance) bytes.now
+            (is_packet MAX_PACKET bytes.now)) }
+        ensures waiting { OnOk result
+            (into_iter_items self.new.bank ≡ into_iter_items self.old.bank) }
         ensures boxes { IfOk result (λ stop. TalliesOn M.keep M.heard stop self.old self.new) }
     {
-        match Packet::check(bytes.as_slice(), 65_504) {
+        match Packet::check(bytes.as_slice(), MAX_PACKET) {
             Ok(packet) => Ok(self.play_packet(&packet)),
             Err(fault) => {
                 fault_line(&mut self.faults, number, fault)?;
@@ -125,9 +165,12 @@ impl<M: Method> Player<M> {
 
     fn play_packet(&mut self, packet: &Packet<'_>) -> Option<Room>
         requires caller { 0 < (state_of self.old.core.performance).callers }
-        ensures performance { self.new.core.performance ≡ played_on self.old.core.performance (entry_if (state_of self.old.core.performance) (submit packet.now)) }
+        ensures performance { self.new.core.performance
+            ≡ played_on self.old.core.performance
+            (entry_if (state_of self.old.core.performance) (submit packet.now)) }
         ensures faults { self.new.faults ≡ self.old.faults }
-        ensures stop { option_map room_of result ≡ stop_at (state_of self.old.core.performance) (submit packet.now) }
+        ensures stop { option_map room_of result
+            ≡ stop_at (state_of self.old.core.performance) (submit packet.now) }
         ensures waiting { into_iter_items self.new.bank ≡ into_iter_items self.old.bank }
         ensures boxes { TalliesOn M.keep M.heard result self.old self.new }
     {
@@ -136,9 +179,12 @@ impl<M: Method> Player<M> {
 
     fn play_tick(&mut self, moment: u64) -> Option<Room>
         requires caller { 0 < (state_of self.old.core.performance).callers }
-        ensures performance { self.new.core.performance ≡ played_on self.old.core.performance (entry_if (state_of self.old.core.performance) (tick moment)) }
+        ensures performance { self.new.core.performance
+            ≡ played_on self.old.core.performance
+            (entry_if (state_of self.old.core.performance) (tick moment)) }
         ensures faults { self.new.faults ≡ self.old.faults }
-        ensures stop { option_map room_of result ≡ stop_at (state_of self.old.core.performance) (tick moment) }
+        ensures stop { option_map room_of result
+            ≡ stop_at (state_of self.old.core.performance) (tick moment) }
         ensures waiting { into_iter_items self.new.bank ≡ into_iter_items self.old.bank }
         ensures boxes { TalliesOn M.keep M.heard result self.old self.new }
     {
@@ -148,9 +194,12 @@ impl<M: Method> Player<M> {
     /// Releases until nothing is due.
     fn play_pump(&mut self) -> Option<Room>
         requires caller { 0 < (state_of self.old.core.performance).callers }
-        ensures performance { self.new.core.performance ≡ played_on self.old.core.performance (pump (state_of self.old.core.performance)) }
+        ensures performance { self.new.core.performance
+            ≡ played_on self.old.core.performance (pump (state_of self.old.core.performance)) }
         ensures faults { self.new.faults ≡ self.old.faults }
-        ensures stop { option_map room_of result ≡ stop_at (after (state_of self.old.core.performance) (pump (state_of self.old.core.performance))) release }
+        ensures stop { option_map room_of result
+            ≡ stop_at (after (state_of self.old.core.performance)
+            (pump (state_of self.old.core.performance))) release }
         ensures waiting { into_iter_items self.new.bank ≡ into_iter_items self.old.bank }
         ensures boxes { TalliesOn M.keep M.heard result self.old self.new }
     {

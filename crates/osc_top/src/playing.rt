@@ -44,9 +44,15 @@ pub(crate) fn play<M: Method>(
     bank: Vec<M>,
 ) -> Result<Played<M>, AllocError>
     requires enough { count_adds lines.items ≤ length bank.items }
-    ensures run { IfOk result (λ played. IsRunOf played.recorded.bytes.items played.recorded.faults (option_map room_of played.recorded.stop) lines.items) }
-    ensures accounted { IfOk result (λ played. IsAccounted lines.items (told M.keep M.heard played.heard.items) played.left.items (map (λ box. record { keep = M.keep box; heard = M.heard box }) bank.items) bank.items) }
-    ensures ascending { IfOk result (λ played. IsTrue (is_ascending (map (λ one. one.0) played.heard.items))) }
+    ensures run { IfOk result
+        (λ played. IsRunOf played.recorded.bytes.items played.recorded.faults
+        (option_map room_of played.recorded.stop) lines.items) }
+    ensures accounted { IfOk result
+        (λ played. IsAccounted lines.items
+        (told M.keep M.heard played.heard.items) played.left.items
+        (map (λ box. record { keep = M.keep box; heard = M.heard box }) bank.items) bank.items) }
+    ensures ascending { IfOk result
+        (λ played. IsTrue (is_ascending (map (λ one. one.0) played.heard.items))) }
     ensures laws { OnOk result (RunsByTheLaws lines.items) }
 {
     every_history_keeps_the_laws();
@@ -58,7 +64,9 @@ pub(crate) fn play<M: Method>(
 
 impl<M: Method> Player<M> {
     fn open(alloc: Global, bank: Vec<M>) -> Result<Player<M>, AllocError>
-        ensures performance { IfOk result (λ player. player.core.performance ≡ record { caps = scripts.default_caps; history = [] }) }
+        ensures performance { IfOk result
+            (λ player. player.core.performance
+            ≡ record { caps = scripts.default_caps; history = [] }) }
         ensures faults { IfOk result (λ player. player.faults ≡ []) }
         ensures bank { IfOk result (λ player. into_iter_items player.bank ≡ bank.items) }
         ensures boxes { IfOk result (λ player. HasTallied M.keep M.heard bank.items player) }
@@ -74,8 +82,11 @@ impl<M: Method> Player<M> {
 
     /// Ends the server, and hands out its recording and the boxes.
     fn finish(self, stop: Option<Room>) -> Result<Played<M>, AllocError>
-        ensures text { IfOk result (λ played. played.recorded.bytes.items ≡ record_text self.core.performance.caps self.core.performance.history) }
-        ensures legal { OnOk result (Legal self.core.performance.caps self.core.performance.history) }
+        ensures text { IfOk result
+            (λ played. played.recorded.bytes.items
+            ≡ record_text self.core.performance.caps self.core.performance.history) }
+        ensures legal { OnOk result
+            (Legal self.core.performance.caps self.core.performance.history) }
         ensures faults { IfOk result (λ played. played.recorded.faults ≡ self.faults) }
         ensures stop { IfOk result (λ played. played.recorded.stop ≡ stop) }
         ensures boxes { IfOk result (λ played. (bank : List M) → IsDone M.keep M.heard bank self →
@@ -119,7 +130,8 @@ fn gather<M: Method>(
     mut kept: Vec<(u32, M)>,
     mut removed: Vec<(u32, M)>,
 ) -> Result<Vec<(u32, M)>, AllocError>
-    ensures each { IfOk result (λ sorted. IsPermutation (kept.items ++ removed.items) sorted.items) }
+    ensures each { IfOk result
+        (λ sorted. IsPermutation (kept.items ++ removed.items) sorted.items) }
     ensures ascending { IfOk result (λ sorted. IsNonDecreasingBy (λ one. one.0) sorted.items) }
 {
     kept.append(&mut removed)?;

@@ -25,7 +25,8 @@ use crate::writing::{bank_short, last_line, malformed, refuse, write_recorded, w
 use osc_edge::{Sink, Source};
 use osc_method::Method;
 use osc_model::laws::a_legal_history_is_recordable;
-use osc_script::{Act, Line, Mode, Script, ScriptFault, ScriptRefusal};
+use osc_record::MAX_RECORDING;
+use osc_script::{Act, Line, MAX_SCRIPT, Mode, Script, ScriptFault, ScriptRefusal};
 use std::alloc::Global;
 
 /// How a program ends.
@@ -58,8 +59,10 @@ pub fn plain_top<S: Source, O: Sink>(
 
     // Words that are no command are answered first, by a line on usage, and nothing is read then.
     ensures usage { result.status ≡ 2 → commands.command_of (map string_bytes words.now) ≡ None }
-    ensures no_command { commands.command_of (map string_bytes words.now) ≡ None → (result.status ≡ 2) ⊎ (result.status ≡ 3) }
-    ensures unread { commands.command_of (map string_bytes words.now) ≡ None → input.new ≡ input.old }
+    ensures no_command { commands.command_of (map string_bytes words.now) ≡ None
+        → (result.status ≡ 2) ⊎ (result.status ≡ 3) }
+    ensures unread { commands.command_of (map string_bytes words.now) ≡ None
+        → input.new ≡ input.old }
     ensures usage_text { result.status ≡ 2 →
         GainsUnless (O.held out.old) (O.held out.new) (O.faults out.old) (O.faults out.new) usage_text }
 
@@ -67,44 +70,60 @@ pub fn plain_top<S: Source, O: Sink>(
     // source didn't fail, and that it was read to its end, or to the first byte that is too many.
     ensures source { result.status ≡ 4 → Rose (S.faults input.old) (S.faults input.new) }
     ensures unwritten { result.status ≡ 4 → out.new ≡ out.old }
-    ensures sound { result.status ≢ 3 → result.status ≢ 4 → S.faults input.new ≡ S.faults input.old }
-    ensures read { IfSome (commands.command_of (map string_bytes words.now)) (λ command. IfSome (S.left input.old) (λ all. result.status ≢ 3 → result.status ≢ 4 →
+    ensures sound { result.status ≢ 3 → result.status ≢ 4
+        → S.faults input.new ≡ S.faults input.old }
+    ensures read { IfSome (commands.command_of (map string_bytes words.now))
+        (λ command. IfSome (S.left input.old) (λ all. result.status ≢ 3 → result.status ≢ 4 →
         S.left input.new ≡ Some (left_behind (commands.most_bytes command) all))) }
 
     // Then a script or a recording that is refused, or a script that adds more methods than there are boxes, or what the
     // command writes, with a sink that took all of it or failed.
-    ensures command { IfSome (commands.command_of (map string_bytes words.now)) (λ command. IfSome (S.left input.old) (λ all. result.status ≢ 4 →
+    ensures command { IfSome (commands.command_of (map string_bytes words.now))
+        (λ command. IfSome (S.left input.old) (λ all. result.status ≢ 4 →
         EndsCommand command result.status (length bank.items) all (O.held out.old) (O.held out.new) (O.faults out.old) (O.faults out.new))) }
     ensures sink { result.status ≡ 5 → Rose (O.faults out.old) (O.faults out.new) }
 
     // Done means that nothing failed and that the input was read to its end.
     ensures steady { result.status ≡ 0 → O.faults out.new ≡ O.faults out.old }
-    ensures ended { result.status ≡ 0 → IfSome (S.left input.old) (λ all. S.left input.new ≡ Some []) }
+    ensures ended { result.status ≡ 0
+        → IfSome (S.left input.old) (λ all. S.left input.new ≡ Some []) }
 
     // Each box that was added has heard what the history says, and each other one comes back as it was; where nothing was
     // played, all of them.
-    ensures accounted { (output : Output) → commands.command_of (map string_bytes words.now) ≡ Some (Run output) → (result.status ≡ 0) ⊎ (result.status ≡ 5) ⊎ (result.status ≡ 6) → (lines : List Line) ×
+    ensures accounted { (output : Output)
+        → commands.command_of (map string_bytes words.now) ≡ Some (Run output)
+        → (result.status ≡ 0) ⊎ (result.status ≡ 5) ⊎ (result.status ≡ 6) → (lines : List Line) ×
         IfSome (S.left input.old) (λ script. script_of Plain script ≡ Ok lines) ×
         IsAccounted lines (map (λ one. record { id = one.0; keep = keep one.1; heard = heard one.1 }) result.heard.items) result.left.items (map (λ box. record { keep = keep box; heard = heard box }) bank.items) bank.items }
     ensures ascending { IsTrue (is_ascending (map (λ one. one.0) result.heard.items)) }
-    ensures none_heard { (result.status ≡ 1) ⊎ (result.status ≡ 2) ⊎ (result.status ≡ 4) ⊎ (result.status ≡ 8) → result.heard.items ≡ [] }
-    ensures all_left { (result.status ≡ 1) ⊎ (result.status ≡ 2) ⊎ (result.status ≡ 4) ⊎ (result.status ≡ 8) → result.left.items ≡ bank.items }
-    ensures replay_hears_none { commands.command_of (map string_bytes words.now) ≡ Some Replay → result.status ≢ 3 → result.heard.items ≡ [] }
-    ensures replay_leaves_all { commands.command_of (map string_bytes words.now) ≡ Some Replay → result.status ≢ 3 → result.left.items ≡ bank.items }
+    ensures none_heard { (result.status ≡ 1) ⊎ (result.status ≡ 2) ⊎ (result.status ≡ 4)
+        ⊎ (result.status ≡ 8) → result.heard.items ≡ [] }
+    ensures all_left { (result.status ≡ 1) ⊎ (result.status ≡ 2) ⊎ (result.status ≡ 4)
+        ⊎ (result.status ≡ 8) → result.left.items ≡ bank.items }
+    ensures replay_hears_none { commands.command_of (map string_bytes words.now) ≡ Some Replay
+        → result.status ≢ 3 → result.heard.items ≡ [] }
+    ensures replay_leaves_all { commands.command_of (map string_bytes words.now) ≡ Some Replay
+        → result.status ≢ 3 → result.left.items ≡ bank.items }
 
     // The history of each run and of each recording that is replayed keeps the four laws.
-    ensures laws { (output : Output) → commands.command_of (map string_bytes words.now) ≡ Some (Run output) → (result.status ≡ 0) ⊎ (result.status ≡ 5) ⊎ (result.status ≡ 6) → (lines : List Line) ×
+    ensures laws { (output : Output)
+        → commands.command_of (map string_bytes words.now) ≡ Some (Run output)
+        → (result.status ≡ 0) ⊎ (result.status ≡ 5) ⊎ (result.status ≡ 6) → (lines : List Line) ×
         IfSome (S.left input.old) (λ script. script_of Plain script ≡ Ok lines) × RunsByTheLaws lines }
-    ensures replay_laws { commands.command_of (map string_bytes words.now) ≡ Some Replay → result.status ≡ 0 →
+    ensures replay_laws { commands.command_of (map string_bytes words.now) ≡ Some Replay
+        → result.status ≡ 0 →
         IfSome (S.left input.old) (λ recording. RecordsTheLaws recording) }
 
     // A lawful script with enough boxes and room for its recording is played, and the recording of each history that the
     // server's rules give is replayed, over edges that don't fail, unless memory runs out.
-    ensures complete { (output : Output) → commands.command_of (map string_bytes words.now) ≡ Some (Run output) → IfSome (S.left input.old) (λ script.
+    ensures complete { (output : Output)
+        → commands.command_of (map string_bytes words.now) ≡ Some (Run output)
+        → IfSome (S.left input.old) (λ script.
         IsOkAnd (script_of Plain script) (λ lines. (scripts.count_adds lines ≤ length bank.items) × IsUnstopped lines) →
         ¬ Rose (S.faults input.old) (S.faults input.new) → ¬ Rose (O.faults out.old) (O.faults out.new) →
         (result.status ≡ 0) ⊎ (result.status ≡ 3)) }
-    ensures replayed { commands.command_of (map string_bytes words.now) ≡ Some Replay → IfSome (S.left input.old) (λ recording.
+    ensures replayed { commands.command_of (map string_bytes words.now) ≡ Some Replay
+        → IfSome (S.left input.old) (λ recording.
         (caps : Limits) (history : List Entry) → IsRecordingOf recording caps history →
         ¬ Rose (S.faults input.old) (S.faults input.new) → ¬ Rose (O.faults out.old) (O.faults out.new) →
         (result.status ≡ 0) ⊎ (result.status ≡ 3)) }
@@ -125,8 +144,8 @@ fn most_bytes(command: Command) -> usize
     ensures { result ≡ commands.most_bytes command }
 {
     match command {
-        Command::Run(_) => 67_108_864,
-        Command::Replay => 1_073_741_824,
+        Command::Run(_) => MAX_SCRIPT,
+        Command::Replay => MAX_RECORDING as usize,
     }
 }
 
@@ -145,9 +164,12 @@ fn unplayed(alloc: Global, status: u8, bank: Vec<Box<dyn Method + Send>>) -> End
 
 /// Refuses an input that is too long.
 fn refuse_long<O: Sink>(alloc: Global, command: Command, out: &mut O) -> u8
-    ensures ends { (have : ℕ) (all : List ℕ) → commands.most_bytes command < length all → EndsCommand command result have all (O.held out.old) (O.held out.new) (O.faults out.old) (O.faults out.new) }
+    ensures ends { (have : ℕ) (all : List ℕ) → commands.most_bytes command < length all
+        → EndsCommand command result have all (O.held out.old) (O.held out.new) (O.faults out.old)
+        (O.faults out.new) }
     ensures refused { (result ≡ 1) ⊎ (result ≡ 3) }
-    ensures none { command ≡ Replay → (all : List ℕ) (caps : Limits) (history : List Entry) → commands.most_bytes command < length all → ¬ IsRecordingOf all caps history }
+    ensures none { command ≡ Replay → (all : List ℕ) (caps : Limits) (history : List Entry)
+        → commands.most_bytes command < length all → ¬ IsRecordingOf all caps history }
 {
     a_legal_history_is_recordable();
     match command {
@@ -171,17 +193,27 @@ fn perform<O: Sink>(
     bank: Vec<Box<dyn Method + Send>>,
 ) -> Ended
     requires { length bytes.items ≤ commands.most_bytes command }
-    ensures ends { EndsCommand command result.status (length bank.items) bytes.items (O.held out.old) (O.held out.new) (O.faults out.old) (O.faults out.new) }
-    ensures accounted { (output : Output) → command ≡ Run output → (result.status ≡ 0) ⊎ (result.status ≡ 5) ⊎ (result.status ≡ 6) → (lines : List Line) × (script_of Plain bytes.items ≡ Ok lines) × IsAccounted lines (map (λ one. record { id = one.0; keep = keep one.1; heard = heard one.1 }) result.heard.items) result.left.items (map (λ box. record { keep = keep box; heard = heard box }) bank.items) bank.items }
+    ensures ends { EndsCommand command result.status (length bank.items) bytes.items
+        (O.held out.old) (O.held out.new) (O.faults out.old) (O.faults out.new) }
+    ensures accounted { (output : Output) → command ≡ Run output
+        → (result.status ≡ 0) ⊎ (result.status ≡ 5) ⊎ (result.status ≡ 6)
+        → (lines : List Line) × (script_of Plain bytes.items ≡ Ok lines)
+        × IsAccounted lines
+        (map (λ one. record { id = one.0; keep = keep one.1; heard = heard one.1 })
+        result.heard.items) result.left.items
+        (map (λ box. record { keep = keep box; heard = heard box }) bank.items) bank.items }
     ensures ascending { IsTrue (is_ascending (map (λ one. one.0) result.heard.items)) }
-    ensures laws { (output : Output) → command ≡ Run output → (result.status ≡ 0) ⊎ (result.status ≡ 5) ⊎ (result.status ≡ 6) →
+    ensures laws { (output : Output) → command ≡ Run output
+        → (result.status ≡ 0) ⊎ (result.status ≡ 5) ⊎ (result.status ≡ 6) →
         (lines : List Line) × (script_of Plain bytes.items ≡ Ok lines) × RunsByTheLaws lines }
     ensures replay_laws { command ≡ Replay → result.status ≡ 0 → RecordsTheLaws bytes.items }
     ensures none_heard { (result.status ≡ 1) ⊎ (result.status ≡ 8) → result.heard.items ≡ [] }
     ensures all_left { (result.status ≡ 1) ⊎ (result.status ≡ 8) → result.left.items ≡ bank.items }
     ensures replay_hears_none { command ≡ Replay → result.heard.items ≡ [] }
     ensures replay_leaves_all { command ≡ Replay → result.left.items ≡ bank.items }
-    ensures replayed { command ≡ Replay → (caps : Limits) (history : List Entry) → IsRecordingOf bytes.items caps history → (result.status ≡ 0) ⊎ (result.status ≡ 3) ⊎ (result.status ≡ 5) }
+    ensures replayed { command ≡ Replay → (caps : Limits) (history : List Entry)
+        → IsRecordingOf bytes.items caps history
+        → (result.status ≡ 0) ⊎ (result.status ≡ 3) ⊎ (result.status ≡ 5) }
     ensures sink { result.status ≡ 5 → Rose (O.faults out.old) (O.faults out.new) }
 {
     match command {
@@ -198,8 +230,14 @@ fn run<O: Sink>(
     out: &mut O,
     bank: Vec<Box<dyn Method + Send>>,
 ) -> Ended
-    ensures ends { EndsRun output result.status (length bank.items) bytes.items (O.held out.old) (O.held out.new) (O.faults out.old) (O.faults out.new) }
-    ensures accounted { (result.status ≡ 0) ⊎ (result.status ≡ 5) ⊎ (result.status ≡ 6) → (lines : List Line) × (script_of Plain bytes.items ≡ Ok lines) × IsAccounted lines (map (λ one. record { id = one.0; keep = keep one.1; heard = heard one.1 }) result.heard.items) result.left.items (map (λ box. record { keep = keep box; heard = heard box }) bank.items) bank.items }
+    ensures ends { EndsRun output result.status (length bank.items) bytes.items (O.held out.old)
+        (O.held out.new) (O.faults out.old) (O.faults out.new) }
+    ensures accounted { (result.status ≡ 0) ⊎ (result.status ≡ 5) ⊎ (result.status ≡ 6)
+        → (lines : List Line) × (script_of Plain bytes.items ≡ Ok lines)
+        × IsAccounted lines
+        (map (λ one. record { id = one.0; keep = keep one.1; heard = heard one.1 })
+        result.heard.items) result.left.items
+        (map (λ box. record { keep = keep box; heard = heard box }) bank.items) bank.items }
     ensures ascending { IsTrue (is_ascending (map (λ one. one.0) result.heard.items)) }
     ensures laws { (result.status ≡ 0) ⊎ (result.status ≡ 5) ⊎ (result.status ≡ 6) →
         (lines : List Line) × (script_of Plain bytes.items ≡ Ok lines) × RunsByTheLaws lines }
@@ -222,10 +260,16 @@ fn run_lines<O: Sink>(
     out: &mut O,
     bank: Vec<Box<dyn Method + Send>>,
 ) -> Ended
-    ensures ends { EndsLines output result.status (length bank.items) lines.items (O.held out.old) (O.held out.new) (O.faults out.old) (O.faults out.new) }
-    ensures accounted { (result.status ≡ 0) ⊎ (result.status ≡ 5) ⊎ (result.status ≡ 6) → IsAccounted lines.items (map (λ one. record { id = one.0; keep = keep one.1; heard = heard one.1 }) result.heard.items) result.left.items (map (λ box. record { keep = keep box; heard = heard box }) bank.items) bank.items }
+    ensures ends { EndsLines output result.status (length bank.items) lines.items (O.held out.old)
+        (O.held out.new) (O.faults out.old) (O.faults out.new) }
+    ensures accounted { (result.status ≡ 0) ⊎ (result.status ≡ 5) ⊎ (result.status ≡ 6)
+        → IsAccounted lines.items
+        (map (λ one. record { id = one.0; keep = keep one.1; heard = heard one.1 })
+        result.heard.items) result.left.items
+        (map (λ box. record { keep = keep box; heard = heard box }) bank.items) bank.items }
     ensures ascending { IsTrue (is_ascending (map (λ one. one.0) result.heard.items)) }
-    ensures laws { (result.status ≡ 0) ⊎ (result.status ≡ 5) ⊎ (result.status ≡ 6) → RunsByTheLaws lines.items }
+    ensures laws { (result.status ≡ 0) ⊎ (result.status ≡ 5) ⊎ (result.status ≡ 6)
+        → RunsByTheLaws lines.items }
     ensures none_heard { result.status ≡ 8 → result.heard.items ≡ [] }
     ensures all_left { result.status ≡ 8 → result.left.items ≡ bank.items }
 {

@@ -1,7 +1,7 @@
 // Writes what the commands print.
 ghost use Rattle.std.specs.Prelude.{◌≡◌, ◌≢◌, ◌⊎◌, ◌≤◌, List, length, IfOk};
 ghost use Rattle.std.specs.Option.{option_map};
-ghost use Rattle.osc_model.specs.Limits.{Limits};
+ghost use Rattle.osc_model.specs.Limits.{Limits, max_recording};
 ghost use Rattle.osc_model.specs.Events.{Entry};
 ghost use Rattle.osc_record.specs.Shown.{room_of};
 ghost use Rattle.osc_replay.specs.Disagreeing.{IsRecordingOf};
@@ -31,8 +31,12 @@ pub(crate) fn write_recorded<O: Sink>(
     recorded: &Recorded,
     out: &mut O,
 ) -> u8
-    requires { (lines : List Line) × IsRunOf recorded.now.bytes.items recorded.now.faults (option_map room_of recorded.now.stop) lines }
-    ensures { (lines : List Line) → IsRunOf recorded.now.bytes.items recorded.now.faults (option_map room_of recorded.now.stop) lines →
+    requires { (lines : List Line)
+        × IsRunOf recorded.now.bytes.items recorded.now.faults
+        (option_map room_of recorded.now.stop) lines }
+    ensures { (lines : List Line)
+        → IsRunOf recorded.now.bytes.items recorded.now.faults
+        (option_map room_of recorded.now.stop) lines →
         EndsPlayed output result lines (O.held out.old) (O.held out.new) (O.faults out.old) (O.faults out.new) }
 {
     let status = match recorded.stop {
@@ -51,8 +55,13 @@ pub(crate) fn write_recorded<O: Sink>(
 /// The printed history, the lines of the faults, and where the script was stopped the line on that. An `Err` is want of
 /// memory.
 fn run_text(alloc: Global, recorded: &Recorded) -> Result<Text, AllocError>
-    requires { (lines : List Line) × IsRunOf recorded.now.bytes.items recorded.now.faults (option_map room_of recorded.now.stop) lines }
-    ensures { (lines : List Line) → IsRunOf recorded.now.bytes.items recorded.now.faults (option_map room_of recorded.now.stop) lines → IfOk result (λ text. text ≡ ends.run_text lines) }
+    requires { (lines : List Line)
+        × IsRunOf recorded.now.bytes.items recorded.now.faults
+        (option_map room_of recorded.now.stop) lines }
+    ensures { (lines : List Line)
+        → IsRunOf recorded.now.bytes.items recorded.now.faults
+        (option_map room_of recorded.now.stop) lines
+        → IfOk result (λ text. text ≡ ends.run_text lines) }
 {
     a_legal_history_is_recordable();
     let mut text = match replay(alloc, &recorded.bytes) {
@@ -69,9 +78,11 @@ fn run_text(alloc: Global, recorded: &Recorded) -> Result<Text, AllocError>
 
 /// Replays the recording, and writes its printed text, or why it is refused.
 pub(crate) fn write_replay<O: Sink>(alloc: Global, bytes: &[u8], out: &mut O) -> u8
-    requires { length bytes.now ≤ 1073741824 }
-    ensures ends { EndsReplay result bytes.now (O.held out.old) (O.held out.new) (O.faults out.old) (O.faults out.new) }
-    ensures replayed { (caps : Limits) (history : List Entry) → IsRecordingOf bytes.now caps history → (result ≡ 0) ⊎ (result ≡ 3) ⊎ (result ≡ 5) }
+    requires { length bytes.now ≤ max_recording }
+    ensures ends { EndsReplay result bytes.now (O.held out.old) (O.held out.new) (O.faults out.old)
+        (O.faults out.new) }
+    ensures replayed { (caps : Limits) (history : List Entry) → IsRecordingOf bytes.now caps history
+        → (result ≡ 0) ⊎ (result ≡ 3) ⊎ (result ≡ 5) }
     ensures laws { result ≡ 0 → RecordsTheLaws bytes.now }
 {
     every_history_keeps_the_laws();
@@ -92,7 +103,8 @@ pub(crate) fn write_replay<O: Sink>(alloc: Global, bytes: &[u8], out: &mut O) ->
 /// Writes a text that is done.
 fn write_text<O: Sink>(status: u8, text: &[u8], out: &mut O) -> u8
     requires { (status ≡ 0) ⊎ (status ≡ 6) }
-    ensures { EndsText status result text.now (O.held out.old) (O.held out.new) (O.faults out.old) (O.faults out.new) }
+    ensures { EndsText status result text.now (O.held out.old) (O.held out.new) (O.faults out.old)
+        (O.faults out.new) }
 {
     match write_whole(out, text) {
         Written::Wrote => status,
@@ -103,7 +115,8 @@ fn write_text<O: Sink>(status: u8, text: &[u8], out: &mut O) -> u8
 
 /// Writes the line of a script that is refused.
 pub(crate) fn refuse<O: Sink>(alloc: Global, fault: ScriptFault, out: &mut O) -> u8
-    ensures { EndsLine 1 result (refusal_text fault) (O.held out.old) (O.held out.new) (O.faults out.old) (O.faults out.new) }
+    ensures { EndsLine 1 result (refusal_text fault) (O.held out.old) (O.held out.new)
+        (O.faults out.old) (O.faults out.new) }
 {
     let mut text = Text::open(alloc);
     match refusal_line(&mut text, fault) {
@@ -114,7 +127,8 @@ pub(crate) fn refuse<O: Sink>(alloc: Global, fault: ScriptFault, out: &mut O) ->
 
 /// Writes the line of a recording that is malformed at a place.
 pub(crate) fn malformed<O: Sink>(alloc: Global, at: u32, out: &mut O) -> u8
-    ensures { EndsLine 1 result (malformed_text at) (O.held out.old) (O.held out.new) (O.faults out.old) (O.faults out.new) }
+    ensures { EndsLine 1 result (malformed_text at) (O.held out.old) (O.held out.new)
+        (O.faults out.old) (O.faults out.new) }
 {
     let mut text = Text::open(alloc);
     match malformed_line(&mut text, at) {
@@ -125,7 +139,8 @@ pub(crate) fn malformed<O: Sink>(alloc: Global, at: u32, out: &mut O) -> u8
 
 /// Writes the lines of an entry whose bytes aren't those that the server computes.
 fn disagrees<O: Sink>(alloc: Global, entry: u32, kept: &Bytes, computed: &Bytes, out: &mut O) -> u8
-    ensures { EndsLine 1 result (disagrees_text entry kept.now computed.now) (O.held out.old) (O.held out.new) (O.faults out.old) (O.faults out.new) }
+    ensures { EndsLine 1 result (disagrees_text entry kept.now computed.now) (O.held out.old)
+        (O.held out.new) (O.faults out.old) (O.faults out.new) }
 {
     let mut text = Text::open(alloc);
     match disagrees_lines(
@@ -142,7 +157,8 @@ fn disagrees<O: Sink>(alloc: Global, entry: u32, kept: &Bytes, computed: &Bytes,
 
 /// Writes the line of a script that adds more methods than there are boxes.
 pub(crate) fn bank_short<O: Sink>(alloc: Global, need: usize, have: usize, out: &mut O) -> u8
-    ensures { EndsLine 8 result (bank_short_text need have) (O.held out.old) (O.held out.new) (O.faults out.old) (O.faults out.new) }
+    ensures { EndsLine 8 result (bank_short_text need have) (O.held out.old) (O.held out.new)
+        (O.faults out.old) (O.faults out.new) }
 {
     let mut text = Text::open(alloc);
     match bank_short_line(&mut text, need, have) {
@@ -154,7 +170,8 @@ pub(crate) fn bank_short<O: Sink>(alloc: Global, need: usize, have: usize, out: 
 /// A last line that can't be written changes no status, but for want of memory.
 pub(crate) fn last_line<O: Sink>(status: u8, line: &[u8], out: &mut O) -> u8
     requires { status ≢ 3 }
-    ensures { EndsLine status result line.now (O.held out.old) (O.held out.new) (O.faults out.old) (O.faults out.new) }
+    ensures { EndsLine status result line.now (O.held out.old) (O.held out.new) (O.faults out.old)
+        (O.faults out.new) }
 {
     match write_whole(out, line) {
         Written::Short => NO_MEMORY,

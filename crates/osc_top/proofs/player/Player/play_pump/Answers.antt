@@ -13,7 +13,8 @@ use Rattle.osc_top.proofs.player.Player.play_pump.Goals as goal
 pub loop-room-smaller : goal.loop-room-smaller
 loop-room-smaller g c =
     let performance = c.loop-room.self.core.performance in
-    (pump_on performance c.release.new.self.performance c.release.ensures.performance (is_taken performance c.in-Released.unit c.in-Released.calls c.in-Released.ensures.answer)).shorter
+    (pump_on performance c.release.new.self.performance c.release.ensures.performance
+        (is_taken performance c.in-Released.unit c.in-Released.calls c.in-Released.ensures.answer)).shorter
 
 pub loop-room-preserved : goal.loop-room-preserved
 loop-room-preserved g c =
@@ -22,11 +23,15 @@ loop-room-preserved g c =
     let performance = c.loop-room.self.core.performance in
     let law : HearsCalls = record { fresh = c.a_box_hears_its_calls.ensures.fresh; on = c.a_box_hears_its_calls.ensures.on } in
     record {
-      caller = subst (λ (s : State). 0 < s.callers) (sym (ap (λ (p : Performance). state_of p) done.performance ∙ onward_state performance 0 release)) (one_caller (state_of performance) release before.caller);
-      end = (pump_on performance c.release.new.self.performance done.performance (is_taken performance c.in-Released.unit c.in-Released.calls c.in-Released.ensures.answer)).same_end ∙ before.end;
+      caller = subst (λ (s : State). 0 < s.callers) (sym (ap (λ (p : Performance). state_of p) done.performance ∙ onward_state performance 0 release))
+          (one_caller (state_of performance) release before.caller);
+      end = (pump_on performance c.release.new.self.performance done.performance
+          (is_taken performance c.in-Released.unit c.in-Released.calls c.in-Released.ensures.answer)).same_end ∙ before.end;
       faults = before.faults;
       waiting = before.waiting;
-      boxes = λ bank at. turn_at _ bank performance _ law (c.invocations_are_of_registered_methods.ensures.step (state_of performance) release) done.performance _ _ _ _ _ done.boxes c.loop-room.self.core.heard (before.boxes bank at);
+      boxes = λ bank at. turn_at _ bank performance _ law
+          (c.invocations_are_of_registered_methods.ensures.step (state_of performance) release) done.performance _ _ _ _ _ done.boxes
+          c.loop-room.self.core.heard (before.boxes bank at);
     }
 
 pub returns-in-NothingDue-clause-stop : goal.returns-in-NothingDue-clause-stop
@@ -34,25 +39,31 @@ returns-in-NothingDue-clause-stop g c =
     let performance = c.loop-room.self.core.performance in
     let initial = c.args.self.now.core.performance in
     sym (ap room_in c.in-NothingDue.ensures.answer)
-    ∙ ap (λ (s : State). stop_at s release) (state_over performance initial (pump (state_of initial)) (not_due performance c.in-NothingDue.next c.in-NothingDue.ensures.answer) c.loop-room.invariant.end)
+    ∙ ap (λ (s : State). stop_at s release)
+        (state_over performance initial (pump (state_of initial))
+        (not_due performance c.in-NothingDue.next c.in-NothingDue.ensures.answer) c.loop-room.invariant.end)
 
 pub returns-in-NothingDue-clause-boxes : goal.returns-in-NothingDue-clause-boxes
 returns-in-NothingDue-clause-boxes g c =
     let done = c.release.ensures in
     let performance = c.loop-room.self.core.performance in
     let law : HearsCalls = record { fresh = c.a_box_hears_its_calls.ensures.fresh; on = c.a_box_hears_its_calls.ensures.on } in
-    λ bank at. turn_at _ bank performance _ law (c.invocations_are_of_registered_methods.ensures.step (state_of performance) release) done.performance _ _ _ _ _ done.boxes c.loop-room.self.core.heard (c.loop-room.invariant.boxes bank at)
+    λ bank at. turn_at _ bank performance _ law (c.invocations_are_of_registered_methods.ensures.step (state_of performance) release) done.performance _ _ _ _ _
+        done.boxes c.loop-room.self.core.heard (c.loop-room.invariant.boxes bank at)
 
 pub returns-in-RecordFull-clause-stop : goal.returns-in-RecordFull-clause-stop
 returns-in-RecordFull-clause-stop g c =
     let performance = c.loop-room.self.core.performance in
     let initial = c.args.self.now.core.performance in
     sym (ap room_in c.in-RecordFull.ensures.answer)
-    ∙ ap (λ (s : State). stop_at s release) (state_over performance initial (pump (state_of initial)) (no_room performance _ c.in-RecordFull.ensures.answer) c.loop-room.invariant.end)
+    ∙ ap (λ (s : State). stop_at s release)
+        (state_over performance initial (pump (state_of initial)) (no_room performance _ c.in-RecordFull.ensures.answer) c.loop-room.invariant.end)
 
 pub returns-in-RecordFull-clause-boxes : goal.returns-in-RecordFull-clause-boxes
 returns-in-RecordFull-clause-boxes g c =
     let done = c.release.ensures in
     let performance = c.loop-room.self.core.performance in
     let law : HearsCalls = record { fresh = c.a_box_hears_its_calls.ensures.fresh; on = c.a_box_hears_its_calls.ensures.on } in
-    λ bank at. at_over _ bank _ _ _ _ _ (turn_at _ bank performance _ law (c.invocations_are_of_registered_methods.ensures.step (state_of performance) release) done.performance _ _ _ _ _ done.boxes c.loop-room.self.core.heard (c.loop-room.invariant.boxes bank at))
+    λ bank at. at_over _ bank _ _ _ _ _
+        (turn_at _ bank performance _ law (c.invocations_are_of_registered_methods.ensures.step (state_of performance) release) done.performance _ _ _ _ _
+        done.boxes c.loop-room.self.core.heard (c.loop-room.invariant.boxes bank at))
