@@ -1,0 +1,3 @@
+pub mod FirstCaller
+pub mod LastBytes
+pub mod Playing

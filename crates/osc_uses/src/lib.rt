@@ -1,0 +1,18 @@
+//! Small callers of the server, each a page that can be copied into a program of one's own: a server with a method of
+//! one's own, a bundle that waits for its moment, bytes that are no packet, a recording that is printed, addresses that a
+//! pattern matches, and a server that three threads call.
+#![tactic(auto, using(crate::proofs::FirstCaller::caller_0))]
+
+mod first_server;
+mod live_server;
+mod matched_addresses;
+mod printed_recording;
+mod refused_packet;
+mod timed_bundle;
+
+pub use first_server::{Fader, first_run, one_packet};
+pub use live_server::{LiveRun, Unfinished, live_run};
+pub use matched_addresses::count_matching;
+pub use printed_recording::printed_history;
+pub use refused_packet::submit_bytes;
+pub use timed_bundle::{TimedRun, release_at, timed_run};

@@ -1,0 +1,354 @@
+//! A server that three threads call at once: one adds a method and removes it, one sends a packet, and one moves the clock
+//! and releases.
+ghost use Rattle.std.specs.Prelude.{◌≡◌, ◌<◌, ◌+◌, [], ◌∷◌, IfOk, IfErr};
+ghost use Rattle.osc_turn.specs.Passes.{view};
+ghost use Rattle.osc_core.specs.Answers.{adding_of, removing_of, ticking_of};
+ghost use Rattle.osc_core.specs.Telling.{told};
+ghost use Rattle.osc_live.specs.Seen.{IsTokenOf};
+ghost use Rattle.osc_live.specs.Outs.{AreOurs, live_back};
+ghost use Rattle.osc_live.specs.Closing.{Closes};
+ghost use Rattle.osc_uses.specs.Live.{ComesAndGoes, Sends, Ticks, AreOneHistory, AreTokensOf, OnOpen, IsShort};
+
+use osc_atoms::Fault;
+use osc_core::{Adding, Closed, Removing, Submitted, Ticking};
+use osc_live::{Caller, EnrolRefusal, Live, LiveOut, Pumped};
+use osc_method::Method;
+use osc_packet::Packet;
+use osc_pattern::Address;
+use osc_record::Caps;
+use std::alloc::Global;
+use std::sync::Wait;
+use std::thread::{Threads, join};
+
+/// What three threads were answered by one server, and what the server left.
+#[derive(Drop)]
+pub struct LiveRun<M> {
+    pub added: Adding<M>,
+    pub removed: Removing<M>,
+    pub sent: Result<Submitted, Fault>,
+    pub ticked: Ticking,
+    pub pumped: Pumped,
+    pub closed: Closed<M>,
+}
+
+/// Why a live server wasn't run to its close.
+#[derive(Drop)]
+pub enum Unfinished<M: Method> {
+    /// There is no memory for the server, or for a list of its callers.
+    NoMemory,
+    /// The limits admit fewer than three callers, or the recording has no room for them.
+    NotEnrolled(EnrolRefusal),
+    /// The server isn't closed: it comes back with the tokens of its callers.
+    Open(LiveOut<M>),
+}
+
+/// Caller 0 and two more.
+#[derive(Drop)]
+struct Callers {
+    first: Caller,
+    second: Caller,
+    third: Caller,
+}
+
+/// Enrols a guest.
+fn enrolled<M: Method, W: Wait>(
+    rt: &W,
+    live: &Live<M>,
+    first: Caller,
+) -> Result<(Caller, Caller), EnrolRefusal>
+    requires ours { IsTokenOf live.now.turn live.now.caps first.pass }
+    requires first { first.number ≡ 0 }
+    requires room { (view first.pass).made < 65536 }
+    ensures ours { IfOk result (λ both. IsTokenOf live.now.turn live.now.caps both.0.pass) }
+    ensures new_ours { IfOk result (λ both. IsTokenOf live.now.turn live.now.caps both.1.pass) }
+    ensures first { IfOk result (λ both. both.0.number ≡ 0) }
+    ensures made { IfOk result (λ both. (view both.0.pass).made ≡ (view first.pass).made + 1) }
+{
+    let (first, guest) = live.guest(first);
+    let Ok(guest) = guest else { unreachable!() };
+    let (first, new) = live.enrol(rt, first, guest);
+    match new {
+        Ok(new) => Ok((first, new)),
+        Err((refusal, _)) => Err(refusal),
+    }
+}
+
+/// Opens a server with these limits, and enrols two guests.
+fn open_three<M: Method, W: Wait>(
+    rt: &W,
+    alloc: Global,
+    caps: Caps,
+) -> Result<(Live<M>, Callers), Unfinished<M>>
+    ensures limits { IfOk result (λ opened. opened.0.caps ≡ caps) }
+    ensures ours { IfOk result (λ opened. AreTokensOf opened.0.turn opened.0.caps opened.1) }
+    ensures first { IfOk result (λ opened. opened.1.first.number ≡ 0) }
+    ensures made { IfOk result (λ opened. (view opened.1.first.pass).made ≡ 3) }
+    ensures open { IfErr result (λ unfinished. OnOpen unfinished (λ _. ⊥)) }
+{
+    let Ok((live, first)) = Live::open(alloc, caps) else {
+        return Err(Unfinished::NoMemory);
+    };
+    let (first, second) = match enrolled(rt, &live, first) {
+        Ok(both) => both,
+        Err(refusal) => return Err(Unfinished::NotEnrolled(refusal)),
+    };
+    let (first, third) = match enrolled(rt, &live, first) {
+        Ok(both) => both,
+        Err(refusal) => return Err(Unfinished::NotEnrolled(refusal)),
+    };
+    let callers = Callers {
+        first,
+        second,
+        third,
+    };
+    Ok((live, callers))
+}
+
+/// Adds the method at the address, and removes it again.
+fn add_and_remove<M: Method, W: Wait>(
+    rt: &W,
+    live: &Live<M>,
+    caller: Caller,
+    address: Address,
+    again: Address,
+    method: M,
+) -> (Caller, (Adding<M>, Removing<M>))
+    requires ours { IsTokenOf live.now.turn live.now.caps caller.pass }
+    requires again { again ≡ address }
+    ensures ours { IsTokenOf live.now.turn live.now.caps result.0.pass }
+    ensures number { result.0.number ≡ caller.number }
+    ensures calls { ComesAndGoes live.now.caps caller.number address (adding_of result.1.0)
+        (removing_of result.1.1) (view caller.pass) (view result.0.pass) }
+{
+    let (caller, added) = live.add(rt, caller, address, method);
+    let (caller, removed) = live.remove(rt, caller, &again);
+    (caller, (added, removed))
+}
+
+/// Submits the packet that the bytes are.
+fn send<M: Method, W: Wait>(
+    rt: &W,
+    live: &Live<M>,
+    caller: Caller,
+    bytes: &[u8],
+) -> (Caller, Result<Submitted, Fault>)
+    requires ours { IsTokenOf live.now.turn live.now.caps caller.pass }
+    ensures ours { IsTokenOf live.now.turn live.now.caps result.0.pass }
+    ensures number { result.0.number ≡ caller.number }
+    ensures calls { Sends live.now.caps caller.number bytes.now result.1
+        (view caller.pass) (view result.0.pass) }
+{
+    match Packet::check(bytes, 65_504) {
+        Ok(packet) => {
+            let (caller, submitted) = live.submit(rt, caller, &packet);
+            (caller, Ok(submitted))
+        }
+        Err(fault) => (caller, Err(fault)),
+    }
+}
+
+/// Sets the clock to the moment, and releases until nothing is due.
+fn tick_and_pump<M: Method, W: Wait>(
+    rt: &W,
+    live: &Live<M>,
+    caller: Caller,
+    moment: u64,
+) -> (Caller, (Ticking, Pumped))
+    requires ours { IsTokenOf live.now.turn live.now.caps caller.pass }
+    ensures ours { IsTokenOf live.now.turn live.now.caps result.0.pass }
+    ensures number { result.0.number ≡ caller.number }
+    ensures calls { Ticks live.now.caps caller.number moment (ticking_of result.1.0) result.1.1
+        (view caller.pass) (view result.0.pass) }
+{
+    let (caller, ticked) = live.tick(rt, caller, moment);
+    let (caller, pumped) = live.pump(rt, caller);
+    (caller, (ticked, pumped))
+}
+
+/// One thread sends, and the other moves the clock and releases.
+fn send_and_tick<M: Method + Send, R: Threads + Wait + Sync>(
+    rt: &R,
+    live: &Live<M>,
+    sender: Caller,
+    bytes: &[u8],
+    ticker: Caller,
+    moment: u64,
+) -> (
+    (Caller, Result<Submitted, Fault>),
+    (Caller, (Ticking, Pumped)),
+)
+    requires ours { IsTokenOf live.now.turn live.now.caps sender.pass }
+    requires ticker_ours { IsTokenOf live.now.turn live.now.caps ticker.pass }
+    ensures ours { IsTokenOf live.now.turn live.now.caps result.0.0.pass }
+    ensures number { result.0.0.number ≡ sender.number }
+    ensures sends { Sends live.now.caps sender.number bytes.now result.0.1
+        (view sender.pass) (view result.0.0.pass) }
+    ensures ticker_ours { IsTokenOf live.now.turn live.now.caps result.1.0.pass }
+    ensures ticker_number { result.1.0.number ≡ ticker.number }
+    ensures ticks { Ticks live.now.caps ticker.number moment (ticking_of result.1.1.0) result.1.1.1
+        (view ticker.pass) (view result.1.0.pass) }
+{
+    join(
+        rt,
+        || -> (Caller, Result<Submitted, Fault>)
+            requires { IsTokenOf live.now.turn live.now.caps sender.pass }
+            ensures ours { IsTokenOf live.entry.now.turn live.entry.now.caps result.0.pass }
+            ensures number { result.0.number ≡ sender.number }
+            ensures sends { Sends live.entry.now.caps sender.number bytes.entry.now result.1
+                (view sender.pass) (view result.0.pass) }
+        { send(rt, live, sender, bytes) },
+        || -> (Caller, (Ticking, Pumped))
+            requires { IsTokenOf live.now.turn live.now.caps ticker.pass }
+            ensures ours { IsTokenOf live.entry.now.turn live.entry.now.caps result.0.pass }
+            ensures number { result.0.number ≡ ticker.number }
+            ensures ticks { Ticks live.entry.now.caps ticker.number moment (ticking_of result.1.0) result.1.1
+                (view ticker.pass) (view result.0.pass) }
+        { tick_and_pump(rt, live, ticker, moment) },
+    )
+}
+
+/// One thread adds and removes, one sends, and one moves the clock and releases.
+fn three_at_once<M: Method + Send, R: Threads + Wait + Sync>(
+    rt: &R,
+    live: &Live<M>,
+    callers: Callers,
+    places: (Address, Address),
+    method: M,
+    bytes: &[u8],
+    moment: u64,
+) -> (
+    (Caller, (Adding<M>, Removing<M>)),
+    (
+        (Caller, Result<Submitted, Fault>),
+        (Caller, (Ticking, Pumped)),
+    ),
+)
+    requires ours { AreTokensOf live.now.turn live.now.caps callers }
+    requires again { places.1 ≡ places.0 }
+    ensures ours { IsTokenOf live.now.turn live.now.caps result.0.0.pass }
+    ensures number { result.0.0.number ≡ callers.first.number }
+    ensures comes { ComesAndGoes live.now.caps callers.first.number places.0 (adding_of result.0.1.0)
+        (removing_of result.0.1.1) (view callers.first.pass) (view result.0.0.pass) }
+    ensures second_ours { IsTokenOf live.now.turn live.now.caps result.1.0.0.pass }
+    ensures second_number { result.1.0.0.number ≡ callers.second.number }
+    ensures sends { Sends live.now.caps callers.second.number bytes.now result.1.0.1
+        (view callers.second.pass) (view result.1.0.0.pass) }
+    ensures third_ours { IsTokenOf live.now.turn live.now.caps result.1.1.0.pass }
+    ensures third_number { result.1.1.0.number ≡ callers.third.number }
+    ensures ticks { Ticks live.now.caps callers.third.number moment (ticking_of result.1.1.1.0) result.1.1.1.1
+        (view callers.third.pass) (view result.1.1.0.pass) }
+{
+    let Callers {
+        first,
+        second,
+        third,
+    } = callers;
+    let (address, again) = places;
+    join(
+        rt,
+        || -> (Caller, (Adding<M>, Removing<M>))
+            requires ours { IsTokenOf live.now.turn live.now.caps first.pass }
+            requires again { again ≡ address }
+            ensures ours { IsTokenOf live.entry.now.turn live.entry.now.caps result.0.pass }
+            ensures number { result.0.number ≡ first.number }
+            ensures comes { ComesAndGoes live.entry.now.caps first.number address (adding_of result.1.0)
+                (removing_of result.1.1) (view first.pass) (view result.0.pass) }
+        { add_and_remove(rt, live, first, address, again, method) },
+        || -> (
+            (Caller, Result<Submitted, Fault>),
+            (Caller, (Ticking, Pumped)),
+        )
+            requires ours { IsTokenOf live.now.turn live.now.caps second.pass }
+            requires third_ours { IsTokenOf live.now.turn live.now.caps third.pass }
+            ensures ours { IsTokenOf live.entry.now.turn live.entry.now.caps result.0.0.pass }
+            ensures number { result.0.0.number ≡ second.number }
+            ensures sends { Sends live.entry.now.caps second.number bytes.entry.now result.0.1
+                (view second.pass) (view result.0.0.pass) }
+            ensures third_ours { IsTokenOf live.entry.now.turn live.entry.now.caps result.1.0.pass }
+            ensures third_number { result.1.0.number ≡ third.number }
+            ensures ticks { Ticks live.entry.now.caps third.number moment (ticking_of result.1.1.0) result.1.1.1
+                (view third.pass) (view result.1.0.pass) }
+        { send_and_tick(rt, live, second, bytes, third, moment) },
+    )
+}
+
+/// Closes the server.
+fn close_three<M: Method>(
+    alloc: Global,
+    live: Live<M>,
+    callers: Callers,
+) -> Result<Closed<M>, Unfinished<M>>
+    requires ours { AreTokensOf live.turn live.caps callers }
+    requires first { callers.first.number ≡ 0 }
+    requires made { (view callers.first.pass).made ≡ 3 }
+    ensures closes { IfOk result (λ closed. Closes live.caps
+        ((0, view callers.first.pass) ∷ (callers.second.number, view callers.second.pass)
+        ∷ (callers.third.number, view callers.third.pass) ∷ [])
+        (view callers.first.pass ∷ view callers.second.pass ∷ view callers.third.pass ∷ [])
+        closed.bytes.items (told M.keep M.heard closed.kept.items)) }
+    ensures live_back { IfErr result (λ unfinished. OnOpen unfinished (λ out. live_back out ≡ live)) }
+    ensures back_ours { IfErr result (λ unfinished. OnOpen unfinished (λ out. AreOurs out live.caps)) }
+    ensures short { IfErr result (λ unfinished. OnOpen unfinished IsShort) }
+{
+    let Callers {
+        first,
+        second,
+        third,
+    } = callers;
+    let Ok(mut tokens) = Vec::with_capacity(alloc, 3) else {
+        return Err(Unfinished::NoMemory);
+    };
+    tokens.push_reserved(first);
+    tokens.push_reserved(second);
+    tokens.push_reserved(third);
+    match live.close(alloc, tokens, Vec::new(alloc)) {
+        Ok(closed) => Ok(closed),
+        Err(out) => Err(Unfinished::Open(out)),
+    }
+}
+
+/// A server of three callers, from its opening to its close. Each caller is a thread: the first adds the method at the address
+/// and removes it, the second submits the bytes, and the third sets the clock to the moment and releases until nothing is
+/// due. In which order their calls come is not said; each is answered by the rules at its place in the one history that is
+/// recorded.
+pub fn live_run<M: Method + Send, R: Threads + Wait + Sync>(
+    rt: &R,
+    alloc: Global,
+    caps: Caps,
+    address: Address,
+    method: M,
+    bytes: &[u8],
+    moment: u64,
+) -> Result<LiveRun<M>, Unfinished<M>>
+    ensures one_history { IfOk result (λ run. AreOneHistory caps address bytes.now moment
+        (adding_of run.added) (removing_of run.removed) run.sent (ticking_of run.ticked) run.pumped
+        run.closed.bytes.items (told M.keep M.heard run.closed.kept.items)) }
+    ensures back_ours { IfErr result (λ unfinished. OnOpen unfinished (λ out. AreOurs out caps)) }
+    ensures short { IfErr result (λ unfinished. OnOpen unfinished IsShort) }
+{
+    let Ok(again) = address.copied(alloc) else {
+        return Err(Unfinished::NoMemory);
+    };
+    let (live, callers) = open_three(rt, alloc, caps)?;
+    let places = (address, again);
+    let (methods, (sends, clock)) = three_at_once(
+        rt, &live, callers, places, method, bytes, moment,
+    );
+    let (first, (added, removed)) = methods;
+    let (second, sent) = sends;
+    let (third, (ticked, pumped)) = clock;
+    let callers = Callers {
+        first,
+        second,
+        third,
+    };
+    let closed = close_three(alloc, live, callers)?;
+    Ok(LiveRun {
+        added,
+        removed,
+        sent,
+        ticked,
+        pumped,
+        closed,
+    })
+}

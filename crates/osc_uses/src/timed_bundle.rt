@@ -1,0 +1,74 @@
+//! A bundle that waits for its moment, and is then performed in one piece.
+ghost use Rattle.std.specs.Prelude.{◌≡◌, [], ◌∷◌};
+ghost use Rattle.osc_model.specs.Events.{submit, tick, release};
+ghost use Rattle.osc_model.specs.Heard.{all_hear};
+ghost use Rattle.osc_model.specs.Releases.{ReleasesLeast};
+ghost use Rattle.osc_model.specs.History.{state_of, stepped_in};
+ghost use Rattle.osc_laws.specs.Laws.{KeepsTheLaws};
+ghost use Rattle.osc_core.specs.Answers.{submitted_of, ticking_of, TellsRelease};
+ghost use Rattle.osc_core.specs.Telling.{told};
+ghost use Rattle.osc_uses.specs.Played.{played};
+
+use osc_core::{Core, Releasing, Submitted, Ticking};
+use osc_laws::laws::every_history_keeps_the_laws;
+use osc_method::Method;
+use osc_model::laws::a_release_takes_the_least_unit;
+use osc_packet::Packet;
+
+/// What a bundle comes to that waits for its moment: a release before it, and the tick and a release then.
+#[derive(Clone, Copy, Debug, PartialEq, Eq)]
+pub struct TimedRun {
+    pub submitted: Submitted,
+    pub early: Releasing,
+    pub ticked: Ticking,
+    pub released: Releasing,
+}
+
+/// Sets the clock to the moment, and releases the unit that is due first then. A unit is due at its tag or later.
+pub fn release_at<M: Method>(core: &mut Core<M>, moment: u64) -> (Ticking, Releasing)
+    ensures ticked { ticking_of result.0 ≡ (stepped_in core.old.performance (tick moment)).answer }
+    ensures released { TellsRelease result.1
+        (stepped_in (played core.old.performance (tick moment ∷ [])) release).answer }
+    ensures least { ReleasesLeast (state_of (played core.old.performance (tick moment ∷ [])))
+        (stepped_in (played core.old.performance (tick moment ∷ [])) release) }
+    ensures performance { core.new.performance
+        ≡ played core.old.performance (tick moment ∷ release ∷ []) }
+    ensures boxes { told M.keep M.heard core.new.boxes.items
+        ≡ all_hear (stepped_in (played core.old.performance (tick moment ∷ [])) release).invocations
+        (told M.keep M.heard core.old.boxes.items) }
+{
+    a_release_takes_the_least_unit();
+    let ticked = core.tick(0, moment);
+    // The history is legal, as the recording tells.
+    let _ = core.bytes();
+    let released = core.release(0);
+    (ticked, released)
+}
+
+/// Submits the bundle, tries a release at once, and then releases at the moment. As `laws` says, none of its messages is
+/// called while the clock stands before its tag, and the calls of its unit stand together and in order.
+pub fn timed_run<M: Method>(core: &mut Core<M>, bundle: &Packet<'_>, moment: u64) -> TimedRun
+    ensures submitted { submitted_of result.submitted
+        ≡ (stepped_in core.old.performance (submit bundle.now)).answer }
+    ensures early { TellsRelease result.early
+        (stepped_in (played core.old.performance (submit bundle.now ∷ [])) release).answer }
+    ensures ticked { ticking_of result.ticked
+        ≡ (stepped_in (played core.old.performance (submit bundle.now ∷ release ∷ [])) (tick moment)).answer }
+    ensures released { TellsRelease result.released
+        (stepped_in (played core.old.performance (submit bundle.now ∷ release ∷ tick moment ∷ [])) release).answer }
+    ensures performance { core.new.performance
+        ≡ played core.old.performance (submit bundle.now ∷ release ∷ tick moment ∷ release ∷ []) }
+    ensures laws { KeepsTheLaws core.new.performance.caps core.new.performance.history }
+{
+    every_history_keeps_the_laws();
+    let submitted = core.submit(0, bundle);
+    let early = core.release(0);
+    let (ticked, released) = release_at(core, moment);
+    let _ = core.bytes();
+    TimedRun {
+        submitted,
+        early,
+        ticked,
+        released,
+    }
+}
