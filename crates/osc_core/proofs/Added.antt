@@ -34,7 +34,7 @@ step_gives : (P : ℕ → Type 0) (state : State) (event : Event) → AllByRecur
     → ((id : ℕ) → (step state event).answer ≡ added id → P id) → AllByRecursion P (map (λ (method : Method). method.id) (step state event).state.methods)
 step_gives P state event all =
     let here = decided_so (λ event stepped. ((id : ℕ) → stepped.answer ≡ added id → P id)
-        → AllByRecursion P (map (λ (method : Method). method.id) stepped.state.methods)) state event
+    → AllByRecursion P (map (λ (method : Method). method.id) stepped.state.methods)) state event
     (record {
       refused = λ event answer is gives. all;
       enrolled = λ gives. all;
@@ -45,7 +45,7 @@ step_gives P state event all =
       released = λ unit units first gives. all;
     }) in
     step_so (λ stepped. ((id : ℕ) → stepped.answer ≡ added id → P id) → AllByRecursion P (map (λ (method : Method). method.id) stepped.state.methods)) state
-        event
+    event
     (record { silent = λ none. here; full = λ some full gives. all; room = λ some fits. here })
 
 still_added : (past : List Entry) (entry : Entry) (ids : List ℕ) → AllByRecursion (IsAdded past) ids → AllByRecursion (IsAdded (past ++ entry ∷ [])) ids
@@ -61,7 +61,7 @@ added_after state past (entry ∷ entries) legal all =
     let next = step_gives (IsAdded (past ++ entry ∷ [])) state entry.event (still_added past entry _ all)
     (λ id is. (entry, legal.3 ∙ is, Contains-append_right past (entry ∷ []) entry (0, omega arith, refl))) in
     subst (λ (h : List Entry). AllByRecursion (IsAdded h) (map (λ (method : Method). method.id) (after state (entry ∷ entries)).methods))
-        (append_assoc past (entry ∷ []) entries)
+    (append_assoc past (entry ∷ []) entries)
     (added_after (step state entry.event).state (past ++ entry ∷ []) entries legal.4 next)
 
 -- each method that is registered after a legal history was added in it

@@ -106,8 +106,8 @@ module _ {X : Type 0} (key : X → ℕ) where
   none_left_out id [] none = refl
   none_left_out id (x ∷ xs) none = let e : not (key x == id) ≡ true = differs (key x) id none.0 in
       rw e (ap (λ (l : List X). x ∷ l) (none_left_out id xs none.1)) where
-    differs : (a b : ℕ) → a ≢ b → not (a == b) ≡ true
-    differs a b n = grind (arith, nat_tests)
+        differs : (a b : ℕ) → a ≢ b → not (a == b) ≡ true
+        differs a b n = grind (arith, nat_tests)
 
   -- the element in the place of an id is the one that is left out
   pub left_out : (xs : List X) (place id : ℕ) → is_ascending (map key xs) ≡ true → place < length xs → get_or (map key xs) place 0 ≡ id

@@ -70,7 +70,7 @@ matching_found pattern tree lawful same =
     All-permutation own (matched pattern tree.methods) (matching pattern tree.methods) same
     (All-filter (λ method. matches pattern method.address) own tree.methods
     (λ k d below. address_found tree.methods (get_or tree.methods k d) lawful.list.ids
-        (k, below, get_or_default tree.methods k (get_or tree.methods k d) d below)))
+    (k, below, get_or_default tree.methods k (get_or tree.methods k d) d below)))
 
 -- calls by ids are the calls of the methods
 pub called : (all methods : List Method) (index : ℕ) (message : List ℕ) → All (λ method. address_by_id all method.id ≡ Some method.address) methods
@@ -80,8 +80,8 @@ called all [] index message known = refl
 called all (method ∷ methods) index message known =
     let own : Method → Type 0 = λ m. address_by_id all m.id ≡ Some m.address in
     rw (All-head own method methods known)
-        (ap (λ (l : List Call). record { index = index; id = method.id; address = method.address; message = message } ∷ l)
-        (called all methods index message (All-tail own method methods known)))
+    (ap (λ (l : List Call). record { index = index; id = method.id; address = method.address; message = message } ∷ l)
+    (called all methods index message (All-tail own method methods known)))
 
 -- the invocations of the methods that a message invokes are those of its calls
 pub invoked : (methods : List Method) (call : CodeCall) (ids : List ℕ)
@@ -128,15 +128,29 @@ pub few_matching : (pattern : List ℕ) (tree : Registry) → IsLawful tree → 
     → length (matching_ids pattern tree.methods) ≤ tree.method_limit
 few_matching pattern tree lawful same =
     let test : Method → Bool = λ method. matches pattern method.address in
-    omega (arith, length-map (matching pattern tree.methods) (λ (method : Method). method.id), length_permutation (matched pattern tree.methods)
-        (matching pattern tree.methods) same, length-filter test tree.methods, count_by-le-length test tree.methods, lawful.few_methods)
+    omega (
+      arith,
+      length-map (matching pattern tree.methods) (λ (method : Method). method.id),
+      length_permutation (matched pattern tree.methods)
+          (matching pattern tree.methods) same,
+      length-filter test tree.methods,
+      count_by-le-length test tree.methods,
+      lawful.few_methods,
+    )
 
 -- how many calls there are doesn't hang on where the messages stand
 pub same_many : (methods : List Method) (i j : ℕ) (messages : List (List ℕ)) → length (calls_from methods i messages) ≡ length (calls_from methods j messages)
 same_many methods i j [] = refl
 same_many methods i j (message ∷ messages) =
-    omega (arith, length-append (calls_of methods i message) (calls_from methods (i + 1) messages), length-append (calls_of methods j message)
-        (calls_from methods (j + 1) messages), as_many_calls methods i message, as_many_calls methods j message, same_many methods (i + 1) (j + 1) messages)
+    omega (
+      arith,
+      length-append (calls_of methods i message) (calls_from methods (i + 1) messages),
+      length-append (calls_of methods j message)
+          (calls_from methods (j + 1) messages),
+      as_many_calls methods i message,
+      as_many_calls methods j message,
+      same_many methods (i + 1) (j + 1) messages,
+    )
 
 -- what is last is there
 pub last_there : (methods : List Method) (method : Method) → Contains (methods ++ method ∷ []) method

@@ -26,7 +26,7 @@ pub none_hears : (boxes : List Told) (invocation : Invocation) → AllByRecursio
 none_hears [] invocation none = refl
 none_hears (told ∷ boxes) invocation none =
     ap (λ (one : Told). one ∷ map (λ told. hear told invocation) boxes) (hears_other told invocation none.0)
-        ∙ ap (λ (l : List Told). told ∷ l) (none_hears boxes invocation none.1)
+    ∙ ap (λ (l : List Told). told ∷ l) (none_hears boxes invocation none.1)
 
 -- the box in the place of the call's id hears it, and no other
 one_hears : (boxes : List Told) (place : ℕ) (one : Told) (invocation : Invocation) → is_ascending (map (λ told. told.id) boxes) ≡ true → place < length boxes
@@ -36,12 +36,12 @@ one_hears [] place one invocation ascending within at is = absurd (omega arith)
 one_hears (told ∷ boxes) zero one invocation ascending within at is =
     let p = both (list_all (nat_lt told.id) (map (λ told. told.id) boxes)) (is_ascending (map (λ told. told.id) boxes)) ascending in
     let none = subst (λ (n : ℕ). AllByRecursion (λ other. other ≢ n) (map (λ (one : Told). one.id) boxes)) at
-        (behind told.id (map (λ told. told.id) boxes) p.0) in
+    (behind told.id (map (λ told. told.id) boxes) p.0) in
     ap (λ (t : Told). t ∷ boxes) is ∙ ap (λ (l : List Told). hear told invocation ∷ l) (sym (none_hears boxes invocation none))
 one_hears (told ∷ boxes) (suc place) one invocation ascending within at is =
     let p = both (list_all (nat_lt told.id) (map (λ told. told.id) boxes)) (is_ascending (map (λ told. told.id) boxes)) ascending in
     let lt : told.id < get_or (map (λ (one : Told). one.id) boxes) place 0 =
-        rising (told.id ∷ map (λ told. told.id) boxes) 0 (suc place) ascending (omega arith) (omega (arith, length-map boxes (λ (one : Told). one.id))) in
+    rising (told.id ∷ map (λ told. told.id) boxes) 0 (suc place) ascending (omega arith) (omega (arith, length-map boxes (λ (one : Told). one.id))) in
     let other : told.id ≢ invocation.call.id = λ (same : told.id ≡ invocation.call.id). omega arith in
     ap (λ (l : List Told). told ∷ l) (one_hears boxes place one invocation p.1 (omega arith) at is)
     ∙ ap (λ (t : Told). t ∷ map (λ told. hear told invocation) boxes) (sym (hears_other told invocation other))
@@ -82,7 +82,7 @@ module _ {X : Type 0} (view : X → Told) where
       → map view boxes ≡ map (λ told. hear told invocation) (map view boxes)
   none_hears_of boxes invocation none =
       sym (none_hears (map view boxes) invocation
-          (subst (AllByRecursion (λ other. other ≢ invocation.call.id)) (sym (map-map (λ (told : Told). told.id) view boxes)) none))
+      (subst (AllByRecursion (λ other. other ≢ invocation.call.id)) (sym (map-map (λ (told : Told). told.id) view boxes)) none))
 
 -- an element that keeps its key keeps the keys
 pub keys_stay : {X : Type 0} (key : X → ℕ) (xs : List X) (place : ℕ) (old one : X) → place < length (map key xs) → old ≡ get_or xs place old → key one ≡ key old
@@ -113,7 +113,7 @@ pub all_hear_on : (first more : List Invocation) (boxes : List Told) → all_hea
 all_hear_on first more [] = refl
 all_hear_on first more (told ∷ boxes) =
     ap (λ (t : Told). t ∷ all_hear more (all_hear first boxes)) (sym (hear_on first more told))
-        ∙ ap (λ (l : List Told). hear_all (first ++ more) told ∷ l) (all_hear_on first more boxes)
+    ∙ ap (λ (l : List Told). hear_all (first ++ more) told ∷ l) (all_hear_on first more boxes)
 
 -- ids whose calls are made one after another
 pub call_made : (invocation_of : ℕ → Invocation) (ids : List ℕ) (i : ℕ) (old new : List Told) → i < length ids
@@ -121,7 +121,7 @@ pub call_made : (invocation_of : ℕ → Invocation) (ids : List ℕ) (i : ℕ) 
     → all_hear (map invocation_of (drop (i + 1) ids)) new ≡ all_hear (map invocation_of (drop i ids)) old
 call_made invocation_of ids i old new within heard =
     one_call_more (invocation_of (get_or ids i 0)) (map invocation_of (drop (i + 1) ids)) old new heard
-        ∙ ap (λ (l : List ℕ). all_hear (map invocation_of l) old) (sym (drop_more ids i 0 within))
+    ∙ ap (λ (l : List ℕ). all_hear (map invocation_of l) old) (sym (drop_more ids i 0 within))
 
 pub calls_all_made : (invocation_of : ℕ → Invocation) (ids : List ℕ) (i : ℕ) (boxes : List Told) → length ids ≤ i
     → boxes ≡ all_hear (map invocation_of (drop i ids)) boxes

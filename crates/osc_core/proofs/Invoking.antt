@@ -33,8 +33,15 @@ module _ (methods : List Method) (index : ℕ) (message : List ℕ) (left rest :
   pub unit_owed : (old new : Recording) → new ≡ with_hits old (hits_of (calls_of methods index message)) → owed_by old ≡ length (calls_from methods index left)
       → owed_by new ≡ length (calls_from methods (index + 1) rest)
   unit_owed old new put owed =
-      omega (arith, ap owed_by put, owed_left old (hits_of first), length-hits_of first, ap
-          (λ (l : List (List ℕ)). length (calls_from methods index l)) is, length-append first more)
+      omega (
+        arith,
+        ap owed_by put,
+        owed_left old (hits_of first),
+        length-hits_of first,
+        ap
+            (λ (l : List (List ℕ)). length (calls_from methods index l)) is,
+        length-append first more,
+      )
 
   pub unit_heard : (unit : ℕ) (old new : List Told) → new ≡ all_hear (invocations_of unit (calls_of methods index message)) old
       → all_hear (invocations_of unit (calls_from methods (index + 1) rest)) new ≡ all_hear (invocations_of unit (calls_from methods index left)) old
@@ -47,8 +54,14 @@ module _ (methods : List Method) (index : ℕ) (message : List ℕ) (left rest :
   pub unit_counted : (count hits all : ℕ) → count + length (calls_from methods 0 left) ≡ all → hits ≡ length (invoked_ids methods message)
       → (count + hits) + length (calls_from methods 0 rest) ≡ all
   unit_counted count hits all counted many =
-      omega (arith, ap (λ (l : List (List ℕ)). length (calls_from methods 0 l)) is, length-append (calls_of methods 0 message)
-          (calls_from methods (0 + 1) rest), as_many_calls methods 0 message, same_many methods (0 + 1) 0 rest)
+      omega (
+        arith,
+        ap (λ (l : List (List ℕ)). length (calls_from methods 0 l)) is,
+        length-append (calls_of methods 0 message)
+            (calls_from methods (0 + 1) rest),
+        as_many_calls methods 0 message,
+        same_many methods (0 + 1) 0 rest,
+      )
 
 pub none_put : (methods : List Method) (index : ℕ) (left : List (List ℕ)) (recorder : Recording) → left ≡ []
     → recorder ≡ with_hits recorder (hits_of (calls_from methods index left))

@@ -112,7 +112,7 @@ pub queue_without : (kept : List Kept) (u : ℕ) (items : List (Item ℕ)) → I
 queue_without kept u [] new = refl
 queue_without kept u (item ∷ items) new =
     ap (λ (l : List (List ℕ)). (due_of item, unit_of item, record { tag = item.2; messages = l }) ∷ queue_of (without_unit kept u) items)
-        (messages_other kept u (unit_of item) new.0)
+    (messages_other kept u (unit_of item) new.0)
     ∙ ap (λ (l : List Queued). queued_of kept item ∷ l) (queue_without kept u items new.1)
 
 pub as_many : (kept : List Kept) (items : List (Item ℕ)) → AreKept kept items → length kept ≡ length items
@@ -125,7 +125,7 @@ same_blocks kept (item ∷ items) are =
     let u = unit_of item in
     blocks_without kept u are.0
     ∙ ap (λ (n : ℕ). (stored_size (messages_by kept u) + 63) / 64 + n)
-        (same_blocks (without_unit kept u) items are.2 ∙ ap queued_blocks (queue_without kept u items are.1))
+    (same_blocks (without_unit kept u) items are.2 ∙ ap queued_blocks (queue_without kept u items are.1))
 
 pub contains_kept : (kept : List Kept) (u : ℕ) → is_kept kept u ≡ true → Contains (map (λ one. one.unit) kept) u
 contains_kept [] u is = absurd (cc)
@@ -150,7 +150,7 @@ queue_pushed : (kept : List Kept) (one : Kept) (items : List (Item ℕ)) → All
 queue_pushed kept one [] all = refl
 queue_pushed kept one (item ∷ items) all =
     ap (λ (l : List (List ℕ)). (due_of item, unit_of item, record { tag = item.2; messages = l }) ∷ queue_of (kept ++ one ∷ []) items)
-        (messages_pushed kept one (unit_of item) all.0)
+    (messages_pushed kept one (unit_of item) all.0)
     ∙ ap (λ (l : List Queued). queued_of kept item ∷ l) (queue_pushed kept one items all.1)
 
 insert-map : {X Y : Type 0} (view : X → Y) (n : ℕ) (x : X) (xs : List X) → map view (insert xs n x) ≡ insert (map view xs) n (view x)
@@ -174,7 +174,7 @@ queue_entered kept due unit tag messages items are new =
     insert-map (queued_of more) (position_or_len (is_before item) items) item items
     ∙ ap (λ (l : List Queued). insert l (position_or_len (is_before item) items) (queued_of more item)) (queue_pushed kept one items (all_kept kept items are))
     ∙ ap (λ (l : List (List ℕ)). insert (queue_of kept items) (position_or_len (is_before item) items) (due, unit, record { tag = tag; messages = l }))
-        (messages_new kept one (not_kept kept items unit are new))
+    (messages_new kept one (not_kept kept items unit are new))
     ∙ ap (λ (n : ℕ). insert (queue_of kept items) n (due, unit, view)) (sym (place_viewed kept item view items))
 
 enter_behind : (x y : Item ℕ) (ys : List (Item ℕ)) → is_before x y ≡ false → enter x (y ∷ ys) ≡ y ∷ enter x ys
@@ -198,18 +198,21 @@ are_entered kept one due tag [] are new =
     (kept_new kept one, tt, gone ∙ are)
 are_entered kept one due tag (y ∷ ys) are new =
     go (is_before (due, one.unit, tag) y) refl (are_entered (without_unit kept (unit_of y)) one due tag ys are.2 new.1) where
-  go : (t : Bool) → is_before (due, one.unit, tag) y ≡ t → AreKept (without_unit kept (unit_of y) ++ one ∷ []) (enter (due, one.unit, tag) ys)
-      → AreKept (kept ++ one ∷ []) (enter (due, one.unit, tag) (y ∷ ys))
-  go true e more =
-      let gone : without_unit (kept ++ one ∷ []) one.unit ≡ kept = without_new kept one (not_kept kept (y ∷ ys) one.unit are new) in
-      subst (AreKept (kept ++ one ∷ [])) (sym (enter_ahead (due, one.unit, tag) y ys e))
+      go : (t : Bool) → is_before (due, one.unit, tag) y ≡ t → AreKept (without_unit kept (unit_of y) ++ one ∷ []) (enter (due, one.unit, tag) ys)
+          → AreKept (kept ++ one ∷ []) (enter (due, one.unit, tag) (y ∷ ys))
+      go true e more =
+          let gone : without_unit (kept ++ one ∷ []) one.unit ≡ kept = without_new kept one (not_kept kept (y ∷ ys) one.unit are new) in
+          subst (AreKept (kept ++ one ∷ [])) (sym (enter_ahead (due, one.unit, tag) y ys e))
           (kept_new kept one, new, subst (λ (l : List Kept). AreKept l (y ∷ ys)) (sym gone) are)
-  go false e more =
-      let apart : IsNewUnit (unit_of y) (enter (due, one.unit, tag) ys) =
+      go false e more =
+          let apart : IsNewUnit (unit_of y) (enter (due, one.unit, tag) ys) =
           all_entered (λ item. unit_of item ≢ unit_of y) (due, one.unit, tag) ys (λ same. new.0 (sym same)) are.1 in
-      subst (AreKept (kept ++ one ∷ [])) (sym (enter_behind (due, one.unit, tag) y ys e))
-          (kept_pushed kept one (unit_of y) are.0, apart, subst (λ (l : List Kept). AreKept l (enter (due, one.unit, tag) ys))
-          (sym (without_pushed kept one (unit_of y) are.0)) more)
+          subst (AreKept (kept ++ one ∷ [])) (sym (enter_behind (due, one.unit, tag) y ys e)) (
+            kept_pushed kept one (unit_of y) are.0,
+            apart,
+            subst (λ (l : List Kept). AreKept l (enter (due, one.unit, tag) ys))
+                (sym (without_pushed kept one (unit_of y) are.0)) more,
+          )
 
 -- a number above those of all items is new
 pub new_unit : (n : ℕ) (items : List (Item ℕ)) → AllByRecursion (λ item. unit_of item < n) items → IsNewUnit n items

@@ -53,8 +53,8 @@ all_agree : (methods : List Method) (address : List ℕ) (id : ℕ) → AllPairs
 all_agree [] address id ids addresses at = tt
 all_agree (method ∷ methods) address id ids addresses at =
     go (bytes_eq method.address address) refl
-        (all_agree methods address id (pairs_behind (λ a b. a.id ≢ b.id) method methods ids)
-        (pairs_behind (λ a b. a.address ≢ b.address) method methods addresses))
+    (all_agree methods address id (pairs_behind (λ a b. a.id ≢ b.id) method methods ids)
+    (pairs_behind (λ a b. a.address ≢ b.address) method methods addresses))
   where
     go : (t : Bool) → bytes_eq method.address address ≡ t → (id_at methods address ≡ Some id → AllByRecursion (Agrees address id) methods)
         → AllByRecursion (Agrees address id) (method ∷ methods)
@@ -64,9 +64,11 @@ all_agree (method ∷ methods) address id ids addresses at =
         let text : method.address ≡ address = (bytes_eq-Decides method.address address).0 e in
         let b : (method.id == id) ≡ true = grind (arith, nat_tests) in
         let others = others_agree method methods (pairs_ahead (λ a b. a.id ≢ b.id) method methods ids)
-            (pairs_ahead (λ a b. a.address ≢ b.address) method methods addresses) in
-        (e ∙ sym b, subst (λ (n : ℕ). AllByRecursion (Agrees address n) methods) same
-            (subst (λ (l : List ℕ). AllByRecursion (Agrees l method.id) methods) text others))
+        (pairs_ahead (λ a b. a.address ≢ b.address) method methods addresses) in (
+          e ∙ sym b,
+          subst (λ (n : ℕ). AllByRecursion (Agrees address n) methods) same
+              (subst (λ (l : List ℕ). AllByRecursion (Agrees l method.id) methods) text others),
+        )
     go false e more =
         let f : id_at methods address ≡ Some id = rw e at at in
         let other : method.id ≢ id = found_among methods address id method.id f (pairs_ahead (λ a b. a.id ≢ b.id) method methods ids) in

@@ -34,7 +34,7 @@ tabled stepped = record { answer = stepped.answer; state = tables stepped.state;
 abbrev submits : List Timed → Bool → Bool → State → Stepped
 submits units t u s = cond t (leaves s (units_full (record { need = length units; free = free_places s })))
     (cond u (leaves s (pool_full (record { need = blocks_of units; free = free_blocks s })))
-        (leaves (after_submit s units) (queued s.next_unit (length units))))
+    (leaves (after_submit s units) (queued s.next_unit (length units))))
 
 pub decided_tables : (state : State) (event : Event) → decided (tables state) event ≡ tabled (decided state event)
 decided_tables state enrol = go (state.callers == state.caps.callers) where
@@ -44,10 +44,10 @@ decided_tables state enrol = go (state.callers == state.caps.callers) where
   go false = refl
 decided_tables state (submit packet) =
     go (nat_lt (free_places state) (length (units_read packet))) (nat_lt (free_blocks state) (blocks_of (units_read packet))) where
-  go : (t u : Bool) → submits (units_read packet) t u (tables state) ≡ tabled (submits (units_read packet) t u state)
-  go true u = refl
-  go false true = refl
-  go false false = refl
+      go : (t u : Bool) → submits (units_read packet) t u (tables state) ≡ tabled (submits (units_read packet) t u state)
+      go true u = refl
+      go false true = refl
+      go false false = refl
 decided_tables state (add address) = go (add_refusal (registry state) address) where
   go : (o : Option Refusal) → add_at (tables state) address o ≡ tabled (add_at state address o)
   go None = refl
@@ -80,8 +80,15 @@ step_caps state event =
     caps : (decided state event).state.caps ≡ state.caps
     caps =
         decided_so (λ event stepped. stepped.state.caps ≡ state.caps) state event
-        (record { refused = λ event answer is. refl; enrolled = refl; queued = λ packet. refl; added = λ address. refl; removed = λ address id. refl;
-            ticked = λ now later. refl; released = λ unit units first. refl })
+        (record {
+          refused = λ event answer is. refl;
+          enrolled = refl;
+          queued = λ packet. refl;
+          added = λ address. refl;
+          removed = λ address id. refl;
+          ticked = λ now later. refl;
+          released = λ unit units first. refl;
+        })
 
 pub after_caps : (state : State) (history : List Entry) → (after state history).caps ≡ state.caps
 after_caps state [] = refl
@@ -101,7 +108,7 @@ few_entries state (entry ∷ entries) legal =
     let adds = is_adds (step state entry.event).answer (subst AddsEntry legal.3 legal.2) in
     let is = (entered state entry.event adds).is in
     let more : (step state entry.event).state.recorded ≡ state.recorded + entry_size entry.event (decided state entry.event).answer =
-        ap (λ (s : Stepped). s.state.recorded) is in
+    ap (λ (s : Stepped). s.state.recorded) is in
     omega (arith, more, some_bytes entry.event (decided state entry.event).answer, few_entries (step state entry.event).state entries legal.4)
 
 -- What the model's laws say.
@@ -160,13 +167,13 @@ stays performance caller event is = rw is refl
 
 goes_on : (performance : Performance) (caller : ℕ) (event : Event) (answer : Answer) → (stepped_in performance event).answer ≡ answer → adds_entry answer ≡ true
     → onward performance caller event
-        ≡ record { caps = performance.caps; history = performance.history ++ record { caller = caller; event = event; answer = answer } ∷ [] }
+    ≡ record { caps = performance.caps; history = performance.history ++ record { caller = caller; event = event; answer = answer } ∷ [] }
 goes_on performance caller event answer same is = rw (same, is) refl
 
 pub is_full : Laws → (server : State) (recorder : Recording) (entries caller : ℕ) (event : Event) (need free : ℕ) → IsPlaying server recorder entries
     → adds_entry (decided server event).answer ≡ true
     → need ≡ entry_size event (decided server event).answer → free + length (recording_text recorder) ≡ recorder.caps.recording → free < need
-        → IsFull (performance_of recorder) caller event need free
+    → IsFull (performance_of recorder) caller event need free
 is_full laws server recorder entries caller event need free playing adds needs frees full =
     let performance = performance_of recorder in
     let state = state_of performance in
@@ -177,7 +184,7 @@ is_full laws server recorder entries caller event need free playing adds needs f
     let none = laws.full state event adds' (omega (arith, size, left, full)) in
     let answer : (stepped_in performance event).answer ≡ record_full (record { need = need; free = free }) =
     ap (λ (s : Stepped). s.answer) none ∙ ap (λ (n : ℕ). record_full (record { need = n; free = free_bytes state })) size
-        ∙ ap (λ (n : ℕ). record_full (record { need = need; free = n })) left in
+    ∙ ap (λ (n : ℕ). record_full (record { need = need; free = n })) left in
     record {
       answer = answer;
       silent = ap (λ (s : Stepped). s.invocations) none;
@@ -187,7 +194,7 @@ is_full laws server recorder entries caller event need free playing adds needs f
 pub is_played : Laws → (server : State) (recorder : Recording) (entries caller : ℕ) (event : Event) (answer : Answer) → IsPlaying server recorder entries
     → caller < (state_of (performance_of recorder)).callers → IsLawful event
     → answer ≡ (decided server event).answer → adds_entry answer ≡ true → length (recording_text recorder) + entry_size event answer ≤ recorder.caps.recording
-        → IsPlayed server recorder entries caller event answer
+    → IsPlayed server recorder entries caller event answer
 is_played laws server recorder entries caller event answer playing enrolled lawful is adds fits =
     let performance = performance_of recorder in
     let state = state_of performance in
@@ -200,7 +207,7 @@ is_played laws server recorder entries caller event answer playing enrolled lawf
     let answer_is : (stepped_in performance event).answer ≡ answer = ap (λ (s : Stepped). s.answer) stepped ∙ sym here in
     let on = goes_on performance caller event answer answer_is adds in
     let recordable = subst (IsRecordable caller event) answer_is
-        (laws.next performance caller event playing.legal enrolled lawful (ap adds_entry answer_is ∙ adds)) in
+    (laws.next performance caller event playing.legal enrolled lawful (ap adds_entry answer_is ∙ adds)) in
     record {
       answer_is = answer_is;
       invocations = ap (λ (s : Stepped). s.invocations) stepped ∙ sym (ap (λ (s : Stepped). s.invocations) same);
@@ -224,10 +231,10 @@ others_add state enrol other = go (state.callers == state.caps.callers) where
   go false = refl
 others_add state (submit packet) other =
     go (nat_lt (free_places state) (length (units_read packet))) (nat_lt (free_blocks state) (blocks_of (units_read packet))) where
-  go : (t u : Bool) → adds_entry (submits (units_read packet) t u state).answer ≡ true
-  go true u = refl
-  go false true = refl
-  go false false = refl
+      go : (t u : Bool) → adds_entry (submits (units_read packet) t u state).answer ≡ true
+      go true u = refl
+      go false true = refl
+      go false false = refl
 others_add state (add address) other = go (add_refusal (registry state) address) where
   go : (o : Option Refusal) → adds_entry (add_at state address o).answer ≡ true
   go None = refl
@@ -248,21 +255,21 @@ abbrev pub FullLaw : Type 0
 FullLaw = (server : State) (recorder : Recording) (entries caller : ℕ) (event : Event) (need free : ℕ) → IsPlaying server recorder entries
     → adds_entry (decided server event).answer ≡ true
     → need ≡ entry_size event (decided server event).answer → free + length (recording_text recorder) ≡ recorder.caps.recording → free < need
-        → IsFull (performance_of recorder) caller event need free
+    → IsFull (performance_of recorder) caller event need free
 
 pub refuses : FullLaw → (server : State) (recorder : Recording) (entries caller : ℕ) (event : Event) (room : Room) (size : ℕ) (now : Performance)
     → IsPlaying server recorder entries → performance_of recorder ≡ now → adds_entry (decided server event).answer ≡ true
     → size ≡ entry_size event (decided server event).answer → (room.need ≡ size) × (room.free + length (recording_text recorder) ≡ recorder.caps.recording)
-        → IsFull now caller event room.need room.free
+    → IsFull now caller event room.need room.free
 refuses law server recorder entries caller event room size now playing view adds sized tells =
     subst (λ (p : Performance). IsFull p caller event room.need room.free) view
-        (law server recorder entries caller event room.need room.free playing adds (tells.0 ∙ sized) tells.1 room.wanting)
+    (law server recorder entries caller event room.need room.free playing adds (tells.0 ∙ sized) tells.1 room.wanting)
 
 abbrev pub PlayedLaw : Type 0
 PlayedLaw = (server : State) (recorder : Recording) (entries caller : ℕ) (event : Event) (answer : Answer) → IsPlaying server recorder entries
     → caller < (state_of (performance_of recorder)).callers → IsLawful event
     → answer ≡ (decided server event).answer → adds_entry answer ≡ true → length (recording_text recorder) + entry_size event answer ≤ recorder.caps.recording
-        → IsPlayed server recorder entries caller event answer
+    → IsPlayed server recorder entries caller event answer
 
 -- what is left is a performance that has gone on
 pub record GoesOn (now : Performance) (caller : ℕ) (event : Event) (answer : Answer) (server : State) (recorder : Recording) (entries : ℕ) : Type 0 where
@@ -273,7 +280,7 @@ pub record GoesOn (now : Performance) (caller : ℕ) (event : Event) (answer : A
 pub plays : (server : State) (recorder : Recording) (entries caller : ℕ) (event : Event) (answer : Answer) (next : State) (more : Recording) (now : Performance)
     → IsPlayed server recorder entries caller event answer → performance_of recorder ≡ now
     → next ≡ (decided server event).state → more ≡ appended recorder (record { caller = caller; event = event; answer = answer })
-        → GoesOn now caller event answer next more (entries + 1)
+    → GoesOn now caller event answer next more (entries + 1)
 plays server recorder entries caller event answer next more now played view n m = record {
   answer_is = subst (λ (p : Performance). (stepped_in p event).answer ≡ answer) view played.answer_is;
   performance = subst (λ (p : Performance). performance_of more ≡ onward p caller event) view (ap performance_of m ∙ sym played.goes_on);
@@ -295,7 +302,7 @@ pub method_limit_is : (server : State) (recorder : Recording) (entries : ℕ) (n
     → performance_of recorder ≡ now → server.caps.methods ≡ now.caps.methods
 method_limit_is server recorder entries now playing view =
     ap (λ (s : State). s.caps.methods) playing.server_is ∙ ap (λ (l : Limits). l.methods) (after_caps (opening recorder.caps) recorder.entries)
-        ∙ ap (λ (p : Performance). p.caps.methods) view
+    ∙ ap (λ (p : Performance). p.caps.methods) view
 
 -- where nothing is due, that is answered, and no box is called
 pub idle_answer : (server : State) (recorder : Recording) (entries : ℕ) (now : Performance) (next : Option ℕ) → IsPlaying server recorder entries
@@ -303,10 +310,10 @@ pub idle_answer : (server : State) (recorder : Recording) (entries : ℕ) (now :
 idle_answer server recorder entries now next playing view none =
     let state = state_of (performance_of recorder) in
     let nothing : (decided state release).answer ≡ nothing_due next =
-        sym (ap (λ (s : Stepped). s.answer) (same_decided server state release playing.server_is)) ∙ none in
+    sym (ap (λ (s : Stepped). s.answer) (same_decided server state release playing.server_is)) ∙ none in
     let adds : adds_entry (decided state release).answer ≡ false = ap adds_entry nothing in
     subst (λ (p : Performance). (stepped_in p release).answer ≡ nothing_due next) view
-        (ap (λ (s : Stepped). s.answer) (none_decided state release adds) ∙ nothing)
+    (ap (λ (s : Stepped). s.answer) (none_decided state release adds) ∙ nothing)
 
 pub idle_silent : (server : State) (recorder : Recording) (entries : ℕ) (now : Performance) (next : Option ℕ) → IsPlaying server recorder entries
     → performance_of recorder ≡ now → (decided server release).answer ≡ nothing_due next → (stepped_in now release).invocations ≡ []
@@ -318,14 +325,16 @@ pub releases_on : PlayedLaw
     → (server : State) (recorder : Recording) (entries caller unit calls : ℕ) (hits : List Hit) (next : State) (begun more : Recording) (now : Performance)
     → IsPlaying server recorder entries → performance_of recorder ≡ now → caller < (state_of now).callers
     → IsDue server unit hits → calls ≡ length hits → length (recording_text recorder) + (44 + 8 * calls) ≤ recorder.caps.recording
-        → next ≡ (decided server release).state → begun ≡ with_release recorder caller unit calls
-        → more ≡ with_hits begun (map hit_by (decided server release).invocations)
+    → next ≡ (decided server release).state → begun ≡ with_release recorder caller unit calls
+    → more ≡ with_hits begun (map hit_by (decided server release).invocations)
     → GoesOn now caller release (released unit hits) next more (entries + 1) × ((stepped_in now release).invocations ≡ (decided server release).invocations)
 releases_on law server recorder entries caller unit calls hits next begun more now playing view enrolled due many fits n b m =
     let played = law server recorder entries caller release (released unit hits) playing (enrolled_in recorder now caller view enrolled) tt (sym due) refl
-        (subst (λ (k : ℕ). length (recording_text recorder) + (44 + 8 * k) ≤ recorder.caps.recording) many fits) in
+    (subst (λ (k : ℕ). length (recording_text recorder) + (44 + 8 * k) ≤ recorder.caps.recording) many fits) in
     let put : more ≡ appended recorder (record { caller = caller; event = release; answer = released unit hits }) =
     m ∙ ap (with_hits begun) (hits_invoked server unit hits due) ∙ ap (λ (r : Recording). with_hits r hits) b
-        ∙ all_put recorder caller unit calls hits playing.whole many in
-    (plays server recorder entries caller release (released unit hits) next more now played view n put, subst
-        (λ (p : Performance). (stepped_in p release).invocations ≡ (decided server release).invocations) view played.invocations)
+    ∙ all_put recorder caller unit calls hits playing.whole many in (
+      plays server recorder entries caller release (released unit hits) next more now played view n put,
+      subst
+          (λ (p : Performance). (stepped_in p release).invocations ≡ (decided server release).invocations) view played.invocations,
+    )

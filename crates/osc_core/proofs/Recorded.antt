@@ -15,8 +15,11 @@ owed_settled : (recording : Recording) (begun : Begun) → owed_by (settled reco
 owed_settled recording begun = go (begun.owed == 0) refl where
   go : (t : Bool) → (begun.owed == 0) ≡ t
       → owed_by (cond t
-      (record { caps = recording.caps;
-      entries = recording.entries ++ record { caller = begun.caller; event = release; answer = released begun.unit begun.hits } ∷ []; begun = None })
+      (record {
+        caps = recording.caps;
+        entries = recording.entries ++ record { caller = begun.caller; event = release; answer = released begun.unit begun.hits } ∷ [];
+        begun = None;
+      })
       (record { caps = recording.caps; entries = recording.entries; begun = Some begun })) ≡ begun.owed
   go true e = let z : begun.owed ≡ 0 = grind (arith, nat_tests) in sym z
   go false e = refl
@@ -38,7 +41,7 @@ owed_begun recording caller unit hits = owed_settled recording (record { caller 
 -- a release that has all its hits is an entry
 hits_settle : (recording : Recording) (caller unit : ℕ) (hits before : List Hit) → recording.begun ≡ None
     → with_hits (settled recording (record { caller = caller; unit = unit; hits = before; owed = length hits })) hits
-        ≡ appended recording (record { caller = caller; event = release; answer = released unit (before ++ hits) })
+    ≡ appended recording (record { caller = caller; event = release; answer = released unit (before ++ hits) })
 hits_settle recording caller unit [] before none = rw (append-nil before, none) refl
 hits_settle recording caller unit (hit ∷ hits) before none =
     let some : (length (hit ∷ hits) == 0) ≡ false = grind (arith, nat_tests) in

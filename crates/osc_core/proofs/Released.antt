@@ -34,7 +34,7 @@ pub release_leaves : PlayedLaw → FullLaw → (answer : Releasing) (server next
     → Releases answer caller server next before after → IsLeft answer now caller server next after (entries_after answer entries)
 release_leaves played full (releasing.Released unit calls) server next before after entries caller now playing view enrolled is =
     let on = releases_on played server before entries caller unit calls is.hits next
-        (with_release before caller unit calls) after now playing view enrolled is.due is.many is.fits is.state refl is.recorder in
+    (with_release before caller unit calls) after now playing view enrolled is.due is.many is.fits is.state refl is.recorder in
     record { told = (is.hits, on.0.answer_is, is.many); performance = on.0.performance; playing = on.0.playing; invocations = on.1 }
 release_leaves played full (releasing.NothingDue least) server next before after entries caller now playing view enrolled is =
     let answer = idle_answer server before entries now least playing view is.none in

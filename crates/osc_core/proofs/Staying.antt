@@ -33,8 +33,11 @@ quiet_silent state event quiet =
       released = λ unit units first quiet. absurd quiet;
     }) quiet in
     step_so (IsSilent state) state event
-    (record { silent = λ none. here; full = λ some full. record { methods = refl; none = refl };
-        room = λ some fits. record { methods = here.methods; none = here.none } })
+    (record {
+      silent = λ none. here;
+      full = λ some full. record { methods = refl; none = refl };
+      room = λ some fits. record { methods = here.methods; none = here.none };
+    })
 
 pub release_keeps : (state : State) → (step state release).state.methods ≡ state.methods
 release_keeps state =

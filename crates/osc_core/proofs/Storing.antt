@@ -51,10 +51,10 @@ unframed-framed (message ∷ messages) rest read =
     let small = message_small message parts.0 in
     let more = framed messages ++ rest in
     let spelled : framed (message ∷ messages) ++ rest ≡ word (length message) ++ (message ++ more) =
-        append_assoc (word (length message)) (message ++ framed messages) rest
-        ∙ ap (λ (l : List ℕ). word (length message) ++ l) (append_assoc message (framed messages) rest) in
+    append_assoc (word (length message)) (message ++ framed messages) rest
+    ∙ ap (λ (l : List ℕ). word (length message) ++ l) (append_assoc message (framed messages) rest) in
     rw (spelled, message_again message more small, rest_again message more small)
-        (ap (λ (l : List (List ℕ)). message ∷ l) (unframed-framed messages rest parts.1))
+    (ap (λ (l : List (List ℕ)). message ∷ l) (unframed-framed messages rest parts.1))
 
 -- and stand at the front of their bytes
 pub framed_stands : (messages : List (List ℕ)) (rest : List ℕ) → IsTrue (list_all (is_message 1073741824) messages)
@@ -65,10 +65,10 @@ framed_stands (message ∷ messages) rest read =
     let small = message_small message parts.0 in
     let more = framed messages ++ rest in
     let spelled : framed (message ∷ messages) ++ rest ≡ word (length message) ++ (message ++ more) =
-        append_assoc (word (length message)) (message ++ framed messages) rest
-        ∙ ap (λ (l : List ℕ). word (length message) ++ l) (append_assoc message (framed messages) rest) in
+    append_assoc (word (length message)) (message ++ framed messages) rest
+    ∙ ap (λ (l : List ℕ). word (length message) ++ l) (append_assoc message (framed messages) rest) in
     let sized : 4 + length message ≤ length (word (length message) ++ (message ++ more)) =
-        omega (arith, length-append (word (length message)) (message ++ more), length-append message more) in
+    omega (arith, length-append (word (length message)) (message ++ more), length-append message more) in
     subst (λ (l : List ℕ). IsFramed (suc (length messages)) l) (sym spelled) (
       subst (λ (n : ℕ). 4 + n ≤ length (word (length message) ++ (message ++ more))) (sym (first_again message more small)) sized,
       subst (λ (l : List ℕ). IsTrue (is_message 1073741824 l)) (sym (message_again message more small)) parts.0,
@@ -81,7 +81,7 @@ kept_again [] read = refl
 kept_again (one ∷ others) read =
     let parts = and_parts (list_all (is_message 1073741824) one.messages) (all_read others) read in
     let rest : drop (stored_size one.messages) (framed one.messages ++ bytes_of others) ≡ bytes_of others =
-        drop_at (framed one.messages) (bytes_of others) (stored_size one.messages) (length-framed one.messages) in
+    drop_at (framed one.messages) (bytes_of others) (stored_size one.messages) (length-framed one.messages) in
     rw (unframed-framed one.messages (bytes_of others) parts.0, rest) (ap (λ (l : List Kept). one ∷ l) (kept_again others parts.1))
 
 pub stored_is : (sections : List Section) (bytes : List ℕ) (kept : List Kept) → IsStored sections bytes kept → kept_of sections bytes ≡ kept

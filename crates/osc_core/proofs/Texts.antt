@@ -143,29 +143,33 @@ stands_next : TextLaws → (performance : Performance) (caller : ℕ) (event : E
     → StandsNext (StandsFor (onward performance caller event) boxes) (adds_entry (stepped_in performance event).answer) texts
 stands_next laws performance caller event before boxes texts mark stands legal heard marked unmarked =
     go (adds_entry (stepped_in performance event).answer) refl legal heard where
-  entry : Entry
-  entry = entry_on performance caller event
+      entry : Entry
+      entry = entry_on performance caller event
 
-  next : Bool → Performance
-  next t = cond t (record performance { history = performance.history ++ entry ∷ [] }) performance
+      next : Bool → Performance
+      next t = cond t (record performance { history = performance.history ++ entry ∷ [] }) performance
 
-  go : (t : Bool) → adds_entry (stepped_in performance event).answer ≡ t → Legal performance.caps (next t).history → HaveHeard (next t) boxes
-      → StandsNext (StandsFor (next t) boxes) t texts
-  go true is legal heard =
-      let read = last_read laws performance.caps performance.history entry mark legal in
-      let written = written_more performance.history texts entry mark stands.written in (
-        text_with mark entry,
-        record {
-          legal = legal;
-          written = written;
-          read = read_more texts (text_with mark entry) entry read ∙ ap (λ (h : List Entry). h ++ entry ∷ []) stands.read;
-          heard = heard;
-          marked = marked is;
-          few = omega (arith, few_legal performance.caps (performance.history ++ entry ∷ []) legal, as_many (performance.history ++ entry ∷ [])
-              (texts ++ text_with mark entry ∷ []) written);
-        },
-      )
-  go false is legal heard = record { legal = legal; written = stands.written; read = stands.read; heard = heard; marked = unmarked is; few = stands.few }
+      go : (t : Bool) → adds_entry (stepped_in performance event).answer ≡ t → Legal performance.caps (next t).history → HaveHeard (next t) boxes
+          → StandsNext (StandsFor (next t) boxes) t texts
+      go true is legal heard =
+          let read = last_read laws performance.caps performance.history entry mark legal in
+          let written = written_more performance.history texts entry mark stands.written in (
+            text_with mark entry,
+            record {
+              legal = legal;
+              written = written;
+              read = read_more texts (text_with mark entry) entry read ∙ ap (λ (h : List Entry). h ++ entry ∷ []) stands.read;
+              heard = heard;
+              marked = marked is;
+              few = omega (
+                arith,
+                few_legal performance.caps (performance.history ++ entry ∷ []) legal,
+                as_many (performance.history ++ entry ∷ [])
+                    (texts ++ text_with mark entry ∷ []) written,
+              );
+            },
+          )
+      go false is legal heard = record { legal = legal; written = stands.written; read = stands.read; heard = heard; marked = unmarked is; few = stands.few }
 
 pub same_next : TextLaws → (performance : Performance) (caller : ℕ) (event : Event) (boxes : List Told) (texts : List (List ℕ))
     → StandsFor performance boxes texts
@@ -173,7 +177,7 @@ pub same_next : TextLaws → (performance : Performance) (caller : ℕ) (event :
     → StandsNext (StandsFor (onward performance caller event) boxes) (adds_entry (stepped_in performance event).answer) texts
 same_next laws performance caller event boxes texts stands legal heard =
     stands_next laws performance caller event boxes boxes texts 0 stands legal heard
-        (λ is. marked_more texts (text_with 0 (entry_on performance caller event)) boxes stands.marked) (λ is. stands.marked)
+    (λ is. marked_more texts (text_with 0 (entry_on performance caller event)) boxes stands.marked) (λ is. stands.marked)
 
 pub called_next : TextLaws
     → (performance : Performance) (caller : ℕ) (event : Event) (invocations : List Invocation) (boxes : List Told) (texts : List (List ℕ))
@@ -183,7 +187,7 @@ pub called_next : TextLaws
 called_next laws performance caller event invocations boxes texts stands legal heard =
     let marked = called_marked texts invocations boxes stands.marked in
     stands_next laws performance caller event boxes (all_hear invocations boxes) texts 0 stands legal heard
-        (λ is. marked_more texts (text_with 0 (entry_on performance caller event)) (all_hear invocations boxes) marked) (λ is. marked)
+    (λ is. marked_more texts (text_with 0 (entry_on performance caller event)) (all_hear invocations boxes) marked) (λ is. marked)
 
 pub fewer_next : TextLaws → (performance : Performance) (caller : ℕ) (event : Event) (id : ℕ) (boxes : List Told) (texts : List (List ℕ))
     → StandsFor performance boxes texts
@@ -192,12 +196,12 @@ pub fewer_next : TextLaws → (performance : Performance) (caller : ℕ) (event 
 fewer_next laws performance caller event id boxes texts stands legal heard =
     let marked = fewer_marked texts id boxes stands.marked in
     stands_next laws performance caller event boxes (without_id id boxes) texts 0 stands legal heard
-        (λ is. marked_more texts (text_with 0 (entry_on performance caller event)) (without_id id boxes) marked) (λ is. marked)
+    (λ is. marked_more texts (text_with 0 (entry_on performance caller event)) (without_id id boxes) marked) (λ is. marked)
 
 pub more_next : TextLaws → (performance : Performance) (caller : ℕ) (event : Event) (told : Told) (boxes : List Told) (texts : List (List ℕ))
     → StandsFor performance boxes texts
     → Legal performance.caps (onward performance caller event).history → (stepped_in performance event).answer ≡ added told.id
-        → HaveHeard (onward performance caller event) (boxes ++ reset told ∷ [])
+    → HaveHeard (onward performance caller event) (boxes ++ reset told ∷ [])
     → StandsNext (StandsFor (onward performance caller event) (boxes ++ reset told ∷ [])) (adds_entry (stepped_in performance event).answer) texts
 more_next laws performance caller event told boxes texts stands legal is heard =
     stands_next laws performance caller event boxes (boxes ++ reset told ∷ []) texts (mark_of told) stands legal heard
@@ -215,8 +219,8 @@ more_next laws performance caller event told boxes texts stands legal is heard =
     own : adds_entry (stepped_in performance event).answer ≡ true → CarriesMark (texts ++ text ∷ []) told.id (mark_of (reset told))
     own adds =
         let whole : Legal performance.caps (performance.history ++ entry ∷ []) =
-            subst (λ (t : Bool). Legal performance.caps (cond t (record performance { history = performance.history ++ entry ∷ [] }) performance).history) adds
-            legal in
+        subst (λ (t : Bool). Legal performance.caps (cond t (record performance { history = performance.history ++ entry ∷ [] }) performance).history) adds
+        legal in
         let read : entry_in text ≡ Some entry = last_read laws performance.caps performance.history entry (mark_of told) whole in (
           entry,
           is,
@@ -231,7 +235,7 @@ pub stood : (next onwards : Performance) (new boxes : List Told) (t : Bool) (tex
     → StandsNext (StandsFor onwards boxes) t texts → StandsNext (StandsFor next new) t texts
 stood next onwards new boxes t texts is same stands =
     subst (λ (p : Performance). StandsNext (StandsFor p new) t texts) (sym is)
-        (subst (λ (b : List Told). StandsNext (StandsFor onwards b) t texts) (sym same) stands)
+    (subst (λ (b : List Told). StandsNext (StandsFor onwards b) t texts) (sym same) stands)
 
 -- The texts in which boxes that left have the mark 0.
 
@@ -247,7 +251,7 @@ own_read laws caps boxes past (entry ∷ entries) legal =
     let until : Legal caps (past ++ entry ∷ []) = (whole.0, (legal_split (opening caps) (past ++ entry ∷ []) entries whole.1).0) in
     let read = last_read laws caps past entry (mark_by boxes entry.answer) until in
     ap (λ (o : Option Entry). cons_option o (history_in (texts_of boxes entries))) read
-        ∙ ap (λ (l : List Entry). entry ∷ l) (own_read laws caps boxes (past ++ entry ∷ []) entries whole)
+    ∙ ap (λ (l : List Entry). entry ∷ l) (own_read laws caps boxes (past ++ entry ∷ []) entries whole)
 
 contains_map : {X Y : Type 0} (f : X → Y) (xs : List X) (x : X) → Contains xs x → Contains (map f xs) (f x)
 contains_map f [] x (k, lt, is) = absurd (omega arith)
@@ -302,6 +306,10 @@ own_texts laws performance boxes ascending legal heard =
       read = read;
       heard = heard;
       marked = own_marked performance.history boxes boxes read added (own_marks boxes ascending);
-      few = omega (arith, few_legal performance.caps performance.history legal, as_many performance.history (texts_of boxes performance.history)
-          (own_written boxes performance.history));
+      few = omega (
+        arith,
+        few_legal performance.caps performance.history legal,
+        as_many performance.history (texts_of boxes performance.history)
+            (own_written boxes performance.history),
+      );
     }

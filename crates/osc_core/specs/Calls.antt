@@ -11,8 +11,12 @@ use Rattle.osc_model.specs.Events.{Call, Hit, Invocation}
 -- the call of the method with an id, with the unit's message at an index
 abbrev pub call_by : List Method → ℕ → List ℕ → ℕ → Call
 call_by methods index message id =
-    record { index = index; id = id; address = unwrap_or (address_by_id methods id) [];
-    message = message }
+    record {
+      index = index;
+      id = id;
+      address = unwrap_or (address_by_id methods id) [];
+      message = message;
+    }
 
 -- the invocation that a call makes of the method with an id
 abbrev pub invocation_by : List Method → CodeCall → ℕ → Invocation

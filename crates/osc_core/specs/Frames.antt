@@ -31,4 +31,4 @@ abbrev pub IsFramed : ℕ → List ℕ → Type 0
 IsFramed zero bytes = Unit {0}
 IsFramed (suc count) bytes =
     (4 + first_length bytes ≤ length bytes) × IsTrue (is_message MAX_BYTES (first_framed bytes))
-        × IsFramed count (after_framed bytes)
+    × IsFramed count (after_framed bytes)

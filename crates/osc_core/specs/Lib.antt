@@ -6,7 +6,6 @@ pub mod Kept
 pub mod Playing
 pub mod Standing
 pub mod Telling
-
 -- Inside the crate.
 pub mod Calls
 pub mod Due

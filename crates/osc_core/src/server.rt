@@ -52,15 +52,27 @@ impl Model for Server {
 
     ghost Value = { State };
 
-    ghost view =
-        { λ s. record { caps = record { units = s.queue.limit; blocks = s.store.limit;
-        methods = s.tree.method_limit; nodes = s.tree.node_limit; callers =
-        s.caller_limit; recording = 0 }; methods = s.tree.methods;
-        queue = queue_of s.store.kept s.queue.items; clock = s.clock; next_id =
-        s.next_id; next_unit = s.next_unit; callers = s.callers; recorded = 0 } };
+    ghost view = { λ s. record {
+      caps = record {
+        units = s.queue.limit;
+        blocks = s.store.limit;
+        methods = s.tree.method_limit;
+        nodes = s.tree.node_limit;
+        callers =
+            s.caller_limit;
+        recording = 0;
+      };
+      methods = s.tree.methods;
+      queue = queue_of s.store.kept s.queue.items;
+      clock = s.clock;
+      next_id =
+          s.next_id;
+      next_unit = s.next_unit;
+      callers = s.callers;
+      recorded = 0;
+    } };
 
-    ghost invariant =
-        { λ s. IsRunning s.tree s.hits s.store s.queue s.next_id s.next_unit s.callers s.caller_limit };
+    ghost invariant = { λ s. IsRunning s.tree s.hits s.store s.queue s.next_id s.next_unit s.callers s.caller_limit };
 }
 
 impl Server {

@@ -45,12 +45,13 @@ impl Model for Store {
 
     ghost Value = { Stock };
 
-    ghost view =
-        { λ s. record { places = s.places; limit = s.limit;
-        kept = kept_of s.sections.items s.bytes.items } };
+    ghost view = { λ s. record {
+      places = s.places;
+      limit = s.limit;
+      kept = kept_of s.sections.items s.bytes.items;
+    } };
 
-    ghost invariant =
-        { λ s. IsStock s.sections.items s.bytes.items s.used s.limit s.places (vec_capacity s.bytes)
+    ghost invariant = { λ s. IsStock s.sections.items s.bytes.items s.used s.limit s.places (vec_capacity s.bytes)
         (vec_capacity s.sections) };
 }
 

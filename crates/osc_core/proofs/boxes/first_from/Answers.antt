@@ -10,7 +10,7 @@ loop-low-preserved-then-boxes-middle g c =
     let middle = c.loop-low.low + (c.loop-low.high - c.loop-low.low) / 2 in
     let within : middle < length boxes = omega arith in
     let at : get_or ids middle 0 ≡ (get_or boxes middle c.index-boxes-middle.result).0 =
-        get_or-map (λ one. one.0) boxes middle c.index-boxes-middle.result 0 within in
+    get_or-map (λ one. one.0) boxes middle c.index-boxes-middle.result 0 within in
     record {
       order = omega arith;
       within = c.loop-low.invariant.within;
@@ -26,7 +26,7 @@ loop-low-preserved g c =
     let middle = c.loop-low.low + (c.loop-low.high - c.loop-low.low) / 2 in
     let within : middle < length boxes = omega arith in
     let at : get_or ids middle 0 ≡ (get_or boxes middle c.index-boxes-middle.result).0 =
-        get_or-map (λ one. one.0) boxes middle c.index-boxes-middle.result 0 within in
+    get_or-map (λ one. one.0) boxes middle c.index-boxes-middle.result 0 within in
     record {
       order = omega arith;
       within = omega arith;

@@ -14,8 +14,8 @@ returns-in-Some-clause-boxes g c methods =
     let at = rw c.deref.ensures.value at c.in-Some.ensures in
     let same = key_there (λ one. one.0) c.args.boxes.now.items c.in-Some.place c.index_mut.result.now c.args.id at.0 c.index_mut.ensures.value at.1 in
     one_hears_of _ c.args.boxes.now.items c.in-Some.place c.index_mut.result.now c.invoke.new.boxed (invocation_by methods c.args.call.now c.args.id) c.requires
-        (omega (arith, length-map c.args.boxes.now.items (λ one. one.0), at.0)) at.1 c.index_mut.ensures.value
-        (c.invoke.ensures.told methods ∙ hear_by _ methods c.args.call.now _ _ same)
+    (omega (arith, length-map c.args.boxes.now.items (λ one. one.0), at.0)) at.1 c.index_mut.ensures.value
+    (c.invoke.ensures.told methods ∙ hear_by _ methods c.args.call.now _ _ same)
 
 pub returns-in_default-clause-boxes : goal.returns-in_default-clause-boxes
 returns-in_default-clause-boxes g c methods =

@@ -14,7 +14,7 @@ returns-clause-calls c index =
     let found = c.find_hits.new.hits.ids in
     let known : is_some (unknown_of message) ≡ false = ap is_some (sym c.unknown.ensures) ∙ sym c.is_some.ensures ∙ c.if-is_some.false in
     let own = subst (λ (p : List ℕ). All (λ method. address_by_id methods method.id ≡ Some method.address) (matching p methods))
-        c.pattern.ensures c.find_hits.ensures.named in
+    c.pattern.ensures c.find_hits.ensures.named in
     let whole : take (length c.ids.result.now) found ≡ found = ap (λ (l : List ℕ). take (length l) found) c.ids.ensures ∙ take-length found in
     ap (map (call_by methods index message)) (whole ∙ c.find_hits.ensures.ids ∙ ap (λ (p : List ℕ). matching_ids p methods) c.pattern.ensures)
-        ∙ calls_by_ids methods index message known own
+    ∙ calls_by_ids methods index message known own

@@ -5,7 +5,7 @@ use Rattle.osc_core.proofs.calls.invoke_unit.Goals as goal
 pub invoke_message-requires-clause-owed : goal.invoke_message-requires-clause-owed
 invoke_message-requires-clause-owed g c =
     unit_owes c.args.tree.now.methods c.loop-message.index c.in-Some.message c.loop-message.message-iterator c.next.new.self c.in-Some.ensures.steps
-        c.loop-message.recorder c.loop-message.invariant.owed
+    c.loop-message.recorder c.loop-message.invariant.owed
 
 pub loop-message-preserved : goal.loop-message-preserved
 loop-message-preserved g c =
@@ -31,9 +31,9 @@ loop-message-preserved g c =
 pub returns-clause-recorder : goal.returns-clause-recorder
 returns-clause-recorder g c =
     none_put c.args.tree.now.methods c.loop-message.index c.loop-message.message-iterator c.loop-message.recorder c.in-None.ensures.steps.0
-        ∙ c.loop-message.invariant.recorder
+    ∙ c.loop-message.invariant.recorder
 
 pub returns-clause-boxes : goal.returns-clause-boxes
 returns-clause-boxes g c =
     none_heard c.args.tree.now.methods c.loop-message.index c.args.unit c.loop-message.message-iterator _ c.in-None.ensures.steps.0
-        ∙ c.loop-message.invariant.boxes
+    ∙ c.loop-message.invariant.boxes

@@ -19,7 +19,7 @@ returns-clause-recorder g c =
     let only = only_calls methods message c.args.messages c.in-Some.ensures in
     let same : c.in_ok-calls.calls ≡ count = c.in_ok-calls.ensures.count in
     let calls : map (call_by methods 0 message) ids ≡ calls_of methods 0 message =
-        ap (λ (l : List ℕ). map (call_by methods 0 message) (take count l)) c.ids.ensures ∙ c.count_hits-count.ensures.calls 0 in (
+    ap (λ (l : List ℕ). map (call_by methods 0 message) (take count l)) c.ids.ensures ∙ c.count_hits-count.ensures.calls 0 in (
       same ∙ c.count_hits-count.ensures.count ∙ sym (as_many_calls methods 0 message) ∙ sym (ap length only),
       subst (λ (n : ℕ). length (recording_text old) + (44 + 8 * n) ≤ old.caps.recording) (sym same) c.in_ok-calls.ensures.fits,
       c.invoke_ids.ensures.recorder
@@ -37,5 +37,5 @@ returns-clause-boxes g c =
     let ids = take count c.ids.result.now in
     let only = only_calls methods message c.args.messages c.in-Some.ensures in
     let calls : map (call_by methods 0 message) ids ≡ calls_of methods 0 message =
-        ap (λ (l : List ℕ). map (call_by methods 0 message) (take count l)) c.ids.ensures ∙ c.count_hits-count.ensures.calls 0 in
+    ap (λ (l : List ℕ). map (call_by methods 0 message) (take count l)) c.ids.ensures ∙ c.count_hits-count.ensures.calls 0 in
     hear_same _ _ _ _ (c.invoke_ids.ensures.boxes methods) (invoked methods call ids ∙ ap (invocations_of c.args.unit) (calls ∙ sym only))

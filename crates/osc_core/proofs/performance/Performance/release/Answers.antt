@@ -9,16 +9,16 @@ invariant_of-self g c =
     let s = c.self.inside in
     let laws = c.a_performance_is_played.ensures in
     let left = release_leaves laws.played laws.full c.release-releasing.result s.server c.release-releasing.new.self s.recorder c.release-releasing.new.recorder
-        s.entries c.args.caller c.args.self.now c.self.invariant c.self.view_is c.requires.caller c.release-releasing.ensures.answer in
+    s.entries c.args.caller c.args.self.now c.self.invariant c.self.view_is c.requires.caller c.release-releasing.ensures.answer in
     subst (IsPlaying c.release-releasing.new.self c.release-releasing.new.recorder)
-        (ap (λ answer. entries_after answer s.entries) c.in-Released.is) left.playing
+    (ap (λ answer. entries_after answer s.entries) c.in-Released.is) left.playing
 
 pub returns-in-Released-clause-answer : goal.returns-in-Released-clause-answer
 returns-in-Released-clause-answer g c =
     let s = c.self.inside in
     let laws = c.a_performance_is_played.ensures in
     let left = release_leaves laws.played laws.full c.release-releasing.result s.server c.release-releasing.new.self s.recorder c.release-releasing.new.recorder
-        s.entries c.args.caller c.args.self.now c.self.invariant c.self.view_is c.requires.caller c.release-releasing.ensures.answer in
+    s.entries c.args.caller c.args.self.now c.self.invariant c.self.view_is c.requires.caller c.release-releasing.ensures.answer in
     left.told
 
 pub returns-in-Released-clause-performance : goal.returns-in-Released-clause-performance
@@ -26,7 +26,7 @@ returns-in-Released-clause-performance g c =
     let s = c.self.inside in
     let laws = c.a_performance_is_played.ensures in
     let left = release_leaves laws.played laws.full c.release-releasing.result s.server c.release-releasing.new.self s.recorder c.release-releasing.new.recorder
-        s.entries c.args.caller c.args.self.now c.self.invariant c.self.view_is c.requires.caller c.release-releasing.ensures.answer in
+    s.entries c.args.caller c.args.self.now c.self.invariant c.self.view_is c.requires.caller c.release-releasing.ensures.answer in
     left.performance
 
 pub returns-in-Released-clause-boxes : goal.returns-in-Released-clause-boxes
@@ -34,7 +34,7 @@ returns-in-Released-clause-boxes g c =
     let s = c.self.inside in
     let laws = c.a_performance_is_played.ensures in
     let left = release_leaves laws.played laws.full c.release-releasing.result s.server c.release-releasing.new.self s.recorder c.release-releasing.new.recorder
-        s.entries c.args.caller c.args.self.now c.self.invariant c.self.view_is c.requires.caller c.release-releasing.ensures.answer in
+    s.entries c.args.caller c.args.self.now c.self.invariant c.self.view_is c.requires.caller c.release-releasing.ensures.answer in
     hear_same _ _ _ _ c.release-releasing.ensures.boxes (sym left.invocations)
 
 pub returns-in_default-clause-answer : goal.returns-in_default-clause-answer
@@ -42,7 +42,7 @@ returns-in_default-clause-answer g c =
     let s = c.self.inside in
     let laws = c.a_performance_is_played.ensures in
     let left = release_leaves laws.played laws.full c.release-releasing.result s.server c.release-releasing.new.self s.recorder c.release-releasing.new.recorder
-        s.entries c.args.caller c.args.self.now c.self.invariant c.self.view_is c.requires.caller c.release-releasing.ensures.answer in
+    s.entries c.args.caller c.args.self.now c.self.invariant c.self.view_is c.requires.caller c.release-releasing.ensures.answer in
     left.told
 
 pub returns-in_default-clause-performance : goal.returns-in_default-clause-performance
@@ -50,7 +50,7 @@ returns-in_default-clause-performance g c =
     let s = c.self.inside in
     let laws = c.a_performance_is_played.ensures in
     let left = release_leaves laws.played laws.full c.release-releasing.result s.server c.release-releasing.new.self s.recorder c.release-releasing.new.recorder
-        s.entries c.args.caller c.args.self.now c.self.invariant c.self.view_is c.requires.caller c.release-releasing.ensures.answer in
+    s.entries c.args.caller c.args.self.now c.self.invariant c.self.view_is c.requires.caller c.release-releasing.ensures.answer in
     left.performance
 
 pub returns-in_default-clause-boxes : goal.returns-in_default-clause-boxes
@@ -58,5 +58,5 @@ returns-in_default-clause-boxes g c =
     let s = c.self.inside in
     let laws = c.a_performance_is_played.ensures in
     let left = release_leaves laws.played laws.full c.release-releasing.result s.server c.release-releasing.new.self s.recorder c.release-releasing.new.recorder
-        s.entries c.args.caller c.args.self.now c.self.invariant c.self.view_is c.requires.caller c.release-releasing.ensures.answer in
+    s.entries c.args.caller c.args.self.now c.self.invariant c.self.view_is c.requires.caller c.release-releasing.ensures.answer in
     hear_same _ _ _ _ c.release-releasing.ensures.boxes (sym left.invocations)

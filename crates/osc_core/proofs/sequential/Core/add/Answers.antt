@@ -23,7 +23,7 @@ invariant_of-self g c =
       heard = heard_on c.add.new.self (onward old.performance c.args.caller (add c.args.address)) _ c.add.ensures.performance
           (heard_more _ _ _ c.keep_box.ensures.boxes
           (c.boxes_hear_the_history.ensures.added old.performance c.args.caller c.args.address
-              (record { id = id; keep = _; heard = _ }) _ c.add.ensures.legal old.heard c.in-Ok.ensures.added));
+          (record { id = id; keep = _; heard = _ }) _ c.add.ensures.legal old.heard c.in-Ok.ensures.added));
       reserved = still_reserved old.performance c.add.new.self (onward old.performance c.args.caller (add c.args.address)) _ c.add.ensures.performance
           (c.boxes_stay.ensures.caps old.performance c.args.caller (add c.args.address)) (omega (arith, old.reserved, c.keep_box.ensures.capacity));
     }
@@ -49,10 +49,10 @@ returns-in-Ok-clause-stands g c texts stands =
     let event = add c.args.address in
     let lawful : is_address c.args.address ≡ true = subst (λ (a : List ℕ). is_address a ≡ true) c.bytes.ensures.value c.bytes.ensures.test in
     let heard = c.boxes_hear_the_history.ensures.added old c.args.caller c.args.address
-        (record { id = c.in-Ok.id; keep = _; heard = _ }) _ c.add.ensures.legal stands.heard c.in-Ok.ensures.added in
+    (record { id = c.in-Ok.id; keep = _; heard = _ }) _ c.add.ensures.legal stands.heard c.in-Ok.ensures.added in
     stood _ _ _ _ _ _ c.add.ensures.performance c.keep_box.ensures.boxes
     (c.a_server_stands_for_more.ensures.more old c.args.caller event
-        (record { id = c.in-Ok.id; keep = _; heard = _ }) _ texts stands c.requires lawful c.in-Ok.ensures.added heard)
+    (record { id = c.in-Ok.id; keep = _; heard = _ }) _ texts stands c.requires lawful c.in-Ok.ensures.added heard)
 
 pub returns-in-Err-clause-stands : goal.returns-in-Err-clause-stands
 returns-in-Err-clause-stands g c texts stands =

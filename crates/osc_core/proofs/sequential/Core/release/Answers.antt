@@ -10,7 +10,7 @@ pub invariant_of-self-clause-heard : goal.invariant_of-self-clause-heard
 invariant_of-self-clause-heard g c =
     let old = c.args.self.now in
     heard_on c.release.new.self _ _ c.release.ensures.performance
-        (heard_more _ _ _ c.release.ensures.boxes (c.boxes_hear_the_history.ensures.released old.performance c.args.caller _ old.heard))
+    (heard_more _ _ _ c.release.ensures.boxes (c.boxes_hear_the_history.ensures.released old.performance c.args.caller _ old.heard))
 
 pub invariant_of-self-clause-ascending : goal.invariant_of-self-clause-ascending
 invariant_of-self-clause-ascending g c = subst (λ (l : List ℕ). is_ascending l ≡ true) (sym c.release.ensures.ids) c.args.self.now.ascending
@@ -20,4 +20,4 @@ returns-clause-stands g c texts stands =
     let old = c.args.self.now.performance in
     let heard = c.boxes_hear_the_history.ensures.released old c.args.caller _ stands.heard in
     stood _ _ _ _ _ _ c.release.ensures.performance c.release.ensures.boxes
-        (c.a_server_stands_for_more.ensures.called old c.args.caller release (stepped_in old release).invocations _ texts stands c.requires tt heard)
+    (c.a_server_stands_for_more.ensures.called old c.args.caller release (stepped_in old release).invocations _ texts stands c.requires tt heard)

@@ -25,4 +25,4 @@ returns-clause-stands g c texts stands =
     let event = submit c.args.packet.now in
     let heard = c.boxes_stay.ensures.quiet old c.args.caller event _ tt stands.heard in
     stood _ _ _ _ _ _ c.submit.ensures.performance refl
-        (c.a_server_stands_for_more.ensures.same old c.args.caller event _ texts stands c.requires c.bytes.ensures.read heard)
+    (c.a_server_stands_for_more.ensures.same old c.args.caller event _ texts stands c.requires c.bytes.ensures.read heard)
