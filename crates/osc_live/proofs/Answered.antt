@@ -33,7 +33,7 @@ adds_same true false number found seen one then added =
     absurd (omega (arith, ap length then.1, length-append found (entry number then.0 ∷ []), ap length added, length-map seen text_of, length-map found text_of))
 adds_same false true number found seen one then added =
     absurd (omega
-        (arith, ap length then, ap length added.last, length-append (texts found) (added.text ∷ []), length-map seen text_of, length-map found text_of))
+    (arith, ap length then, ap length added.last, length-append (texts found) (added.text ∷ []), length-map seen text_of, length-map found text_of))
 
 text_same : (found : List (List ℕ)) (x y : List ℕ) → found ++ x ∷ [] ≡ found ++ y ∷ [] → x ≡ y
 text_same [] x y e = cc
@@ -74,7 +74,7 @@ calls did old new caps caller event answer ran v w starts once counted r plays =
         → MatchBool t (EndsWith caps caller event answer v w) (AddsNone caps event answer v w)
     go true (text, last) added =
         let at : added.text ≡ text =
-            text_same (texts r.found) added.text text (sym added.last ∙ ap texts last ∙ texts_more r.found (entry (number_of v) text)) in
+        text_same (texts r.found) added.text text (sym added.last ∙ ap texts last ∙ texts_more r.found (entry (number_of v) text)) in
         record {
           before = r.found;
           text = text;
@@ -129,11 +129,11 @@ looked_named caller v w none kept named = ap (λ (n : ℕ). list_all (names call
 pub called : {J : Type 0} {did : J → J → List (List ℕ) → List (List ℕ) → Type 0} {old new : J} (caps limits : Limits) (caller who : ℕ) (event : Event)
     (says : Answer → Type 0) {rest : Type 0} (ran : Bool) (v w : View) → limits ≡ caps → who ≡ caller → StartsWith w.seen v.seen → TakesOnce v w
     → FindsFree ran v w → (r : Ran did old new ran v w) → (answer : Answer) × says answer × Plays limits who event answer (texts r.found) (texts w.seen) × rest
-        → (answer : Answer) × says answer × Calls caps caller event answer v w
+    → (answer : Answer) × says answer × Calls caps caller event answer v w
 called {did = did} {old = old} {new = new} caps limits caller who event says ran v w limited is starts once counted r (answer, said, plays, more) = (
   answer,
   said,
   calls did old new caps caller event answer ran v w starts once counted r
       (subst (λ (n : ℕ). Plays caps n event answer (texts r.found) (texts w.seen)) is
-          (subst (λ (l : Limits). Plays l who event answer (texts r.found) (texts w.seen)) limited plays)),
+      (subst (λ (l : Limits). Plays l who event answer (texts r.found) (texts w.seen)) limited plays)),
 )

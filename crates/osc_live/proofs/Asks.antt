@@ -60,9 +60,9 @@ last_read : (before : List (List ℕ)) (text : List ℕ) (history : List Entry) 
     → history_in (before ++ text ∷ []) ≡ history ++ one ∷ [] → entry_in text ≡ Some one
 last_read before text history one is all =
     go (entry_in text) refl (sym (ap (λ (h : List Entry). h ++ history_in (text ∷ [])) is) ∙ sym (filter_map-append entry_in before (text ∷ [])) ∙ all) where
-  go : (o : Option Entry) → entry_in text ≡ o → history ++ cons_option o [] ≡ history ++ one ∷ [] → entry_in text ≡ Some one
-  go None found same = absurd (omega (arith, ap length same, length-append history [], length-append history (one ∷ [])))
-  go (Some other) found same = found ∙ ap (λ (e : Entry). Some e) (last_is history other one same)
+      go : (o : Option Entry) → entry_in text ≡ o → history ++ cons_option o [] ≡ history ++ one ∷ [] → entry_in text ≡ Some one
+      go None found same = absurd (omega (arith, ap length same, length-append history [], length-append history (one ∷ [])))
+      go (Some other) found same = found ∙ ap (λ (e : Entry). Some e) (last_is history other one same)
 
 last_written : (entries : List Entry) (texts : List (List ℕ)) (one : Entry) (text : List ℕ) → length texts ≡ length entries
     → AreTexts (entries ++ one ∷ []) (texts ++ text ∷ []) → (mark : ℕ) × (text ≡ text_with mark one)
@@ -75,7 +75,7 @@ last_written (e ∷ entries) (t ∷ texts) one text same are = last_written entr
 pub plays : (caps : Limits) (old new : Performance) (boxes others : List Told) (caller : ℕ) (event : Event) (answer : Answer) (before after : List (List ℕ))
     → StandsFor old boxes before → StandsFor new others after
     → old.caps ≡ caps → new ≡ onward old caller event → answer ≡ (stepped_in old event).answer → new.caps ≡ old.caps → IsNext (adds_entry answer) before after
-        → Plays caps caller event answer before after
+    → Plays caps caller event answer before after
 plays caps old new boxes others caller event answer before after one two limits onwards is same next = record {
   legal = subst (λ (l : Limits). Legal l (history_in after)) (same ∙ limits) (subst (Legal new.caps) (sym two.read) two.legal);
   written = subst (λ (h : List Entry). AreTexts h after) (sym two.read) two.written;
@@ -93,14 +93,14 @@ plays caps old new boxes others caller event answer before after one two limits 
     history adds =
         ap (λ (p : Performance). p.history) onwards
         ∙ ap (λ (a : Answer). (if adds_entry a then record old { history = old.history ++ record { caller = caller; event = event; answer = a } ∷ [] }
-            else old).history) (sym is)
+        else old).history) (sym is)
         ∙ ap (λ (t : Bool). (if t then record old { history = old.history ++ entry ∷ [] } else old).history) adds
 
     go : (t : Bool) → adds_entry answer ≡ t → IsNext t before after → MatchBool t (AddsText entry before after) (after ≡ before)
     go true adds (text, last) =
         let read : history_in (before ++ text ∷ []) ≡ old.history ++ entry ∷ [] = sym (ap history_in last) ∙ two.read ∙ history adds in
         let written : AreTexts (old.history ++ entry ∷ []) (before ++ text ∷ []) =
-            subst (λ (h : List Entry). AreTexts h (before ++ text ∷ [])) (history adds) (subst (AreTexts new.history) last two.written) in
+        subst (λ (h : List Entry). AreTexts h (before ++ text ∷ [])) (history adds) (subst (AreTexts new.history) last two.written) in
         let marked = last_written old.history before entry text (as_many old.history before one.written) written in
         record { text = text; mark = marked.0; last = last; text_is = marked.1; read = last_read before text old.history entry one.read read }
     go false adds is = is
@@ -114,10 +114,10 @@ next_starts false before after is = ([], is ∙ sym (append-nil before))
 pub did_so : {A B : Type 0} (event : A → Event) (says : B → Answer → Type 0) (tells : A → B → Limits → List (List ℕ) → Type 0) (caps : Limits) (caller : ℕ)
     (asked : Option A) (given : Option B) (a : A) (b : B) (before after : List (List ℕ)) → asked ≡ Some a → given ≡ Some b
     → (answer : Answer) × says b answer × Plays caps caller (event a) answer before after × tells a b caps after
-        → Did event says tells caps caller asked given before after
+    → Did event says tells caps caller asked given before after
 did_so event says tells caps caller asked given a b before after is has facts =
     subst (λ (o : Option _). Did event says tells caps caller o given before after) (sym is)
-        (subst (λ (o : Option _). Did event says tells caps caller (Some a) o before after) (sym has) facts)
+    (subst (λ (o : Option _). Did event says tells caps caller (Some a) o before after) (sym has) facts)
 
 pub some_there : {B : Type 0} (P : B → Type 0) (given : Option B) (b : B) → given ≡ Some b → IsSomeAnd given P → P b
 some_there P given b is there = subst (λ (o : Option _). IsSomeAnd o P) is there

@@ -48,7 +48,7 @@ own_holds : (history : List Seen) (one : Seen) → Contains history one → Cont
 own_holds [] one (k, within, is) = absurd (omega arith)
 own_holds (first ∷ history) one (zero, within, is) =
     subst (λ (t : Bool). Contains (cond t (first ∷ own one.number history) (own one.number history)) one)
-        (sym (eq-eqb first.number one.number (ap (λ (e : Seen). e.number) is))) (0, omega arith, is)
+    (sym (eq-eqb first.number one.number (ap (λ (e : Seen). e.number) is))) (0, omega arith, is)
 own_holds (first ∷ history) one (suc k, within, is) = go (first.number == one.number) (own_holds history one (k, omega arith, is)) where
   go : (t : Bool) → Contains (own one.number history) one → Contains (cond t (first ∷ own one.number history) (own one.number history)) one
   go true there = later first (own one.number history) one there
@@ -86,26 +86,26 @@ named callers guests history carried once k d within = go (times_in one.number (
   go : (p : Pass) × Contains (passes_of callers guests) p × (turn.number p ≡ one.number) → IsOfCaller (known callers) one
   go (p, there, same) =
       cases (Contains-append_cases (map (λ (caller : Caller). caller.pass) callers) (map (λ (guest : Guest). guest.pass) guests) p there) where
-    mine : own (turn.number p) history ≡ own (turn.number p) (view p).seen
-    mine = (All-contains (Carries history) (passes_of callers guests) p carried there).1
+        mine : own (turn.number p) history ≡ own (turn.number p) (view p).seen
+        mine = (All-contains (Carries history) (passes_of callers guests) p carried there).1
 
-    held : Contains (own (turn.number p) (view p).seen) one
-    held = subst (λ (l : List Seen). Contains l one) mine (subst (λ (n : ℕ). Contains (own n history) one) (sym same) (own_holds history one here))
+        held : Contains (own (turn.number p) (view p).seen) one
+        held = subst (λ (l : List Seen). Contains l one) mine (subst (λ (n : ℕ). Contains (own n history) one) (sym same) (own_holds history one here))
 
-    cases : Contains (map (λ (caller : Caller). caller.pass) callers) p ⊎ Contains (map (λ (guest : Guest). guest.pass) guests) p
-        → IsOfCaller (known callers) one
-    cases (inl caller) =
-        let found = from_map (λ (caller : Caller). caller.pass) callers p caller in
-        let c : Caller = found.0 in (
-          (c.number, view c.pass),
-          to_map (λ (caller : Caller). (caller.number, view caller.pass)) callers c found.1,
-          ap (λ (q : Pass). turn.number q) found.2 ∙ same,
-          all_hold (names c.number) (own (number_of (view c.pass)) (view c.pass).seen) one c.named
-              (subst (λ (q : Pass). Contains (own (turn.number q) (view q).seen) one) (sym found.2) held),
-        )
-    cases (inr guest) =
-        let found = from_map (λ (guest : Guest). guest.pass) guests p guest in
-        absurd (none_there one
+        cases : Contains (map (λ (caller : Caller). caller.pass) callers) p ⊎ Contains (map (λ (guest : Guest). guest.pass) guests) p
+            → IsOfCaller (known callers) one
+        cases (inl caller) =
+            let found = from_map (λ (caller : Caller). caller.pass) callers p caller in
+            let c : Caller = found.0 in (
+              (c.number, view c.pass),
+              to_map (λ (caller : Caller). (caller.number, view caller.pass)) callers c found.1,
+              ap (λ (q : Pass). turn.number q) found.2 ∙ same,
+              all_hold (names c.number) (own (number_of (view c.pass)) (view c.pass).seen) one c.named
+                  (subst (λ (q : Pass). Contains (own (turn.number q) (view q).seen) one) (sym found.2) held),
+            )
+        cases (inr guest) =
+            let found = from_map (λ (guest : Guest). guest.pass) guests p guest in
+            absurd (none_there one
             (subst (λ (l : List Seen). Contains l one) found.0.none_own
             (subst (λ (q : Pass). Contains (own (turn.number q) (view q).seen) one) (sym found.2) held)))
 
@@ -121,7 +121,7 @@ numbers_same (p ∷ passes) = ap (λ (l : List ℕ). turn.number p ∷ l) (numbe
 pub closes : (caps : Limits) (performance : Performance) (boxes kept : List Told) (bytes : List ℕ) (callers : List Caller) (guests : List Guest)
     (passes : List Pass) (history : List Seen) → passes ≡ passes_of callers guests → StandsFor performance boxes (texts history) → performance.caps ≡ caps
     → All (Carries history) passes → All (IsOwnOfOne passes) history → bytes ≡ record_text performance.caps performance.history
-        → KeepsTheLaws performance.caps performance.history → kept ≡ boxes → Closes caps (known callers) (views_of callers guests) bytes kept
+    → KeepsTheLaws performance.caps performance.history → kept ≡ boxes → Closes caps (known callers) (views_of callers guests) bytes kept
 closes caps performance boxes kept bytes callers guests passes history all stands limits carried once recorded laws is = record {
   history = history;
   legal = subst (λ (l : Limits). Legal l (history_in (texts history))) limits (subst (Legal performance.caps) (sym stands.read) stands.legal);
@@ -157,7 +157,7 @@ all_ours turn_of caps callers others one back guests passes is ours these first 
     subst (All (IsPassOf turn_of)) (sym all)
     (All-append (IsPassOf turn_of) (map (λ (caller : Caller). caller.pass) (back ∷ others)) (map (λ (guest : Guest). guest.pass) guests)
     (All-cons (IsPassOf turn_of) back.pass (map (λ (caller : Caller). caller.pass) others) first
-        (All-map (IsPassOf turn_of) (λ (caller : Caller). caller.pass) others (λ k d within. (rest (suc k) d (omega arith)).0)))
+    (All-map (IsPassOf turn_of) (λ (caller : Caller). caller.pass) others (λ k d within. (rest (suc k) d (omega arith)).0)))
     (All-map (IsPassOf turn_of) (λ (guest : Guest). guest.pass) guests (λ k d within. (these k d within).0)))
 
 pub some_first : (callers : List Caller) → StartsAtZero callers → 0 < length callers

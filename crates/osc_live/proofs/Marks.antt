@@ -61,19 +61,19 @@ removal_silent state address id is = go (changes state (remove address)) where
 pub removed_tells : {M : Type 0} (keep : M → ℕ) (heard : M → Option (List ℕ)) (given : Removing M) (old new : Performance) (caller : ℕ) (address : List ℕ)
     (boxes others : List Told) (before after : List (List ℕ))
     → ((performance : Performance) (caller : ℕ) (event : Event)
-        → invoked_in (onward performance caller event) ≡ invoked_in performance ++ (stepped_in performance event).invocations)
+    → invoked_in (onward performance caller event) ≡ invoked_in performance ++ (stepped_in performance event).invocations)
     → StandsFor old boxes before → StandsFor new others after → StartsWith after before → new ≡ onward old caller (remove address) → new.caps ≡ old.caps
-        → removing_of given ≡ (stepped_in old (remove address)).answer
+    → removing_of given ≡ (stepped_in old (remove address)).answer
     → OnRemoved given (λ id method. Contains {X = Told} boxes (record { id = id; keep = keep method; heard = heard method }))
     → OnRemoved given (λ id method. CarriesMark after id (mark_of (record { id = id; keep = keep method; heard = heard method }))
-        × HasHeard (invoked_in (performance_in old.caps after)) (record { id = id; keep = keep method; heard = heard method }))
+    × HasHeard (invoked_in (performance_in old.caps after)) (record { id = id; keep = keep method; heard = heard method }))
 removed_tells keep heard (removing.Removed id method) old new caller address boxes others before after invoked one two starts onwards caps is held =
     let told : Told = record { id = id; keep = keep method; heard = heard method } in
     let whole : new ≡ performance_in old.caps after = λ i. record { caps = caps i; history = sym two.read i } in
     let none = removal_silent (state_of old) address id (sym is) in
     let same : invoked_in old ≡ invoked_in (performance_in old.caps after) =
     sym (append-nil (invoked_in old)) ∙ ap (λ (l : List Invocation). invoked_in old ++ l) (sym none) ∙ sym (invoked old caller (remove address))
-        ∙ ap invoked_in (sym onwards) ∙ ap invoked_in whole in (
+    ∙ ap invoked_in (sym onwards) ∙ ap invoked_in whole in (
       carries_on after before id (mark_of told) starts (one_of (λ box. CarriesMark before box.id (mark_of box)) boxes told one.marked held),
       subst (λ (l : List Invocation). HasHeard l told) same (one_of (HasHeard (invoked_in old)) boxes told one.heard.heard held),
     )

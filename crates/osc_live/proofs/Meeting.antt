@@ -24,23 +24,31 @@ pub calls_met : (caps : Limits) (caller : ℕ) (event : Event) (answer : Answer)
 calls_met caps caller event answer v g v1 w is starts own_same calls =
     go (subst (λ (u : View). Calls caps caller event answer u w) is calls) (subst (λ (u : View). StartsWith u.seen v.seen) is starts)
     (sym (ap (λ (u : View). own (number_of v) u.seen) is) ∙ own_same) where
-  go : Calls caps caller event answer (met_by v g) w → StartsWith (met_by v g).seen v.seen → own (number_of v) (met_by v g).seen ≡ own (number_of v) v.seen
-      → Calls caps caller event answer v w
-  go calls starts same = record {
-    goes_on = starts_on w.seen (met_by v g).seen v.seen calls.goes_on starts;
-    legal = calls.legal;
-    written = calls.written;
-    answered = answered (adds_entry answer) calls.answered;
-    once = calls.once;
-    counted = calls.counted;
-  }
-    where
-      answered : (t : Bool) → MatchBool t (EndsWith caps caller event answer (met_by v g) w) (AddsNone caps event answer (met_by v g) w)
-          → MatchBool t (EndsWith caps caller event answer v w) (AddsNone caps event answer v w)
-      answered true ends =
-          record { before = ends.before; text = ends.text; mark = ends.mark; last = ends.last; text_is = ends.text_is; read = ends.read;
-          answered = ends.answered; own_once = ends.own_once ∙ ap (λ (l : List Seen). l ++ entry (number_of v) ends.text ∷ []) same }
-      answered false none = record { answered = none.answered; own_same = none.own_same ∙ same }
+      go : Calls caps caller event answer (met_by v g) w → StartsWith (met_by v g).seen v.seen → own (number_of v) (met_by v g).seen ≡ own (number_of v) v.seen
+          → Calls caps caller event answer v w
+      go calls starts same = record {
+        goes_on = starts_on w.seen (met_by v g).seen v.seen calls.goes_on starts;
+        legal = calls.legal;
+        written = calls.written;
+        answered = answered (adds_entry answer) calls.answered;
+        once = calls.once;
+        counted = calls.counted;
+      }
+        where
+          answered : (t : Bool) → MatchBool t (EndsWith caps caller event answer (met_by v g) w) (AddsNone caps event answer (met_by v g) w)
+              → MatchBool t (EndsWith caps caller event answer v w) (AddsNone caps event answer v w)
+          answered true ends =
+              record {
+                before = ends.before;
+                text = ends.text;
+                mark = ends.mark;
+                last = ends.last;
+                text_is = ends.text_is;
+                read = ends.read;
+                answered = ends.answered;
+                own_once = ends.own_once ∙ ap (λ (l : List Seen). l ++ entry (number_of v) ends.text ∷ []) same;
+              }
+          answered false none = record { answered = none.answered; own_same = none.own_same ∙ same }
 
 abbrev pub Enrols : Type 0
 Enrols = (caps : Limits) (history : List Entry) (caller n : ℕ) → Legal caps (history ++ record { caller = caller; event = enrol; answer = number n } ∷ [])
@@ -52,7 +60,7 @@ newly_enrolled enrols caps caller n v w calls =
     let ends : EndsWith caps caller enrol (number n) v w = calls.answered in
     let one : Entry = record { caller = caller; event = enrol; answer = number n } in
     let history : history_of w ≡ history_in (texts ends.before) ++ one ∷ [] =
-        ap history_in (ap texts ends.last ∙ texts_more ends.before (entry (number_of v) ends.text)) ∙ read_more (texts ends.before) ends.text one ends.read in
+    ap history_in (ap texts ends.last ∙ texts_more ends.before (entry (number_of v) ends.text)) ∙ read_more (texts ends.before) ends.text one ends.read in
     let next = enrols caps (history_in (texts ends.before)) caller n (subst (Legal caps) history calls.legal) in
     (next.0, omega (arith, next.1, ap callers_in history))
 

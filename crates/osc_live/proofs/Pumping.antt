@@ -57,9 +57,9 @@ pub count_few : (caps : Limits) (caller count calls : ℕ) (event : Event) (answ
 count_few caps caller count calls event answer v between w earlier call adds =
     let most = own_count caps caller count calls v between earlier in
     let ends : EndsWith caps caller event answer between w =
-        subst (λ (t : Bool). MatchBool t (EndsWith caps caller event answer between w) (AddsNone caps event answer between w)) adds call.answered in
+    subst (λ (t : Bool). MatchBool t (EndsWith caps caller event answer between w) (AddsNone caps event answer between w)) adds call.answered in
     let here : length (own (number_of between) w.seen) ≡ length (own (number_of between) between.seen) + 1 =
-        omega (arith, ap length ends.own_once, length-append (own (number_of between) between.seen) (entry (number_of between) ends.text ∷ [])) in
+    omega (arith, ap length ends.own_once, length-append (own (number_of between) between.seen) (entry (number_of between) ends.text ∷ [])) in
     let there = subst (λ (n : ℕ). length (own n w.seen) ≡ length (own n between.seen) + 1) most.0 here in
     omega (arith, most.1, there, own_few (number_of v) w.seen, seen_few caps caller event answer between w call)
 

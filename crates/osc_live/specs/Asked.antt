@@ -10,6 +10,6 @@ module _ {A B : Type 0} (event : A → Event) (says : B → Answer → Type 0)
   abbrev pub Did : Limits → ℕ → Option A → Option B → List (List ℕ) → List (List ℕ) → Type 0
   Did caps caller asked given before after =
       IfSome asked
-          (λ a. IsSomeAnd given
-          (λ b. (answer : Answer) × says b answer × Plays caps caller (event a) answer before after
-          × tells a b caps after))
+      (λ a. IsSomeAnd given
+      (λ b. (answer : Answer) × says b answer × Plays caps caller (event a) answer before after
+      × tells a b caps after))

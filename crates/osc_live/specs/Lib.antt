@@ -5,6 +5,5 @@ pub mod Enrolments
 pub mod Outs
 pub mod Pumps
 pub mod Seen
-
 -- Inside the crate.
 pub mod Asked

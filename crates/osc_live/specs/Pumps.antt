@@ -20,7 +20,7 @@ abbrev pub Releases : Limits → ℕ → ℕ → ℕ → View → View → Type 
 Releases caps caller zero calls v w = (w ≡ v) × (calls ≡ 0)
 Releases caps caller (suc count) calls v w =
     (between : View) × (before : ℕ) × (last : ℕ) × (calls ≡ before + last)
-        × Releases caps caller count before v between × ReleasesOne caps caller last between w
+    × Releases caps caller count before v between × ReleasesOne caps caller last between w
 
 -- the answer of the release that ends a pump
 abbrev pub end_of : PumpEnd → Answer

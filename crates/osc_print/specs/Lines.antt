@@ -21,7 +21,7 @@ abbrev pub call_text : ℕ → ℕ → ℕ → List ℕ → List ℕ → List �
 call_text unit index id address message =
     line (call_head unit index id address
     ++ (spaced (tags_word (tags_of message))
-        ++ flat_map (λ argument. spaced (argument_word argument)) (message_arguments message)))
+    ++ flat_map (λ argument. spaced (argument_word argument)) (message_arguments message)))
 
 -- the line of a fault of the packet in a line of a script
 abbrev pub fault_text : ℕ → Fault → List ℕ

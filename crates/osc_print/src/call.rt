@@ -24,9 +24,15 @@ pub fn call_line(
 ) -> Result<(), AllocError>
     ensures ok { OnOk result
         (text.new ≡ text.old ++ invocation_text
-        (record { unit = call.now.unit;
-        call = record { index = call.now.index; id = id; address = address.now;
-        message = call.now.message } })) }
+        (record {
+          unit = call.now.unit;
+          call = record {
+            index = call.now.index;
+            id = id;
+            address = address.now;
+            message = call.now.message;
+          };
+        })) }
     ensures err { OnErr result (text.new ≡ text.old) }
 {
     let start = text.bytes().len();

@@ -13,11 +13,17 @@ pub fn examples()
     ensures queued { entry_text (record { caller = 0; event = submit []; answer = queued 12 2 })
         ≡ codes "submit 0 queued 12 2\n" }
     ensures units_full { entry_text
-        (record { caller = 1; event = submit [];
-        answer = units_full (record { need = 3; free = 2 }) }) ≡ codes "submit 1 units-full 3 2\n" }
+        (record {
+          caller = 1;
+          event = submit [];
+          answer = units_full (record { need = 3; free = 2 });
+        }) ≡ codes "submit 1 units-full 3 2\n" }
     ensures pool_full { entry_text
-        (record { caller = 0; event = submit [];
-        answer = pool_full (record { need = 1; free = 0 }) }) ≡ codes "submit 0 pool-full 1 0\n" }
+        (record {
+          caller = 0;
+          event = submit [];
+          answer = pool_full (record { need = 1; free = 0 });
+        }) ≡ codes "submit 0 pool-full 1 0\n" }
     ensures added { entry_text
         (record { caller = 0; event = add (codes "/light/dim"); answer = added 0 })
         ≡ codes "add 0 /light/dim id 0\n" }
@@ -47,12 +53,21 @@ pub fn examples()
     ensures clock_back { entry_text (record { caller = 0; event = tick 0; answer = clock_back 1 })
         ≡ codes "tick 0 0000000000000000 clock-back 0000000000000001\n" }
     ensures released { entry_text
-        (record { caller = 0; event = release;
-        answer = released 12 (record { index = 0; id = 4 } ∷ record { index = 1; id = 4 } ∷ []) })
+        (record {
+          caller = 0;
+          event = release;
+          answer = released 12 (record { index = 0; id = 4 } ∷ record { index = 1; id = 4 } ∷ []);
+        })
         ≡ codes "release 0 12 2\n" }
     ensures call { invocation_text
-        (record { unit = 0;
-        call = record { index = 0; id = 0; address = codes "/light/dim";
-        message = codes "/light/dim\0\0,i\0\0\0\0\0\u{7}" } })
+        (record {
+          unit = 0;
+          call = record {
+            index = 0;
+            id = 0;
+            address = codes "/light/dim";
+            message = codes "/light/dim\0\0,i\0\0\0\0\0\u{7}";
+          };
+        })
         ≡ codes "call 0 0 0 /light/dim ,i i:7\n" }
 {}

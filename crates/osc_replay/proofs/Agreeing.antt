@@ -81,29 +81,33 @@ made_goes r state new kept answer lines before after is agree text =
 pub made_differs : (r : Result (Unit {0}) ReplayFault) (number : ℕ) (state new : State) (kept : Entry) (answer : Answer) (lines : List ℕ)
     → Played state new kept answer lines
     → IfErr r (λ fault. Differs fault number (text_of kept) (entry_text kept.caller kept.event answer))
-        → IfErr r (λ fault. Differs fault number (text_of kept) (computed_text state kept.caller kept.event))
+    → IfErr r (λ fault. Differs fault number (text_of kept) (computed_text state kept.caller kept.event))
 made_differs r number state new kept answer lines is differs =
     subst (λ (l : List ℕ). IfErr r (λ fault. Differs fault number (text_of kept) l))
-        (sym (computed_is state kept.caller kept.event answer is.enrolled is.enters.answer_is is.enters.adds)) differs
+    (sym (computed_is state kept.caller kept.event answer is.enrolled is.enters.answer_is is.enters.adds)) differs
 
 pub played_answered : (state new : State) (row : Row) (calls : Calls) (outcome : Outcome) (answer : Given) → IsReached state → outcome ≡ Answered answer
     → ComesTo outcome calls row.entry.caller state (event_in row.event) new → Played state new (placed_of row.entry).entry (answer_of answer) []
 played_answered state new row calls outcome answer reached is comes =
     let came : (row.entry.caller < state.callers) × HasWholeHits answer
-        × Enters (answer_of answer) [] state (event_in row.event) new =
-        subst (λ (o : Outcome). ComesTo o calls row.entry.caller state (event_in row.event) new) is comes in
-    record { reached = reached; lawful = row_lawful row; enrolled = came.0;
-        enters = subst (λ (e : Event). Enters (answer_of answer) [] state e new) row.same came.2 }
+    × Enters (answer_of answer) [] state (event_in row.event) new =
+    subst (λ (o : Outcome). ComesTo o calls row.entry.caller state (event_in row.event) new) is comes in
+    record {
+      reached = reached;
+      lawful = row_lawful row;
+      enrolled = came.0;
+      enters = subst (λ (e : Event). Enters (answer_of answer) [] state e new) row.same came.2;
+    }
 
 pub played_released : (state new : State) (row : Row) (calls : Calls) (outcome : Outcome) (unit : ℕ) (hits lines : List ℕ) → IsReached state
     → outcome ≡ Released unit → ComesTo outcome calls row.entry.caller state (event_in row.event) new
     → hits ≡ calls.hits.items → lines ≡ calls.lines → Played state new (placed_of row.entry).entry (released unit (hits_in hits)) lines
 played_released state new row calls outcome unit hits lines reached is comes hits_are lines_are =
     let came : (row.entry.caller < state.callers) × (event_in row.event ≡ release)
-        × EntersRelease unit calls state new = subst (λ (o : Outcome). ComesTo o calls row.entry.caller state (event_in row.event) new) is comes in
+    × EntersRelease unit calls state new = subst (λ (o : Outcome). ComesTo o calls row.entry.caller state (event_in row.event) new) is comes in
     let event = event_of row.entry.event in
     let enters : Enters (released unit (hits_in calls.hits.items)) calls.lines state event new =
-        subst (λ (e : Event). Enters (released unit (hits_in calls.hits.items)) calls.lines state e new) (sym came.1 ∙ row.same) came.2.1 in
+    subst (λ (e : Event). Enters (released unit (hits_in calls.hits.items)) calls.lines state e new) (sym came.1 ∙ row.same) came.2.1 in
     record {
       reached = reached;
       lawful = row_lawful row;
@@ -120,6 +124,6 @@ pub nothing_differs : (state new : State) (row : Row) (calls : Calls) (outcome :
 nothing_differs state new row calls outcome own given number recordable is comes copied empty =
     let event = event_of row.entry.event in
     let came : computed_text state row.entry.caller (event_in row.event) ≡ [] =
-        subst (λ (o : Outcome). ComesTo o calls row.entry.caller state (event_in row.event) new) is comes in
+    subst (λ (o : Outcome). ComesTo o calls row.entry.caller state (event_in row.event) new) is comes in
     let none : computed_text state row.entry.caller event ≡ [] = ap (computed_text state row.entry.caller) (sym row.same) ∙ came in
     (refl, copied, empty ∙ sym none, kept_some row.entry.caller event (answer_of row.entry.answer) (computed_text state row.entry.caller event) recordable none)

@@ -23,8 +23,14 @@ use Rattle.osc_replay.specs.Playing.{Decides, Enters}
 -- the state of a server with these parts
 abbrev pub server_state : Registry → Timed Messages → (blocks clock next_id next_unit callers caller_limit recorded record_limit : ℕ) → State
 server_state tree queue blocks clock next_id next_unit callers caller_limit recorded record_limit = record {
-  caps = record { units = queue.limit; blocks = blocks; methods = tree.method_limit; nodes = tree.node_limit; callers = caller_limit;
-      recording = record_limit };
+  caps = record {
+    units = queue.limit;
+    blocks = blocks;
+    methods = tree.method_limit;
+    nodes = tree.node_limit;
+    callers = caller_limit;
+    recording = record_limit;
+  };
   methods = tree.methods;
   queue = queue.items;
   clock = clock;
@@ -88,7 +94,7 @@ release_enters state after unit others hits lines first due hits_are lines_are f
     let adds : adds_entry (decided state release).answer ≡ true = ap (λ (s : Stepped). adds_entry s.answer) is in
     let stepped = room_records state release adds (omega (arith, size)) in
     let answer : (step state release).answer ≡ released (unit_of unit) (hits_of calls) =
-        ap (λ (s : Stepped). s.answer) stepped ∙ ap (λ (s : Stepped). s.answer) is in
+    ap (λ (s : Stepped). s.answer) stepped ∙ ap (λ (s : Stepped). s.answer) is in
     let whole = fit (ap adds_entry answer) (unit_of unit) (hits_of calls) answer in (
       omega (arith, ap length hits_are, length-hits_text (hits_of calls)),
       record {

@@ -86,7 +86,7 @@ pub same_first : (limit place : ℕ) (one two : Entry) (after behind : List ℕ)
 same_first limit place one two after behind first second fits within small same =
     ap (λ (p : Entry × ℕ). p.0) (some_is (one, length (entry_text one.caller one.event one.answer)) (two, length (entry_text two.caller two.event two.answer))
     (sym (entry_first_again one.caller one.event one.answer after limit place first fits small) ∙ ap (entry_first limit place) same
-        ∙ entry_first_again two.caller two.event two.answer behind limit place second within small))
+    ∙ entry_first_again two.caller two.event two.answer behind limit place second within small))
   where
     some_is : (p q : Entry × ℕ) → ◌≡◌ {A = Option (Entry × ℕ)} (Some p) (Some q) → p ≡ q
     some_is p q e = cc
@@ -112,7 +112,7 @@ formed_more bytes caps before old new placed is reads lawful =
     let own : List ℕ = entry_text entry.caller entry.event entry.answer in
     let text = record_more caps before entry in
     let size : length (record_text caps (before ++ entry ∷ [])) ≡ length (record_text caps before) + length own =
-        ap length text ∙ length-append (record_text caps before) own in
+    ap length text ∙ length-append (record_text caps before) own in
     let within = reads.within in
     record {
       caps_are = reads.caps_stay ∙ is.caps_are;
@@ -191,7 +191,7 @@ never : (limit place at : ℕ) (entries history : List Entry) (rest : List ℕ) 
     → AreLawful history → place + length (texts history) ≤ limit → limit ≤ 1073741824
     → at ≡ place + length (texts entries) → 0 < length rest
     → ((entry : Entry) (more : List ℕ) → Recordable entry → IsLawful entry.event → at + length (entry_text entry.caller entry.event entry.answer) ≤ limit
-        → rest ≡ entry_text entry.caller entry.event entry.answer ++ more → ⊥)
+    → rest ≡ entry_text entry.caller entry.event entry.answer ++ more → ⊥)
     → texts entries ++ rest ≡ texts history → ⊥
 never limit place at [] [] rest all others lawful fits small at_is some none same = absurd (omega (arith, ap length same))
 never limit place at [] (h ∷ history) rest all others lawful fits small at_is some none same =
@@ -205,13 +205,13 @@ never limit place at (e ∷ entries) (h ∷ history) rest all others lawful fits
     let size = length-append own (texts entries ++ rest) in
     let long = length-append other (texts history) in
     let one : e ≡ h = same_first limit place e h (texts entries ++ rest) (texts history) all.0 others.0 (omega (arith, ap length joined))
-        (omega arith) small joined in
+    (omega arith) small joined in
     let text : own ≡ other = ap (λ (x : Entry). entry_text x.caller x.event x.answer) one in
     let behind : texts entries ++ rest ≡ texts history =
     sym (drop_front own (texts entries ++ rest)) ∙ ap (drop (length own)) joined ∙ ap (λ (l : List ℕ). drop (length l) (other ++ texts history)) text
-        ∙ drop_front other (texts history) in
+    ∙ drop_front other (texts history) in
     never limit (place + length own) at entries history rest all.1 others.1 lawful.1 (omega (arith, ap length text)) small
-        (omega (arith, length-append own (texts entries))) some none behind
+    (omega (arith, length-append own (texts entries))) some none behind
 
 pub no_place : (bytes : List ℕ) (at : ℕ) (caps : Limits) (history : List Entry) → IsFormed caps history → bytes ≡ record_text caps history
     → IsUnformedAt bytes at → ⊥
@@ -219,18 +219,18 @@ no_place bytes at caps history formed same (inl is) = is.none caps (texts histor
 no_place bytes at caps history formed same (inr is) =
     let split : bytes ≡ header_text is.limits ++ (texts is.entries ++ is.rest) = is.text ∙ append_assoc (header_text is.limits) (texts is.entries) is.rest in
     let one : is.limits ≡ caps =
-        some_is is.limits caps
-        (sym (header_again is.limits (texts is.entries ++ is.rest) is.formed.record_.lawful) ∙ ap header_read (sym split ∙ same)
-        ∙ header_again caps (texts history) formed.record_.lawful) in
+    some_is is.limits caps
+    (sym (header_again is.limits (texts is.entries ++ is.rest) is.formed.record_.lawful) ∙ ap header_read (sym split ∙ same)
+    ∙ header_again caps (texts history) formed.record_.lawful) in
     let header : header_text is.limits ≡ header_text caps = ap header_text one in
     let behind : texts is.entries ++ is.rest ≡ texts history =
     sym (drop_front (header_text is.limits) (texts is.entries ++ is.rest)) ∙ ap (drop (length (header_text is.limits))) (sym split ∙ same)
     ∙ ap (λ (l : List ℕ). drop (length l) (header_text caps ++ texts history)) header ∙ drop_front (header_text caps) (texts history) in
     let limit = ap (λ (l : Limits). l.recording) one in
     never caps.recording 56 at is.entries history is.rest is.formed.record_.all formed.record_.all formed.lawful
-        (omega (arith, formed.record_.fits, record_length caps history)) formed.record_.lawful.recording.below
+    (omega (arith, formed.record_.fits, record_length caps history)) formed.record_.lawful.recording.below
     (is.place ∙ record_length is.limits is.entries) is.some
-        (λ entry more recordable lawful fits rest. is.none entry more recordable lawful (omega (arith, fits, limit)) rest) behind
+    (λ entry more recordable lawful fits rest. is.none entry more recordable lawful (omega (arith, fits, limit)) rest) behind
   where
     some_is : (x y : Limits) → ◌≡◌ {A = Option Limits} (Some x) (Some y) → x ≡ y
     some_is x y e = cc

@@ -65,7 +65,7 @@ matching_found pattern tree lawful same =
     All-permutation own (matched pattern tree.methods) (matching pattern tree.methods) same
     (All-filter (λ method. matches pattern method.address) own tree.methods
     (λ k d below. address_found tree.methods (get_or tree.methods k d) lawful.list.ids
-        (k, below, get_or_default tree.methods k (get_or tree.methods k d) d below)))
+    (k, below, get_or_default tree.methods k (get_or tree.methods k d) d below)))
 
 -- calls by ids are the calls of the methods
 pub called : (all methods : List Method) (index : ℕ) (message : List ℕ) → All (λ method. address_by_id all method.id ≡ Some method.address) methods
@@ -75,8 +75,8 @@ called all [] index message known = refl
 called all (method ∷ methods) index message known =
     let own : Method → Type 0 = λ m. address_by_id all m.id ≡ Some m.address in
     rw (All-head own method methods known)
-        (ap (λ (l : List Call). record { index = index; id = method.id; address = method.address; message = message } ∷ l)
-        (called all methods index message (All-tail own method methods known)))
+    (ap (λ (l : List Call). record { index = index; id = method.id; address = method.address; message = message } ∷ l)
+    (called all methods index message (All-tail own method methods known)))
 
 -- each of their ids has an address
 pub named : (all methods : List Method) → All (λ method. address_by_id all method.id ≡ Some method.address) methods
@@ -85,4 +85,4 @@ named all [] known = All-nil (λ id. IsSome (address_by_id all id))
 named all (method ∷ methods) known =
     let own : Method → Type 0 = λ m. address_by_id all m.id ≡ Some m.address in
     All-cons (λ id. IsSome (address_by_id all id)) method.id (map (λ m. m.id) methods) (subst (λ o. IsSome o) (sym (All-head own method methods known)) refl)
-        (named all methods (All-tail own method methods known))
+    (named all methods (All-tail own method methods known))

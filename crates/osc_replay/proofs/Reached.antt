@@ -41,7 +41,7 @@ pub recordable : NextFits → (state : State) → IsReached state → (caller : 
 recordable next state reached caller event answer enrolled lawful is adds =
     let p = reached.performance in
     subst (λ (s : State). caller < s.callers → answer ≡ (step s event).answer → adds_entry (step s event).answer ≡ true → IsRecordable caller event answer)
-        (sym reached.is)
+    (sym reached.is)
     (λ enrolled is adds. subst (IsRecordable caller event) (sym is) (next p caller event reached.legal enrolled lawful adds)) enrolled is adds
 
 -- and its entry is small
@@ -51,20 +51,20 @@ pub entry_small : GoesOn → StaysWithin → (state : State) → IsReached state
 entry_small on within state reached caller event answer enrolled lawful is adds =
     let p = reached.performance in
     subst (λ (s : State). caller < s.callers → answer ≡ (step s event).answer → adds_entry (step s event).answer ≡ true
-        → length (entry_text caller event answer) ≤ 1073741824) (sym reached.is)
+    → length (entry_text caller event answer) ≤ 1073741824) (sym reached.is)
     (λ enrolled is adds. (
     let entry : Entry = record { caller = caller; event = event; answer = (stepped_in p event).answer } in
     let history : (onward p caller event).history ≡ p.history ++ entry ∷ [] =
-        ap (λ (q : Performance). q.history) (cond-true (adds_entry (stepped_in p event).answer) (record p { history = p.history ++ entry ∷ [] }) p adds) in
+    ap (λ (q : Performance). q.history) (cond-true (adds_entry (stepped_in p event).answer) (record p { history = p.history ++ entry ∷ [] }) p adds) in
     let legal = on p caller event reached.legal enrolled lawful in
     let most = within p.caps (onward p caller event).history legal in
     let small = reached.legal.0.recording.below in
     let size : length (record_text p.caps (onward p caller event).history)
-        ≡ length (record_text p.caps p.history ++ entry_text caller event (stepped_in p event).answer) =
+    ≡ length (record_text p.caps p.history ++ entry_text caller event (stepped_in p event).answer) =
     ap (λ (h : List Entry). length (record_text p.caps h)) history ∙ ap length (record_more p.caps p.history entry) in
     let joined = length-append (record_text p.caps p.history) (entry_text caller event (stepped_in p event).answer) in
     let same : length (entry_text caller event answer) ≡ length (entry_text caller event (stepped_in p event).answer) =
-        ap (λ (a : Answer). length (entry_text caller event a)) is in
+    ap (λ (a : Answer). length (entry_text caller event a)) is in
     omega (arith, most, small, size, joined, same)
     )) enrolled is adds
 

@@ -65,9 +65,9 @@ played_more bytes left rest placed state new text more number is reads lawful go
       state_is = one.state_is ∙ sym (after_more (opening is.caps) is.before (entry ∷ []));
       text_is =
           one.text ∙ ap (λ (l : List ℕ). l ++ (entry_line entry ++ flat_map invocation_text (step (after (opening is.caps) is.before) entry.event).invocations))
-              is.text_is
+          is.text_is
           ∙ ap (λ (l : List ℕ). printed is.caps is.before ++ l)
-              (sym (append-nil (entry_line entry ++ flat_map invocation_text (step (after (opening is.caps) is.before) entry.event).invocations)))
+          (sym (append-nil (entry_line entry ++ flat_map invocation_text (step (after (opening is.caps) is.before) entry.event).invocations)))
           ∙ sym (printed-append (opening is.caps) is.before (entry ∷ []));
       number_is = omega (arith, is.number_is, length-append is.before (entry ∷ []));
     }
@@ -81,8 +81,15 @@ count (e ∷ entries) all =
 pub few_played : (bytes : List ℕ) (left : Remaining) (state : State) (text : List ℕ) (number : ℕ) → IsPlayed bytes left state text number
     → number ≤ length bytes
 few_played bytes left state text number is =
-    omega (arith, is.number_is, count is.before is.formed.formed.record_.all, record_length is.caps is.before, ap length is.formed.text, length-append
-        (record_text is.caps is.before) left.rest)
+    omega (
+      arith,
+      is.number_is,
+      count is.before is.formed.formed.record_.all,
+      record_length is.caps is.before,
+      ap length is.formed.text,
+      length-append
+          (record_text is.caps is.before) left.rest,
+    )
 
 -- A legal history is a recording.
 
@@ -109,14 +116,14 @@ pub one_printed : AllFit → StaysWithin → (bytes text : List ℕ) (caps other
     → text ≡ printed caps history → IsRecordingOf bytes other others → text ≡ printed other others
 one_printed fit within bytes text caps other history others one is two =
     let same = texts_differ caps other history others (record_of fit within caps history one.legal) (record_of fit within other others two.legal)
-        (sym one.text ∙ two.text) in
+    (sym one.text ∙ two.text) in
     is ∙ ap (λ (l : Limits). printed l history) same.0 ∙ ap (printed other) same.1
 
 -- an entry that differs is the first that disagrees, where all that follows is formed
 pub disagrees : (bytes : List ℕ) (left rest : Remaining) (placed : Placed) (state : State) (text : List ℕ) (number entry : ℕ) (kept computed : List ℕ)
     → IsPlayed bytes left state text number → Reads left placed rest → IsLawful placed.entry.event → EndsFormed rest
     → Differs (Disagrees entry kept computed) number (entry_text placed.entry.caller placed.entry.event placed.entry.answer)
-        (computed_text state placed.entry.caller placed.entry.event) → DisagreesAt bytes entry kept computed
+    (computed_text state placed.entry.caller placed.entry.event) → DisagreesAt bytes entry kept computed
 disagrees bytes left rest placed state text number entry kept computed is reads lawful ends differs =
     let whole = ends bytes is.caps (is.before ++ placed.entry ∷ []) (formed_more bytes is.caps is.before left rest placed is.formed reads lawful) in
     let joined = append_assoc is.before (placed.entry ∷ []) whole.0 in
@@ -139,14 +146,14 @@ pub none_disagrees : AllFit → StaysWithin → (bytes : List ℕ) (entry : ℕ)
     → DisagreesAt bytes entry kept computed → IsRecordingOf bytes caps history → ⊥
 none_disagrees fit within bytes entry kept computed caps history d is =
     let same = texts_differ d.caps caps (d.before ++ d.entry ∷ d.later) history d.formed.record_ (record_of fit within caps history is.legal)
-        (sym d.text ∙ is.text) in
+    (sym d.text ∙ is.text) in
     let legal : LegalFrom (opening d.caps) (d.before ++ d.entry ∷ d.later) =
-        subst (λ (l : Limits). LegalFrom (opening l) (d.before ++ d.entry ∷ d.later)) (sym same.0) (subst (LegalFrom (opening caps)) (sym same.1) is.legal.1) in
+    subst (λ (l : Limits). LegalFrom (opening l) (d.before ++ d.entry ∷ d.later)) (sym same.0) (subst (LegalFrom (opening caps)) (sym same.1) is.legal.1) in
     let here = (legal_split (opening d.caps) d.before (d.entry ∷ d.later) legal).1 in
     let adds = is_adds d.entry.answer here.2 in
     d.differ (d.kept_is
-        ∙ sym (computed_is (after (opening d.caps) d.before) d.entry.caller d.entry.event d.entry.answer here.0 here.3 (ap adds_entry (sym here.3) ∙ adds))
-        ∙ sym d.computed_is)
+    ∙ sym (computed_is (after (opening d.caps) d.before) d.entry.caller d.entry.event d.entry.answer here.0 here.3 (ap adds_entry (sym here.3) ∙ adds))
+    ∙ sym d.computed_is)
 
 -- what is answered where an entry isn't played, and all that follows is formed
 
@@ -159,7 +166,7 @@ stops_not_malformed NoMemory number kept computed holds differs = tt
 pub stops_disagreeing : (bytes : List ℕ) (left rest : Remaining) (placed : Placed) (state : State) (text : List ℕ) (number : ℕ) (fault : ReplayFault)
     → IsPlayed bytes left state text number → Reads left placed rest → IsLawful placed.entry.event → EndsFormed rest
     → Differs fault number (entry_text placed.entry.caller placed.entry.event placed.entry.answer) (computed_text state placed.entry.caller placed.entry.event)
-        → OnDisagrees (Err fault) (λ entry kept computed. DisagreesAt bytes entry kept computed)
+    → OnDisagrees (Err fault) (λ entry kept computed. DisagreesAt bytes entry kept computed)
 stops_disagreeing bytes left rest placed state text number (Malformed at) is reads lawful ends differs = tt
 stops_disagreeing bytes left rest placed state text number (Disagrees entry kept computed) is reads lawful ends differs =
     disagrees bytes left rest placed state text number entry kept computed is reads lawful ends differs
@@ -169,11 +176,11 @@ pub stops_short : AllFit → StaysWithin
     → (bytes : List ℕ) (left rest : Remaining) (other : Limits) (history : List Entry) (placed : Placed) (state : State) (text : List ℕ) (number : ℕ)
     (fault : ReplayFault) → IsPlayed bytes left state text number → Reads left placed rest → IsLawful placed.entry.event → EndsFormed rest
     → Differs fault number (entry_text placed.entry.caller placed.entry.event placed.entry.answer) (computed_text state placed.entry.caller placed.entry.event)
-        → IsRecordingOf bytes other history → IsTextUnlessShort (Err fault) (printed other history)
+    → IsRecordingOf bytes other history → IsTextUnlessShort (Err fault) (printed other history)
 stops_short fit within bytes left rest other history placed state text number (Malformed at) is reads lawful ends differs recording = absurd differs
 stops_short fit within bytes left rest other history placed state text number (Disagrees entry kept computed) is reads lawful ends differs recording =
     none_disagrees fit within bytes entry kept computed other history
-        (disagrees bytes left rest placed state text number entry kept computed is reads lawful ends differs) recording
+    (disagrees bytes left rest placed state text number entry kept computed is reads lawful ends differs) recording
 stops_short fit within bytes left rest other history placed state text number NoMemory is reads lawful ends differs recording = tt
 
 -- a place that is malformed where the entries so far are played, or behind one more

@@ -26,5 +26,5 @@ one_more tell joined f ids i old now new below so is =
     is ∙ ap (λ (l : List ℕ). l ++ tell (f (get_or ids i 0) ∷ [])) so
     ∙ append_assoc old (tell (map f (take i ids))) (tell (f (get_or ids i 0) ∷ []))
     ∙ ap (λ (l : List ℕ). old ++ l)
-        (sym (joined (map f (take i ids)) (f (get_or ids i 0) ∷ []))
-        ∙ ap tell (sym (ap (map f) (take_more ids i 0 below) ∙ map-append f (take i ids) (get_or ids i 0 ∷ []))))
+    (sym (joined (map f (take i ids)) (f (get_or ids i 0) ∷ []))
+    ∙ ap tell (sym (ap (map f) (take_more ids i 0 below) ∙ map-append f (take i ids) (get_or ids i 0 ∷ []))))

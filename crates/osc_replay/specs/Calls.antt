@@ -11,8 +11,12 @@ use Rattle.osc_model.specs.Step.{hits_of, invocations_of}
 -- the call of the method with an id, with the unit's message at an index
 abbrev pub call_by : List Method → ℕ → List ℕ → ℕ → Call
 call_by methods index message id =
-    record { index = index; id = id; address = unwrap_or (address_by_id methods id) [];
-    message = message }
+    record {
+      index = index;
+      id = id;
+      address = unwrap_or (address_by_id methods id) [];
+      message = message;
+    }
 
 -- the bytes of the hits
 abbrev pub hits_bytes : List Call → List ℕ

@@ -15,7 +15,7 @@ abbrev pub computed_text : State → ℕ → Event → List ℕ
 computed_text state caller event =
     let answer = (step state event).answer in
     if nat_lt caller state.callers
-        then (if adds_entry answer then entry_text caller event answer else []) else []
+    then (if adds_entry answer then entry_text caller event answer else []) else []
 
 -- The bytes are a recording. The entries before this one, which is counted from 0, are a legal
 -- history; the bytes that

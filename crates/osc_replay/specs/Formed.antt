@@ -27,7 +27,7 @@ pub record HasUnformed (bytes : List ℕ) (at : ℕ) : Type 0 where
   pub none : (entry : Entry) (more : List ℕ) → IsRecordable entry.caller entry.event entry.answer
       → IsLawful entry.event →
       at + length (entry_text entry.caller entry.event entry.answer) ≤ limits.recording
-          → rest ≡ entry_text entry.caller entry.event entry.answer ++ more → ⊥
+      → rest ≡ entry_text entry.caller entry.event entry.answer ++ more → ⊥
 
 -- the place of the header, or of the first entry, that is malformed
 abbrev pub IsUnformedAt : List ℕ → ℕ → Type 0
@@ -41,7 +41,7 @@ pub record HasNoLawful (left : Remaining) (at : ℕ) : Type 0 where
   pub none : (entry : Entry) (more : List ℕ) → IsRecordable entry.caller entry.event entry.answer
       → IsLawful entry.event →
       at + length (entry_text entry.caller entry.event entry.answer) ≤ left.caps.recording
-          → left.rest ≡ entry_text entry.caller entry.event entry.answer ++ more → ⊥
+      → left.rest ≡ entry_text entry.caller entry.event entry.answer ++ more → ⊥
 
 -- the bytes are such a recording of these limits and entries up to what isn't read yet
 pub record IsFormedTo (bytes : List ℕ) (caps : Limits) (before : List Entry)
@@ -56,7 +56,7 @@ abbrev pub EndsFormed : Remaining → Type 0
 EndsFormed left = (bytes : List ℕ) (caps : Limits) (before : List Entry)
     → IsFormedTo bytes caps before left →
     (later : List Entry) × IsFormed caps (before ++ later)
-        × (bytes ≡ record_text caps (before ++ later))
+    × (bytes ≡ record_text caps (before ++ later))
 
 -- what is left is so up to a place
 abbrev pub IsStuckAt : Remaining → ℕ → Type 0

@@ -14,7 +14,7 @@ abbrev pub printed_from : State → List Entry → List ℕ
 printed_from state [] = []
 printed_from state (entry ∷ entries) =
     entry_text entry ++ flat_map invocation_text (step state entry.event).invocations
-        ++ printed_from (step state entry.event).state entries
+    ++ printed_from (step state entry.event).state entries
 
 -- the printed history of a server with these limits
 abbrev pub printed : Limits → List Entry → List ℕ

@@ -16,7 +16,10 @@ use osc_atoms::Room;
 use osc_packet::Packet;
 use osc_pattern::Address;
 use osc_queue::Queue;
-use osc_record::{Answer, Caps, ENROL_SIZE, HEADER_SIZE, TICK_SIZE, add_size, release_size, remove_size, submit_size};
+use osc_record::{
+    Answer, Caps, ENROL_SIZE, HEADER_SIZE, TICK_SIZE, add_size, release_size, remove_size,
+    submit_size,
+};
 use osc_tree::{Hits, Tree, TreeRefusal};
 use std::alloc::{AllocError, Global};
 use std::marker::Model;
@@ -49,12 +52,25 @@ impl<'a> Model for Server<'a> {
 
     ghost Value = { State };
 
-    ghost view =
-        { λ s. record { caps = record { units = s.queue.limit; blocks = s.blocks;
-        methods = s.tree.method_limit; nodes = s.tree.node_limit; callers =
-        s.caller_limit; recording = s.record_limit }; methods = s.tree.methods;
-        queue = s.queue.items; clock = s.clock; next_id = s.next_id; next_unit =
-        s.next_unit; callers = s.callers; recorded = s.recorded } };
+    ghost view = { λ s. record {
+      caps = record {
+        units = s.queue.limit;
+        blocks = s.blocks;
+        methods = s.tree.method_limit;
+        nodes = s.tree.node_limit;
+        callers =
+            s.caller_limit;
+        recording = s.record_limit;
+      };
+      methods = s.tree.methods;
+      queue = s.queue.items;
+      clock = s.clock;
+      next_id = s.next_id;
+      next_unit =
+          s.next_unit;
+      callers = s.callers;
+      recorded = s.recorded;
+    } };
 
     ghost invariant = { λ s. IsRunning s.tree s.hits s.queue s.used };
 }
@@ -256,8 +272,10 @@ fn add_to(tree: &mut Tree, address: Address, id: u32) -> Option<TreeRefusal>
     requires { IsNewId tree.old.methods id }
     ensures refusal { option_map refusal_of result ≡ add_refusal tree.old address }
     ensures added { IfNone result
-        (tree.new ≡ record tree.old { methods = tree.old.methods
-        ++ record { id = id; address = address } ∷ [] }) }
+        (tree.new ≡ record tree.old {
+          methods = tree.old.methods
+              ++ record { id = id; address = address } ∷ [];
+        }) }
     ensures unchanged { IfSome result (λ refusal. tree.new ≡ tree.old) }
 {
     match tree.add(address, id) {

@@ -7,7 +7,7 @@ use osc_uses::{first_run, one_packet};
 use std::alloc::Global;
 use std::test::*;
 
-/// The two messages of the standard (OSC 1.0, "OSC Message Examples"), of 440.0 and of 1000, -1, `hello`, 1.234 and 5.678.
+/// The two messages of the standard (OSC 1.0, "OSC Message Examples"): 440.0, and 1000, -1, `hello`, 1.234 and 5.678.
 const FREQUENCY: &[u8] = b"/oscillator/4/frequency\0,f\0\0\x43\xdc\0\0";
 
 const FOO: &[u8] =

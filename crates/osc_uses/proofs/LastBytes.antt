@@ -14,5 +14,7 @@ last_of_back n front back enough =
 
 pub last_of_call : (old unit index size message : List ℕ) → 4 ≤ length message → last_of 4 (old ++ (unit ++ (index ++ (size ++ message)))) ≡ last_of 4 message
 last_of_call old unit index size message enough =
-    ap (last_of 4) (sym (append_assoc old unit (index ++ (size ++ message))) ∙ sym (append_assoc (old ++ unit) index (size ++ message)) ∙ sym (append_assoc ((old ++ unit) ++ index) size message))
+    ap (last_of 4) (sym (append_assoc old unit (index ++ (size ++ message)))
+    ∙ sym (append_assoc (old ++ unit) index (size ++ message))
+    ∙ sym (append_assoc ((old ++ unit) ++ index) size message))
     ∙ last_of_back 4 (((old ++ unit) ++ index) ++ size) message enough

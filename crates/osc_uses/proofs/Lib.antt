@@ -1,3 +1,4 @@
 pub mod FirstCaller
 pub mod LastBytes
+pub mod NotEarly
 pub mod Playing

@@ -1,6 +1,6 @@
 -- Events that are played one after another.
-use Rattle.std.proofs.Common.{◌≡◌, List, [], ◌∷◌, ◌++◌, refl, ap, ◌∙◌}
-use Rattle.osc_model.specs.Events.{Event}
+use Rattle.std.proofs.Common.{◌≡◌, ℕ, List, [], ◌∷◌, ◌++◌, refl, ap, ◌∙◌}
+use Rattle.osc_model.specs.Events.{Event, submit}
 use Rattle.osc_model.specs.History.{Performance, onward}
 use Rattle.osc_model.proofs.Onward.{caps_stay}
 use Rattle.osc_uses.specs.Played.{played}
@@ -10,13 +10,20 @@ pub played_one : (before after : Performance) (event : Event) → after ≡ onwa
 unfolding played
 played_one before after event is = is
 
+-- a packet with these bytes
+pub played_bytes : (before after : Performance) (packet bytes : List ℕ) → after ≡ onward before 0 (submit packet) → packet ≡ bytes
+    → after ≡ played before (submit bytes ∷ [])
+played_bytes before after packet bytes is same =
+    played_one before after (submit bytes) (is ∙ ap (λ (b : List ℕ). onward before 0 (submit b)) same)
+
 played_then : (before : Performance) (events more : List Event) → played (played before events) more ≡ played before (events ++ more)
 unfolding played
 played_then before [] more = λ i. played before more
 played_then before (event ∷ events) more = played_then (onward before 0 event) events more
 
 -- more events
-pub played_more : (before between after : Performance) (events more : List Event) → between ≡ played before events → after ≡ played between more → after ≡ played before (events ++ more)
+pub played_more : (before between after : Performance) (events more : List Event) → between ≡ played before events → after ≡ played between more
+    → after ≡ played before (events ++ more)
 played_more before between after events more first then = then ∙ ap (λ (p : Performance). played p more) first ∙ played_then before events more
 
 -- the limits stay

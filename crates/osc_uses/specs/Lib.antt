@@ -1,2 +1,3 @@
+pub mod Early
 pub mod Live
 pub mod Played

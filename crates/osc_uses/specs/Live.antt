@@ -1,4 +1,5 @@
--- What three callers of one server do, where `v` is what a caller's token knew before and `w` what it knows then.
+-- What three callers of one server do, where `v` is what a caller's token knew before and `w` what
+-- it knows then.
 use Rattle.std.specs.Prelude.{◌≡◌, ℕ, List, [], ◌∷◌, Result, Ok, Err}
 use Rattle.osc_atoms.specs.declared.fault.Fault.{Fault}
 use Rattle.osc_packet.specs.Wants.{FirstFault}
@@ -7,7 +8,7 @@ use Rattle.osc_model.specs.Limits.{Limits}
 use Rattle.osc_model.specs.Events.{Answer, add, remove, submit, tick}
 use Rattle.osc_model.specs.Heard.{Told}
 use Rattle.osc_core.specs.declared.answers.Submitted.{Submitted}
-use Rattle.osc_core.specs.Answers.{submitted_of}
+use Rattle.osc_core.specs.Answers.{submitted_of, adding_of, removing_of, ticking_of}
 use Rattle.osc_method.specs.declared.method.Method.{Ghosts}
 use Rattle.osc_live.specs.declared.pumped.Pumped.{Pumped}
 use Rattle.osc_live.specs.declared.close.LiveOut.{LiveOut}
@@ -18,42 +19,52 @@ use Rattle.osc_live.specs.Calls.{Calls}
 use Rattle.osc_live.specs.Pumps.{Pumps}
 use Rattle.osc_live.specs.Closing.{Closes}
 use Rattle.osc_uses.specs.declared.live_server.Callers.{Callers}
+use Rattle.osc_uses.specs.declared.live_server.LiveRun.{LiveRun}
 use Rattle.osc_uses.specs.declared.live_server.Unfinished.{Unfinished}
 use Rattle.osc_uses.specs.declared.live_server.Unfinished.TheVariants.{Open}
 
 -- the tokens of three callers are those of a server with these limits
 abbrev pub AreTokensOf : {S : Type 0} → Turn S → Limits → Callers → Type 0
-AreTokensOf turn caps callers = IsTokenOf turn caps callers.first.pass × IsTokenOf turn caps callers.second.pass × IsTokenOf turn caps callers.third.pass
+AreTokensOf turn caps callers = IsTokenOf turn caps callers.first.pass
+    × IsTokenOf turn caps callers.second.pass × IsTokenOf turn caps callers.third.pass
 
 -- a caller adds a method at the address, and then removes the one there
-pub record ComesAndGoes (caps : Limits) (caller : ℕ) (address : List ℕ) (added removed : Answer) (v w : View) : Type 0 where
+pub record ComesAndGoes (caps : Limits) (caller : ℕ) (address : List ℕ) (added removed : Answer)
+    (v w : View) : Type 0 where
   pub between : View
   pub adds : Calls caps caller (add address) added v between
   pub removes : Calls caps caller (remove address) removed between w
 
 -- a caller submits the packet that the bytes are; or they are none, and it does nothing
 abbrev pub Sends : Limits → ℕ → List ℕ → Result Submitted Fault → View → View → Type 0
-Sends caps caller bytes (Ok submitted) v w = Calls caps caller (submit bytes) (submitted_of submitted) v w
+Sends caps caller bytes (Ok submitted) v w =
+    Calls caps caller (submit bytes) (submitted_of submitted) v w
 Sends caps caller bytes (Err fault) v w = FirstFault bytes 65504 fault × (w ≡ v)
 
 -- a caller sets the clock to the moment, and then releases until nothing is due
-pub record Ticks (caps : Limits) (caller moment : ℕ) (ticked : Answer) (pumped : Pumped) (v w : View) : Type 0 where
+pub record Ticks (caps : Limits) (caller moment : ℕ) (ticked : Answer) (pumped : Pumped)
+    (v w : View) : Type 0 where
   pub between : View
   pub sets : Calls caps caller (tick moment) ticked v between
   pub pumps : Pumps caps caller pumped between w
 
--- Three callers share one history, which is recorded, keeps the four laws and is heard by the boxes. It begins with what
--- each of their tokens knows, and so each of their calls is answered by the rules at its place there.
-pub record AreOneHistory (caps : Limits) (address bytes : List ℕ) (moment : ℕ) (added removed : Answer) (sent : Result Submitted Fault) (ticked : Answer) (pumped : Pumped) (recording : List ℕ) (kept : List Told) : Type 0 where
+-- Three callers share one history, which is recorded, keeps the four laws and is heard by the
+-- boxes. It begins with what
+-- each of their tokens knows, and so each of their calls is answered by the rules at its place
+-- there.
+pub record AreOneHistory {M : Type 0} (caps : Limits) (address bytes : List ℕ) (moment : ℕ)
+    (run : LiveRun M) (kept : List Told) : Type 0 where
   pub second : ℕ
   pub third : ℕ
   pub one : View
   pub two : View
   pub three : View
-  pub closes : Closes caps ((0, one) ∷ (second, two) ∷ (third, three) ∷ []) (one ∷ two ∷ three ∷ []) recording kept
-  pub comes : (v : View) × ComesAndGoes caps 0 address added removed v one
-  pub sends : (v : View) × Sends caps second bytes sent v two
-  pub ticks : (v : View) × Ticks caps third moment ticked pumped v three
+  pub closes : Closes caps ((0, one) ∷ (second, two) ∷ (third, three) ∷ [])
+      (one ∷ two ∷ three ∷ []) run.closed.bytes.items kept
+  pub comes : (v : View)
+      × ComesAndGoes caps 0 address (adding_of run.added) (removing_of run.removed) v one
+  pub sends : (v : View) × Sends caps second bytes run.sent v two
+  pub ticks : (v : View) × Ticks caps third moment (ticking_of run.ticked) run.pumped v three
 
 module _ {M : Type 0} {G : Ghosts M} where
   -- where the server comes back open, this holds of what comes back

@@ -40,7 +40,8 @@ impl Fader {
 
     /// The number that it was sent last, as a word: 0x43dc0000 is the float 440.0.
     pub fn level(&self) -> Option<u32>
-        ensures { result ≡ (if self.now.sent then Some (from_be_bytes w32 self.now.last) else None) }
+        ensures { result
+            ≡ (if self.now.sent then Some (from_be_bytes w32 self.now.last) else None) }
     {
         if self.sent {
             Some(u32::from_be_bytes(self.last))
@@ -93,7 +94,8 @@ pub fn one_packet<M: Method>(
     ensures performance { OnOk result (core.new.performance
         ≡ played core.old.performance (submit bytes.now ∷ release ∷ [])) }
     ensures boxes { OnOk result (told M.keep M.heard core.new.boxes.items
-        ≡ all_hear (stepped_in (played core.old.performance (submit bytes.now ∷ [])) release).invocations
+        ≡ all_hear
+        (stepped_in (played core.old.performance (submit bytes.now ∷ [])) release).invocations
         (told M.keep M.heard core.old.boxes.items)) }
 {
     let packet = Packet::check(bytes, 65_504)?;

@@ -1,6 +1,6 @@
 //! Small callers of the server, each a page that can be copied into a program of one's own: a server with a method of
-//! one's own, a bundle that waits for its moment, bytes that are no packet, a recording that is printed, addresses that a
-//! pattern matches, and a server that three threads call.
+//! one's own, a bundle that waits for its moment, bytes that are no packet, a recording that is printed, addresses that
+//! a pattern matches, and a server that three threads call.
 #![tactic(auto, using(crate::proofs::FirstCaller::caller_0))]
 
 mod first_server;
@@ -15,4 +15,4 @@ pub use live_server::{LiveRun, Unfinished, live_run};
 pub use matched_addresses::count_matching;
 pub use printed_recording::printed_history;
 pub use refused_packet::submit_bytes;
-pub use timed_bundle::{TimedRun, release_at, timed_run};
+pub use timed_bundle::{TimedRun, release_at, release_due, timed_run};

@@ -1,5 +1,5 @@
-//! A server that three threads call at once: one adds a method and removes it, one sends a packet, and one moves the clock
-//! and releases.
+//! A server that three threads call at once: one adds a method and removes it, one sends a packet, and one moves the
+//! clock and releases.
 ghost use Rattle.std.specs.Prelude.{◌≡◌, ◌<◌, ◌+◌, [], ◌∷◌, IfOk, IfErr};
 ghost use Rattle.osc_turn.specs.Passes.{view};
 ghost use Rattle.osc_core.specs.Answers.{adding_of, removing_of, ticking_of};
@@ -201,8 +201,8 @@ fn send_and_tick<M: Method + Send, R: Threads + Wait + Sync>(
             requires { IsTokenOf live.now.turn live.now.caps ticker.pass }
             ensures ours { IsTokenOf live.entry.now.turn live.entry.now.caps result.0.pass }
             ensures number { result.0.number ≡ ticker.number }
-            ensures ticks { Ticks live.entry.now.caps ticker.number moment (ticking_of result.1.0) result.1.1
-                (view ticker.pass) (view result.0.pass) }
+            ensures ticks { Ticks live.entry.now.caps ticker.number moment (ticking_of result.1.0)
+                result.1.1 (view ticker.pass) (view result.0.pass) }
         { tick_and_pump(rt, live, ticker, moment) },
     )
 }
@@ -227,16 +227,17 @@ fn three_at_once<M: Method + Send, R: Threads + Wait + Sync>(
     requires again { places.1 ≡ places.0 }
     ensures ours { IsTokenOf live.now.turn live.now.caps result.0.0.pass }
     ensures number { result.0.0.number ≡ callers.first.number }
-    ensures comes { ComesAndGoes live.now.caps callers.first.number places.0 (adding_of result.0.1.0)
-        (removing_of result.0.1.1) (view callers.first.pass) (view result.0.0.pass) }
+    ensures comes { ComesAndGoes live.now.caps callers.first.number places.0
+        (adding_of result.0.1.0) (removing_of result.0.1.1)
+        (view callers.first.pass) (view result.0.0.pass) }
     ensures second_ours { IsTokenOf live.now.turn live.now.caps result.1.0.0.pass }
     ensures second_number { result.1.0.0.number ≡ callers.second.number }
     ensures sends { Sends live.now.caps callers.second.number bytes.now result.1.0.1
         (view callers.second.pass) (view result.1.0.0.pass) }
     ensures third_ours { IsTokenOf live.now.turn live.now.caps result.1.1.0.pass }
     ensures third_number { result.1.1.0.number ≡ callers.third.number }
-    ensures ticks { Ticks live.now.caps callers.third.number moment (ticking_of result.1.1.1.0) result.1.1.1.1
-        (view callers.third.pass) (view result.1.1.0.pass) }
+    ensures ticks { Ticks live.now.caps callers.third.number moment (ticking_of result.1.1.1.0)
+        result.1.1.1.1 (view callers.third.pass) (view result.1.1.0.pass) }
 {
     let Callers {
         first,
@@ -251,8 +252,9 @@ fn three_at_once<M: Method + Send, R: Threads + Wait + Sync>(
             requires again { again ≡ address }
             ensures ours { IsTokenOf live.entry.now.turn live.entry.now.caps result.0.pass }
             ensures number { result.0.number ≡ first.number }
-            ensures comes { ComesAndGoes live.entry.now.caps first.number address (adding_of result.1.0)
-                (removing_of result.1.1) (view first.pass) (view result.0.pass) }
+            ensures comes { ComesAndGoes live.entry.now.caps first.number address
+                (adding_of result.1.0) (removing_of result.1.1)
+                (view first.pass) (view result.0.pass) }
         { add_and_remove(rt, live, first, address, again, method) },
         || -> (
             (Caller, Result<Submitted, Fault>),
@@ -266,8 +268,8 @@ fn three_at_once<M: Method + Send, R: Threads + Wait + Sync>(
                 (view second.pass) (view result.0.0.pass) }
             ensures third_ours { IsTokenOf live.entry.now.turn live.entry.now.caps result.1.0.pass }
             ensures third_number { result.1.0.number ≡ third.number }
-            ensures ticks { Ticks live.entry.now.caps third.number moment (ticking_of result.1.1.0) result.1.1.1
-                (view third.pass) (view result.1.0.pass) }
+            ensures ticks { Ticks live.entry.now.caps third.number moment (ticking_of result.1.1.0)
+                result.1.1.1 (view third.pass) (view result.1.0.pass) }
         { send_and_tick(rt, live, second, bytes, third, moment) },
     )
 }
@@ -286,8 +288,10 @@ fn close_three<M: Method>(
         ∷ (callers.third.number, view callers.third.pass) ∷ [])
         (view callers.first.pass ∷ view callers.second.pass ∷ view callers.third.pass ∷ [])
         closed.bytes.items (told M.keep M.heard closed.kept.items)) }
-    ensures live_back { IfErr result (λ unfinished. OnOpen unfinished (λ out. live_back out ≡ live)) }
-    ensures back_ours { IfErr result (λ unfinished. OnOpen unfinished (λ out. AreOurs out live.caps)) }
+    ensures live_back { IfErr result (λ unfinished.
+        OnOpen unfinished (λ out. live_back out ≡ live)) }
+    ensures back_ours { IfErr result (λ unfinished.
+        OnOpen unfinished (λ out. AreOurs out live.caps)) }
     ensures short { IfErr result (λ unfinished. OnOpen unfinished IsShort) }
 {
     let Callers {
@@ -307,10 +311,10 @@ fn close_three<M: Method>(
     }
 }
 
-/// A server of three callers, from its opening to its close. Each caller is a thread: the first adds the method at the address
-/// and removes it, the second submits the bytes, and the third sets the clock to the moment and releases until nothing is
-/// due. In which order their calls come is not said; each is answered by the rules at its place in the one history that is
-/// recorded.
+/// A server of three callers, from its opening to its close. Each caller is a thread: the first adds the method at the
+/// address and removes it, the second submits the bytes, and the third sets the clock to the moment and releases until
+/// nothing is due. In which order their calls come is not said; each is answered by the rules at its place in the one
+/// history that is recorded.
 pub fn live_run<M: Method + Send, R: Threads + Wait + Sync>(
     rt: &R,
     alloc: Global,
@@ -320,9 +324,8 @@ pub fn live_run<M: Method + Send, R: Threads + Wait + Sync>(
     bytes: &[u8],
     moment: u64,
 ) -> Result<LiveRun<M>, Unfinished<M>>
-    ensures one_history { IfOk result (λ run. AreOneHistory caps address bytes.now moment
-        (adding_of run.added) (removing_of run.removed) run.sent (ticking_of run.ticked) run.pumped
-        run.closed.bytes.items (told M.keep M.heard run.closed.kept.items)) }
+    ensures one_history { IfOk result (λ run. AreOneHistory caps address bytes.now moment run
+        (told M.keep M.heard run.closed.kept.items)) }
     ensures back_ours { IfErr result (λ unfinished. OnOpen unfinished (λ out. AreOurs out caps)) }
     ensures short { IfErr result (λ unfinished. OnOpen unfinished IsShort) }
 {

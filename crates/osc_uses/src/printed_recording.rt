@@ -9,10 +9,11 @@ use osc_print::Text;
 use osc_replay::{ReplayFault, replay};
 use std::alloc::Global;
 
-/// What the server has recorded, as text (docs/FORMATS.md, "Printed text"). The `Err` is want of memory, and never another:
-/// a replay computes from the recording alone what the server has answered and called.
+/// What the server has recorded, as text (docs/FORMATS.md, "Printed text"). The `Err` is want of memory, and never
+/// another: a replay computes from the recording alone what the server has answered and called.
 pub fn printed_history<M: Method>(alloc: Global, core: &Core<M>) -> Result<Text, ReplayFault>
-    ensures { IsTextUnlessShort result (printed core.now.performance.caps core.now.performance.history) }
+    ensures { IsTextUnlessShort result
+        (printed core.now.performance.caps core.now.performance.history) }
 {
     a_legal_history_is_recordable();
     replay(alloc, core.bytes())

@@ -2,15 +2,15 @@
 ghost use Rattle.std.specs.Prelude.{◌≡◌, [], ◌∷◌};
 ghost use Rattle.osc_model.specs.Events.{submit, tick, release};
 ghost use Rattle.osc_model.specs.Heard.{all_hear};
-ghost use Rattle.osc_model.specs.Releases.{ReleasesLeast};
-ghost use Rattle.osc_model.specs.History.{state_of, stepped_in};
+ghost use Rattle.osc_model.specs.History.{state_of, stepped_in, onward};
 ghost use Rattle.osc_laws.specs.Laws.{KeepsTheLaws};
 ghost use Rattle.osc_core.specs.Answers.{submitted_of, ticking_of, TellsRelease};
 ghost use Rattle.osc_core.specs.Telling.{told};
 ghost use Rattle.osc_uses.specs.Played.{played};
+ghost use Rattle.osc_uses.specs.Early.{IsNotEarly};
 
 use osc_core::{Core, Releasing, Submitted, Ticking};
-use osc_laws::laws::every_history_keeps_the_laws;
+use osc_laws::laws::{a_queued_unit_waits_for_its_tag, every_history_keeps_the_laws};
 use osc_method::Method;
 use osc_model::laws::a_release_takes_the_least_unit;
 use osc_packet::Packet;
@@ -24,12 +24,29 @@ pub struct TimedRun {
     pub released: Releasing,
 }
 
-/// Sets the clock to the moment, and releases the unit that is due first then. A unit is due at its tag or later.
+/// Releases the unit that is due first, and none before its tag.
+pub fn release_due<M: Method>(core: &mut Core<M>) -> Releasing
+    ensures answer { TellsRelease result (stepped_in core.old.performance release).answer }
+    ensures in_time { IsNotEarly (state_of core.old.performance)
+        (stepped_in core.old.performance release) }
+    ensures performance { core.new.performance ≡ onward core.old.performance 0 release }
+    ensures boxes { told M.keep M.heard core.new.boxes.items
+        ≡ all_hear (stepped_in core.old.performance release).invocations
+        (told M.keep M.heard core.old.boxes.items) }
+{
+    a_release_takes_the_least_unit();
+    a_queued_unit_waits_for_its_tag();
+    // The history is legal, as the recording tells.
+    let _ = core.bytes();
+    core.release(0)
+}
+
+/// Sets the clock to the moment, and releases the unit that is due first then.
 pub fn release_at<M: Method>(core: &mut Core<M>, moment: u64) -> (Ticking, Releasing)
     ensures ticked { ticking_of result.0 ≡ (stepped_in core.old.performance (tick moment)).answer }
     ensures released { TellsRelease result.1
         (stepped_in (played core.old.performance (tick moment ∷ [])) release).answer }
-    ensures least { ReleasesLeast (state_of (played core.old.performance (tick moment ∷ [])))
+    ensures in_time { IsNotEarly (state_of (played core.old.performance (tick moment ∷ [])))
         (stepped_in (played core.old.performance (tick moment ∷ [])) release) }
     ensures performance { core.new.performance
         ≡ played core.old.performance (tick moment ∷ release ∷ []) }
@@ -37,32 +54,33 @@ pub fn release_at<M: Method>(core: &mut Core<M>, moment: u64) -> (Ticking, Relea
         ≡ all_hear (stepped_in (played core.old.performance (tick moment ∷ [])) release).invocations
         (told M.keep M.heard core.old.boxes.items) }
 {
-    a_release_takes_the_least_unit();
     let ticked = core.tick(0, moment);
-    // The history is legal, as the recording tells.
-    let _ = core.bytes();
-    let released = core.release(0);
+    let released = release_due(core);
     (ticked, released)
 }
 
-/// Submits the bundle, tries a release at once, and then releases at the moment. As `laws` says, none of its messages is
-/// called while the clock stands before its tag, and the calls of its unit stand together and in order.
+/// Submits the bundle, tries a release at once, and releases at the moment. As `laws` says, the messages of a unit are
+/// called together and in order.
 pub fn timed_run<M: Method>(core: &mut Core<M>, bundle: &Packet<'_>, moment: u64) -> TimedRun
     ensures submitted { submitted_of result.submitted
         ≡ (stepped_in core.old.performance (submit bundle.now)).answer }
     ensures early { TellsRelease result.early
         (stepped_in (played core.old.performance (submit bundle.now ∷ [])) release).answer }
+    ensures waits { IsNotEarly (state_of (played core.old.performance (submit bundle.now ∷ [])))
+        (stepped_in (played core.old.performance (submit bundle.now ∷ [])) release) }
     ensures ticked { ticking_of result.ticked
-        ≡ (stepped_in (played core.old.performance (submit bundle.now ∷ release ∷ [])) (tick moment)).answer }
+        ≡ (stepped_in (played core.old.performance (submit bundle.now ∷ release ∷ []))
+        (tick moment)).answer }
     ensures released { TellsRelease result.released
-        (stepped_in (played core.old.performance (submit bundle.now ∷ release ∷ tick moment ∷ [])) release).answer }
+        (stepped_in (played core.old.performance (submit bundle.now ∷ release ∷ tick moment ∷ []))
+        release).answer }
     ensures performance { core.new.performance
         ≡ played core.old.performance (submit bundle.now ∷ release ∷ tick moment ∷ release ∷ []) }
     ensures laws { KeepsTheLaws core.new.performance.caps core.new.performance.history }
 {
     every_history_keeps_the_laws();
     let submitted = core.submit(0, bundle);
-    let early = core.release(0);
+    let early = release_due(core);
     let (ticked, released) = release_at(core, moment);
     let _ = core.bytes();
     TimedRun {

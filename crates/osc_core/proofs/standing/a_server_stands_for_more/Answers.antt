@@ -4,8 +4,11 @@ use Rattle.osc_core.proofs.standing.a_server_stands_for_more.Goals as goal
 pub returns : goal.returns
 returns c =
     let laws : TextLaws =
-        record { all = c.a_legal_history_is_recordable.ensures.all; within = c.a_legal_history_is_recordable.ensures.within;
-        again = c.a_written_entry_is_read_again.ensures } in
+    record {
+      all = c.a_legal_history_is_recordable.ensures.all;
+      within = c.a_legal_history_is_recordable.ensures.within;
+      again = c.a_written_entry_is_read_again.ensures;
+    } in
     let legal = c.a_performance_goes_on.ensures.legal in
     record {
       same = λ performance caller event boxes texts stands enrolled lawful heard.

@@ -13,7 +13,7 @@ pub push_hits-requires : goal.push_hits-requires
 push_hits-requires c =
     let ids : c.ids.result.now ≡ matching_ids c.pattern.result c.args.tree.now.methods = c.ids.ensures ∙ c.find_hits.ensures.ids in
     subst (λ (l : List ℕ). All (λ id. IsSome (address_by_id c.args.tree.now.methods id)) l) (sym ids)
-        (named c.args.tree.now.methods (matching c.pattern.result c.args.tree.now.methods) c.find_hits.ensures.named)
+    (named c.args.tree.now.methods (matching c.pattern.result c.args.tree.now.methods) c.find_hits.ensures.named)
 
 -- the calls by ids are those of the message
 calls_are : (c : goal.After-push_hits) → map (call_by c.args.tree.now.methods c.args.index c.args.message) c.ids.result.now
@@ -25,7 +25,7 @@ calls_are c =
     ap (map (call_by methods c.args.index message)) (c.ids.ensures ∙ c.find_hits.ensures.ids)
     ∙ called methods (matching c.pattern.result methods) c.args.index message c.find_hits.ensures.named
     ∙ ap (λ (p : List ℕ). map (λ method. record { index = c.args.index; id = method.id; address = method.address; message = message }) (matching p methods))
-        c.pattern.ensures
+    c.pattern.ensures
     ∙ sym (cond-false (is_some (unknown_of message)) [] (matching_calls methods c.args.index message) known)
 
 pub returns-clause-hits : goal.returns-clause-hits

@@ -10,7 +10,7 @@ pub loop-malformed-preserved : goal.loop-malformed-preserved
 loop-malformed-preserved c =
     let row = c.in-Ok-Some.field-0-0 in
     let reads = of_some (λ (row : Row). Reads c.loop-malformed.unread (placed_of row.entry) c.next_row.new.unread) c.in-Ok-Some.field-0 row
-        c.in-Ok-Some.field-0-is c.in-Ok-Some.ensures.read in
+    c.in-Ok-Some.field-0-is c.in-Ok-Some.ensures.read in
     record {
       ends = λ ends. c.loop-malformed.invariant.ends
           (ends_behind c.loop-malformed.unread c.next_row.new.unread (placed_of row.entry) reads (row_lawful row) ends);

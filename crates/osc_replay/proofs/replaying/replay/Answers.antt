@@ -13,8 +13,8 @@ returns-in_err-unread-clause-complete c =
     let at = c.in_err-unread.field-0.0.at in
     let same : c.from_residual.result ≡ Err (Malformed at) = search rules in
     λ caps history is.
-        rw same (none_malformed c.a_legal_history_is_recordable.ensures.all c.a_legal_history_is_recordable.ensures.within c.args.recording.now at caps history
-        (inl c.in_err-unread.ensures.err) is)
+    rw same (none_malformed c.a_legal_history_is_recordable.ensures.all c.a_legal_history_is_recordable.ensures.within c.args.recording.now at caps history
+    (inl c.in_err-unread.ensures.err) is)
 
 pub loop-text-init : goal.loop-text-init
 loop-text-init c =
@@ -35,7 +35,7 @@ returns-in_err-row-clause-complete c =
     λ caps history is. rw same
     (none_malformed c.a_legal_history_is_recordable.ensures.all c.a_legal_history_is_recordable.ensures.within c.args.recording.now at caps history
     (next_unformed c.args.recording.now c.loop-text.unread c.loop-text.server c.loop-text.text c.loop-text.number at c.loop-text.invariant.played c.in_err-row.ensures.err)
-        is)
+    is)
 
 pub replay_row-requires-clause-reached : goal.replay_row-requires-clause-reached
 replay_row-requires-clause-reached c =
@@ -45,39 +45,39 @@ pub returns-in-Some-first_malformed-clause-malformed : goal.returns-in-Some-firs
 returns-in-Some-first_malformed-clause-malformed c =
     let row = c.in-Some.row in
     let reads = of_some (λ (row : Row). Reads c.loop-text.unread (placed_of row.entry) c.next_row.new.unread) c.in_ok-row.field-0 c.in-Some.row c.in-Some.is
-        c.in_ok-row.ensures.read in
+    c.in_ok-row.ensures.read in
     later_unformed c.args.recording.now c.loop-text.unread c.next_row.new.unread
-        (placed_of row.entry) c.loop-text.server c.loop-text.text c.loop-text.number c.in-Some-first_malformed.at c.loop-text.invariant.played reads
-        (row_lawful row) c.in-Some-first_malformed.ensures.some
+    (placed_of row.entry) c.loop-text.server c.loop-text.text c.loop-text.number c.in-Some-first_malformed.at c.loop-text.invariant.played reads
+    (row_lawful row) c.in-Some-first_malformed.ensures.some
 
 pub returns-in-Some-first_malformed-clause-complete : goal.returns-in-Some-first_malformed-clause-complete
 returns-in-Some-first_malformed-clause-complete c = λ caps history is.
     (let row = c.in-Some.row in
     let reads = of_some (λ (row : Row). Reads c.loop-text.unread (placed_of row.entry) c.next_row.new.unread) c.in_ok-row.field-0 c.in-Some.row c.in-Some.is
-        c.in_ok-row.ensures.read in
+    c.in_ok-row.ensures.read in
     none_malformed c.a_legal_history_is_recordable.ensures.all c.a_legal_history_is_recordable.ensures.within c.args.recording.now c.in-Some-first_malformed.at
-        caps history
+    caps history
     (later_unformed c.args.recording.now c.loop-text.unread c.next_row.new.unread
-        (placed_of row.entry) c.loop-text.server c.loop-text.text c.loop-text.number c.in-Some-first_malformed.at c.loop-text.invariant.played reads
-        (row_lawful row) c.in-Some-first_malformed.ensures.some) is)
+    (placed_of row.entry) c.loop-text.server c.loop-text.text c.loop-text.number c.in-Some-first_malformed.at c.loop-text.invariant.played reads
+    (row_lawful row) c.in-Some-first_malformed.ensures.some) is)
 
 pub returns-in-Err-clause-disagrees : goal.returns-in-Err-clause-disagrees
 returns-in-Err-clause-disagrees c =
     let row = c.in-Some.row in
     let reads = of_some (λ (row : Row). Reads c.loop-text.unread (placed_of row.entry) c.next_row.new.unread) c.in_ok-row.field-0 c.in-Some.row c.in-Some.is
-        c.in_ok-row.ensures.read in
+    c.in_ok-row.ensures.read in
     stops_disagreeing c.args.recording.now c.loop-text.unread c.next_row.new.unread
-        (placed_of row.entry) c.loop-text.server c.loop-text.text c.loop-text.number c.in-Err.fault c.loop-text.invariant.played reads
-        (row_lawful row) c.in_default-first_malformed.ensures.none c.in-Err.ensures.differs
+    (placed_of row.entry) c.loop-text.server c.loop-text.text c.loop-text.number c.in-Err.fault c.loop-text.invariant.played reads
+    (row_lawful row) c.in_default-first_malformed.ensures.none c.in-Err.ensures.differs
 
 pub returns-in-Err-clause-complete : goal.returns-in-Err-clause-complete
 returns-in-Err-clause-complete c = λ caps history is.
     (let row = c.in-Some.row in
     let reads = of_some (λ (row : Row). Reads c.loop-text.unread (placed_of row.entry) c.next_row.new.unread) c.in_ok-row.field-0 c.in-Some.row c.in-Some.is
-        c.in_ok-row.ensures.read in
+    c.in_ok-row.ensures.read in
     stops_short c.a_legal_history_is_recordable.ensures.all c.a_legal_history_is_recordable.ensures.within c.args.recording.now c.loop-text.unread
-        c.next_row.new.unread caps history (placed_of row.entry) c.loop-text.server c.loop-text.text c.loop-text.number c.in-Err.fault
-        c.loop-text.invariant.played reads (row_lawful row) c.in_default-first_malformed.ensures.none c.in-Err.ensures.differs is)
+    c.next_row.new.unread caps history (placed_of row.entry) c.loop-text.server c.loop-text.text c.loop-text.number c.in-Err.fault
+    c.loop-text.invariant.played reads (row_lawful row) c.in_default-first_malformed.ensures.none c.in-Err.ensures.differs is)
 
 pub overflow_add-number : goal.overflow_add-number
 overflow_add-number c =
@@ -87,15 +87,17 @@ pub loop-text-preserved : goal.loop-text-preserved
 loop-text-preserved c =
     let row = c.in-Some.row in
     let reads = of_some (λ (row : Row). Reads c.loop-text.unread (placed_of row.entry) c.next_row.new.unread) c.in_ok-row.field-0 c.in-Some.row c.in-Some.is
-        c.in_ok-row.ensures.read in
-    record { played = played_more c.args.recording.now c.loop-text.unread c.next_row.new.unread
-        (placed_of row.entry) c.loop-text.server c.replay_row.new.server c.loop-text.text c.replay_row.new.text c.loop-text.number c.loop-text.invariant.played
-        reads (row_lawful row) c.in_default-replay_row.ensures.ok }
+    c.in_ok-row.ensures.read in
+    record {
+      played = played_more c.args.recording.now c.loop-text.unread c.next_row.new.unread
+          (placed_of row.entry) c.loop-text.server c.replay_row.new.server c.loop-text.text c.replay_row.new.text c.loop-text.number c.loop-text.invariant.played
+          reads (row_lawful row) c.in_default-replay_row.ensures.ok;
+    }
 
 pub returns-clause-complete : goal.returns-clause-complete
 returns-clause-complete c = λ caps history recording.
     (let is = c.loop-text.invariant.played in
     one_printed c.a_legal_history_is_recordable.ensures.all c.a_legal_history_is_recordable.ensures.within c.args.recording.now c.loop-text.text is.caps caps
-        is.before history
-        (played_all c.args.recording.now c.loop-text.unread c.loop-text.server c.loop-text.text c.loop-text.number is
-        (of_none c.in_ok-row.field-0 c.in_default.not-Some c.in_ok-row.ensures.end)) is.text_is recording)
+    is.before history
+    (played_all c.args.recording.now c.loop-text.unread c.loop-text.server c.loop-text.text c.loop-text.number is
+    (of_none c.in_ok-row.field-0 c.in_default.not-Some c.in_ok-row.ensures.end)) is.text_is recording)

@@ -24,4 +24,4 @@ returns-clause-stands g c texts stands =
     let old = c.args.self.now.performance in
     let heard = c.boxes_stay.ensures.quiet old c.args.caller (tick c.args.now) _ tt stands.heard in
     stood _ _ _ _ _ _ c.tick.ensures.performance refl
-        (c.a_server_stands_for_more.ensures.same old c.args.caller (tick c.args.now) _ texts stands c.requires (omega (arith, c.ranges.now)) heard)
+    (c.a_server_stands_for_more.ensures.same old c.args.caller (tick c.args.now) _ texts stands c.requires (omega (arith, c.ranges.now)) heard)

@@ -11,4 +11,4 @@ returns-in-Ok-clause-found c =
     let methods = c.self.inside.tree.methods ++ method ∷ [] in
     let list = subst (λ (tree : Registry). IsMethodList tree.methods) c.in-Ok.ensures.added c.add.ensures.lawful.list in
     subst (λ (tree : Registry). address_by_id tree.methods id ≡ Some c.args.address) (sym c.in-Ok.ensures.added)
-        (c.methods_stay_lawful.ensures.found methods method list (last_there c.self.inside.tree.methods method))
+    (c.methods_stay_lawful.ensures.found methods method list (last_there c.self.inside.tree.methods method))

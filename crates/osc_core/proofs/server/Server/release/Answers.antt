@@ -29,7 +29,7 @@ pub release_unit-requires-clause-unit : goal.release_unit-requires-clause-unit
 release_unit-requires-clause-unit g c =
     let s = c.self.inside in
     let below = first_below s.queue.items c.in-Some.due c.in-Some.unit c.in-Some.field-0-2.now s.next_unit c.in-Some.ensures.head c.self.invariant.units.numbers
-        in
+    in
     omega (arith, below, c.requires.units, ap (λ (state : State). state.next_unit) c.self.view_is)
 
 pub take_first-requires-clause-due : goal.take_first-requires-clause-due
@@ -37,7 +37,7 @@ take_first-requires-clause-due g c =
     let s = c.self.inside in
     let hits = hits_of (calls_from s.tree.methods 0 (messages_by s.store.kept c.in-Some.unit)) in
     let due = first_answer (the_view s) s.store.kept s.queue.items c.in-Some.due c.in-Some.unit c.in-Some.field-0-2.now refl c.in-Some.ensures.head
-        (omega (arith, c.if-due-self.false)) in
+    (omega (arith, c.if-due-self.false)) in
     let item = is_item (the_view s) s.store.kept s.queue.items c.in-Some.unit hits refl c.self.invariant.units.kept due in
     item.due
 
@@ -47,7 +47,7 @@ returns-in-Ok-clause-answer g c =
     let unit = c.in-Some.unit in
     let calls = calls_from s.tree.methods 0 (messages_by s.store.kept unit) in
     let due = first_answer (the_view s) s.store.kept s.queue.items c.in-Some.due unit c.in-Some.field-0-2.now refl c.in-Some.ensures.head
-        (omega (arith, c.if-due-self.false)) in
+    (omega (arith, c.if-due-self.false)) in
     let item = is_item (the_view s) s.store.kept s.queue.items unit (hits_of calls) refl c.self.invariant.units.kept due in
     let kept = c.messages-messages.ensures.value in
     let begun = with_release c.args.recorder.now c.args.caller unit c.in-Ok.calls in
@@ -69,11 +69,11 @@ returns-in-Ok-clause-boxes g c =
     let unit = c.in-Some.unit in
     let calls = calls_from s.tree.methods 0 (messages_by s.store.kept unit) in
     let due = first_answer (the_view s) s.store.kept s.queue.items c.in-Some.due unit c.in-Some.field-0-2.now refl c.in-Some.ensures.head
-        (omega (arith, c.if-due-self.false)) in
+    (omega (arith, c.if-due-self.false)) in
     let item = is_item (the_view s) s.store.kept s.queue.items unit (hits_of calls) refl c.self.invariant.units.kept due in
     let invocations = ap (λ (state : State). (decided state release).invocations) (sym c.self.view_is) ∙ item.invocations_are in
     hear_same _ _ _ _ c.in-Ok.ensures.boxes
-        (ap (λ (l : List (List ℕ)). invocations_of unit (calls_from s.tree.methods 0 l)) c.messages-messages.ensures.value ∙ sym invocations)
+    (ap (λ (l : List (List ℕ)). invocations_of unit (calls_from s.tree.methods 0 l)) c.messages-messages.ensures.value ∙ sym invocations)
 
 pub returns-in-Err-clause-answer : goal.returns-in-Err-clause-answer
 returns-in-Err-clause-answer g c =
@@ -81,9 +81,9 @@ returns-in-Err-clause-answer g c =
     let unit = c.in-Some.unit in
     let calls = calls_from s.tree.methods 0 (messages_by s.store.kept unit) in
     let due = first_answer (the_view s) s.store.kept s.queue.items c.in-Some.due unit c.in-Some.field-0-2.now refl c.in-Some.ensures.head
-        (omega (arith, c.if-due-self.false)) in
+    (omega (arith, c.if-due-self.false)) in
     let many : length (calls_from s.tree.methods 0 c.messages-messages.result) ≡ length (hits_of calls) =
-        ap (λ (l : List (List ℕ)). length (calls_from s.tree.methods 0 l)) c.messages-messages.ensures.value ∙ sym (length-hits_of calls) in
+    ap (λ (l : List (List ℕ)). length (calls_from s.tree.methods 0 l)) c.messages-messages.ensures.value ∙ sym (length-hits_of calls) in
     record {
       unit = unit;
       hits = hits_of calls;

@@ -8,8 +8,11 @@ use Rattle.osc_core.proofs.standing.CoreKept.entries.Goals as goal
 pub returns-clause-stands : goal.returns-clause-stands
 returns-clause-stands g c =
     let laws : TextLaws =
-        record { all = c.a_legal_history_is_recordable.ensures.all; within = c.a_legal_history_is_recordable.ensures.within;
-        again = c.a_written_entry_is_read_again.ensures } in
+    record {
+      all = c.a_legal_history_is_recordable.ensures.all;
+      within = c.a_legal_history_is_recordable.ensures.within;
+      again = c.a_written_entry_is_read_again.ensures;
+    } in
     let core = c.args.self.now in
     own_texts laws core.performance _ (ap is_ascending (map-map (λ (told : Told). told.id) _ core.boxes.items) ∙ core.ascending) c.bytes.ensures.legal
-        core.heard
+    core.heard

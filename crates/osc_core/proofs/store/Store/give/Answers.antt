@@ -15,8 +15,8 @@ find-found-requires c =
 pub cut-requires : goal.cut-requires
 cut-requires c =
     let is = found_part c.args.self.now.kept c.args.number c.deref.result.now c.find-found.result.start c.find-found.result.section
-        (without_section c.deref.result.now c.args.number) c.self.invariant
-        (ap (λ (s : Stock). s.kept) c.self.view_is) c.requires c.deref.ensures.value c.find-found.ensures.start c.find-found.ensures.section refl in
+    (without_section c.deref.result.now c.args.number) c.self.invariant
+    (ap (λ (s : Stock). s.kept) c.self.view_is) c.requires c.deref.ensures.value c.find-found.ensures.start c.find-found.ensures.section refl in
     let inside = is.inside in
     let long : vec_len c.self.inside.bytes ≡ length c.self.inside.bytes.items = c.self.inside.bytes.ok.0 in
     omega arith
@@ -24,8 +24,8 @@ cut-requires c =
 pub blocks_of-requires : goal.blocks_of-requires
 blocks_of-requires c =
     let is = found_part c.args.self.now.kept c.args.number c.deref.result.now c.find-found.result.start c.find-found.result.section
-        (without_section c.deref.result.now c.args.number) c.self.invariant
-        (ap (λ (s : Stock). s.kept) c.self.view_is) c.requires c.deref.ensures.value c.find-found.ensures.start c.find-found.ensures.section refl in
+    (without_section c.deref.result.now c.args.number) c.self.invariant
+    (ap (λ (s : Stock). s.kept) c.self.view_is) c.requires c.deref.ensures.value c.find-found.ensures.start c.find-found.ensures.section refl in
     let here = is_here c.args.self.now.kept c.args.number c.self.invariant (ap (λ (s : Stock). s.kept) c.self.view_is) c.requires in
     let inside = is.inside in
     let within = here.within in
@@ -34,36 +34,36 @@ blocks_of-requires c =
 pub overflow_sub-self : goal.overflow_sub-self
 overflow_sub-self c =
     let is = found_part c.args.self.now.kept c.args.number c.deref.result.now c.find-found.result.start c.find-found.result.section
-        (without_section c.deref.result.now c.args.number) c.self.invariant
-        (ap (λ (s : Stock). s.kept) c.self.view_is) c.requires c.deref.ensures.value c.find-found.ensures.start c.find-found.ensures.section refl in
+    (without_section c.deref.result.now c.args.number) c.self.invariant
+    (ap (λ (s : Stock). s.kept) c.self.view_is) c.requires c.deref.ensures.value c.find-found.ensures.start c.find-found.ensures.section refl in
     let blocks = is.blocks in
     let counted = c.self.invariant.counted in
     let same : kept_blocks (kept_of c.self.inside.sections.items c.self.inside.bytes.items) ≡ kept_blocks c.args.self.now.kept =
-        ap (λ (s : Stock). kept_blocks s.kept) c.self.view_is in
+    ap (λ (s : Stock). kept_blocks s.kept) c.self.view_is in
     omega arith
 
 pub invariant_of-self : goal.invariant_of-self
 invariant_of-self c =
     let is = found_part c.args.self.now.kept c.args.number c.deref.result.now c.find-found.result.start c.find-found.result.section
-        (without_section c.deref.result.now c.args.number) c.self.invariant
-        (ap (λ (s : Stock). s.kept) c.self.view_is) c.requires c.deref.ensures.value c.find-found.ensures.start c.find-found.ensures.section refl in
+    (without_section c.deref.result.now c.args.number) c.self.invariant
+    (ap (λ (s : Stock). s.kept) c.self.view_is) c.requires c.deref.ensures.value c.find-found.ensures.start c.find-found.ensures.section refl in
     let left : c.remove.new.self.items ≡ without_section c.deref.result.now c.args.number =
-        c.remove.ensures.items ∙ ap (λ (l : List Section). remove l c.find-found.result.place) (sym c.deref.ensures.value) ∙ c.find-found.ensures.others in
+    c.remove.ensures.items ∙ ap (λ (l : List Section). remove l c.find-found.result.place) (sym c.deref.ensures.value) ∙ c.find-found.ensures.others in
     let blocks = is.blocks in
     let counted = c.self.invariant.counted in
     let within = c.self.invariant.within in
     let reserved = c.self.invariant.reserved in
     let placed = c.self.invariant.placed in
     let same : kept_blocks (kept_of c.self.inside.sections.items c.self.inside.bytes.items) ≡ kept_blocks c.args.self.now.kept =
-        ap (λ (s : Stock). kept_blocks s.kept) c.self.view_is in
+    ap (λ (s : Stock). kept_blocks s.kept) c.self.view_is in
     stock_of _ _ (without_unit c.args.self.now.kept c.args.number) _ _ _ _ _ (stored_less _ _ is left c.cut.ensures.items) (omega arith)
-        (omega arith) c.self.invariant.few (omega arith) (omega arith)
+    (omega arith) c.self.invariant.few (omega arith) (omega arith)
 
 pub returns-clause-kept : goal.returns-clause-kept
 returns-clause-kept c =
     let is = found_part c.args.self.now.kept c.args.number c.deref.result.now c.find-found.result.start c.find-found.result.section
-        (without_section c.deref.result.now c.args.number) c.self.invariant
-        (ap (λ (s : Stock). s.kept) c.self.view_is) c.requires c.deref.ensures.value c.find-found.ensures.start c.find-found.ensures.section refl in
+    (without_section c.deref.result.now c.args.number) c.self.invariant
+    (ap (λ (s : Stock). s.kept) c.self.view_is) c.requires c.deref.ensures.value c.find-found.ensures.start c.find-found.ensures.section refl in
     let left : c.remove.new.self.items ≡ without_section c.deref.result.now c.args.number =
-        c.remove.ensures.items ∙ ap (λ (l : List Section). remove l c.find-found.result.place) (sym c.deref.ensures.value) ∙ c.find-found.ensures.others in
+    c.remove.ensures.items ∙ ap (λ (l : List Section). remove l c.find-found.result.place) (sym c.deref.ensures.value) ∙ c.find-found.ensures.others in
     stored_is _ _ _ (stored_less _ _ is left c.cut.ensures.items)

@@ -13,22 +13,22 @@ find-found-requires c =
 pub part-bytes-requires : goal.part-bytes-requires
 part-bytes-requires c =
     let is = found_part c.args.self.now.kept c.args.number c.deref.result.now c.find-found.result.start c.find-found.result.section
-        (without_section c.deref.result.now c.args.number) c.self.invariant
-        (ap (λ (s : Stock). s.kept) c.self.view_is) c.requires c.deref.ensures.value c.find-found.ensures.start c.find-found.ensures.section refl in
+    (without_section c.deref.result.now c.args.number) c.self.invariant
+    (ap (λ (s : Stock). s.kept) c.self.view_is) c.requires c.deref.ensures.value c.find-found.ensures.start c.find-found.ensures.section refl in
     rw c.deref-2.ensures.value is.inside
 
 pub new-requires : goal.new-requires
 new-requires c =
     let is = found_part c.args.self.now.kept c.args.number c.deref.result.now c.find-found.result.start c.find-found.result.section
-        (without_section c.deref.result.now c.args.number) c.self.invariant
-        (ap (λ (s : Stock). s.kept) c.self.view_is) c.requires c.deref.ensures.value c.find-found.ensures.start c.find-found.ensures.section refl in
+    (without_section c.deref.result.now c.args.number) c.self.invariant
+    (ap (λ (s : Stock). s.kept) c.self.view_is) c.requires c.deref.ensures.value c.find-found.ensures.start c.find-found.ensures.section refl in
     part_framed c.part-bytes.result.now is
-        (c.part-bytes.ensures ∙ ap (λ (l : List ℕ). take c.find-found.result.section.size (drop c.find-found.result.start l)) c.deref-2.ensures.value)
+    (c.part-bytes.ensures ∙ ap (λ (l : List ℕ). take c.find-found.result.section.size (drop c.find-found.result.start l)) c.deref-2.ensures.value)
 
 pub returns-clause-value : goal.returns-clause-value
 returns-clause-value c =
     let is = found_part c.args.self.now.kept c.args.number c.deref.result.now c.find-found.result.start c.find-found.result.section
-        (without_section c.deref.result.now c.args.number) c.self.invariant
-        (ap (λ (s : Stock). s.kept) c.self.view_is) c.requires c.deref.ensures.value c.find-found.ensures.start c.find-found.ensures.section refl in
+    (without_section c.deref.result.now c.args.number) c.self.invariant
+    (ap (λ (s : Stock). s.kept) c.self.view_is) c.requires c.deref.ensures.value c.find-found.ensures.start c.find-found.ensures.section refl in
     c.new.ensures.value ∙ part_messages c.part-bytes.result.now is
-        (c.part-bytes.ensures ∙ ap (λ (l : List ℕ). take c.find-found.result.section.size (drop c.find-found.result.start l)) c.deref-2.ensures.value)
+    (c.part-bytes.ensures ∙ ap (λ (l : List ℕ). take c.find-found.result.section.size (drop c.find-found.result.start l)) c.deref-2.ensures.value)

@@ -11,7 +11,7 @@ append-requires c =
     let limit : c.self.inside.limit ≡ c.args.self.now.limit = ap (λ (s : Stock). s.limit) c.self.view_is in
     let blocks = c.requires.blocks in
     let room = stock_room c.args.self.now.kept (stored_size c.args.unit.now.messages) c.self.invariant (ap (λ (s : Stock). s.kept) c.self.view_is)
-        (omega arith) in
+    (omega arith) in
     let size : stored_size c.messages.result ≡ stored_size c.args.unit.now.messages = ap stored_size c.messages.ensures in
     let long : vec_len c.self.inside.bytes ≡ length c.self.inside.bytes.items = c.self.inside.bytes.ok.0 in
     omega arith
@@ -21,12 +21,12 @@ invariant_of-self c =
     let one : Kept = record { unit = c.args.number; messages = c.args.unit.now.messages } in
     let kept = c.args.self.now.kept in
     let stored =
-        stored_put kept one c.stored.result c.count.result c.messages.result c.enter.new.sections.items c.append.new.bytes.items c.self.invariant.stored
-        (ap (λ (s : Stock). s.kept) c.self.view_is) c.stored.ensures.size c.count.ensures c.messages.ensures c.append.ensures.read c.enter.ensures.items
-        c.append.ensures.items in
+    stored_put kept one c.stored.result c.count.result c.messages.result c.enter.new.sections.items c.append.new.bytes.items c.self.invariant.stored
+    (ap (λ (s : Stock). s.kept) c.self.view_is) c.stored.ensures.size c.count.ensures c.messages.ensures c.append.ensures.read c.enter.ensures.items
+    c.append.ensures.items in
     let limit : c.self.inside.limit ≡ c.args.self.now.limit = ap (λ (s : Stock). s.limit) c.self.view_is in
     let same : kept_blocks (kept_of c.self.inside.sections.items c.self.inside.bytes.items) ≡ kept_blocks kept =
-        ap (λ (s : Stock). kept_blocks s.kept) c.self.view_is in
+    ap (λ (s : Stock). kept_blocks s.kept) c.self.view_is in
     let blocks = c.requires.blocks in
     let counted = c.self.invariant.counted in
     let reserved = c.self.invariant.reserved in
@@ -39,6 +39,6 @@ pub returns-clause-kept : goal.returns-clause-kept
 returns-clause-kept c =
     let one : Kept = record { unit = c.args.number; messages = c.args.unit.now.messages } in
     stored_is _ _ _
-        (stored_put c.args.self.now.kept one c.stored.result c.count.result c.messages.result c.enter.new.sections.items c.append.new.bytes.items c.self.invariant.stored
-        (ap (λ (s : Stock). s.kept) c.self.view_is) c.stored.ensures.size c.count.ensures c.messages.ensures c.append.ensures.read c.enter.ensures.items
-        c.append.ensures.items)
+    (stored_put c.args.self.now.kept one c.stored.result c.count.result c.messages.result c.enter.new.sections.items c.append.new.bytes.items c.self.invariant.stored
+    (ap (λ (s : Stock). s.kept) c.self.view_is) c.stored.ensures.size c.count.ensures c.messages.ensures c.append.ensures.read c.enter.ensures.items
+    c.append.ensures.items)

@@ -10,9 +10,9 @@ close-requires-clause-ours g c =
     let one = c.remove.result in
     let is = parted callers others one (some_first callers c.requires.first) c.remove.ensures.value c.remove.ensures.items in
     let all = handed _ _ _ _ others c.count-first.result.0 c.args.guests.items c.in-Ok.ensures.items c.in-Ok-insert.ensures.items c.hand_callers.ensures.items
-        c.hand_guests.ensures.items in
+    c.hand_guests.ensures.items in
     all_ours c.args.self.turn c.args.self.caps callers others one c.count-first.result.0 c.args.guests.items _ is c.requires.callers_ours c.requires.guests_ours
-        c.count-first.ensures.ours.0 all
+    c.count-first.ensures.ours.0 all
 
 pub returns-clause-closes : goal.returns-clause-closes
 returns-clause-closes g c =
@@ -26,8 +26,8 @@ returns-clause-closes g c =
     let turn = c.in-Ok-close.ensures.closes in
     let core = c.in-Ok-close.core in
     let kind = kind_is c.args.self.turn c.args.self.caps _ callers others one back guests _ is c.requires.callers_ours c.count-first.ensures.same all
-        c.in-Ok-close.ensures.kind in
+    c.in-Ok-close.ensures.kind in
     let limits = c.headers_differ.ensures core.performance.caps c.args.self.caps turn.stands_for.legal.0 c.units.ensures.range kind in
     closes_still c.args.self.caps callers others one back guests _ _ is c.count-first.ensures.number c.count-first.ensures.same
     (closes c.args.self.caps core.performance _ _ _ (back ∷ others) guests _ turn.history all turn.stands_for limits turn.carried turn.each_once
-        c.close-in-Ok-close.ensures.text c.close-in-Ok-close.ensures.laws c.close-in-Ok-close.ensures.kept)
+    c.close-in-Ok-close.ensures.text c.close-in-Ok-close.ensures.laws c.close-in-Ok-close.ensures.kept)

@@ -33,10 +33,10 @@ returns-in-Number-clause-call g c =
     let v = view c.args.caller.pass in
     let call = c.play-caller.ensures.call in
     let given = subst (λ (a : Answer). Calls c.args.self.now.caps c.args.caller.number enrol a (view c.meet-guest.result.1) (view c.play-caller.result.0.pass))
-        (call.1 ∙ ap enrolled_of c.in-Number.is) call.2 in
+    (call.1 ∙ ap enrolled_of c.in-Number.is) call.2 in
     subst (λ (u : View). Calls c.args.self.now.caps c.args.caller.number enrol (number c.in-Number.given) v u) (sym c.meet-pass.ensures.from)
-        (calls_met c.args.self.now.caps c.args.caller.number enrol (number c.in-Number.given) v (view c.args.guest.pass) (view c.meet-guest.result.1)
-        (view c.play-caller.result.0.pass) meet.into meet.seen meet.none_added given)
+    (calls_met c.args.self.now.caps c.args.caller.number enrol (number c.in-Number.given) v (view c.args.guest.pass) (view c.meet-guest.result.1)
+    (view c.play-caller.result.0.pass) meet.into meet.seen meet.none_added given)
 
 pub returns-in-CallersFull-clause-call : goal.returns-in-CallersFull-clause-call
 returns-in-CallersFull-clause-call g c =
@@ -44,9 +44,9 @@ returns-in-CallersFull-clause-call g c =
     let v = view c.args.caller.pass in
     let call = c.play-caller.ensures.call in
     let full = subst (λ (a : Answer). Calls c.args.self.now.caps c.args.caller.number enrol a (view c.meet-guest.result.1) (view c.play-caller.result.0.pass))
-        (call.1 ∙ ap enrolled_of c.in-CallersFull.is) call.2 in
+    (call.1 ∙ ap enrolled_of c.in-CallersFull.is) call.2 in
     calls_met c.args.self.now.caps c.args.caller.number enrol callers_full v (view c.args.guest.pass) (view c.meet-guest.result.1)
-        (view c.play-caller.result.0.pass) meet.into meet.seen meet.none_added full
+    (view c.play-caller.result.0.pass) meet.into meet.seen meet.none_added full
 
 pub invariant_of-new : goal.invariant_of-new
 invariant_of-new g c =
@@ -58,12 +58,12 @@ invariant_of-new g c =
     let call_is = subst (λ (a : Answer). Calls c.args.self.now.caps c.args.caller.number enrol a v1 w) (call.1 ∙ ap enrolled_of c.in-Number.is) call.2 in
     let next = newly_enrolled c.callers_are_counted.ensures.enrolled c.args.self.now.caps c.args.caller.number c.in-Number.given v1 w call_is in
     let told : StartsWith w.seen guest.seen =
-        subst (λ (u : View). StartsWith w.seen u.seen) (sym c.meet-guest.ensures.from)
-        (starts_on w.seen v1.seen (view c.args.guest.pass).seen call_is.goes_on c.meet-guest.ensures.told) in
+    subst (λ (u : View). StartsWith w.seen u.seen) (sym c.meet-guest.ensures.from)
+    (starts_on w.seen v1.seen (view c.args.guest.pass).seen call_is.goes_on c.meet-guest.ensures.told) in
     let same : new.seen ≡ w.seen = told_all guest w new c.meet-pass.ensures.into told in
     let none : own (number_of new) new.seen ≡ [] =
     ap (λ (n : ℕ). own n new.seen) (ap number_of c.meet-pass.ensures.into) ∙ c.meet-pass.ensures.none_added
-        ∙ ap (λ (u : View). own (number_of u) u.seen) c.meet-guest.ensures.from ∙ c.args.guest.none_own in
+    ∙ ap (λ (u : View). own (number_of u) u.seen) c.meet-guest.ensures.from ∙ c.args.guest.none_own in
     let first = next.0 in
     record {
       enrolled = subst (λ (seen : List Seen). c.in-Number.given < callers_in (history_in (texts seen))) (sym same) next.1;

@@ -10,7 +10,7 @@ returns-in-Some-clause-call g c =
     let turn = c.try_act-pass.ensures in
     let ran = c.in-Done.field-0 in
     called c.args.self.now.caps _ c.args.caller.number _ (g.A.Ask.event c.args.asked) (g.A.Ask.says c.in-Some.answer) ran (view c.args.caller.pass)
-        (view c.try_act-pass.result.0) c.new.ensures.caps c.new.ensures.caller turn.seen
+    (view c.try_act-pass.result.0) c.new.ensures.caps c.new.ensures.caller turn.seen
     (done_there _ _ ran c.in-Done.is turn.once) (done_there _ _ ran c.in-Done.is turn.counted) (done_there _ _ ran c.in-Done.is turn.ran)
     (some_there _ _ c.in-Some.answer c.in-Some.is (done_there _ _ ran c.in-Done.is turn.ran).did_so)
 

@@ -12,7 +12,7 @@ pub ask-answer-requires : goal.ask-answer-requires
 ask-answer-requires g c =
     let asking = c.args.self.now.asking in
     enrolled_there c.callers_are_counted.ensures.grows c.callers_are_counted.ensures.after c.args.state.now.performance _ c.requires.base.0
-        (texts (view asking.was.value).seen) asking.caller c.requires.base.1 c.requires.base.2 asking.enrolled
+    (texts (view asking.was.value).seen) asking.caller c.requires.base.1 c.requires.base.2 asking.enrolled
 
 pub returns-clause-did : goal.returns-clause-did
 returns-clause-did g c before after one starts two next =
@@ -28,7 +28,7 @@ returns-clause-did g c before after one starts two next =
     let same : new.caps ≡ now.caps = ap (λ (p : Performance). p.caps) onwards ∙ caps_stay now asking.caller event in
     let adds = subst (λ (t : Bool). IsNext t before after) answer.3 next in
     let told = subst (λ (l : Limits). g.A.Ask.tells c.in-Some.asked c.ask-answer.result.0 l after) limits
-        (c.ask-answer.ensures.tells before after one two (next_starts c.ask-answer.result.1 before after next)) in
+    (c.ask-answer.ensures.tells before after one two (next_starts c.ask-answer.result.1 before after next)) in
     did_so g.A.Ask.event g.A.Ask.says g.A.Ask.tells asking.caps asking.caller _ _ c.in-Some.asked c.ask-answer.result.0 before after asked
-        c.replace.ensures.after
+    c.replace.ensures.after
     (answer.0, answer.1, plays asking.caps now new _ _ asking.caller event answer.0 before after one two limits onwards answer.2 same adds, told)

@@ -11,6 +11,6 @@ returns-clause-tells g c before after one two starts =
     let new = c.remove-answer.new.self.performance in
     let address = c.args.self.address.now in
     removed_tells g.M.Method.keep g.M.Method.heard c.remove-answer.result old new c.args.caller address _ _ before after c.a_performance_goes_on.ensures.invoked
-        one two starts c.remove-answer.ensures.performance
+    one two starts c.remove-answer.ensures.performance
     (ap (λ (p : Performance). p.caps) c.remove-answer.ensures.performance ∙ caps_stay old c.args.caller (remove address)) c.remove-answer.ensures.answer
-        c.remove-answer.ensures.removed
+    c.remove-answer.ensures.removed

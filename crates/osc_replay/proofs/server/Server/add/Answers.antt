@@ -13,5 +13,5 @@ returns-in-Some c =
     let with : Registry → State = λ tree. server_state tree s.queue s.blocks s.clock s.next_id s.next_unit s.callers s.caller_limit s.recorded s.record_limit in
     subst (λ (old : State). Decides c.refused.result old (add c.args.address.now) (with c.add_to.new.tree)) c.self.view_is
     (add_refuses (with s.tree) (with c.add_to.new.tree) c.in_ok-address.address c.args.address.now c.refused.result
-        (refusal_of c.in-Some.refusal) c.in_ok-address.ensures c.in-Some.ensures.refusal c.refused.ensures.value c.refused.ensures.whole
+    (refusal_of c.in-Some.refusal) c.in_ok-address.ensures c.in-Some.ensures.refusal c.refused.ensures.value c.refused.ensures.whole
     (ap with c.in-Some.ensures.unchanged))

@@ -12,7 +12,13 @@ invariant_of-self c =
     let copies = ap (λ (units : List Timed). queued_blocks (enter_all (numbered s.clock s.next_unit units) s.queue.items)) c.units.ensures.value in
     record {
       room = c.self.invariant.room;
-      counted = omega
-          (arith, ap queued_blocks c.enter_all.ensures.items, copies, all_blocks s.clock s.next_unit
-          (units_read c.args.packet.now) s.queue.items, c.blocks_of-need.ensures, c.self.invariant.counted);
+      counted = omega (
+        arith,
+        ap queued_blocks c.enter_all.ensures.items,
+        copies,
+        all_blocks s.clock s.next_unit
+            (units_read c.args.packet.now) s.queue.items,
+        c.blocks_of-need.ensures,
+        c.self.invariant.counted,
+      );
     }
