@@ -92,7 +92,7 @@ impl<'a> Pattern<'a> {
 
     /// Whether the part at this place, counted from 0, matches the name. It takes no memory.
     ///
-    /// A step is to examine one byte of the part, or its end, for one place of the name.
+    /// A step is to examine one byte of the part, a range of a list or the part's end, for one place of the name.
     #[tactic(auto, using(crate::proofs::PatternLaws::laws))]
     pub fn matches_part<L: Ledger>(&self, part: u32, name: &[u8], steps: &mut Steps<L>) -> bool
         requires part { part < length (parts_of self.now) }
