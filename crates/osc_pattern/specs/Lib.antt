@@ -6,6 +6,5 @@ pub mod Reading
 pub mod Patterns
 pub mod Addresses
 pub mod Methods
-
 -- Inside the crate.
 pub mod Views

@@ -2,7 +2,7 @@
 ghost use Rattle.std.specs.Prelude.{◌≤◌};
 
 use osc_atoms::{Fault, put_string, put_tag, put_word};
-use osc_packet::Packet;
+use osc_packet::{MAX_PACKET, Packet};
 use std::alloc::{AllocError, Global};
 
 /// A bundle of `/a`, a bundle of `/b`, and `/c`, both tags 2.
@@ -11,7 +11,7 @@ const MIXED: &[u8; 60] =
 
 /// The number of units, or the first fault.
 fn told(bytes: &[u8]) -> Result<u32, Fault> {
-    Ok(Packet::check(bytes, 65_504)?.count())
+    Ok(Packet::check(bytes, MAX_PACKET)?.count())
 }
 
 fn fault(kind: u8, at: u32) -> Result<u32, Fault> {
@@ -105,7 +105,7 @@ fn units_stand_outer_first_with_their_own_messages(rt: HostRuntime) {
         (2, 2, 16, &[b"/a\0\0", b"/c\0\0"]),
         (2, 1, 8, &[b"/b\0\0"]),
     ];
-    let packet = Packet::check(MIXED, 65_504).expect(&rt, "more");
+    let packet = Packet::check(MIXED, MAX_PACKET).expect(&rt, "more");
     let mut units = packet.units();
     for (tag, count, stored, messages) in wanted {
         let unit = units.next().expect(&rt, "more");
@@ -124,7 +124,7 @@ fn units_stand_outer_first_with_their_own_messages(rt: HostRuntime) {
 
 #[test]
 fn a_message_alone_is_a_unit_of_tag_1(rt: HostRuntime) {
-    let packet = Packet::check(b"/a\0\0", 65_504).expect(&rt, "a message");
+    let packet = Packet::check(b"/a\0\0", MAX_PACKET).expect(&rt, "a message");
     let unit = packet.units().next().expect(&rt, "a unit");
     assert_eq!(rt; (unit.tag(), unit.count(), unit.stored()), (1, 1, 8));
 }
@@ -133,7 +133,7 @@ fn a_message_alone_is_a_unit_of_tag_1(rt: HostRuntime) {
 fn units_stand_in_the_order_of_the_bytes(rt: HostRuntime) {
     let bytes =
         b"#bundle\0\0\0\0\0\0\0\0\x01\0\0\0\x24#bundle\0\0\0\0\0\0\0\0\x02\0\0\0\x10#bundle\0\0\0\0\0\0\0\0\x01\0\0\0\x10#bundle\0\0\0\0\0\0\0\0\x03";
-    let packet = Packet::check(bytes, 65_504).expect(&rt, "a packet");
+    let packet = Packet::check(bytes, MAX_PACKET).expect(&rt, "a packet");
     let mut units = packet.units();
     for tag in [1, 2, 2, 3] {
         assert_eq!(rt; units.next().expect(&rt, "more").tag(), tag);

@@ -4,7 +4,7 @@ ghost use Rattle.std.specs.Prelude.{◌<◌};
 use osc_core::{AddRefusal, Adding, Core, Enrolled, Releasing, Removing, Submitted, Ticking};
 use osc_message::Message;
 use osc_method::{Call, Method, Mute, Trace};
-use osc_packet::Packet;
+use osc_packet::{MAX_PACKET, Packet};
 use osc_pattern::Address;
 use osc_record::Caps;
 use std::alloc::Global;
@@ -132,7 +132,7 @@ fn enrol<M: Method>(core: &mut Core<M>) -> Answer {
 }
 
 fn submit<M: Method>(core: &mut Core<M>, bytes: &[u8]) -> Answer {
-    let Ok(packet) = Packet::check(bytes, 65_504) else {
+    let Ok(packet) = Packet::check(bytes, MAX_PACKET) else {
         return Answer::Other;
     };
     let _ = core.callers();

@@ -2,7 +2,7 @@
 use crate::tokens::{close_both, close_twice, enrolled, open};
 use osc_core::{Adding, Closed};
 use osc_method::{Method, Mute, Trace};
-use osc_packet::Packet;
+use osc_packet::{MAX_PACKET, Packet};
 use osc_pattern::Address;
 use std::alloc::Global;
 use std::sync::Wait;
@@ -51,7 +51,7 @@ fn told<M: Method>(round: &Round<M>) -> Option<u32> {
 }
 
 fn packet() -> Option<Packet<'static>> {
-    Packet::check(b"/a\0\0", 65_504).ok()
+    Packet::check(b"/a\0\0", MAX_PACKET).ok()
 }
 
 #[test]

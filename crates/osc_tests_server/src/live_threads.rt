@@ -6,7 +6,7 @@ use crate::tokens::{close_both, enrolled, open};
 use osc_core::{Adding, Closed, Releasing, Submitted};
 use osc_live::{Busy, Caller, Live};
 use osc_method::{Call, Method, Mute};
-use osc_packet::Packet;
+use osc_packet::{MAX_PACKET, Packet};
 use osc_pattern::Address;
 use osc_record::{Answer, Reader};
 use std::alloc::Global;
@@ -78,7 +78,7 @@ fn try_submit<M: Method>(
     ensures ours { IsTokenOf live.now.turn live.now.caps result.0.pass }
     ensures number { result.0.number ≡ caller.number }
 {
-    let Ok(packet) = Packet::check(MESSAGE, 65_504) else {
+    let Ok(packet) = Packet::check(MESSAGE, MAX_PACKET) else {
         return (caller, None);
     };
     let (caller, submitted) = live.try_submit(caller, &packet);
@@ -149,7 +149,7 @@ struct Held {
 }
 
 fn hold<R: Threads + Wait + Sync>(rt: &R, alloc: Global) -> Option<Held> {
-    let packet = Packet::check(MESSAGE, 65_504).ok()?;
+    let packet = Packet::check(MESSAGE, MAX_PACKET).ok()?;
     let begun = flag(alloc)?;
     let may_end = flag(alloc)?;
     let gate = Gate {
@@ -209,7 +209,7 @@ fn submit_and_pump<M: Method, W: Wait>(
     ensures ours { IsTokenOf live.now.turn live.now.caps result.0.pass }
     ensures number { result.0.number ≡ caller.number }
 {
-    let Ok(packet) = Packet::check(MESSAGE, 65_504) else {
+    let Ok(packet) = Packet::check(MESSAGE, MAX_PACKET) else {
         return (caller, None, 0);
     };
     let (caller, submitted) = live.submit(rt, caller, &packet);

@@ -2,7 +2,7 @@
 use crate::servers::{address, caps, with_fader};
 use osc_atoms::Fault;
 use osc_core::{Releasing, Submitted};
-use osc_packet::Packet;
+use osc_packet::{MAX_PACKET, Packet};
 use osc_uses::{first_run, one_packet};
 use std::alloc::Global;
 use std::test::*;
@@ -17,7 +17,7 @@ const DIM: &[u8] = b"/light/dim\0\0,i\0\0\0\0\0\x07";
 
 /// What the fader keeps, and how many bytes are recorded.
 fn run(alloc: Global, at: &[u8], bytes: &[u8]) -> Result<(Option<u32>, usize), Fail> {
-    let packet = Packet::check(bytes, 65_504).ok().ok_or("a packet")?;
+    let packet = Packet::check(bytes, MAX_PACKET).ok().ok_or("a packet")?;
     let closed = first_run(alloc, caps(1)?, address(alloc, at)?, &packet)?;
     let (_, fader) = closed.kept.first().ok_or("a fader")?;
     Ok((fader.level(), closed.bytes.len()))

@@ -1,7 +1,7 @@
 // Bundles that wait for their moments.
 use crate::servers::with_fader;
 use osc_core::{Releasing, Submitted, Ticking};
-use osc_packet::Packet;
+use osc_packet::{MAX_PACKET, Packet};
 use osc_uses::{TimedRun, timed_run};
 use std::alloc::Global;
 use std::test::*;
@@ -15,7 +15,7 @@ const ONCE: &[u8] = b"#bundle\0\0\0\0\0\0\0\0\x01\0\0\0\x0c/a\0\0,i\0\0\0\0\0\x0
 
 /// What comes of the bundle, and what the fader at `/a` keeps then.
 fn run(alloc: Global, bundle: &[u8], moment: u64) -> Result<(TimedRun, Option<u32>), Fail> {
-    let packet = Packet::check(bundle, 65_504).ok().ok_or("a packet")?;
+    let packet = Packet::check(bundle, MAX_PACKET).ok().ok_or("a packet")?;
     let mut core = with_fader(alloc, b"/a")?;
     let answers = timed_run(&mut core, &packet, moment);
     let kept = core.close().kept;

@@ -1,4 +1,5 @@
 //! A method of one's own, and a server that calls it.
+ghost use Rattle.osc_packet.specs.declared.limits.TheConstants.{MAX_PACKET};
 ghost use Rattle.std.specs.Prelude.{◌≡◌, false, if◌then◌else◌, [], ◌∷◌, IfOk, OnOk, OnErr, Some, None};
 ghost use Rattle.std.specs.Int.{w32, from_be_bytes};
 ghost use Rattle.std.specs.Result.{result_err};
@@ -15,7 +16,7 @@ ghost use Rattle.osc_uses.specs.Played.{opened, played};
 use osc_atoms::Fault;
 use osc_core::{Closed, Core, Releasing, Submitted};
 use osc_method::{Call, Method};
-use osc_packet::Packet;
+use osc_packet::{MAX_PACKET, Packet};
 use osc_pattern::Address;
 use osc_record::Caps;
 use std::alloc::{AllocError, Global};
@@ -85,7 +86,7 @@ pub fn one_packet<M: Method>(
     core: &mut Core<M>,
     bytes: &[u8],
 ) -> Result<(Submitted, Releasing), Fault>
-    ensures fault { result_err result ≡ packet_fault 65504 bytes.now }
+    ensures fault { result_err result ≡ packet_fault MAX_PACKET bytes.now }
     ensures refused { OnErr result (core.new ≡ core.old) }
     ensures submitted { IfOk result (λ answers. submitted_of answers.0
         ≡ (stepped_in core.old.performance (submit bytes.now)).answer) }
@@ -98,7 +99,7 @@ pub fn one_packet<M: Method>(
         (stepped_in (played core.old.performance (submit bytes.now ∷ [])) release).invocations
         (told M.keep M.heard core.old.boxes.items)) }
 {
-    let packet = Packet::check(bytes, 65_504)?;
+    let packet = Packet::check(bytes, MAX_PACKET)?;
     let submitted = core.submit(0, &packet);
     let released = core.release(0);
     Ok((submitted, released))

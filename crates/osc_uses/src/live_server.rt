@@ -13,7 +13,7 @@ use osc_atoms::Fault;
 use osc_core::{Adding, Closed, Removing, Submitted, Ticking};
 use osc_live::{Caller, EnrolRefusal, Live, LiveOut, Pumped};
 use osc_method::Method;
-use osc_packet::Packet;
+use osc_packet::{MAX_PACKET, Packet};
 use osc_pattern::Address;
 use osc_record::Caps;
 use std::alloc::Global;
@@ -138,7 +138,7 @@ fn send<M: Method, W: Wait>(
     ensures calls { Sends live.now.caps caller.number bytes.now result.1
         (view caller.pass) (view result.0.pass) }
 {
-    match Packet::check(bytes, 65_504) {
+    match Packet::check(bytes, MAX_PACKET) {
         Ok(packet) => {
             let (caller, submitted) = live.submit(rt, caller, &packet);
             (caller, Ok(submitted))
