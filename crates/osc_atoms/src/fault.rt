@@ -5,6 +5,7 @@
 pub struct Fault {
     /// One of the numbers below.
     pub kind: u8,
+    /// The place of the byte, counted from the first.
     pub at: u32,
 }
 

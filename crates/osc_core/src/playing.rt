@@ -21,11 +21,15 @@ pub(crate) fn a_performance_is_played()
     ensures full { (server : State) (recorder : Recording) (entries caller : ℕ) (event : Event)
         (need free : ℕ) → IsPlaying server recorder entries
         → adds_entry (decided server event).answer ≡ true →
-        need ≡ entry_size event (decided server event).answer → free + length (recording_text recorder) ≡ recorder.caps.recording → free < need → IsFull (performance_of recorder) caller event need free }
+        need ≡ entry_size event (decided server event).answer
+        → free + length (recording_text recorder) ≡ recorder.caps.recording → free < need
+        → IsFull (performance_of recorder) caller event need free }
     ensures played { (server : State) (recorder : Recording) (entries caller : ℕ) (event : Event)
         (answer : Answer) → IsPlaying server recorder entries
         → caller < (state_of (performance_of recorder)).callers → IsLawful event →
-        answer ≡ (decided server event).answer → adds_entry answer ≡ true → length (recording_text recorder) + entry_size event answer ≤ recorder.caps.recording → IsPlayed server recorder entries caller event answer }
+        answer ≡ (decided server event).answer → adds_entry answer ≡ true
+        → length (recording_text recorder) + entry_size event answer ≤ recorder.caps.recording
+        → IsPlayed server recorder entries caller event answer }
 {
     laws::a_server_stays_sound();
     laws::a_performance_goes_on();

@@ -18,16 +18,22 @@ pub(crate) fn a_server_stands_for_more()
     ensures same { (performance : Performance) (caller : ℕ) (event : Event) (boxes : List Told)
         (texts : List (List ℕ)) → StandsFor performance boxes texts
         → caller < (state_of performance).callers → IsLawful event →
-        HaveHeard (onward performance caller event) boxes → StandsNext (StandsFor (onward performance caller event) boxes) (adds_entry (stepped_in performance event).answer) texts }
+        HaveHeard (onward performance caller event) boxes
+        → StandsNext (StandsFor (onward performance caller event) boxes)
+        (adds_entry (stepped_in performance event).answer) texts }
     ensures called { (performance : Performance) (caller : ℕ) (event : Event)
         (invocations : List Invocation) (boxes : List Told) (texts : List (List ℕ))
         → StandsFor performance boxes texts → caller < (state_of performance).callers
         → IsLawful event →
-        HaveHeard (onward performance caller event) (all_hear invocations boxes) → StandsNext (StandsFor (onward performance caller event) (all_hear invocations boxes)) (adds_entry (stepped_in performance event).answer) texts }
+        HaveHeard (onward performance caller event) (all_hear invocations boxes)
+        → StandsNext (StandsFor (onward performance caller event) (all_hear invocations boxes))
+        (adds_entry (stepped_in performance event).answer) texts }
     ensures fewer { (performance : Performance) (caller : ℕ) (event : Event) (id : ℕ)
         (boxes : List Told) (texts : List (List ℕ)) → StandsFor performance boxes texts
         → caller < (state_of performance).callers → IsLawful event →
-        HaveHeard (onward performance caller event) (without_id id boxes) → StandsNext (StandsFor (onward performance caller event) (without_id id boxes)) (adds_entry (stepped_in performance event).answer) texts }
+        HaveHeard (onward performance caller event) (without_id id boxes)
+        → StandsNext (StandsFor (onward performance caller event) (without_id id boxes))
+        (adds_entry (stepped_in performance event).answer) texts }
     ensures more { (performance : Performance) (caller : ℕ) (event : Event) (told : Told)
         (boxes : List Told) (texts : List (List ℕ)) → StandsFor performance boxes texts
         → caller < (state_of performance).callers → IsLawful event →
@@ -48,12 +54,14 @@ impl<M: Method> Kept for Core<M> {
     ghost use Rattle.osc_core.specs.Standing.{StandsFor, texts_of};
 
     /// The texts of its entries, with the marks of its boxes.
-    ghost stands = { λ core list. StandsFor core.performance (told M.keep M.heard core.boxes.items) list };
+    ghost stands =
+        { λ core list. StandsFor core.performance (told M.keep M.heard core.boxes.items) list };
 
     /// The header of its recording.
     ghost kind = { λ core. header_text core.performance.caps };
 
-    ghost history = { λ core. texts_of (told M.keep M.heard core.boxes.items) core.performance.history };
+    ghost history =
+        { λ core. texts_of (told M.keep M.heard core.boxes.items) core.performance.history };
 
     ghost one_length = { λ core g h one two. standing.one_length core.performance _ g h one two };
 

@@ -45,7 +45,8 @@ pub fn every_unit_is_released_once_or_waits()
 /// The methods are those that were added and not removed since.
 pub fn the_methods_are_read_off()
     ensures { (caps : Limits) (history : List Entry) (method : Method) → Legal caps history →
-        Contains (after (opening caps) history).methods method ↔ IsRegistered history method.id method.address }
+        Contains (after (opening caps) history).methods method
+        ↔ IsRegistered history method.id method.address }
 {
     model::a_server_stays_sound();
 }

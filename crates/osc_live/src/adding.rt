@@ -25,7 +25,9 @@ impl<M: Method> Ask<M, Adding<M>> for Add<M> {
     ghost says = { λ given answer. answer ≡ adding_of given };
 
     ghost tells = { λ asked given caps after.
-        OnAdded given (λ id. CarriesMark after id (mark_of (record { id = id; keep = M.keep asked.method; heard = M.heard asked.method })))
+        OnAdded given
+        (λ id. CarriesMark after id
+        (mark_of (record { id = id; keep = M.keep asked.method; heard = M.heard asked.method })))
         × OnRefused given (λ address method. (address ≡ asked.address) × (method ≡ asked.method)) };
 
     fn ask(self, caller: u32, core: &mut Core<M>) -> (Adding<M>, bool) {

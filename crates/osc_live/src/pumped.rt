@@ -13,7 +13,10 @@ pub enum PumpEnd {
 /// How many units a pump released, and how many calls they made.
 #[derive(Clone, Copy, Debug, PartialEq, Eq)]
 pub struct Pumped {
+    /// How many units were released.
     pub released: u32,
+    /// How many calls they made, over all of them.
     pub calls: u64,
+    /// Why no more were released.
     pub end: PumpEnd,
 }

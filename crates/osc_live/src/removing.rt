@@ -27,7 +27,8 @@ impl<'a, M: Method> Ask<M, Removing<M>> for Remove<'a> {
     ghost says = { λ given answer. answer ≡ removing_of given };
 
     ghost tells = { λ asked given caps after. OnRemoved given (λ id method.
-        CarriesMark after id (mark_of (record { id = id; keep = M.keep method; heard = M.heard method }))
+        CarriesMark after id
+        (mark_of (record { id = id; keep = M.keep method; heard = M.heard method }))
         × HasHeard (invoked_in (performance_in caps after))
         (record { id = id; keep = M.keep method; heard = M.heard method })) };
 

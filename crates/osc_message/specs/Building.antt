@@ -19,7 +19,8 @@ pub record Building : Type 0 where
 
 -- with one more argument
 abbrev pub pushed : Building → Argument → Building
-pushed building argument = record { pattern = building.pattern; arguments = building.arguments ++ argument ∷ [] }
+pushed building argument =
+    record { pattern = building.pattern; arguments = building.arguments ++ argument ∷ [] }
 
 -- the message when it is finished, always with a tag string
 abbrev pub finished : Building → Form
@@ -40,16 +41,22 @@ abbrev pub refused_null : Option ℕ → Option BuildFault → Option BuildFault
 refused_null None next = next
 refused_null (Some at) next = Some (HasNull at)
 
--- a pattern of over 65,000 bytes is refused first, then one with a zero byte, and then one that has a fault of its own
+-- a pattern of over 65,000 bytes is refused first, then one with a zero byte, and then one that has
+-- a fault of its own
 abbrev pub open_refusal : List ℕ → Option BuildFault
 open_refusal pattern =
-    if nat_le (length pattern) MAX_BUILT_PATTERN then refused_null (null_of pattern) (option_map (λ fault. Pattern fault) (pattern_fault pattern))
+    if nat_le (length pattern) MAX_BUILT_PATTERN
+        then refused_null (null_of pattern)
+        (option_map (λ fault. Pattern fault) (pattern_fault pattern))
     else Some TooLong
 
--- a zero byte is refused first, and then an argument with which the finished message would be over 65,504 bytes
+-- a zero byte is refused first, and then an argument with which the finished message would be over
+-- 65,504 bytes
 abbrev pub push_refusal : Building → Argument → Option BuildFault
 push_refusal building argument =
-    refused_null (null_in argument) (if nat_le (length (message_text (finished (pushed building argument)))) MAX_BUILT then None else Some TooLong)
+    refused_null (null_in argument)
+        (if nat_le (length (message_text (finished (pushed building argument)))) MAX_BUILT then None
+        else Some TooLong)
 
 -- the bytes that are kept: the pattern, the tags behind their comma, and the arguments' atoms
 pub record IsKept (pattern tags atoms : List ℕ) : Type 0 where
@@ -63,4 +70,5 @@ pub record IsKept (pattern tags atoms : List ℕ) : Type 0 where
 
 -- what the kept bytes stand for
 abbrev pub building_of : List ℕ → List ℕ → List ℕ → Building
-building_of pattern tags atoms = record { pattern = pattern; arguments = arguments_of (drop 1 tags) atoms 0 }
+building_of pattern tags atoms =
+    record { pattern = pattern; arguments = arguments_of (drop 1 tags) atoms 0 }

@@ -1,4 +1,5 @@
--- The faults that a message can have besides those of its atoms, each with its number and its place.
+-- The faults that a message can have besides those of its atoms, each with its number and its
+-- place.
 use Rattle.std.specs.Prelude.{ℕ, ◌+◌}
 use Rattle.osc_atoms.specs.declared.fault.Fault.{Fault}
 

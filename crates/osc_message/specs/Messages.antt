@@ -97,7 +97,8 @@ abbrev pub AllFit : List Argument → Type 0
 AllFit [] = Unit {0}
 AllFit (argument ∷ arguments) = Fits argument × AllFit arguments
 
--- A pattern alone; a pattern with arguments, each under its tag; or a pattern with tags of which at least one is
+-- A pattern alone; a pattern with arguments, each under its tag; or a pattern with tags of which at
+-- least one is
 -- unknown, and a rest that isn't read.
 pub data Form : Type 0 where
   bare : List ℕ → Form
@@ -111,15 +112,20 @@ tag_string tags = string (44 ∷ tags)
 -- the bytes of a message
 abbrev pub message_text : Form → List ℕ
 message_text (bare pattern) = string pattern
-message_text (known pattern arguments) = string pattern ++ (tag_string (map tag_of arguments) ++ flat_map atom_of arguments)
+message_text (known pattern arguments) =
+    string pattern ++ (tag_string (map tag_of arguments) ++ flat_map atom_of arguments)
 message_text (unknown pattern tags rest) = string pattern ++ (tag_string tags ++ rest)
 
--- The pattern is an address pattern. Arguments fit their atoms, and the array brackets among them balance. Where a tag
+-- The pattern is an address pattern. Arguments fit their atoms, and the array brackets among them
+-- balance. Where a tag
 -- is unknown, the rest is any bytes, four by four.
 abbrev pub IsLawful : Form → Type 0
 IsLawful (bare pattern) = IsPattern pattern
-IsLawful (known pattern arguments) = IsPattern pattern × AllFit arguments × Balanced (map tag_of arguments)
-IsLawful (unknown pattern tags rest) = IsPattern pattern × IsTrue (has_no_zero tags) × IsTrue (list_any is_unknown tags) × (length rest % 4 ≡ 0)
+IsLawful (known pattern arguments) =
+    IsPattern pattern × AllFit arguments × Balanced (map tag_of arguments)
+IsLawful (unknown pattern tags rest) =
+    IsPattern pattern × IsTrue (has_no_zero tags) × IsTrue (list_any is_unknown tags)
+    × (length rest % 4 ≡ 0)
 
 -- the bytes are those of a message, and at most so many
 pub record IsMessage (most : ℕ) (bytes : List ℕ) : Type 0 where

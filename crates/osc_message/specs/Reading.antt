@@ -12,7 +12,8 @@ use Rattle.osc_message.specs.Tags.{is_unknown}
 use Rattle.osc_message.specs.Faults.{empty, not_four, too_long, start, of_pattern, no_tags, brackets, left_over}
 use Rattle.osc_message.specs.ArgumentReading.{arguments_end}
 
--- the pattern, the tags without the comma if there is a tag string, and the place of the first byte after them
+-- the pattern, the tags without the comma if there is a tag string, and the place of the first byte
+-- after them
 pub record Parts : Type 0 where
   pub pattern : List ℕ
   pub tags : Option (List ℕ)
@@ -23,23 +24,31 @@ abbrev pub begins : ℕ → List ℕ → Bool
 begins byte [] = false
 begins byte (first ∷ rest) = first == byte
 
--- The first `]` that closes nothing, or else the first `[` that is never closed. So many brackets are open before the
+-- The first `]` that closes nothing, or else the first `[` that is never closed. So many brackets
+-- are open before the
 -- tags, the outermost of them at a place; the tags stand from a second place on.
 abbrev pub brackets_read : ℕ → ℕ → List ℕ → ℕ → Result ⊤ Fault
 brackets_read depth outer [] place = if depth == 0 then Ok tt else Err (brackets outer)
 brackets_read depth outer (tag ∷ tags) place =
-    if tag == 91 then brackets_read (depth + 1) (if depth == 0 then place else outer) tags (place + 1) else
-    if tag == 93 then (if depth == 0 then Err (brackets place) else brackets_read (depth - 1) outer tags (place + 1)) else
+    if tag == 91
+        then brackets_read (depth + 1) (if depth == 0 then place else outer) tags (place + 1) else
+    if tag == 93
+        then (if depth == 0 then Err (brackets place)
+        else brackets_read (depth - 1) outer tags (place + 1)) else
     brackets_read depth outer tags (place + 1)
 
 -- the arguments under the tags end where the bytes end
 abbrev pub arguments_read : List ℕ → List ℕ → ℕ → Result ⊤ Fault
-arguments_read bytes tags at = and_then (arguments_end tags bytes at) (λ end. if end == length bytes then Ok tt else Err (left_over end))
+arguments_read bytes tags at =
+    and_then (arguments_end tags bytes at)
+    (λ end. if end == length bytes then Ok tt else Err (left_over end))
 
--- brackets and arguments are read where no tag is unknown; the tags stand from a place on, the arguments from a second
+-- brackets and arguments are read where no tag is unknown; the tags stand from a place on, the
+-- arguments from a second
 abbrev pub tags_read : List ℕ → ℕ → List ℕ → ℕ → Result ⊤ Fault
 tags_read bytes place tags at =
-    if list_any is_unknown tags then Ok tt else and_then (brackets_read 0 place tags place) (λ _. arguments_read bytes tags at)
+    if list_any is_unknown tags then Ok tt
+        else and_then (brackets_read 0 place tags place) (λ _. arguments_read bytes tags at)
 
 -- the tag string at a place, and what follows
 abbrev pub tagged_read : List ℕ → List ℕ → ℕ → Result Parts Fault
@@ -60,20 +69,25 @@ unless_fault at (Some fault) next = Err (of_pattern at fault.kind fault.at)
 
 -- a lawful pattern at a place, and what follows it at a second
 abbrev pub lawful_read : List ℕ → ℕ → List ℕ → ℕ → Result Parts Fault
-lawful_read bytes at pattern end = unless_fault at (pattern_fault pattern) (comma_read bytes pattern end)
+lawful_read bytes at pattern end =
+    unless_fault at (pattern_fault pattern) (comma_read bytes pattern end)
 
 -- the message at a place, which ends where the bytes end
 unfoldable pub message_read : List ℕ → ℕ → Result Parts Fault
 message_read bytes at =
-    if begins 47 (drop at bytes) then and_then (string_read bytes at) (λ string. lawful_read bytes at string.0 string.1) else Err (start at)
+    if begins 47 (drop at bytes)
+        then and_then (string_read bytes at) (λ string. lawful_read bytes at string.0 string.1)
+        else Err (start at)
 
 -- bytes of a length that is a multiple of 4
 abbrev pub fourfold_read : List ℕ → Result Parts Fault
-fourfold_read bytes = if length bytes % 4 == 0 then message_read bytes 0 else Err (not_four (length bytes))
+fourfold_read bytes = if length bytes % 4 == 0 then message_read bytes 0
+    else Err (not_four (length bytes))
 
 -- bytes of at most this length
 abbrev pub within_read : ℕ → List ℕ → Result Parts Fault
-within_read most bytes = if nat_le (length bytes) most then fourfold_read bytes else Err (too_long most)
+within_read most bytes = if nat_le (length bytes) most then fourfold_read bytes
+    else Err (too_long most)
 
 -- some bytes of at most this length, as one message
 abbrev pub limited_read : ℕ → List ℕ → Result Parts Fault

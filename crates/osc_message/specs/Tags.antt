@@ -23,7 +23,9 @@ is_bare_tag tag = tag == 84 || tag == 70 || tag == 78 || tag == 73 || tag == 91 
 
 -- any other byte
 abbrev pub is_unknown : ℕ → Bool
-is_unknown tag = not (is_word_tag tag || is_long_tag tag || is_text_tag tag || is_blob_tag tag || is_bare_tag tag)
+is_unknown tag =
+    not (is_word_tag tag || is_long_tag tag || is_text_tag tag || is_blob_tag tag
+    || is_bare_tag tag)
 
 -- how many array brackets are opened
 abbrev pub opens : List ℕ → ℕ

@@ -8,5 +8,6 @@ pub struct Call<'a> {
     pub unit: u64,
     /// Which of the unit's messages it is, counted from 0.
     pub index: u32,
+    /// The message itself.
     pub message: Message<'a>,
 }

@@ -200,10 +200,17 @@ pub fn a_box_hears_its_calls()
 pub fn a_full_recording_refuses()
     ensures full { (state : State) (event : Event) → adds_entry (decided state event).answer ≡ true
         → free_bytes state < entry_size event (decided state event).answer →
-        step state event ≡ leaves state (record_full (record { need = entry_size event (decided state event).answer; free = free_bytes state })) }
+        step state event
+        ≡ leaves state
+        (record_full
+        (record { need = entry_size event (decided state event).answer;
+        free = free_bytes state })) }
     ensures room { (state : State) (event : Event) → adds_entry (decided state event).answer ≡ true
         → entry_size event (decided state event).answer ≤ free_bytes state →
-        step state event ≡ record (decided state event) { state = record (decided state event).state { recorded = state.recorded + entry_size event (decided state event).answer } } }
+        step state event
+        ≡ record (decided state event) { state = record
+        (decided state event).state { recorded = state.recorded
+        + entry_size event (decided state event).answer } } }
     ensures nothing_due { (state : State) (event : Event)
         → adds_entry (decided state event).answer ≡ false → step state event ≡ decided state event }
 {}
@@ -228,7 +235,8 @@ pub fn a_legal_history_is_recordable()
     ensures next { (performance : Performance) (caller : ℕ) (event : Event)
         → Legal performance.caps performance.history → caller < (state_of performance).callers
         → IsLawful event →
-        adds_entry (stepped_in performance event).answer ≡ true → IsRecordable caller event (stepped_in performance event).answer }
+        adds_entry (stepped_in performance event).answer ≡ true
+        → IsRecordable caller event (stepped_in performance event).answer }
     ensures all { (caps : Limits) (history : List Entry) → Legal caps history
         → AllByRecursion (λ entry. IsRecordable entry.caller entry.event entry.answer) history }
     ensures recorded { (caps : Limits) (history : List Entry) → Legal caps history
@@ -263,7 +271,8 @@ pub fn boxes_hear_the_history()
         → HaveHeard (onward performance caller (remove address)) (without_id id boxes) }
     ensures released { (performance : Performance) (caller : ℕ) (boxes : List Told)
         → HaveHeard performance boxes →
-        HaveHeard (onward performance caller release) (all_hear (stepped_in performance release).invocations boxes) }
+        HaveHeard (onward performance caller release)
+        (all_hear (stepped_in performance release).invocations boxes) }
 {
     a_server_stays_sound();
     a_method_is_called_while_it_is_registered();
@@ -276,7 +285,8 @@ pub fn a_method_is_called_while_it_is_registered()
         (invocations (opening caps) history) }
     ensures removed { (caps : Limits) (before later : List Entry) (entry : Entry) (id : ℕ)
         → Legal caps (before ++ entry ∷ later) → entry.answer ≡ removed id →
-        All (λ invocation. invocation.call.id ≢ id) (invocations (after (opening caps) (before ++ entry ∷ [])) later) }
+        All (λ invocation. invocation.call.id ≢ id)
+        (invocations (after (opening caps) (before ++ entry ∷ [])) later) }
 {
     a_server_stays_sound();
     an_id_is_given_once();

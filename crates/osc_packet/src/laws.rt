@@ -60,7 +60,8 @@ pub fn examples()
         (more (message (bare (codes "/c"))) none))))
         ≡ codes "#bundle" ++ (0 ∷ 0 ∷ 0 ∷ 0 ∷ 0 ∷ 0 ∷ 0 ∷ 0 ∷ 3 ∷ 0 ∷ 0 ∷ 0 ∷ 4 ∷ []) ++ codes "/a"
         ++ (0 ∷ 0 ∷ 0 ∷ 0 ∷ 0 ∷ 24 ∷ [])
-        ++ codes "#bundle" ++ (0 ∷ 0 ∷ 0 ∷ 0 ∷ 0 ∷ 0 ∷ 0 ∷ 0 ∷ 4 ∷ 0 ∷ 0 ∷ 0 ∷ 4 ∷ []) ++ codes "/b" ++ (0 ∷ 0 ∷ 0 ∷ 0 ∷ 0 ∷ 4 ∷ []) ++ codes "/c" ++ (0 ∷ 0 ∷ []) }
+        ++ codes "#bundle" ++ (0 ∷ 0 ∷ 0 ∷ 0 ∷ 0 ∷ 0 ∷ 0 ∷ 0 ∷ 4 ∷ 0 ∷ 0 ∷ 0 ∷ 4 ∷ []) ++ codes "/b"
+        ++ (0 ∷ 0 ∷ 0 ∷ 0 ∷ 0 ∷ 4 ∷ []) ++ codes "/c" ++ (0 ∷ 0 ∷ []) }
     ensures units { units_of
         (bundle 2 (more (message (bare (codes "/a")))
         (more (bundle 2 (more (message (bare (codes "/b"))) none))

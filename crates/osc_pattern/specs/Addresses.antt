@@ -9,9 +9,11 @@ use Rattle.osc_pattern.specs.Patterns.{begins_with_slash, parts_of}
 -- a byte that no name has: outside 0x21 to 0x7e, or one of `#*,?[]{}`
 abbrev pub is_bad_byte : ℕ → Bool
 is_bad_byte byte =
-    not (nat_le 0x21 byte && nat_le byte 0x7e) || list_any (λ other. byte == other) (codes "#*,?[]{}")
+    not (nat_le 0x21 byte && nat_le byte 0x7e)
+        || list_any (λ other. byte == other) (codes "#*,?[]{}")
 
--- a lawful address: a slash before each of at most 16 names of 1 to 63 bytes, without bad bytes, at most 255 bytes in all
+-- a lawful address: a slash before each of at most 16 names of 1 to 63 bytes, without bad bytes, at
+-- most 255 bytes in all
 pub record IsAddress (bytes : List ℕ) : Type 0 where
   pub slash : IsTrue (begins_with_slash bytes)
   pub named : All (λ name. 1 ≤ length name) (parts_of bytes)

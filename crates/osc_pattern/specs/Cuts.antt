@@ -11,7 +11,8 @@ rests (byte ∷ name) = (byte ∷ name) ∷ rests name
 
 -- what is left of a name after the text, if it begins with it
 abbrev pub after_text : List ℕ → List ℕ → List (List ℕ)
-after_text name text = if bytes_eq (take (length text) name) text then drop (length text) name ∷ [] else []
+after_text name text = if bytes_eq (take (length text) name) text then drop (length text) name ∷ []
+    else []
 
 -- whether a byte alone is a text of the item: of `?`, a list or a plain byte
 abbrev pub has_byte : Item → ℕ → Bool
@@ -43,4 +44,5 @@ match_items (item ∷ items) name = list_any (match_items items) (after_item ite
 -- whether what is left of a name passes the test at one of the places; the name begins at this one
 abbrev pub any_rest : (List ℕ → Bool) → (ℕ → Bool) → ℕ → List ℕ → Bool
 any_rest test places at [] = places at && test []
-any_rest test places at (byte ∷ name) = (places at && test (byte ∷ name)) || any_rest test places (at + 1) name
+any_rest test places at (byte ∷ name) =
+    (places at && test (byte ∷ name)) || any_rest test places (at + 1) name

@@ -1,5 +1,6 @@
 -- Items of a pattern: how each is written, and which texts it matches.
--- The bytes are `!` 33, `*` 42, `,` 44, `-` 45, `/` 47, `?` 63, `[` 91, `]` 93, `{` 123 and `}` 125.
+-- The bytes are `!` 33, `*` 42, `,` 44, `-` 45, `/` 47, `?` 63, `[` 91, `]` 93, `{` 123 and `}`
+-- 125.
 use Rattle.std.specs.Prelude.{◌≡◌, ℕ, min, max, Bool, true, false, ◌&&◌, ◌||◌, not, ◌==◌, nat_le, IsTrue, if◌then◌else◌, List, [], ◌∷◌, ◌++◌, length, Contains}
 use Rattle.std.specs.List.{list_any, slice_split}
 
@@ -39,7 +40,8 @@ item_text (set list) = 91 ∷ (list ++ 93 ∷ [])
 item_text (choice texts) = 123 ∷ (texts ++ 125 ∷ [])
 item_text (plain byte) = byte ∷ []
 
--- lawful items: a list has no byte that closes it, nor have choices, and a plain byte begins no other item
+-- lawful items: a list has no byte that closes it, nor have choices, and a plain byte begins no
+-- other item
 abbrev pub is_item : Item → Bool
 is_item any = true
 is_item star = true
@@ -61,12 +63,15 @@ stands_for [] byte = false
 stands_for (first ∷ []) byte = byte == first
 stands_for (first ∷ second ∷ []) byte = byte == first || byte == second
 stands_for (first ∷ second ∷ last ∷ rest) byte =
-    if begins_range first second then is_between first last byte || stands_for rest byte else byte == first || stands_for (second ∷ last ∷ rest) byte
+    if begins_range first second then is_between first last byte || stands_for rest byte
+        else byte == first || stands_for (second ∷ last ∷ rest) byte
 
--- the bytes that a set matches: those of its list, or with a first `!` all but those of the rest of the list
+-- the bytes that a set matches: those of its list, or with a first `!` all but those of the rest of
+-- the list
 abbrev pub is_in_set : List ℕ → ℕ → Bool
 is_in_set [] byte = false
-is_in_set (first ∷ rest) byte = if first == 33 then not (stands_for rest byte) else stands_for (first ∷ rest) byte
+is_in_set (first ∷ rest) byte = if first == 33 then not (stands_for rest byte)
+    else stands_for (first ∷ rest) byte
 
 -- the texts that an item matches
 abbrev pub IsText : Item → List ℕ → Type 0

@@ -15,7 +15,9 @@ pub record IsMethodList (methods : List Method) : Type 0 where
   pub ids : AllPairs (λ a b. a.id ≢ b.id) methods
   pub lawful : All (λ method. IsAddress method.address) methods
   pub addresses : AllPairs (λ a b. a.address ≢ b.address) methods
-  pub apart : AllPairs (λ a b. (is_proper_prefix a.address b.address ≡ false) × (is_proper_prefix b.address a.address ≡ false)) methods
+  pub apart : AllPairs
+      (λ a b. (is_proper_prefix a.address b.address ≡ false)
+      × (is_proper_prefix b.address a.address ≡ false)) methods
 
 -- the first name with a slash before it, the first two, and so on, up to all of them
 abbrev pub runs_of : List (List ℕ) → List (List ℕ)
@@ -29,7 +31,8 @@ prefixes_of address = runs_of (parts_of address)
 -- a list without those of its texts that stand in it again later
 abbrev pub distinct : List (List ℕ) → List (List ℕ)
 distinct [] = []
-distinct (text ∷ texts) = if list_any (bytes_eq text) texts then distinct texts else text ∷ distinct texts
+distinct (text ∷ texts) = if list_any (bytes_eq text) texts then distinct texts
+    else text ∷ distinct texts
 
 -- how many distinct nonempty prefixes by parts the methods' addresses have
 abbrev pub nodes : List Method → ℕ

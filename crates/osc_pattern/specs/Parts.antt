@@ -15,7 +15,8 @@ IsLawfulPart part = (items : List Item) × IsPart part items
 -- the name can be cut into pieces, one for each item, each a text of its item
 abbrev pub MatchPart : List Item → List ℕ → Type 0
 MatchPart [] name = name ≡ []
-MatchPart (item ∷ items) name = (piece : List ℕ) × (rest : List ℕ) × (name ≡ piece ++ rest) × IsText item piece × MatchPart items rest
+MatchPart (item ∷ items) name = (piece : List ℕ) × (rest : List ℕ) × (name ≡ piece ++ rest)
+    × IsText item piece × MatchPart items rest
 
 -- the part is made of items that match the name
 pub record MatchesName (part name : List ℕ) : Type 0 where

@@ -58,9 +58,11 @@ matches pattern address = match_parts (parts_of pattern) (parts_of address)
 
 -- a bracket or a brace with nothing after it that closes it
 abbrev pub IsUnclosed : ℕ → List ℕ → Type 0
-IsUnclosed first rest = ((first ≡ 91) × (list_any is_list_end rest ≡ false)) ⊎ ((first ≡ 123) × (list_any is_choice_end rest ≡ false))
+IsUnclosed first rest = ((first ≡ 91) × (list_any is_list_end rest ≡ false))
+    ⊎ ((first ≡ 123) × (list_any is_choice_end rest ≡ false))
 
--- after whole parts and whole items stands a bracket or a brace that isn't closed, at this place, with a slash before each part
+-- after whole parts and whole items stands a bracket or a brace that isn't closed, at this place,
+-- with a slash before each part
 pub record IsOpenAt (parts : List (List ℕ)) (at : ℕ) : Type 0 where
   pub before : List (List ℕ)
   pub items : List Item
@@ -71,15 +73,20 @@ pub record IsOpenAt (parts : List (List ℕ)) (at : ℕ) : Type 0 where
   pub whole : All IsLawfulPart before
   pub lawful : IsTrue (list_all is_item items)
   pub unclosed : IsUnclosed first rest
-  pub place : at ≡ length (flat_map (λ part. 47 ∷ part) before) + (1 + length (flat_map item_text items))
+  pub place : at ≡ length (flat_map (λ part. 47 ∷ part) before)
+      + (1 + length (flat_map item_text items))
 
--- the first fault of a pattern: no slash first (4), else the first byte out of range (10), else the first bracket or brace that isn't closed (11)
+-- the first fault of a pattern: no slash first (4), else the first byte out of range (10), else the
+-- first bracket or brace that isn't closed (11)
 pub data IsFault (bytes : List ℕ) : ℕ → ℕ → Type 0 where
   start : begins_with_slash bytes ≡ false → IsFault bytes 4 0
-  byte : (at : ℕ) → begins_with_slash bytes ≡ true → position is_outside bytes ≡ Some at → IsFault bytes 10 at
-  unclosed : (at : ℕ) → begins_with_slash bytes ≡ true → list_any is_outside bytes ≡ false → IsOpenAt (parts_of bytes) at → IsFault bytes 11 at
+  byte : (at : ℕ) → begins_with_slash bytes ≡ true → position is_outside bytes ≡ Some at
+      → IsFault bytes 10 at
+  unclosed : (at : ℕ) → begins_with_slash bytes ≡ true → list_any is_outside bytes ≡ false
+      → IsOpenAt (parts_of bytes) at → IsFault bytes 11 at
 
--- the place in this part of a bracket that isn't closed, or else the place in the later parts; each part has a slash before it
+-- the place in this part of a bracket that isn't closed, or else the place in the later parts; each
+-- part has a slash before it
 abbrev pub open_in : Result (List Item) ℕ → ℕ → Option ℕ → Option ℕ
 open_in (Ok items) size later = option_map (λ at. size + (1 + at)) later
 open_in (Err at) size later = Some (1 + at)
@@ -97,7 +104,9 @@ fault_after None opening = option_map (λ at. record { kind = 11; at = at }) ope
 -- the first fault of a pattern, if it has one
 abbrev pub pattern_fault : List ℕ → Option PatternFault
 pattern_fault bytes =
-    if begins_with_slash bytes then fault_after (position is_outside bytes) (open_place (parts_of bytes)) else Some (record { kind = 4; at = 0 })
+    if begins_with_slash bytes
+        then fault_after (position is_outside bytes) (open_place (parts_of bytes))
+        else Some (record { kind = 4; at = 0 })
 
 -- whether the bytes are a pattern
 abbrev pub is_pattern : List ℕ → Bool

@@ -3,12 +3,15 @@ use Rattle.std.specs.Prelude.{ℕ, ◌+◌, zero, suc, Bool, false, ◌==◌, if
 use Rattle.osc_pattern.specs.Items.{Item, any, star, set, choice, plain, item_text, begins_range, is_slash, is_list_end, is_choice_end}
 use Rattle.osc_pattern.specs.Cuts.{match_items}
 
--- the ends of the first range of a list, and what follows it; a byte that begins no range stands for itself
+-- the ends of the first range of a list, and what follows it; a byte that begins no range stands
+-- for itself
 abbrev pub first_range : List ℕ → Option ((ℕ × ℕ) × List ℕ)
 first_range [] = None
 first_range (first ∷ []) = Some ((first, first), [])
 first_range (first ∷ second ∷ []) = Some ((first, first), second ∷ [])
-first_range (first ∷ second ∷ last ∷ rest) = if begins_range first second then Some ((first, last), rest) else Some ((first, first), second ∷ last ∷ rest)
+first_range (first ∷ second ∷ last ∷ rest) =
+    if begins_range first second then Some ((first, last), rest)
+    else Some ((first, first), second ∷ last ∷ rest)
 
 -- the bytes before the first one that passes the test, and those after it
 abbrev pub cut_at : (ℕ → Bool) → List ℕ → Option (List ℕ × List ℕ)
@@ -24,7 +27,8 @@ first_item (first ∷ rest) =
     if first == 123 then option_map (λ cut. (choice cut.0, cut.1)) (cut_at is_choice_end rest) else
     if is_slash first then None else Some (plain first, rest)
 
--- the first item before the items of the rest; a place in the rest counts from the item's first byte
+-- the first item before the items of the rest; a place in the rest counts from the item's first
+-- byte
 abbrev pub with_first : Option (Item × Result (List Item) ℕ) → Result (List Item) ℕ
 with_first None = Err 0
 with_first (Some (item, Ok items)) = Ok (item ∷ items)
@@ -34,7 +38,8 @@ with_first (Some (item, Err at)) = Err (length (item_text item) + at)
 abbrev pub read_within : ℕ → List ℕ → Result (List Item) ℕ
 read_within most [] = Ok []
 read_within zero (first ∷ rest) = Err 0
-read_within (suc most) (first ∷ rest) = with_first (option_map (λ cut. (cut.0, read_within most cut.1)) (first_item (first ∷ rest)))
+read_within (suc most) (first ∷ rest) =
+    with_first (option_map (λ cut. (cut.0, read_within most cut.1)) (first_item (first ∷ rest)))
 
 -- the items of a part, or the place of the first bracket that isn't closed
 unfoldable pub read_part : List ℕ → Result (List Item) ℕ

@@ -4,7 +4,9 @@
 /// counted from the pattern's first byte.
 #[derive(Clone, Copy, Debug, PartialEq, Eq)]
 pub struct PatternFault {
+    /// One of the numbers below.
     pub kind: u8,
+    /// The place of the byte, counted from the pattern's first.
     pub at: u32,
 }
 

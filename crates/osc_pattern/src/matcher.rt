@@ -185,7 +185,8 @@ fn add_texts<L: Ledger>(
     requires place { place ≤ length name.now }
     ensures value { (test : List ℕ → Bool) → passes test next.new name.now
         ≡ (passes test next.old name.now
-        || list_any test (flat_map (after_text (drop place name.now)) (slice_split is_comma texts.now))) }
+        || list_any test
+        (flat_map (after_text (drop place name.now)) (slice_split is_comma texts.now))) }
     ensures counted { steps.old ≤ steps.new }
     ensures bounded { steps.new ≤ steps.old + (length texts.now + 1) }
 {

@@ -71,7 +71,8 @@ impl Text {
     fn message_words(&mut self, message: &Message<'_>) -> Result<(), AllocError>
         ensures ok { OnOk result (self.new
             ≡ self.old ++ (spaced (tags_word (tags_of message.now))
-            ++ flat_map (λ argument. spaced (argument_word argument)) (message_arguments message.now))) }
+            ++ flat_map (λ argument. spaced (argument_word argument))
+            (message_arguments message.now))) }
         ensures err { OnErr result (BeginsWith self.new self.old) }
     {
         self.space_tags(message.tags())?;

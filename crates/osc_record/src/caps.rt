@@ -32,7 +32,8 @@ impl Model for Caps {
 
     ghost view = { λ c. limits_of c.units c.blocks c.methods c.nodes c.callers c.recording };
 
-    ghost invariant = { λ c. AreInRange (limits_of c.units c.blocks c.methods c.nodes c.callers c.recording) };
+    ghost invariant =
+        { λ c. AreInRange (limits_of c.units c.blocks c.methods c.nodes c.callers c.recording) };
 
     ghost inverse = { λ l. record {
       units = l.units;
@@ -94,6 +95,7 @@ impl Caps {
         })
     }
 
+    /// How many units may be queued.
     pub fn units(&self) -> u32
         ensures value { result ≡ self.now.units }
         ensures range { AreInRange self.now }
@@ -101,6 +103,7 @@ impl Caps {
         self.units
     }
 
+    /// How many blocks of 64 bytes there are for their messages.
     pub fn blocks(&self) -> u32
         ensures value { result ≡ self.now.blocks }
         ensures range { AreInRange self.now }
@@ -108,6 +111,7 @@ impl Caps {
         self.blocks
     }
 
+    /// How many methods there may be.
     pub fn methods(&self) -> u32
         ensures value { result ≡ self.now.methods }
         ensures range { AreInRange self.now }
@@ -115,6 +119,7 @@ impl Caps {
         self.methods
     }
 
+    /// How many nodes the methods' addresses may have.
     pub fn nodes(&self) -> u32
         ensures value { result ≡ self.now.nodes }
         ensures range { AreInRange self.now }
@@ -122,6 +127,7 @@ impl Caps {
         self.nodes
     }
 
+    /// How many callers there may be, the first among them.
     pub fn callers(&self) -> u32
         ensures value { result ≡ self.now.callers }
         ensures range { AreInRange self.now }
@@ -129,6 +135,7 @@ impl Caps {
         self.callers
     }
 
+    /// How many bytes the recording may have, its header among them.
     pub fn recording(&self) -> u32
         ensures value { result ≡ self.now.recording }
         ensures range { AreInRange self.now }

@@ -52,8 +52,11 @@ pub enum Answer<'a> {
 pub struct Entry<'a> {
     /// Its place in the recording.
     pub at: u32,
+    /// Who handed the event in.
     pub caller: u32,
+    /// What was handed in.
     pub event: Event<'a>,
+    /// What it was answered.
     pub answer: Answer<'a>,
     pub ghost whole: { HasWholeHits answer },
 }

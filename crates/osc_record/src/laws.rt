@@ -25,7 +25,8 @@ pub fn a_written_entry_is_read_again()
     ensures { (caller : ℕ) (event : Event) (answer : Answer) (rest : List ℕ)
         → IsRecordable caller event answer
         → length (entry_text caller event answer) ≤ max_recording →
-        entry_in (entry_text caller event answer ++ rest) ≡ Some (record { caller = caller; event = event; answer = answer }) }
+        entry_in (entry_text caller event answer ++ rest)
+        ≡ Some (record { caller = caller; event = event; answer = answer }) }
 {}
 
 /// Each entry has its own text: no two entries have one, and no entry's text is a proper front of another's.

@@ -10,6 +10,7 @@ use thiserror::Error;
 #[derive(Clone, Copy, Debug, PartialEq, Eq, Error)]
 #[error("line {line} of the script has a fault of kind {kind}")]
 pub struct ScriptFault {
+    /// The line, counted from 1, or 0 for the whole input.
     pub line: u32,
     /// One of the numbers below.
     pub kind: u8,

@@ -8,5 +8,6 @@ pub struct Line {
     pub number: u32,
     /// Always 0 in mode `Plain`.
     pub lane: u32,
+    /// What it says.
     pub act: Act,
 }

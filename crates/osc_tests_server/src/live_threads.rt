@@ -133,7 +133,8 @@ fn at_once<M: Method + Send, R: Threads + Wait + Sync>(
         { live.release(rt, new) },
         || -> (Caller, Option<Meanwhile>)
             requires { IsTokenOf live.now.turn live.now.caps caller.pass }
-            ensures { IsTokenOf live.entry.now.turn live.entry.now.caps result.0.pass × (result.0.number ≡ caller.number) }
+            ensures { IsTokenOf live.entry.now.turn live.entry.now.caps result.0.pass
+                × (result.0.number ≡ caller.number) }
         { try_meanwhile(live, caller, begun, may_end) },
     )
 }
@@ -252,7 +253,8 @@ fn both_three_times<M: Method + Send, R: Threads + Wait + Sync>(
         rt,
         || -> (Caller, Answered)
             requires { IsTokenOf live.now.turn live.now.caps caller.pass }
-            ensures { IsTokenOf live.entry.now.turn live.entry.now.caps result.0.pass × (result.0.number ≡ caller.number) }
+            ensures { IsTokenOf live.entry.now.turn live.entry.now.caps result.0.pass
+                × (result.0.number ≡ caller.number) }
         { three_times(rt, live, caller) },
         || -> (Caller, Answered)
             requires { IsTokenOf live.now.turn live.now.caps new.pass }

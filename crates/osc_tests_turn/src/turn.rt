@@ -31,7 +31,9 @@ impl Kept for Log {
 
     ghost one_length = { λ x g h p q. ap length p ∙ sym (ap length q) };
 
-    ghost short = { λ x h p. Prim.omega (arith, ap length p, length-map x.lines.items (λ line. line.items), x.few) };
+    ghost short =
+        { λ x h p. Prim.omega
+        (arith, ap length p, length-map x.lines.items (λ line. line.items), x.few) };
 
     fn entries(&self) -> u64 {
         self.lines.len() as u64
@@ -166,7 +168,8 @@ fn told_of_two<R: Wait>(
     ensures first { IfSome result (λ both. number_of (view both.0) ≡ 0) }
     ensures few { IfSome result (λ both. (view both.0).made ≡ 2) }
     ensures two { IfSome result (λ both. 2 ≤ length (view both.1).seen) }
-    ensures none_own { IfSome result (λ both. own (number_of (view both.1)) (view both.1).seen ≡ []) }
+    ensures none_own { IfSome result
+        (λ both. own (number_of (view both.1)) (view both.1).seen ≡ []) }
 {
     let (pass, guest) = turn.guest(pass);
     let guest = guest.ok()?;
@@ -191,7 +194,8 @@ impl Job<Log> for MeasureFirst {
 
     ghost base = { λ j. texts (view j.was.value).seen };
 
-    ghost did = { λ j j' before after. (after ≡ before) × (length (slice_index_or before 0 []) ≡ j'.bytes) };
+    ghost did = { λ j j' before after. (after ≡ before)
+        × (length (slice_index_or before 0 []) ≡ j'.bytes) };
 
     fn run(&mut self, state: &mut Log) -> bool {
         self.bytes = state.lines[0].len();
@@ -283,7 +287,8 @@ fn by_two<R: Threads + Wait + Sync>(
         rt,
         || -> Pass
             requires { IsPassOf turn.now one × ((view one).kind ≡ []) }
-            ensures { IsPassOf turn.entry.now result × (number_of (view result) ≡ number_of (view one)) }
+            ensures { IsPassOf turn.entry.now result
+                × (number_of (view result) ≡ number_of (view one)) }
         { append_all(rt, turn, one, lines.0) },
         || -> Pass
             requires { IsPassOf turn.now two × ((view two).kind ≡ []) }

@@ -52,9 +52,11 @@ add_way state address =
     (record {
       silent = λ none. decides (add_refusal (registry state) address);
       full = λ adds full.
-          record { silent = refl;
-          way = inr (inr
-          (record { room = record { need = entry_size (add address) (decided state (add address)).answer; free = free_bytes state }; answer = refl })) };
+          record {
+            silent = refl;
+            way = inr (inr
+                (record { room = record { need = entry_size (add address) (decided state (add address)).answer; free = free_bytes state }; answer = refl }));
+          };
       room = λ adds fits. noted (add_refusal (registry state) address);
     })
   where
@@ -64,8 +66,10 @@ add_way state address =
 
     noted : (refusal : Option Refusal)
         → AddWay state
-        (record (add_at state address refusal) { state = record
-        (add_at state address refusal).state { recorded = state.recorded + entry_size (add address) (decided state (add address)).answer } })
+        (record (add_at state address refusal) {
+          state = record
+              (add_at state address refusal).state { recorded = state.recorded + entry_size (add address) (decided state (add address)).answer };
+        })
     noted None = record { silent = refl; way = inl (record { id = refl; next = refl }) }
     noted (Some refusal) = record { silent = refl; way = inr (inl (record { why = refusal; answer = refl; next = refl })) }
 
@@ -85,23 +89,23 @@ module _ {M : Type 0} (meaning : M → Meaning) (bank : List M) (performance per
       → adds_entry answer ≡ true
       → (stepped_in performance (add address)).state.next_id ≡ count → (stepped_in performance (add address)).invocations ≡ []
       → Tally meaning (invoked_in performance) (add_answers performance.history ++ answer ∷ []) bank count boxes removed left rest
-          → IsAt meaning bank performance' boxes removed left rest
+      → IsAt meaning bank performance' boxes removed left rest
   add_tally answer count boxes removed left rest is adds ids silent tally =
       let calls : invoked_in performance ++ (stepped_in performance (add address)).invocations ≡ invoked_in performance =
-          ap (λ (l : List Invocation). invoked_in performance ++ l) silent ∙ append-nil (invoked_in performance) in
+      ap (λ (l : List Invocation). invoked_in performance ++ l) silent ∙ append-nil (invoked_in performance) in
       let one : given performance (add address) ≡ answer ∷ [] = ap (λ (a : Answer). cond {A = List Answer} (adds_entry a) (a ∷ []) []) is
-          ∙ ap (λ t. cond {A = List Answer} t (answer ∷ []) []) adds in
+      ∙ ap (λ t. cond {A = List Answer} t (answer ∷ []) []) adds in
       at_more meaning bank performance performance' (add address) next boxes removed left rest
       (subst (λ (l : List Invocation). Tally meaning l (add_answers performance.history ++ given performance (add address)) bank
-          (stepped_in performance (add address)).state.next_id boxes removed left rest) (sym calls)
+      (stepped_in performance (add address)).state.next_id boxes removed left rest) (sym calls)
       (subst (λ (l : List Answer). Tally meaning (invoked_in performance) (add_answers performance.history ++ l) bank
-          (stepped_in performance (add address)).state.next_id boxes removed left rest) (sym one)
+      (stepped_in performance (add address)).state.next_id boxes removed left rest) (sym one)
       (subst (λ (n : ℕ). Tally meaning (invoked_in performance) (add_answers performance.history ++ answer ∷ []) bank n boxes removed left rest)
-          (sym ids) tally)))
+      (sym ids) tally)))
 
   added_at : (id : ℕ) (method : M) (boxes boxes' removed : List Told) (left rest more : List M) → added id ≡ (stepped_in performance (add address)).answer
       → boxes' ≡ boxes ++ reset (told_at id (meaning method)) ∷ [] → rest ≡ method ∷ more → IsAt meaning bank performance boxes removed left rest
-          → IsAt meaning bank performance' boxes' removed left more
+      → IsAt meaning bank performance' boxes' removed left more
   added_at id method boxes boxes' removed left rest more answer grown first at = go (add_way (state_of performance) address).way where
     silent : (stepped_in performance (add address)).invocations ≡ []
     silent = (add_way (state_of performance) address).silent
@@ -114,18 +118,18 @@ module _ {M : Type 0} (meaning : M → Meaning) (bank : List M) (performance per
         let is : id ≡ count = let both : added id ≡ added count = answer ∙ one.id in cc in
         let new : boxes' ≡ boxes ++ reset (told_at count (meaning method)) ∷ [] = grown ∙ ap (λ (n : ℕ). boxes ++ reset (told_at n (meaning method)) ∷ []) is in
         let tally = tally_added meaning (invoked_in performance) (add_answers performance.history) bank count
-            (stepped_in performance (add address)).state.next_id boxes removed left method more one.next
-            (subst (Tally meaning (invoked_in performance) (add_answers performance.history) bank count boxes removed left) first at) in
+        (stepped_in performance (add address)).state.next_id boxes removed left method more one.next
+        (subst (Tally meaning (invoked_in performance) (add_answers performance.history) bank count boxes removed left) first at) in
         add_tally (added count) (stepped_in performance (add address)).state.next_id boxes' removed left more one.id refl refl silent
         (subst (λ (l : List Told). Tally meaning (invoked_in performance) (add_answers performance.history ++ added count ∷ []) bank
-            (stepped_in performance (add address)).state.next_id l removed left more) (sym new) tally)
+        (stepped_in performance (add address)).state.next_id l removed left more) (sym new) tally)
     go (inr (inl none)) = let both : added id ≡ refused none.why = answer ∙ none.answer in absurd (cc)
     go (inr (inr full)) = let both : added id ≡ record_full full.room = answer ∙ full.answer in absurd (cc)
 
   refused_at : (reason : Refusal) (method : M) (boxes boxes' removed : List Told) (left rest more : List M)
       → refused reason ≡ (stepped_in performance (add address)).answer
       → boxes' ≡ boxes → rest ≡ method ∷ more → IsAt meaning bank performance boxes removed left rest
-          → IsAt meaning bank performance' boxes' removed (left ++ method ∷ []) more
+      → IsAt meaning bank performance' boxes' removed (left ++ method ∷ []) more
   refused_at reason method boxes boxes' removed left rest more answer same first at = go (add_way (state_of performance) address).way where
     silent : (stepped_in performance (add address)).invocations ≡ []
     silent = (add_way (state_of performance) address).silent
@@ -137,26 +141,26 @@ module _ {M : Type 0} (meaning : M → Meaning) (bank : List M) (performance per
     go (inr (inl none)) =
         let count = (state_of performance).next_id in
         let tally = tally_refused meaning (invoked_in performance) (add_answers performance.history)
-            (refused none.why) bank count boxes removed left method more (λ b. refl) (λ b. refl)
-            (subst (Tally meaning (invoked_in performance) (add_answers performance.history) bank count boxes removed left) first at) in
+        (refused none.why) bank count boxes removed left method more (λ b. refl) (λ b. refl)
+        (subst (Tally meaning (invoked_in performance) (add_answers performance.history) bank count boxes removed left) first at) in
         add_tally (refused none.why) count boxes' removed (left ++ method ∷ []) more none.answer refl none.next silent
         (subst (λ (l : List Told). Tally meaning (invoked_in performance) (add_answers performance.history ++ refused none.why ∷ []) bank count l removed
-            (left ++ method ∷ []) more) (sym same) tally)
+        (left ++ method ∷ []) more) (sym same) tally)
     go (inr (inr full)) = let both : refused reason ≡ record_full full.room = answer ∙ full.answer in absurd (cc)
 
   -- there was no room: the box is among the others
   full_over : (room : Room) (method : M) (boxes boxes' removed : List Told) (left rest more : List M)
       → record_full room ≡ (stepped_in performance (add address)).answer
       → boxes' ≡ boxes → rest ≡ method ∷ more → IsAt meaning bank performance boxes removed left rest
-          → IsOver meaning bank performance' boxes' removed (left ++ method ∷ []) more
+      → IsOver meaning bank performance' boxes' removed (left ++ method ∷ []) more
   full_over room method boxes boxes' removed left rest more answer same first at =
       let over = at_over meaning bank performance boxes removed left rest at in
       let stays : performance' ≡ performance = next ∙ onward_none performance (add address) (ap adds_entry (sym answer)) in
       let all : (left ++ method ∷ []) ++ more ≡ boxes_left (add_answers performance.history) bank =
-          append_assoc left (method ∷ []) more ∙ ap (λ (l : List M). left ++ l) (sym first) ∙ over.others in
+      append_assoc left (method ∷ []) more ∙ ap (λ (l : List M). left ++ l) (sym first) ∙ over.others in
       subst (λ (p : Performance). IsOver meaning bank p boxes' removed (left ++ method ∷ []) more) (sym stays)
       (subst (λ (l : List Told). IsOver meaning bank performance l removed (left ++ method ∷ []) more) (sym same)
-          (record { others = all; told = over.told; rising = over.rising }))
+      (record { others = all; told = over.told; rising = over.rising }))
 
   -- an add, as the clauses of the server say it
   pub at_add : (adding : Adding M) (stop : Option CodeRoom) (method : M) (boxes boxes' removed : List Told) (left left' rest more : List M)
@@ -172,23 +176,23 @@ module _ {M : Type 0} (meaning : M → Meaning) (bank : List M) (performance per
   at_add (Added id) stop method boxes boxes' removed left left' rest more answer stops grown same back kept first at =
       at_unless meaning bank stop performance' boxes' removed left' more
       (subst (λ (l : List M). IsAt meaning bank performance' boxes' removed l more) (sym (kept ∙ append-nil left))
-          (added_at id method boxes boxes' removed left rest more answer grown first at))
+      (added_at id method boxes boxes' removed left rest more answer grown first at))
   at_add (Refused reason address' method') stop method boxes boxes' removed left left' rest more answer stops grown same back kept first at =
       go stop stops (refusal_ways reason) where
-    all : left' ≡ left ++ method ∷ []
-    all = kept ∙ ap (λ (b : M). left ++ b ∷ []) back.1
+        all : left' ≡ left ++ method ∷ []
+        all = kept ∙ ap (λ (b : M). left ++ b ∷ []) back.1
 
-    go : (stop : Option CodeRoom) → option_map room_of stop ≡ room_in (refusal_of reason)
-        → ((room : CodeRoom) × (reason ≡ why.RecordFull room)) ⊎ ((refusal : Refusal) × (refusal_of reason ≡ refused refusal))
-        → IsAtUnless stop meaning bank performance' boxes' removed left' more
-    go None stops (inl full) = let both : None ≡ Some (room_of full.0) = stops ∙ ap (λ r. room_in (refusal_of r)) full.1 in absurd (cc)
-    go (Some room) stops (inl full) =
-        subst (λ (l : List M). IsOver meaning bank performance' boxes' removed l more) (sym all)
-        (full_over (room_of full.0) method boxes boxes' removed left rest more (sym (ap refusal_of full.1) ∙ answer) same first at)
-    go stop stops (inr other) =
-        at_unless meaning bank stop performance' boxes' removed left' more
-        (subst (λ (l : List M). IsAt meaning bank performance' boxes' removed l more) (sym all)
-        (refused_at other.0 method boxes boxes' removed left rest more (sym other.1 ∙ answer) same first at))
+        go : (stop : Option CodeRoom) → option_map room_of stop ≡ room_in (refusal_of reason)
+            → ((room : CodeRoom) × (reason ≡ why.RecordFull room)) ⊎ ((refusal : Refusal) × (refusal_of reason ≡ refused refusal))
+            → IsAtUnless stop meaning bank performance' boxes' removed left' more
+        go None stops (inl full) = let both : None ≡ Some (room_of full.0) = stops ∙ ap (λ r. room_in (refusal_of r)) full.1 in absurd (cc)
+        go (Some room) stops (inl full) =
+            subst (λ (l : List M). IsOver meaning bank performance' boxes' removed l more) (sym all)
+            (full_over (room_of full.0) method boxes boxes' removed left rest more (sym (ap refusal_of full.1) ∙ answer) same first at)
+        go stop stops (inr other) =
+            at_unless meaning bank stop performance' boxes' removed left' more
+            (subst (λ (l : List M). IsAt meaning bank performance' boxes' removed l more) (sym all)
+            (refused_at other.0 method boxes boxes' removed left rest more (sym other.1 ∙ answer) same first at))
 
 module _ {M : Type 0} (meaning : M → Meaning) (bank : List M) (performance performance' : Performance) (address : List ℕ)
     (next : performance' ≡ onward performance 0 (remove address)) where
@@ -202,28 +206,28 @@ module _ {M : Type 0} (meaning : M → Meaning) (bank : List M) (performance per
       → IsAtUnless stop meaning bank performance' boxes' (map (λ one. told_at one.0 (meaning one.1)) pairs') left rest
   at_remove result stop boxes boxes' pairs pairs' left rest there others same kept at =
       at_unless meaning bank stop performance' boxes' (map tell pairs') left rest (go result there others same kept) where
-    tell : ℕ × M → Told
-    tell one = told_at one.0 (meaning one.1)
+        tell : ℕ × M → Told
+        tell one = told_at one.0 (meaning one.1)
 
-    stays : boxes' ≡ boxes → pairs' ≡ pairs ++ [] → IsAt meaning bank performance' boxes' (map tell pairs') left rest
-    stays same kept =
-        subst (λ (l : List (ℕ × M)). IsAt meaning bank performance' boxes' (map tell l) left rest) (sym (kept ∙ append-nil pairs))
-        (at_quiet meaning bank performance performance' (remove address) next (remove_quiet (state_of performance) address) boxes' (map tell pairs) left rest
-        (subst (λ (l : List Told). Tally meaning (invoked_in performance) (add_answers performance.history) bank (state_of performance).next_id l
+        stays : boxes' ≡ boxes → pairs' ≡ pairs ++ [] → IsAt meaning bank performance' boxes' (map tell pairs') left rest
+        stays same kept =
+            subst (λ (l : List (ℕ × M)). IsAt meaning bank performance' boxes' (map tell l) left rest) (sym (kept ∙ append-nil pairs))
+            (at_quiet meaning bank performance performance' (remove address) next (remove_quiet (state_of performance) address) boxes' (map tell pairs) left rest
+            (subst (λ (l : List Told). Tally meaning (invoked_in performance) (add_answers performance.history) bank (state_of performance).next_id l
             (map tell pairs) left rest) (sym same) at))
 
-    go : (result : Removing M) → OnRemoved result (λ id method. Contains boxes (told_at id (meaning method)))
-        → OnRemoved result (λ id method. boxes' ≡ without_id id boxes) → OnKept result (boxes' ≡ boxes) → pairs' ≡ pairs ++ handed_out result
-        → IsAt meaning bank performance' boxes' (map tell pairs') left rest
-    go (removing.RecordFull room) there others same kept = stays same kept
-    go removing.NotThere there others same kept = stays same kept
-    go (removing.Removed id method) there others same kept =
-        let moved = map tell pairs ++ told_at id (meaning method) ∷ [] in
-        let tally = tally_removed meaning (invoked_in performance) (add_answers performance.history) bank (state_of performance).next_id boxes
+        go : (result : Removing M) → OnRemoved result (λ id method. Contains boxes (told_at id (meaning method)))
+            → OnRemoved result (λ id method. boxes' ≡ without_id id boxes) → OnKept result (boxes' ≡ boxes) → pairs' ≡ pairs ++ handed_out result
+            → IsAt meaning bank performance' boxes' (map tell pairs') left rest
+        go (removing.RecordFull room) there others same kept = stays same kept
+        go removing.NotThere there others same kept = stays same kept
+        go (removing.Removed id method) there others same kept =
+            let moved = map tell pairs ++ told_at id (meaning method) ∷ [] in
+            let tally = tally_removed meaning (invoked_in performance) (add_answers performance.history) bank (state_of performance).next_id boxes
             (map tell pairs) left rest (told_at id (meaning method)) there at in
-        let all : map tell pairs' ≡ moved = ap (map tell) kept ∙ map-append tell pairs ((id, method) ∷ []) in
-        at_quiet meaning bank performance performance' (remove address) next (remove_quiet (state_of performance) address) boxes' (map tell pairs') left rest
-        (subst (λ (l : List Told). Tally meaning (invoked_in performance) (add_answers performance.history) bank
+            let all : map tell pairs' ≡ moved = ap (map tell) kept ∙ map-append tell pairs ((id, method) ∷ []) in
+            at_quiet meaning bank performance performance' (remove address) next (remove_quiet (state_of performance) address) boxes' (map tell pairs') left rest
+            (subst (λ (l : List Told). Tally meaning (invoked_in performance) (add_answers performance.history) bank
             (state_of performance).next_id boxes' l left rest) (sym all)
-        (subst (λ (l : List Told). Tally meaning (invoked_in performance) (add_answers performance.history) bank
+            (subst (λ (l : List Told). Tally meaning (invoked_in performance) (add_answers performance.history) bank
             (state_of performance).next_id l moved left rest) (sym others) tally))

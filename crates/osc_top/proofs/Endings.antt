@@ -29,7 +29,7 @@ gathered : {P : Type 0} (tell : P → Told) (boxes : List Told) (kept removed jo
     → IsPermutation joined sorted → IsPermutation (boxes ++ map tell removed) (map tell sorted)
 gathered tell boxes kept removed joined sorted heard all moved =
     subst (λ (l : List Told). IsPermutation l (map tell sorted))
-        (ap (map tell) all ∙ map-append tell kept removed ∙ ap (λ (l : List Told). l ++ map tell removed) heard) (IsPermutation-map tell joined sorted moved)
+    (ap (map tell) all ∙ map-append tell kept removed ∙ ap (λ (l : List Told). l ++ map tell removed) heard) (IsPermutation-map tell joined sorted moved)
 
 -- the boxes that are left: those of the refused adds, and those that no add has taken
 pub left_parts : {X : Type 0} (answers : List Answer) (bank : List X) → boxes_left answers bank ≡ refused_boxes answers bank ++ drop (length answers) bank
@@ -44,7 +44,7 @@ below_ids : {P : Type 0} (tell : P → Told) (number : P → ℕ) → ((one : P)
 below_ids tell number numbered id [] below = refl
 below_ids tell number numbered id (one ∷ ones) below =
     and_both (nat_lt id (number one)) (list_all (nat_lt id) (map number ones)) (is_below id (tell one).id (number one) (numbered one) below.0)
-        (below_ids tell number numbered id ones below.1)
+    (below_ids tell number numbered id ones below.1)
 
 -- boxes whose ids rise have ascending ids
 pub rising_ids : {P : Type 0} (tell : P → Told) (number : P → ℕ) → ((one : P) → (tell one).id ≡ number one) → (ones : List P) → IsRising (map tell ones)
@@ -52,7 +52,7 @@ pub rising_ids : {P : Type 0} (tell : P → Told) (number : P → ℕ) → ((one
 rising_ids tell number numbered [] rising = refl
 rising_ids {P} tell number numbered (one ∷ ones) rising =
     let below = below_ids tell number numbered (number one) ones
-        (subst (λ (n : ℕ). AllByRecursion (λ other. n < other.id) (map tell ones)) (numbered one) rising.0) in
+    (subst (λ (n : ℕ). AllByRecursion (λ other. n < other.id) (map tell ones)) (numbered one) rising.0) in
     and_both (list_all (nat_lt (number one)) (map number ones)) (is_ascending (map number ones)) below (rising_ids tell number numbered ones rising.1)
 
 module _ {M : Type 0} (keep : M → ℕ) (heard : M → Option (List ℕ)) where
@@ -70,8 +70,8 @@ module _ {M : Type 0} (keep : M → ℕ) (heard : M → Option (List ℕ)) where
   ended bank performance boxes removed kept joined sorted left rest left' heard_so all moved ascending behind over =
       let calls = boxes_heard (invoked_in performance) (add_answers performance.history) (map meaning bank) in
       let same : IsPermutation calls (map tell sorted) =
-          IsPermutation-trans calls (boxes ++ map tell removed) (map tell sorted) over.told
-          (gathered tell boxes kept removed joined sorted heard_so all moved) in
+      IsPermutation-trans calls (boxes ++ map tell removed) (map tell sorted) over.told
+      (gathered tell boxes kept removed joined sorted heard_so all moved) in
       let is : map tell sorted ≡ calls =
       same_rising (map tell sorted) calls (ascending_told (λ one. one.0) tell (λ one. refl) sorted ascending) over.rising
       (λ id. sum_by-IsPermutation (times id) calls (map tell sorted) same)

@@ -62,8 +62,13 @@ entered_cost most clock next units queue =
 units_cost_is : (most : ℕ) (units : List Timed) → units_cost most units ≡ 44 * length units + 8 * (sum_by (λ unit. length unit.messages) units * most)
 units_cost_is most [] = omega arith
 units_cost_is most (unit ∷ units) =
-    omega (arith, sum_by-cons (unit_cost most) unit units, ap (λ (n : ℕ). n * most)
-        (sum_by-cons (λ (unit : Timed). length unit.messages) unit units), units_cost_is most units)
+    omega (
+      arith,
+      sum_by-cons (unit_cost most) unit units,
+      ap (λ (n : ℕ). n * most)
+          (sum_by-cons (λ (unit : Timed). length unit.messages) unit units),
+      units_cost_is most units,
+    )
 
 -- A unit's calls are at most its messages times the methods.
 
@@ -72,28 +77,45 @@ filter_few test xs = omega (arith, length-filter test xs, count_by-le-length tes
 
 matching_few : (pattern : List ℕ) (methods : List Method) → length (matching pattern methods) ≤ length methods
 matching_few pattern methods =
-    omega (arith, length_permutation (matched pattern methods) (matching pattern methods) (exactly_matching pattern methods), filter_few
-        (λ (method : Method). matches pattern method.address) methods)
+    omega (
+      arith,
+      length_permutation (matched pattern methods) (matching pattern methods) (exactly_matching pattern methods),
+      filter_few
+          (λ (method : Method). matches pattern method.address) methods,
+    )
 
 message_few : (methods : List Method) (index : ℕ) (message : List ℕ) → length (calls_of methods index message) ≤ length methods
 message_few methods index message = go (is_some (unknown_of message)) where
   go : (t : Bool) → length (cond t [] (matching_calls methods index message)) ≤ length methods
   go true = omega arith
-  go false = omega
-      (arith, length-map {B = Call} (matching (pattern_of message) methods)
-      (λ method. record { index = index; id = method.id; address = method.address; message = message }), matching_few (pattern_of message) methods)
+  go false = omega (
+    arith,
+    length-map {B = Call} (matching (pattern_of message) methods)
+        (λ method. record { index = index; id = method.id; address = method.address; message = message }),
+    matching_few (pattern_of message) methods,
+  )
 
 calls_few : (methods : List Method) (index : ℕ) (messages : List (List ℕ)) → length (calls_from methods index messages) ≤ length messages * length methods
 calls_few methods index [] = omega arith
 calls_few methods index (message ∷ messages) =
-    omega (arith, length-append (calls_of methods index message) (calls_from methods (index + 1) messages), message_few methods index message, calls_few methods
-        (index + 1) messages)
+    omega (
+      arith,
+      length-append (calls_of methods index message) (calls_from methods (index + 1) messages),
+      message_few methods index message,
+      calls_few methods
+          (index + 1) messages,
+    )
 
 hits_few : (most : ℕ) (methods : List Method) (unit : Queued) → length methods ≤ most
     → length (hits_of (calls_of_unit methods unit)) ≤ length unit.2.messages * most
 hits_few most methods unit few =
-    omega (arith, length-map {B = Hit} (calls_of_unit methods unit)
-        (λ call. record { index = call.index; id = call.id }), calls_few methods 0 unit.2.messages, mul-le-mul_left (length unit.2.messages) few)
+    omega (
+      arith,
+      length-map {B = Hit} (calls_of_unit methods unit)
+          (λ call. record { index = call.index; id = call.id }),
+      calls_few methods 0 unit.2.messages,
+      mul-le-mul_left (length unit.2.messages) few,
+    )
 
 -- What an event takes: the bytes of its entry, and those of the releases of the units that it queues. A release has been
 -- paid for.
@@ -130,7 +152,7 @@ either P false one other first second = second
 decided_pays : (most : ℕ) (state : State) (event : Event) → length state.methods ≤ most → Pays most state event (decided state event)
 decided_pays most state enrol few =
     either (Pays most state enrol) (state.callers == state.caps.callers) (leaves state callers_full)
-        (leaves (record state { callers = state.callers + 1 }) (number state.callers))
+    (leaves (record state { callers = state.callers + 1 }) (number state.callers))
     (stays most state enrol callers_full refl (λ some. omega arith)) (record { goes = refl; caps = refl; methods = omega arith; bytes = λ some. omega arith })
 decided_pays most state (submit packet) few =
     let units = units_read packet in
@@ -139,26 +161,34 @@ decided_pays most state (submit packet) few =
     let enter = leaves (after_submit state units) (queued state.next_unit (length units)) in
     let entered = entered_cost most state.clock state.next_unit units state.queue in
     either (Pays most state (submit packet)) (nat_lt (free_places state) (length units)) (leaves state places)
-        (cond (nat_lt (free_blocks state) (blocks_of units)) (leaves state pool) enter)
+    (cond (nat_lt (free_blocks state) (blocks_of units)) (leaves state pool) enter)
     (stays most state (submit packet) places refl (λ some. omega arith))
     (either (Pays most state (submit packet)) (nat_lt (free_blocks state) (blocks_of units)) (leaves state pool) enter
     (stays most state (submit packet) pool refl (λ some. omega arith))
-        (record { goes = refl; caps = refl; methods = omega arith; bytes = λ some. omega (arith, entered) }))
+    (record { goes = refl; caps = refl; methods = omega arith; bytes = λ some. omega (arith, entered) }))
 decided_pays most state (add address) few = go (add_refusal (registry state) address) where
   go : (refusal : Option Refusal) → Pays most state (add address) (add_at state address refusal)
   go (Some refusal) = stays most state (add address) (refused refusal) refl (λ some. omega arith)
-  go None = record { goes = refl; caps = refl; methods = omega (arith, length-append state.methods (record { id = state.next_id; address = address } ∷ []));
-      bytes = λ some. omega arith }
+  go None = record {
+    goes = refl;
+    caps = refl;
+    methods = omega (arith, length-append state.methods (record { id = state.next_id; address = address } ∷ []));
+    bytes = λ some. omega arith;
+  }
 decided_pays most state (remove address) few = go (id_at state.methods address) where
   go : (found : Option ℕ) → Pays most state (remove address) (remove_at state address found)
   go None = stays most state (remove address) not_there refl (λ some. omega arith)
   go (Some id) =
-      record { goes = refl; caps = refl; methods = omega (arith, filter_few (λ (method : Method). not (bytes_eq method.address address)) state.methods);
-      bytes = λ some. omega arith }
+      record {
+        goes = refl;
+        caps = refl;
+        methods = omega (arith, filter_few (λ (method : Method). not (bytes_eq method.address address)) state.methods);
+        bytes = λ some. omega arith;
+      }
 decided_pays most state (tick now) few =
     either (Pays most state (tick now)) (nat_lt now state.clock) (leaves state (clock_back state.clock)) (leaves (record state { clock = now }) ticked)
     (stays most state (tick now) (clock_back state.clock) refl (λ some. omega arith))
-        (record { goes = refl; caps = refl; methods = omega arith; bytes = λ some. omega arith })
+    (record { goes = refl; caps = refl; methods = omega arith; bytes = λ some. omega arith })
 decided_pays most state release few = go state.queue refl where
   go : (queue : List Queued) → state.queue ≡ queue → Pays most state release (release_first state queue)
   go [] first = stays most state release (nothing_due None) refl (λ some. absurd (cc))
@@ -166,8 +196,12 @@ decided_pays most state release few = go state.queue refl where
       let later = nothing_due (Some (due_of unit)) in
       let paid = sum_by-cons (λ (unit : Queued). unit_cost most unit.2) unit units in
       either (Pays most state release) (nat_le (due_of unit) state.clock) (releases state unit units) (leaves state later)
-      (record { goes = refl; caps = refl; methods = omega arith;
-          bytes = λ some. omega (arith, hits_few most state.methods unit few, ap (queue_cost most) first, paid) })
+      (record {
+        goes = refl;
+        caps = refl;
+        methods = omega arith;
+        bytes = λ some. omega (arith, hits_few most state.methods unit few, ap (queue_cost most) first, paid);
+      })
       (stays most state release later refl (λ some. absurd (cc)))
 
 -- There is room for what is queued and for what is still to come, which adds so many methods and takes so many bytes.
@@ -190,8 +224,10 @@ step_goes most more rest state event room =
     step_so (Goes most more rest) state event
     (record {
       silent = λ none.
-          record { goes = pays.goes;
-          room = subst (HasRoom most more rest) (sym (decided_none state event none)) (record { methods = omega arith; bytes = omega arith }) };
+          record {
+            goes = pays.goes;
+            room = subst (HasRoom most more rest) (sym (decided_none state event none)) (record { methods = omega arith; bytes = omega arith });
+          };
       full = λ some full. absurd (omega (arith, pays.bytes some));
       room = λ some fits. record {
         goes = pays.goes;
@@ -231,10 +267,10 @@ pump_room : (most more rest count : ℕ) (state : State) → HasRoom most more r
 pump_room most more rest zero state room = room
 pump_room most more rest (suc count) state room =
     go (is_released (step state release).answer) (pump_room most more rest count (step state release).state (release_goes most more rest state room).room) where
-  go : (t : Bool) → HasRoom most more rest (after (step state release).state (pumped count (step state release).state))
-      → HasRoom most more rest (after state (cond t (entry_of state release ∷ pumped count (step state release).state) []))
-  go true later = later
-  go false later = room
+      go : (t : Bool) → HasRoom most more rest (after (step state release).state (pumped count (step state release).state))
+          → HasRoom most more rest (after state (cond t (entry_of state release ∷ pumped count (step state release).state) []))
+      go true later = later
+      go false later = room
 
 -- what a line takes
 abbrev act_cost : ℕ → Act → ℕ
@@ -254,8 +290,8 @@ act_goes most more rest state (Tick moment) room =
 act_goes most more rest state (Send packet) room = go (is_packet 65504 packet) room.methods room.bytes where
   go : (t : Bool) → 0 + more + length state.methods ≤ most
       → cond t (event_size (submit packet)) 0 + 44 * cond t (length (units_read packet)) 0
-          + 8 * (cond t (sum_by (λ unit. length unit.messages) (units_read packet)) 0 * most) + rest + state.recorded + queue_cost most state.queue
-          ≤ state.caps.recording
+      + 8 * (cond t (sum_by (λ unit. length unit.messages) (units_read packet)) 0 * most) + rest + state.recorded + queue_cost most state.queue
+      ≤ state.caps.recording
       → GoesOn most more rest state (sent state packet t) (stop_sent state packet t)
   go true methods bytes =
       entry_goes most more rest state (submit packet) (record { methods = methods; bytes = omega (arith, units_cost_is most (units_read packet)) })
@@ -288,12 +324,16 @@ lines_go most state (line ∷ lines) room =
     let one = act_goes most (count_adds lines) (lines_cost most lines) state line.act
     (record {
       methods = omega (arith, count_more line lines);
-      bytes = omega
-          (arith, sum_by-cons (λ (line : Line). act_size line.act) line lines, sum_by-cons (λ (line : Line). act_units line.act) line lines, ap
-          (λ (n : ℕ). n * most) (sum_by-cons (λ (line : Line). act_messages line.act) line lines));
+      bytes = omega (
+        arith,
+        sum_by-cons (λ (line : Line). act_size line.act) line lines,
+        sum_by-cons (λ (line : Line). act_units line.act) line lines,
+        ap
+            (λ (n : ℕ). n * most) (sum_by-cons (λ (line : Line). act_messages line.act) line lines),
+      );
     }) in
     go (stop_of state line.act) one.goes (plain_from (after state (entries_of state line.act)) lines)
-        (lines_go most (after state (entries_of state line.act)) lines one.room)
+    (lines_go most (after state (entries_of state line.act)) lines one.room)
   where
     go : (stop : Option Room) → stop ≡ None → (later : Played) → later.stop ≡ None
         → (followed (entries_of state line.act) (act_faults line.number line.act) stop later).stop ≡ None

@@ -58,7 +58,7 @@ none_heard : (id : ℕ) (calls : List Invocation) → AllByRecursion (λ call. c
 none_heard id [] below = refl
 none_heard id (call ∷ calls) below =
     ap (λ (t : Bool). cond t (call ∷ filter (λ other. other.call.id == id) calls) (filter (λ other. other.call.id == id) calls))
-        (other_id call.call.id id below.0)
+    (other_id call.call.id id below.0)
     ∙ none_heard id calls below.1
 
 -- the box of an id that no call has yet has heard nothing
@@ -66,7 +66,7 @@ pub fresh_box : (id : ℕ) (calls : List Invocation) (box : Meaning) → AllByRe
     → box_heard calls (added id) box ≡ reset (told_at id box) ∷ []
 fresh_box id calls box below =
     let nothing : heard_of calls id box.keep ≡ [] = ap (λ (l : List Invocation). last_of box.keep (flat_map bytes_of l)) (none_heard id calls below)
-        ∙ drop_all (0 - box.keep) [] (omega arith) in
+    ∙ drop_all (0 - box.keep) [] (omega arith) in
     ap (λ (l : List ℕ). let told : Told = record { id = id; keep = box.keep; heard = option_map (λ _. l) box.heard } in told ∷ []) nothing
 
 -- More calls.
@@ -75,7 +75,7 @@ one_heard : HearsCalls → (calls more : List Invocation) (answer : Answer) (box
     → box_heard (calls ++ more) answer box ≡ map (hear_all more) (box_heard calls answer box)
 one_heard law calls more (added id) box =
     ap (λ (told : Told). told ∷ [])
-        (sym (law.fresh (told_at id box) (calls ++ more)) ∙ law.on (reset (told_at id box)) calls more ∙ ap (hear_all more) (law.fresh (told_at id box) calls))
+    (sym (law.fresh (told_at id box) (calls ++ more)) ∙ law.on (reset (told_at id box)) calls more ∙ ap (hear_all more) (law.fresh (told_at id box) calls))
 one_heard law calls more _ box = refl
 
 pub heard_more : HearsCalls → (calls more : List Invocation) (answers : List Answer) (bank : List Meaning)
@@ -113,9 +113,11 @@ above_map id calls (box ∷ boxes) above = (omega (arith, same_id calls box, abo
 
 pub rising_map : (calls : List Invocation) (boxes : List Told) → IsRising boxes → IsRising (map (hear_all calls) boxes)
 rising_map calls [] rising = tt
-rising_map calls (box ∷ boxes) rising =
-    (subst (λ (n : ℕ). AllByRecursion (λ other. n < other.id) (map (hear_all calls) boxes)) (sym (same_id calls box))
-        (above_map box.id calls boxes rising.0), rising_map calls boxes rising.1)
+rising_map calls (box ∷ boxes) rising = (
+  subst (λ (n : ℕ). AllByRecursion (λ other. n < other.id) (map (hear_all calls) boxes)) (sym (same_id calls box))
+      (above_map box.id calls boxes rising.0),
+  rising_map calls boxes rising.1,
+)
 
 -- boxes whose ids are not called stay as they are
 not_heard : (calls : List Invocation) (box : Told) → AllByRecursion (λ call. (call.call.id == box.id) ≡ false) calls → hear_all calls box ≡ box
@@ -131,11 +133,11 @@ pub none_hear : (calls : List Invocation) (boxes : List Told) → AllByRecursion
 none_hear calls [] none = refl
 none_hear calls (box ∷ boxes) none =
     let here : hear_all calls box ≡ box =
-        not_heard calls box
-        (all_weaker (λ (call : Invocation). count call.call.id (box ∷ boxes) ≡ 0) (λ (call : Invocation). (call.call.id == box.id) ≡ false) calls
-        (λ call zero_times. other_test box.id call.call.id (omega (arith, sum_by-cons (times call.call.id) box boxes, zero_times))) none) in
+    not_heard calls box
+    (all_weaker (λ (call : Invocation). count call.call.id (box ∷ boxes) ≡ 0) (λ (call : Invocation). (call.call.id == box.id) ≡ false) calls
+    (λ call zero_times. other_test box.id call.call.id (omega (arith, sum_by-cons (times call.call.id) box boxes, zero_times))) none) in
     let behind : map (hear_all calls) boxes ≡ boxes =
-        none_hear calls boxes
-        (all_weaker (λ (call : Invocation). count call.call.id (box ∷ boxes) ≡ 0) (λ (call : Invocation). count call.call.id boxes ≡ 0) calls
-        (λ call zero_times. omega (arith, sum_by-cons (times call.call.id) box boxes, zero_times)) none) in
+    none_hear calls boxes
+    (all_weaker (λ (call : Invocation). count call.call.id (box ∷ boxes) ≡ 0) (λ (call : Invocation). count call.call.id boxes ≡ 0) calls
+    (λ call zero_times. omega (arith, sum_by-cons (times call.call.id) box boxes, zero_times)) none) in
     ap (λ (b : Told). b ∷ map (hear_all calls) boxes) here ∙ ap (λ (l : List Told). box ∷ l) behind

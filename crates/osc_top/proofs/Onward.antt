@@ -50,8 +50,15 @@ HasCallers stepped = 0 < stepped.state.callers
 pub one_caller : (state : State) (event : Event) → 0 < state.callers → HasCallers (step state event)
 one_caller state event some =
     let decides = decided_so (λ e stepped. HasCallers stepped) state event
-    (record { refused = λ e answer is. some; enrolled = omega arith; queued = λ packet. some; added = λ address. some; removed = λ address id. some;
-        ticked = λ now on. some; released = λ unit units is. some }) in
+    (record {
+      refused = λ e answer is. some;
+      enrolled = omega arith;
+      queued = λ packet. some;
+      added = λ address. some;
+      removed = λ address id. some;
+      ticked = λ now on. some;
+      released = λ unit units is. some;
+    }) in
     step_so HasCallers state event (record { silent = λ none. decides; full = λ adds full. some; room = λ adds fits. decides })
 
 pub callers_stay : (state : State) (entries : List Entry) → 0 < state.callers → 0 < (after state entries).callers

@@ -29,21 +29,42 @@ decides state recorded = go state.queue refl where
   noted stepped = record stepped { state = record stepped.state { recorded = recorded } }
 
   go : (queue : List Queued) → state.queue ≡ queue → ReleaseWay state (release_first state queue) × ReleaseWay state (noted (release_first state queue))
-  go [] is = (record { same_ids = refl; stays = λ none. refl; shorter = λ some. absurd (cc) }, record { same_ids = refl; stays = λ none. refl;
-      shorter = λ some. absurd (cc) })
+  go [] is = (
+    record { same_ids = refl; stays = λ none. refl; shorter = λ some. absurd (cc) },
+    record {
+      same_ids = refl;
+      stays = λ none. refl;
+      shorter = λ some. absurd (cc);
+    },
+  )
   go (unit ∷ units) is = due (nat_le (due_of unit) state.clock) where
     due : (t : Bool) → ReleaseWay state (cond t (releases state unit units) (leaves state (nothing_due (Some (due_of unit)))))
         × ReleaseWay state (noted (cond t (releases state unit units) (leaves state (nothing_due (Some (due_of unit))))))
-    due true = (record { same_ids = refl; stays = λ none. absurd (cc); shorter = λ some. ap (λ (q : List Queued). length q) is }, record { same_ids = refl;
-        stays = λ none. absurd (cc); shorter = λ some. ap (λ (q : List Queued). length q) is })
-    due false = (record { same_ids = refl; stays = λ none. refl; shorter = λ some. absurd (cc) }, record { same_ids = refl; stays = λ none. refl;
-        shorter = λ some. absurd (cc) })
+    due true = (
+      record { same_ids = refl; stays = λ none. absurd (cc); shorter = λ some. ap (λ (q : List Queued). length q) is },
+      record {
+        same_ids = refl;
+        stays = λ none. absurd (cc);
+        shorter = λ some. ap (λ (q : List Queued). length q) is;
+      },
+    )
+    due false = (
+      record { same_ids = refl; stays = λ none. refl; shorter = λ some. absurd (cc) },
+      record {
+        same_ids = refl;
+        stays = λ none. refl;
+        shorter = λ some. absurd (cc);
+      },
+    )
 
 pub release_way : (state : State) → ReleaseWay state (step state release)
 release_way state =
     step_so (ReleaseWay state) state release
-    (record { silent = λ none. (decides state 0).0; full = λ adds full. record { same_ids = refl; stays = λ none. refl; shorter = λ some. absurd (cc) };
-        room = λ adds fits. (decides state _).1 })
+    (record {
+      silent = λ none. (decides state 0).0;
+      full = λ adds full. record { same_ids = refl; stays = λ none. refl; shorter = λ some. absurd (cc) };
+      room = λ adds fits. (decides state _).1;
+    })
 
 released_adds : (answer : Answer) → is_released answer ≡ true → adds_entry answer ≡ true
 released_adds (released unit hits) is = refl
@@ -101,14 +122,14 @@ pub pump_over : (performance performance' : Performance) → performance' ≡ on
 pump_over performance performance' next is =
     next ∙ onward_none performance release ((release_way (state_of performance)).stays is)
     ∙ sym (on_none performance)
-        ∙ sym (ap (λ (entries : List Entry). played_on performance entries) (pump_ends (state_of performance) (length (state_of performance).queue) is))
+    ∙ sym (ap (λ (entries : List Entry). played_on performance entries) (pump_ends (state_of performance) (length (state_of performance).queue) is))
 
 -- where it is over, it is in the state after its entries
 pub state_over : (performance whole : Performance) (entries : List Entry) → is_released (stepped_in performance release).answer ≡ false
     → played_on performance (pump (state_of performance)) ≡ played_on whole entries → state_of performance ≡ after (state_of whole) entries
 state_over performance whole entries is same =
     sym (ap (λ (p : Performance). state_of p)
-        (ap (λ (l : List Entry). played_on performance l) (pump_ends (state_of performance) (length (state_of performance).queue) is) ∙ on_none performance))
+    (ap (λ (l : List Entry). played_on performance l) (pump_ends (state_of performance) (length (state_of performance).queue) is) ∙ on_none performance))
     ∙ ap (λ (p : Performance). state_of p) same ∙ on_state whole entries
 
 pub not_due : (performance : Performance) (next : Option ℕ) → (stepped_in performance release).answer ≡ nothing_due next
@@ -128,8 +149,8 @@ is_taken performance unit calls told = ap is_released told.1
 pub turn_at : {X : Type 0} (meaning : X → Meaning) (bank : List X) (performance performance' : Performance) → HearsCalls
     → InvokesRegistered (state_of performance) (stepped_in performance release) → performance' ≡ onward performance 0 release
     → (boxes boxes' removed : List Told) (left rest : List X) → boxes' ≡ all_hear (stepped_in performance release).invocations boxes
-        → HaveHeard performance boxes
+    → HaveHeard performance boxes
     → IsAt meaning bank performance boxes removed left rest → IsAt meaning bank performance' boxes' removed left rest
 turn_at meaning bank performance performance' law registered next boxes boxes' removed left rest heard have at =
     at_released meaning bank performance performance' release next law registered (λ answer. refl)
-        (release_way (state_of performance)).same_ids boxes boxes' removed left rest heard have at
+    (release_way (state_of performance)).same_ids boxes boxes' removed left rest heard have at

@@ -123,13 +123,13 @@ pub one_moved : (boxes removed : List Told) (box : Told) → Contains boxes box 
 one_moved boxes removed box there few =
     let others = without_id box.id boxes in
     let apart : IsPermutation boxes (filter (λ other. other.id == box.id) boxes ++ others) =
-        IsPermutation-filter_both (λ (other : Told). other.id == box.id) (λ (other : Told). not (other.id == box.id)) (λ other. refl) boxes in
+    IsPermutation-filter_both (λ (other : Told). other.id == box.id) (λ (other : Told). not (other.id == box.id)) (λ other. refl) boxes in
     let front : IsPermutation boxes (box ∷ others) = subst (λ (l : List Told). IsPermutation boxes (l ++ others)) (one_kept boxes box there few) apart in
     let joined : IsPermutation (boxes ++ removed) (box ∷ (others ++ removed)) = IsPermutation-append_left removed boxes (box ∷ others) front in
     let back : IsPermutation (box ∷ (others ++ removed)) ((others ++ removed) ++ box ∷ []) =
-        IsPermutation-sym ((others ++ removed) ++ box ∷ []) (box ∷ (others ++ removed)) (IsPermutation-to_front (others ++ removed) box) in
+    IsPermutation-sym ((others ++ removed) ++ box ∷ []) (box ∷ (others ++ removed)) (IsPermutation-to_front (others ++ removed) box) in
     subst (λ (l : List Told). IsPermutation (boxes ++ removed) l) (assoc others removed (box ∷ []))
-        (IsPermutation-trans (boxes ++ removed) (box ∷ (others ++ removed)) ((others ++ removed) ++ box ∷ []) joined back)
+    (IsPermutation-trans (boxes ++ removed) (box ∷ (others ++ removed)) ((others ++ removed) ++ box ∷ []) joined back)
   where
     assoc : (xs ys zs : List Told) → (xs ++ ys) ++ zs ≡ xs ++ (ys ++ zs)
     assoc [] ys zs = refl
@@ -149,9 +149,11 @@ IsAscending (box ∷ boxes) = AllByRecursion (λ other. box.id ≤ other.id) box
 pub ascending_told : {X : Type 0} (n : X → ℕ) (told : X → Told) → ((x : X) → (told x).id ≡ n x) → (xs : List X) → IsNonDecreasingBy n xs
     → IsAscending (map told xs)
 ascending_told n told is [] sorted = tt
-ascending_told {X} n told is (x ∷ xs) sorted =
-    (behind xs (λ j d h. omega (arith, sorted 0 (suc j) d (omega arith) (omega arith))), ascending_told n told is xs
-    (IsNonDecreasingBy-drop n 1 (x ∷ xs) sorted)) where
+ascending_told {X} n told is (x ∷ xs) sorted = (
+  behind xs (λ j d h. omega (arith, sorted 0 (suc j) d (omega arith) (omega arith))),
+  ascending_told n told is xs
+      (IsNonDecreasingBy-drop n 1 (x ∷ xs) sorted),
+) where
   behind : (ys : List X) → ((j : ℕ) (d : X) → j < length ys → n x ≤ n (get_or ys j d)) → AllByRecursion (λ other. (told x).id ≤ other.id) (map told ys)
   behind [] above = tt
   behind (y ∷ ys) above = (omega (arith, is x, is y, above 0 y (omega arith)), behind ys (λ j d h. above (suc j) d (omega arith)))
@@ -169,27 +171,27 @@ same_rising [] (y ∷ ys) ascending rising counts there = absurd (omega (arith, 
 same_rising (x ∷ xs) [] ascending rising counts there = absurd (omega (arith, counts x.id, sum_by-cons (times x.id) x xs, equal_once x.id x.id refl))
 same_rising (x ∷ xs) (y ∷ ys) ascending rising counts there =
     go (contains_cases y ys x (there x (0, omega arith, refl))) (same_rising xs ys ascending.1 rising.1) where
-  go : (y ≡ x) ⊎ Contains ys x → (((id : ℕ) → count id xs ≡ count id ys) → ((box : Told) → Contains xs box → Contains ys box) → xs ≡ ys) → x ∷ xs ≡ y ∷ ys
-  go (inr behind) more =
-      let below : y.id < x.id = All-contains (λ (other : Told). y.id < other.id) ys x
+      go : (y ≡ x) ⊎ Contains ys x → (((id : ℕ) → count id xs ≡ count id ys) → ((box : Told) → Contains xs box → Contains ys box) → xs ≡ ys) → x ∷ xs ≡ y ∷ ys
+      go (inr behind) more =
+          let below : y.id < x.id = All-contains (λ (other : Told). y.id < other.id) ys x
           (All-from_recursion (λ (other : Told). y.id < other.id) ys rising.0) behind in
-      absurd (omega (arith, counts y.id, sum_by-cons (times y.id) y ys, equal_once y.id y.id refl, all_above y.id x xs below ascending.0))
-  go (inl same) more = cc (same, more fewer within) where
-    fewer : (id : ℕ) → count id xs ≡ count id ys
-    fewer id = omega (arith, counts id, sum_by-cons (times id) x xs, sum_by-cons (times id) y ys, ap (times id) same)
+          absurd (omega (arith, counts y.id, sum_by-cons (times y.id) y ys, equal_once y.id y.id refl, all_above y.id x xs below ascending.0))
+      go (inl same) more = cc (same, more fewer within) where
+        fewer : (id : ℕ) → count id xs ≡ count id ys
+        fewer id = omega (arith, counts id, sum_by-cons (times id) x xs, sum_by-cons (times id) y ys, ap (times id) same)
 
-    within : (box : Told) → Contains xs box → Contains ys box
-    within box inside = kept (contains_cases y ys box (there box (suc inside.0, omega (arith, inside.1), inside.2))) where
-      kept : (y ≡ box) ⊎ Contains ys box → Contains ys box
-      kept (inr behind) = behind
-      kept (inl is) =
-          absurd (omega (
-            arith,
-            once y.id (y ∷ ys) rising,
-            counts y.id,
-            sum_by-cons (times y.id) x xs,
-            ap (times y.id) same,
-            equal_once y.id y.id refl,
-            id_counted xs y.id
-                (subst (λ (b : Told). Contains (map (λ (other : Told). other.id) xs) b.id) (sym is) (id_contained (λ (b : Told). b.id) xs box inside)),
-          ))
+        within : (box : Told) → Contains xs box → Contains ys box
+        within box inside = kept (contains_cases y ys box (there box (suc inside.0, omega (arith, inside.1), inside.2))) where
+          kept : (y ≡ box) ⊎ Contains ys box → Contains ys box
+          kept (inr behind) = behind
+          kept (inl is) =
+              absurd (omega (
+                arith,
+                once y.id (y ∷ ys) rising,
+                counts y.id,
+                sum_by-cons (times y.id) x xs,
+                ap (times y.id) same,
+                equal_once y.id y.id refl,
+                id_counted xs y.id
+                    (subst (λ (b : Told). Contains (map (λ (other : Told). other.id) xs) b.id) (sym is) (id_contained (λ (b : Told). b.id) xs box inside)),
+              ))

@@ -40,9 +40,9 @@ before_more : (entries more : List Entry) (faults others : List LineFault) (late
     → before entries faults (before more others later) ≡ before (entries ++ more) (faults ++ others) later
 before_more entries more faults others later =
     ap (λ (l : List Entry). let played : Played = record { history = l; faults = faults ++ (others ++ later.faults); stop = later.stop } in played)
-        (sym (append_assoc entries more later.history))
+    (sym (append_assoc entries more later.history))
     ∙ ap (λ (l : List LineFault). let played : Played = record { history = (entries ++ more) ++ later.history; faults = l; stop = later.stop } in played)
-        (sym (append_assoc faults others later.faults))
+    (sym (append_assoc faults others later.faults))
 
 -- Lines were played from a performance on, and the rest are not yet: the entries so far, what is said of the faults so
 -- far, the callers, and the boxes that wait.
@@ -85,7 +85,7 @@ module _ (initial : Performance) (said : List ℕ) (lines rest : List Line) (lin
     told : text' ≡ said ++ printed_faults (run.faults ++ act_faults line.number line.act)
     told =
         listed ∙ ap (λ (l : List ℕ). l ++ printed_faults (act_faults line.number line.act)) run.listed
-            ∙ append_assoc said (printed_faults run.faults) (printed_faults (act_faults line.number line.act))
+        ∙ append_assoc said (printed_faults run.faults) (printed_faults (act_faults line.number line.act))
         ∙ ap (λ (l : List ℕ). said ++ l) (sym (said-append run.faults (act_faults line.number line.act)))
 
     then : state_of performance' ≡ after (state_of performance) (entries_of (state_of performance) line.act)

@@ -24,7 +24,7 @@ module _ {X : Type 0} (meaning : X → Meaning) where
       (box : X) (more : List X)
       → ((b : X) → box_left answer b ≡ b ∷ []) → ((b : Meaning) → box_heard calls answer b ≡ [])
       → Tally meaning calls answers bank next boxes removed left (box ∷ more)
-          → Tally meaning calls (answers ++ answer ∷ []) bank next boxes removed (left ++ box ∷ []) more
+      → Tally meaning calls (answers ++ answer ∷ []) bank next boxes removed (left ++ box ∷ []) more
   tally_refused calls answers answer bank next boxes removed left box more stays silent tally =
       let heard = boxes_heard calls answers (map meaning bank) in
       let same : boxes_heard calls (answers ++ answer ∷ []) (map meaning bank) ≡ heard =
@@ -45,7 +45,7 @@ module _ {X : Type 0} (meaning : X → Meaning) where
       (more : List X)
       → next' ≡ next + 1
       → Tally meaning calls answers bank next boxes removed left (box ∷ more)
-          → Tally meaning calls (answers ++ added next ∷ []) bank next' (boxes ++ reset (told_at next (meaning box)) ∷ []) removed left more
+      → Tally meaning calls (answers ++ added next ∷ []) bank next' (boxes ++ reset (told_at next (meaning box)) ∷ []) removed left more
   tally_added calls answers bank next next' boxes removed left box more one_on tally =
       let heard = boxes_heard calls answers (map meaning bank) in
       let new = reset (told_at next (meaning box)) in
@@ -53,14 +53,14 @@ module _ {X : Type 0} (meaning : X → Meaning) where
       heard_push calls answers (added next) (map meaning bank) (meaning box) (map meaning more) (next_meaning answers bank box more tally.waiting)
       ∙ ap (λ (l : List Told). heard ++ l) (fresh_box next calls (meaning box) tally.given) in
       let front : IsPermutation (heard ++ new ∷ []) ((boxes ++ removed) ++ new ∷ []) =
-          IsPermutation-append_left (new ∷ []) heard (boxes ++ removed) tally.told in
+      IsPermutation-append_left (new ∷ []) heard (boxes ++ removed) tally.told in
       let moved : IsPermutation ((boxes ++ removed) ++ new ∷ []) (boxes ++ new ∷ removed) =
-          IsPermutation-trans ((boxes ++ removed) ++ new ∷ []) (new ∷ (boxes ++ removed)) (boxes ++ new ∷ removed)
-          (IsPermutation-to_front (boxes ++ removed) new)
-          (IsPermutation-sym (boxes ++ new ∷ removed) (new ∷ (boxes ++ removed)) (IsPermutation-middle boxes new removed)) in
+      IsPermutation-trans ((boxes ++ removed) ++ new ∷ []) (new ∷ (boxes ++ removed)) (boxes ++ new ∷ removed)
+      (IsPermutation-to_front (boxes ++ removed) new)
+      (IsPermutation-sym (boxes ++ new ∷ removed) (new ∷ (boxes ++ removed)) (IsPermutation-middle boxes new removed)) in
       let all : IsPermutation (heard ++ new ∷ []) ((boxes ++ new ∷ []) ++ removed) =
-          subst (λ (l : List Told). IsPermutation (heard ++ new ∷ []) l) (sym (append_assoc boxes (new ∷ []) removed))
-          (IsPermutation-trans (heard ++ new ∷ []) ((boxes ++ removed) ++ new ∷ []) (boxes ++ new ∷ removed) front moved) in
+      subst (λ (l : List Told). IsPermutation (heard ++ new ∷ []) l) (sym (append_assoc boxes (new ∷ []) removed))
+      (IsPermutation-trans (heard ++ new ∷ []) ((boxes ++ removed) ++ new ∷ []) (boxes ++ new ∷ removed) front moved) in
       record {
         refused = tally.refused ∙ sym (refused_push answers (added next) bank box more (sym tally.waiting) ∙ append-nil (refused_boxes answers bank));
         waiting = waiting_push answers (added next) bank box more (sym tally.waiting);
@@ -82,13 +82,18 @@ module _ {X : Type 0} (meaning : X → Meaning) where
   count_once : (calls : List Invocation) (answers : List Answer) (bank : List X) (next : ℕ) (boxes removed : List Told) (left rest : List X)
       → Tally meaning calls answers bank next boxes removed left rest → (id : ℕ) → count id boxes + count id removed ≤ 1
   count_once calls answers bank next boxes removed left rest tally id =
-      omega (arith, once id (boxes_heard calls answers (map meaning bank)) tally.rising, sum_by-IsPermutation (times id)
-          (boxes_heard calls answers (map meaning bank)) (boxes ++ removed) tally.told, sum_by-append (times id) boxes removed)
+      omega (
+        arith,
+        once id (boxes_heard calls answers (map meaning bank)) tally.rising,
+        sum_by-IsPermutation (times id)
+            (boxes_heard calls answers (map meaning bank)) (boxes ++ removed) tally.told,
+        sum_by-append (times id) boxes removed,
+      )
 
   pub tally_removed : (calls : List Invocation) (answers : List Answer) (bank : List X) (next : ℕ) (boxes removed : List Told) (left rest : List X) (box : Told)
       → Contains boxes box
       → Tally meaning calls answers bank next boxes removed left rest
-          → Tally meaning calls answers bank next (without_id box.id boxes) (removed ++ box ∷ []) left rest
+      → Tally meaning calls answers bank next (without_id box.id boxes) (removed ++ box ∷ []) left rest
   tally_removed calls answers bank next boxes removed left rest box there tally =
       let heard = boxes_heard calls answers (map meaning bank) in
       let few : count box.id boxes ≤ 1 = omega (arith, count_once calls answers bank next boxes removed left rest tally box.id) in
@@ -110,18 +115,18 @@ module _ {X : Type 0} (meaning : X → Meaning) where
       let heard = boxes_heard calls answers (map meaning bank) in
       let hears : boxes_heard (calls ++ more) answers (map meaning bank) ≡ map (hear_all more) heard = heard_more law calls more answers (map meaning bank) in
       let silent : map (hear_all more) removed ≡ removed =
-          none_hear more removed
-          (all_weaker (λ (call : Invocation). Contains (map (λ (box : Told). box.id) boxes) call.call.id)
-          (λ (call : Invocation). count call.call.id removed ≡ 0) more
-          (λ call inside. omega (arith, count_once calls answers bank next boxes removed left rest tally call.call.id, id_counted boxes call.call.id inside))
-          there) in
+      none_hear more removed
+      (all_weaker (λ (call : Invocation). Contains (map (λ (box : Told). box.id) boxes) call.call.id)
+      (λ (call : Invocation). count call.call.id removed ≡ 0) more
+      (λ call inside. omega (arith, count_once calls answers bank next boxes removed left rest tally call.call.id, id_counted boxes call.call.id inside))
+      there) in
       let within : AllByRecursion (λ box. box.id < next) boxes =
-          all_front (λ (box : Told). box.id < next) boxes removed
-          (recursion_from_All (λ (box : Told). box.id < next) (boxes ++ removed)
-          (All-permutation (λ (box : Told). box.id < next) heard (boxes ++ removed) tally.told
-          (All-from_recursion (λ (box : Told). box.id < next) heard tally.below))) in
+      all_front (λ (box : Told). box.id < next) boxes removed
+      (recursion_from_All (λ (box : Told). box.id < next) (boxes ++ removed)
+      (All-permutation (λ (box : Told). box.id < next) heard (boxes ++ removed) tally.told
+      (All-from_recursion (λ (box : Told). box.id < next) heard tally.below))) in
       let both : map (hear_all more) (boxes ++ removed) ≡ all_hear more boxes ++ removed =
-          map-append (hear_all more) boxes removed ∙ ap (λ (l : List Told). map (hear_all more) boxes ++ l) silent in
+      map-append (hear_all more) boxes removed ∙ ap (λ (l : List Told). map (hear_all more) boxes ++ l) silent in
       record {
         refused = tally.refused;
         waiting = tally.waiting;

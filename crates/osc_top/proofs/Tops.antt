@@ -46,16 +46,22 @@ module _ (script : List ℕ) (lines : List Line) where
       → EndsLines output status have lines held after faults now → EndsRun output status have script held after faults now
   lines_end output status have held after faults now is ends = record {
     known = among ends.known;
-    done = λ zero_is. let done = ends.done zero_is in
-        (ok_and (λ (l : List Line). (count_adds l ≤ have) × IsLegalRun l × IsUnstopped l × Gains held after (run_output output l)) is
-        (done.0, done.1, done.2, done.3), done.4);
+    done = λ zero_is. let done = ends.done zero_is in (
+      ok_and (λ (l : List Line). (count_adds l ≤ have) × IsLegalRun l × IsUnstopped l × Gains held after (run_output output l)) is
+          (done.0, done.1, done.2, done.3),
+      done.4,
+    );
     refused = λ one_is. not_one ends.known one_is;
-    cut_short = λ five_is. let short = ends.cut_short five_is in
-        (ok_and (λ (l : List Line). (count_adds l ≤ have) × IsLegalRun l × GainsFront held after (run_output output l)) is
-        (short.0, short.1, short.2), short.3);
-    full = λ six_is. let full = ends.full six_is in
-        (ok_and (λ (l : List Line). (count_adds l ≤ have) × IsLegalRun l × IsSome (plain default_caps l).stop × Gains held after (run_output output l)) is
-        (full.0, full.1, full.2, full.3), full.4);
+    cut_short = λ five_is. let short = ends.cut_short five_is in (
+      ok_and (λ (l : List Line). (count_adds l ≤ have) × IsLegalRun l × GainsFront held after (run_output output l)) is
+          (short.0, short.1, short.2),
+      short.3,
+    );
+    full = λ six_is. let full = ends.full six_is in (
+      ok_and (λ (l : List Line). (count_adds l ≤ have) × IsLegalRun l × IsSome (plain default_caps l).stop × Gains held after (run_output output l)) is
+          (full.0, full.1, full.2, full.3),
+      full.4,
+    );
     bank_short =
         λ eight_is. ok_and (λ (l : List Line). (have < count_adds l) × GainsUnless held after faults now (bank_short_text (count_adds l) have)) is
         (ends.bank_short eight_is);

@@ -18,7 +18,7 @@ pub gains_more : (held mid after : Option (List ℕ)) (bytes : List ℕ) (at cou
 gains_more None mid after bytes at count so adds = tt
 gains_more (Some before) mid after bytes at count so adds =
     let added : AddsToEnd (Some (before ++ take at bytes)) after (Took count) (drop at bytes) =
-        subst (λ m. AddsToEnd m after (Took count) (drop at bytes)) so adds in
+    subst (λ m. AddsToEnd m after (Took count) (drop at bytes)) so adds in
     added ∙ ap Some (append_assoc before (take at bytes) (take count (drop at bytes)) ∙ ap (λ l. before ++ l) (sym (take-add at count bytes)))
 
 -- a call that takes nothing leaves a front

@@ -28,8 +28,11 @@ add_answers (entry ∷ entries) = answer_to_add entry.event entry.answer ++ add_
 -- a box that is added, with what a method of its id has heard of these invocations, where it tells
 abbrev pub box_heard : List Invocation → Answer → Meaning → List Told
 box_heard calls (added id) box =
-    record { id = id; keep = box.keep;
-    heard = option_map (λ _. heard_of calls id box.keep) box.heard } ∷ []
+    record {
+      id = id;
+      keep = box.keep;
+      heard = option_map (λ _. heard_of calls id box.keep) box.heard;
+    } ∷ []
 box_heard calls _ box = []
 
 -- the boxes that are added, in the order of their ids

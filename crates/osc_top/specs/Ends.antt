@@ -1,4 +1,5 @@
 -- How a program ends, and what it has written then.
+use Rattle.osc_top.specs.declared.status.TheConstants.{BANK_SHORT, DONE, NO_MEMORY, RECORDING_FULL, REFUSED, SINK_FAILED, SOURCE_FAILED, USAGE}
 use Rattle.std.specs.Prelude.{◌≡◌, ◌⊎◌, ℕ, ◌+◌, ◌≤◌, ◌<◌, List, ◌++◌, length, take, drop, Option, Some, None, IfSome, IsSome, IsOkAnd, IsErrAnd}
 use Rattle.osc_edge.specs.Faults.{Rose}
 use Rattle.osc_model.specs.Limits.{Limits, max_recording}
@@ -18,6 +19,15 @@ use Rattle.osc_top.specs.declared.command.Command.{Command}
 use Rattle.osc_top.specs.declared.command.Command.TheVariants.{Run, Replay}
 use Rattle.osc_top.specs.Plain.{default_caps, plain, count_adds}
 use Rattle.osc_top.specs.Printing.{printed_faults, printed_run, refusal_text, malformed_text, disagrees_text, bank_short_text}
+
+-- a script was played, and recorded
+abbrev pub IsPlayed : ℕ → Type 0
+IsPlayed status = (status ≡ DONE) ⊎ (status ≡ SINK_FAILED) ⊎ (status ≡ RECORDING_FULL)
+
+-- nothing was played: what came in is refused, or there are too few boxes
+abbrev pub IsUnplayed : ℕ → Type 0
+IsUnplayed status = (status ≡ REFUSED) ⊎ (status ≡ USAGE) ⊎ (status ≡ SOURCE_FAILED)
+    ⊎ (status ≡ BANK_SHORT)
 
 -- what is held is told, and has gained this text
 abbrev pub Gains : Option (List ℕ) → Option (List ℕ) → List ℕ → Type 0
@@ -69,15 +79,16 @@ run_output Recording lines = record_text default_caps (plain default_caps lines)
 -- (3) promises nothing.
 pub record EndsLines (output : Output) (status have : ℕ) (lines : List Line)
     (held after : Option (List ℕ)) (faults now : ℕ) : Type 0 where
-  pub known : (status ≡ 0) ⊎ (status ≡ 3) ⊎ (status ≡ 5) ⊎ (status ≡ 6) ⊎ (status ≡ 8)
-  pub done : status ≡ 0 → (count_adds lines ≤ have) × IsLegalRun lines × IsUnstopped lines
+  pub known : (status ≡ DONE) ⊎ (status ≡ NO_MEMORY) ⊎ (status ≡ SINK_FAILED)
+      ⊎ (status ≡ RECORDING_FULL) ⊎ (status ≡ BANK_SHORT)
+  pub done : status ≡ DONE → (count_adds lines ≤ have) × IsLegalRun lines × IsUnstopped lines
       × Gains held after (run_output output lines) × (now ≡ faults)
-  pub cut_short : status ≡ 5 → (count_adds lines ≤ have) × IsLegalRun lines
+  pub cut_short : status ≡ SINK_FAILED → (count_adds lines ≤ have) × IsLegalRun lines
       × GainsFront held after (run_output output lines) × Rose faults now
-  pub full : status ≡ 6 → (count_adds lines ≤ have) × IsLegalRun lines
+  pub full : status ≡ RECORDING_FULL → (count_adds lines ≤ have) × IsLegalRun lines
       × IsSome (plain default_caps lines).stop × Gains held after (run_output output lines)
       × (now ≡ faults)
-  pub bank_short : status ≡ 8 → (have < count_adds lines)
+  pub bank_short : status ≡ BANK_SHORT → (have < count_adds lines)
       × GainsUnless held after faults now (bank_short_text (count_adds lines) have)
 
 -- The end of a run of a script, by its status: refused (1), where it has a first fault, and the
@@ -85,25 +96,26 @@ pub record EndsLines (output : Output) (status have : ℕ) (lines : List Line)
 -- gained; else the script is lawful, and the end is that of a run of its lines.
 pub record EndsRun (output : Output) (status have : ℕ) (script : List ℕ)
     (held after : Option (List ℕ)) (faults now : ℕ) : Type 0 where
-  pub known : (status ≡ 0) ⊎ (status ≡ 1) ⊎ (status ≡ 3) ⊎ (status ≡ 5) ⊎ (status ≡ 6)
-      ⊎ (status ≡ 8)
-  pub done : status ≡ 0
+  pub known : (status ≡ DONE) ⊎ (status ≡ REFUSED) ⊎ (status ≡ NO_MEMORY) ⊎ (status ≡ SINK_FAILED)
+      ⊎ (status ≡ RECORDING_FULL)
+      ⊎ (status ≡ BANK_SHORT)
+  pub done : status ≡ DONE
       → IsOkAnd (script_of Plain script)
       (λ lines. (count_adds lines ≤ have) × IsLegalRun lines × IsUnstopped lines
       × Gains held after (run_output output lines)) × (now ≡ faults)
-  pub refused : status ≡ 1
+  pub refused : status ≡ REFUSED
       → IsErrAnd (script_of Plain script)
       (λ fault. GainsUnless held after faults now (refusal_text fault))
-  pub cut_short : status ≡ 5
+  pub cut_short : status ≡ SINK_FAILED
       → IsOkAnd (script_of Plain script)
       (λ lines. (count_adds lines ≤ have) × IsLegalRun lines
       × GainsFront held after (run_output output lines)) × Rose faults now
-  pub full : status ≡ 6
+  pub full : status ≡ RECORDING_FULL
       → IsOkAnd (script_of Plain script)
       (λ lines. (count_adds lines ≤ have) × IsLegalRun lines
       × IsSome (plain default_caps lines).stop × Gains held after (run_output output lines))
       × (now ≡ faults)
-  pub bank_short : status ≡ 8
+  pub bank_short : status ≡ BANK_SHORT
       → IsOkAnd (script_of Plain script)
       (λ lines. (have < count_adds lines)
       × GainsUnless held after faults now (bank_short_text (count_adds lines) have))
@@ -115,9 +127,9 @@ abbrev pub RefusesRecording : List ℕ → List ℕ → Type 0
 RefusesRecording bytes lines =
     ((max_recording < length bytes) × (lines ≡ malformed_text max_recording))
     ⊎ ((at : ℕ) × (length bytes ≤ max_recording) × IsUnformedAt bytes at
-        × (lines ≡ malformed_text at))
+    × (lines ≡ malformed_text at))
     ⊎ ((entry : ℕ) × (kept : List ℕ) × (computed : List ℕ) × DisagreesAt bytes entry kept computed
-        × (lines ≡ disagrees_text entry kept computed))
+    × (lines ≡ disagrees_text entry kept computed))
 
 -- the bytes are the recording of a history that the server's rules give, and this is its printed
 -- text
@@ -141,13 +153,13 @@ pub record RecordsTheLaws (bytes : List ℕ) : Type 0 where
 -- failed, and a front of the printed text was gained. Want of memory (3) promises nothing.
 pub record EndsReplay (status : ℕ) (bytes : List ℕ) (held after : Option (List ℕ))
     (faults now : ℕ) : Type 0 where
-  pub known : (status ≡ 0) ⊎ (status ≡ 1) ⊎ (status ≡ 3) ⊎ (status ≡ 5)
-  pub done : status ≡ 0
+  pub known : (status ≡ DONE) ⊎ (status ≡ REFUSED) ⊎ (status ≡ NO_MEMORY) ⊎ (status ≡ SINK_FAILED)
+  pub done : status ≡ DONE
       → ((printed_text : List ℕ) × ReplaysTo bytes printed_text × Gains held after printed_text)
       × (now ≡ faults)
-  pub refused : status ≡ 1 → (lines : List ℕ) × RefusesRecording bytes lines
+  pub refused : status ≡ REFUSED → (lines : List ℕ) × RefusesRecording bytes lines
       × GainsUnless held after faults now lines
-  pub cut_short : status ≡ 5
+  pub cut_short : status ≡ SINK_FAILED
       → ((printed_text : List ℕ) × ReplaysTo bytes printed_text
       × GainsFront held after printed_text) × Rose faults now
 
@@ -170,23 +182,25 @@ pub record IsRunOf (bytes faults : List ℕ) (stop : Option Room) (lines : List 
 -- failed.
 pub record EndsPlayed (output : Output) (status : ℕ) (lines : List Line)
     (held after : Option (List ℕ)) (faults now : ℕ) : Type 0 where
-  pub known : (status ≡ 0) ⊎ (status ≡ 3) ⊎ (status ≡ 5) ⊎ (status ≡ 6)
-  pub done : status ≡ 0 → IsUnstopped lines × Gains held after (run_output output lines)
+  pub known : (status ≡ DONE) ⊎ (status ≡ NO_MEMORY) ⊎ (status ≡ SINK_FAILED)
+      ⊎ (status ≡ RECORDING_FULL)
+  pub done : status ≡ DONE → IsUnstopped lines × Gains held after (run_output output lines)
       × (now ≡ faults)
-  pub cut_short : status ≡ 5 → GainsFront held after (run_output output lines) × Rose faults now
-  pub full : status ≡ 6 → IsSome (plain default_caps lines).stop
+  pub cut_short : status ≡ SINK_FAILED
+      → GainsFront held after (run_output output lines) × Rose faults now
+  pub full : status ≡ RECORDING_FULL → IsSome (plain default_caps lines).stop
       × Gains held after (run_output output lines) × (now ≡ faults)
 
 -- a text that was made before is written, or a front of it; the status is the decided one where all
 -- of it is
 pub record EndsText (decided status : ℕ) (text : List ℕ) (held after : Option (List ℕ))
     (faults now : ℕ) : Type 0 where
-  pub known : (status ≡ decided) ⊎ (status ≡ 3) ⊎ (status ≡ 5)
+  pub known : (status ≡ decided) ⊎ (status ≡ NO_MEMORY) ⊎ (status ≡ SINK_FAILED)
   pub done : status ≡ decided → Gains held after text × (now ≡ faults)
-  pub cut_short : status ≡ 5 → GainsFront held after text × Rose faults now
+  pub cut_short : status ≡ SINK_FAILED → GainsFront held after text × Rose faults now
 
 -- a last line of a status that is decided
 pub record EndsLine (decided status : ℕ) (text : List ℕ) (held after : Option (List ℕ))
     (faults now : ℕ) : Type 0 where
-  pub known : (status ≡ decided) ⊎ (status ≡ 3)
+  pub known : (status ≡ decided) ⊎ (status ≡ NO_MEMORY)
   pub written : status ≡ decided → GainsUnless held after faults now text

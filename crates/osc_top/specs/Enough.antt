@@ -41,5 +41,5 @@ act_messages _ = 0
 abbrev pub enough : List Line → ℕ
 enough lines =
     header_size + 28 + sum_by (λ line. act_size line.act) lines
-        + 44 * sum_by (λ line. act_units line.act) lines
+    + 44 * sum_by (λ line. act_units line.act) lines
     + 8 * (sum_by (λ line. act_messages line.act) lines * count_adds lines)

@@ -5,7 +5,6 @@ pub mod Bank
 pub mod Commands
 pub mod Ends
 pub mod Enough
-
 -- Inside the crate.
 pub mod Tally
 pub mod Whole

@@ -30,7 +30,7 @@ module _ {M : Type 0} {G : Ghosts M} (keep : M → ℕ) (heard : M → Option (L
   TalliesOn stop before after =
       (bank : List M) → HasTallied bank before
       → IsAtUnless stop (λ box. record { keep = keep box; heard = heard box }) bank
-          after.core.performance
+      after.core.performance
       (told keep heard after.core.boxes.items) (told keep heard after.removed.items)
       after.left.items (into_iter_items after.bank)
 

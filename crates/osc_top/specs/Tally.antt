@@ -64,7 +64,7 @@ abbrev pub IsAt : {X : Type 0} → (X → Meaning) → List X → Performance �
     → List X → List X → Type 0
 IsAt meaning bank performance boxes removed left rest =
     Tally meaning (invoked_in performance) (add_answers performance.history) bank
-        (state_of performance).next_id boxes removed left rest
+    (state_of performance).next_id boxes removed left rest
 
 -- The same where the last add may have no entry: the box that it was given is among the others.
 pub record IsOver {X : Type 0} (meaning : X → Meaning) (bank : List X) (performance : Performance)

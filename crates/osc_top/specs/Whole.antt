@@ -33,11 +33,11 @@ abbrev pub HasTurned : Turn → ℕ → Option (List ℕ) → Option (List ℕ) 
     → Type 0
 HasTurned More most left after faults now old new =
     (length old < length new) × (length new ≤ most + 1) × (now ≡ faults)
-        × ((start : Option (List ℕ)) → ReadSoFar start left old → ReadSoFar start after new)
+    × ((start : Option (List ℕ)) → ReadSoFar start left old → ReadSoFar start after new)
 HasTurned End most left after faults now old new =
     (new ≡ old) × (now ≡ faults)
-        × ((start : Option (List ℕ)) → ReadSoFar start left old
-        → IfSome start (λ all. (old ≡ all) × (after ≡ Some [])))
+    × ((start : Option (List ℕ)) → ReadSoFar start left old
+    → IfSome start (λ all. (old ≡ all) × (after ≡ Some [])))
 HasTurned TurnFailed most left after faults now old new = Rose faults now
 HasTurned TurnNoMemory most left after faults now old new = Unit {0}
 

@@ -90,7 +90,8 @@ impl<M: Method> Player<M> {
         ensures faults { IfOk result (λ played. played.recorded.faults ≡ self.faults) }
         ensures stop { IfOk result (λ played. played.recorded.stop ≡ stop) }
         ensures boxes { IfOk result (λ played. (bank : List M) → IsDone M.keep M.heard bank self →
-            AreParted M.keep M.heard self.core.performance bank played.heard.items played.left.items) }
+            AreParted M.keep M.heard self.core.performance bank played.heard.items
+            played.left.items) }
     {
         let Player {
             core,

@@ -1,19 +1,25 @@
 // The exit statuses of the programs (docs/FORMATS.md, "Programs").
 
-pub(crate) const DONE: u8 = 0;
+/// All was done.
+pub const DONE: u8 = 0;
 
 /// The script or the recording is refused.
-pub(crate) const REFUSED: u8 = 1;
+pub const REFUSED: u8 = 1;
 
-pub(crate) const USAGE: u8 = 2;
+/// The words are no command.
+pub const USAGE: u8 = 2;
 
-pub(crate) const NO_MEMORY: u8 = 3;
+/// There was no memory.
+pub const NO_MEMORY: u8 = 3;
 
-pub(crate) const SOURCE_FAILED: u8 = 4;
+/// The input couldn't be read.
+pub const SOURCE_FAILED: u8 = 4;
 
-pub(crate) const SINK_FAILED: u8 = 5;
+/// The output couldn't be written.
+pub const SINK_FAILED: u8 = 5;
 
 /// There was no room for an entry in the recording.
-pub(crate) const RECORDING_FULL: u8 = 6;
+pub const RECORDING_FULL: u8 = 6;
 
-pub(crate) const BANK_SHORT: u8 = 8;
+/// The script has more adds than there are boxes.
+pub const BANK_SHORT: u8 = 8;

@@ -1,4 +1,5 @@
 // The top call.
+ghost use Rattle.osc_top.specs.declared.status.TheConstants.{BANK_SHORT, DONE, NO_MEMORY, RECORDING_FULL, REFUSED, SINK_FAILED, SOURCE_FAILED, USAGE};
 ghost use Rattle.std.specs.Prelude.{◌≡◌, ◌≢◌, ◌⊎◌, ◌≤◌, ◌<◌, ℕ, IsTrue, List, IsOkAnd, IfSome, Some, Ok, [], None, length, map, string_bytes};
 ghost use Rattle.osc_edge.specs.Faults.{Rose};
 ghost use Rattle.osc_model.specs.Limits.{Limits};
@@ -15,7 +16,7 @@ ghost use Rattle.osc_top.specs.Plain.{is_add};
 ghost use Rattle.osc_top.specs.Bank.{IsAccounted};
 ghost use Rattle.osc_top.specs.Printing.{usage_text};
 ghost use Rattle.osc_top.specs.Commands as commands;
-ghost use Rattle.osc_top.specs.Ends.{GainsUnless, IsUnstopped, RunsByTheLaws, RecordsTheLaws, EndsRun, EndsLines, EndsReplay, EndsCommand, left_behind};
+ghost use Rattle.osc_top.specs.Ends.{GainsUnless, IsUnstopped, RunsByTheLaws, RecordsTheLaws, EndsRun, EndsLines, EndsReplay, EndsCommand, left_behind, IsPlayed, IsUnplayed};
 
 use crate::command::{Command, Output, command_of};
 use crate::playing::{Played, play};
@@ -55,63 +56,70 @@ pub fn plain_top<S: Source, O: Sink>(
     out: &mut O,
     bank: Vec<Box<dyn Method + Send>>,
 ) -> Ended
-    ensures known { (result.status ≤ 6) ⊎ (result.status ≡ 8) }
+    ensures known { (result.status ≤ RECORDING_FULL) ⊎ (result.status ≡ BANK_SHORT) }
 
     // Words that are no command are answered first, by a line on usage, and nothing is read then.
-    ensures usage { result.status ≡ 2 → commands.command_of (map string_bytes words.now) ≡ None }
+    ensures usage { result.status ≡ USAGE
+        → commands.command_of (map string_bytes words.now) ≡ None }
     ensures no_command { commands.command_of (map string_bytes words.now) ≡ None
-        → (result.status ≡ 2) ⊎ (result.status ≡ 3) }
+        → (result.status ≡ USAGE) ⊎ (result.status ≡ NO_MEMORY) }
     ensures unread { commands.command_of (map string_bytes words.now) ≡ None
         → input.new ≡ input.old }
-    ensures usage_text { result.status ≡ 2 →
-        GainsUnless (O.held out.old) (O.held out.new) (O.faults out.old) (O.faults out.new) usage_text }
+    ensures usage_text { result.status ≡ USAGE →
+        GainsUnless (O.held out.old) (O.held out.new) (O.faults out.old)
+        (O.faults out.new) usage_text }
 
     // Then a source that failed, of which nothing is written. Any other answer but want of memory means that the
     // source didn't fail, and that it was read to its end, or to the first byte that is too many.
-    ensures source { result.status ≡ 4 → Rose (S.faults input.old) (S.faults input.new) }
-    ensures unwritten { result.status ≡ 4 → out.new ≡ out.old }
-    ensures sound { result.status ≢ 3 → result.status ≢ 4
+    ensures source { result.status ≡ SOURCE_FAILED
+        → Rose (S.faults input.old) (S.faults input.new) }
+    ensures unwritten { result.status ≡ SOURCE_FAILED → out.new ≡ out.old }
+    ensures sound { result.status ≢ NO_MEMORY → result.status ≢ SOURCE_FAILED
         → S.faults input.new ≡ S.faults input.old }
     ensures read { IfSome (commands.command_of (map string_bytes words.now))
-        (λ command. IfSome (S.left input.old) (λ all. result.status ≢ 3 → result.status ≢ 4 →
+        (λ command. IfSome (S.left input.old)
+        (λ all. result.status ≢ NO_MEMORY → result.status ≢ SOURCE_FAILED →
         S.left input.new ≡ Some (left_behind (commands.most_bytes command) all))) }
 
     // Then a script or a recording that is refused, or a script that adds more methods than there are boxes, or what the
     // command writes, with a sink that took all of it or failed.
     ensures command { IfSome (commands.command_of (map string_bytes words.now))
-        (λ command. IfSome (S.left input.old) (λ all. result.status ≢ 4 →
-        EndsCommand command result.status (length bank.items) all (O.held out.old) (O.held out.new) (O.faults out.old) (O.faults out.new))) }
-    ensures sink { result.status ≡ 5 → Rose (O.faults out.old) (O.faults out.new) }
+        (λ command. IfSome (S.left input.old) (λ all. result.status ≢ SOURCE_FAILED →
+        EndsCommand command result.status (length bank.items) all (O.held out.old) (O.held out.new)
+        (O.faults out.old) (O.faults out.new))) }
+    ensures sink { result.status ≡ SINK_FAILED → Rose (O.faults out.old) (O.faults out.new) }
 
     // Done means that nothing failed and that the input was read to its end.
-    ensures steady { result.status ≡ 0 → O.faults out.new ≡ O.faults out.old }
-    ensures ended { result.status ≡ 0
+    ensures steady { result.status ≡ DONE → O.faults out.new ≡ O.faults out.old }
+    ensures ended { result.status ≡ DONE
         → IfSome (S.left input.old) (λ all. S.left input.new ≡ Some []) }
 
     // Each box that was added has heard what the history says, and each other one comes back as it was; where nothing was
     // played, all of them.
     ensures accounted { (output : Output)
         → commands.command_of (map string_bytes words.now) ≡ Some (Run output)
-        → (result.status ≡ 0) ⊎ (result.status ≡ 5) ⊎ (result.status ≡ 6) → (lines : List Line) ×
+        → IsPlayed result.status → (lines : List Line) ×
         IfSome (S.left input.old) (λ script. script_of Plain script ≡ Ok lines) ×
-        IsAccounted lines (map (λ one. record { id = one.0; keep = keep one.1; heard = heard one.1 }) result.heard.items) result.left.items (map (λ box. record { keep = keep box; heard = heard box }) bank.items) bank.items }
+        IsAccounted lines
+        (map (λ one. record { id = one.0; keep = keep one.1; heard = heard one.1 })
+        result.heard.items) result.left.items
+        (map (λ box. record { keep = keep box; heard = heard box }) bank.items) bank.items }
     ensures ascending { IsTrue (is_ascending (map (λ one. one.0) result.heard.items)) }
-    ensures none_heard { (result.status ≡ 1) ⊎ (result.status ≡ 2) ⊎ (result.status ≡ 4)
-        ⊎ (result.status ≡ 8) → result.heard.items ≡ [] }
-    ensures all_left { (result.status ≡ 1) ⊎ (result.status ≡ 2) ⊎ (result.status ≡ 4)
-        ⊎ (result.status ≡ 8) → result.left.items ≡ bank.items }
+    ensures none_heard { IsUnplayed result.status → result.heard.items ≡ [] }
+    ensures all_left { IsUnplayed result.status → result.left.items ≡ bank.items }
     ensures replay_hears_none { commands.command_of (map string_bytes words.now) ≡ Some Replay
-        → result.status ≢ 3 → result.heard.items ≡ [] }
+        → result.status ≢ NO_MEMORY → result.heard.items ≡ [] }
     ensures replay_leaves_all { commands.command_of (map string_bytes words.now) ≡ Some Replay
-        → result.status ≢ 3 → result.left.items ≡ bank.items }
+        → result.status ≢ NO_MEMORY → result.left.items ≡ bank.items }
 
     // The history of each run and of each recording that is replayed keeps the four laws.
     ensures laws { (output : Output)
         → commands.command_of (map string_bytes words.now) ≡ Some (Run output)
-        → (result.status ≡ 0) ⊎ (result.status ≡ 5) ⊎ (result.status ≡ 6) → (lines : List Line) ×
-        IfSome (S.left input.old) (λ script. script_of Plain script ≡ Ok lines) × RunsByTheLaws lines }
+        → IsPlayed result.status → (lines : List Line) ×
+        IfSome (S.left input.old) (λ script. script_of Plain script ≡ Ok lines)
+        × RunsByTheLaws lines }
     ensures replay_laws { commands.command_of (map string_bytes words.now) ≡ Some Replay
-        → result.status ≡ 0 →
+        → result.status ≡ DONE →
         IfSome (S.left input.old) (λ recording. RecordsTheLaws recording) }
 
     // A lawful script with enough boxes and room for its recording is played, and the recording of each history that the
@@ -119,14 +127,17 @@ pub fn plain_top<S: Source, O: Sink>(
     ensures complete { (output : Output)
         → commands.command_of (map string_bytes words.now) ≡ Some (Run output)
         → IfSome (S.left input.old) (λ script.
-        IsOkAnd (script_of Plain script) (λ lines. (scripts.count_adds lines ≤ length bank.items) × IsUnstopped lines) →
-        ¬ Rose (S.faults input.old) (S.faults input.new) → ¬ Rose (O.faults out.old) (O.faults out.new) →
-        (result.status ≡ 0) ⊎ (result.status ≡ 3)) }
+        IsOkAnd (script_of Plain script)
+        (λ lines. (scripts.count_adds lines ≤ length bank.items) × IsUnstopped lines) →
+        ¬ Rose (S.faults input.old) (S.faults input.new)
+        → ¬ Rose (O.faults out.old) (O.faults out.new) →
+        (result.status ≡ DONE) ⊎ (result.status ≡ NO_MEMORY)) }
     ensures replayed { commands.command_of (map string_bytes words.now) ≡ Some Replay
         → IfSome (S.left input.old) (λ recording.
         (caps : Limits) (history : List Entry) → IsRecordingOf recording caps history →
-        ¬ Rose (S.faults input.old) (S.faults input.new) → ¬ Rose (O.faults out.old) (O.faults out.new) →
-        (result.status ≡ 0) ⊎ (result.status ≡ 3)) }
+        ¬ Rose (S.faults input.old) (S.faults input.new)
+        → ¬ Rose (O.faults out.old) (O.faults out.new) →
+        (result.status ≡ DONE) ⊎ (result.status ≡ NO_MEMORY)) }
 {
     let Some(command) = command_of(words) else {
         return unplayed(alloc, last_line(USAGE, b"usage\n", out), bank);
@@ -196,7 +207,7 @@ fn perform<O: Sink>(
     ensures ends { EndsCommand command result.status (length bank.items) bytes.items
         (O.held out.old) (O.held out.new) (O.faults out.old) (O.faults out.new) }
     ensures accounted { (output : Output) → command ≡ Run output
-        → (result.status ≡ 0) ⊎ (result.status ≡ 5) ⊎ (result.status ≡ 6)
+        → IsPlayed result.status
         → (lines : List Line) × (script_of Plain bytes.items ≡ Ok lines)
         × IsAccounted lines
         (map (λ one. record { id = one.0; keep = keep one.1; heard = heard one.1 })
@@ -204,17 +215,19 @@ fn perform<O: Sink>(
         (map (λ box. record { keep = keep box; heard = heard box }) bank.items) bank.items }
     ensures ascending { IsTrue (is_ascending (map (λ one. one.0) result.heard.items)) }
     ensures laws { (output : Output) → command ≡ Run output
-        → (result.status ≡ 0) ⊎ (result.status ≡ 5) ⊎ (result.status ≡ 6) →
+        → IsPlayed result.status →
         (lines : List Line) × (script_of Plain bytes.items ≡ Ok lines) × RunsByTheLaws lines }
-    ensures replay_laws { command ≡ Replay → result.status ≡ 0 → RecordsTheLaws bytes.items }
-    ensures none_heard { (result.status ≡ 1) ⊎ (result.status ≡ 8) → result.heard.items ≡ [] }
-    ensures all_left { (result.status ≡ 1) ⊎ (result.status ≡ 8) → result.left.items ≡ bank.items }
+    ensures replay_laws { command ≡ Replay → result.status ≡ DONE → RecordsTheLaws bytes.items }
+    ensures none_heard { (result.status ≡ REFUSED) ⊎ (result.status ≡ BANK_SHORT)
+        → result.heard.items ≡ [] }
+    ensures all_left { (result.status ≡ REFUSED) ⊎ (result.status ≡ BANK_SHORT)
+        → result.left.items ≡ bank.items }
     ensures replay_hears_none { command ≡ Replay → result.heard.items ≡ [] }
     ensures replay_leaves_all { command ≡ Replay → result.left.items ≡ bank.items }
     ensures replayed { command ≡ Replay → (caps : Limits) (history : List Entry)
         → IsRecordingOf bytes.items caps history
-        → (result.status ≡ 0) ⊎ (result.status ≡ 3) ⊎ (result.status ≡ 5) }
-    ensures sink { result.status ≡ 5 → Rose (O.faults out.old) (O.faults out.new) }
+        → (result.status ≡ DONE) ⊎ (result.status ≡ NO_MEMORY) ⊎ (result.status ≡ SINK_FAILED) }
+    ensures sink { result.status ≡ SINK_FAILED → Rose (O.faults out.old) (O.faults out.new) }
 {
     match command {
         Command::Run(output) => run(alloc, output, bytes, out, bank),
@@ -232,17 +245,19 @@ fn run<O: Sink>(
 ) -> Ended
     ensures ends { EndsRun output result.status (length bank.items) bytes.items (O.held out.old)
         (O.held out.new) (O.faults out.old) (O.faults out.new) }
-    ensures accounted { (result.status ≡ 0) ⊎ (result.status ≡ 5) ⊎ (result.status ≡ 6)
+    ensures accounted { IsPlayed result.status
         → (lines : List Line) × (script_of Plain bytes.items ≡ Ok lines)
         × IsAccounted lines
         (map (λ one. record { id = one.0; keep = keep one.1; heard = heard one.1 })
         result.heard.items) result.left.items
         (map (λ box. record { keep = keep box; heard = heard box }) bank.items) bank.items }
     ensures ascending { IsTrue (is_ascending (map (λ one. one.0) result.heard.items)) }
-    ensures laws { (result.status ≡ 0) ⊎ (result.status ≡ 5) ⊎ (result.status ≡ 6) →
+    ensures laws { IsPlayed result.status →
         (lines : List Line) × (script_of Plain bytes.items ≡ Ok lines) × RunsByTheLaws lines }
-    ensures none_heard { (result.status ≡ 1) ⊎ (result.status ≡ 8) → result.heard.items ≡ [] }
-    ensures all_left { (result.status ≡ 1) ⊎ (result.status ≡ 8) → result.left.items ≡ bank.items }
+    ensures none_heard { (result.status ≡ REFUSED) ⊎ (result.status ≡ BANK_SHORT)
+        → result.heard.items ≡ [] }
+    ensures all_left { (result.status ≡ REFUSED) ⊎ (result.status ≡ BANK_SHORT)
+        → result.left.items ≡ bank.items }
 {
     let read = Script::read(alloc, &bytes, Mode::Plain);
     drop(bytes);
@@ -262,16 +277,16 @@ fn run_lines<O: Sink>(
 ) -> Ended
     ensures ends { EndsLines output result.status (length bank.items) lines.items (O.held out.old)
         (O.held out.new) (O.faults out.old) (O.faults out.new) }
-    ensures accounted { (result.status ≡ 0) ⊎ (result.status ≡ 5) ⊎ (result.status ≡ 6)
+    ensures accounted { IsPlayed result.status
         → IsAccounted lines.items
         (map (λ one. record { id = one.0; keep = keep one.1; heard = heard one.1 })
         result.heard.items) result.left.items
         (map (λ box. record { keep = keep box; heard = heard box }) bank.items) bank.items }
     ensures ascending { IsTrue (is_ascending (map (λ one. one.0) result.heard.items)) }
-    ensures laws { (result.status ≡ 0) ⊎ (result.status ≡ 5) ⊎ (result.status ≡ 6)
+    ensures laws { IsPlayed result.status
         → RunsByTheLaws lines.items }
-    ensures none_heard { result.status ≡ 8 → result.heard.items ≡ [] }
-    ensures all_left { result.status ≡ 8 → result.left.items ≡ bank.items }
+    ensures none_heard { result.status ≡ BANK_SHORT → result.heard.items ≡ [] }
+    ensures all_left { result.status ≡ BANK_SHORT → result.left.items ≡ bank.items }
 {
     let need = count_adds(&lines);
     if bank.len() < need {

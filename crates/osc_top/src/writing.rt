@@ -1,4 +1,5 @@
 // Writes what the commands print.
+ghost use Rattle.osc_top.specs.declared.status.TheConstants.{DONE, NO_MEMORY, RECORDING_FULL};
 ghost use Rattle.std.specs.Prelude.{◌≡◌, ◌≢◌, ◌⊎◌, ◌≤◌, List, length, IfOk};
 ghost use Rattle.std.specs.Option.{option_map};
 ghost use Rattle.osc_model.specs.Limits.{Limits, max_recording};
@@ -37,7 +38,8 @@ pub(crate) fn write_recorded<O: Sink>(
     ensures { (lines : List Line)
         → IsRunOf recorded.now.bytes.items recorded.now.faults
         (option_map room_of recorded.now.stop) lines →
-        EndsPlayed output result lines (O.held out.old) (O.held out.new) (O.faults out.old) (O.faults out.new) }
+        EndsPlayed output result lines (O.held out.old) (O.held out.new) (O.faults out.old)
+        (O.faults out.new) }
 {
     let status = match recorded.stop {
         Some(_) => RECORDING_FULL,
@@ -102,7 +104,7 @@ pub(crate) fn write_replay<O: Sink>(alloc: Global, bytes: &[u8], out: &mut O) ->
 
 /// Writes a text that is done.
 fn write_text<O: Sink>(status: u8, text: &[u8], out: &mut O) -> u8
-    requires { (status ≡ 0) ⊎ (status ≡ 6) }
+    requires { (status ≡ DONE) ⊎ (status ≡ RECORDING_FULL) }
     ensures { EndsText status result text.now (O.held out.old) (O.held out.new) (O.faults out.old)
         (O.faults out.new) }
 {
@@ -169,7 +171,7 @@ pub(crate) fn bank_short<O: Sink>(alloc: Global, need: usize, have: usize, out: 
 
 /// A last line that can't be written changes no status, but for want of memory.
 pub(crate) fn last_line<O: Sink>(status: u8, line: &[u8], out: &mut O) -> u8
-    requires { status ≢ 3 }
+    requires { status ≢ NO_MEMORY }
     ensures { EndsLine status result line.now (O.held out.old) (O.held out.new) (O.faults out.old)
         (O.faults out.new) }
 {

@@ -16,6 +16,7 @@ use atomic_table::Seat;
 // The most passes that a turn makes.
 const MOST_PASSES: u32 = 65_536;
 
+/// Why no guest is made.
 #[derive(Clone, Copy, PartialEq, Eq, Debug)]
 pub enum GuestRefusal {
     /// As many passes were made as a turn makes, the first one among them.

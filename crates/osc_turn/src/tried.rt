@@ -1,5 +1,6 @@
 //! What a call answers that does not wait for the turn.
 
+/// What a try comes to.
 #[derive(Clone, Copy, PartialEq, Eq, Debug)]
 pub enum Tried {
     /// The job was run, and whether it added an entry.

@@ -3,13 +3,17 @@ use std::collections::LinkedList;
 
 /// One entry of the turn's history, under the number of the pass that made it.
 pub struct Entry {
+    /// The number of the pass.
     pub number: u64,
+    /// What was entered.
     pub text: LinkedList<u64>,
 }
 
 /// What one of two joined views had seen, and its numbers.
 pub struct Past {
+    /// Its numbers.
     pub numbers: LinkedList<u64>,
+    /// What it had seen of the history.
     pub seen: LinkedList<Entry>,
 }
 

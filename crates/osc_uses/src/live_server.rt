@@ -23,11 +23,17 @@ use std::thread::{Threads, join};
 /// What three threads were answered by one server, and what the server left.
 #[derive(Drop)]
 pub struct LiveRun<M> {
+    /// What the first thread was answered for its add.
     pub added: Adding<M>,
+    /// And for its removal.
     pub removed: Removing<M>,
+    /// What the second was answered, or the first fault of its packet.
     pub sent: Result<Submitted, Fault>,
+    /// What the third was answered for its moment.
     pub ticked: Ticking,
+    /// And what it released.
     pub pumped: Pumped,
+    /// The recording and the boxes.
     pub closed: Closed<M>,
 }
 

@@ -18,9 +18,13 @@ use osc_packet::Packet;
 /// What a bundle comes to that waits for its moment: a release before it, and the tick and a release then.
 #[derive(Clone, Copy, Debug, PartialEq, Eq)]
 pub struct TimedRun {
+    /// What the bundle was answered.
     pub submitted: Submitted,
+    /// What a release came to before the tick.
     pub early: Releasing,
+    /// What the tick was answered.
     pub ticked: Ticking,
+    /// What a release came to behind it.
     pub released: Releasing,
 }
 

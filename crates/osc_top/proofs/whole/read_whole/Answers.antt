@@ -3,6 +3,8 @@ use Rattle.osc_top.proofs.Transfers.{read_long}
 use Rattle.osc_top.proofs.whole.read_whole.Goals as goal
 
 pub returns : goal.returns
-returns g c =
-    (read_long c.args.most (g.S.Source.left c.args.input.now) (g.S.Source.left c.loop-input.input) c.loop-input.bytes.items c.loop-input.invariant.read
-        (omega arith) c.loop-input.invariant.within, c.loop-input.invariant.steady)
+returns g c = (
+  read_long c.args.most (g.S.Source.left c.args.input.now) (g.S.Source.left c.loop-input.input) c.loop-input.bytes.items c.loop-input.invariant.read
+      (omega arith) c.loop-input.invariant.within,
+  c.loop-input.invariant.steady,
+)

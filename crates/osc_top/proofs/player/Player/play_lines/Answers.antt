@@ -7,8 +7,10 @@ use Rattle.osc_top.proofs.player.Player.play_lines.Goals as goal
 pub loop-line-init : goal.loop-line-init
 loop-line-init g c =
     let all : into_iter_items c.into_iter-line-iterator.result ≡ c.args.lines.items = search rules in
-    record { run = run_begins c.args.self.now.core.performance c.args.self.now.faults c.args.lines.items _ _ all c.requires.caller c.requires.handed;
-        boxes = λ bank at. at }
+    record {
+      run = run_begins c.args.self.now.core.performance c.args.self.now.faults c.args.lines.items _ _ all c.requires.caller c.requires.handed;
+      boxes = λ bank at. at;
+    }
 
 pub loop-line-preserved : goal.loop-line-preserved
 loop-line-preserved g c =

@@ -8,4 +8,4 @@ returns-clause-boxes g c =
     let done = c.submit.ensures in
     let performance = c.args.self.now.core.performance in
     λ bank at. quiet_unless _ bank performance _ (submit c.args.packet.now) done.performance
-        (submit_quiet (state_of performance) c.args.packet.now) c.stop_of_submitted.result _ _ _ _ _ done.boxes at
+    (submit_quiet (state_of performance) c.args.packet.now) c.stop_of_submitted.result _ _ _ _ _ done.boxes at

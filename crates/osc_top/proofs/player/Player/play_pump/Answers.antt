@@ -14,7 +14,7 @@ pub loop-room-smaller : goal.loop-room-smaller
 loop-room-smaller g c =
     let performance = c.loop-room.self.core.performance in
     (pump_on performance c.release.new.self.performance c.release.ensures.performance
-        (is_taken performance c.in-Released.unit c.in-Released.calls c.in-Released.ensures.answer)).shorter
+    (is_taken performance c.in-Released.unit c.in-Released.calls c.in-Released.ensures.answer)).shorter
 
 pub loop-room-preserved : goal.loop-room-preserved
 loop-room-preserved g c =
@@ -40,8 +40,8 @@ returns-in-NothingDue-clause-stop g c =
     let initial = c.args.self.now.core.performance in
     sym (ap room_in c.in-NothingDue.ensures.answer)
     ∙ ap (λ (s : State). stop_at s release)
-        (state_over performance initial (pump (state_of initial))
-        (not_due performance c.in-NothingDue.next c.in-NothingDue.ensures.answer) c.loop-room.invariant.end)
+    (state_over performance initial (pump (state_of initial))
+    (not_due performance c.in-NothingDue.next c.in-NothingDue.ensures.answer) c.loop-room.invariant.end)
 
 pub returns-in-NothingDue-clause-boxes : goal.returns-in-NothingDue-clause-boxes
 returns-in-NothingDue-clause-boxes g c =
@@ -49,7 +49,7 @@ returns-in-NothingDue-clause-boxes g c =
     let performance = c.loop-room.self.core.performance in
     let law : HearsCalls = record { fresh = c.a_box_hears_its_calls.ensures.fresh; on = c.a_box_hears_its_calls.ensures.on } in
     λ bank at. turn_at _ bank performance _ law (c.invocations_are_of_registered_methods.ensures.step (state_of performance) release) done.performance _ _ _ _ _
-        done.boxes c.loop-room.self.core.heard (c.loop-room.invariant.boxes bank at)
+    done.boxes c.loop-room.self.core.heard (c.loop-room.invariant.boxes bank at)
 
 pub returns-in-RecordFull-clause-stop : goal.returns-in-RecordFull-clause-stop
 returns-in-RecordFull-clause-stop g c =
@@ -57,7 +57,7 @@ returns-in-RecordFull-clause-stop g c =
     let initial = c.args.self.now.core.performance in
     sym (ap room_in c.in-RecordFull.ensures.answer)
     ∙ ap (λ (s : State). stop_at s release)
-        (state_over performance initial (pump (state_of initial)) (no_room performance _ c.in-RecordFull.ensures.answer) c.loop-room.invariant.end)
+    (state_over performance initial (pump (state_of initial)) (no_room performance _ c.in-RecordFull.ensures.answer) c.loop-room.invariant.end)
 
 pub returns-in-RecordFull-clause-boxes : goal.returns-in-RecordFull-clause-boxes
 returns-in-RecordFull-clause-boxes g c =
@@ -65,5 +65,5 @@ returns-in-RecordFull-clause-boxes g c =
     let performance = c.loop-room.self.core.performance in
     let law : HearsCalls = record { fresh = c.a_box_hears_its_calls.ensures.fresh; on = c.a_box_hears_its_calls.ensures.on } in
     λ bank at. at_over _ bank _ _ _ _ _
-        (turn_at _ bank performance _ law (c.invocations_are_of_registered_methods.ensures.step (state_of performance) release) done.performance _ _ _ _ _
-        done.boxes c.loop-room.self.core.heard (c.loop-room.invariant.boxes bank at))
+    (turn_at _ bank performance _ law (c.invocations_are_of_registered_methods.ensures.step (state_of performance) release) done.performance _ _ _ _ _
+    done.boxes c.loop-room.self.core.heard (c.loop-room.invariant.boxes bank at))

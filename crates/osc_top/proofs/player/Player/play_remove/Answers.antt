@@ -5,5 +5,5 @@ pub returns-clause-boxes : goal.returns-clause-boxes
 returns-clause-boxes g c =
     let done = c.remove-removing.ensures in
     λ bank at. at_remove _ bank c.args.self.now.core.performance _ c.args.address.now done.performance c.remove-removing.result
-        c.stop_of_removing-stop.result _ _ c.args.self.now.removed.items c.keep_removed.new.removed.items _ _ done.removed done.others done.boxes
-        c.in_ok-keep_removed.ensures at
+    c.stop_of_removing-stop.result _ _ c.args.self.now.removed.items c.keep_removed.new.removed.items _ _ done.removed done.others done.boxes
+    c.in_ok-keep_removed.ensures at

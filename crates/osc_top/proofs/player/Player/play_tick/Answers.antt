@@ -8,4 +8,4 @@ returns-clause-boxes g c =
     let done = c.tick.ensures in
     let performance = c.args.self.now.core.performance in
     λ bank at. quiet_unless _ bank performance _ (tick c.args.moment) done.performance
-        (tick_quiet (state_of performance) c.args.moment) c.stop_of_ticking.result _ _ _ _ _ done.boxes at
+    (tick_quiet (state_of performance) c.args.moment) c.stop_of_ticking.result _ _ _ _ _ done.boxes at
