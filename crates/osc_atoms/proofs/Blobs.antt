@@ -36,12 +36,12 @@ content_found bytes at content tail fits parts room =
     let count = length content in
     let behind : drop (at + 4) bytes ≡ content ++ tail = after_place bytes at 4 (word count) (content ++ tail) parts refl in
     let inside : is_counted bytes at count ≡ true =
-        and_from _ _ (lt-ltb count (2 ^ 31) fits)
-        (le-leb (count + blob_end count) (length bytes - (at + 4)) (omega (arith, left_is bytes at count (content ++ tail) parts, length-append content tail)))
-        in
+    and_from _ _ (lt-ltb count (2 ^ 31) fits)
+    (le-leb (count + blob_end count) (length bytes - (at + 4)) (omega (arith, left_is bytes at count (content ++ tail) parts, length-append content tail)))
+    in
     counted bytes at count (content ++ tail) parts (omega arith) ∙ cond-true _ _ _ inside
-        ∙ ap (λ (l : List ℕ). and_then (padding_read bytes (at + 4 + count) (blob_end count)) (λ next. Ok (l, next)))
-        (before_place bytes (at + 4) count content tail behind refl)
+    ∙ ap (λ (l : List ℕ). and_then (padding_read bytes (at + 4 + count) (blob_end count)) (λ next. Ok (l, next)))
+    (before_place bytes (at + 4) count content tail behind refl)
 
 tail_of : (bytes : List ℕ) (at : ℕ) (content tail : List ℕ) → drop at bytes ≡ word (length content) ++ (content ++ tail)
     → drop (at + 4 + length content) bytes ≡ tail
@@ -54,7 +54,7 @@ blob_again bytes at content stands =
     let end = blob_end size in
     let tail : List ℕ = replicate end 0 ++ stands.written.rest in
     let parts : drop at bytes ≡ word size ++ (content ++ tail) =
-        stands.written.parts ∙ ap (λ (l : List ℕ). word size ++ l) (append_assoc content (replicate end 0) stands.written.rest) in
+    stands.written.parts ∙ ap (λ (l : List ℕ). word size ++ l) (append_assoc content (replicate end 0) stands.written.rest) in
     let room : end ≤ length tail = omega (arith, length-append (replicate end 0) stands.written.rest, length-replicate {A = ℕ} end 0) in
     let padded = padding_again bytes (at + 4 + size) end stands.written.rest (tail_of bytes at content tail parts) in
     let next : at + 4 + size + end ≡ at + length (blob content) = omega (arith, length-blob content) in
@@ -79,14 +79,14 @@ blob_fault_again bytes at fault whole (inr (inr names)) =
     let tail : List ℕ = replicate names.zeros 0 ++ names.byte ∷ names.rest in
     let behind : length (content ++ tail) ≡ size + length tail = length-append content tail in
     let zeros : length tail ≡ names.zeros + suc (length names.rest) =
-        length-append (replicate names.zeros 0) (names.byte ∷ names.rest)
-        ∙ ap (λ (n : ℕ). n + suc (length names.rest)) (length-replicate {A = ℕ} names.zeros 0) in
+    length-append (replicate names.zeros 0) (names.byte ∷ names.rest)
+    ∙ ap (λ (n : ℕ). n + suc (length names.rest)) (length-replicate {A = ℕ} names.zeros 0) in
     let long : length (drop at bytes) ≡ 4 + length (content ++ tail) = ap length names.parts ∙ omega arith in
     let room : blob_end size ≤ length tail = room_of size (length tail) (omega arith) in
     let bad = bad_padding_again bytes (at + 4 + size) (blob_end size) names.zeros names.byte names.rest
-        (tail_of bytes at content tail names.parts) names.within names.other in
+    (tail_of bytes at content tail names.parts) names.within names.other in
     content_found bytes at content tail names.fits names.parts room ∙ ap (λ r. and_then r (λ next. Ok (content, next))) bad
-        ∙ ap (λ (f : Fault). Err f) (sym names.named)
+    ∙ ap (λ (f : Fault). Err f) (sym names.named)
   where
     room_of : (size left : ℕ) → (size + left) % 4 ≡ 0 → blob_end size ≤ left
     room_of size left whole = omega arith
@@ -110,13 +110,22 @@ content_seen bytes at content tail whole fits parts room =
     elim (padding_seen bytes (at + 4 + size) (blob_end size) (omega (arith, ap length behind))) [
       | inl padded ↦
           let written : drop at bytes ≡ blob content ++ padded.rest = parts ∙ ap (λ (l : List ℕ). word size ++ (content ++ l)) (sym behind ∙ padded.parts)
-              ∙ ap (λ (l : List ℕ). word size ++ l) (sym (append_assoc content (replicate (blob_end size) 0) padded.rest)) in
+          ∙ ap (λ (l : List ℕ). word size ++ l) (sym (append_assoc content (replicate (blob_end size) 0) padded.rest)) in
           let stands : StartsWithBlob bytes at content = record { fits = fits; written = record { rest = padded.rest; parts = written } } in
           inl (record { value = content; stands = stands; is = blob_again bytes at content stands })
       | inr bad ↦
           let names : NamesBlobFault bytes at (padding (at + 4 + size + bad.zeros)) =
-              inr (inr (record { content = content; zeros = bad.zeros; byte = bad.byte; rest = bad.rest; fits = fits; within = bad.within; other = bad.other;
-              parts = parts ∙ ap (λ (l : List ℕ). word size ++ (content ++ l)) (sym behind ∙ bad.parts); named = refl })) in
+          inr (inr (record {
+            content = content;
+            zeros = bad.zeros;
+            byte = bad.byte;
+            rest = bad.rest;
+            fits = fits;
+            within = bad.within;
+            other = bad.other;
+            parts = parts ∙ ap (λ (l : List ℕ). word size ++ (content ++ l)) (sym behind ∙ bad.parts);
+            named = refl;
+          })) in
           inr (record { fault = padding (at + 4 + size + bad.zeros); names = names; is = blob_fault_again bytes at _ whole names })
     ]
 
@@ -125,8 +134,14 @@ counted_seen : (bytes : List ℕ) (at count : ℕ) → length (drop at bytes) % 
 counted_seen bytes at count whole stands (inr isnt) =
     let rest = stands.written.rest in
     let names : NamesBlobFault bytes at (blob_size at) =
-        inr (inl (record { count = count; rest = rest; fits = stands.fits; parts = stands.written.parts;
-        beyond = beyond_left bytes at count rest stands.written.parts (and_cases _ _ isnt); named = refl })) in
+    inr (inl (record {
+      count = count;
+      rest = rest;
+      fits = stands.fits;
+      parts = stands.written.parts;
+      beyond = beyond_left bytes at count rest stands.written.parts (and_cases _ _ isnt);
+      named = refl;
+    })) in
     inr (record { fault = blob_size at; names = names; is = blob_fault_again bytes at _ whole names })
 counted_seen bytes at count whole stands (inl is) =
     let rest = stands.written.rest in
@@ -136,8 +151,8 @@ counted_seen bytes at count whole stands (inl is) =
     let content : List ℕ = take count rest in
     let size : length content ≡ count = length-take-le count rest (omega arith) in
     let parts : drop at bytes ≡ word (length content) ++ (content ++ drop count rest) =
-        stands.written.parts ∙ ap (λ (l : List ℕ). word count ++ l) (sym (take-append-drop count rest))
-        ∙ ap (λ (n : ℕ). word n ++ (content ++ drop count rest)) (sym size) in
+    stands.written.parts ∙ ap (λ (l : List ℕ). word count ++ l) (sym (take-append-drop count rest))
+    ∙ ap (λ (n : ℕ). word n ++ (content ++ drop count rest)) (sym size) in
     content_seen bytes at content (drop count rest) whole (omega arith) parts (rw size (omega (arith, length-drop count rest)))
 
 pub blob_seen : (bytes : List ℕ) (at : ℕ) → AreBytes bytes → length (drop at bytes) % 4 ≡ 0 → BlobOutcome bytes at

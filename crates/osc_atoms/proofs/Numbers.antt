@@ -26,8 +26,10 @@ word_stands bytes at number small inside is =
     let written : word number ≡ four = be_bytes_4 four number size each is in
     record {
       fits = omega (arith, is, each 0, each 1, each 2, each 3);
-      written = record { rest = drop 4 (drop at bytes);
-          parts = sym (take-append-drop 4 (drop at bytes)) ∙ ap (λ (l : List ℕ). l ++ drop 4 (drop at bytes)) (sym written) };
+      written = record {
+        rest = drop 4 (drop at bytes);
+        parts = sym (take-append-drop 4 (drop at bytes)) ∙ ap (λ (l : List ℕ). l ++ drop 4 (drop at bytes)) (sym written);
+      };
     }
 
 pub tag_stands : (bytes : List ℕ) (at number : ℕ) → AreBytes bytes → at + 8 ≤ length bytes → number ≡ from_be_bytes w64 (take 8 (drop at bytes))
@@ -39,8 +41,10 @@ tag_stands bytes at number small inside is =
     let written : tag number ≡ eight = be_bytes_8 eight number size each is in
     record {
       fits = omega (arith, is, each 0, each 1, each 2, each 3, each 4, each 5, each 6, each 7);
-      written = record { rest = drop 8 (drop at bytes);
-          parts = sym (take-append-drop 8 (drop at bytes)) ∙ ap (λ (l : List ℕ). l ++ drop 8 (drop at bytes)) (sym written) };
+      written = record {
+        rest = drop 8 (drop at bytes);
+        parts = sym (take-append-drop 8 (drop at bytes)) ∙ ap (λ (l : List ℕ). l ++ drop 8 (drop at bytes)) (sym written);
+      };
     }
 
 pub word_again : (bytes : List ℕ) (at number : ℕ) → StartsWithWord bytes at number → word_read bytes at ≡ Ok (number, at + 4)
@@ -50,7 +54,7 @@ word_again bytes at number stands =
     let inside : leb (at + 4) (length bytes) ≡ true = le-leb (at + 4) (length bytes) (omega (arith, length-drop at bytes)) in
     let front : take 4 (drop at bytes) ≡ word number = ap (take 4) stands.written.parts in
     cond-true _ _ _ inside ∙ ap (λ (l : List ℕ). Ok (from_be_bytes w32 l, at + 4)) front
-        ∙ ap (λ (n : ℕ). Ok (n, at + 4)) (from_be_bytes-to_be_bytes_4 number stands.fits)
+    ∙ ap (λ (n : ℕ). Ok (n, at + 4)) (from_be_bytes-to_be_bytes_4 number stands.fits)
 
 pub tag_again : (bytes : List ℕ) (at number : ℕ) → StartsWithTag bytes at number → tag_read bytes at ≡ Ok (number, at + 8)
 tag_again bytes at number stands =
@@ -59,7 +63,7 @@ tag_again bytes at number stands =
     let inside : leb (at + 8) (length bytes) ≡ true = le-leb (at + 8) (length bytes) (omega (arith, length-drop at bytes)) in
     let front : take 8 (drop at bytes) ≡ tag number = ap (take 8) stands.written.parts in
     cond-true _ _ _ inside ∙ ap (λ (l : List ℕ). Ok (from_be_bytes w64 l, at + 8)) front
-        ∙ ap (λ (n : ℕ). Ok (n, at + 8)) (from_be_bytes-to_be_bytes_8 number stands.fits)
+    ∙ ap (λ (n : ℕ). Ok (n, at + 8)) (from_be_bytes-to_be_bytes_8 number stands.fits)
 
 pub word_short : (bytes : List ℕ) (at : ℕ) → length (drop at bytes) < 4 → word_read bytes at ≡ Err (short at)
 word_short bytes at few = cond-false _ _ _ (lt-leb (at + 4) (length bytes) (omega (arith, length-drop at bytes)))

@@ -20,7 +20,7 @@ pub padding_again : (bytes : List ℕ) (from size : ℕ) (rest : List ℕ) → d
 padding_again bytes from size rest parts =
     let zeros : take size (drop from bytes) ≡ replicate size 0 = before_place bytes from size (replicate size 0) rest parts (length-replicate {A = ℕ} size 0) in
     ap (λ (l : List ℕ). past_padding from size (position is_other l)) zeros
-        ∙ ap (past_padding from size) (no_place is_other (replicate size 0) (zeros_are size))
+    ∙ ap (past_padding from size) (no_place is_other (replicate size 0) (zeros_are size))
 
 pub bad_padding_again : (bytes : List ℕ) (from size zeros byte : ℕ) (rest : List ℕ) → drop from bytes ≡ replicate zeros 0 ++ byte ∷ rest → zeros < size
     → byte ≢ 0 → padding_read bytes from size ≡ Err (padding (from + zeros))
@@ -30,10 +30,10 @@ bad_padding_again bytes from size zeros byte rest parts within other =
     let more = size - zeros - 1 in
     let all : size ≡ length front + suc more = omega arith in
     let cut : take size (drop from bytes) ≡ front ++ byte ∷ take more rest =
-        ap (take size) parts ∙ ap (λ (n : ℕ). take n (front ++ byte ∷ rest)) all ∙ take-append-add front (byte ∷ rest) (suc more) in
+    ap (take size) parts ∙ ap (λ (n : ℕ). take n (front ++ byte ∷ rest)) all ∙ take-append-add front (byte ∷ rest) (suc more) in
     let here : is_other byte ≡ true = not_from_false (eqb byte 0) (ne_eqb byte 0 other) in
     let place : position is_other (take size (drop from bytes)) ≡ Some zeros =
-        ap (position is_other) cut ∙ found_behind is_other front byte (take more rest) (zeros_are zeros) here ∙ ap (λ (n : ℕ). Some n) sized in
+    ap (position is_other) cut ∙ found_behind is_other front byte (take more rest) (zeros_are zeros) here ∙ ap (λ (n : ℕ). Some n) sized in
     ap (past_padding from size) place
 
 -- the zero bytes that are wanted stand there
@@ -60,9 +60,9 @@ padding_seen bytes from size long = go (position is_other (take size (drop from 
   go : (o : Option ℕ) → position is_other (take size (drop from bytes)) ≡ o → Padded bytes from size ⊎ BadlyPadded bytes from size
   go None e =
       let zeros : take size (drop from bytes) ≡ replicate size 0 = are_zeros (take size (drop from bytes)) (not_found is_other (take size (drop from bytes)) e)
-          ∙ ap (λ (n : ℕ). replicate n 0) sized in
+      ∙ ap (λ (n : ℕ). replicate n 0) sized in
       let parts : drop from bytes ≡ replicate size 0 ++ drop size (drop from bytes) =
-          sym (take-append-drop size (drop from bytes)) ∙ ap (λ (l : List ℕ). l ++ drop size (drop from bytes)) zeros in
+      sym (take-append-drop size (drop from bytes)) ∙ ap (λ (l : List ℕ). l ++ drop size (drop from bytes)) zeros in
       inl (record { rest = drop size (drop from bytes); parts = parts; read = padding_again bytes from size (drop size (drop from bytes)) parts })
   go (Some k) e =
       let cut = found is_other (take size (drop from bytes)) k e in
@@ -72,7 +72,14 @@ padding_seen bytes from size long = go (position is_other (take size (drop from 
       let within : k < size = omega (arith, cut.size) in
       let rest : List ℕ = cut.back ++ drop size (drop from bytes) in
       let parts : drop from bytes ≡ replicate k 0 ++ cut.item ∷ rest =
-          sym (take-append-drop size (drop from bytes)) ∙ ap (λ (l : List ℕ). l ++ drop size (drop from bytes)) cut.parts
-          ∙ append_assoc cut.front (cut.item ∷ cut.back) (drop size (drop from bytes)) ∙ ap (λ (l : List ℕ). l ++ cut.item ∷ rest) zeros in
-      inr (record { zeros = k; byte = cut.item; rest = rest; within = within; other = other; parts = parts;
-          read = bad_padding_again bytes from size k cut.item rest parts within other })
+      sym (take-append-drop size (drop from bytes)) ∙ ap (λ (l : List ℕ). l ++ drop size (drop from bytes)) cut.parts
+      ∙ append_assoc cut.front (cut.item ∷ cut.back) (drop size (drop from bytes)) ∙ ap (λ (l : List ℕ). l ++ cut.item ∷ rest) zeros in
+      inr (record {
+        zeros = k;
+        byte = cut.item;
+        rest = rest;
+        within = within;
+        other = other;
+        parts = parts;
+        read = bad_padding_again bytes from size k cut.item rest parts within other;
+      })

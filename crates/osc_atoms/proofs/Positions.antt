@@ -30,8 +30,15 @@ cut p (x ∷ xs) lt = go (p x) refl lt (cut p xs) where
   go true e lt more = record { front = []; item = x; back = xs; parts = refl; size = refl; before = refl; here = e }
   go false e lt more =
       let rest = more (omega arith) in
-      record { front = x ∷ rest.front; item = rest.item; back = rest.back; parts = ap (λ (l : List ℕ). x ∷ l) rest.parts; size = omega (arith, rest.size);
-          before = rw e rest.before; here = rest.here }
+      record {
+        front = x ∷ rest.front;
+        item = rest.item;
+        back = rest.back;
+        parts = ap (λ (l : List ℕ). x ∷ l) rest.parts;
+        size = omega (arith, rest.size);
+        before = rw e rest.before;
+        here = rest.here;
+      }
 
 pub place_behind : (p : ℕ → Bool) (xs ys : List ℕ) → fails_on p xs ≡ true → position_or_len p (xs ++ ys) ≡ length xs + position_or_len p ys
 place_behind p [] ys none = omega arith

@@ -23,7 +23,7 @@ text_found : (bytes : List ℕ) (at : ℕ) (text more : List ℕ) → has_no_zer
 text_found bytes at text more no_zero parts =
     let place : position is_zero (drop at bytes) ≡ Some (length text) = ap (position is_zero) parts ∙ found_behind is_zero text 0 more no_zero refl in
     ap (text_read bytes at) place ∙ ap (λ (l : List ℕ). and_then (padding_read bytes (at + length text) (string_end (length text))) (λ next. Ok (l, next)))
-        (before_place bytes at (length text) text (0 ∷ more) parts refl)
+    (before_place bytes at (length text) text (0 ∷ more) parts refl)
 
 pub string_again : (bytes : List ℕ) (at : ℕ) (text : List ℕ) → StartsWithString bytes at text → string_read bytes at ≡ Ok (text, at + length (string text))
 string_again bytes at text stands =
@@ -33,10 +33,10 @@ string_again bytes at text stands =
     let parts : drop at bytes ≡ text ++ (replicate end 0 ++ rest) = stands.written.parts ∙ append_assoc text (replicate end 0) rest in
     let first : replicate end 0 ++ rest ≡ 0 ∷ (replicate (3 - size % 4) 0 ++ rest) = ap (λ (n : ℕ). replicate n 0 ++ rest) (end_is size) in
     let padded : padding_read bytes (at + size) end ≡ Ok (at + size + end) =
-        padding_again bytes (at + size) end rest (after_place bytes at size text _ parts refl) in
+    padding_again bytes (at + size) end rest (after_place bytes at size text _ parts refl) in
     let next : at + size + end ≡ at + length (string text) = omega (arith, length-string text) in
     text_found bytes at text _ stands.no_zero (parts ∙ ap (λ (l : List ℕ). text ++ l) first) ∙ ap (λ r. and_then r (λ next. Ok (text, next))) padded
-        ∙ ap (λ (n : ℕ). Ok (text, n)) next
+    ∙ ap (λ (n : ℕ). Ok (text, n)) next
 
 bad_padding : (bytes : List ℕ) (at : ℕ) (text : List ℕ) (zeros byte : ℕ) (rest : List ℕ) → has_no_zero text ≡ true → 0 < zeros
     → zeros < string_end (length text) → byte ≢ 0 → drop at bytes ≡ text ++ (replicate zeros 0 ++ byte ∷ rest)
@@ -44,9 +44,9 @@ bad_padding : (bytes : List ℕ) (at : ℕ) (text : List ℕ) (zeros byte : ℕ)
 bad_padding bytes at text zero byte rest no_zero ended within other parts = absurd (omega arith)
 bad_padding bytes at text (suc n) byte rest no_zero ended within other parts =
     text_found bytes at text _ no_zero parts
-        ∙ ap (λ r. and_then r (λ next. Ok (text, next)))
-        (bad_padding_again bytes (at + length text) (string_end (length text)) (suc n) byte rest
-        (after_place bytes at (length text) text _ parts refl) within other)
+    ∙ ap (λ r. and_then r (λ next. Ok (text, next)))
+    (bad_padding_again bytes (at + length text) (string_end (length text)) (suc n) byte rest
+    (after_place bytes at (length text) text _ parts refl) within other)
 
 pub string_fault_again : (bytes : List ℕ) (at : ℕ) (fault : Fault) → NamesStringFault bytes at fault → string_read bytes at ≡ Err fault
 string_fault_again bytes at fault (inl names) =
@@ -80,16 +80,26 @@ string_seen bytes at whole = go (position is_zero (drop at bytes)) refl where
       elim (padding_seen bytes (at + size) (string_end size) fits) [
         | inl padded ↦
             let parts : drop at bytes ≡ string text ++ padded.rest = cut.parts ∙ ap (λ (l : List ℕ). text ++ l) (sym tail ∙ padded.parts)
-                ∙ sym (append_assoc text (replicate (string_end size) 0) padded.rest) in
+            ∙ sym (append_assoc text (replicate (string_end size) 0) padded.rest) in
             let stands : StartsWithString bytes at text = record { no_zero = cut.before; written = record { rest = padded.rest; parts = parts } } in
             inl (record { value = text; stands = stands; is = string_again bytes at text stands })
         | inr bad ↦
             let parts : drop at bytes ≡ text ++ (replicate bad.zeros 0 ++ bad.byte ∷ bad.rest) =
-                cut.parts ∙ ap (λ (l : List ℕ). text ++ l) (sym tail ∙ bad.parts) in
+            cut.parts ∙ ap (λ (l : List ℕ). text ++ l) (sym tail ∙ bad.parts) in
             let ended : 0 < bad.zeros = ended_by bad.zeros bad.byte cut.back bad.rest cut.item (eqb-true cut.item 0 cut.here)
-                (sym tail ∙ bad.parts) bad.other in
+            (sym tail ∙ bad.parts) bad.other in
             let names : NamesStringFault bytes at (padding (at + size + bad.zeros)) =
-                inr (record { text = text; zeros = bad.zeros; byte = bad.byte; rest = bad.rest; no_zero = cut.before; ended = ended; within = bad.within;
-                other = bad.other; parts = parts; named = refl }) in
+            inr (record {
+              text = text;
+              zeros = bad.zeros;
+              byte = bad.byte;
+              rest = bad.rest;
+              no_zero = cut.before;
+              ended = ended;
+              within = bad.within;
+              other = bad.other;
+              parts = parts;
+              named = refl;
+            }) in
             inr (record { fault = padding (at + size + bad.zeros); names = names; is = string_fault_again bytes at (padding (at + size + bad.zeros)) names })
       ]

@@ -14,11 +14,11 @@ written_on bytes at a b fits =
     let before : take (at + length a) (with_atom bytes at a) ≡ front = ap (take (at + length a)) whole ∙ take_at front back (at + length a) sized in
     let after : drop (at + length a + length b) (with_atom bytes at a) ≡ drop (at + length (a ++ b)) bytes =
     sym (drop-drop (length b) (at + length a) (with_atom bytes at a))
-        ∙ ap (drop (length b)) (ap (drop (at + length a)) whole ∙ drop_at front back (at + length a) sized) ∙ drop-drop (length b) (at + length a) bytes
-        ∙ ap (λ (n : ℕ). drop n bytes) (omega (arith, length-append a b)) in
+    ∙ ap (drop (length b)) (ap (drop (at + length a)) whole ∙ drop_at front back (at + length a) sized) ∙ drop-drop (length b) (at + length a) bytes
+    ∙ ap (λ (n : ℕ). drop n bytes) (omega (arith, length-append a b)) in
     ap (λ (l : List ℕ). l ++ (b ++ drop (at + length a + length b) (with_atom bytes at a))) before ∙ ap (λ (l : List ℕ). front ++ (b ++ l)) after
-        ∙ append_assoc (take at bytes) a (b ++ drop (at + length (a ++ b)) bytes)
-        ∙ ap (λ (l : List ℕ). take at bytes ++ l) (sym (append_assoc a b (drop (at + length (a ++ b)) bytes)))
+    ∙ append_assoc (take at bytes) a (b ++ drop (at + length (a ++ b)) bytes)
+    ∙ ap (λ (l : List ℕ). take at bytes ++ l) (sym (append_assoc a b (drop (at + length (a ++ b)) bytes)))
 
 pub both_written : (bytes : List ℕ) (at end : ℕ) (a b one two : List ℕ) → one ≡ with_atom bytes at a → end ≡ at + length a → two ≡ with_atom one end b
     → at + length a + length b ≤ length bytes → two ≡ with_atom bytes at (a ++ b)

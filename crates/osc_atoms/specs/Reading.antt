@@ -55,8 +55,8 @@ string_read bytes at = text_read bytes at (position is_zero (drop at bytes))
 abbrev pub content_read : List ℕ → ℕ → ℕ → Result (List ℕ × ℕ) Fault
 content_read bytes at count =
     if nat_lt count (2 ^ 31) && nat_le (count + blob_end count) (length bytes - (at + 4))
-        then and_then (padding_read bytes (at + 4 + count) (blob_end count))
-        (λ next. Ok (take count (drop (at + 4) bytes), next)) else Err (blob_size at)
+    then and_then (padding_read bytes (at + 4 + count) (blob_end count))
+    (λ next. Ok (take count (drop (at + 4) bytes), next)) else Err (blob_size at)
 
 -- a count, so many bytes, and their padding
 abbrev pub blob_read : List ℕ → ℕ → Result (List ℕ × ℕ) Fault

@@ -54,14 +54,12 @@ impl<M: Method> Kept for Core<M> {
     ghost use Rattle.osc_core.specs.Standing.{StandsFor, texts_of};
 
     /// The texts of its entries, with the marks of its boxes.
-    ghost stands =
-        { λ core list. StandsFor core.performance (told M.keep M.heard core.boxes.items) list };
+    ghost stands = { λ core list. StandsFor core.performance (told M.keep M.heard core.boxes.items) list };
 
     /// The header of its recording.
     ghost kind = { λ core. header_text core.performance.caps };
 
-    ghost history =
-        { λ core. texts_of (told M.keep M.heard core.boxes.items) core.performance.history };
+    ghost history = { λ core. texts_of (told M.keep M.heard core.boxes.items) core.performance.history };
 
     ghost one_length = { λ core g h one two. standing.one_length core.performance _ g h one two };
 

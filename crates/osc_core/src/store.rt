@@ -51,8 +51,7 @@ impl Model for Store {
       kept = kept_of s.sections.items s.bytes.items;
     } };
 
-    ghost invariant =
-        { λ s. IsStock s.sections.items s.bytes.items s.used s.limit s.places (vec_capacity s.bytes)
+    ghost invariant = { λ s. IsStock s.sections.items s.bytes.items s.used s.limit s.places (vec_capacity s.bytes)
         (vec_capacity s.sections) };
 }
 

@@ -10,7 +10,7 @@ use Rattle.osc_message.specs.Messages.{Argument, integer, float, text, content, 
 abbrev pub word_argument : ℕ → ℕ → Argument
 word_argument tag number =
     if tag == 105 then integer (cast_signed w32 number) else if tag == 102 then float number
-        else if tag == 99 then character number
+    else if tag == 99 then character number
     else if tag == 114 then rgba number else midi number
 
 -- the argument of eight bytes under h t d
@@ -26,19 +26,19 @@ text_argument tag bytes = if tag == 115 then text bytes else symbol bytes
 abbrev pub bare_argument : ℕ → Argument
 bare_argument tag =
     if tag == 84 then true_ else if tag == 70 then false_ else if tag == 78 then nil
-        else if tag == 73 then infinitum else if tag == 91 then array_start
+    else if tag == 73 then infinitum else if tag == 91 then array_start
     else array_end
 
 -- the argument of a known tag, and the place after it
 abbrev pub argument_read : ℕ → List ℕ → ℕ → Result (Argument × ℕ) Fault
 argument_read tag bytes at =
     if is_word_tag tag
-        then and_then (word_read bytes at) (λ word. Ok (word_argument tag word.0, word.1)) else
+    then and_then (word_read bytes at) (λ word. Ok (word_argument tag word.0, word.1)) else
     if is_long_tag tag
-        then and_then (tag_read bytes at) (λ word. Ok (long_argument tag word.0, word.1)) else
+    then and_then (tag_read bytes at) (λ word. Ok (long_argument tag word.0, word.1)) else
     if is_text_tag tag
-        then and_then (string_read bytes at)
-        (λ string. Ok (text_argument tag string.0, string.1)) else
+    then and_then (string_read bytes at)
+    (λ string. Ok (text_argument tag string.0, string.1)) else
     if is_blob_tag tag then and_then (blob_read bytes at) (λ blob. Ok (content blob.0, blob.1)) else
     Ok (bare_argument tag, at)
 

@@ -46,8 +46,8 @@ refused_null (Some at) next = Some (HasNull at)
 abbrev pub open_refusal : List ℕ → Option BuildFault
 open_refusal pattern =
     if nat_le (length pattern) MAX_BUILT_PATTERN
-        then refused_null (null_of pattern)
-        (option_map (λ fault. Pattern fault) (pattern_fault pattern))
+    then refused_null (null_of pattern)
+    (option_map (λ fault. Pattern fault) (pattern_fault pattern))
     else Some TooLong
 
 -- a zero byte is refused first, and then an argument with which the finished message would be over
@@ -55,8 +55,8 @@ open_refusal pattern =
 abbrev pub push_refusal : Building → Argument → Option BuildFault
 push_refusal building argument =
     refused_null (null_in argument)
-        (if nat_le (length (message_text (finished (pushed building argument)))) MAX_BUILT then None
-        else Some TooLong)
+    (if nat_le (length (message_text (finished (pushed building argument)))) MAX_BUILT then None
+    else Some TooLong)
 
 -- the bytes that are kept: the pattern, the tags behind their comma, and the arguments' atoms
 pub record IsKept (pattern tags atoms : List ℕ) : Type 0 where

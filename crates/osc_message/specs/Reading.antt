@@ -31,10 +31,10 @@ abbrev pub brackets_read : ℕ → ℕ → List ℕ → ℕ → Result ⊤ Fault
 brackets_read depth outer [] place = if depth == 0 then Ok tt else Err (brackets outer)
 brackets_read depth outer (tag ∷ tags) place =
     if tag == 91
-        then brackets_read (depth + 1) (if depth == 0 then place else outer) tags (place + 1) else
+    then brackets_read (depth + 1) (if depth == 0 then place else outer) tags (place + 1) else
     if tag == 93
-        then (if depth == 0 then Err (brackets place)
-        else brackets_read (depth - 1) outer tags (place + 1)) else
+    then (if depth == 0 then Err (brackets place)
+    else brackets_read (depth - 1) outer tags (place + 1)) else
     brackets_read depth outer tags (place + 1)
 
 -- the arguments under the tags end where the bytes end
@@ -48,7 +48,7 @@ arguments_read bytes tags at =
 abbrev pub tags_read : List ℕ → ℕ → List ℕ → ℕ → Result ⊤ Fault
 tags_read bytes place tags at =
     if list_any is_unknown tags then Ok tt
-        else and_then (brackets_read 0 place tags place) (λ _. arguments_read bytes tags at)
+    else and_then (brackets_read 0 place tags place) (λ _. arguments_read bytes tags at)
 
 -- the tag string at a place, and what follows
 abbrev pub tagged_read : List ℕ → List ℕ → ℕ → Result Parts Fault
@@ -76,8 +76,8 @@ lawful_read bytes at pattern end =
 unfoldable pub message_read : List ℕ → ℕ → Result Parts Fault
 message_read bytes at =
     if begins 47 (drop at bytes)
-        then and_then (string_read bytes at) (λ string. lawful_read bytes at string.0 string.1)
-        else Err (start at)
+    then and_then (string_read bytes at) (λ string. lawful_read bytes at string.0 string.1)
+    else Err (start at)
 
 -- bytes of a length that is a multiple of 4
 abbrev pub fourfold_read : List ℕ → Result Parts Fault

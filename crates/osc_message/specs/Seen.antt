@@ -7,8 +7,11 @@ use Rattle.osc_message.specs.Reading.{Parts}
 
 -- the parts that they are
 abbrev pub seen : Slices → Parts
-seen s = record { pattern = s.pattern.now; tags = option_map (λ tags. tags.now) s.tags;
-    place = s.place }
+seen s = record {
+  pattern = s.pattern.now;
+  tags = option_map (λ tags. tags.now) s.tags;
+  place = s.place;
+}
 
 -- the first unknown tag of a message with these parts
 abbrev pub unknown_in : Parts → Option ℕ

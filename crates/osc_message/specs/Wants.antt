@@ -58,14 +58,14 @@ Leads bytes (pattern at) next = (text : List ℕ) × StartsWithString bytes at t
 Leads bytes (lawful at text end) next = IsPattern text × (next ≡ comma end)
 Leads bytes (comma at) next =
     ((drop at bytes ≡ []) × (next ≡ done))
-        ⊎ ((rest : List ℕ) × (drop at bytes ≡ 44 ∷ rest) × (next ≡ tag_text at))
+    ⊎ ((rest : List ℕ) × (drop at bytes ≡ 44 ∷ rest) × (next ≡ tag_text at))
 Leads bytes (tag_text at) next = (tags : List ℕ) × StartsWithString bytes at (44 ∷ tags)
     × (next ≡ after_tags (at + 1) tags (at + length (tag_string tags)))
 Leads bytes (brackets_balance place tags at) next = Balanced tags × (next ≡ arguments tags at)
 Leads bytes (arguments [] at) next = (drop at bytes ≡ []) × (next ≡ done)
 Leads bytes (arguments (tag ∷ tags) at) next =
     (argument : Argument) × (tag_of argument ≡ tag) × StartsWithArgument bytes at argument
-        × (next ≡ arguments tags (at + length (atom_of argument)))
+    × (next ≡ arguments tags (at + length (atom_of argument)))
 Leads bytes done next = ⊥
 
 -- a want stands where there is a next one

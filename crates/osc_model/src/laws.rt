@@ -203,14 +203,20 @@ pub fn a_full_recording_refuses()
         step state event
         ≡ leaves state
         (record_full
-        (record { need = entry_size event (decided state event).answer;
-        free = free_bytes state })) }
+        (record {
+          need = entry_size event (decided state event).answer;
+          free = free_bytes state;
+        })) }
     ensures room { (state : State) (event : Event) → adds_entry (decided state event).answer ≡ true
         → entry_size event (decided state event).answer ≤ free_bytes state →
         step state event
-        ≡ record (decided state event) { state = record
-        (decided state event).state { recorded = state.recorded
-        + entry_size event (decided state event).answer } } }
+        ≡ record (decided state event) {
+          state = record
+              (decided state event).state {
+                recorded = state.recorded
+                    + entry_size event (decided state event).answer;
+              };
+        } }
     ensures nothing_due { (state : State) (event : Event)
         → adds_entry (decided state event).answer ≡ false → step state event ≡ decided state event }
 {}

@@ -5,7 +5,6 @@ pub mod Faults
 pub mod Wants
 pub mod Reading
 pub mod Contents
-
 -- Inside the crate.
 pub mod Known
 pub mod Walks

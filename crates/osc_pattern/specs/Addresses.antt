@@ -10,7 +10,7 @@ use Rattle.osc_pattern.specs.Patterns.{begins_with_slash, parts_of}
 abbrev pub is_bad_byte : ℕ → Bool
 is_bad_byte byte =
     not (nat_le 0x21 byte && nat_le byte 0x7e)
-        || list_any (λ other. byte == other) (codes "#*,?[]{}")
+    || list_any (λ other. byte == other) (codes "#*,?[]{}")
 
 -- a lawful address: a slash before each of at most 16 names of 1 to 63 bytes, without bad bytes, at
 -- most 255 bytes in all

@@ -64,7 +64,7 @@ stands_for (first ∷ []) byte = byte == first
 stands_for (first ∷ second ∷ []) byte = byte == first || byte == second
 stands_for (first ∷ second ∷ last ∷ rest) byte =
     if begins_range first second then is_between first last byte || stands_for rest byte
-        else byte == first || stands_for (second ∷ last ∷ rest) byte
+    else byte == first || stands_for (second ∷ last ∷ rest) byte
 
 -- the bytes that a set matches: those of its list, or with a first `!` all but those of the rest of
 -- the list

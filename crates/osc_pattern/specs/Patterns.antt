@@ -105,8 +105,8 @@ fault_after None opening = option_map (λ at. record { kind = 11; at = at }) ope
 abbrev pub pattern_fault : List ℕ → Option PatternFault
 pattern_fault bytes =
     if begins_with_slash bytes
-        then fault_after (position is_outside bytes) (open_place (parts_of bytes))
-        else Some (record { kind = 4; at = 0 })
+    then fault_after (position is_outside bytes) (open_place (parts_of bytes))
+    else Some (record { kind = 4; at = 0 })
 
 -- whether the bytes are a pattern
 abbrev pub is_pattern : List ℕ → Bool

@@ -31,8 +31,7 @@ impl Kept for Log {
 
     ghost one_length = { λ x g h p q. ap length p ∙ sym (ap length q) };
 
-    ghost short =
-        { λ x h p. Prim.omega
+    ghost short = { λ x h p. Prim.omega
         (arith, ap length p, length-map x.lines.items (λ line. line.items), x.few) };
 
     fn entries(&self) -> u64 {

@@ -50,8 +50,7 @@ impl Model for Tree {
       node_limit = tree.node_limit;
     } };
 
-    ghost invariant =
-        { λ tree. IsIndexed tree.methods.items tree.places.items tree.method_limit tree.node_limit tree.node_count
+    ghost invariant = { λ tree. IsIndexed tree.methods.items tree.places.items tree.method_limit tree.node_limit tree.node_count
         (vec_capacity tree.methods) (vec_capacity tree.places) };
 }
 

@@ -10,4 +10,4 @@ use Rattle.osc_model.specs.Step.{Stepped}
 abbrev pub IsNotEarly : State → Stepped → Type 0
 IsNotEarly state stepped = (number : ℕ) (hits : List Hit) → stepped.answer ≡ released number hits
     → (unit : Queued) × Contains state.queue unit × (unit_of unit ≡ number)
-        × (unit.2.tag ≤ state.clock)
+    × (unit.2.tag ≤ state.clock)

@@ -9,8 +9,8 @@ use Rattle.osc_atoms.proofs.blob.blob_at.Goals as goal
 pub returns-clause-ok : goal.returns-clause-ok
 returns-clause-ok c =
     ok_stands (StartsWithBlob c.args.bytes.now c.args.at) (λ content. c.args.at + length (blob content)) (NamesBlobFault c.args.bytes.now c.args.at) _ _
-        (blob_seen c.args.bytes.now c.args.at (λ i. omega (arith, c.type_inv.bytes i)) (omega (arith, length-drop c.args.at c.args.bytes.now)))
-        c.read_blob.ensures
+    (blob_seen c.args.bytes.now c.args.at (λ i. omega (arith, c.type_inv.bytes i)) (omega (arith, length-drop c.args.at c.args.bytes.now)))
+    c.read_blob.ensures
 
 pub returns-clause-complete : goal.returns-clause-complete
 returns-clause-complete c = λ content stands. ok_is_given _ _ content _ (blob_again c.args.bytes.now c.args.at content stands) c.read_blob.ensures
@@ -18,8 +18,8 @@ returns-clause-complete c = λ content stands. ok_is_given _ _ content _ (blob_a
 pub returns-clause-fault : goal.returns-clause-fault
 returns-clause-fault c =
     err_names (StartsWithBlob c.args.bytes.now c.args.at) (λ content. c.args.at + length (blob content)) (NamesBlobFault c.args.bytes.now c.args.at) _ _
-        (blob_seen c.args.bytes.now c.args.at (λ i. omega (arith, c.type_inv.bytes i)) (omega (arith, length-drop c.args.at c.args.bytes.now)))
-        c.read_blob.ensures
+    (blob_seen c.args.bytes.now c.args.at (λ i. omega (arith, c.type_inv.bytes i)) (omega (arith, length-drop c.args.at c.args.bytes.now)))
+    c.read_blob.ensures
 
 pub returns-clause-exact : goal.returns-clause-exact
 returns-clause-exact c =

@@ -20,12 +20,16 @@ returns-clause-of_tag c =
 
 pub returns-clause-of_string : goal.returns-clause-of_string
 returns-clause-of_string c =
-    λ bytes at fault whole.
-    (refused_names (StartsWithString bytes at) (λ text. at + length (string text)) (NamesStringFault bytes at) _ fault
-    (string_seen bytes at whole), string_fault_again bytes at fault)
+    λ bytes at fault whole. (
+      refused_names (StartsWithString bytes at) (λ text. at + length (string text)) (NamesStringFault bytes at) _ fault
+          (string_seen bytes at whole),
+      string_fault_again bytes at fault,
+    )
 
 pub returns-clause-of_blob : goal.returns-clause-of_blob
 returns-clause-of_blob c =
-    λ bytes at fault small whole.
-    (refused_names (StartsWithBlob bytes at) (λ content. at + length (blob content)) (NamesBlobFault bytes at) _ fault
-    (blob_seen bytes at small whole), blob_fault_again bytes at fault whole)
+    λ bytes at fault small whole. (
+      refused_names (StartsWithBlob bytes at) (λ content. at + length (blob content)) (NamesBlobFault bytes at) _ fault
+          (blob_seen bytes at small whole),
+      blob_fault_again bytes at fault whole,
+    )

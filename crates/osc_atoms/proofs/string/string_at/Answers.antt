@@ -9,7 +9,7 @@ use Rattle.osc_atoms.proofs.string.string_at.Goals as goal
 pub returns-clause-ok : goal.returns-clause-ok
 returns-clause-ok c =
     ok_stands (StartsWithString c.args.bytes.now c.args.at) (λ text. c.args.at + length (string text)) (NamesStringFault c.args.bytes.now c.args.at) _ _
-        (string_seen c.args.bytes.now c.args.at (omega (arith, length-drop c.args.at c.args.bytes.now))) c.read_string.ensures
+    (string_seen c.args.bytes.now c.args.at (omega (arith, length-drop c.args.at c.args.bytes.now))) c.read_string.ensures
 
 pub returns-clause-complete : goal.returns-clause-complete
 returns-clause-complete c = λ text stands. ok_is_given _ _ text _ (string_again c.args.bytes.now c.args.at text stands) c.read_string.ensures
@@ -17,7 +17,7 @@ returns-clause-complete c = λ text stands. ok_is_given _ _ text _ (string_again
 pub returns-clause-fault : goal.returns-clause-fault
 returns-clause-fault c =
     err_names (StartsWithString c.args.bytes.now c.args.at) (λ text. c.args.at + length (string text)) (NamesStringFault c.args.bytes.now c.args.at) _ _
-        (string_seen c.args.bytes.now c.args.at (omega (arith, length-drop c.args.at c.args.bytes.now))) c.read_string.ensures
+    (string_seen c.args.bytes.now c.args.at (omega (arith, length-drop c.args.at c.args.bytes.now))) c.read_string.ensures
 
 pub returns-clause-exact : goal.returns-clause-exact
 returns-clause-exact c = λ fault names. err_is_given _ _ fault (string_fault_again c.args.bytes.now c.args.at fault names) c.read_string.ensures

@@ -13,7 +13,7 @@ returns-clause-out c =
     let fits : c.args.at + (4 + length content + length end) ≤ length c.args.out.now = omega (arith, c.requires.fits, length-append content end) in
     let front : c.write_bytes-end.new.out ≡ with_atom c.args.out.now c.args.at (count ++ content) =
     both_written c.args.out.now c.args.at c.write_word-start.result count content _ _ c.write_word-start.ensures.out c.write_word-start.ensures.next
-        c.write_bytes-end.ensures.out (omega arith) in
+    c.write_bytes-end.ensures.out (omega arith) in
     both_written c.args.out.now c.args.at c.write_bytes-end.result (count ++ content) end _ _ front (omega arith)
     (c.write_bytes.ensures.out ∙ ap (with_atom c.write_bytes-end.new.out c.write_bytes-end.result) zeros)
     (omega arith)
