@@ -1,9 +1,9 @@
 -- What a submit is answered.
 use Rattle.std.proofs.Common.{◌≡◌, ℕ, ◌<◌, ◌≤◌, nat_lt, true, false, List, length, refl, arith}
 use Rattle.std.proofs.lemmas.Bool.Decides.{nat_tests}
-use Rattle.osc_packet.specs.Units.{Timed}
+use Rattle.osc_packet.specs.Units.{Timed, blocks_of}
 use Rattle.osc_model.specs.State.{State}
-use Rattle.osc_model.specs.Counts.{blocks_of, free_places, free_blocks}
+use Rattle.osc_model.specs.Counts.{free_places, free_blocks}
 use Rattle.osc_model.specs.Events.{queued, pool_full}
 use Rattle.osc_model.specs.Step.{submit_units, leaves, after_submit}
 

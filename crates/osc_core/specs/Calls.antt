@@ -1,22 +1,12 @@
 -- Inside the crate: calls by the ids of methods.
-use Rattle.std.specs.Prelude.{ℕ, List, [], unwrap_or, if◌then◌else◌, is_some}
+use Rattle.std.specs.Prelude.{ℕ, List, [], if◌then◌else◌, is_some}
 use Rattle.osc_pattern.specs.Methods.{Method}
 use Rattle.osc_message.specs.Reading.{pattern_of}
 use Rattle.osc_message.specs.Arguments.{unknown_of}
-use Rattle.osc_tree.specs.Registry.{address_by_id}
 use Rattle.osc_tree.specs.Matching.{matching_ids}
 use Rattle.osc_method.specs.declared.call.Call.{Call as CodeCall}
-use Rattle.osc_model.specs.Events.{Call, Hit, Invocation}
-
--- the call of the method with an id, with the unit's message at an index
-abbrev pub call_by : List Method → ℕ → List ℕ → ℕ → Call
-call_by methods index message id =
-    record {
-      index = index;
-      id = id;
-      address = unwrap_or (address_by_id methods id) [];
-      message = message;
-    }
+use Rattle.osc_model.specs.Events.{Hit, Invocation}
+use Rattle.osc_model.specs.Calls.{call_by}
 
 -- the invocation that a call makes of the method with an id
 abbrev pub invocation_by : List Method → CodeCall → ℕ → Invocation

@@ -1,12 +1,11 @@
 // The calls that a release makes.
-ghost use Rattle.std.specs.Prelude.{◌≡◌, ◌+◌, ◌*◌, ◌<◌, ◌≤◌, ◌^◌, ℕ, List, length, map, take, All, Some, None, IsTrue, IfOk, IfErr, OnOk, OnErr, vec_capacity};
+ghost use Rattle.std.specs.Prelude.{◌≡◌, ◌+◌, ◌*◌, ◌<◌, ◌≤◌, ◌^◌, ℕ, List, length, map, take, Some, None, IsTrue, IfOk, IfErr, OnOk, OnErr, vec_capacity};
 ghost use Rattle.osc_pattern.specs.Methods.{Method};
-ghost use Rattle.osc_tree.specs.Registry.{IsLawful, address_by_id};
-ghost use Rattle.osc_tree.specs.Matching.{matching, matching_ids};
 ghost use Rattle.osc_record.specs.Writing.{recording_text, with_release};
 ghost use Rattle.osc_model.specs.Heard.{all_hear};
 ghost use Rattle.osc_model.specs.Step.{calls_of, calls_from, hits_of, invocations_of};
-ghost use Rattle.osc_core.specs.Calls.{call_by, invocation_by, invoked_ids};
+ghost use Rattle.osc_core.specs.Calls.{invocation_by, invoked_ids};
+ghost use Rattle.osc_model.specs.Calls.{call_by};
 ghost use Rattle.osc_core.specs.Ids.{is_ascending};
 ghost use Rattle.osc_core.specs.Telling.{told};
 ghost use Rattle.osc_core.specs.Recorded.{owed_by, with_hits, RecordsCalls, TellsRoom};
@@ -17,11 +16,8 @@ use crate::shortage::shortage;
 use osc_atoms::Room;
 use osc_message::Message;
 use osc_method::{Call, Method as Called};
-use osc_pattern::{Pattern, Steps};
 use osc_record::{Recorder, release_size};
 use osc_tree::{Hits, Tree};
-use std::marker::Brand;
-use std::sync::ledger::{Blank, Ledger};
 
 /// Records the release of a unit, and makes the calls of its messages in order. Where the recording has no room for the
 /// entry, it tells how much the entry needs, and all stays.
@@ -155,7 +151,7 @@ fn count_hits(tree: &Tree, hits: &mut Hits, message: &Message<'_>) -> usize
     if message.unknown().is_some() {
         return 0;
     }
-    find_hits(tree, hits, &message.pattern());
+    tree.find(&message.pattern(), hits);
     hits.ids().len()
 }
 
@@ -242,30 +238,4 @@ fn invoke_ids<M: Called>(
         recorder.put_hit(call.index, *id);
         invoke_one(boxes, *id, call);
     }
-}
-
-/// Fills `hits` with the ids of the methods that the pattern matches. Steps aren't counted here.
-fn find_hits(tree: &Tree, hits: &mut Hits, pattern: &Pattern<'_>)
-    requires { tree.now.method_limit ≤ hits.old.limit }
-    ensures ids { hits.new.ids ≡ matching_ids pattern.now tree.now.methods }
-    ensures few { length hits.new.ids ≤ tree.now.method_limit }
-    ensures named { All (λ method. address_by_id tree.now.methods method.id ≡ Some method.address)
-        (matching pattern.now tree.now.methods) }
-    ensures limit { hits.new.limit ≡ hits.old.limit }
-{
-    osc_tree::laws::the_matching_methods_ascend();
-    find_uncounted::<Brand>(tree, hits, pattern, Blank::new(1));
-}
-
-fn find_uncounted<L: Ledger>(tree: &Tree, hits: &mut Hits, pattern: &Pattern<'_>, blank: Blank)
-    requires name { blank.name ≡ L.name }
-    requires parts { blank.parts ≡ L.parts }
-    requires some { 0 < blank.parts }
-    requires limit { tree.now.method_limit ≤ hits.old.limit }
-    ensures ids { hits.new.ids ≡ matching_ids pattern.now tree.now.methods }
-    ensures lawful { IsLawful tree.now }
-    ensures limit { hits.new.limit ≡ hits.old.limit }
-{
-    let mut steps = Steps::<L>::new(blank);
-    tree.matches(pattern, hits, &mut steps);
 }

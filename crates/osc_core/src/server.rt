@@ -18,7 +18,7 @@ use crate::answers::{Enrolled, Releasing, Submitted, Ticking};
 use crate::calls::release_unit;
 use crate::entry_answers::Leaving;
 use crate::store::Store;
-use crate::units::{blocks_of, enter_all, take_first};
+use crate::units::{enter_all, take_first};
 use osc_atoms::Room;
 use osc_method::Method;
 use osc_packet::Packet;
@@ -117,7 +117,7 @@ impl Server {
         if count > places {
             return Submitted::UnitsFull(Room::new(u64::from(count), u64::from(places)));
         }
-        let need = blocks_of(packet);
+        let need = packet.blocks();
         let free = self.store.free();
         if need > free {
             return Submitted::PoolFull(Room::new(u64::from(need), u64::from(free)));

@@ -1,30 +1,15 @@
 // The queued units: their places in the queue, and their messages in the store.
-ghost use Rattle.std.specs.Prelude.{◌≡◌, ◌+◌, ◌<◌, ◌≤◌, ◌^◌, ◌∷◌, length, drop};
+ghost use Rattle.std.specs.Prelude.{◌≡◌, ◌+◌, ◌<◌, ◌≤◌, ◌^◌, length, drop};
 ghost use Rattle.osc_packet.specs.Reading.{units_read};
-ghost use Rattle.osc_packet.specs.Units.{blocks};
+ghost use Rattle.osc_packet.specs.Units.{blocks, blocks_of};
 ghost use Rattle.osc_queue.specs.Timed as timed;
 ghost use Rattle.osc_model.specs.Step as step;
-ghost use Rattle.osc_model.specs.Counts as counts;
 ghost use Rattle.osc_core.specs.Kept.{kept_blocks};
 ghost use Rattle.osc_core.specs.Views.{queue_of, AreKept, AreQueued, HasFirst};
 
 use crate::store::Store;
 use osc_packet::{Packet, Unit};
-use osc_pattern::Steps;
 use osc_queue::Queue;
-use std::marker::Brand;
-use std::sync::ledger::{Blank, Ledger};
-
-/// How many blocks of 64 bytes the packet's units take.
-pub(crate) fn blocks_of(packet: &Packet<'_>) -> u32
-    ensures { result ≡ counts.blocks_of (units_read packet.now) }
-{
-    let mut blocks = 0;
-    for unit in packet.units() {
-        blocks += unit.stored().div_ceil(64);
-    }
-    blocks
-}
 
 /// The packet's units enter, numbered from `first` on.
 pub(crate) fn enter_all(
@@ -37,7 +22,7 @@ pub(crate) fn enter_all(
     requires running { AreQueued store.old queue.old first }
     requires numbers { first + length (units_read packet.now) < 2 ^ 64 }
     requires places { length queue.old.items + length (units_read packet.now) ≤ queue.old.limit }
-    requires blocks { kept_blocks store.old.kept + counts.blocks_of (units_read packet.now)
+    requires blocks { kept_blocks store.old.kept + blocks_of (units_read packet.now)
         ≤ store.old.limit }
     ensures queue { queue_of store.new.kept queue.new.items
         ≡ step.enter_all (step.numbered clock first (units_read packet.now))
@@ -69,24 +54,7 @@ fn enter(queue: &mut Queue<u64>, store: &mut Store, unit: &Unit<'_>, clock: u64,
 {
     let tag = unit.tag();
     store.put(number, unit);
-    push::<Brand>(queue, tag.max(clock), number, tag, Blank::new(1));
-}
-
-/// An item enters the queue, in a place that is free. Steps aren't counted here.
-fn push<L: Ledger>(queue: &mut Queue<u64>, due: u64, unit: u64, tag: u64, blank: Blank)
-    requires name { blank.name ≡ L.name }
-    requires parts { blank.parts ≡ L.parts }
-    requires some { 0 < blank.parts }
-    requires new { timed.IsNewUnit unit queue.old.items }
-    requires place { length queue.old.items < queue.old.limit }
-    ensures items { queue.new.items ≡ timed.enter (due, unit, tag) queue.old.items }
-    ensures limit { queue.new.limit ≡ queue.old.limit }
-{
-    let mut steps = Steps::<L>::new(blank);
-    match queue.push(due, unit, tag, &mut steps) {
-        Ok(()) => {}
-        Err(_) => unreachable!(),
-    }
+    queue.enter(tag.max(clock), number, tag);
 }
 
 /// The first unit leaves, whose due moment this is.
@@ -101,21 +69,17 @@ pub(crate) fn take_first(queue: &mut Queue<u64>, store: &mut Store, due: u64)
     ensures stock { store.new.places ≡ store.old.places }
     ensures limit { store.new.limit ≡ store.old.limit }
 {
-    let unit = pop::<Brand>(queue, due, Blank::new(1));
+    let unit = pop(queue, due);
     store.give(unit);
 }
 
 /// The first item leaves the queue, where one is due.
-fn pop<L: Ledger>(queue: &mut Queue<u64>, now: u64, blank: Blank) -> u64
-    requires name { blank.name ≡ L.name }
-    requires parts { blank.parts ≡ L.parts }
-    requires some { 0 < blank.parts }
+fn pop(queue: &mut Queue<u64>, now: u64) -> u64
     requires due { timed.NoneIsDue now queue.old.items → ⊥ }
     ensures items { HasFirst result queue.old.items queue.new.items }
     ensures limit { queue.new.limit ≡ queue.old.limit }
 {
-    let mut steps = Steps::<L>::new(blank);
-    match queue.pop_due(now, &mut steps) {
+    match queue.take_due(now) {
         Some((_, unit, _)) => unit,
         None => unreachable!(),
     }

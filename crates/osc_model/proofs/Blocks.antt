@@ -4,14 +4,13 @@ use Rattle.std.specs.List.{flat_map}
 use Rattle.std.proofs.lemmas.Bool.{cases_lt}
 use Rattle.std.proofs.lemmas.List.{length-take-le, append-nil}
 use Rattle.osc_packet.specs.Packets.{effective_tag}
-use Rattle.osc_packet.specs.Units.{Timed, stored_size}
+use Rattle.osc_packet.specs.Units.{Timed, stored_size, blocks_of}
 use Rattle.osc_packet.specs.Reading.{is_bundle, bundle_tag, packet_fault, element_fault, body_fault, first_size, first_element, after_first, elements_in, messages_in, bundle_read, enclosed_read, units_read}
 use Rattle.osc_packet.proofs.Steps.{bundle_step}
 use Rattle.osc_packet.proofs.Bodies.{silent_step, messages_step, messages_end}
 use Rattle.osc_packet.proofs.Walks.{enclosed_step, enclosed_end, one_first}
 use Rattle.osc_packet.proofs.Entering.{opened}
 use Rattle.osc_packet.proofs.Few.{Sound, sound}
-use Rattle.osc_model.specs.Counts.{blocks_of}
 
 blocks_joined : (first more : List Timed) → blocks_of (first ++ more) ≡ blocks_of first + blocks_of more
 blocks_joined [] more = omega arith

@@ -19,7 +19,7 @@ use Rattle.osc_pattern.proofs.Cutting.{neither}
 use Rattle.osc_pattern.specs.Addresses.{IsAddress, is_address, is_bad_byte, is_proper_prefix}
 use Rattle.osc_pattern.specs.Methods.{Method, prefixes_of, runs_of}
 use Rattle.osc_pattern.specs.Patterns.{parts_of}
-use Rattle.osc_packet.specs.Units.{Timed, stored_size}
+use Rattle.osc_packet.specs.Units.{Timed, stored_size, blocks_of}
 use Rattle.osc_packet.specs.Reading.{is_packet, packet_fault, units_read}
 use Rattle.osc_packet.proofs.Few.{sound, units_few}
 use Rattle.osc_packet.proofs.Bodies.{count_stored}
@@ -29,7 +29,7 @@ use Rattle.osc_tree.specs.Registry.{Registry, id_at, id_above}
 use Rattle.osc_tree.specs.Nodes.{has_node, new_nodes, free_nodes}
 use Rattle.osc_tree.specs.Adding.{Refusal, taken, under_method, is_container, methods_full, nodes_full, full_refusal, add_refusal}
 use Rattle.osc_model.specs.State.{State, Queued, AreNumbered, registry}
-use Rattle.osc_model.specs.Counts.{blocks_of, queued_blocks, free_places, free_blocks, free_bytes}
+use Rattle.osc_model.specs.Counts.{queued_blocks, free_places, free_blocks, free_bytes}
 use Rattle.osc_model.specs.Recordings.{IsHit, IsRecordable, IsSound as IsSoundAnswer, entry_size, refusing, submit_row}
 use Rattle.osc_model.specs.Events.{Event, enrol, submit, add, remove, tick, release, number, callers_full, queued, units_full, pool_full, refused, ticked, clock_back, nothing_due, adds_entry, Call}
 use Rattle.osc_model.specs.Step.{decided, leaves, after_submit, add_at, remove_at, releases, release_first, calls_of_unit, hits_of, invocations_of}

@@ -22,3 +22,4 @@ pub mod Sizes
 pub mod Fitting
 pub mod Recordable
 pub mod Callers
+pub mod ByIds

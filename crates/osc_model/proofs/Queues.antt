@@ -3,11 +3,11 @@ use Rattle.std.proofs.Common.{◌≡◌, ◌≢◌, ℕ, suc, ◌+◌, ◌<◌, 
 use Rattle.std.specs.List.Sorted.{IsPermutation}
 use Rattle.std.proofs.lemmas.List.Sums.{sum_by-cons}
 use Rattle.std.proofs.lemmas.List.Sorted.{IsPermutation-refl, IsPermutation-sym, IsPermutation-trans, IsPermutation-middle, IsPermutation-append_right, length_permutation, sum_by-IsPermutation}
-use Rattle.osc_packet.specs.Units.{Timed, blocks}
+use Rattle.osc_packet.specs.Units.{Timed, blocks, blocks_of}
 use Rattle.osc_queue.specs.Timed.{unit_of, enter, IsInOrder, IsNewUnit}
 use Rattle.osc_queue.proofs.Orders.{enter_joined, enter_ordered, all_entered}
 use Rattle.osc_model.specs.State.{Queued, AreNumbered}
-use Rattle.osc_model.specs.Counts.{blocks_of, queued_blocks}
+use Rattle.osc_model.specs.Counts.{queued_blocks}
 use Rattle.osc_model.specs.Step.{waiting, numbered, enter_all}
 
 -- the units join the others, none of which is lost

@@ -4,7 +4,7 @@ use Rattle.std.specs.Str.{bytes_eq}
 use Rattle.std.proofs.lemmas.Bool.Decides.{nat_tests}
 use Rattle.std.proofs.lemmas.List.Elements.{All-nil, All-push, All-weaker, All-filter}
 use Rattle.std.proofs.lemmas.Bool.{ltb-false}
-use Rattle.osc_packet.specs.Units.{Timed}
+use Rattle.osc_packet.specs.Units.{Timed, blocks_of}
 use Rattle.osc_packet.specs.Reading.{units_read}
 use Rattle.osc_pattern.specs.Addresses.{IsAddress, is_address}
 use Rattle.osc_pattern.specs.Methods.{Method}
@@ -13,7 +13,7 @@ use Rattle.osc_tree.specs.Registry.{Registry, IsLawful as IsLawfulRegistry, IsNe
 use Rattle.osc_tree.specs.Adding.{Refusal, IsAddable, add_refusal}
 use Rattle.osc_model.specs.Limits.{Limits, AreInRange}
 use Rattle.osc_model.specs.State.{State, Queued, opening, registry}
-use Rattle.osc_model.specs.Counts.{blocks_of, queued_blocks, free_places, free_blocks}
+use Rattle.osc_model.specs.Counts.{queued_blocks, free_places, free_blocks}
 use Rattle.osc_model.specs.Recordings.{entry_size}
 use Rattle.osc_model.specs.Events.{Event, enrol, submit, add, remove, tick, release, units_full, pool_full, queued, number, callers_full, ticked, clock_back, nothing_due, Entry}
 use Rattle.osc_model.specs.Step.{step, decided, leaves, numbered, after_submit, add_at, remove_at, releases, release_first}

@@ -1,13 +1,13 @@
 -- How a step goes: an event is decided, and its entry is recorded where there is room for it.
 use Rattle.std.proofs.Common.{◌≡◌, ℕ, ◌+◌, ◌<◌, ◌≤◌, ◌==◌, Bool, true, false, cond, nat_le, nat_lt, List, [], ◌∷◌, length, Option, Some, None, refl}
 use Rattle.std.proofs.lemmas.Bool.{ltb-true, ltb-false}
-use Rattle.osc_packet.specs.Units.{Timed}
+use Rattle.osc_packet.specs.Units.{Timed, blocks_of}
 use Rattle.osc_packet.specs.Reading.{units_read}
 use Rattle.osc_queue.specs.Timed.{due_of}
 use Rattle.osc_tree.specs.Registry.{id_at}
 use Rattle.osc_tree.specs.Adding.{Refusal, add_refusal}
 use Rattle.osc_model.specs.State.{Queued, State, registry}
-use Rattle.osc_model.specs.Counts.{blocks_of, free_places, free_blocks, free_bytes}
+use Rattle.osc_model.specs.Counts.{free_places, free_blocks, free_bytes}
 use Rattle.osc_model.specs.Recordings.{entry_size}
 use Rattle.osc_model.specs.Events.{Event, enrol, submit, add, remove, tick, release, Answer, number, callers_full, queued, units_full, pool_full, refused, not_there, ticked, clock_back, nothing_due, record_full, adds_entry}
 use Rattle.osc_model.specs.Refusals.{IsRefusal}

@@ -1,12 +1,7 @@
 -- How much of a server's tables is in use.
 use Rattle.std.specs.Prelude.{ℕ, ◌+◌, ◌-◌, List, [], ◌∷◌, length}
-use Rattle.osc_packet.specs.Units.{Timed, blocks}
+use Rattle.osc_packet.specs.Units.{blocks}
 use Rattle.osc_model.specs.State.{State, Queued}
-
--- the blocks that units take
-abbrev pub blocks_of : List Timed → ℕ
-blocks_of [] = 0
-blocks_of (unit ∷ units) = blocks unit + blocks_of units
 
 -- the blocks that queued units take
 abbrev pub queued_blocks : List Queued → ℕ

@@ -10,3 +10,4 @@ pub mod Refusals
 pub mod Heard
 pub mod History
 pub mod Passing
+pub mod Calls

@@ -3,14 +3,14 @@ use Rattle.std.specs.Prelude.{ℕ, ◌+◌, ◌==◌, max, nat_le, nat_lt, if◌
 use Rattle.osc_pattern.specs.Methods.{Method}
 use Rattle.osc_message.specs.Reading.{pattern_of}
 use Rattle.osc_message.specs.Arguments.{unknown_of}
-use Rattle.osc_packet.specs.Units.{Timed}
+use Rattle.osc_packet.specs.Units.{Timed, blocks_of}
 use Rattle.osc_packet.specs.Reading.{units_read}
 use Rattle.osc_tree.specs.Registry.{id_at, without}
 use Rattle.osc_tree.specs.Adding.{Refusal, add_refusal}
 use Rattle.osc_tree.specs.Matching.{matching}
 use Rattle.osc_queue.specs.Timed.{due_of, unit_of, enter}
 use Rattle.osc_model.specs.State.{State, Queued, registry}
-use Rattle.osc_model.specs.Counts.{blocks_of, free_places, free_blocks, free_bytes}
+use Rattle.osc_model.specs.Counts.{free_places, free_blocks, free_bytes}
 use Rattle.osc_model.specs.Recordings.{entry_size}
 use Rattle.osc_model.specs.Events.{Event, enrol, submit, add, remove, tick, release, Answer, number, callers_full, queued, units_full, pool_full, added, refused, removed, not_there, ticked, clock_back, released, nothing_due, record_full, adds_entry, Hit, Call, Invocation}
 

@@ -1,5 +1,5 @@
 -- Units: the messages that are released together, and when.
-use Rattle.std.specs.Prelude.{ℕ, ◌+◌, ◌/◌, List, [], ◌∷◌, ◌++◌, length, Option, Some, None}
+use Rattle.std.specs.Prelude.{ℕ, ◌+◌, ◌/◌, List, [], ◌∷◌, ◌++◌, length, Option, Some, None, ◌-◌}
 use Rattle.osc_message.specs.Messages.{message_text}
 use Rattle.osc_packet.specs.Packets.{Packet, Elements, message, bundle, none, more, effective_tag}
 
@@ -38,6 +38,15 @@ abbrev pub stored_size : List (List ℕ) → ℕ
 stored_size [] = 0
 stored_size (bytes ∷ messages) = 4 + length bytes + stored_size messages
 
--- the blocks of 64 bytes that a unit takes
+-- how many bytes a block of room for messages has
+abbrev pub block_size : ℕ
+block_size = 64
+
+-- the blocks that a unit takes
 abbrev pub blocks : Timed → ℕ
-blocks unit = (stored_size unit.messages + 63) / 64
+blocks unit = (stored_size unit.messages + (block_size - 1)) / block_size
+
+-- the blocks that units take, each of which begins one
+abbrev pub blocks_of : List Timed → ℕ
+blocks_of [] = 0
+blocks_of (unit ∷ units) = blocks unit + blocks_of units

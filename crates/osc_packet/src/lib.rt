@@ -14,7 +14,7 @@ mod unit_messages;
 mod units;
 mod walk;
 
-pub use limits::MAX_PACKET;
+pub use limits::{BLOCK_SIZE, MAX_PACKET};
 pub use packet::Packet;
 pub use unit::Unit;
 pub use unit_messages::UnitMessages;

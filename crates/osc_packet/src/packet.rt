@@ -1,7 +1,4 @@
 // Packets, borrowed from their bytes.
-ghost use Rattle.std.specs.Prelude.{◌≡◌, ◌≤◌, IfOk};
-ghost use Rattle.std.specs.Result.{result_err};
-ghost use Rattle.osc_packet.specs.Reading.{packet_fault};
 
 use crate::Units;
 use crate::checking::check_packet;
@@ -33,7 +30,7 @@ impl<'a> Packet<'a> {
     ghost use Rattle.std.specs.Result.{result_err};
     ghost use Rattle.osc_atoms.specs.declared.fault.Fault.{Fault};
     ghost use Rattle.osc_packet.specs.Packets.{Packet as Written, packet_text, IsValid, IsPacket};
-    ghost use Rattle.osc_packet.specs.Units.{units_of};
+    ghost use Rattle.osc_packet.specs.Units.{units_of, blocks_of};
     ghost use Rattle.osc_packet.specs.Wants.{FirstFault};
     ghost use Rattle.osc_packet.specs.Reading.{packet_fault, is_packet, units_read};
 
@@ -79,6 +76,17 @@ impl<'a> Packet<'a> {
         ensures few { result ≤ MAX_PACKET }
     {
         self.units().count() as u32
+    }
+
+    /// How many blocks the units take where they are kept, each of which begins one.
+    pub fn blocks(&self) -> u32
+        ensures { result ≡ blocks_of (units_read self.now) }
+    {
+        let mut blocks = 0;
+        for unit in self.units() {
+            blocks += unit.blocks();
+        }
+        blocks
     }
 
     /// The units in order, the packet's own first, then those of the enclosed bundles in the order of the packet.

@@ -1,9 +1,8 @@
 // Units: the messages that are released together.
-ghost use Rattle.std.specs.Prelude.{◌≡◌, ◌≤◌, length};
-ghost use Rattle.osc_packet.specs.Units.{stored_size};
 
 use crate::UnitMessages;
 use crate::content::Content;
+use crate::limits::BLOCK_SIZE;
 use std::marker::Model;
 
 /// The messages of one bundle that aren't in a bundle enclosed in it, or a message alone (OSC 1.0, "Temporal Semantics
@@ -27,7 +26,7 @@ impl<'a> Model for Unit<'a> {
 
 impl<'a> Unit<'a> {
     ghost use Rattle.std.specs.Prelude.{◌≡◌, ◌≤◌, length};
-    ghost use Rattle.osc_packet.specs.Units.{stored_size};
+    ghost use Rattle.osc_packet.specs.Units.{stored_size, blocks};
     ghost use Rattle.osc_packet.specs.Contents.{messages_of, IsSound};
 
     pub(crate) fn new(tag: u64, content: Content<'a>) -> Unit<'a>
@@ -70,6 +69,14 @@ impl<'a> Unit<'a> {
             rest = after;
         }
         size
+    }
+
+    /// How many blocks the messages take where they are kept.
+    pub fn blocks(&self) -> u32
+        ensures value { result ≡ blocks self.now }
+        ensures few { result ≤ 1024 }
+    {
+        self.stored().div_ceil(BLOCK_SIZE)
     }
 
     /// The messages, in the order of the packet.

@@ -4,5 +4,6 @@
 mod entry;
 pub mod laws;
 mod queue;
+mod uncounted;
 
 pub use queue::{Queue, UnitsFull};

@@ -1,6 +1,5 @@
 pub mod Sizing
 pub mod Formed
-pub mod Found
 pub mod Telling
 pub mod Printing
 pub mod Entering

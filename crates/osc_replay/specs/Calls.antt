@@ -1,22 +1,10 @@
 -- The calls of a release: their hits as a recording has them, and their printed lines.
-use Rattle.std.specs.Prelude.{ℕ, List, [], unwrap_or}
+use Rattle.std.specs.Prelude.{ℕ, List}
 use Rattle.std.specs.List.{flat_map}
-use Rattle.osc_pattern.specs.Methods.{Method}
-use Rattle.osc_tree.specs.Registry.{address_by_id}
 use Rattle.osc_print.specs.Entries.{invocation_text}
 use Rattle.osc_model.specs.Events.{Call}
 use Rattle.osc_model.specs.Recordings.{hits_text}
 use Rattle.osc_model.specs.Step.{hits_of, invocations_of}
-
--- the call of the method with an id, with the unit's message at an index
-abbrev pub call_by : List Method → ℕ → List ℕ → ℕ → Call
-call_by methods index message id =
-    record {
-      index = index;
-      id = id;
-      address = unwrap_or (address_by_id methods id) [];
-      message = message;
-    }
 
 -- the bytes of the hits
 abbrev pub hits_bytes : List Call → List ℕ

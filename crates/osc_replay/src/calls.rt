@@ -1,20 +1,17 @@
 // The calls that a release makes.
 ghost use Rattle.std.specs.Prelude.{◌≡◌, ◌<◌, ◌≤◌, ◌++◌, ◌∷◌, [], map, All, Some, IsSome, OnOk};
-ghost use Rattle.osc_tree.specs.Registry.{IsLawful, address_by_id};
-ghost use Rattle.osc_tree.specs.Matching.{matching, matching_ids};
+ghost use Rattle.osc_tree.specs.Registry.{address_by_id};
 ghost use Rattle.osc_model.specs.Step.{calls_of, calls_from};
-ghost use Rattle.osc_replay.specs.Calls.{call_by, hits_bytes, call_lines};
+ghost use Rattle.osc_replay.specs.Calls.{hits_bytes, call_lines};
+ghost use Rattle.osc_model.specs.Calls.{call_by};
 
 use crate::units::Queued;
 use osc_atoms::put_word;
 use osc_message::Message;
 use osc_method::Call;
-use osc_pattern::{Pattern, Steps};
 use osc_print::{Text, call_line};
 use osc_tree::{Hits, Tree};
 use std::alloc::{AllocError, Global};
-use std::marker::Brand;
-use std::sync::ledger::{Blank, Ledger};
 
 /// The hits of calls as a recording has them, and the lines of the calls.
 #[derive(Drop)]
@@ -91,7 +88,7 @@ fn push_calls(
     if message.unknown().is_some() {
         return Ok(());
     }
-    find_hits(tree, room, &message.pattern());
+    tree.find(&message.pattern(), room);
     let call = Call {
         unit,
         index,
@@ -134,29 +131,4 @@ fn push_hit(tree: &Tree, id: u32, call: &Call<'_>, calls: &mut Calls) -> Result<
     put_word(&mut calls.hits, call.index)?;
     put_word(&mut calls.hits, id)?;
     call_line(&mut calls.lines, call, id, address)
-}
-
-/// Fills `room` with the ids of the methods that the pattern matches. Steps aren't counted here.
-fn find_hits(tree: &Tree, room: &mut Hits, pattern: &Pattern<'_>)
-    requires { tree.now.method_limit ≤ room.old.limit }
-    ensures ids { room.new.ids ≡ matching_ids pattern.now tree.now.methods }
-    ensures named { All (λ method. address_by_id tree.now.methods method.id ≡ Some method.address)
-        (matching pattern.now tree.now.methods) }
-    ensures limit { room.new.limit ≡ room.old.limit }
-{
-    osc_tree::laws::the_matching_methods_ascend();
-    find_uncounted::<Brand>(tree, room, pattern, Blank::new(1));
-}
-
-fn find_uncounted<L: Ledger>(tree: &Tree, room: &mut Hits, pattern: &Pattern<'_>, blank: Blank)
-    requires name { blank.name ≡ L.name }
-    requires parts { blank.parts ≡ L.parts }
-    requires some { 0 < blank.parts }
-    requires limit { tree.now.method_limit ≤ room.old.limit }
-    ensures ids { room.new.ids ≡ matching_ids pattern.now tree.now.methods }
-    ensures lawful { IsLawful tree.now }
-    ensures limit { room.new.limit ≡ room.old.limit }
-{
-    let mut steps = Steps::<L>::new(blank);
-    tree.matches(pattern, room, &mut steps);
 }

@@ -1,5 +1,5 @@
 // A plain sequential server over lists.
-ghost use Rattle.std.specs.Prelude.{◌≡◌, ◌<◌, ◌++◌, ◌∷◌, [], length, option_map, IsTrue, IfOk, IfSome, IfNone};
+ghost use Rattle.std.specs.Prelude.{◌≡◌, ◌<◌, ◌++◌, ◌∷◌, [], option_map, IfSome, IfNone};
 ghost use Rattle.osc_tree.specs.Adding.{refusal_of, add_refusal};
 ghost use Rattle.osc_tree.specs.Registry.{IsNewId};
 ghost use Rattle.osc_model.specs.Events.{release, ticked};
@@ -11,7 +11,7 @@ ghost use Rattle.osc_replay.specs.Events.{event_in};
 use crate::calls::{Calls, find_calls};
 use crate::event::LawfulEvent;
 use crate::outcome::Outcome;
-use crate::units::{Queued, blocks_of, enter_all, take_due};
+use crate::units::{Queued, enter_all};
 use osc_atoms::Room;
 use osc_packet::Packet;
 use osc_pattern::Address;
@@ -76,7 +76,7 @@ impl<'a> Model for Server<'a> {
 }
 
 impl<'a> Server<'a> {
-    ghost use Rattle.std.specs.Prelude.{◌≡◌, ◌≢◌, ◌+◌, ◌<◌, ◌≤◌, ◌^◌, length, IsTrue, IfOk};
+    ghost use Rattle.std.specs.Prelude.{◌≡◌, ◌≢◌, ◌+◌, ◌<◌, IsTrue, IfOk};
     ghost use Rattle.osc_pattern.specs.Addresses.{is_address};
     ghost use Rattle.osc_model.specs.State.{opening};
     ghost use Rattle.osc_model.specs.Events.{enrol, submit, add, remove, tick, release};
@@ -184,7 +184,7 @@ impl<'a> Server<'a> {
         if count > places {
             return Answer::UnitsFull(Room::new(count as u64, places as u64));
         }
-        let need = blocks_of(packet);
+        let need = packet.blocks();
         let free = self.blocks - self.used;
         if need > free {
             return Answer::PoolFull(Room::new(need as u64, free as u64));
@@ -239,7 +239,7 @@ impl<'a> Server<'a> {
     {
         osc_model::laws::a_legal_history_is_recordable();
         osc_model::laws::a_server_stays_sound();
-        let Some((_, unit, taken)) = take_due(&mut self.queue, self.clock) else {
+        let Some((_, unit, taken)) = self.queue.take_due(self.clock) else {
             return Ok(Outcome::Nothing);
         };
         self.used -= taken.blocks();

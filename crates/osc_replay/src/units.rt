@@ -1,16 +1,12 @@
 // Units that wait, with the blocks that they take.
-ghost use Rattle.std.specs.Prelude.{◌≡◌, ◌↔◌, ◌≤◌, ◌+◌, ◌<◌, ◌^◌, ◌∷◌, length, IsNone, IfSome, IfNone};
-ghost use Rattle.osc_packet.specs.Reading.{units_read};
+ghost use Rattle.std.specs.Prelude.{◌≡◌, ◌≤◌, ◌+◌, ◌<◌, ◌^◌, length};
 ghost use Rattle.osc_queue.specs.Timed as timed;
 ghost use Rattle.osc_model.specs.State.{AreNumbered};
-ghost use Rattle.osc_model.specs.Counts as counts;
 ghost use Rattle.osc_model.specs.Step as step;
 
 use osc_packet::{Packet, Unit, UnitMessages, Units};
-use osc_pattern::Steps;
 use osc_queue::Queue;
-use std::marker::{Brand, Model};
-use std::sync::ledger::{Blank, Ledger};
+use std::marker::Model;
 
 /// A unit of a packet in the recording, and how many blocks it takes. A contract sees the unit.
 #[derive(Drop)]
@@ -37,7 +33,7 @@ impl<'a> Queued<'a> {
     fn new(unit: Unit<'a>) -> Queued<'a>
         ensures { result ≡ unit.entry }
     {
-        let blocks = unit.stored().div_ceil(64);
+        let blocks = unit.blocks();
         Queued { unit, blocks }
     }
 
@@ -61,17 +57,6 @@ impl<'a> Queued<'a> {
     {
         self.unit.messages()
     }
-}
-
-/// How many blocks of 64 bytes the packet's units take.
-pub(crate) fn blocks_of(packet: &Packet<'_>) -> u32
-    ensures { result ≡ counts.blocks_of (units_read packet.now) }
-{
-    let mut blocks = 0;
-    for unit in packet.units() {
-        blocks += unit.stored().div_ceil(64);
-    }
-    blocks
 }
 
 /// The units enter, numbered from `first` on.
@@ -100,60 +85,5 @@ fn enter<'a>(queue: &mut Queue<Queued<'a>>, unit: Queued<'a>, clock: u64, number
     ensures length { length queue.new.items ≡ length queue.old.items + 1 }
     ensures limit { queue.new.limit ≡ queue.old.limit }
 {
-    push::<Brand>(queue, unit.tag().max(clock), number, unit, Blank::new(1));
-}
-
-/// A unit enters, in a place that is free. Steps aren't counted here.
-fn push<'a, L: Ledger>(
-    queue: &mut Queue<Queued<'a>>,
-    due: u64,
-    number: u64,
-    unit: Queued<'a>,
-    blank: Blank,
-)
-    requires name { blank.name ≡ L.name }
-    requires parts { blank.parts ≡ L.parts }
-    requires some { 0 < blank.parts }
-    requires new { timed.IsNewUnit number queue.old.items }
-    requires place { length queue.old.items < queue.old.limit }
-    ensures items { queue.new.items ≡ timed.enter (due, number, unit.entry) queue.old.items }
-    ensures limit { queue.new.limit ≡ queue.old.limit }
-{
-    let mut steps = Steps::<L>::new(blank);
-    match queue.push(due, number, unit, &mut steps) {
-        Ok(()) => {}
-        Err(_) => unreachable!(),
-    }
-}
-
-/// Takes the first unit, if it is due at the moment.
-pub(crate) fn take_due<'a>(
-    queue: &mut Queue<Queued<'a>>,
-    now: u64,
-) -> Option<(u64, u64, Queued<'a>)>
-    ensures none { IsNone result ↔ timed.NoneIsDue now queue.old.items }
-    ensures unchanged { IfNone result (queue.new ≡ queue.old) }
-    ensures due { IfSome result (λ taken. timed.due_of taken ≤ now) }
-    ensures taken { IfSome result (λ taken. queue.old.items ≡ taken ∷ queue.new.items) }
-    ensures limit { queue.new.limit ≡ queue.old.limit }
-{
-    pop::<Brand>(queue, now, Blank::new(1))
-}
-
-fn pop<'a, L: Ledger>(
-    queue: &mut Queue<Queued<'a>>,
-    now: u64,
-    blank: Blank,
-) -> Option<(u64, u64, Queued<'a>)>
-    requires name { blank.name ≡ L.name }
-    requires parts { blank.parts ≡ L.parts }
-    requires some { 0 < blank.parts }
-    ensures none { IsNone result ↔ timed.NoneIsDue now queue.old.items }
-    ensures unchanged { IfNone result (queue.new ≡ queue.old) }
-    ensures due { IfSome result (λ taken. timed.due_of taken ≤ now) }
-    ensures taken { IfSome result (λ taken. queue.old.items ≡ taken ∷ queue.new.items) }
-    ensures limit { queue.new.limit ≡ queue.old.limit }
-{
-    let mut steps = Steps::<L>::new(blank);
-    queue.pop_due(now, &mut steps)
+    queue.enter(unit.tag().max(clock), number, unit);
 }

@@ -10,7 +10,7 @@ use Rattle.osc_message.specs.Reading.{pattern_of}
 use Rattle.osc_message.specs.Arguments.{unknown_of}
 use Rattle.osc_pattern.specs.Methods.{Method}
 use Rattle.osc_pattern.specs.Patterns.{matches}
-use Rattle.osc_packet.specs.Units.{Timed}
+use Rattle.osc_packet.specs.Units.{Timed, blocks_of}
 use Rattle.osc_packet.specs.Reading.{is_packet, units_read}
 use Rattle.osc_queue.specs.Timed.{due_of}
 use Rattle.osc_tree.specs.Registry.{id_at}
@@ -19,7 +19,7 @@ use Rattle.osc_tree.specs.Matching.{matched, matching}
 use Rattle.osc_tree.proofs.Orders.{exactly_matching}
 use Rattle.osc_model.specs.Limits.{Limits}
 use Rattle.osc_model.specs.State.{State, Queued, opening, registry}
-use Rattle.osc_model.specs.Counts.{blocks_of, free_places, free_blocks}
+use Rattle.osc_model.specs.Counts.{free_places, free_blocks}
 use Rattle.osc_model.specs.Recordings.{entry_size}
 use Rattle.osc_model.specs.Events.{Event, enrol, submit, add, remove, tick, release, Answer, number, callers_full, queued, units_full, pool_full, refused, not_there, ticked, clock_back, nothing_due, adds_entry, Room, Hit, Call, Entry}
 use Rattle.osc_model.specs.Step.{Stepped, step, decided, leaves, waiting, numbered, enter_all, after_submit, add_at, remove_at, matching_calls, calls_of, calls_from, calls_of_unit, hits_of, releases, release_first}

@@ -13,3 +13,4 @@ pub mod Ranges
 pub mod InOrder
 pub mod Leaving
 mod Refusing
+mod Found

@@ -14,6 +14,7 @@ mod order;
 mod refusals;
 mod registered;
 mod tree;
+mod uncounted;
 
 pub use hits::Hits;
 pub use refusals::{NotThere, TreeRefusal};

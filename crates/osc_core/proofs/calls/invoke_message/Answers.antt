@@ -1,6 +1,6 @@
 use Rattle.std.proofs.Common.{◌≡◌, ℕ, List, map, take, ap, ◌∙◌}
 use Rattle.osc_model.specs.Step.{calls_of, hits_of, invocations_of}
-use Rattle.osc_core.specs.Calls.{call_by}
+use Rattle.osc_model.specs.Calls.{call_by}
 use Rattle.osc_core.specs.Recorded.{with_hits}
 use Rattle.osc_core.proofs.Calling.{hit, invoked}
 use Rattle.osc_core.proofs.Hearing.{hear_same}

@@ -2,7 +2,7 @@ use Rattle.std.proofs.Common.{◌≡◌, ℕ, ◌+◌, ◌*◌, ◌≤◌, List,
 use Rattle.osc_method.specs.declared.call.Call.{Call as CodeCall}
 use Rattle.osc_model.specs.Step.{calls_of, hits_of, invocations_of}
 use Rattle.osc_record.specs.Writing.{Recording, recording_text, with_release}
-use Rattle.osc_core.specs.Calls.{call_by}
+use Rattle.osc_model.specs.Calls.{call_by}
 use Rattle.osc_core.specs.Recorded.{with_hits}
 use Rattle.osc_core.proofs.Calling.{as_many_calls, hit, invoked, only_calls}
 use Rattle.osc_core.proofs.Hearing.{hear_same}

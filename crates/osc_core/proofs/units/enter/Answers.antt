@@ -5,21 +5,21 @@ use Rattle.osc_core.proofs.units.enter.Goals as goal
 pub put-requires-clause-place : goal.put-requires-clause-place
 put-requires-clause-place c = omega (arith, as_many c.args.store.now.kept c.args.queue.now.items c.requires.running.kept, c.requires.running.places)
 
-pub push-requires-clause-new : goal.push-requires-clause-new
-push-requires-clause-new c = new_unit c.args.number c.args.queue.now.items c.requires.running.numbers
+pub enter-requires-clause-new : goal.enter-requires-clause-new
+enter-requires-clause-new c = new_unit c.args.number c.args.queue.now.items c.requires.running.numbers
 
 pub returns-clause-queue : goal.returns-clause-queue
 returns-clause-queue c =
-    rw (c.put.ensures.kept, c.push.ensures.items)
+    rw (c.put.ensures.kept, c.enter.ensures.items)
     (unit_entered c.args.store.now.kept c.args.queue.now.items c.args.clock c.args.number _ _ c.args.unit.now c.tag-tag.ensures c.max.ensures c.requires.running.kept c.requires.running.numbers)
 
 pub returns-clause-running : goal.returns-clause-running
 returns-clause-running c = record {
-  kept = rw (c.put.ensures.kept, c.push.ensures.items)
+  kept = rw (c.put.ensures.kept, c.enter.ensures.items)
       (are_entered c.args.store.now.kept _ _ _ c.args.queue.now.items c.requires.running.kept
       (new_unit c.args.number c.args.queue.now.items c.requires.running.numbers));
-  numbers = rw c.push.ensures.items (numbers_entered _ c.args.number _ c.args.queue.now.items c.requires.running.numbers);
-  places = rw (c.put.ensures.places, c.push.ensures.limit) c.requires.running.places;
+  numbers = rw c.enter.ensures.items (numbers_entered _ c.args.number _ c.args.queue.now.items c.requires.running.numbers);
+  places = rw (c.put.ensures.places, c.enter.ensures.limit) c.requires.running.places;
 }
 
 pub returns-clause-blocks : goal.returns-clause-blocks

@@ -1,7 +1,7 @@
 use Rattle.std.proofs.Common.{◌≡◌, ◌+◌, ◌≤◌, length}
 use Rattle.osc_packet.specs.Reading.{units_read}
 use Rattle.osc_model.specs.Step as step
-use Rattle.osc_model.specs.Counts.{blocks_of}
+use Rattle.osc_packet.specs.Units.{blocks_of}
 use Rattle.osc_core.specs.Kept.{kept_blocks}
 use Rattle.osc_core.specs.Views.{queue_of, AreQueued}
 use Rattle.osc_core.proofs.units.enter_all.Given as goal

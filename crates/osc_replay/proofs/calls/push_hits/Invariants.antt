@@ -1,5 +1,6 @@
 use Rattle.std.proofs.Common.{◌≡◌, ◌++◌, map, take}
-use Rattle.osc_replay.specs.Calls.{call_by, hits_bytes, call_lines}
+use Rattle.osc_replay.specs.Calls.{hits_bytes, call_lines}
+use Rattle.osc_model.specs.Calls.{call_by}
 use Rattle.osc_replay.proofs.calls.push_hits.Given as goal
 
 abbrev pub invariant-loop-id : goal.invariant-loop-id

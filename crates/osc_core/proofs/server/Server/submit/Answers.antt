@@ -17,7 +17,7 @@ returns-then-need-free-clause-answer c =
     omega (arith, same_blocks s.store.kept s.queue.items c.self.invariant.units.kept, c.free-free.ensures) in
     let full = finds_the_pool_full (the_view s) (units_read c.args.packet.now) c.free-places.result c.free-free.result places free (omega arith)
     (omega arith) in
-    rw (← c.self.view_is, full, c.new-then-need-free.ensures.need, c.new-then-need-free.ensures.free, c.from-then-need-free.ensures, c.from-then-need-free-2.ensures, c.blocks_of-need.ensures)
+    rw (← c.self.view_is, full, c.new-then-need-free.ensures.need, c.new-then-need-free.ensures.free, c.from-then-need-free.ensures, c.from-then-need-free-2.ensures, c.blocks-need.ensures)
     refl
 
 pub returns-then-need-free-clause-state : goal.returns-then-need-free-clause-state

@@ -18,7 +18,7 @@ invariant_of-self c =
         copies,
         all_blocks s.clock s.next_unit
             (units_read c.args.packet.now) s.queue.items,
-        c.blocks_of-need.ensures,
+        c.blocks-need.ensures,
         c.self.invariant.counted,
       );
     }

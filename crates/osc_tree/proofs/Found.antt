@@ -1,18 +1,17 @@
--- Methods by their ids, and the calls of the methods that match.
-use Rattle.std.proofs.Common.{◌≡◌, ◌≢◌, ℕ, suc, ◌==◌, Bool, true, false, cond, List, [], ◌∷◌, map, find, get_or, Option, Some, None, All, Contains, IsSome, inl, inr, refl, sym, ap, subst, ◌∙◌, arith}
+-- Methods by their ids: those that match have their addresses, and are few.
+use Rattle.std.proofs.Common.{◌≡◌, ◌≢◌, ℕ, suc, ◌+◌, ◌≤◌, ◌==◌, Bool, true, false, cond, List, [], ◌∷◌, length, map, find, get_or, Option, Some, None, All, Contains, inl, inr, refl, sym, ap, ◌∙◌, arith}
 use Rattle.std.specs.List.{AllPairs}
 use Rattle.std.specs.Option.{option_map}
 use Rattle.std.specs.List.Sorted.{IsPermutation}
 use Rattle.std.proofs.lemmas.Bool.{eq-eqb, eqb-true, cases_order}
-use Rattle.std.proofs.lemmas.List.{get_or_default}
-use Rattle.std.proofs.lemmas.List.Elements.{All-cons, All-head, All-tail, All-nil, All-filter, All-contains}
-use Rattle.std.proofs.lemmas.List.Sorted.{All-permutation}
+use Rattle.std.proofs.lemmas.List.{get_or_default, length-map}
+use Rattle.std.proofs.lemmas.List.Elements.{All-cons, All-nil, All-filter, All-contains}
+use Rattle.std.proofs.lemmas.List.Sorted.{All-permutation, length_permutation}
+use Rattle.std.proofs.lemmas.List.Sums.{length-filter, count_by-le-length}
 use Rattle.osc_pattern.specs.Patterns.{matches}
 use Rattle.osc_pattern.specs.Methods.{Method}
 use Rattle.osc_tree.specs.Registry.{Registry, IsLawful, address_by_id}
-use Rattle.osc_tree.specs.Matching.{matched, matching}
-use Rattle.osc_model.specs.Events.{Call}
-use Rattle.osc_replay.specs.Calls.{call_by}
+use Rattle.osc_tree.specs.Matching.{matched, matching, matching_ids}
 
 later : (x y : Method) (ys : List Method) → Contains ys x → Contains (y ∷ ys) x
 later x y ys (k, within, is) = (suc k, omega arith, is)
@@ -67,22 +66,45 @@ matching_found pattern tree lawful same =
     (λ k d below. address_found tree.methods (get_or tree.methods k d) lawful.list.ids
     (k, below, get_or_default tree.methods k (get_or tree.methods k d) d below)))
 
--- calls by ids are the calls of the methods
-pub called : (all methods : List Method) (index : ℕ) (message : List ℕ) → All (λ method. address_by_id all method.id ≡ Some method.address) methods
-    → map (call_by all index message) (map (λ method. method.id) methods)
-    ≡ map (λ method. record { index = index; id = method.id; address = method.address; message = message }) methods
-called all [] index message known = refl
-called all (method ∷ methods) index message known =
-    let own : Method → Type 0 = λ m. address_by_id all m.id ≡ Some m.address in
-    rw (All-head own method methods known)
-    (ap (λ (l : List Call). record { index = index; id = method.id; address = method.address; message = message } ∷ l)
-    (called all methods index message (All-tail own method methods known)))
+-- few methods match
+pub few_matching : (pattern : List ℕ) (tree : Registry) → IsLawful tree → IsPermutation (matched pattern tree.methods) (matching pattern tree.methods)
+    → length (matching_ids pattern tree.methods) ≤ tree.method_limit
+few_matching pattern tree lawful same =
+    let test : Method → Bool = λ method. matches pattern method.address in
+    omega (
+      arith,
+      length-map (matching pattern tree.methods) (λ (method : Method). method.id),
+      length_permutation (matched pattern tree.methods)
+          (matching pattern tree.methods) same,
+      length-filter test tree.methods,
+      count_by-le-length test tree.methods,
+      lawful.few_methods,
+    )
 
--- each of their ids has an address
-pub named : (all methods : List Method) → All (λ method. address_by_id all method.id ≡ Some method.address) methods
-    → All (λ id. IsSome (address_by_id all id)) (map (λ method. method.id) methods)
-named all [] known = All-nil (λ id. IsSome (address_by_id all id))
-named all (method ∷ methods) known =
-    let own : Method → Type 0 = λ m. address_by_id all m.id ≡ Some m.address in
-    All-cons (λ id. IsSome (address_by_id all id)) method.id (map (λ m. m.id) methods) (subst (λ o. IsSome o) (sym (All-head own method methods known)) refl)
-    (named all methods (All-tail own method methods known))
+-- how many calls there are doesn't hang on where the messages stand
+pub same_many : (methods : List Method) (i j : ℕ) (messages : List (List ℕ)) → length (calls_from methods i messages) ≡ length (calls_from methods j messages)
+same_many methods i j [] = refl
+same_many methods i j (message ∷ messages) =
+    omega (
+      arith,
+      length-append (calls_of methods i message) (calls_from methods (i + 1) messages),
+      length-append (calls_of methods j message)
+          (calls_from methods (j + 1) messages),
+      as_many_calls methods i message,
+      as_many_calls methods j message,
+      same_many methods (i + 1) (j + 1) messages,
+    )
+
+-- what is last is there
+pub last_there : (methods : List Method) (method : Method) → Contains (methods ++ method ∷ []) method
+last_there [] method = (0, omega arith, refl)
+last_there (first ∷ methods) method = later method first (methods ++ method ∷ []) (last_there methods method)
+
+-- a message with an unknown tag makes no call
+pub no_calls : (methods : List Method) (index : ℕ) (message : List ℕ) → is_some (unknown_of message) ≡ true → calls_of methods index message ≡ []
+no_calls methods index message is = rw is refl
+
+-- the calls of the only message
+pub only_calls : (methods : List Method) (message : List ℕ) (messages : List (List ℕ)) → messages ≡ message ∷ []
+    → calls_from methods 0 messages ≡ calls_of methods 0 message
+only_calls methods message messages only = ap (calls_from methods 0) only ∙ append-nil (calls_of methods 0 message)
