@@ -56,7 +56,7 @@ insert_one text (first ∷ front) back =
     go false false false n m more same = omega arith
 
 -- no text stands in the list twice
-abbrev AreDistinct : List (List ℕ) → Type 0
+abbrev pub AreDistinct : List (List ℕ) → Type 0
 AreDistinct [] = Unit {0}
 AreDistinct (text ∷ texts) = (list_any (bytes_eq text) texts ≡ false) × AreDistinct texts
 
@@ -110,12 +110,12 @@ stay_distinct front [] apart = tt
 stay_distinct front (text ∷ texts) apart = (any_same_front front text texts ∙ apart.0, stay_distinct front texts apart.1)
 
 -- the prefixes of an address are distinct
-runs_distinct : (names : List (List ℕ)) → AreDistinct (runs_of names)
+pub runs_distinct : (names : List (List ℕ)) → AreDistinct (runs_of names)
 runs_distinct [] = tt
 runs_distinct (name ∷ names) =
     (any_own_front (47 ∷ name) (runs_of names) ∙ runs_not_empty names, stay_distinct (47 ∷ name) (runs_of names) (runs_distinct names))
 
-has_node_is : (prefix : List ℕ) (methods : List Method)
+pub has_node_is : (prefix : List ℕ) (methods : List Method)
     → has_node methods prefix ≡ list_any (bytes_eq prefix) (flat_map (λ method. prefixes_of method.address) methods)
 has_node_is prefix [] = refl
 has_node_is prefix (method ∷ methods) =

@@ -14,3 +14,8 @@ pub mod InOrder
 pub mod Leaving
 mod Refusing
 mod Found
+pub mod Weights
+pub mod Alike
+pub mod Charges
+pub mod Walks
+pub mod Apart

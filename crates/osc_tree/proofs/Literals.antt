@@ -120,7 +120,8 @@ after_byte byte pattern address special slash e = go address (split-cons pattern
             → (rest : List ℕ) × (x ∷ address ≡ byte ∷ rest) × Splits pattern rest
         further true slashed found e = absurd (not_empty byte part parts (slice_split is_slash address) special slash e)
         further false slashed (name, names, there) e =
-            let more = first_names byte x part name parts names special slash (subst (λ l. match_parts ((byte ∷ part) ∷ parts) (onto_first x l) ≡ true) there e) in (
+            let more = first_names byte x part name parts names special slash
+            (subst (λ l. match_parts ((byte ∷ part) ∷ parts) (onto_first x l) ≡ true) there e) in (
               address,
               ap (λ b. b ∷ address) more.0,
               subst (λ l. match_parts l (slice_split is_slash address) ≡ true) (sym is)

@@ -21,7 +21,7 @@ pub placed_ahead : (method other : Method) (others : List Method) → is_below m
 placed_ahead method other others e = rw e refl
 
 -- what holds of a method and of all others holds of all, once it is in its place
-all_placed : (P : Method → Type 0) (method : Method) (others : List Method) → P method → AllByRecursion P others → AllByRecursion P (in_place others method)
+pub all_placed : (P : Method → Type 0) (method : Method) (others : List Method) → P method → AllByRecursion P others → AllByRecursion P (in_place others method)
 all_placed P method [] one all = (one, all)
 all_placed P method (other ∷ others) one all = go (is_below method other) refl (all_placed P method others one all.1) where
   go : (t : Bool) → is_below method other ≡ t → AllByRecursion P (in_place others method) → AllByRecursion P (in_place (other ∷ others) method)

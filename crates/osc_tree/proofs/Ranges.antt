@@ -12,10 +12,10 @@ use Rattle.osc_tree.specs.Matching.{is_below, IsAscending}
 use Rattle.osc_tree.specs.Order.{is_before, begins_with, IsSearched}
 use Rattle.osc_tree.proofs.Places.{any_default}
 
-abbrev lower : List ℕ → List ℕ → Bool
+abbrev pub lower : List ℕ → List ℕ → Bool
 lower a b = is_lt (slice_cmp nat_cmp a b)
 
-lower_order : IsStrictWeakOrder lower
+pub lower_order : IsStrictWeakOrder lower
 lower_order = ranks_by nat_list_cmp_total (λ (text : List ℕ). text)
 
 -- the first bytes decide, or else what follows them
@@ -27,7 +27,7 @@ lower_more x y xs ys = go (nat_lt x y) (x == y) where
   go false false = refl
 
 -- a text isn't before its own beginning
-begun_not_before : (text address : List ℕ) → starts_with nat_eq address text ≡ true → lower address text ≡ false
+pub begun_not_before : (text address : List ℕ) → starts_with nat_eq address text ≡ true → lower address text ≡ false
 begun_not_before [] [] e = refl
 begun_not_before [] (y ∷ address) e = refl
 begun_not_before (x ∷ text) [] e = absurd (cc)
@@ -37,7 +37,7 @@ begun_not_before (x ∷ text) (y ∷ address) e =
     grind (arith, nat_tests)
 
 -- after a text that isn't before a beginning and doesn't begin with it no text begins with it
-begun_no_more : (text first later : List ℕ) → starts_with nat_eq first text ≡ false → lower first text ≡ false → lower later first ≡ false
+pub begun_no_more : (text first later : List ℕ) → starts_with nat_eq first text ≡ false → lower first text ≡ false → lower later first ≡ false
     → starts_with nat_eq later text ≡ false
 begun_no_more [] first later e f g = absurd (cc)
 begun_no_more (x ∷ text) [] later e f g = absurd (cc)

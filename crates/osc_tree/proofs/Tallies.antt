@@ -48,7 +48,8 @@ pub tally_more : (methods : List Method) (front : List ℕ) (byte : ℕ) (rest :
 tally_more methods front byte rest =
     go (is_slash byte) ∙ ap (λ (n : ℕ). cond {A = ℕ} (is_slash byte && not (has_node methods front)) 1 0 + n) (onto methods front byte rest) where
       go : (t : Bool)
-          → count_by (λ text. not (has_node methods (front ++ text))) (cond t ([] ∷ map (λ text. byte ∷ text) (ends rest)) (map (λ text. byte ∷ text) (ends rest)))
+          → count_by (λ text. not (has_node methods (front ++ text)))
+          (cond t ([] ∷ map (λ text. byte ∷ text) (ends rest)) (map (λ text. byte ∷ text) (ends rest)))
           ≡ cond (t && not (has_node methods front)) 1 0 + count_by (λ text. not (has_node methods (front ++ text))) (map (λ text. byte ∷ text) (ends rest))
       go true =
           sum_by-cons (λ text. cond {A = ℕ} (not (has_node methods (front ++ text))) 1 0) [] (map (λ text. byte ∷ text) (ends rest))

@@ -4,3 +4,4 @@ pub mod Adding
 pub mod Matching
 pub mod Views
 pub mod Order
+pub mod Walking

@@ -9,6 +9,7 @@ pub mod laws;
 mod literal;
 mod lookup;
 mod matching;
+mod names;
 mod nodes;
 mod order;
 mod refusals;

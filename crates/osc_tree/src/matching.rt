@@ -1,13 +1,19 @@
 // The methods that a pattern matches.
-ghost use Rattle.std.specs.Prelude.{◌≡◌, ◌≤◌, ◌<◌, ◌+◌, ◌++◌, ◌∷◌, [], length, map, filter, All, vec_len, vec_capacity};
+ghost use Rattle.osc_pattern.specs.declared.limits.TheConstants.{MAX_NAME};
+ghost use Rattle.std.specs.Prelude.{◌≡◌, ◌≤◌, ◌<◌, ◌+◌, ◌++◌, ◌∷◌, ◌==◌, ◌&&◌, [], not, nat_le, nat_lt, if◌then◌else◌, true, length, take, position, All, vec_len, vec_capacity};
+ghost use Rattle.std.specs.List.{slice_split, position_or_len};
+ghost use Rattle.osc_pattern.specs.Items.{is_slash};
 ghost use Rattle.osc_pattern.specs.Methods.{IsMethodList};
-ghost use Rattle.osc_pattern.specs.Patterns.{matches};
+ghost use Rattle.osc_pattern.specs.Patterns.{parts_of, part_at};
+ghost use Rattle.osc_pattern.specs.Reading.{match_part};
 ghost use Rattle.osc_tree.specs.Matching.{matching_ids};
 ghost use Rattle.osc_tree.specs.Order.{IsOrder};
-ghost use Rattle.osc_tree.specs.Views.{methods_of, methods_at};
+ghost use Rattle.osc_tree.specs.Views.{method_at, methods_of, methods_at};
+ghost use Rattle.osc_tree.specs.Walking.{most_steps, shared, agreeing, part_steps, spent, known_at, IsWalked, IsSorted};
 
 use crate::beginning::beginning_with;
 use crate::literal::literal_front;
+use crate::names::{count_names, first_name, names_of, shared_names};
 use crate::registered::Registered;
 use osc_pattern::{Pattern, Steps};
 use std::sync::ledger::Ledger;
@@ -28,37 +34,164 @@ pub(crate) fn find_ids<L: Ledger>(
     ensures len { vec_len ids.new ≤ length places.now }
     ensures capacity { vec_capacity ids.old ≤ vec_capacity ids.new }
     ensures counted { steps.old ≤ steps.new }
+    ensures bounded { steps.new ≤ steps.old + most_steps pattern.now (methods_of methods.now) }
 {
     ids.clear();
     let near = beginning_with(methods, places, literal_front(pattern.bytes()));
-    add_matching(methods, near, pattern, ids, steps);
+    let mut at = 0;
+    while at < near.len() {
+        at = visit(methods, near, at, pattern, ids, steps);
+    }
 }
 
-/// Adds the ids of the methods at these places that the pattern matches, in room that is there.
-fn add_matching<L: Ledger>(
+/// Tries the method at this place, and tells where to go on: behind all methods below the first node whose part doesn't
+/// match. What the method has in common with the one before it isn't matched again.
+fn visit<L: Ledger>(
     methods: &[Registered],
     places: &[u32],
+    at: usize,
     pattern: &Pattern<'_>,
     ids: &mut Vec<u32>,
     steps: &mut Steps<L>,
-)
+) -> usize
     requires within { All (λ place. place < length methods.now) places.now }
-    requires empty { ids.old.items ≡ [] }
+    requires sorted { IsSorted (methods_at methods.now places.now) }
+    requires at { at < length places.now }
+    requires walked { IsWalked pattern.now (methods_at methods.now places.now) at ids.old.items }
     requires room { length places.now ≤ vec_capacity ids.old }
-    ensures ids { ids.new.items
-        ≡ map (λ method. method.id)
-        (filter (λ method. matches pattern.now method.address)
-        (methods_at methods.now places.now)) }
-    ensures len { vec_len ids.new ≤ length places.now }
+    ensures on { at < result }
+    ensures walked { IsWalked pattern.now (methods_at methods.now places.now) result ids.new.items }
     ensures capacity { vec_capacity ids.old ≤ vec_capacity ids.new }
     ensures counted { steps.old ≤ steps.new }
+    ensures bounded { steps.new + most_steps pattern.now
+        (take at (methods_at methods.now places.now))
+        ≤ steps.old + most_steps pattern.now (take result (methods_at methods.now places.now)) }
 {
-    for place in places {
-        let method = &methods[*place as usize];
-        if pattern.matches(&method.address, steps) {
-            add_id(method.id, ids);
+    let method = &methods[places[at] as usize];
+    let names = names_of(&method.address);
+    let known = known_at(methods, places, at);
+    let matching = count_matching(pattern, known, names, steps);
+    let parts = pattern.parts();
+    if is_whole(matching, parts, names) {
+        add_id(method.id, ids);
+        return at + 1;
+    }
+    let least = least_shared(matching, parts) as usize;
+    at + 1 + count_sharing(methods, &places[at + 1..], names, least)
+}
+
+/// How many names the method at this place has in common with the one before it.
+fn known_at(methods: &[Registered], places: &[u32], at: usize) -> usize
+    requires within { All (λ place. place < length methods.now) places.now }
+    requires at { at < length places.now }
+    ensures { result ≡ known_at (methods_at methods.now places.now) at (method_at methods.now 0) }
+{
+    if at == 0 {
+        return 0;
+    }
+    let before = &methods[places[at - 1] as usize];
+    let method = &methods[places[at] as usize];
+    shared_names(names_of(&before.address), names_of(&method.address))
+}
+
+/// How many parts match the names at their places, from the first on. The first `known` are known to.
+fn count_matching<L: Ledger>(
+    pattern: &Pattern<'_>,
+    known: usize,
+    names: &[u8],
+    steps: &mut Steps<L>,
+) -> u32
+    requires short { All (λ name. length name ≤ MAX_NAME) (slice_split is_slash names.now) }
+    requires known { known ≤ agreeing (parts_of pattern.now) (slice_split is_slash names.now) }
+    ensures count { result ≡ agreeing (parts_of pattern.now) (slice_split is_slash names.now) }
+    ensures counted { steps.old ≤ steps.new }
+    ensures bounded { steps.new
+        ≤ steps.old + spent known (parts_of pattern.now) (slice_split is_slash names.now) }
+{
+    let mut place = 0;
+    let mut rest = names;
+    while place < pattern.parts() {
+        let (name, more) = first_name(rest);
+        let left = known.saturating_sub(place as usize);
+        if !is_matching(pattern, place, left, name, steps) {
+            return place;
+        }
+        place += 1;
+        match more {
+            Some(more) => rest = more,
+            None => return place,
         }
     }
+    place
+}
+
+/// Whether the part at this place matches the name, which isn't tried where it is known to.
+fn is_matching<L: Ledger>(
+    pattern: &Pattern<'_>,
+    place: u32,
+    known: usize,
+    name: &[u8],
+    steps: &mut Steps<L>,
+) -> bool
+    requires place { place < length (parts_of pattern.now) }
+    requires name { length name.now ≤ MAX_NAME }
+    requires known { 0 < known → match_part (part_at pattern.now place) name.now ≡ true }
+    ensures test { result ≡ match_part (part_at pattern.now place) name.now }
+    ensures counted { steps.old ≤ steps.new }
+    ensures bounded { steps.new
+        ≤ steps.old + part_steps known (part_at pattern.now place) }
+{
+    known > 0 || pattern.matches_part(place, name, steps)
+}
+
+/// Whether so many are all parts and all names.
+fn is_whole(matching: u32, parts: u32, names: &[u8]) -> bool
+    ensures { result
+        ≡ (matching == parts && matching == length (slice_split is_slash names.now)) }
+{
+    matching == parts && matching as usize == count_names(names)
+}
+
+/// How many names are shared by all methods that are passed over with one whose parts match so far.
+fn least_shared(matching: u32, parts: u32) -> u32
+    requires { matching ≤ parts }
+    ensures { result ≡ if nat_lt matching parts then matching + 1 else matching }
+{
+    if matching < parts {
+        matching + 1
+    } else {
+        matching
+    }
+}
+
+/// How many methods have at least so many names in common with an address, before the first that hasn't.
+fn count_sharing(methods: &[Registered], places: &[u32], names: &[u8], least: usize) -> usize
+    requires { All (λ place. place < length methods.now) places.now }
+    ensures count { result
+        ≡ position_or_len (λ place. not (nat_le least (shared (slice_split is_slash names.now)
+        (parts_of (method_at methods.now place).address)))) places.now }
+    ensures bound { result ≤ length places.now }
+{
+    first_apart(methods, places, names, least).unwrap_or(places.len())
+}
+
+fn first_apart(methods: &[Registered], places: &[u32], names: &[u8], least: usize) -> Option<usize>
+    requires { All (λ place. place < length methods.now) places.now }
+    ensures { result
+        ≡ position (λ place. not (nat_le least (shared (slice_split is_slash names.now)
+        (parts_of (method_at methods.now place).address)))) places.now }
+{
+    places
+        .iter()
+        .position(|place| !is_sharing(methods, *place, names, least))
+}
+
+fn is_sharing(methods: &[Registered], place: u32, names: &[u8], least: usize) -> bool
+    requires { place < length methods.now }
+    ensures { result ≡ nat_le least (shared (slice_split is_slash names.now)
+        (parts_of (method_at methods.now place).address)) }
+{
+    least <= shared_names(names, names_of(&methods[place as usize].address))
 }
 
 fn add_id(id: u32, ids: &mut Vec<u32>)

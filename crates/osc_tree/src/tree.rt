@@ -1,12 +1,13 @@
 //! The tree of methods: a list in the order of adding, and their places in the order of their addresses, in room that is
 //! reserved at opening.
-ghost use Rattle.std.specs.Prelude.{◌≡◌, ◌≤◌, ◌↔◌, ℕ, List, [], ◌∷◌, ◌++◌, Some, None, IsOk, IsErr, IfOk, IfErr, IfSome, IsNone, OnOk, OnErr};
+ghost use Rattle.std.specs.Prelude.{◌≡◌, ◌≤◌, ◌+◌, ◌↔◌, ℕ, List, [], ◌∷◌, ◌++◌, Some, None, IsOk, IsErr, IfOk, IfErr, IfSome, IsNone, OnOk, OnErr};
 ghost use Rattle.std.specs.Option.{option_map, option_copied};
 ghost use Rattle.std.specs.Result.{result_ok};
 ghost use Rattle.osc_tree.specs.Registry.{Registry, IsLawful, IsAt, IsNewId, NoneAt, id_at, address_by_id, without};
 ghost use Rattle.osc_tree.specs.Adding.{IsAddable, IsRefused, refusal_of, add_refusal};
 ghost use Rattle.osc_tree.specs.Matching.{AreHits, matching_ids};
 ghost use Rattle.osc_tree.specs.Views.{methods_of};
+ghost use Rattle.osc_tree.specs.Walking.{most_steps};
 
 use crate::adding::admit;
 use crate::hits::Hits;
@@ -132,7 +133,8 @@ impl Tree {
 
     /// Fills `hits` with the ids of the methods that the pattern matches.
     ///
-    /// Steps are counted as in `Pattern::matches`, and no bound is promised.
+    /// Steps are counted as in `Pattern::matches_part`, which is called at most once for each node, and only for those
+    /// that stand right below one whose part matches.
     pub fn matches<L: Ledger>(&self, pattern: &Pattern<'_>, hits: &mut Hits, steps: &mut Steps<L>)
         requires { self.now.method_limit ≤ hits.old.limit }
         ensures hits { AreHits pattern.now self.now.methods hits.new.ids }
@@ -140,6 +142,7 @@ impl Tree {
         ensures limit { hits.new.limit ≡ hits.old.limit }
         ensures lawful { IsLawful self.now }
         ensures counted { steps.old ≤ steps.new }
+        ensures bounded { steps.new ≤ steps.old + most_steps pattern.now self.now.methods }
     {
         find_ids(&self.methods, &self.places, pattern, &mut hits.ids, steps);
     }

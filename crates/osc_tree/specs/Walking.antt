@@ -1,0 +1,68 @@
+-- How a pattern is matched along the methods in the order of their addresses, and what it costs.
+use Rattle.std.specs.Prelude.{◌≡◌, ℕ, zero, suc, ◌+◌, ◌-◌, ◌*◌, ◌<◌, ◌≤◌, nat_lt, if◌then◌else◌, List, [], ◌∷◌, length, take, filter, map, get_or, flat_map, sum_by}
+use Rattle.std.specs.Str.{bytes_eq}
+use Rattle.osc_pattern.specs.Patterns.{parts_of, part_at, matches}
+use Rattle.osc_pattern.specs.Reading.{match_part}
+use Rattle.osc_pattern.specs.Methods.{Method, IsMethodList, prefixes_of, distinct}
+use Rattle.osc_tree.specs.Matching.{IsAscending}
+
+-- the nodes of a tree: the prefixes by parts of its methods' addresses, each once
+abbrev pub node_list : List Method → List (List ℕ)
+node_list methods = distinct (flat_map (λ method. prefixes_of method.address) methods)
+
+-- the steps that a node may cost: 64 for each byte of the pattern's part at the node's depth and
+-- for the part's end, and none where the node is deeper than the pattern
+abbrev pub node_steps : List ℕ → List ℕ → ℕ
+node_steps pattern node =
+    if nat_lt (length (parts_of pattern)) (length (parts_of node)) then 0
+    else 64 * (length (part_at pattern (length (parts_of node) - 1)) + 1)
+
+-- the steps that all nodes may cost
+abbrev pub most_steps : List ℕ → List Method → ℕ
+most_steps pattern methods = sum_by (node_steps pattern) (node_list methods)
+
+-- how many names two lists have in common, from the first on
+abbrev pub shared : List (List ℕ) → List (List ℕ) → ℕ
+shared [] others = 0
+shared (name ∷ names) [] = 0
+shared (name ∷ names) (other ∷ others) =
+    if bytes_eq name other then shared names others + 1 else 0
+
+-- how many parts match the names at their places, from the first on
+abbrev pub agreeing : List (List ℕ) → List (List ℕ) → ℕ
+agreeing [] names = 0
+agreeing (part ∷ parts) [] = 0
+agreeing (part ∷ parts) (name ∷ names) =
+    if match_part part name then agreeing parts names + 1 else 0
+
+-- the steps that a part may cost, which is none where it is known to match
+abbrev pub part_steps : ℕ → List ℕ → ℕ
+part_steps zero part = 64 * (length part + 1)
+part_steps (suc known) part = 0
+
+-- the steps that parts may cost which stand against names, but for the first that are known to match
+abbrev pub spent : ℕ → List (List ℕ) → List (List ℕ) → ℕ
+spent known [] names = 0
+spent known (part ∷ parts) [] = 0
+spent known (part ∷ parts) (name ∷ names) =
+    part_steps known part + spent (known - 1) parts names
+
+-- how many names the method at a place has in common with the one before it
+abbrev pub known_at : List Method → ℕ → Method → ℕ
+known_at methods zero d = 0
+known_at methods (suc at) d =
+    shared (parts_of (get_or methods at d).address) (parts_of (get_or methods (suc at) d).address)
+
+-- the methods before a place were tried, and what the next has in common with the one before it
+-- is known to match
+pub record IsWalked (pattern : List ℕ) (methods : List Method) (at : ℕ) (ids : List ℕ) : Type 0 where
+  pub bound : at ≤ length methods
+  pub found : ids ≡ map (λ method. method.id)
+      (filter (λ method. matches pattern method.address) (take at methods))
+  pub known : (d : Method) → at < length methods
+      → known_at methods at d ≤ agreeing (parts_of pattern) (parts_of (get_or methods at d).address)
+
+-- a lawful list of methods in ascending order of the address
+pub record IsSorted (methods : List Method) : Type 0 where
+  pub list : IsMethodList methods
+  pub ascending : IsAscending methods

@@ -1,0 +1,80 @@
+// The names of addresses, one after another.
+ghost use Rattle.osc_pattern.specs.declared.limits.TheConstants.{MAX_NAME};
+ghost use Rattle.std.specs.Prelude.{◌≡◌, ◌≤◌, ◌+◌, ◌∷◌, ◌==◌, [], All, MatchOption, IfSome, option_map, length, count_by, position};
+ghost use Rattle.std.specs.List.{slice_split};
+ghost use Rattle.osc_pattern.specs.Items.{is_slash};
+ghost use Rattle.osc_pattern.specs.Reading.{cut_at};
+ghost use Rattle.osc_pattern.specs.Patterns.{parts_of};
+ghost use Rattle.osc_tree.specs.Walking.{shared};
+
+use osc_pattern::Address;
+
+/// The names of an address, with a slash between two.
+pub(crate) fn names_of(address: &Address) -> &[u8]
+    ensures parts { slice_split is_slash result.now ≡ parts_of address.now }
+    ensures short { All (λ name. length name ≤ MAX_NAME) (slice_split is_slash result.now) }
+{
+    &address.bytes()[1..]
+}
+
+/// The first name, and those after it if there are any.
+pub(crate) fn first_name(names: &[u8]) -> (&[u8], Option<&[u8]>)
+    ensures names { MatchOption result.1
+        (slice_split is_slash names.now ≡ result.0.now ∷ [])
+        (λ rest. slice_split is_slash names.now
+        ≡ result.0.now ∷ slice_split is_slash rest.now) }
+    ensures size { MatchOption result.1 (length result.0.now ≡ length names.now)
+        (λ rest. length result.0.now + (1 + length rest.now) ≡ length names.now) }
+{
+    match cut_name(names) {
+        Some((name, rest)) => (name, Some(rest)),
+        None => (names, None),
+    }
+}
+
+/// The bytes before the first slash, and those after it.
+fn cut_name(names: &[u8]) -> Option<(&[u8], &[u8])>
+    ensures cut { option_map (λ parts. (parts.0.now, parts.1.now)) result
+        ≡ cut_at is_slash names.now }
+    ensures size { IfSome result
+        (λ parts. length parts.0.now + (1 + length parts.1.now) ≡ length names.now) }
+{
+    let end = first_slash(names)?;
+    Some((&names[..end], &names[end + 1..]))
+}
+
+fn first_slash(names: &[u8]) -> Option<usize>
+    ensures { result ≡ position is_slash names.now }
+{
+    names.iter().position(|byte| *byte == b'/')
+}
+
+/// How many names are the same in both, from the first on.
+pub(crate) fn shared_names(names: &[u8], others: &[u8]) -> usize
+    ensures count { result
+        ≡ shared (slice_split is_slash names.now) (slice_split is_slash others.now) }
+    ensures bound { result ≤ length names.now + 1 }
+{
+    let (name, more) = first_name(names);
+    let (other, rest) = first_name(others);
+    if name != other {
+        return 0;
+    }
+    match (more, rest) {
+        (Some(more), Some(rest)) => shared_names(more, rest) + 1,
+        _ => 1,
+    }
+}
+
+/// How many names there are.
+pub(crate) fn count_names(names: &[u8]) -> usize
+    ensures count { result ≡ length (slice_split is_slash names.now) }
+{
+    count_slashes(names) + 1
+}
+
+fn count_slashes(names: &[u8]) -> usize
+    ensures { result ≡ count_by is_slash names.now }
+{
+    names.iter().filter(|byte| **byte == b'/').count()
+}
