@@ -1,10 +1,9 @@
 -- The first line at fault decides.
 use Rattle.std.proofs.Common.{◌≡◌, ℕ, ◌+◌, ◌<◌, Bool, true, false, cond, List, [], ◌∷◌, ◌++◌, length, Option, Some, None, Result, Ok, Err, IsOk, refl, ap, subst, ◌∙◌, arith, nat_lt}
 use Rattle.std.specs.List.{AllByRecursion}
-use Rattle.osc_script.specs.declared.act.Act.{Act}
+use Rattle.osc_script.specs.declared.said.Said.{Said}
 use Rattle.osc_script.specs.declared.line.Line.{Line}
 use Rattle.osc_script.specs.declared.mode.Mode.{Mode}
-use Rattle.osc_script.specs.declared.mode.Mode.TheVariants.{Plain}
 use Rattle.osc_script.specs.declared.fault.ScriptFault.{ScriptFault}
 use Rattle.osc_script.specs.declared.fault.ScriptRefusal.{ScriptRefusal}
 use Rattle.osc_script.specs.declared.fault.ScriptRefusal.TheVariants.{Fault, NoMemory}
@@ -14,18 +13,19 @@ use Rattle.osc_script.specs.Faults.{IsFirstFault}
 use Rattle.osc_script.specs.Scripts.{line_says, line_from, onto, script_from, script_of}
 
 -- the same of lines that are counted from a number on
-record IsFirstFrom (number : ℕ) (texts : List (List ℕ)) (fault : ScriptFault) : Type 0 where
+record IsFirstFrom (mode : Mode) (number : ℕ) (texts : List (List ℕ)) (fault : ScriptFault) : Type 0 where
   before : List (List ℕ)
   text : List ℕ
   after : List (List ℕ)
   lines : texts ≡ before ++ text ∷ after
   line : fault.line ≡ number + length before
-  lawful : AllByRecursion (λ text. IsOk (line_says text)) before
-  kind : line_says text ≡ Err fault.kind
+  lawful : AllByRecursion (λ text. IsOk (line_says mode text)) before
+  kind : line_says mode text ≡ Err fault.kind
 
-later : (number : ℕ) (text : List ℕ) (texts : List (List ℕ)) (fault : ScriptFault) → IsOk (line_says text) → IsFirstFrom (number + 1) texts fault
-    → IsFirstFrom number (text ∷ texts) fault
-later number text texts fault good first = record {
+later : (mode : Mode) (number : ℕ) (text : List ℕ) (texts : List (List ℕ)) (fault : ScriptFault) → IsOk (line_says mode text)
+    → IsFirstFrom mode (number + 1) texts fault
+    → IsFirstFrom mode number (text ∷ texts) fault
+later mode number text texts fault good first = record {
   before = text ∷ first.before;
   text = first.text;
   after = first.after;
@@ -35,9 +35,9 @@ later number text texts fault good first = record {
   kind = first.kind;
 }
 
-here : (number : ℕ) (text : List ℕ) (texts : List (List ℕ)) (kind : ℕ) (fault : ScriptFault) → line_says text ≡ Err kind
-    → record { line = number; kind = kind } ≡ fault → IsFirstFrom number (text ∷ texts) fault
-here number text texts kind fault said same = subst (λ f. IsFirstFrom number (text ∷ texts) f) same (record {
+here : (mode : Mode) (number : ℕ) (text : List ℕ) (texts : List (List ℕ)) (kind : ℕ) (fault : ScriptFault) → line_says mode text ≡ Err kind
+    → record { line = number; kind = kind } ≡ fault → IsFirstFrom mode number (text ∷ texts) fault
+here mode number text texts kind fault said same = subst (λ f. IsFirstFrom mode number (text ∷ texts) f) same (record {
   before = [];
   text = text;
   after = texts;
@@ -48,19 +48,19 @@ here number text texts kind fault said same = subst (λ f. IsFirstFrom number (t
 })
 
 first_from : (mode : Mode) (number : ℕ) (texts : List (List ℕ)) (fault : ScriptFault) → script_from mode number texts ≡ Err fault
-    → IsFirstFrom number texts fault
-first_from Plain number [] fault is = absurd (cc)
-first_from Plain number (text ∷ texts) fault is =
-    go (line_says text) refl (script_from Plain (number + 1) texts) (first_from Plain (number + 1) texts fault) is where
-      go : (said : Result (Option Act) ℕ) → line_says text ≡ said → (others : Result (List Line) ScriptFault)
-          → (others ≡ Err fault → IsFirstFrom (number + 1) texts fault) → onto (line_from Plain number said) others ≡ Err fault
-          → IsFirstFrom number (text ∷ texts) fault
-      go (Err kind) said others rest so = let same : record { line = number; kind = kind } ≡ fault = cc in here number text texts kind fault said same
-      go (Ok None) said others rest so = later number text texts fault (rw said refl) (rest so)
-      go (Ok (Some act)) said (Err other) rest so = later number text texts fault (rw said refl) (rest so)
-      go (Ok (Some act)) said (Ok lines) rest so = absurd (cc)
+    → IsFirstFrom mode number texts fault
+first_from mode number [] fault is = absurd (cc)
+first_from mode number (text ∷ texts) fault is =
+    go (line_says mode text) refl (script_from mode (number + 1) texts) (first_from mode (number + 1) texts fault) is where
+      go : (said : Result (Option Said) ℕ) → line_says mode text ≡ said → (others : Result (List Line) ScriptFault)
+          → (others ≡ Err fault → IsFirstFrom mode (number + 1) texts fault) → onto (line_from number said) others ≡ Err fault
+          → IsFirstFrom mode number (text ∷ texts) fault
+      go (Err kind) said others rest so = let same : record { line = number; kind = kind } ≡ fault = cc in here mode number text texts kind fault said same
+      go (Ok None) said others rest so = later mode number text texts fault (rw said refl) (rest so)
+      go (Ok (Some one)) said (Err other) rest so = later mode number text texts fault (rw said refl) (rest so)
+      go (Ok (Some one)) said (Ok lines) rest so = absurd (cc)
 
-first_of_lines : (mode : Mode) (bytes : List ℕ) (fault : ScriptFault) → script_from mode 1 (lines_of bytes) ≡ Err fault → IsFirstFault bytes fault
+first_of_lines : (mode : Mode) (bytes : List ℕ) (fault : ScriptFault) → script_from mode 1 (lines_of bytes) ≡ Err fault → IsFirstFault mode bytes fault
 first_of_lines mode bytes fault is = let first = first_from mode 1 (lines_of bytes) fault is in record {
   before = first.before;
   text = first.text;
@@ -71,17 +71,17 @@ first_of_lines mode bytes fault is = let first = first_from mode 1 (lines_of byt
   kind = first.kind;
 }
 
-pub first_fault : (mode : Mode) (bytes : List ℕ) (fault : ScriptFault) → script_of mode bytes ≡ Err fault → 0 < fault.line → IsFirstFault bytes fault
+pub first_fault : (mode : Mode) (bytes : List ℕ) (fault : ScriptFault) → script_of mode bytes ≡ Err fault → 0 < fault.line → IsFirstFault mode bytes fault
 first_fault mode bytes fault is some = go (nat_lt 67108864 (length bytes)) is where
   go : (t : Bool) → cond {A = Result (List Line) ScriptFault} t (Err (record { line = 0; kind = 1 })) (script_from mode 1 (lines_of bytes)) ≡ Err fault
-      → IsFirstFault bytes fault
+      → IsFirstFault mode bytes fault
   go true so = let same : record { line = 0; kind = 1 } ≡ fault = cc in let none : 0 ≡ fault.line = ap (λ (f : ScriptFault). f.line) same in
       absurd (omega (arith, none, some))
   go false so = first_of_lines mode bytes fault so
 
 -- the same of what is answered
 pub first_answered : (mode : Mode) (bytes : List ℕ) (result : Result (List Line) ScriptRefusal) → Reads result (script_from mode 1 (lines_of bytes))
-    → (fault : ScriptFault) → result ≡ Err (Fault fault) → IsFirstFault bytes fault
+    → (fault : ScriptFault) → result ≡ Err (Fault fault) → IsFirstFault mode bytes fault
 first_answered mode bytes (Ok lines) reads fault is = absurd (cc)
 first_answered mode bytes (Err NoMemory) reads fault is = absurd (cc)
 first_answered mode bytes (Err (Fault other)) reads fault is =

@@ -1,6 +1,6 @@
 -- What a script that isn't refused holds.
-use Rattle.std.proofs.Common.{◌≡◌, ℕ, ◌+◌, ◌*◌, ◌<◌, ◌≤◌, ◌^◌, Bool, true, false, cond, eqb, IsTrue, List, [], ◌∷◌, length, Option, Some, None, Result, Ok, Err, IfOk, codes, refl, sym, ap, subst, ◌∙◌, arith, nat_lt}
-use Rattle.std.proofs.lemmas.Bool.{ltb-false}
+use Rattle.std.proofs.Common.{◌≡◌, ℕ, ◌+◌, ◌*◌, ◌<◌, ◌≤◌, ◌^◌, Bool, true, false, cond, eqb, IsTrue, List, [], ◌∷◌, length, Option, Some, None, ok_or, Result, Ok, Err, IfOk, codes, refl, sym, ap, subst, ◌∙◌, arith, nat_lt}
+use Rattle.std.proofs.lemmas.Bool.{ltb-false, ltb-true}
 use Rattle.std.proofs.lemmas.List.{append-nil}
 use Rattle.std.specs.List.{slice_split, onto_first, starts_with}
 use Rattle.std.specs.Int.{w64, from_be_bytes}
@@ -11,14 +11,16 @@ use Rattle.hex.proofs.HexLemmas.{decode_of-ok, decode_sized-ok, decode_sized-twi
 use Rattle.osc_pattern.specs.Addresses.{is_address}
 use Rattle.osc_script.specs.declared.act.Act.{Act}
 use Rattle.osc_script.specs.declared.act.Act.TheVariants.{Add, Remove, Send, Tick, Pump}
+use Rattle.osc_script.specs.declared.said.Said.{Said}
 use Rattle.osc_script.specs.declared.line.Line.{Line}
 use Rattle.osc_script.specs.declared.mode.Mode.{Mode}
-use Rattle.osc_script.specs.declared.mode.Mode.TheVariants.{Plain}
+use Rattle.osc_script.specs.declared.mode.Mode.TheVariants.{Plain, Lanes, Serve}
 use Rattle.osc_script.specs.declared.fault.ScriptFault.{ScriptFault}
-use Rattle.osc_script.specs.Kinds.{word_kind, address_kind, tag_kind}
+use Rattle.osc_script.specs.Kinds.{word_kind, count_kind, address_kind, tag_kind, lane_kind, not_here_kind}
 use Rattle.osc_script.specs.Words.{words_of, is_line_feed, lines_from, lines_of}
-use Rattle.osc_script.specs.Acts.{and_then, only_of, pump_of, decoded, address_of, packet_of, moment_of, act_of, IsLawfulAct}
-use Rattle.osc_script.specs.Scripts.{words_say, line_says, line_from, onto, script_from, script_of, AreLawful}
+use Rattle.osc_script.specs.Acts.{and_then, only_of, pump_of, decoded, address_of, packet_of, moment_of, act_of, is_known, has_count, served_of, IsLawfulAct}
+use Rattle.osc_script.specs.Lanes.{number_of, within_lanes, lane_of}
+use Rattle.osc_script.specs.Scripts.{on_lane, in_lane, said_of, words_say, line_says, line_from, onto, script_from, script_of, AreLawful, IsOf, AreOf}
 use Rattle.osc_script.proofs.Lines.{behind}
 
 -- where a step on what was read gives a value, there was one
@@ -92,56 +94,124 @@ act_lawful word words act said =
       go false false false false true so = pump_lawful words act so
       go false false false false false so = absurd (cc)
 
-words_lawful : (words : List (List ℕ)) (act : Act) → words_say words ≡ Ok (Some act) → IsLawfulAct act
-words_lawful [] act is = absurd (cc)
-words_lawful (word ∷ operands) act is =
-    let got = step_ok (act_of word operands) (λ one. Ok (Some one)) (Some act) is in
-    let same : got.0 ≡ act = cc in
-    subst IsLawfulAct same (act_lawful word operands got.0 got.1)
+where_true : {X : Type 0} (t : Bool) (x y z : X) → t ≡ true → cond t x y ≡ z → x ≡ z
+where_true true x y z is so = so
+where_true false x y z is so = absurd (cc)
 
-text_lawful : (text : List ℕ) (act : Act) → line_says text ≡ Ok (Some act) → IsLawfulAct act
-text_lawful text act is = go (starts_with eqb text (codes "#")) is where
-  go : (t : Bool) → cond {A = Result (Option Act) ℕ} t (Ok None) (words_say (words_of text)) ≡ Ok (Some act) → IsLawfulAct act
+-- a line of `add` adds a method
+added : (word : List ℕ) (words : List (List ℕ)) (act : Act) → bytes_eq word (codes "add") ≡ true → act_of word words ≡ Ok act
+    → (address : List ℕ) × (act ≡ Add address)
+unfolding act_of
+added word words act adds so =
+    let got = step_ok (address_of words) (λ address. Ok (Add address)) act (where_true (bytes_eq word (codes "add")) _ _ (Ok act) adds so) in
+    (got.0, (cc))
+
+served_lawful : (word : List ℕ) (words : List (List ℕ)) (act : Act) → served_of word words ≡ Ok act
+    → IsLawfulAct act × ((address : List ℕ) × (act ≡ Add address))
+unfolding served_of
+served_lawful word words act said = go (bytes_eq word (codes "add")) refl (is_known word) (has_count word (length words)) said where
+  go : (adds : Bool) → bytes_eq word (codes "add") ≡ adds → (known counted : Bool)
+      → cond adds (act_of word words) (cond known (cond {A = Result Act ℕ} counted (Err not_here_kind) (Err count_kind)) (Err word_kind)) ≡ Ok act
+      → IsLawfulAct act × ((address : List ℕ) × (act ≡ Add address))
+  go true adds known counted so = (act_lawful word words act so, added word words act adds so)
+  go false adds true true so = absurd (cc)
+  go false adds true false so = absurd (cc)
+  go false adds false counted so = absurd (cc)
+
+-- an act in a lane is that act in that lane
+laned : (lane : ℕ) (read : Result Act ℕ) (said : Said) → on_lane lane read ≡ Ok said → (read ≡ Ok said.act) × (said.lane ≡ lane)
+laned lane (Ok act) said is = let same : record { lane = lane; act = act } ≡ said = cc in
+    (ap (λ (s : Said). Ok s.act) same, sym (ap (λ (s : Said). s.lane) same))
+laned lane (Err kind) said is = absurd (cc)
+
+lane_small : (number : Option ℕ) (lane : ℕ) → ok_or (within_lanes number) lane_kind ≡ Ok lane → lane < 16
+lane_small None lane is = absurd (cc)
+lane_small (Some number) lane is = go (nat_lt number 16) refl is where
+  go : (t : Bool) → nat_lt number 16 ≡ t → ok_or (cond t (Some number) None) lane_kind ≡ Ok lane → lane < 16
+  go true small so = let same : number ≡ lane = cc in subst (λ n. n < 16) same (ltb-true number 16 small)
+  go false small so = absurd (cc)
+
+in_lane_lawful : (lane : ℕ) (words : List (List ℕ)) (said : Said) → in_lane lane words ≡ Ok said → IsLawfulAct said.act × (said.lane ≡ lane)
+in_lane_lawful lane [] said is = absurd (cc)
+in_lane_lawful lane (word ∷ operands) said is =
+    let got = laned lane (act_of word operands) said is in
+    (act_lawful word operands said.act got.0, got.1)
+
+-- what holds of a line in this mode
+abbrev Fits : Mode → Line → Type 0
+Fits mode line = IsLawfulAct line.act × IsOf mode line
+
+abbrev numbered : ℕ → Said → Line
+numbered number said = record { number = number; lane = said.lane; act = said.act }
+
+said_fits : (mode : Mode) (number : ℕ) (word : List ℕ) (words : List (List ℕ)) (said : Said) → said_of mode word words ≡ Ok said
+    → Fits mode (numbered number said)
+said_fits Plain number word words said is =
+    let got = laned 0 (act_of word words) said is in
+    (act_lawful word words said.act got.0, got.1)
+said_fits Lanes number word words said is =
+    let got = step_ok (ok_or (lane_of word) lane_kind) (λ lane. in_lane lane words) said is in
+    let on = in_lane_lawful got.0 words said got.2 in
+    (on.0, subst (λ n. n < 16) (sym on.1) (lane_small (number_of word) got.0 got.1))
+said_fits Serve number word words said is =
+    let got = laned 0 (served_of word words) said is in
+    let adds = served_lawful word words said.act got.0 in
+    (adds.0, (got.1, adds.1))
+
+words_fit : (mode : Mode) (number : ℕ) (words : List (List ℕ)) (said : Said) → words_say mode words ≡ Ok (Some said) → Fits mode (numbered number said)
+words_fit mode number [] said is = absurd (cc)
+words_fit mode number (word ∷ operands) said is =
+    let got = step_ok (said_of mode word operands) (λ one. Ok (Some one)) (Some said) is in
+    let same : got.0 ≡ said = cc in
+    said_fits mode number word operands said (got.1 ∙ ap Ok same)
+
+text_fits : (mode : Mode) (number : ℕ) (text : List ℕ) (said : Said) → line_says mode text ≡ Ok (Some said) → Fits mode (numbered number said)
+text_fits mode number text said is = go (starts_with eqb text (codes "#")) is where
+  go : (t : Bool) → cond {A = Result (Option Said) ℕ} t (Ok None) (words_say mode (words_of text)) ≡ Ok (Some said) → Fits mode (numbered number said)
   go true so = absurd (cc)
-  go false so = words_lawful (words_of text) act so
+  go false so = words_fit mode number (words_of text) said so
 
 -- one line more
-onto_lawful : (mode : Mode) (number : ℕ) (said : Result (Option Act) ℕ) (others : Result (List Line) ScriptFault) (lines : List Line)
-    → ((act : Act) → said ≡ Ok (Some act) → IsLawfulAct act) → ((more : List Line) → others ≡ Ok more → AreLawful more)
-    → onto (line_from mode number said) others ≡ Ok lines → AreLawful lines
-onto_lawful Plain number (Err kind) others lines one rest is = absurd (cc)
-onto_lawful Plain number (Ok None) others lines one rest is = rest lines is
-onto_lawful Plain number (Ok (Some act)) (Err fault) lines one rest is = absurd (cc)
-onto_lawful Plain number (Ok (Some act)) (Ok more) lines one rest is =
-    let same : record { number = number; lane = 0; act = act } ∷ more ≡ lines = cc in
-    subst AreLawful same (one act refl, rest more refl)
+onto_fits : (mode : Mode) (number : ℕ) (read : Result (Option Said) ℕ) (others : Result (List Line) ScriptFault) (lines : List Line)
+    → ((said : Said) → read ≡ Ok (Some said) → Fits mode (numbered number said))
+    → ((more : List Line) → others ≡ Ok more → AreLawful more × AreOf mode more) → onto (line_from number read) others ≡ Ok lines
+    → AreLawful lines × AreOf mode lines
+onto_fits mode number (Err kind) others lines one rest is = absurd (cc)
+onto_fits mode number (Ok None) others lines one rest is = rest lines is
+onto_fits mode number (Ok (Some said)) (Err fault) lines one rest is = absurd (cc)
+onto_fits mode number (Ok (Some said)) (Ok more) lines one rest is =
+    let same : numbered number said ∷ more ≡ lines = cc in
+    let first = one said refl in
+    let others = rest more refl in
+    subst (λ l. AreLawful l × AreOf mode l) same ((first.0, others.0), (first.1, others.1))
 
-texts_lawful : (mode : Mode) (number : ℕ) (texts : List (List ℕ)) (lines : List Line) → script_from mode number texts ≡ Ok lines → AreLawful lines
-texts_lawful mode number [] lines is = let same : [] ≡ lines = cc in subst AreLawful same tt
-texts_lawful mode number (text ∷ texts) lines is =
-    onto_lawful mode number (line_says text) (script_from mode (number + 1) texts) lines (text_lawful text) (texts_lawful mode (number + 1) texts) is
+texts_fit : (mode : Mode) (number : ℕ) (texts : List (List ℕ)) (lines : List Line) → script_from mode number texts ≡ Ok lines
+    → AreLawful lines × AreOf mode lines
+texts_fit mode number [] lines is = let same : [] ≡ lines = cc in subst (λ l. AreLawful l × AreOf mode l) same (tt, tt)
+texts_fit mode number (text ∷ texts) lines is =
+    onto_fits mode number (line_says mode text) (script_from mode (number + 1) texts) lines (text_fits mode number text) (texts_fit mode (number + 1) texts) is
 
--- the lines that were read when nothing is left are lawful
-pub lines_lawful : (mode : Mode) (lines : List Line) (number : ℕ) (rest : List ℕ) (texts : List (List ℕ)) → length rest ≡ 0
-    → behind lines (script_from mode number (lines_of rest)) ≡ script_from mode 1 texts → AreLawful lines
-lines_lawful mode lines number [] texts none is = texts_lawful mode 1 texts lines (sym is ∙ ap Ok (append-nil lines))
-lines_lawful mode lines number (byte ∷ rest) texts none is = absurd (omega arith)
+-- the lines that were read when nothing is left are lawful, and of their mode
+pub lines_fit : (mode : Mode) (lines : List Line) (number : ℕ) (rest : List ℕ) (texts : List (List ℕ)) → length rest ≡ 0
+    → behind lines (script_from mode number (lines_of rest)) ≡ script_from mode 1 texts → AreLawful lines × AreOf mode lines
+lines_fit mode lines number [] texts none is = texts_fit mode 1 texts lines (sym is ∙ ap Ok (append-nil lines))
+lines_fit mode lines number (byte ∷ rest) texts none is = absurd (omega arith)
 
 -- how many lines there are
 
-onto_few : (mode : Mode) (number : ℕ) (said : Result (Option Act) ℕ) (others : Result (List Line) ScriptFault) (lines : List Line) (most : ℕ)
-    → ((more : List Line) → others ≡ Ok more → length more ≤ most) → onto (line_from mode number said) others ≡ Ok lines → length lines ≤ 1 + most
-onto_few Plain number (Err kind) others lines most rest is = absurd (cc)
-onto_few Plain number (Ok None) others lines most rest is = omega (arith, rest lines is)
-onto_few Plain number (Ok (Some act)) (Err fault) lines most rest is = absurd (cc)
-onto_few Plain number (Ok (Some act)) (Ok more) lines most rest is =
-    let same : record { number = number; lane = 0; act = act } ∷ more ≡ lines = cc in
+onto_few : (number : ℕ) (read : Result (Option Said) ℕ) (others : Result (List Line) ScriptFault) (lines : List Line) (most : ℕ)
+    → ((more : List Line) → others ≡ Ok more → length more ≤ most) → onto (line_from number read) others ≡ Ok lines → length lines ≤ 1 + most
+onto_few number (Err kind) others lines most rest is = absurd (cc)
+onto_few number (Ok None) others lines most rest is = omega (arith, rest lines is)
+onto_few number (Ok (Some said)) (Err fault) lines most rest is = absurd (cc)
+onto_few number (Ok (Some said)) (Ok more) lines most rest is =
+    let same : numbered number said ∷ more ≡ lines = cc in
     omega (arith, rest more refl, ap length same)
 
 texts_few : (mode : Mode) (number : ℕ) (texts : List (List ℕ)) (lines : List Line) → script_from mode number texts ≡ Ok lines → length lines ≤ length texts
 texts_few mode number [] lines is = let same : [] ≡ lines = cc in omega (arith, ap length same)
 texts_few mode number (text ∷ texts) lines is =
-    omega (arith, onto_few mode number (line_says text) (script_from mode (number + 1) texts) lines (length texts) (texts_few mode (number + 1) texts) is)
+    omega (arith, onto_few number (line_says mode text) (script_from mode (number + 1) texts) lines (length texts) (texts_few mode (number + 1) texts) is)
 
 -- the bytes of parts
 abbrev size : List (List ℕ) → ℕ
@@ -188,7 +258,10 @@ if_ok (Ok value) P holds = holds value refl
 if_ok (Err error) P holds = tt
 
 pub script_lawful : (mode : Mode) (bytes : List ℕ) → IfOk (script_of mode bytes) AreLawful
-script_lawful mode bytes = if_ok (script_of mode bytes) AreLawful (λ lines is. texts_lawful mode 1 (lines_of bytes) lines (script_ok mode bytes lines is).1)
+script_lawful mode bytes = if_ok (script_of mode bytes) AreLawful (λ lines is. (texts_fit mode 1 (lines_of bytes) lines (script_ok mode bytes lines is).1).0)
+
+pub script_fits : (mode : Mode) (bytes : List ℕ) → IfOk (script_of mode bytes) (AreOf mode)
+script_fits mode bytes = if_ok (script_of mode bytes) (AreOf mode) (λ lines is. (texts_fit mode 1 (lines_of bytes) lines (script_ok mode bytes lines is).1).1)
 
 pub script_few : (mode : Mode) (bytes : List ℕ) → IfOk (script_of mode bytes) (λ lines. length lines ≤ length bytes)
 script_few mode bytes =

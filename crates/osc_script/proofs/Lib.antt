@@ -4,3 +4,4 @@ pub mod Lines
 pub mod Lawful
 pub mod First
 pub mod Operands
+pub mod Modes

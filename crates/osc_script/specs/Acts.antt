@@ -1,5 +1,5 @@
 -- What a line says, by its words, or the kind of its fault.
-use Rattle.std.specs.Prelude.{ℕ, ◌^◌, ◌<◌, ◌==◌, Bool, true, IsTrue, if◌then◌else◌, List, [], ◌∷◌, Option, Some, None, ok_or, Result, Ok, Err, codes}
+use Rattle.std.specs.Prelude.{ℕ, ◌^◌, ◌<◌, ◌==◌, Bool, true, IsTrue, if◌then◌else◌, List, [], ◌∷◌, length, Option, Some, None, ok_or, Result, Ok, Err, codes}
 use Rattle.std.specs.List.{concat, list_any}
 use Rattle.std.specs.Int.{w64, from_be_bytes}
 use Rattle.std.specs.Str.{bytes_eq}
@@ -8,7 +8,7 @@ use Rattle.hex.specs.declared.error.FromHexError.{FromHexError}
 use Rattle.osc_pattern.specs.Addresses.{is_address}
 use Rattle.osc_script.specs.declared.act.Act.{Act}
 use Rattle.osc_script.specs.declared.act.Act.TheVariants.{Add, Remove, Send, Tick, Pump}
-use Rattle.osc_script.specs.Kinds.{word_kind, count_kind, address_kind, hex_kind, tag_kind}
+use Rattle.osc_script.specs.Kinds.{word_kind, count_kind, address_kind, hex_kind, tag_kind, not_here_kind}
 
 -- a step on what was read, where there is no fault yet
 abbrev pub and_then : {X Y : Type 0} → Result X ℕ → (X → Result Y ℕ) → Result Y ℕ
@@ -78,6 +78,14 @@ has_count word many =
     else (if bytes_eq word (codes "send") then true
     else (if bytes_eq word (codes "tick") then many == 1
     else many == 0)))
+
+-- what a word and its operands say in mode Serve, where only a line of `add` is lawful
+unfoldable pub served_of : List ℕ → List (List ℕ) → Result Act ℕ
+served_of word operands =
+    if bytes_eq word (codes "add") then act_of word operands
+    else (if is_known word
+    then (if has_count word (length operands) then Err not_here_kind else Err count_kind)
+    else Err word_kind)
 
 -- an act that the server can be handed: a lawful address, or a moment of 64 bits
 abbrev pub IsLawfulAct : Act → Type 0

@@ -2,15 +2,16 @@
 use Rattle.std.specs.Prelude.{◌≡◌, ℕ, ◌+◌, List, ◌∷◌, ◌++◌, length, Err, IsOk}
 use Rattle.std.specs.List.{AllByRecursion}
 use Rattle.osc_script.specs.declared.fault.ScriptFault.{ScriptFault}
+use Rattle.osc_script.specs.declared.mode.Mode.{Mode}
 use Rattle.osc_script.specs.Words.{lines_of}
 use Rattle.osc_script.specs.Scripts.{line_says}
 
 -- a line with this fault, and only lawful or skipped lines before it
-pub record IsFirstFault (bytes : List ℕ) (fault : ScriptFault) : Type 0 where
+pub record IsFirstFault (mode : Mode) (bytes : List ℕ) (fault : ScriptFault) : Type 0 where
   pub before : List (List ℕ)
   pub text : List ℕ
   pub after : List (List ℕ)
   pub lines : lines_of bytes ≡ before ++ text ∷ after
   pub number : fault.line ≡ length before + 1
-  pub lawful : AllByRecursion (λ line. IsOk (line_says line)) before
-  pub kind : line_says text ≡ Err fault.kind
+  pub lawful : AllByRecursion (λ line. IsOk (line_says mode line)) before
+  pub kind : line_says mode text ≡ Err fault.kind

@@ -1,33 +1,56 @@
 -- What a list of bytes says line by line, or its first fault.
 use Rattle.osc_script.specs.declared.script.TheConstants.{MAX_SCRIPT}
-use Rattle.std.specs.Prelude.{ℕ, ◌+◌, nat_lt, nat_eq, if◌then◌else◌, List, [], ◌∷◌, length, Option, Some, None, Result, Ok, Err, codes}
+use Rattle.osc_script.specs.declared.lane.TheConstants.{MAX_LANES}
+use Rattle.std.specs.Prelude.{◌≡◌, ℕ, ◌+◌, ◌<◌, nat_lt, nat_eq, if◌then◌else◌, List, [], ◌∷◌, length, Option, Some, None, ok_or, Result, Ok, Err, codes}
 use Rattle.std.specs.List.{starts_with, AllByRecursion}
 use Rattle.osc_script.specs.declared.act.Act.{Act}
+use Rattle.osc_script.specs.declared.act.Act.TheVariants.{Add}
+use Rattle.osc_script.specs.declared.said.Said.{Said}
 use Rattle.osc_script.specs.declared.line.Line.{Line}
 use Rattle.osc_script.specs.declared.fault.ScriptFault.{ScriptFault}
 use Rattle.osc_script.specs.declared.mode.Mode.{Mode}
-use Rattle.osc_script.specs.declared.mode.Mode.TheVariants.{Plain}
+use Rattle.osc_script.specs.declared.mode.Mode.TheVariants.{Plain, Lanes, Serve}
 use Rattle.osc_script.specs.Words.{words_of, lines_of}
-use Rattle.osc_script.specs.Kinds.{too_long_kind}
-use Rattle.osc_script.specs.Acts.{and_then, act_of, IsLawfulAct}
+use Rattle.osc_script.specs.Kinds.{too_long_kind, count_kind, lane_kind}
+use Rattle.osc_script.specs.Lanes.{lane_of}
+use Rattle.osc_script.specs.Acts.{and_then, act_of, served_of, IsLawfulAct}
+
+-- an act in this lane, where there is no fault yet
+abbrev pub on_lane : ℕ → Result Act ℕ → Result Said ℕ
+on_lane lane read = and_then read (λ act. Ok (record { lane = lane; act = act }))
+
+-- what the words behind a lane's number say; there is one at least
+abbrev pub in_lane : ℕ → List (List ℕ) → Result Said ℕ
+in_lane lane [] = Err count_kind
+in_lane lane (word ∷ operands) = on_lane lane (act_of word operands)
+
+-- what a first word and the words behind it say; in mode Lanes the first word is the lane's number
+abbrev pub said_of : Mode → List ℕ → List (List ℕ) → Result Said ℕ
+said_of Plain word operands = on_lane 0 (act_of word operands)
+said_of Lanes word operands =
+    and_then (ok_or (lane_of word) lane_kind) (λ lane. in_lane lane operands)
+said_of Serve word operands = on_lane 0 (served_of word operands)
 
 -- what words say; none say nothing
-abbrev pub words_say : List (List ℕ) → Result (Option Act) ℕ
-words_say [] = Ok None
-words_say (word ∷ operands) = and_then (act_of word operands) (λ act. Ok (Some act))
+abbrev pub words_say : Mode → List (List ℕ) → Result (Option Said) ℕ
+words_say mode [] = Ok None
+words_say mode (word ∷ operands) =
+    and_then (said_of mode word operands) (λ said. Ok (Some said))
 
 -- what a line says: an act, nothing where it is skipped, or the kind of its fault
-abbrev pub line_says : List ℕ → Result (Option Act) ℕ
-line_says text = if starts_with nat_eq text (codes "#") then Ok None else words_say (words_of text)
+abbrev pub line_says : Mode → List ℕ → Result (Option Said) ℕ
+line_says mode text =
+    if starts_with nat_eq text (codes "#") then Ok None else words_say mode (words_of text)
 
--- what a line says with its number and its lane, which is 0 in mode Plain
-abbrev pub line_from : Mode → ℕ → Result (Option Act) ℕ → Result (Option Line) ScriptFault
-line_from Plain number (Ok None) = Ok None
-line_from Plain number (Ok (Some act)) = Ok (Some (record { number = number; lane = 0; act = act }))
-line_from Plain number (Err kind) = Err (record { line = number; kind = kind })
+-- what a line says with its number
+abbrev pub line_from : ℕ → Result (Option Said) ℕ → Result (Option Line) ScriptFault
+line_from number (Ok None) = Ok None
+line_from number (Ok (Some said)) =
+    Ok (Some (record { number = number; lane = said.lane; act = said.act }))
+line_from number (Err kind) = Err (record { line = number; kind = kind })
 
 abbrev pub line_of : Mode → ℕ → List ℕ → Result (Option Line) ScriptFault
-line_of mode number text = line_from mode number (line_says text)
+line_of mode number text = line_from number (line_says mode text)
 
 -- a line before others: nothing of one that is skipped, and a fault decides alone
 abbrev pub onto : Result (Option Line) ScriptFault → Result (List Line) ScriptFault
@@ -52,3 +75,14 @@ script_of mode bytes =
 -- each line's act is lawful
 abbrev pub AreLawful : List Line → Type 0
 AreLawful lines = AllByRecursion (λ line. IsLawfulAct line.act) lines
+
+-- what holds of a line of this mode: its lane is 0, or one of the lanes in mode Lanes, and in mode
+-- Serve it adds a method
+abbrev pub IsOf : Mode → Line → Type 0
+IsOf Plain line = line.lane ≡ 0
+IsOf Lanes line = line.lane < MAX_LANES
+IsOf Serve line = (line.lane ≡ 0) × ((address : List ℕ) × (line.act ≡ Add address))
+
+-- the same of each line
+abbrev pub AreOf : Mode → List Line → Type 0
+AreOf mode lines = AllByRecursion (λ line. IsOf mode line) lines

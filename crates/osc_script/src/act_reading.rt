@@ -1,12 +1,12 @@
 // Reads what a line says.
-ghost use Rattle.std.specs.Prelude.{◌≡◌, IfOk};
+ghost use Rattle.std.specs.Prelude.{◌≡◌, length, IfOk};
 ghost use Rattle.std.specs.List.{concat};
 ghost use Rattle.std.specs.Option.{option_copied};
 ghost use Rattle.osc_script.specs.Words.{words_of};
 ghost use Rattle.hex.specs.Hex.{decode_of};
 ghost use Rattle.osc_script.specs.Kinds.{hex_kind};
-ghost use Rattle.osc_script.specs.Acts.{act_of, only_one, address_of, decoded, packet_of, moment_of, pump_of};
-ghost use Rattle.osc_script.specs.Scripts.{line_says};
+ghost use Rattle.osc_script.specs.Acts;
+ghost use Rattle.osc_script.specs.Acts.{act_of, served_of, only_one, address_of, decoded, packet_of, moment_of, pump_of};
 ghost use Rattle.osc_script.specs.Answers.{Says};
 
 use crate::act::Act;
@@ -17,22 +17,9 @@ use osc_message::Bytes;
 use osc_pattern::{Address, AddressFault};
 use std::alloc::{AllocError, Global};
 
-/// What the line says; nothing where it is skipped.
-pub(crate) fn read_line(alloc: Global, text: &[u8]) -> Result<Option<Act>, LineRefusal>
-    ensures { Says result (line_says text.now) }
-{
-    if text.starts_with(b"#") {
-        return Ok(None);
-    }
-    match next_word(text) {
-        Some((word, operands)) => Ok(Some(read_act(alloc, word, operands)?)),
-        None => Ok(None),
-    }
-}
-
 /// What a word and the words behind it say.
 #[tactic(auto, unfolding(crate::specs::Acts::act_of))]
-fn read_act(alloc: Global, word: &[u8], operands: &[u8]) -> Result<Act, LineRefusal>
+pub(crate) fn read_act(alloc: Global, word: &[u8], operands: &[u8]) -> Result<Act, LineRefusal>
     ensures { Says result (act_of word.now (words_of operands.now)) }
 {
     if word == b"add".as_slice() {
@@ -51,6 +38,48 @@ fn read_act(alloc: Global, word: &[u8], operands: &[u8]) -> Result<Act, LineRefu
         return read_pump(operands);
     }
     Err(LineRefusal::Kind(ScriptFault::WORD))
+}
+
+/// What a word and the words behind it say in mode `Serve`.
+#[tactic(auto, unfolding(crate::specs::Acts::served_of))]
+pub(crate) fn read_served(alloc: Global, word: &[u8], operands: &[u8]) -> Result<Act, LineRefusal>
+    ensures { Says result (served_of word.now (words_of operands.now)) }
+{
+    if word == b"add".as_slice() {
+        return read_act(alloc, word, operands);
+    }
+    if !is_known(word) {
+        return Err(LineRefusal::Kind(ScriptFault::WORD));
+    }
+    if has_count(word, operands) {
+        Err(LineRefusal::Kind(ScriptFault::NOT_HERE))
+    } else {
+        Err(LineRefusal::Kind(ScriptFault::COUNT))
+    }
+}
+
+/// Whether lines begin with the word.
+fn is_known(word: &[u8]) -> bool
+    ensures { result ≡ Acts.is_known word.now }
+{
+    word == b"add".as_slice()
+        || word == b"remove".as_slice()
+        || word == b"send".as_slice()
+        || word == b"tick".as_slice()
+        || word == b"pump".as_slice()
+}
+
+/// Whether as many words stand behind a known word as it takes.
+fn has_count(word: &[u8], operands: &[u8]) -> bool
+    ensures { result ≡ Acts.has_count word.now (length (words_of operands.now)) }
+{
+    if word == b"send".as_slice() {
+        return true;
+    }
+    if word == b"add".as_slice() || word == b"remove".as_slice() || word == b"tick".as_slice() {
+        return only_word(operands).is_some();
+    }
+    next_word(operands).is_none()
 }
 
 fn read_address(alloc: Global, operands: &[u8]) -> Result<Address, LineRefusal>

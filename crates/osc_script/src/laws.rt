@@ -1,17 +1,21 @@
 //! What the definitions say of all scripts, and of the examples of docs/FORMATS.md.
 ghost use Rattle.osc_script.specs.declared.script.TheConstants.{MAX_SCRIPT};
-ghost use Rattle.std.specs.Prelude.{◌≡◌, ◌≤◌, ◌<◌, ◌↔◌, ◌^◌, ◌%◌, ℕ, true, false, List, [], ◌∷◌, ◌++◌, length, Ok, Err, IsOk, IfOk, codes};
+ghost use Rattle.osc_script.specs.declared.lane.TheConstants.{MAX_LANES};
+ghost use Rattle.std.specs.Prelude.{◌≡◌, ◌≤◌, ◌<◌, ◌↔◌, ◌^◌, ◌%◌, ℕ, true, false, List, [], ◌∷◌, ◌++◌, length, Some, None, Ok, Err, IsOk, IfOk, codes};
 ghost use Rattle.std.specs.List.{All, AllPass, concat};
 ghost use Rattle.std.specs.Int.{w64, to_be_bytes};
+ghost use Rattle.std.specs.Str.{bytes_eq};
+ghost use Rattle.std.specs.Fmt.{decimal};
 ghost use Rattle.hex.specs.Hex.{is_hex_digit, encode_lower, encode_upper, IsBytes};
 ghost use Rattle.osc_script.specs.Words.{is_space, is_line_feed, words_of, without_return, lines_of};
-ghost use Rattle.osc_script.specs.Kinds.{word_kind, count_kind};
-ghost use Rattle.osc_script.specs.Acts.{is_known, has_count, act_of, packet_of, moment_of};
+ghost use Rattle.osc_script.specs.Kinds.{word_kind, count_kind, lane_kind, not_here_kind};
+ghost use Rattle.osc_script.specs.Lanes.{lane_of};
+ghost use Rattle.osc_script.specs.Acts.{is_known, has_count, act_of, served_of, packet_of, moment_of};
 ghost use Rattle.osc_script.specs.declared.fault.ScriptFault.{ScriptFault};
 ghost use Rattle.osc_script.specs.declared.act.Act.TheVariants.{Add, Send, Tick, Pump};
 ghost use Rattle.osc_script.specs.declared.mode.Mode.{Mode};
-ghost use Rattle.osc_script.specs.declared.mode.Mode.TheVariants.{Plain};
-ghost use Rattle.osc_script.specs.Scripts.{script_of, AreLawful};
+ghost use Rattle.osc_script.specs.declared.mode.Mode.TheVariants.{Plain, Lanes, Serve};
+ghost use Rattle.osc_script.specs.Scripts.{said_of, on_lane, script_of, AreLawful, AreOf};
 ghost use Rattle.osc_script.specs.Faults.{IsFirstFault};
 
 /// A line feed ends a line; one carriage return right before it is no part of the line; a last line without a line feed
@@ -42,10 +46,15 @@ pub fn scripts_are_lawful()
         → IfOk (script_of mode bytes) (λ _. length bytes ≤ MAX_SCRIPT) }
 {}
 
+/// What is read is of its mode: lane 0, or one of the lanes in mode `Lanes`, and only adds in mode `Serve`.
+pub fn lines_are_of_their_mode()
+    ensures { (mode : Mode) (bytes : List ℕ) → IfOk (script_of mode bytes) (AreOf mode) }
+{}
+
 /// A fault is of the first line that is neither lawful nor skipped, or there are too many bytes.
 pub fn first_fault_decides()
     ensures { (mode : Mode) (bytes : List ℕ) (fault : ScriptFault)
-        → script_of mode bytes ≡ Err fault → 0 < fault.line → IsFirstFault bytes fault }
+        → script_of mode bytes ≡ Err fault → 0 < fault.line → IsFirstFault mode bytes fault }
 {}
 
 /// The words decide in this order: the word itself, how many words follow it, and only then what they are.
@@ -54,6 +63,39 @@ pub fn words_are_counted_first()
         → act_of word operands ≡ Err word_kind }
     ensures counted { (word : List ℕ) (operands : List (List ℕ)) → is_known word ≡ true
         → has_count word (length operands) ≡ false → act_of word operands ≡ Err count_kind }
+{}
+
+/// In mode `Lanes` the lane decides first, whatever follows it. Then there has to be a word, and from it on the line
+/// says what it says in mode `Plain`.
+pub fn lanes_come_first()
+    ensures lane { (word : List ℕ) (words : List (List ℕ)) → lane_of word ≡ None
+        → said_of Lanes word words ≡ Err lane_kind }
+    ensures bare { (word : List ℕ) (lane : ℕ) → lane_of word ≡ Some lane
+        → said_of Lanes word [] ≡ Err count_kind }
+    ensures behind { (word next : List ℕ) (words : List (List ℕ)) (lane : ℕ)
+        → lane_of word ≡ Some lane
+        → said_of Lanes word (next ∷ words) ≡ on_lane lane (act_of next words) }
+{}
+
+/// A lane is written in decimal, and in no other way.
+pub fn lanes_are_decimal()
+    ensures written { (lane : ℕ) → lane < MAX_LANES → lane_of (decimal lane) ≡ Some lane }
+    ensures read { (word : List ℕ) (lane : ℕ) → lane_of word ≡ Some lane
+        → (lane < MAX_LANES) × (word ≡ decimal lane) }
+{}
+
+/// In mode `Serve` an `add` says what it says in the others. Any other line is refused: by its word, then by how many
+/// words follow it, and only then because it isn't lawful there.
+pub fn serve_takes_adds_alone()
+    ensures add { (word : List ℕ) (operands : List (List ℕ)) → bytes_eq word (codes "add") ≡ true
+        → served_of word operands ≡ act_of word operands }
+    ensures unknown { (word : List ℕ) (operands : List (List ℕ)) → is_known word ≡ false
+        → served_of word operands ≡ Err word_kind }
+    ensures counted { (word : List ℕ) (operands : List (List ℕ)) → is_known word ≡ true
+        → has_count word (length operands) ≡ false → served_of word operands ≡ Err count_kind }
+    ensures refused { (word : List ℕ) (operands : List (List ℕ)) → is_known word ≡ true
+        → has_count word (length operands) ≡ true → bytes_eq word (codes "add") ≡ false
+        → served_of word operands ≡ Err not_here_kind }
 {}
 
 /// A `send` has an even number of hexadecimal digits, and a `tick` 16.
@@ -94,4 +136,19 @@ pub fn examples()
         ≡ Ok (record { number = 1; lane = 0; act = Send (47 ∷ 97 ∷ 0 ∷ []) }
         ∷ record { number = 3; lane = 0; act = Tick 261 }
         ∷ record { number = 4; lane = 0; act = Pump } ∷ []) }
+    ensures lanes { script_of Lanes
+        (codes "0 add /a\n1 send 2f610000\n 15  pump\n1 send 2F620000\n")
+        ≡ Ok (record { number = 1; lane = 0; act = Add (codes "/a") }
+        ∷ record { number = 2; lane = 1; act = Send (47 ∷ 97 ∷ 0 ∷ 0 ∷ []) }
+        ∷ record { number = 3; lane = 15; act = Pump }
+        ∷ record { number = 4; lane = 1; act = Send (47 ∷ 98 ∷ 0 ∷ 0 ∷ []) } ∷ []) }
+    ensures no_lane { script_of Lanes (codes "add /a") ≡ Err (record { line = 1; kind = 7 }) }
+    ensures above { script_of Lanes (codes "16 jump") ≡ Err (record { line = 1; kind = 7 }) }
+    ensures zeros { script_of Lanes (codes "01 pump") ≡ Err (record { line = 1; kind = 7 }) }
+    ensures alone { script_of Lanes (codes "0") ≡ Err (record { line = 1; kind = 3 }) }
+    ensures served { script_of Serve (codes "# show\nadd /a")
+        ≡ Ok (record { number = 2; lane = 0; act = Add (codes "/a") } ∷ []) }
+    ensures not_here { script_of Serve (codes "pump") ≡ Err (record { line = 1; kind = 8 }) }
+    ensures undigested { script_of Serve (codes "send 123") ≡ Err (record { line = 1; kind = 8 }) }
+    ensures uncounted { script_of Serve (codes "pump now") ≡ Err (record { line = 1; kind = 3 }) }
 {}

@@ -6,7 +6,7 @@ use crate::act::Act;
 pub struct Line {
     /// The line's number in the input, counted from 1, skipped lines too.
     pub number: u32,
-    /// Always 0 in mode `Plain`.
+    /// The line's lane in mode `Lanes`, else 0.
     pub lane: u32,
     /// What it says.
     pub act: Act,

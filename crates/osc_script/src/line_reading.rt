@@ -2,14 +2,13 @@
 ghost use Rattle.osc_script.specs.declared.script.TheConstants.{MAX_SCRIPT};
 ghost use Rattle.std.specs.Prelude.{◌≡◌, ◌≤◌, length, IfOk, Ok, Some};
 ghost use Rattle.osc_script.specs.Words.{lines_of};
-ghost use Rattle.osc_script.specs.Scripts.{script_from, line_from, line_of, AreLawful};
+ghost use Rattle.osc_script.specs.Scripts.{script_from, line_of, AreLawful, AreOf};
 ghost use Rattle.osc_script.specs.Answers.{Reads, AddsLine};
 
-use crate::act::Act;
-use crate::act_reading::read_line;
 use crate::fault::{LineRefusal, ScriptFault, ScriptRefusal};
 use crate::line::Line;
 use crate::mode::Mode;
+use crate::said::{Said, read_line};
 use crate::script::Script;
 use crate::words::first_line;
 use std::alloc::Global;
@@ -19,6 +18,7 @@ pub(crate) fn read_lines(alloc: Global, bytes: &[u8], mode: Mode) -> Result<Scri
     requires { length bytes.now ≤ MAX_SCRIPT }
     ensures reads { Reads result (script_from mode 1 (lines_of bytes.now)) }
     ensures lawful { IfOk result AreLawful }
+    ensures fitting { IfOk result (AreOf mode) }
     ensures few { IfOk result (λ lines. length lines ≤ length bytes.now) }
 {
     let mut lines = Vec::new(alloc);
@@ -45,8 +45,8 @@ fn push_line(
 ) -> Result<(), ScriptRefusal>
     ensures { AddsLine result (line_of mode number text.now) lines.old.items lines.new.items }
 {
-    match read_line(alloc, text) {
-        Ok(Some(act)) => match lines.push(line_in(mode, number, act)) {
+    match read_line(alloc, mode, text) {
+        Ok(Some(Said { lane, act })) => match lines.push(Line { number, lane, act }) {
             Ok(()) => Ok(()),
             Err(_) => Err(ScriptRefusal::NoMemory),
         },
@@ -56,17 +56,5 @@ fn push_line(
             kind,
         })),
         Err(LineRefusal::NoMemory) => Err(ScriptRefusal::NoMemory),
-    }
-}
-
-fn line_in(mode: Mode, number: u32, act: Act) -> Line
-    ensures { line_from mode number (Ok (Some act)) ≡ Ok (Some result) }
-{
-    match mode {
-        Mode::Plain => Line {
-            number,
-            lane: 0,
-            act,
-        },
     }
 }

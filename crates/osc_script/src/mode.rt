@@ -5,4 +5,8 @@
 pub enum Mode {
     /// All lines are of lane 0.
     Plain,
+    /// A line's first word is the number of its lane.
+    Lanes,
+    /// All lines are of lane 0, and add a method.
+    Serve,
 }

@@ -27,7 +27,7 @@ impl Model for Script {
 impl Script {
     ghost use Rattle.osc_script.specs.declared.script.TheConstants.{MAX_SCRIPT};
     ghost use Rattle.std.specs.Prelude.{◌≡◌, ◌≤◌, ◌<◌, length, Err, IfOk};
-    ghost use Rattle.osc_script.specs.Scripts.{script_of, AreLawful};
+    ghost use Rattle.osc_script.specs.Scripts.{script_of, AreLawful, AreOf};
     ghost use Rattle.osc_script.specs.Answers.{Reads};
     ghost use Rattle.osc_script.specs.Kinds.{too_long_kind};
     ghost use Rattle.osc_script.specs.Faults.{IsFirstFault};
@@ -37,10 +37,11 @@ impl Script {
     pub fn read(alloc: Global, bytes: &[u8], mode: Mode) -> Result<Script, ScriptRefusal>
         ensures reads { Reads result (script_of mode bytes.now) }
         ensures first { (fault : ScriptFault) → result ≡ Err (ScriptRefusal.Fault fault)
-            → 0 < fault.line → IsFirstFault bytes.now fault }
+            → 0 < fault.line → IsFirstFault mode bytes.now fault }
         ensures long { MAX_SCRIPT < length bytes.now
             → result ≡ Err (ScriptRefusal.Fault (record { line = 0; kind = too_long_kind })) }
         ensures lawful { IfOk result AreLawful }
+        ensures fitting { IfOk result (AreOf mode) }
         ensures few { IfOk result (λ lines. length lines ≤ length bytes.now) }
         ensures short { IfOk result (λ _. length bytes.now ≤ MAX_SCRIPT) }
     {

@@ -31,6 +31,80 @@ fn the_first_line_outside_the_rules_is_told(rt: HostRuntime) -> Result<(), Fail>
     Ok(())
 }
 
+#[test]
+fn a_line_of_a_lane_begins_with_its_number(rt: HostRuntime) -> Result<(), Fail> {
+    let alloc = rt.alloc();
+    let cases = [
+        ("add /a", 1, ScriptFault::LANE),
+        ("jump", 1, ScriptFault::LANE),
+        ("16 pump", 1, ScriptFault::LANE),
+        ("99 jump", 1, ScriptFault::LANE),
+        ("100 pump", 1, ScriptFault::LANE),
+        ("4294967297 pump", 1, ScriptFault::LANE),
+        ("00 pump", 1, ScriptFault::LANE),
+        ("01 pump", 1, ScriptFault::LANE),
+        ("+1 pump", 1, ScriptFault::LANE),
+        ("1: pump", 1, ScriptFault::LANE),
+        ("0x1 pump", 1, ScriptFault::LANE),
+        ("pump 0", 1, ScriptFault::LANE),
+        ("0", 1, ScriptFault::COUNT),
+        ("15 ", 1, ScriptFault::COUNT),
+        ("3 pump now", 1, ScriptFault::COUNT),
+        ("3 add", 1, ScriptFault::COUNT),
+        ("3 jump now", 1, ScriptFault::WORD),
+        ("3 3 pump", 1, ScriptFault::WORD),
+        ("3 add foo", 1, ScriptFault::ADDRESS),
+        ("3 remove foo", 1, ScriptFault::ADDRESS),
+        ("3 send 123", 1, ScriptFault::HEX),
+        ("3 tick 5", 1, ScriptFault::TAG),
+        ("0 pump\n1 add foo\npump", 2, ScriptFault::ADDRESS),
+    ];
+    for (script, line, kind) in cases {
+        let refused = Script::read(alloc, script.as_bytes(), Mode::Lanes).err();
+        assert_eq!(rt;
+            refused,
+            Some(ScriptRefusal::Fault(ScriptFault { line, kind }))
+        );
+    }
+    Ok(())
+}
+
+#[test]
+fn only_adds_are_lawful_where_a_server_serves(rt: HostRuntime) -> Result<(), Fail> {
+    let alloc = rt.alloc();
+    let cases = [
+        ("pump", 1, ScriptFault::NOT_HERE),
+        ("tick 0000000000000005", 1, ScriptFault::NOT_HERE),
+        ("tick 5", 1, ScriptFault::NOT_HERE),
+        ("remove /a", 1, ScriptFault::NOT_HERE),
+        ("remove foo", 1, ScriptFault::NOT_HERE),
+        ("send", 1, ScriptFault::NOT_HERE),
+        ("send 2f610000", 1, ScriptFault::NOT_HERE),
+        ("send 123 4", 1, ScriptFault::NOT_HERE),
+        ("add", 1, ScriptFault::COUNT),
+        ("add /a /b", 1, ScriptFault::COUNT),
+        ("pump now", 1, ScriptFault::COUNT),
+        ("tick", 1, ScriptFault::COUNT),
+        ("remove /a /b", 1, ScriptFault::COUNT),
+        ("jump", 1, ScriptFault::WORD),
+        ("0 add /a", 1, ScriptFault::WORD),
+        ("add foo", 1, ScriptFault::ADDRESS),
+        (
+            "add /a\n\n# show\nadd /b\npump\njump",
+            5,
+            ScriptFault::NOT_HERE,
+        ),
+    ];
+    for (script, line, kind) in cases {
+        let refused = Script::read(alloc, script.as_bytes(), Mode::Serve).err();
+        assert_eq!(rt;
+            refused,
+            Some(ScriptRefusal::Fault(ScriptFault { line, kind }))
+        );
+    }
+    Ok(())
+}
+
 fn shown(act: &Act) -> (&str, &[u8]) {
     match act {
         Act::Add(address) => ("add", address.bytes()),
@@ -70,14 +144,74 @@ fn lines_that_say_something_keep_their_numbers(rt: HostRuntime) -> Result<(), Fa
 }
 
 #[test]
+fn lines_keep_their_lanes(rt: HostRuntime) -> Result<(), Fail> {
+    let alloc = rt.alloc();
+    let bytes =
+        b"0 add /a\n1 send 2f610000\n\n  \n# 2 pump\n 15   pump\r\n1 send 2f 620000\n10 tick 00000000000001ff";
+    let script = Script::read(alloc, bytes, Mode::Lanes)
+        .ok()
+        .ok_or("a script")?;
+    let lines = [
+        (1, 0, "add", b"/a".as_slice()),
+        (2, 1, "send", b"/a\0\0".as_slice()),
+        (6, 15, "pump", b"".as_slice()),
+        (7, 1, "send", b"/b\0\0".as_slice()),
+        (8, 10, "tick", b"511".as_slice()),
+    ];
+    for (line, (number, lane, word, operand)) in script.lines().iter().zip(lines) {
+        assert_eq!(rt; line.number, number);
+        assert_eq!(rt; line.lane, lane);
+        let (said, with) = shown(&line.act);
+        assert_eq!(rt; said, word);
+        assert_eq!(rt; with, operand);
+    }
+    assert_eq!(rt; script.into_lines().len(), lines.len());
+    Ok(())
+}
+
+#[test]
+fn adds_are_read_where_a_server_serves(rt: HostRuntime) -> Result<(), Fail> {
+    let alloc = rt.alloc();
+    let script = Script::read(alloc, b"# show\nadd /1/fader1\n add  /b \r\n", Mode::Serve)
+        .ok()
+        .ok_or("a script")?;
+    let lines = [(2, b"/1/fader1".as_slice()), (3, b"/b".as_slice())];
+    for (line, (number, address)) in script.lines().iter().zip(lines) {
+        assert_eq!(rt; line.number, number);
+        assert_eq!(rt; line.lane, 0);
+        let (said, with) = shown(&line.act);
+        assert_eq!(rt; said, "add");
+        assert_eq!(rt; with, address);
+    }
+    assert_eq!(rt; script.into_lines().len(), lines.len());
+    Ok(())
+}
+
+#[test]
+fn a_script_with_no_line_is_lawful_in_each_mode(rt: HostRuntime) -> Result<(), Fail> {
+    let alloc = rt.alloc();
+    for mode in [Mode::Plain, Mode::Lanes, Mode::Serve] {
+        for script in ["", "\n", "   \n# pump\n"] {
+            let read = Script::read(alloc, script.as_bytes(), mode)
+                .ok()
+                .ok_or("a script")?;
+            assert_eq!(rt; read.lines().len(), 0);
+        }
+    }
+    Ok(())
+}
+
+#[test]
 fn an_input_that_is_too_long_is_told_first(rt: HostRuntime) -> Result<(), Fail> {
     let alloc = rt.alloc();
     let bytes = vec![in alloc; b'j'; 67_108_865]?;
-    let refused = Script::read(alloc, &bytes, Mode::Plain).err();
     let fault = ScriptFault {
         line: 0,
         kind: ScriptFault::TOO_LONG,
     };
-    assert_eq!(rt; refused, Some(ScriptRefusal::Fault(fault)));
+    for mode in [Mode::Plain, Mode::Lanes, Mode::Serve] {
+        let refused = Script::read(alloc, &bytes, mode).err();
+        assert_eq!(rt; refused, Some(ScriptRefusal::Fault(fault)));
+    }
     Ok(())
 }

@@ -1,10 +1,10 @@
 use Rattle.std.proofs.Common.{refl}
 use Rattle.hex.proofs.OnLiterals.{hex_on_literals}
-use Rattle.osc_script.specs.Acts.{act_of}
+use Rattle.osc_script.specs.Acts.{act_of, served_of}
 use Rattle.osc_script.proofs.laws.examples.Goals as goal
 
 pub returns : goal.returns
-unfolding act_of hex_on_literals
+unfolding act_of served_of hex_on_literals
 returns c = record {
   address = refl;
   word = refl;
@@ -17,4 +17,13 @@ returns c = record {
   bare = refl;
   second = refl;
   read = refl;
+  lanes = refl;
+  no_lane = refl;
+  above = refl;
+  zeros = refl;
+  alone = refl;
+  served = refl;
+  not_here = refl;
+  undigested = refl;
+  uncounted = refl;
 }
