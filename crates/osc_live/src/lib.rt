@@ -13,6 +13,7 @@ mod enrolling;
 mod guest;
 mod guests;
 mod live;
+mod meets;
 mod methods;
 mod playing;
 mod pumped;
