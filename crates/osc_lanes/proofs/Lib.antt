@@ -1,0 +1,4 @@
+pub mod Answering
+pub mod Going
+pub mod Telling
+pub mod Zipping

@@ -1,0 +1,47 @@
+-- What a lane's end has to do with its plan.
+use Rattle.std.specs.Prelude.{◌≡◌, ◌≤◌, ℕ, List, [], length, Option}
+use Rattle.std.specs.Option.{option_map}
+use Rattle.osc_model.specs.Limits.{Limits}
+use Rattle.osc_core.specs.Answers.{room_of}
+use Rattle.osc_turn.specs.declared.view.Entry.{Entry as Seen}
+use Rattle.osc_turn.specs.History.{own}
+use Rattle.osc_turn.specs.Rule.{number_of}
+use Rattle.osc_turn.specs.Passes.{view}
+use Rattle.osc_live.specs.declared.caller.Caller.{Caller}
+use Rattle.osc_lanes.specs.declared.plan.LanePlan.{LanePlan}
+use Rattle.osc_lanes.specs.declared.plan.LaneEnd.{LaneEnd}
+use Rattle.osc_lanes.specs.Shares.{Player, Account, Plays, count_adds}
+
+-- what the caller's token has seen
+abbrev pub seen_by : Caller → List Seen
+seen_by caller = (view caller.pass).seen
+
+-- a caller of a server with these limits, as a player
+abbrev pub player_of : Limits → Caller → Player
+player_of caps caller =
+    record { caps = caps; token = number_of (view caller.pass); caller = caller.number }
+
+module _ {M : Type 0} where
+  -- what a lane's end tells
+  abbrev pub account_of : LaneEnd M → Account M
+  account_of end =
+      record {
+        faults = end.faults.items;
+        removed = end.removed.items;
+        back = end.back.items;
+        stop = option_map room_of end.stop;
+      }
+
+  -- there is a box for each line that adds a method, and the token has no entries yet
+  abbrev pub IsReady : LanePlan M → Type 0
+  IsReady plan = (count_adds plan.lines.items ≤ length plan.boxes.items)
+      × (own (number_of (view plan.caller.pass)) (seen_by plan.caller) ≡ [])
+
+  -- The plan's caller comes back with its token, and the lines were played between what it had seen
+  -- and what it has seen then.
+  pub record IsEndOf (keep : M → ℕ) (heard : M → Option (List ℕ)) (caps : Limits)
+      (plan : LanePlan M) (end : LaneEnd M) : Type 0 where
+    pub lane : end.lane ≡ plan.lane
+    pub player : player_of caps end.caller ≡ player_of caps plan.caller
+    pub plays : Plays keep heard (player_of caps plan.caller) plan.lines.items plan.boxes.items
+        (account_of end) (seen_by plan.caller) (seen_by end.caller)

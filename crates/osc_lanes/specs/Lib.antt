@@ -1,0 +1,5 @@
+-- What public contracts cite.
+pub mod Ends
+pub mod Shares
+-- Inside the crate.
+pub mod Tallies

@@ -1,0 +1,173 @@
+-- A lane's share of a history.
+use Rattle.std.specs.Prelude.{◌≡◌, ℕ, zero, suc, ◌+◌, List, [], ◌∷◌, ◌++◌, map, Option, Some, None, MatchOption, MatchBool}
+use Rattle.std.specs.List.{AllByRecursion}
+use Rattle.osc_atoms.specs.declared.fault.Fault.{Fault}
+use Rattle.osc_packet.specs.declared.limits.TheConstants.{MAX_PACKET}
+use Rattle.osc_packet.specs.Reading.{packet_fault}
+use Rattle.osc_model.specs.Limits.{Limits}
+use Rattle.osc_model.specs.Events.{Event, Answer, Entry, Hit, Room, adds_entry, add, remove, submit, tick, release, added, removed, released, nothing_due, record_full}
+use Rattle.osc_model.specs.Heard.{Told}
+use Rattle.osc_model.specs.History.{stepped_in, invoked_in, HasHeard}
+use Rattle.osc_record.specs.Reading.{entry_in}
+use Rattle.osc_core.specs.Standing.{text_with, CarriesMark, mark_of}
+use Rattle.osc_script.specs.declared.act.Act.{Act}
+use Rattle.osc_script.specs.declared.act.Act.TheVariants.{Add, Remove, Send, Tick, Pump}
+use Rattle.osc_script.specs.declared.line.Line.{Line}
+use Rattle.osc_turn.specs.declared.view.Entry.{Entry as Seen}
+use Rattle.osc_turn.specs.History.{StartsWith, texts, entry, own}
+use Rattle.osc_live.specs.Seen.{performance_in}
+
+-- who plays: the server's limits, the number of the token, and the number of its caller
+pub record Player : Type 0 where
+  pub caps : Limits
+  pub token : ℕ
+  pub caller : ℕ
+
+-- what is found goes on from what was seen, with no further entry of the token
+abbrev pub Onward : ℕ → List Seen → List Seen → Type 0
+Onward token seen found = StartsWith found seen × (own token found ≡ own token seen)
+
+-- the token's entry stands behind what was found
+pub record EntersOne (token : ℕ) (one : Entry) (found there : List Seen) : Type 0 where
+  pub text : List ℕ
+  pub mark : ℕ
+  pub last : there ≡ found ++ entry token text ∷ []
+  pub text_is : text ≡ text_with mark one
+  pub read : entry_in text ≡ Some one
+
+-- The player's event is decided by the rules at one place, which goes on from what was seen; its
+-- entry, if the answer adds one, stands there, and then all of this is seen.
+pub record Answered (player : Player) (event : Event) (answer : Answer)
+    (here there : List Seen) : Type 0 where
+  pub found : List Seen
+  pub onward : Onward player.token here found
+  pub decided : answer ≡ (stepped_in (performance_in player.caps (texts found)) event).answer
+  pub then_seen : MatchBool (adds_entry answer)
+      (EntersOne player.token
+      (record { caller = player.caller; event = event; answer = answer }) found there)
+      (there ≡ found)
+
+-- where the recording is full, the room that was needed and the room that is free
+abbrev pub stop_of : Answer → Option Room
+stop_of (record_full room) = Some room
+stop_of _ = None
+
+-- the id of the method that was removed, if one was
+abbrev pub id_in : Answer → List ℕ
+id_in (removed id) = id ∷ []
+id_in _ = []
+
+-- a pump ends where nothing is due, or where there is no room for the entry
+abbrev pub EndsPump : Answer → Type 0
+EndsPump (nothing_due next) = Unit {0}
+EndsPump (record_full room) = Unit {0}
+EndsPump _ = ⊥
+
+-- so many releases, one after another, each of a unit that is due
+abbrev pub Releases : Player → ℕ → List Seen → List Seen → Type 0
+Releases player zero here there = there ≡ here
+Releases player (suc count) here there =
+    (place : List Seen) × (unit : ℕ) × (hits : List Hit) × Releases player count here place
+    × Answered player release (released unit hits) place there
+
+-- what a lane tells besides the history: the faults of its packets under their lines' numbers, the
+-- boxes that it removed under their ids, the boxes that weren't added, and where it stopped
+pub record Account (M : Type 0) : Type 0 where
+  pub faults : List (ℕ × Fault)
+  pub removed : List (ℕ × M)
+  pub back : List M
+  pub stop : Option Room
+
+module _ {M : Type 0} where
+  -- what is told first, and then the rest
+  abbrev pub then_told : Account M → Account M → Account M
+  then_told first rest =
+      record {
+        faults = first.faults ++ rest.faults;
+        removed = first.removed ++ rest.removed;
+        back = first.back ++ rest.back;
+        stop = rest.stop;
+      }
+
+  -- what is told where a lane ends and these boxes are left
+  abbrev pub ended : List M → Option Room → Account M
+  ended boxes stop = record { faults = []; removed = []; back = boxes; stop = stop }
+
+  -- the box comes back, unless it was added
+  abbrev pub back_by : M → Answer → List M
+  back_by box (added id) = []
+  back_by box _ = box ∷ []
+
+  module _ (keep : M → ℕ) (heard : M → Option (List ℕ)) where
+    -- what is known of a box under an id
+    abbrev pub known_of : ℕ → M → Told
+    known_of id box = record { id = id; keep = keep box; heard = heard box }
+
+    -- where a method was added, its entry carries the mark of this box
+    abbrev pub IsMarkedBy : M → Answer → List Seen → Type 0
+    IsMarkedBy box (added id) there = CarriesMark (texts there) id (mark_of (known_of id box))
+    IsMarkedBy box _ there = Unit {0}
+
+    -- a box that was removed has the mark of its id's entry, and has heard what the history says
+    abbrev pub IsRemovedAt : Limits → List Seen → ℕ × M → Type 0
+    IsRemovedAt caps there one = CarriesMark (texts there) one.0 (mark_of (known_of one.0 one.1))
+        × HasHeard (invoked_in (performance_in caps (texts there))) (known_of one.0 one.1)
+
+    -- One line is played between two places of the history. Of the boxes before, these are left;
+    -- and this is told. A packet with a fault has no entry. A pump has its releases, and then a
+    -- place where it ends.
+    abbrev pub PlaysAct : Player → ℕ → Act → List M → List M → Account M → List Seen → List Seen
+        → Type 0
+    PlaysAct player number (Add address) boxes left account here there =
+        (box : M) × (answer : Answer) × (boxes ≡ box ∷ left)
+        × Answered player (add address) answer here there × IsMarkedBy box answer there
+        × (account
+        ≡ record { faults = []; removed = []; back = back_by box answer; stop = stop_of answer })
+    PlaysAct player number (Remove address) boxes left account here there =
+        (out : List (ℕ × M)) × (answer : Answer) × (left ≡ boxes)
+        × Answered player (remove address) answer here there
+        × (map (λ one. one.0) out ≡ id_in answer)
+        × AllByRecursion (IsRemovedAt player.caps there) out
+        × (account ≡ record { faults = []; removed = out; back = []; stop = stop_of answer })
+    PlaysAct player number (Send bytes) boxes left account here there =
+        (left ≡ boxes) × MatchOption (packet_fault MAX_PACKET bytes)
+        ((answer : Answer) × Answered player (submit bytes) answer here there
+        × (account ≡ ended [] (stop_of answer)))
+        (λ fault. (there ≡ here)
+        × (account
+        ≡ record { faults = (number, fault) ∷ []; removed = []; back = []; stop = None }))
+    PlaysAct player number (Tick moment) boxes left account here there =
+        (left ≡ boxes) × (answer : Answer) × Answered player (tick moment) answer here there
+        × (account ≡ ended [] (stop_of answer))
+    PlaysAct player number Pump boxes left account here there =
+        (left ≡ boxes) × (count : ℕ) × (place : List Seen) × (answer : Answer)
+        × Releases player count here place × Answered player release answer place there
+        × EndsPump answer × (account ≡ ended [] (stop_of answer))
+
+    -- The lines are played between two places, one after another, up to the first event that finds
+    -- no room. The k-th line that adds a method has the k-th box.
+    abbrev pub Plays : Player → List Line → List M → Account M → List Seen → List Seen → Type 0
+    Plays player [] boxes account here there = (account ≡ ended boxes None) × (there ≡ here)
+    Plays player (line ∷ lines) boxes account here there =
+        (left : List M) × (first : Account M) × (place : List Seen)
+        × PlaysAct player line.number line.act boxes left first here place
+        × MatchOption first.stop
+        ((rest : Account M) × (account ≡ then_told first rest)
+        × Plays player lines left rest place there)
+        (λ room. (account ≡ then_told first (ended left (Some room))) × (there ≡ place))
+
+    -- A lane's share of a history: its lines were played from where its token came in, and the
+    -- history has no other entry of it.
+    abbrev pub LaneOf : Player → List Line → List M → Account M → List Seen → Type 0
+    LaneOf player lines boxes account history =
+        (here : List Seen) × (there : List Seen) × (own player.token here ≡ [])
+        × Plays player lines boxes account here there × Onward player.token there history
+
+-- how many of the lines add a method
+abbrev pub adds_of : Act → ℕ
+adds_of (Add address) = 1
+adds_of _ = 0
+
+abbrev pub count_adds : List Line → ℕ
+count_adds [] = 0
+count_adds (line ∷ lines) = adds_of line.act + count_adds lines

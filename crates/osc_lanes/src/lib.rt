@@ -1,0 +1,15 @@
+//! Lanes: plans of script lines that are played beside each other on one server, each by a thread and under a token of its
+//! own.
+#![tactic(auto)]
+
+mod acts;
+mod gate;
+mod plan;
+mod playing;
+mod stops;
+mod tally;
+mod worker;
+
+pub use gate::{Gate, OpenGate};
+pub use plan::{LaneEnd, LanePlan};
+pub use playing::play;

@@ -1,0 +1,56 @@
+//! Plays many lanes beside each other.
+ghost use Rattle.std.specs.Prelude.{◌≡◌, map, All, IfOk, Ok};
+ghost use Rattle.std.specs.List.{AllZip};
+ghost use Rattle.osc_live.specs.Seen.{IsTokenOf};
+ghost use Rattle.osc_lanes.specs.Ends.{IsReady, IsEndOf};
+
+use crate::gate::Gate;
+use crate::plan::{LaneEnd, LanePlan};
+use crate::worker::play_lane;
+use osc_live::Live;
+use osc_method::Method;
+use std::alloc::{AllocError, Global};
+use std::sync::Wait;
+use std::thread;
+use std::thread::Threads;
+
+/// Plays the plans, each by a thread of its own where one can be made. The ends stand in the order of the plans. An `Err` is
+/// want of memory.
+pub fn play<M: Method + Send, W: Threads + Wait + Sync, G: Gate + Sync>(
+    rt: &W,
+    alloc: Global,
+    live: &Live<M>,
+    plans: Vec<LanePlan<M>>,
+    gate: &G,
+) -> Result<Vec<LaneEnd<M>>, AllocError>
+    requires ours { All (λ plan. IsTokenOf live.now.turn live.now.caps plan.caller.pass)
+        plans.items }
+    requires ready { All IsReady plans.items }
+    ensures ours { IfOk result
+        (λ ends. All (λ end. IsTokenOf live.now.turn live.now.caps end.caller.pass) ends.items) }
+    ensures ends { IfOk result
+        (λ ends. AllZip (IsEndOf M.keep M.heard live.now.caps) plans.items ends.items) }
+{
+    let worker = |plan: LanePlan<M>| -> Result<LaneEnd<M>, AllocError>
+        requires { IsTokenOf live.now.turn live.now.caps plan.caller.pass × IsReady plan }
+        ensures { IfOk result
+            (λ end. IsTokenOf live.entry.now.turn live.entry.now.caps end.caller.pass
+            × IsEndOf M.keep M.heard live.entry.now.caps plan end) }
+    { play_lane(rt, alloc, live, plan, gate) };
+    let ends = thread::map_vec(rt, plans, &worker)?;
+    let all = all_ended(alloc, ends)?;
+    Ok(all)
+}
+
+fn all_ended<M: Drop>(
+    alloc: Global,
+    ends: Vec<Result<LaneEnd<M>, AllocError>>,
+) -> Result<Vec<LaneEnd<M>>, AllocError>
+    ensures { IfOk result (λ all. ends.items ≡ map Ok all.items) }
+{
+    let mut all = Vec::with_capacity(alloc, ends.len())?;
+    for end in ends {
+        all.push(end?)?;
+    }
+    Ok(all)
+}
