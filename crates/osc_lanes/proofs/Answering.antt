@@ -1,5 +1,6 @@
 -- A call of a token, as the answer at one place of the history.
-use Rattle.std.proofs.Common.{◌≡◌, ℕ, zero, suc, ◌+◌, ◌≤◌, Bool, true, false, List, [], ◌∷◌, ◌++◌, length, length-append, MatchBool, refl, sym, ap, subst, ◌∙◌, arith, append-nil}
+use Rattle.std.proofs.Common.{◌≡◌, ℕ, zero, suc, ◌≤◌, Bool, true, false, List, [], ◌∷◌, ◌++◌, length, length-append, MatchBool, refl, sym, ap, subst, ◌∙◌, arith, append-nil}
+use Rattle.std.proofs.lemmas.List.{append_cancel_right}
 use Rattle.osc_model.specs.Limits.{Limits}
 use Rattle.osc_model.specs.Events.{Event, Answer, release, released, adds_entry, Entry}
 use Rattle.osc_turn.specs.declared.view.Entry.{Entry as Seen}
@@ -15,16 +16,6 @@ use Rattle.osc_live.specs.Pumps.{Releases as Released, Pumps, end_of}
 use Rattle.osc_lanes.specs.Shares.{Player, Onward, EntersOne, Answered, Releases}
 use Rattle.osc_lanes.specs.Ends.{seen_by, player_of}
 
--- lists with the same last element are the same before it
-same_before : {A : Type 0} (x : A) (xs ys : List A) → xs ++ x ∷ [] ≡ ys ++ x ∷ [] → xs ≡ ys
-same_before x [] [] e = refl
-same_before x [] (y ∷ ys) e = absurd (omega (arith, ap length e, length-append ys (x ∷ [])))
-same_before x (z ∷ xs) [] e = absurd (omega (arith, ap length e, length-append xs (x ∷ [])))
-same_before x (z ∷ xs) (y ∷ ys) e =
-    let first : z ≡ y = cc in
-    let rest : xs ++ x ∷ [] ≡ ys ++ x ∷ [] = cc in
-    ap (λ (w : _). w ∷ xs) first ∙ ap (λ (l : List _). y ∷ l) (same_before x xs ys rest)
-
 -- what was seen has one entry less, where one was added
 shorter : (n : ℕ) (one : Seen) (before seen past : List Seen) → seen ≡ before ++ one ∷ [] → StartsWith seen past
     → own n seen ≡ own n past ++ one ∷ [] → length past ≤ length before
@@ -37,7 +28,7 @@ answered_one : (n : ℕ) (one : Seen) (before seen past : List Seen) → one.num
     → own n seen ≡ own n past ++ one ∷ [] → Onward n past before
 answered_one n one before seen past mine last starts added = (
   starts_order seen past before starts (one ∷ [], last) (shorter n one before seen past last starts added),
-  same_before one (own n before) (own n past)
+  append_cancel_right (own n before) (own n past) (one ∷ [])
       (sym (ap (own n) last ∙ own_append n before (one ∷ []) ∙ ap (λ (l : List Seen). own n before ++ l) (own_of_mine n one mine)) ∙ added),
 )
 
@@ -54,6 +45,7 @@ answered_in caps caller event answer v w calls = go (adds_entry answer) refl cal
   go : (t : Bool) → adds_entry answer ≡ t → MatchBool t (EndsWith caps caller event answer v w) (AddsNone caps event answer v w)
       → Answered player event answer v.seen w.seen
   go true is ends = record {
+    legal = calls.legal;
     found = ends.before;
     onward = answered_one (number_of v) (entry (number_of v) ends.text) ends.before w.seen v.seen refl ends.last calls.goes_on ends.own_once;
     decided = ends.answered;
@@ -61,6 +53,7 @@ answered_in caps caller event answer v w calls = go (adds_entry answer) refl cal
         (record { text = ends.text; mark = ends.mark; last = ends.last; text_is = ends.text_is; read = ends.read });
   }
   go false is none = record {
+    legal = calls.legal;
     found = w.seen;
     onward = (calls.goes_on, none.own_same);
     decided = none.answered;

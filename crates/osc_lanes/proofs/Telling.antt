@@ -1,22 +1,19 @@
 -- One act of a lane, and what is told of it.
 use Rattle.std.proofs.Common.{◌≡◌, ℕ, List, [], ◌∷◌, ◌++◌, map, Option, Some, None, refl, sym, ap, ◌∙◌, subst, append-nil}
-use Rattle.std.specs.Prelude.{Result, Ok, Err, MatchOption}
 use Rattle.std.specs.Option.{option_map}
-use Rattle.std.specs.Result.{result_err}
 use Rattle.std.specs.List.{AllByRecursion}
 use Rattle.osc_atoms.specs.declared.fault.Fault.{Fault}
 use Rattle.osc_atoms.specs.declared.room.Room.{Room as CodeRoom}
 use Rattle.osc_packet.specs.declared.limits.TheConstants.{MAX_PACKET}
 use Rattle.osc_packet.specs.Reading.{packet_fault}
-use Rattle.osc_model.specs.Events.{Answer, Room, add, remove, submit, tick, release, nothing_due, record_full}
+use Rattle.osc_model.specs.Events.{Answer, Room, add, remove, submit, tick, release}
 use Rattle.osc_model.specs.History.{invoked_in, HasHeard}
-use Rattle.osc_core.specs.declared.answers.AddRefusal.{AddRefusal}
 use Rattle.osc_core.specs.declared.answers.AddRefusal.TheVariants as adding
 use Rattle.osc_core.specs.declared.answers.Adding.{Adding}
 use Rattle.osc_core.specs.declared.answers.Adding.TheVariants.{Added, Refused}
 use Rattle.osc_core.specs.declared.answers.Removing.{Removing}
 use Rattle.osc_core.specs.declared.answers.Removing.TheVariants as removing
-use Rattle.osc_core.specs.Answers.{room_of, adding_of, removing_of, refusal_of, OnAdded, OnRefused, OnRemoved}
+use Rattle.osc_core.specs.Answers.{room_of, adding_of, removing_of, OnAdded, OnRefused, OnRemoved}
 use Rattle.osc_core.specs.Standing.{CarriesMark, mark_of}
 use Rattle.osc_script.specs.declared.act.Act.TheVariants.{Add, Remove, Send, Tick, Pump}
 use Rattle.osc_turn.specs.declared.view.Entry.{Entry as Seen}

@@ -7,9 +7,9 @@ use Rattle.osc_packet.specs.Reading.{packet_fault}
 use Rattle.osc_model.specs.Limits.{Limits}
 use Rattle.osc_model.specs.Events.{Event, Answer, Entry, Hit, Room, adds_entry, add, remove, submit, tick, release, added, removed, released, nothing_due, record_full}
 use Rattle.osc_model.specs.Heard.{Told}
-use Rattle.osc_model.specs.History.{stepped_in, invoked_in, HasHeard}
+use Rattle.osc_model.specs.History.{Legal, stepped_in, invoked_in, HasHeard}
 use Rattle.osc_record.specs.Reading.{entry_in}
-use Rattle.osc_core.specs.Standing.{text_with, CarriesMark, mark_of}
+use Rattle.osc_core.specs.Standing.{text_with, history_in, CarriesMark, mark_of}
 use Rattle.osc_script.specs.declared.act.Act.{Act}
 use Rattle.osc_script.specs.declared.act.Act.TheVariants.{Add, Remove, Send, Tick, Pump}
 use Rattle.osc_script.specs.declared.line.Line.{Line}
@@ -36,9 +36,10 @@ pub record EntersOne (token : ℕ) (one : Entry) (found there : List Seen) : Typ
   pub read : entry_in text ≡ Some one
 
 -- The player's event is decided by the rules at one place, which goes on from what was seen; its
--- entry, if the answer adds one, stands there, and then all of this is seen.
+-- entry, if the answer adds one, stands there, and then all of this is seen. It is a legal history.
 pub record Answered (player : Player) (event : Event) (answer : Answer)
     (here there : List Seen) : Type 0 where
+  pub legal : Legal player.caps (history_in (texts there))
   pub found : List Seen
   pub onward : Onward player.token here found
   pub decided : answer ≡ (stepped_in (performance_in player.caps (texts found)) event).answer

@@ -1,14 +1,16 @@
 //! Plays many lanes beside each other.
 ghost use Rattle.std.specs.Prelude.{◌≡◌, map, All, IfOk, Ok};
-ghost use Rattle.std.specs.List.{AllZip};
+ghost use Rattle.std.specs.List.{AllZip, AllByRecursion};
 ghost use Rattle.osc_live.specs.Seen.{IsTokenOf};
-ghost use Rattle.osc_lanes.specs.Ends.{IsReady, IsEndOf};
+ghost use Rattle.osc_lanes.specs.Ends.{seen_by, IsReady, IsEndOf};
+ghost use Rattle.osc_lanes.specs.Shares.{IsRemovedAt};
 
 use crate::gate::Gate;
 use crate::plan::{LaneEnd, LanePlan};
 use crate::worker::play_lane;
 use osc_live::Live;
 use osc_method::Method;
+use osc_model::laws::a_method_is_called_while_it_is_registered;
 use std::alloc::{AllocError, Global};
 use std::sync::Wait;
 use std::thread;
@@ -30,7 +32,11 @@ pub fn play<M: Method + Send, W: Threads + Wait + Sync, G: Gate + Sync>(
         (λ ends. All (λ end. IsTokenOf live.now.turn live.now.caps end.caller.pass) ends.items) }
     ensures ends { IfOk result
         (λ ends. AllZip (IsEndOf M.keep M.heard live.now.caps) plans.items ends.items) }
+    ensures removed { IfOk result (λ ends. All (λ end. AllByRecursion
+        (IsRemovedAt M.keep M.heard live.now.caps (seen_by end.caller)) end.removed.items)
+        ends.items) }
 {
+    a_method_is_called_while_it_is_registered();
     let worker = |plan: LanePlan<M>| -> Result<LaneEnd<M>, AllocError>
         requires { IsTokenOf live.now.turn live.now.caps plan.caller.pass × IsReady plan }
         ensures { IfOk result

@@ -1,9 +1,11 @@
 use Rattle.std.proofs.Common.{◌≡◌, length, arith}
-use Rattle.std.specs.List.{AllZip}
+use Rattle.std.specs.List.{AllZip, AllByRecursion}
 use Rattle.osc_live.specs.Seen.{IsTokenOf}
 use Rattle.osc_lanes.specs.declared.plan.LanePlan.{LanePlan}
 use Rattle.osc_lanes.specs.declared.plan.LaneEnd.{LaneEnd}
-use Rattle.osc_lanes.specs.Ends.{IsEndOf}
+use Rattle.osc_lanes.specs.Ends.{seen_by, player_of, account_of, IsEndOf}
+use Rattle.osc_lanes.specs.Shares.{IsRemovedAt}
+use Rattle.osc_lanes.proofs.Staying.{removed_then}
 use Rattle.osc_lanes.proofs.Zipping.{zipped_jobs, all_of_zip, weaker_zip}
 use Rattle.osc_lanes.proofs.playing.play.Goals as goal
 use Rattle.osc_lanes.proofs.playing.play.Goals.{In_ok-all}
@@ -28,3 +30,14 @@ pub returns-clause-ours : goal.returns-clause-ours
 returns-clause-ours g c =
     all_of_zip _ (λ end. IsTokenOf c.args.live.now.turn c.args.live.now.caps end.caller.pass) (λ plan end p. p.0) _ _
     (each_end g (goal.at.returns-clause-ours g c).In_ok-all)
+
+pub returns-clause-removed : goal.returns-clause-removed
+returns-clause-removed g c =
+    let keep = g.M.Method.keep in
+    let heard = g.M.Method.heard in
+    let caps = c.args.live.now.caps in
+    all_of_zip _ (λ end. AllByRecursion (IsRemovedAt keep heard caps (seen_by end.caller)) end.removed.items)
+    (λ plan end p. removed_then keep heard (player_of caps plan.caller) c.a_method_is_called_while_it_is_registered.ensures.removed plan.lines.items
+    plan.boxes.items
+    (account_of end) (seen_by plan.caller) (seen_by end.caller) p.1.plays) _ _
+    (each_end g (goal.at.returns-clause-removed g c).In_ok-all)

@@ -1,4 +1,4 @@
-use Rattle.std.proofs.Common.{◌≡◌, length, true, false, None, is_some, ap, ◌∙◌, arith, rules}
+use Rattle.std.proofs.Common.{◌≡◌, true, None, is_some, ap, ◌∙◌, arith, rules}
 use Rattle.osc_turn.proofs.Histories.{none_long}
 use Rattle.osc_lanes.specs.Shares.{count_adds}
 use Rattle.osc_lanes.specs.Tallies.{gathered}

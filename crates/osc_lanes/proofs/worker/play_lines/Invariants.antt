@@ -14,5 +14,5 @@ invariant-loop-line g l = record {
   handed : count_adds (into_iter_items l.line-iterator) ≤ length (into_iter_items l.boxes);
   so_far : GoesOn g.M.Method.keep g.M.Method.heard (player_of l.live.caps l.fn.caller) l.fn.lines.items (into_iter_items l.initial.boxes)
       (gathered l.initial.tally None) (seen_by l.fn.caller) (into_iter_items l.line-iterator) (into_iter_items l.boxes) (gathered l.tally None)
-          (seen_by l.caller);
+      (seen_by l.caller);
 }
