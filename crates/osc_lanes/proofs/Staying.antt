@@ -237,6 +237,12 @@ module _ {M : Type 0} (keep : M → ℕ) (heard : M → Option (List ℕ)) (play
               stays_on account first (ended left (Some room)) here place there (ap (λ (one : Account M). one.removed) is)
               (act_stays line.number line.act boxes left first here place one) (stays_ended (ended left (Some room)) place there refl same)
 
+    -- what was removed has heard what each later history says
+    pub removed_later : (lines : List Line) (boxes : List M) (account : Account M) (here there later : List Seen)
+        → Plays keep heard player lines boxes account here there → StartsWith later there → Legal player.caps (history_in (texts later))
+        → AllByRecursion (IsRemovedAt keep heard player.caps later) account.removed
+    removed_later lines boxes account here there later plays on legal = (plays_stays lines boxes account here there plays).later_on later on legal
+
     -- what was removed has heard what the history says in which the lines were played
     pub removed_then : (lines : List Line) (boxes : List M) (account : Account M) (here there : List Seen)
         → Plays keep heard player lines boxes account here there → AllByRecursion (IsRemovedAt keep heard player.caps there) account.removed

@@ -4,6 +4,7 @@
 
 mod acts;
 mod gate;
+pub mod laws;
 mod plan;
 mod playing;
 mod stops;
