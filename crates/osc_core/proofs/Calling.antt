@@ -60,3 +60,34 @@ hits_in_two (call ∷ first) more = ap (λ (l : List Hit). record { index = call
 pub invocations_in_two : (unit : ℕ) (first more : List Call) → invocations_of unit (first ++ more) ≡ invocations_of unit first ++ invocations_of unit more
 invocations_in_two unit [] more = refl
 invocations_in_two unit (call ∷ first) more = ap (λ (l : List Invocation). record { unit = unit; call = call } ∷ l) (invocations_in_two unit first more)
+
+-- how many calls there are doesn't hang on where the messages stand
+pub same_many : (methods : List Method) (i j : ℕ) (messages : List (List ℕ)) → length (calls_from methods i messages) ≡ length (calls_from methods j messages)
+same_many methods i j [] = refl
+same_many methods i j (message ∷ messages) =
+    omega (
+      arith,
+      length-append (calls_of methods i message) (calls_from methods (i + 1) messages),
+      length-append (calls_of methods j message)
+          (calls_from methods (j + 1) messages),
+      as_many_calls methods i message,
+      as_many_calls methods j message,
+      same_many methods (i + 1) (j + 1) messages,
+    )
+
+later : (x y : Method) (ys : List Method) → Contains ys x → Contains (y ∷ ys) x
+later x y ys (k, within, is) = (suc k, omega arith, is)
+
+-- what is last is there
+pub last_there : (methods : List Method) (method : Method) → Contains (methods ++ method ∷ []) method
+last_there [] method = (0, omega arith, refl)
+last_there (first ∷ methods) method = later method first (methods ++ method ∷ []) (last_there methods method)
+
+-- a message with an unknown tag makes no call
+pub no_calls : (methods : List Method) (index : ℕ) (message : List ℕ) → is_some (unknown_of message) ≡ true → calls_of methods index message ≡ []
+no_calls methods index message is = rw is refl
+
+-- the calls of the only message
+pub only_calls : (methods : List Method) (message : List ℕ) (messages : List (List ℕ)) → messages ≡ message ∷ []
+    → calls_from methods 0 messages ≡ calls_of methods 0 message
+only_calls methods message messages only = ap (calls_from methods 0) only ∙ append-nil (calls_of methods 0 message)
