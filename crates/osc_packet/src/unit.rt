@@ -75,6 +75,7 @@ impl<'a> Unit<'a> {
     pub fn blocks(&self) -> u32
         ensures value { result ≡ blocks self.now }
         ensures few { result ≤ 1024 }
+        ensures small { stored_size self.now.messages ≤ 65508 }
     {
         self.stored().div_ceil(BLOCK_SIZE)
     }

@@ -13,7 +13,7 @@ entered unit tag clock due number queue new tag_is due_is is = is ∙ ap (λ (n 
 
 pub returns-clause-given : goal.returns-clause-given
 returns-clause-given c =
-    let is = entered c.args.unit c.tag.result c.args.clock c.max.result c.args.number c.args.queue.now.items c.enter.new.queue.items
+    let is = entered c.args.unit c.tag.result c.args.clock c.max.result c.args.number c.args.queue.now.items c.enter.new.self.items
     c.tag.ensures c.max.ensures c.enter.ensures.items in
     subst (AreNumbered (c.args.number + 1)) (sym is) (one_numbered c.args.clock c.args.number c.args.unit c.args.queue.now.items c.requires.given)
 
