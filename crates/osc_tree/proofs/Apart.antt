@@ -27,11 +27,11 @@ abbrev Pairs : List Method → Type 0
 Pairs [] = Unit {0}
 Pairs (method ∷ methods) = AllByRecursion (AreTwo method) methods × Pairs methods
 
-all_of : (P : Method → Type 0) (methods : List Method) → ((k : ℕ) (d : Method) → k < length methods → P (get_or methods k d)) → AllByRecursion P methods
+pub all_of : (P : Method → Type 0) (methods : List Method) → ((k : ℕ) (d : Method) → k < length methods → P (get_or methods k d)) → AllByRecursion P methods
 all_of P [] each = tt
 all_of P (method ∷ methods) each = (each 0 method (omega arith), all_of P methods (λ k d lt. each (suc k) d (omega arith)))
 
-all_back : (P : Method → Type 0) (methods : List Method) (k : ℕ) (d : Method) → AllByRecursion P methods → k < length methods → P (get_or methods k d)
+pub all_back : (P : Method → Type 0) (methods : List Method) (k : ℕ) (d : Method) → AllByRecursion P methods → k < length methods → P (get_or methods k d)
 all_back P [] k d all lt = absurd (omega arith)
 all_back P (method ∷ methods) zero d all lt = all.0
 all_back P (method ∷ methods) (suc k) d all lt = all_back P methods k d all.1 (omega arith)
@@ -70,7 +70,7 @@ pairs_folded methods [] pairs rest cross = pairs
 pairs_folded methods (method ∷ more) pairs rest cross =
     pairs_folded (in_place methods method) more (pairs_placed method methods cross.0 pairs) rest.1 (cross_placed method methods more rest.0 cross.1)
 
-all_folded : (P : Method → Type 0) (methods more : List Method) → AllByRecursion P methods → AllByRecursion P more
+pub all_folded : (P : Method → Type 0) (methods more : List Method) → AllByRecursion P methods → AllByRecursion P more
     → AllByRecursion P (fold in_place methods more)
 all_folded P methods [] all rest = all
 all_folded P methods (method ∷ more) all rest = all_folded P (in_place methods method) more (all_placed P method methods rest.0 all) rest.1

@@ -19,3 +19,4 @@ pub mod Alike
 pub mod Charges
 pub mod Walks
 pub mod Apart
+pub mod Neighbours

@@ -5,7 +5,7 @@ use Rattle.std.specs.Str.{bytes_eq}
 use Rattle.std.proofs.Math.Seq.{take-suc}
 use Rattle.std.proofs.lemmas.List.{append-nil, get_or-drop, length-drop, length-map, length-take-le, map-append, take_all, drop-map}
 use Rattle.std.proofs.lemmas.List.Elements.{filter-append}
-use Rattle.std.proofs.lemmas.List.Sums.{fails_before_first, passes_at_first}
+use Rattle.std.proofs.lemmas.List.Sums.{fails_before_first, passes_at_first, position_or_len_is}
 use Rattle.std.proofs.lemmas.Bool.Decides.{nat_tests}
 use Rattle.std.proofs.lemmas.Slice.Eq.{bytes_eq-Decides}
 use Rattle.osc_pattern.specs.Addresses.{is_proper_prefix}
@@ -17,10 +17,12 @@ use Rattle.osc_tree.proofs.Prefixes.{has_prefix_is, split-cons}
 use Rattle.osc_tree.specs.declared.registered.Registered.{Registered}
 use Rattle.osc_tree.specs.Views.{method_of, method_at, methods_at}
 use Rattle.osc_tree.proofs.Lists.{position_or_len-bound, position-map}
-use Rattle.osc_tree.proofs.InOrder.{methods_at-get}
+use Rattle.osc_tree.proofs.InOrder.{methods_at-get, methods_at-length}
 use Rattle.osc_tree.proofs.Places.{any_default, method_at-get}
 use Rattle.osc_tree.proofs.Alike.{agreeing_parts, agreeing_names, shared_first, shared_turn, shared_all, all_agree, matched_agree, agree_too, shared_through, shared_taken, prefix_names, prefix_slash, same_parts, shares_node}
-use Rattle.osc_tree.proofs.Charges.{AreApart, at_slash, at_apart}
+use Rattle.std.specs.List.Sorted.{IsPartitionedBy}
+use Rattle.osc_tree.proofs.Charges.{AreApart, at_slash, at_apart, shared_between}
+use Rattle.osc_tree.proofs.Ranges.{ascend_far}
 
 pub walked_none : (pattern : List ℕ) (methods : List Method) → IsWalked pattern methods 0 []
 walked_none pattern methods = record { bound = omega arith; found = refl; known = λ d lt. omega arith }
@@ -297,3 +299,83 @@ whole_is n parts names e = go (n == parts) refl (n == names) refl e where
       ((let h : (n == parts) ≡ true = a in grind (arith, nat_tests)), (let h : (n == names) ≡ true = b in grind (arith, nat_tests)))
   go true a false b e = absurd (cc)
   go false a b is e = absurd (cc)
+
+-- those that share so many names with a method stand together behind it
+pub sharing_parted : (registered : List Registered) (places : List ℕ) (at least : ℕ) (d : Method) (names : List (List ℕ))
+    → IsSorted (methods_at registered places) → at < length places → names ≡ parts_of (get_or (methods_at registered places) at d).address
+    → IsPartitionedBy (λ place. nat_le least (shared names (parts_of (method_at registered place).address)))
+    (take (length places - (at + 1)) (drop (at + 1) places))
+sharing_parted registered places at least d names sorted within is i j e le lt more =
+    rw (here i (let end = bound in omega arith)) (to (shared names (parts_of (get_or ms (at + 1 + i) d).address)) (alike (from (shared names (parts_of (get_or ms (at + 1 + j) d).address))
+    (ap (λ (m : Method). nat_le least (shared names (parts_of m.address))) (sym (here j bound)) ∙ more))))
+  where
+    ms : List Method
+    ms = methods_at registered places
+
+    rest : List ℕ
+    rest = take (length places - (at + 1)) (drop (at + 1) places)
+
+    whole : rest ≡ drop (at + 1) places
+    whole = take_all (length places - (at + 1)) (drop (at + 1) places) (omega (arith, length-drop (at + 1) places))
+
+    bound : j < length places - (at + 1)
+    bound = omega (arith, ap length whole, length-drop (at + 1) places)
+
+    here : (k : ℕ) → k < length places - (at + 1) → method_at registered (get_or rest k e) ≡ get_or ms (at + 1 + k) d
+    here k inside =
+        ap (λ l. method_at registered (get_or l k e)) whole ∙ ap (method_at registered) (get_or-drop (at + 1) places k e)
+        ∙ ap (method_at registered) (any_default places (at + 1 + k) e 0 (omega arith)) ∙ sym (methods_at-get registered places (at + 1 + k) d (omega arith))
+
+    from : (n : ℕ) → nat_le least n ≡ true → least ≤ n
+    from n h = grind (arith, nat_tests)
+
+    to : (n : ℕ) → least ≤ n → nat_le least n ≡ true
+    to n h = grind (arith, nat_tests)
+
+    alike : least ≤ shared names (parts_of (get_or ms (at + 1 + j) d).address) → least ≤ shared names (parts_of (get_or ms (at + 1 + i) d).address)
+    alike most =
+        let long = methods_at-length registered places in
+        let end = bound in
+        let own : least ≤ shared (parts_of (get_or ms at d).address) (parts_of (get_or ms (at + 1 + j) d).address) =
+        subst (λ l. least ≤ shared l (parts_of (get_or ms (at + 1 + j) d).address)) is most in
+        let between = shared_between (get_or ms at d).address (get_or ms (at + 1 + i) d).address (get_or ms (at + 1 + j) d).address least
+        (at_slash ms at d sorted (omega arith)) (at_slash ms (at + 1 + i) d sorted (omega arith)) (at_slash ms (at + 1 + j) d sorted (omega arith))
+        (ascend_far ms at (at + 1 + i) d sorted.ascending (omega arith) (omega arith))
+        (ascend_far ms (at + 1 + i) (at + 1 + j) d sorted.ascending (omega arith) (omega arith))
+        (at_apart ms at (at + 1 + j) d sorted (omega arith) (omega arith)) own in
+        let last = parts_of (get_or ms (at + 1 + j) d).address in
+        let one = shared_turn (parts_of (get_or ms at d).address) last in
+        let two = shared_turn (parts_of (get_or ms (at + 1 + i) d).address) last in
+        subst (λ l. least ≤ shared l (parts_of (get_or ms (at + 1 + i) d).address)) (sym is)
+        (shared_through last (parts_of (get_or ms at d).address) (parts_of (get_or ms (at + 1 + i) d).address) least (omega arith) (omega arith))
+
+-- a search for the first that fails a test, after those that pass it
+pub record IsHalved (test : ℕ → Bool) (xs : List ℕ) (low high : ℕ) : Type 0 where
+  pub order : low ≤ high
+  pub bound : high ≤ length xs
+  pub below : (k : ℕ) → k < low → test (get_or xs k 0) ≡ true
+  pub behind : (k : ℕ) → high ≤ k → k < length xs → test (get_or xs k 0) ≡ false
+
+pub halved_none : (test : ℕ → Bool) (xs : List ℕ) → IsHalved test xs 0 (length xs)
+halved_none test xs = record { order = omega arith; bound = omega arith; below = λ k lt. absurd (omega arith); behind = λ k le lt. absurd (omega arith) }
+
+pub halved_up : (test : ℕ → Bool) (xs : List ℕ) (low high middle : ℕ) → IsPartitionedBy test xs → IsHalved test xs low high → middle < high
+    → test (get_or xs middle 0) ≡ true → IsHalved test xs (middle + 1) high
+halved_up test xs low high middle parted so lt e =
+    let bound = so.bound in
+    record { order = omega arith; bound = bound; below = λ k less. parted k middle 0 (omega arith) (omega arith) e; behind = so.behind }
+
+pub halved_down : (test : ℕ → Bool) (xs : List ℕ) (low high middle : ℕ) → IsPartitionedBy test xs → IsHalved test xs low high → low ≤ middle → middle < high
+    → test (get_or xs middle 0) ≡ false → IsHalved test xs low middle
+halved_down test xs low high middle parted so le lt e =
+    let bound = so.bound in
+    record { order = le; bound = omega arith; below = so.below; behind = λ k more less. go k more less (test (get_or xs k 0)) refl } where
+      go : (k : ℕ) → middle ≤ k → k < length xs → (t : Bool) → test (get_or xs k 0) ≡ t → test (get_or xs k 0) ≡ false
+      go k more less false is = is
+      go k more less true is = absurd (let other = parted middle k 0 more less is in cc)
+
+pub halved_is : (test : ℕ → Bool) (xs : List ℕ) (low high : ℕ) → IsHalved test xs low high → high ≤ low → low ≡ position_or_len (λ x. not (test x)) xs
+halved_is test xs low high so le =
+    let order = so.order in
+    let bound = so.bound in
+    sym (position_or_len_is (λ x. not (test x)) xs low 0 (omega arith) (λ k lt. ap not (so.below k lt)) (λ lt. ap not (so.behind low (omega arith) lt)))

@@ -1,7 +1,8 @@
 // The methods that a pattern matches.
 ghost use Rattle.osc_pattern.specs.declared.limits.TheConstants.{MAX_NAME};
-ghost use Rattle.std.specs.Prelude.{◌≡◌, ◌≤◌, ◌<◌, ◌+◌, ◌++◌, ◌∷◌, ◌==◌, ◌&&◌, [], not, nat_le, nat_lt, if◌then◌else◌, true, length, take, position, All, vec_len, vec_capacity};
+ghost use Rattle.std.specs.Prelude.{◌≡◌, ◌≤◌, ◌<◌, ◌+◌, ◌++◌, ◌∷◌, ◌==◌, ◌&&◌, [], not, nat_le, nat_lt, if◌then◌else◌, true, length, take, All, vec_len, vec_capacity};
 ghost use Rattle.std.specs.List.{slice_split, position_or_len};
+ghost use Rattle.std.specs.List.Sorted.{IsPartitionedBy};
 ghost use Rattle.osc_pattern.specs.Items.{is_slash};
 ghost use Rattle.osc_pattern.specs.Methods.{IsMethodList};
 ghost use Rattle.osc_pattern.specs.Patterns.{parts_of, part_at};
@@ -166,24 +167,26 @@ fn least_shared(matching: u32, parts: u32) -> u32
 
 /// How many methods have at least so many names in common with an address, before the first that hasn't.
 fn count_sharing(methods: &[Registered], places: &[u32], names: &[u8], least: usize) -> usize
-    requires { All (λ place. place < length methods.now) places.now }
+    requires within { All (λ place. place < length methods.now) places.now }
+    requires parted { IsPartitionedBy
+        (λ place. nat_le least (shared (slice_split is_slash names.now)
+        (parts_of (method_at methods.now place).address))) places.now }
     ensures count { result
         ≡ position_or_len (λ place. not (nat_le least (shared (slice_split is_slash names.now)
         (parts_of (method_at methods.now place).address)))) places.now }
     ensures bound { result ≤ length places.now }
 {
-    first_apart(methods, places, names, least).unwrap_or(places.len())
-}
-
-fn first_apart(methods: &[Registered], places: &[u32], names: &[u8], least: usize) -> Option<usize>
-    requires { All (λ place. place < length methods.now) places.now }
-    ensures { result
-        ≡ position (λ place. not (nat_le least (shared (slice_split is_slash names.now)
-        (parts_of (method_at methods.now place).address)))) places.now }
-{
-    places
-        .iter()
-        .position(|place| !is_sharing(methods, *place, names, least))
+    let mut low = 0;
+    let mut high = places.len();
+    while low < high {
+        let middle = low + (high - low) / 2;
+        if is_sharing(methods, places[middle], names, least) {
+            low = middle + 1;
+        } else {
+            high = middle;
+        }
+    }
+    low
 }
 
 fn is_sharing(methods: &[Registered], place: u32, names: &[u8], least: usize) -> bool

@@ -9,7 +9,7 @@ use Rattle.osc_tree.specs.Walking.{shared, agreeing, spent, known_at, most_steps
 use Rattle.osc_tree.proofs.InOrder.{methods_at-length}
 use Rattle.osc_tree.proofs.Alike.{agreeing_parts}
 use Rattle.osc_tree.proofs.Charges.{charged, further}
-use Rattle.osc_tree.proofs.Walks.{method_here, walked_hit, walked_over, walked_few, counted_over, whole_is, least_of}
+use Rattle.osc_tree.proofs.Walks.{method_here, walked_hit, walked_over, walked_few, counted_over, whole_is, sharing_parted, least_of}
 use Rattle.osc_tree.proofs.matching.visit.Goals as goal
 
 pub add_id-requires : goal.add_id-requires
@@ -105,3 +105,13 @@ returns-clause-walked g c =
     (walked_over c.args.pattern.now ms at c.args.ids.now.items c.count_sharing.result c.count_matching-matching.result c.least_shared-least.result d
     c.requires.sorted within c.requires.walked (c.count_matching-matching.ensures.count ∙ ap (agreeing (parts_of c.args.pattern.now)) names) whole
     (c.least_shared-least.ensures ∙ ap (λ (n : ℕ). least_of c.count_matching-matching.result n) c.parts-parts.ensures.parts) counted_names)
+
+pub count_sharing-requires-clause-parted : goal.count_sharing-requires-clause-parted
+count_sharing-requires-clause-parted g c =
+    let registered = c.args.methods.now in
+    let places = c.args.places.now in
+    let at = c.args.at in
+    let d = method_at registered 0 in
+    let here = method_here registered places at c.index-methods-places.result d c.requires.within c.requires.at c.index-methods-places.is in
+    sharing_parted registered places at c.least_shared-least.result d (slice_split is_slash c.names_of-names.result.now) c.requires.sorted c.requires.at
+    (c.names_of-names.ensures.parts ∙ ap (λ (m : Method). parts_of m.address) (sym here))
