@@ -1,0 +1,201 @@
+// Two lanes on one server, each held at its first line until the other has played its own.
+ghost use Rattle.std.specs.Prelude.{◌≡◌, ◌≤◌, [], length, OnOk, IfOk, All};
+ghost use Rattle.osc_turn.specs.History.{own};
+ghost use Rattle.osc_turn.specs.Rule.{number_of};
+ghost use Rattle.osc_turn.specs.Passes.{view};
+ghost use Rattle.osc_live.specs.Seen.{IsTokenOf};
+ghost use Rattle.osc_lanes.specs.Shares.{adds_of, count_adds};
+
+use osc_atoms::Fault;
+use osc_lanes::{Gate, LaneEnd, LanePlan, play};
+use osc_live::{Caller, Live};
+use osc_message::Bytes;
+use osc_method::{Method, Mute};
+use osc_pattern::Address;
+use osc_record::Caps;
+use osc_script::{Act, Line};
+use std::alloc::{AllocError, Global};
+use std::sync::Wait;
+use std::sync::atomic::{AtomicU64, Ordering};
+use std::test::*;
+use std::thread;
+use std::thread::Threads;
+
+/// The lines of a lane, and a box for each that adds a method.
+#[derive(Drop)]
+struct Part {
+    lines: Vec<Line>,
+    boxes: Vec<Mute>,
+}
+
+/// A lane with no lines.
+fn empty(alloc: Global) -> Part
+    ensures { count_adds result.lines.items ≤ length result.boxes.items }
+{
+    Part {
+        lines: Vec::new(alloc),
+        boxes: Vec::new(alloc),
+    }
+}
+
+fn push_line(part: &mut Part, number: u32, act: Act) -> Result<(), AllocError>
+    requires whole { count_adds part.old.lines.items ≤ length part.old.boxes.items }
+    requires none { adds_of act ≡ 0 }
+    ensures { OnOk result (count_adds part.new.lines.items ≤ length part.new.boxes.items) }
+{
+    part.lines.push(Line {
+        number,
+        lane: 0,
+        act,
+    })?;
+    Ok(())
+}
+
+fn push_add(part: &mut Part, number: u32, address: Address, method: Mute) -> Result<(), AllocError>
+    requires { count_adds part.old.lines.items ≤ length part.old.boxes.items }
+    ensures { OnOk result (count_adds part.new.lines.items ≤ length part.new.boxes.items) }
+{
+    part.boxes.push(method)?;
+    part.lines.push(Line {
+        number,
+        lane: 0,
+        act: Act::Add(address),
+    })?;
+    Ok(())
+}
+
+/// Holds one lane before its first line until the other has left its own, for a bounded number of turns.
+#[derive(Drop)]
+struct Hold {
+    held: u32,
+    left: AtomicU64,
+    late: AtomicU64,
+}
+
+impl Gate for Hold {
+    fn enter(&self, lane: u32, line: u32) {
+        if lane != self.held || line > 2 {
+            return;
+        }
+        for _ in 0..100_000_000u32 {
+            if self.left.load(Ordering::SeqCst) == 1 {
+                return;
+            }
+            thread::yield_now();
+        }
+        self.late.store(1, Ordering::SeqCst);
+    }
+
+    fn leave(&self, lane: u32, line: u32) {
+        if lane != self.held && line <= 2 {
+            self.left.store(1, Ordering::SeqCst);
+        }
+    }
+}
+
+fn holding(lane: u32) -> Hold {
+    Hold {
+        held: lane,
+        left: AtomicU64::new(0),
+        late: AtomicU64::new(0),
+    }
+}
+
+fn address(alloc: Global, bytes: &[u8]) -> Result<Address, Fail> {
+    Ok(Address::read(alloc, bytes).ok().ok_or("an address")?)
+}
+
+/// Adds `/a`, sends it a message, releases it and removes the method.
+fn calling(alloc: Global) -> Result<Part, Fail>
+    ensures { IfOk result (λ part. count_adds part.lines.items ≤ length part.boxes.items) }
+{
+    let mut part = empty(alloc);
+    let message = Bytes::copied(alloc, b"/a\0\0,i\0\0\0\0\0\x07")?;
+    push_add(&mut part, 1, address(alloc, b"/a")?, Mute)?;
+    push_line(&mut part, 3, Act::Send(message))?;
+    push_line(&mut part, 5, Act::Pump)?;
+    push_line(&mut part, 7, Act::Remove(address(alloc, b"/a")?))?;
+    Ok(part)
+}
+
+/// Sends what is no packet, sets the clock, and adds `/b` twice.
+fn adding(alloc: Global) -> Result<Part, Fail>
+    ensures { IfOk result (λ part. count_adds part.lines.items ≤ length part.boxes.items) }
+{
+    let mut part = empty(alloc);
+    let faulty = Bytes::copied(alloc, b"/abc")?;
+    push_line(&mut part, 2, Act::Send(faulty))?;
+    push_line(&mut part, 4, Act::Tick(5))?;
+    push_add(&mut part, 6, address(alloc, b"/b")?, Mute)?;
+    push_add(&mut part, 8, address(alloc, b"/b")?, Mute)?;
+    Ok(part)
+}
+
+/// Enrols a guest, who has no entries.
+fn enrolled<W: Wait>(rt: &W, live: &Live<Mute>, first: Caller) -> Result<(Caller, Caller), Fail>
+    requires ours { IsTokenOf live.now.turn live.now.caps first.pass }
+    requires first { first.number ≡ 0 }
+    ensures ours { IfOk result (λ both. IsTokenOf live.now.turn live.now.caps both.0.pass) }
+    ensures new_ours { IfOk result (λ both. IsTokenOf live.now.turn live.now.caps both.1.pass) }
+    ensures first { IfOk result (λ both. both.0.number ≡ 0) }
+    ensures no_entries { IfOk result
+        (λ both. own (number_of (view both.1.pass)) (view both.1.pass).seen ≡ []) }
+{
+    let (first, guest) = live.guest(first);
+    let guest = guest.ok().ok_or("a guest")?;
+    let (first, new) = live.enrol(rt, first, guest);
+    let new = new.ok().ok_or("a caller")?;
+    Ok((first, new))
+}
+
+/// The plan of a lane.
+fn plan_of(lane: u32, caller: Caller, part: Part) -> LanePlan<Mute>
+    ensures caller { result.caller ≡ caller }
+    ensures lines { result.lines.items ≡ part.lines.items }
+    ensures boxes { result.boxes.items ≡ part.boxes.items }
+{
+    let Part { lines, boxes } = part;
+    LanePlan {
+        lane,
+        caller,
+        lines,
+        boxes,
+    }
+}
+
+/// Plays both lanes on one server, whose caller 0 enrolled theirs.
+fn play_both<R: Threads + Wait + Sync, G: Gate + Sync>(
+    rt: &R,
+    alloc: Global,
+    gate: &G,
+) -> Result<Vec<LaneEnd<Mute>>, Fail> {
+    let caps = Caps::new(8, 8, 8, 8, 3, 4096).ok().ok_or("limits")?;
+    let (live, first) = Live::open(alloc, caps)?;
+    let (first, one) = enrolled(rt, &live, first)?;
+    let (_, two) = enrolled(rt, &live, first)?;
+    let mut plans = Vec::with_capacity(alloc, 2)?;
+    plans.push_reserved(plan_of(1, one, calling(alloc)?));
+    plans.push_reserved(plan_of(2, two, adding(alloc)?));
+    let ends = play(rt, alloc, &live, plans, gate)?;
+    Ok(ends)
+}
+
+#[test]
+fn two_lanes_play_at_once(rt: HostRuntime) -> Result<(), Fail> {
+    for held in 1..3u32 {
+        let gate = holding(held);
+        let mut ends = play_both(&rt, rt.alloc(), &gate)?;
+        let mut two = ends.pop().ok_or("an end")?;
+        let one = ends.pop().ok_or("an end")?;
+        assert!(rt; ends.is_empty());
+        assert_eq!(rt; gate.late.load(Ordering::SeqCst), 0);
+        assert_eq!(rt; (one.lane, two.lane), (1, 2));
+        assert!(rt; one.faults.is_empty() && one.back.is_empty() && two.removed.is_empty());
+        assert_eq!(rt; (one.removed.len(), two.back.len()), (1, 1));
+        let fault = two.faults.pop().ok_or("a fault")?;
+        assert_eq!(rt; fault, (2, Fault { kind: 8, at: 0 }));
+        assert!(rt; two.faults.is_empty());
+        assert_eq!(rt; (one.stop, two.stop), (None, None));
+    }
+    Ok(())
+}
