@@ -321,10 +321,10 @@ fn a_box_tells_the_last_bytes_of_its_calls(rt: HostRuntime) -> Result<(), Fail> 
     Ok(())
 }
 
-/// A method that has heard one call.
-fn called(alloc: Global) -> Result<Trace, Fail> {
+/// A method that has heard one call, with this message.
+fn called(alloc: Global, message: &[u8]) -> Result<Trace, Fail> {
     let mut trace = Trace::open(alloc, 64)?;
-    let message = Message::check(b"/c\0\0", 65_504).ok().ok_or("a message")?;
+    let message = Message::check(message, 65_504).ok().ok_or("a message")?;
     trace.invoke(&Call {
         unit: 0,
         index: 1,
@@ -338,23 +338,38 @@ fn a_refused_add_hands_the_box_back_as_it_was(rt: HostRuntime) -> Result<(), Fai
     let mut core = open(rt.alloc(), [9, 9, 9, 9, 1, 9999])?;
     let first = Trace::open(rt.alloc(), 64)?;
     add(&mut core, rt.alloc(), b"/a", first)?;
-    match add(&mut core, rt.alloc(), b"/a", called(rt.alloc())?)? {
+    match add(&mut core, rt.alloc(), b"/a", called(rt.alloc(), b"/c\0\0")?)? {
         Adding::Added(_) => return Err(Fail::new("added")),
         Adding::Refused { method, .. } => assert_eq!(rt; method.told(), Some(20)),
     }
     Ok(())
 }
 
+/// Adds and removes methods by their addresses, and gives the server back.
+fn with_holes(alloc: Global) -> Result<Core<Mute>, Fail> {
+    let mut core = open(alloc, [9, 9, 9, 9, 1, 9999])?;
+    add_mute(&mut core, alloc, b"/c")?;
+    add_mute(&mut core, alloc, b"/b")?;
+    add_mute(&mut core, alloc, b"/a")?;
+    remove_mute(&mut core, alloc, b"/b")?;
+    add_mute(&mut core, alloc, b"/b")?;
+    Ok(core)
+}
+
+fn add_mute(core: &mut Core<Mute>, alloc: Global, address: &[u8]) -> Result<(), Fail> {
+    add(core, alloc, address, Mute)?;
+    Ok(())
+}
+
+fn remove_mute(core: &mut Core<Mute>, alloc: Global, address: &[u8]) -> Result<(), Fail> {
+    remove(core, alloc, address)?;
+    Ok(())
+}
+
 #[test]
 fn the_boxes_come_out_ascending_by_id(rt: HostRuntime) -> Result<(), Fail> {
-    let mut core = open(rt.alloc(), [9, 9, 9, 9, 1, 9999])?;
-    add(&mut core, rt.alloc(), b"/c", Mute)?;
-    add(&mut core, rt.alloc(), b"/b", Mute)?;
-    add(&mut core, rt.alloc(), b"/a", Mute)?;
-    remove(&mut core, rt.alloc(), b"/b")?;
-    add(&mut core, rt.alloc(), b"/b", Mute)?;
     let mut ids = Vec::new(rt.alloc());
-    for (id, _) in &core.close().kept {
+    for (id, _) in &with_holes(rt.alloc())?.close().kept {
         ids.push(*id)?;
     }
     assert_eq!(rt; ids.as_slice(), [0u32, 2, 3].as_slice());
@@ -364,8 +379,8 @@ fn the_boxes_come_out_ascending_by_id(rt: HostRuntime) -> Result<(), Fail> {
 /// What comes of two releases: their answers, how many entries there are, and how many bytes the box tells.
 type Outcome = (Releasing, Releasing, u64, Option<u32>);
 
-/// A message is released to a method at `/a`, where the recording has so many bytes, and then another release is tried.
-fn released_within<M: Method>(alloc: Global, recording: u32, method: M) -> Result<Outcome, Fail> {
+/// A server whose recording has so many bytes, with a method at `/a` and a message to it.
+fn with_a_message<M: Method>(alloc: Global, recording: u32, method: M) -> Result<Core<M>, Fail> {
     let mut core = open(alloc, [9, 9, 9, 9, 1, recording])?;
     let Adding::Added(0) = add(&mut core, alloc, b"/a", method)? else {
         return Err(Fail::new("not added"));
@@ -373,6 +388,12 @@ fn released_within<M: Method>(alloc: Global, recording: u32, method: M) -> Resul
     if submit(&mut core, b"/a\0\0") != Answer::Queued(0) {
         return Err(Fail::new("not queued"));
     }
+    Ok(core)
+}
+
+/// A message is released to a method at `/a`, where the recording has so many bytes, and then another release is tried.
+fn released_within<M: Method>(alloc: Global, recording: u32, method: M) -> Result<Outcome, Fail> {
+    let mut core = with_a_message(alloc, recording, method)?;
     let first = release(&mut core);
     let second = release(&mut core);
     let entries = core.entries();
