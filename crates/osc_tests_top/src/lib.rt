@@ -1,5 +1,7 @@
-//! Tests of the program's top call.
+//! Tests of the program's top call, and of the sink to a file.
 #![tactic(auto)]
 
+#[cfg(test)]
+mod file;
 #[cfg(test)]
 mod top;
