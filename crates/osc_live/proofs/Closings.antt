@@ -129,6 +129,8 @@ closes caps performance boxes kept bytes callers guests passes history all stand
   recorded = recorded ∙ (λ i. record_text (limits i) (sym stands.read i));
   carried = subst (λ (l : List View). All (λ v. StartsWith history v.seen) l) (ap (map view) all ∙ views_same callers guests)
       (All-map (λ (v : View). StartsWith history v.seen) view passes (λ k d within. (carried k d within).0));
+  owned = subst (λ (l : List View). All (λ v. own (number_of v) history ≡ own (number_of v) v.seen) l) (ap (map view) all ∙ views_same callers guests)
+      (All-map (λ (v : View). own (number_of v) history ≡ own (number_of v) v.seen) view passes (λ k d within. (carried k d within).1));
   each_once = λ k d within. ap (λ (l : List ℕ). times (get_or history k d).number l)
       (sym (numbers_same passes ∙ ap (map number_of) (ap (map view) all ∙ views_same callers guests))) ∙ once k d within;
   named = named callers guests history (subst (All (Carries history)) all carried) (subst (λ (l : List Pass). All (IsOwnOfOne l) history) all once);

@@ -2,7 +2,7 @@
 use Rattle.std.specs.Prelude.{◌≡◌, ℕ, true, List, [], ◌∷◌, ◌++◌, map, All, Contains}
 use Rattle.osc_turn.specs.declared.view.Entry.{Entry as Seen}
 use Rattle.osc_turn.specs.declared.view.View.{View}
-use Rattle.osc_turn.specs.History.{StartsWith, texts}
+use Rattle.osc_turn.specs.History.{StartsWith, texts, own}
 use Rattle.osc_turn.specs.Rule.{number_of}
 use Rattle.osc_turn.specs.Passes.{view}
 use Rattle.osc_turn.specs.Numbers.{times}
@@ -41,10 +41,9 @@ IsOfCaller callers one = (caller : ℕ × View) × Contains callers caller
     × (number_of caller.1 ≡ one.number) × (names caller.0 one ≡ true)
 
 -- There is one history: it is legal, keeps the four laws and is what was recorded; it begins with
--- what each token has seen; each entry is an own
--- one of exactly one token, which is that of the caller whom the entry names; and the boxes have
--- heard it, each with the
--- mark of its id's entry.
+-- what each token has seen, which holds all own entries of the token; each entry is an own one of
+-- exactly one token, which is that of the caller whom the entry names; and the boxes have heard it,
+-- each with the mark of its id's entry.
 pub record Closes (caps : Limits) (callers : List (ℕ × View)) (views : List View) (bytes : List ℕ)
     (kept : List Told) : Type 0 where
   pub history : List Seen
@@ -52,6 +51,7 @@ pub record Closes (caps : Limits) (callers : List (ℕ × View)) (views : List V
   pub laws : KeepsTheLaws caps (history_in (texts history))
   pub recorded : bytes ≡ record_text caps (history_in (texts history))
   pub carried : All (λ v. StartsWith history v.seen) views
+  pub owned : All (λ v. own (number_of v) history ≡ own (number_of v) v.seen) views
   pub each_once : All (λ one. times one.number (map number_of views) ≡ 1) history
   pub named : All (IsOfCaller callers) history
   pub heard : HaveHeard (performance_in caps (texts history)) kept
