@@ -15,7 +15,8 @@ use osc_record::laws::headers_differ;
 use osc_turn::Pass;
 use std::alloc::Global;
 
-/// Why a server isn't closed. It comes back, and with it the tokens that were handed in, as they were and in their order.
+/// Why a server isn't closed. It comes back, and with it the tokens that were handed in, as they were and in their
+/// order.
 #[derive(Drop)]
 pub enum LiveOut<M: Method> {
     /// There is no memory for the list of passes.

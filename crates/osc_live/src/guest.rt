@@ -6,7 +6,8 @@ ghost use Rattle.osc_turn.specs.Passes.{view};
 
 use osc_turn::Pass;
 
-/// The token of a guest. It has no entries of its own. One that is dropped can't be handed in, so its server is never closed.
+/// The token of a guest. It has no entries of its own. One that is dropped can't be handed in, so its server is never
+/// closed.
 #[derive(Drop)]
 pub struct Guest {
     pub(crate) pass: Pass,

@@ -44,8 +44,8 @@ impl<M: Method> Live<M> {
         }
     }
 
-    /// Enrols a guest, who gets the number of callers so far. The enrolment stands after all that caller and guest had seen,
-    /// and the new caller has seen it.
+    /// Enrols a guest, who gets the number of callers so far. The enrolment stands after all that caller and guest
+    /// had seen, and the new caller has seen it.
     pub fn enrol<W: Wait>(
         &self,
         rt: &W,

@@ -16,8 +16,8 @@ use osc_pattern::Pattern;
 use std::alloc::{AllocError, Global};
 use std::marker::Model;
 
-/// A message in the making: a pattern, and the arguments that were pushed (OSC 1.0, "OSC Messages"). A contract sees the
-/// two.
+/// A message in the making: a pattern, and the arguments that were pushed (OSC 1.0, "OSC Messages"). A contract sees
+/// the two.
 #[derive(Drop)]
 pub struct Builder {
     pattern: Vec<u8>,

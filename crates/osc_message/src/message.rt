@@ -45,8 +45,8 @@ impl<'a> Message<'a> {
     ghost use Rattle.osc_message.specs.Reading.{pattern_of, parts_of, is_message, message_fault};
     ghost use Rattle.osc_message.specs.Arguments.{tags_of, unknown_of, message_arguments};
 
-    /// Accepts exactly one message of at most `max` bytes, and borrows it. Else tells its first fault, of the kinds 1 to
-    /// 4 and 8 to 16; docs/FORMATS.md has the order of the checks. Takes no memory.
+    /// Accepts exactly one message of at most `max` bytes, and borrows it. Else tells its first fault, of the kinds 1
+    /// to 4 and 8 to 16; docs/FORMATS.md has the order of the checks. Takes no memory.
     pub fn check(bytes: &'a [u8], max: u32) -> Result<Message<'a>, Fault>
         requires { max ≤ MAX_BYTES }
         ensures ok { IfOk result (λ message. message ≡ bytes.now) }
@@ -61,8 +61,8 @@ impl<'a> Message<'a> {
         Ok(Message { bytes, slices })
     }
 
-    /// The message that the bytes were checked to be. Looks for the ends of the pattern and of the tag string, and at the
-    /// tags, and at nothing else.
+    /// The message that the bytes were checked to be. Looks for the ends of the pattern and of the tag string, and at
+    /// the tags, and at nothing else.
     pub fn known(bytes: &'a [u8]) -> Message<'a>
         requires { IsTrue (is_message MAX_BYTES bytes.now) }
         ensures { result ≡ bytes.now }

@@ -51,8 +51,8 @@ pub fn units_enter_the_queue()
         ≡ blocks_of units + queued_blocks queue }
 {}
 
-/// A number above those of all units is new. So units that enter under the next numbers keep the order, and their numbers
-/// are below the next one after them.
+/// A number above those of all units is new. So units that enter under the next numbers keep the order, and their
+/// numbers are below the next one after them.
 pub fn units_keep_the_order()
     ensures new { (next : ℕ) (queue : List Queued) → AreNumbered next queue → IsNewUnit next queue }
     ensures one { (clock next : ℕ) (unit : Timed) (queue : List Queued) → AreNumbered next queue
@@ -108,8 +108,8 @@ pub fn methods_stay_lawful()
     trees::an_address_adds_its_new_nodes();
 }
 
-/// A release takes the unit that is least by due moment and number, where it is due and there is room for the entry, and
-/// leaves exactly the others.
+/// A release takes the unit that is least by due moment and number, where it is due and there is room for the entry,
+/// and leaves exactly the others.
 pub fn a_release_takes_the_least_unit()
     ensures step { (state : State) → IsInOrder state.queue
         → ReleasesLeast state (step state release) }
@@ -142,8 +142,8 @@ pub fn the_clock_never_goes_back()
         → state.clock ≤ (after state history).clock }
 {}
 
-/// An event that is refused changes nothing but that its entry is recorded, and invokes nothing. Where nothing is due and
-/// where there is no room for the entry, all stays.
+/// An event that is refused changes nothing but that its entry is recorded, and invokes nothing. Where nothing is due
+/// and where there is no room for the entry, all stays.
 pub fn a_refusal_changes_nothing()
     ensures state { (state : State) (event : Event) → IsRefusal (step state event).answer
         → (step state event).state ≡ record state { recorded = (step state event).state.recorded } }
@@ -195,8 +195,8 @@ pub fn a_box_hears_its_calls()
         → hear_all (first ++ more) told ≡ hear_all more (hear_all first told) }
 {}
 
-/// There is no room for an entry exactly where its bytes are more than the free ones. Then it is refused before all else,
-/// and changes nothing; else the event is answered by the other rules, and the entry's bytes are recorded.
+/// There is no room for an entry exactly where its bytes are more than the free ones. Then it is refused before all
+/// else, and changes nothing; else the event is answered by the other rules, and the entry's bytes are recorded.
 pub fn a_full_recording_refuses()
     ensures full { (state : State) (event : Event) → adds_entry (decided state event).answer ≡ true
         → free_bytes state < entry_size event (decided state event).answer →
@@ -314,8 +314,8 @@ pub fn callers_are_counted()
         (history ++ record { caller = caller; event = enrol; answer = number n } ∷ []) ≡ n + 1) }
 {}
 
-/// The clock never goes back, and stands where a tick before it left it; callers are numbered up to their limit; a message
-/// alone is queued where there is a place for it and blocks for its bytes, of which 64 take two.
+/// The clock never goes back, and stands where a tick before it left it; callers are numbered up to their limit; a
+/// message alone is queued where there is a place for it and blocks for its bytes, of which 64 take two.
 pub fn examples()
     ensures early { (step (opening
         (record { units = 1; blocks = 1; methods = 1; nodes = 1; callers = 1; recording = 200 }))

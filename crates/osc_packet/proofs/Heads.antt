@@ -70,7 +70,8 @@ pub head_ok : (left : ℕ) (outer : Option ℕ) (at : ℕ) (bytes : List ℕ) (e
     → Head left outer bytes effective
 head_ok left outer at bytes effective =
     go (not (starts_with ◌==◌ bytes bundle_word)) (nat_lt (length bytes) 16) (left == 0) (is_early outer (bundle_tag bytes)) refl refl refl refl where
-      go : (a b c d : Bool) → not (starts_with ◌==◌ bytes bundle_word) ≡ a → nat_lt (length bytes) 16 ≡ b → (left == 0) ≡ c → is_early outer (bundle_tag bytes) ≡ d
+      go : (a b c d : Bool) → not (starts_with ◌==◌ bytes bundle_word) ≡ a → nat_lt (length bytes) 16 ≡ b → (left == 0) ≡ c → is_early outer (bundle_tag bytes)
+          ≡ d
           → cond a (Err (no_bundle_word at))
           (cond b (Err (no_bundle_head (at + 8)))
           (cond c (Err (too_deep at)) (cond d (Err (tag_before (at + 8))) (Ok (effective_tag outer (bundle_tag bytes)))))) ≡ Ok effective

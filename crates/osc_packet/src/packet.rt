@@ -34,9 +34,8 @@ impl<'a> Packet<'a> {
     ghost use Rattle.osc_packet.specs.Wants.{FirstFault};
     ghost use Rattle.osc_packet.specs.Reading.{packet_fault, is_packet, units_read};
 
-    /// Accepts exactly one packet of at most `max` bytes, whole, and borrows it. Else tells its first fault, of the kinds
-    /// 1 to 18; docs/FORMATS.md has the order of the checks.
-    /// Takes no memory.
+    /// Accepts exactly one packet of at most `max` bytes, whole, and borrows it. Else tells its first fault, of the
+    /// kinds 1 to 18; docs/FORMATS.md has the order of the checks. Takes no memory.
     pub fn check(bytes: &'a [u8], max: u32) -> Result<Packet<'a>, Fault>
         requires { max ≤ MAX_PACKET }
         ensures ok { IfOk result (λ packet. packet ≡ bytes.now) }

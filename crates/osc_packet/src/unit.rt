@@ -36,8 +36,8 @@ impl<'a> Unit<'a> {
         Unit { tag, content }
     }
 
-    /// The effective time tag. A message alone has 1, "immediately". A bundle in a bundle has its own tag, and where that
-    /// is 1 it has the effective tag of the bundle around it.
+    /// The effective time tag. A message alone has 1, "immediately". A bundle in a bundle has its own tag, and where
+    /// that is 1 it has the effective tag of the bundle around it.
     pub fn tag(&self) -> u64
         ensures { result ≡ self.now.tag }
     {

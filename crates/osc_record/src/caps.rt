@@ -32,7 +32,8 @@ impl Model for Caps {
 
     ghost view = { λ c. limits_of c.units c.blocks c.methods c.nodes c.callers c.recording };
 
-    ghost invariant = { λ c. AreInRange (limits_of c.units c.blocks c.methods c.nodes c.callers c.recording) };
+    ghost invariant = { λ c. AreInRange
+        (limits_of c.units c.blocks c.methods c.nodes c.callers c.recording) };
 
     ghost inverse = { λ l. record {
       units = l.units;

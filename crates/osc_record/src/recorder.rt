@@ -35,7 +35,8 @@ impl Model for Recorder {
 
     ghost view = { λ r. recording_of r.caps r.bytes.items r.start r.caller r.unit r.owed };
 
-    ghost invariant = { λ r. IsKept r.caps r.bytes.items r.start r.caller r.unit r.owed (vec_capacity r.bytes) };
+    ghost invariant = { λ r. IsKept r.caps r.bytes.items r.start r.caller r.unit r.owed
+        (vec_capacity r.bytes) };
 }
 
 impl Recorder {

@@ -5,8 +5,8 @@ ghost use Rattle.osc_script.specs.declared.fault.LineRefusal.TheVariants.{NoMemo
 use std::alloc::AllocError;
 use thiserror::Error;
 
-/// The first line outside the rules, counted from 1, or 0 for an input that is too long; docs/FORMATS.md has the order in
-/// which the kinds are tried.
+/// The first line outside the rules, counted from 1, or 0 for an input that is too long; docs/FORMATS.md has the
+/// order in which the kinds are tried.
 #[derive(Clone, Copy, Debug, PartialEq, Eq, Error)]
 #[error("line {line} of the script has a fault of kind {kind}")]
 pub struct ScriptFault {

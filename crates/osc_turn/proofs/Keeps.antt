@@ -154,7 +154,8 @@ module _ {S : Type 0} (stands : S → List (List ℕ) → Type 0) (kind_of : S �
         w,
         keeps,
         tt,
-        stays s r 0 id me.1 w (view_changes s.homes s.views r.log r.kind r.holder t d r.standing id me.0 w at (found_fits r.log r.kind t d t me.0 f one) refl refl),
+        stays s r 0 id me.1 w (view_changes s.homes s.views r.log r.kind r.holder t d r.standing id me.0 w at (found_fits r.log r.kind t d t me.0 f one) refl
+            refl),
         (finds_tells r.log r.kind t d me.0 f r.standing.counted, refl),
       )
 

@@ -26,7 +26,8 @@ pub returns-in_err-row-clause-malformed : goal.returns-in_err-row-clause-malform
 returns-in_err-row-clause-malformed c =
     let at = c.in_err-row.field-0.0.at in
     let same : c.from_residual-in_err-row.result ≡ Err (Malformed at) = search rules in
-    rw same (next_unformed c.args.recording.now c.loop-text.unread c.loop-text.server c.loop-text.text c.loop-text.number at c.loop-text.invariant.played c.in_err-row.ensures.err)
+    rw same (next_unformed c.args.recording.now c.loop-text.unread c.loop-text.server c.loop-text.text c.loop-text.number at c.loop-text.invariant.played
+        c.in_err-row.ensures.err)
 
 pub returns-in_err-row-clause-complete : goal.returns-in_err-row-clause-complete
 returns-in_err-row-clause-complete c =
@@ -34,7 +35,8 @@ returns-in_err-row-clause-complete c =
     let same : c.from_residual-in_err-row.result ≡ Err (Malformed at) = search rules in
     λ caps history is. rw same
     (none_malformed c.a_legal_history_is_recordable.ensures.all c.a_legal_history_is_recordable.ensures.within c.args.recording.now at caps history
-    (next_unformed c.args.recording.now c.loop-text.unread c.loop-text.server c.loop-text.text c.loop-text.number at c.loop-text.invariant.played c.in_err-row.ensures.err)
+    (next_unformed c.args.recording.now c.loop-text.unread c.loop-text.server c.loop-text.text c.loop-text.number at c.loop-text.invariant.played
+        c.in_err-row.ensures.err)
     is)
 
 pub replay_row-requires-clause-reached : goal.replay_row-requires-clause-reached
@@ -81,7 +83,8 @@ returns-in-Err-clause-complete c = λ caps history is.
 
 pub overflow_add-number : goal.overflow_add-number
 overflow_add-number c =
-    omega (arith, c.requires, few_played c.args.recording.now c.loop-text.unread c.loop-text.server c.loop-text.text c.loop-text.number c.loop-text.invariant.played)
+    omega (arith, c.requires, few_played c.args.recording.now c.loop-text.unread c.loop-text.server c.loop-text.text c.loop-text.number
+        c.loop-text.invariant.played)
 
 pub loop-text-preserved : goal.loop-text-preserved
 loop-text-preserved c =
@@ -90,7 +93,8 @@ loop-text-preserved c =
     c.in_ok-row.ensures.read in
     record {
       played = played_more c.args.recording.now c.loop-text.unread c.next_row.new.unread
-          (placed_of row.entry) c.loop-text.server c.replay_row.new.server c.loop-text.text c.replay_row.new.text c.loop-text.number c.loop-text.invariant.played
+          (placed_of row.entry) c.loop-text.server c.replay_row.new.server c.loop-text.text c.replay_row.new.text c.loop-text.number
+              c.loop-text.invariant.played
           reads (row_lawful row) c.in_default-replay_row.ensures.ok;
     }
 

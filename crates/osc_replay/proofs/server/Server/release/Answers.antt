@@ -16,7 +16,8 @@ returns-then-size-self c =
     let unit : Queued = (c.in-Some.field-0-0, c.in-Some.unit, c.in-Some.taken) in
     let old = server_state s.tree s.queue s.blocks s.clock s.next_id s.next_unit s.callers s.caller_limit s.recorded s.record_limit in
     subst (λ (old : State). adds_entry (step old release).answer ≡ false) c.self.view_is
-    (release_full old unit c.take_due.new.self.items c.find_calls.new.calls.hits.items c.in-Some.ensures.taken c.in-Some.ensures.due c.in_ok-find_calls.ensures.hits
+    (release_full old unit c.take_due.new.self.items c.find_calls.new.calls.hits.items c.in-Some.ensures.taken c.in-Some.ensures.due
+        c.in_ok-find_calls.ensures.hits
     (omega (arith, c.if-size-self.true, c.len-size.ensures)))
 
 pub returns : goal.returns
