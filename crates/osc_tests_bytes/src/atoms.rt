@@ -3,7 +3,7 @@ ghost use Rattle.std.specs.Prelude.{◌≡◌, ◌%◌, ◌≤◌, length};
 ghost use Rattle.osc_atoms.specs.Atoms.{has_no_zero};
 
 use osc_atoms::*;
-use std::alloc::AllocError;
+use std::alloc::{AllocError, Global};
 
 /// The message that the standard shows for `/foo` and five arguments (OSC 1.0 examples).
 const FOO: [u8; 40] = [
@@ -142,6 +142,42 @@ fn atoms_are_appended_and_written_as_the_vectors_have_them(
     Ok(())
 }
 
+/// Whether a text and a blob of these bytes are appended as these.
+fn is_appended(alloc: Global, text: &[u8], string: &[u8], blob: &[u8]) -> Result<bool, AllocError> {
+    if !is_text(text) || text.len() > 9 {
+        return Ok(false);
+    }
+    let mut texts = Vec::new(alloc);
+    put_string(&mut texts, text)?;
+    let mut blobs = Vec::new(alloc);
+    put_blob(&mut blobs, text)?;
+    Ok(texts.as_slice() == string && blobs.as_slice() == blob)
+}
+
+/// Whether these are read as a text and a blob of the bytes.
+fn is_read(text: &[u8], string: &[u8], blob: &[u8]) -> bool {
+    if string.len() % 4 != 0 || blob.len() % 4 != 0 || string.len() > 16 || blob.len() > 16 {
+        return false;
+    }
+    string_at(string, 0) == Ok((text, string.len() as u32))
+        && blob_at(blob, 0) == Ok((text, blob.len() as u32))
+}
+
+/// Whether a text and a blob of these bytes are written as these, and no byte behind them.
+fn is_written(text: &[u8], string: &[u8], blob: &[u8]) -> bool {
+    if !is_text(text) || text.len() > 9 {
+        return false;
+    }
+    let mut texts = [0xff; 40];
+    let next = write_string(&mut texts, 4, text);
+    let mut blobs = [0xff; 40];
+    let end = write_blob(&mut blobs, 16, text);
+    &texts[4..next] == string
+        && texts[next] == 0xff
+        && &blobs[16..end] == blob
+        && blobs[end] == 0xff
+}
+
 #[test]
 fn padding_is_that_of_the_standard_at_each_length(rt: HostRuntime) -> Result<(), AllocError> {
     let rows: [(&[u8], &[u8], &[u8]); 10] = [
@@ -161,25 +197,13 @@ fn padding_is_that_of_the_standard_at_each_length(rt: HostRuntime) -> Result<(),
         ),
     ];
     for (text, string, blob) in rows {
-        assert!(rt; is_text(text) && text.len() <= 9);
         assert!(rt;
-            string.len() % 4 == 0 && blob.len() % 4 == 0 && string.len() <= 16 && blob.len() <= 16
+            is_appended(rt.alloc(), text, string, blob)?,
+            "at {}",
+            text.len()
         );
-        let mut out = Vec::new(rt.alloc());
-        put_string(&mut out, text)?;
-        assert_eq!(rt; out.as_slice(), string);
-        assert_eq!(rt; string_at(string, 0), Ok((text, string.len() as u32)));
-
-        let mut out = Vec::new(rt.alloc());
-        put_blob(&mut out, text)?;
-        assert_eq!(rt; out.as_slice(), blob);
-        assert_eq!(rt; blob_at(blob, 0), Ok((text, blob.len() as u32)));
-
-        let mut out = [0xff; 40];
-        let next = write_string(&mut out, 4, text);
-        assert_eq!(rt; (&out[4..next], out[next]), (string, 0xff));
-        let end = write_blob(&mut out, 16, text);
-        assert_eq!(rt; (&out[16..end], out[end]), (blob, 0xff));
+        assert!(rt; is_read(text, string, blob), "at {}", text.len());
+        assert!(rt; is_written(text, string, blob), "at {}", text.len());
     }
     Ok(())
 }

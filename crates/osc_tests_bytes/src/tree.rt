@@ -134,6 +134,24 @@ fn an_address_is_refused_past_the_limit_of_methods_or_of_nodes(
     Ok(())
 }
 
+/// Finds the methods that the bytes of a pattern match.
+fn find<L: Ledger>(
+    tree: &Tree,
+    pattern: &[u8],
+    hits: &mut Hits,
+    steps: &mut Steps<L>,
+) -> Result<(), Fail>
+    requires limit { tree.now.method_limit ≤ hits.old.limit }
+    ensures limit { hits.new.limit ≡ hits.old.limit }
+{
+    if pattern.len() > 100 {
+        return Err(Fail::new("a pattern"));
+    }
+    let pattern = Pattern::check(pattern).ok().ok_or("a pattern")?;
+    tree.matches(&pattern, hits, steps);
+    Ok(())
+}
+
 fn match_all<L: Ledger, R: Abort>(rt: &R, alloc: Global, blank: Blank) -> Result<(), Fail>
     requires name { blank.name ≡ L.name }
     requires parts { blank.parts ≡ L.parts }
@@ -155,13 +173,11 @@ fn match_all<L: Ledger, R: Abort>(rt: &R, alloc: Global, blank: Blank) -> Result
         (b"/?", &[2]),
     ];
     for (pattern, ids) in rows {
-        let pattern = Pattern::check(pattern).ok().ok_or("a pattern")?;
-        tree.matches(&pattern, &mut hits, &mut steps);
+        find(&tree, pattern, &mut hits, &mut steps)?;
         assert_eq!(rt; hits.ids(), ids);
     }
     play(alloc, &mut tree, &mut next, Event::Remove(b"/a/x"))?;
-    let pattern = Pattern::check(b"/*").ok().ok_or("a pattern")?;
-    tree.matches(&pattern, &mut hits, &mut steps);
+    find(&tree, b"/*", &mut hits, &mut steps)?;
     assert_eq!(rt; hits.ids(), [2].as_slice());
     Ok(())
 }

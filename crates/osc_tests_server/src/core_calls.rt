@@ -348,9 +348,9 @@ fn a_refused_add_hands_the_box_back_as_it_was(rt: HostRuntime) -> Result<(), Fai
 /// Adds and removes methods by their addresses, and gives the server back.
 fn with_holes(alloc: Global) -> Result<Core<Mute>, Fail> {
     let mut core = open(alloc, [9, 9, 9, 9, 1, 9999])?;
-    add_mute(&mut core, alloc, b"/c")?;
-    add_mute(&mut core, alloc, b"/b")?;
-    add_mute(&mut core, alloc, b"/a")?;
+    for address in [b"/c", b"/b", b"/a"] {
+        add_mute(&mut core, alloc, address)?;
+    }
     remove_mute(&mut core, alloc, b"/b")?;
     add_mute(&mut core, alloc, b"/b")?;
     Ok(core)
