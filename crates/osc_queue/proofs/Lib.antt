@@ -1,3 +1,6 @@
+pub mod Depths
+pub mod Heads
 pub mod Orders
-pub mod Places
+pub mod Shifting
+pub mod Sorting
 pub mod Unique

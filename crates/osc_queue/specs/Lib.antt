@@ -1,2 +1,4 @@
 pub mod Timed
 pub mod Views
+-- Inside the crate.
+pub mod Heaps

@@ -2,6 +2,7 @@
 #![tactic(auto)]
 
 mod entry;
+mod heap;
 pub mod laws;
 mod queue;
 mod uncounted;

@@ -1,15 +1,14 @@
-//! The timed queue: items in the order of due moment and unit number, in room that is reserved at opening.
-ghost use Rattle.std.specs.Prelude.{◌≡◌, ◌+◌, ◌<◌, ◌≤◌, ◌↔◌, List, [], ◌∷◌, length, Some, slice_get, IsNone, IsErr, IfOk, IfErr, IfSome, IfNone, OnOk, OnErr};
-ghost use Rattle.std.specs.List.{Contains, position_or_len};
+//! The timed queue: items in the order of due moment and unit number, in a heap whose room is reserved at opening.
+ghost use Rattle.std.specs.Prelude.{◌≡◌, ◌+◌, ◌-◌, ◌*◌, ◌^◌, ◌<◌, ◌≤◌, ◌↔◌, List, [], ◌∷◌, length, Some, slice_get, IsNone, IsErr, IfOk, IfErr, IfSome, IfNone, OnOk, OnErr, slice_index_or, vec_len, vec_capacity};
+ghost use Rattle.std.specs.List.{Contains};
 ghost use Rattle.std.specs.List.Sorted.{IsPermutation};
-ghost use Rattle.std.specs.VecDeque.{deque_len, deque_capacity};
-ghost use Rattle.osc_queue.specs.Timed.{due_of, is_before, enter, IsInOrder, IsLeast, IsNewUnit, NoneIsDue};
-ghost use Rattle.osc_queue.specs.Views.{item_of, items_of};
+ghost use Rattle.osc_queue.specs.Timed.{due_of, enter, IsInOrder, IsLeast, IsNewUnit, NoneIsDue};
+ghost use Rattle.osc_queue.specs.Views.{item_of, items_of, IsHeap};
 
 use crate::entry::Entry;
+use crate::heap::{rise, sink};
 use osc_pattern::Steps;
 use std::alloc::{AllocError, Global};
-use std::collections::VecDeque;
 use std::marker::Model;
 use std::sync::ledger::Ledger;
 
@@ -20,24 +19,24 @@ use std::sync::ledger::Ledger;
 /// No call but `open` takes memory, and none lets an item go.
 #[derive(Drop)]
 pub struct Queue<T> {
-    entries: VecDeque<Entry<T>>,
+    entries: Vec<Entry<T>>,
     limit: u32,
 }
 
 impl<T> Model for Queue<T> {
-    ghost use Rattle.std.specs.VecDeque.{deque_capacity};
+    ghost use Rattle.std.specs.Prelude.{vec_capacity};
     ghost use Rattle.osc_queue.specs.Timed.{Timed, timed_code};
 
     ghost Value = { Timed T };
 
     ghost coded = { timed_code T.code };
 
-    ghost use Rattle.osc_queue.specs.Views.{items_of, IsReserved};
+    ghost use Rattle.osc_queue.specs.Views.{items_of, in_order, IsReserved};
 
-    ghost view = { λ queue. record { limit = queue.limit; items = items_of queue.entries.items } };
+    ghost view = { λ queue. record { limit = queue.limit; items = in_order (items_of queue.entries.items) } };
 
-    ghost invariant = { λ queue. IsReserved (items_of queue.entries.items) queue.limit
-        (deque_capacity queue.entries) };
+    ghost invariant = { λ queue. IsReserved queue.entries.items queue.limit
+        (vec_capacity queue.entries) };
 }
 
 /// The queue holds as many items as it may.
@@ -54,7 +53,7 @@ impl<T> Queue<T> {
         ensures empty { IfOk result (λ queue. queue.items ≡ []) }
     {
         Ok(Queue {
-            entries: VecDeque::with_capacity(alloc, units as usize)?,
+            entries: Vec::with_capacity(alloc, units as usize)?,
             limit: units,
         })
     }
@@ -85,6 +84,7 @@ impl<T> Queue<T> {
         ensures limit { self.new.limit ≡ self.old.limit }
         ensures ordered { IsInOrder self.new.items }
         ensures counted { steps.old ≤ steps.new }
+        ensures bounded { 2 ^ (steps.new - steps.old) ≤ 2 * length self.old.items + 2 }
     {
         if self.entries.len() == self.limit as usize {
             return Err((UnitsFull { limit: self.limit }, item));
@@ -104,7 +104,7 @@ impl<T> Queue<T> {
             (λ first. IsLeast (first.0, first.1, first.2.now) self.now.items) }
         ensures ordered { IsInOrder self.now.items }
     {
-        let entry = self.entries.front()?;
+        let entry = self.entries.first()?;
         Some((entry.due, entry.unit, &entry.item))
     }
 
@@ -118,56 +118,49 @@ impl<T> Queue<T> {
         ensures limit { self.new.limit ≡ self.old.limit }
         ensures ordered { IsInOrder self.new.items }
         ensures counted { steps.old ≤ steps.new }
+        ensures bounded { 2 ^ (steps.new - steps.old) ≤ (2 * length self.old.items + 2) ^ 2 }
     {
-        // The list stands in order, so no two entries are compared.
-        if self.entries.front()?.due > now {
+        if self.entries.first()?.due > now {
             return None;
         }
-        let Entry { due, unit, item } = self.entries.pop_front()?;
+        let Entry { due, unit, item } = leave_first(&mut self.entries, steps);
         Some((due, unit, item))
     }
 }
 
-/// The place before the first entry that is taken after this one. The search begins at the end, where most enter.
-fn place_in<T, L: Ledger>(
-    entries: &VecDeque<Entry<T>>,
-    entry: &Entry<T>,
-    steps: &mut Steps<L>,
-) -> usize
-    requires { IsInOrder (items_of entries.now.items) }
-    ensures value { result
-        ≡ position_or_len (is_before (item_of entry.now)) (items_of entries.now.items) }
-    ensures within { result ≤ deque_len entries.now }
-    ensures counted { steps.old ≤ steps.new }
-{
-    let mut place = entries.len();
-    while place > 0 && entry.is_before(&entries[place - 1], steps) {
-        place -= 1;
-    }
-    place
-}
-
-/// An entry enters where its order wants it, in room that is there.
-fn enter_entry<T, L: Ledger>(
-    entries: &mut VecDeque<Entry<T>>,
-    entry: Entry<T>,
-    steps: &mut Steps<L>,
-)
-    requires ordered { IsInOrder (items_of entries.old.items) }
-    requires new { IsNewUnit entry.unit (items_of entries.old.items) }
-    requires room { deque_len entries.old < deque_capacity entries.old }
-    ensures items { items_of entries.new.items
-        ≡ enter (item_of entry) (items_of entries.old.items) }
+/// An entry enters, in room that is there.
+fn enter_entry<T, L: Ledger>(entries: &mut Vec<Entry<T>>, entry: Entry<T>, steps: &mut Steps<L>)
+    requires heap { IsHeap entries.old.items }
+    requires room { vec_len entries.old < vec_capacity entries.old }
+    ensures heap { IsHeap entries.new.items }
     ensures joined { IsPermutation (item_of entry ∷ items_of entries.old.items)
         (items_of entries.new.items) }
-    ensures ordered { IsInOrder (items_of entries.new.items) }
-    ensures len { deque_len entries.new ≡ deque_len entries.old + 1 }
-    ensures capacity { deque_capacity entries.old ≤ deque_capacity entries.new }
+    ensures len { vec_len entries.new ≡ vec_len entries.old + 1 }
+    ensures capacity { vec_capacity entries.old ≤ vec_capacity entries.new }
     ensures counted { steps.old ≤ steps.new }
+    ensures bounded { 2 ^ (steps.new - steps.old) ≤ vec_len entries.old + 1 }
 {
-    let place = place_in(entries, &entry, steps);
-    match entries.insert(place, entry) {
+    match entries.push(entry) {
         Ok(()) => {}
         Err(_) => unreachable!(),
     }
+    rise(entries, steps);
+}
+
+/// The first entry leaves.
+fn leave_first<T, L: Ledger>(entries: &mut Vec<Entry<T>>, steps: &mut Steps<L>) -> Entry<T>
+    requires some { 0 < vec_len entries.old }
+    requires heap { IsHeap entries.old.items }
+    ensures heap { IsHeap entries.new.items }
+    ensures first { result ≡ slice_index_or entries.old.items 0 result }
+    ensures left { IsPermutation (items_of entries.old.items)
+        (item_of result ∷ items_of entries.new.items) }
+    ensures len { vec_len entries.new + 1 ≡ vec_len entries.old }
+    ensures capacity { vec_capacity entries.new ≡ vec_capacity entries.old }
+    ensures counted { steps.old ≤ steps.new }
+    ensures bounded { 2 ^ (steps.new - steps.old) ≤ vec_len entries.old * vec_len entries.old }
+{
+    let first = entries.swap_remove(0);
+    sink(entries, steps);
+    first
 }

@@ -1,0 +1,104 @@
+// Entries as a binary heap: the one that is taken first stands first, and none is taken before the one above it.
+ghost use Rattle.std.specs.Prelude.{◌≡◌, ◌+◌, ◌*◌, ◌^◌, ◌-◌, ◌<◌, ◌≤◌, length, IsTrue, false, IfSome, IfNone};
+ghost use Rattle.std.specs.List.Sorted.{IsPermutation};
+ghost use Rattle.osc_queue.specs.Views.{before_at, above, IsHeap};
+ghost use Rattle.osc_queue.specs.Heaps.{Rises, Sinks, IsFirstBelow};
+
+use crate::entry::Entry;
+use osc_pattern::Steps;
+use std::sync::ledger::Ledger;
+
+/// The last entry goes up to where no entry above it is taken after it.
+pub(crate) fn rise<T, L: Ledger>(entries: &mut [Entry<T>], steps: &mut Steps<L>)
+    requires some { 0 < length entries.old }
+    requires heap { Rises (length entries.old - 1) entries.old }
+    ensures heap { IsHeap entries.new }
+    ensures same { IsPermutation entries.old entries.new }
+    ensures counted { steps.old ≤ steps.new }
+    ensures bounded { 2 ^ (steps.new - steps.old) ≤ length entries.old }
+{
+    let mut place = entries.len() - 1;
+    while place > 0 && rise_once(entries, place, steps) {
+        place = (place - 1) / 2;
+    }
+}
+
+/// The entry changes places with the one above it if it is taken before that.
+fn rise_once<T, L: Ledger>(entries: &mut [Entry<T>], place: usize, steps: &mut Steps<L>) -> bool
+    requires some { 0 < place }
+    requires within { place < length entries.old }
+    requires heap { Rises place entries.old }
+    ensures risen { IsTrue result → Rises (above place) entries.new }
+    ensures over { result ≡ false → IsHeap entries.new }
+    ensures same { IsPermutation entries.old entries.new }
+    ensures counted { steps.new ≡ steps.old + 1 }
+{
+    let next = (place - 1) / 2;
+    let rises = entries[place].is_before(&entries[next], steps);
+    if rises {
+        entries.swap(place, next);
+    }
+    rises
+}
+
+/// The first entry goes down to where no entry right below it is taken before it.
+pub(crate) fn sink<T, L: Ledger>(entries: &mut [Entry<T>], steps: &mut Steps<L>)
+    requires heap { Sinks 0 entries.old }
+    ensures heap { IsHeap entries.new }
+    ensures same { IsPermutation entries.old entries.new }
+    ensures counted { steps.old ≤ steps.new }
+    ensures bounded { 2 ^ (steps.new - steps.old) ≤ (length entries.old + 1) * (length entries.old + 1) }
+{
+    let mut place = 0;
+    while let Some(next) = sink_once(entries, place, steps) {
+        place = next;
+    }
+}
+
+/// The entry changes places with the first of those right below it, if that is taken before it. Tells where it is then.
+fn sink_once<T, L: Ledger>(
+    entries: &mut [Entry<T>],
+    place: usize,
+    steps: &mut Steps<L>,
+) -> Option<usize>
+    requires within { place ≤ length entries.old }
+    requires heap { Sinks place entries.old }
+    ensures sunk { IfSome result (λ next. Sinks next entries.new) }
+    ensures lower { IfSome result (λ next. (2 * place < next) × (next < length entries.old)) }
+    ensures over { IfNone result (IsHeap entries.new) }
+    ensures same { IsPermutation entries.old entries.new }
+    ensures counted { (steps.old ≤ steps.new) × (steps.new ≤ steps.old + 2) }
+    ensures few { length entries.old ≤ 2 * place + 1 → steps.new ≡ steps.old }
+{
+    let child = first_below(entries, place, steps)?;
+    if entries[child].is_before(&entries[place], steps) {
+        entries.swap(place, child);
+        Some(child)
+    } else {
+        None
+    }
+}
+
+/// The place right below this one whose entry is taken first, if there is one.
+fn first_below<T, L: Ledger>(
+    entries: &[Entry<T>],
+    place: usize,
+    steps: &mut Steps<L>,
+) -> Option<usize>
+    requires within { place ≤ length entries.now }
+    ensures found { IsFirstBelow entries.now place result }
+    ensures lower { IfSome result (λ child. 2 * place < child) }
+    ensures counted { (steps.old ≤ steps.new) × (steps.new ≤ steps.old + 1) }
+    ensures few { length entries.now ≤ 2 * place + 1 → steps.new ≡ steps.old }
+{
+    if place >= entries.len() / 2 {
+        return None;
+    }
+    let left = 2 * place + 1;
+    let right = left + 1;
+    if right < entries.len() && entries[right].is_before(&entries[left], steps) {
+        Some(right)
+    } else {
+        Some(left)
+    }
+}
