@@ -240,7 +240,7 @@ removed_read history state entry answered list removes one read method = (
           go true e =
               let at : method.address ≡ removes.address = (bytes_eq-Decides method.address removes.address).0 e in
               let same : one.method ≡ method = unique (λ (m : Method). m.address) state.methods one.method method list.addresses one.held held (one.at ∙ sym at)
-                  in
+              in
               absurd (stays (answer_is ∙ ap removed (sym one.under ∙ ap (λ (m : Method). m.id) same)))
 
 step_read : (history : List Entry) (state : State) (entry : Entry) → entry.answer ≡ (step state entry.event).answer → IsMethodList state.methods

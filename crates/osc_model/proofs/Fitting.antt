@@ -170,10 +170,15 @@ full_fits tree address methods nodes_most spelled =
     go (length tree.methods == tree.method_limit) (nat_lt (free_nodes tree) (new_nodes tree.methods address)) refl where
       go : (t u : Bool) → nat_lt (free_nodes tree) (new_nodes tree.methods address) ≡ u
           → IfSome (cond t (Some (methods_full tree.method_limit)) (cond u (Some (nodes_full (new_nodes tree.methods address) (free_nodes tree))) None))
-              FitsRefusal
+          FitsRefusal
       go true u is = record { code = omega arith; first = omega arith; second = omega arith; sound = tt }
-      go false true is = record { code = omega arith; first = omega (arith, few_nodes tree.methods address spelled); second = omega arith; sound = ltb-true _ _
-          is }
+      go false true is = record {
+        code = omega arith;
+        first = omega (arith, few_nodes tree.methods address spelled);
+        second = omega arith;
+        sound = ltb-true _ _
+            is;
+      }
       go false false is = tt
 
 refusal_fits : (state : State) (address : List ℕ) → IsSmall state → IsAddress address → IfSome (add_refusal (registry state) address) FitsRefusal

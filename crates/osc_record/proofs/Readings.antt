@@ -21,8 +21,15 @@ within_true least most n is = let above = is.above in let below = is.below in rw
 -- limits in their ranges have no fault
 pub no_limit_fault : (limits : Limits) → AreInRange limits → limit_fault limits ≡ None
 no_limit_fault limits is =
-    rw (within_true 1 1048576 limits.units is.units, within_true 1 1048576 limits.blocks is.blocks, within_true 1 65536 limits.methods is.methods, within_true 1
-        1048576 limits.nodes is.nodes, within_true 1 1024 limits.callers is.callers, within_true 56 1073741824 limits.recording is.recording)
+    rw (
+      within_true 1 1048576 limits.units is.units,
+      within_true 1 1048576 limits.blocks is.blocks,
+      within_true 1 65536 limits.methods is.methods,
+      within_true 1
+          1048576 limits.nodes is.nodes,
+      within_true 1 1024 limits.callers is.callers,
+      within_true 56 1073741824 limits.recording is.recording,
+    )
     refl
 
 small_int : (n : ℕ) → n ≤ 1073741824 → n < 2147483648

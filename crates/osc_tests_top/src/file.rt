@@ -1,8 +1,7 @@
 // The sink to a file, on the file system that the test runs on.
 use osc_edge::{FileSink, Put, Sink};
 use std::alloc::Global;
-use std::fs;
-use std::io;
+use std::{fs, io};
 
 fn sink_at(rt: &HostRuntime, path: &str) -> io::Result<FileSink> {
     let alloc: Global = rt.alloc();

@@ -27,7 +27,7 @@ returns-in_err-row-clause-malformed c =
     let at = c.in_err-row.field-0.0.at in
     let same : c.from_residual-in_err-row.result ≡ Err (Malformed at) = search rules in
     rw same (next_unformed c.args.recording.now c.loop-text.unread c.loop-text.server c.loop-text.text c.loop-text.number at c.loop-text.invariant.played
-        c.in_err-row.ensures.err)
+    c.in_err-row.ensures.err)
 
 pub returns-in_err-row-clause-complete : goal.returns-in_err-row-clause-complete
 returns-in_err-row-clause-complete c =
@@ -36,7 +36,7 @@ returns-in_err-row-clause-complete c =
     λ caps history is. rw same
     (none_malformed c.a_legal_history_is_recordable.ensures.all c.a_legal_history_is_recordable.ensures.within c.args.recording.now at caps history
     (next_unformed c.args.recording.now c.loop-text.unread c.loop-text.server c.loop-text.text c.loop-text.number at c.loop-text.invariant.played
-        c.in_err-row.ensures.err)
+    c.in_err-row.ensures.err)
     is)
 
 pub replay_row-requires-clause-reached : goal.replay_row-requires-clause-reached
@@ -83,8 +83,12 @@ returns-in-Err-clause-complete c = λ caps history is.
 
 pub overflow_add-number : goal.overflow_add-number
 overflow_add-number c =
-    omega (arith, c.requires, few_played c.args.recording.now c.loop-text.unread c.loop-text.server c.loop-text.text c.loop-text.number
-        c.loop-text.invariant.played)
+    omega (
+      arith,
+      c.requires,
+      few_played c.args.recording.now c.loop-text.unread c.loop-text.server c.loop-text.text c.loop-text.number
+          c.loop-text.invariant.played,
+    )
 
 pub loop-text-preserved : goal.loop-text-preserved
 loop-text-preserved c =
@@ -94,7 +98,7 @@ loop-text-preserved c =
     record {
       played = played_more c.args.recording.now c.loop-text.unread c.next_row.new.unread
           (placed_of row.entry) c.loop-text.server c.replay_row.new.server c.loop-text.text c.replay_row.new.text c.loop-text.number
-              c.loop-text.invariant.played
+          c.loop-text.invariant.played
           reads (row_lawful row) c.in_default-replay_row.ensures.ok;
     }
 

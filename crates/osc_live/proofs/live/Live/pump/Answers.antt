@@ -14,7 +14,7 @@ overflow_add-released g c =
     let one : ReleasesOne caps c.args.caller.number c.in-Released.made between w =
     subst (λ (n : ℕ). ReleasesOne caps n c.in-Released.made between w) c.loop.invariant.number
     (told_released caps c.loop.caller.number c.in-Released.unit c.in-Released.made c.release-after.result.1 between w c.in-Released.is
-        c.release-after.ensures.call)
+    c.release-after.ensures.call)
     in
     let few = count_few caps c.args.caller.number c.loop.released c.loop.calls release
     (released one.0 one.1) v between w c.loop.invariant.releases one.3 refl in
@@ -29,7 +29,7 @@ loop-preserved g c =
     let one : ReleasesOne caps c.args.caller.number c.in-Released.made between w =
     subst (λ (n : ℕ). ReleasesOne caps n c.in-Released.made between w) c.loop.invariant.number
     (told_released caps c.loop.caller.number c.in-Released.unit c.in-Released.made c.release-after.result.1 between w c.in-Released.is
-        c.release-after.ensures.call)
+    c.release-after.ensures.call)
     in
     let few = c.loop.invariant.few in
     record {

@@ -19,7 +19,7 @@ returns-in-Err-clause-refused c fault is =
     let null : null_of c.args.pattern.now ≡ None = search rules in
     let first : pattern_fault c.args.pattern.now ≡ Some c.in-Err.fault = search rules in
     only c.args.pattern.now _ fault (open_pattern c.args.pattern.now (Some c.in-Err.fault) (omega (arith, c.if-pattern-gt-MAX_BUILT_PATTERN.false)) null first)
-        is
+    is
 
 pub returns-in_err-from_slice-clause-refused : goal.returns-in_err-from_slice-clause-refused
 returns-in_err-from_slice-clause-refused c fault is =

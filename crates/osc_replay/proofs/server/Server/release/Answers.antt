@@ -17,7 +17,7 @@ returns-then-size-self c =
     let old = server_state s.tree s.queue s.blocks s.clock s.next_id s.next_unit s.callers s.caller_limit s.recorded s.record_limit in
     subst (λ (old : State). adds_entry (step old release).answer ≡ false) c.self.view_is
     (release_full old unit c.take_due.new.self.items c.find_calls.new.calls.hits.items c.in-Some.ensures.taken c.in-Some.ensures.due
-        c.in_ok-find_calls.ensures.hits
+    c.in_ok-find_calls.ensures.hits
     (omega (arith, c.if-size-self.true, c.len-size.ensures)))
 
 pub returns : goal.returns

@@ -41,7 +41,7 @@ pub into_value-requires-clause-whole : goal.into_value-requires-clause-whole
 into_value-requires-clause-whole g c =
     let is = parted c.args.passes.items c.remove.new.self.items c.remove.result c.requires.few.0 c.remove.ensures.value c.remove.ensures.items in
     (gathered c.args.passes.items c.remove.result c.remove.new.self.items c.into_seat-seat.result.me c.count-made.new.seat.me c.count-made.result
-        c.gather.new.seat.me.0 is c.requires.first c.into_seat-seat.ensures.1
+    c.gather.new.seat.me.0 is c.requires.first c.into_seat-seat.ensures.1
     c.count-made.ensures.counts (search rules) c.gather.ensures.gathers).whole
 
 pub returns-clause-closes : goal.returns-clause-closes

@@ -42,6 +42,6 @@ loop-pass-preserved g c = let inv = c.loop-pass.invariant in let p = c.in-Some.p
         inv.3.1 ∙ (ap (λ l. l ++ inv.3.0) c.in-Some.ensures.items ∙ append_assoc c.pop.new.self.items (p ∷ []) inv.3.0),
         subst (λ (u : View). Gathers c.args.seat.now.me.0 (p ∷ inv.3.0) u) (sym same)
             (gathered_one c.args.seat.now.me.0 c.loop-pass.seat.me.0 c.join_seat.new.seat.me.0 p inv.3.0 c.requires.first.0 c.requires.first.1 inv.3.2
-                c.into_seat-other.ensures.2 is now.4 now.3),
+            c.into_seat-other.ensures.2 is now.4 now.3),
       ),
     )
