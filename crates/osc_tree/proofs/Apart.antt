@@ -1,6 +1,6 @@
 -- Methods of a lawful list stay apart in the order of their addresses.
-use Rattle.std.proofs.Common.{◌≡◌, ◌≢◌, ◌<◌, ◌≤◌, ℕ, zero, suc, Bool, true, false, List, [], ◌∷◌, length, fold, filter, get_or, All, refl, sym, ap, subst, ◌∙◌, arith}
-use Rattle.std.specs.List.{AllByRecursion, AllPairs}
+use Rattle.std.proofs.Common.{◌≡◌, ◌≢◌, ◌<◌, ◌≤◌, ℕ, zero, suc, Bool, true, false, List, [], ◌∷◌, length, fold, filter, get_or, refl, sym, ap, subst, ◌∙◌, arith}
+use Rattle.std.specs.List.{AllByRecursion}
 use Rattle.osc_pattern.specs.Addresses.{IsAddress, is_proper_prefix}
 use Rattle.osc_pattern.specs.Methods.{Method, IsMethodList}
 use Rattle.osc_tree.specs.declared.registered.Registered.{Registered}
@@ -9,7 +9,7 @@ use Rattle.osc_tree.specs.Order.{IsOrder, ordered, begins_with}
 use Rattle.osc_tree.specs.Views.{methods_of, methods_at}
 use Rattle.osc_tree.specs.Walking.{most_steps, IsSorted}
 use Rattle.std.proofs.lemmas.List.{append-nil}
-use Rattle.osc_tree.proofs.Weights.{folded_steps, some_steps}
+use Rattle.osc_tree.proofs.Counts.{folded_steps, some_steps}
 use Rattle.osc_tree.proofs.Lawful.{some_lawful}
 use Rattle.osc_tree.proofs.Orders.{all_placed, placed_ahead, placed_behind}
 use Rattle.osc_tree.proofs.Sorting.{filter_ordered, ordered_ascend}

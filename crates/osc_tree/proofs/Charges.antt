@@ -1,6 +1,5 @@
 -- What is matched for a method costs no more than the nodes that no method before it has.
-use Rattle.std.proofs.Common.{◌≡◌, ◌≤◌, ◌<◌, ℕ, zero, suc, ◌+◌, ◌-◌, ◌*◌, Bool, true, false, not, cond, ◌||◌, nat_eq, nat_lt, List, [], ◌∷◌, ◌++◌, length, filter, take, drop, get_or, refl, sym, ap, subst, ◌∙◌, arith}
-use Rattle.std.specs.Prelude.{sum_by}
+use Rattle.std.proofs.Common.{◌≡◌, ◌≤◌, ◌<◌, ℕ, zero, suc, ◌+◌, ◌-◌, ◌*◌, Bool, true, false, not, cond, ◌||◌, nat_eq, nat_lt, List, [], ◌∷◌, ◌++◌, length, take, get_or, refl, sym, ap, ◌∙◌, arith}
 use Rattle.std.specs.List.{list_any, starts_with}
 use Rattle.std.specs.Str.{bytes_eq}
 use Rattle.std.proofs.Math.Seq.{take-suc}
@@ -9,17 +8,16 @@ use Rattle.std.proofs.lemmas.Option.{unwrap_or-slice_get}
 use Rattle.std.proofs.lemmas.Bool.Decides.{nat_tests}
 use Rattle.std.proofs.lemmas.Slice.Eq.{bytes_eq-Decides}
 use Rattle.osc_pattern.specs.Addresses.{is_proper_prefix}
-use Rattle.osc_pattern.specs.Patterns.{parts_of, part_at, begins_with_slash}
-use Rattle.osc_pattern.specs.Methods.{Method, IsMethodList, prefixes_of}
-use Rattle.osc_tree.specs.Matching.{is_below}
+use Rattle.osc_pattern.specs.Patterns.{parts_of, begins_with_slash}
+use Rattle.osc_pattern.specs.Methods.{Method, prefixes_of}
 use Rattle.osc_tree.specs.Nodes.{has_node}
-use Rattle.osc_tree.specs.Walking.{shared, agreeing, spent, known_at, node_steps, most_steps, IsSorted}
+use Rattle.osc_tree.specs.Walking.{shared, spent, known_at, node_steps, most_steps, IsSorted}
 use Rattle.osc_tree.proofs.Lists.{list_any-some}
 use Rattle.osc_tree.proofs.Places.{any_default}
 use Rattle.osc_tree.proofs.Prefixes.{has_prefix_is}
 use Rattle.osc_tree.proofs.Ranges.{lower, lower_order, begun_not_before, begun_no_more, ascend_far}
 use Rattle.osc_tree.proofs.Alike.{prefixes_long, prefix_names, prefix_slash, node_shares, shares_node, shared_first, shared_turn, shared_all, spent_within}
-use Rattle.osc_tree.proofs.Weights.{new_steps, one_more_steps, some_steps}
+use Rattle.osc_tree.proofs.Counts.{new_steps, one_more_steps}
 
 -- what stands between two that begin with a text begins with it
 begun_between : (text first middle last : List ℕ) → lower middle first ≡ false → lower last middle ≡ false → starts_with nat_eq first text ≡ true

@@ -1,16 +1,17 @@
 -- The places of methods that stand in the order of their addresses.
-use Rattle.std.proofs.Common.{◌≡◌, ℕ, ◌+◌, ◌-◌, ◌<◌, Bool, true, false, not, cond, List, [], ◌∷◌, ◌++◌, length, filter, take, drop, insert, get_or, fold, All, refl, sym, ap, subst, ◌∙◌, arith, length-append}
+use Rattle.std.proofs.Common.{◌≡◌, ◌≢◌, ℕ, ◌+◌, ◌-◌, ◌<◌, Bool, true, false, not, cond, List, [], ◌∷◌, ◌++◌, length, filter, take, drop, insert, get_or, fold, All, refl, sym, ap, subst, ◌∙◌, arith, length-append}
 use Rattle.std.specs.List.{position_or_len}
 use Rattle.std.specs.List.{before_first}
 use Rattle.std.proofs.lemmas.List.{take-map, drop-map, take_all, length-map, get_or-map, length-drop, map_push}
 use Rattle.std.proofs.lemmas.List.Edits.{length-insert}
-use Rattle.std.proofs.lemmas.List.Elements.{All-head, All-tail, All-nil}
+use Rattle.std.proofs.lemmas.List.Elements.{All-head, All-tail, All-nil, All-cons, All-append, All-take, All-drop}
 use Rattle.std.proofs.Math.ListN.{get_or-append}
 use Rattle.std.proofs.Math.Seq.{get_or-append_seam}
 use Rattle.osc_pattern.specs.Patterns.{begins_with_slash, is_special, matches}
 use Rattle.osc_pattern.specs.Methods.{Method, IsMethodList}
 use Rattle.osc_tree.specs.declared.registered.Registered.{Registered}
 use Rattle.osc_tree.specs.Matching.{is_below, in_place, matching, IsAscending}
+use Rattle.osc_tree.specs.Registry.{NoneAt}
 use Rattle.osc_tree.specs.Views.{method_of, methods_of, method_at, methods_at}
 use Rattle.osc_tree.specs.Order.{IsOrder, IsSearched, ordered, begins_with}
 use Rattle.osc_tree.proofs.Lists.{position-map, position_or_len-bound, insert-map}
@@ -18,6 +19,8 @@ use Rattle.osc_tree.proofs.Literals.{matched_starts}
 use Rattle.osc_tree.proofs.Places.{method_at-get}
 use Rattle.osc_tree.proofs.Sorting.{filter_ordered, ordered_ascend}
 use Rattle.osc_tree.proofs.Ranges.{begun_range}
+use Rattle.osc_tree.proofs.Searches.{enters_there}
+use Rattle.osc_tree.proofs.Apart.{all_of, all_back, all_folded}
 
 pub methods_at-length : (registered : List Registered) (places : List ℕ) → length (methods_at registered places) ≡ length places
 methods_at-length registered places = length-map places (method_at registered)
@@ -109,21 +112,31 @@ last_method : (registered : List Registered) (one : Registered) → method_at (r
 last_method registered one = method_at-get (registered ++ one ∷ []) (length registered) one (omega (arith, length-append registered (one ∷ [])))
     ∙ ap method_of (get_or-append_seam registered one [] one)
 
--- the last method's place enters
-pub one_more_ordered : (registered : List Registered) (one : Registered) (places entered : List ℕ) → IsOrder registered places
-    → All (λ place. place < length (registered ++ one ∷ [])) entered
-    → entered ≡ insert places
-    (position_or_len (λ other. is_below (method_at (registered ++ one ∷ []) (length registered)) (method_at (registered ++ one ∷ []) other)) places)
-    (length registered) → IsOrder (registered ++ one ∷ []) entered
-one_more_ordered registered one places entered order within is =
+none_in_order : (methods : List Method) (address : List ℕ) → NoneAt methods address → NoneAt (ordered methods) address
+none_in_order methods address none =
+    let P : Method → Type 0 = λ method. method.address ≢ address in
+    λ k d lt. all_back P (ordered methods) k d (all_folded P [] methods tt (all_of P methods none)) lt
+
+all_inserted : {X : Type 0} (P : X → Type 0) (xs : List X) (n : ℕ) (x : X) → All P xs → P x → All P (insert xs n x)
+all_inserted P xs n x all here = All-append P (take n xs) (x ∷ drop n xs) (All-take P n xs all) (All-cons P x (drop n xs) here (All-drop P n xs all))
+
+-- the last method's place enters where the search for its address came to
+pub one_more_ordered : (registered : List Registered) (one : Registered) (places : List ℕ) (at : ℕ) → IsOrder registered places
+    → NoneAt (methods_of registered) one.address → IsSearched one.address (methods_at registered places) at at
+    → IsOrder (registered ++ one ∷ []) (insert places at (length registered))
+one_more_ordered registered one places at order none so =
     let all = registered ++ one ∷ [] in
-    let last = method_at all (length registered) in
+    let method = method_of one in
+    let ms = methods_at registered places in
+    let long = length-append registered (one ∷ []) in
     record {
-      within = within;
-      all = ap (methods_at all) is
-          ∙ insert-map (method_at all) (position_or_len (λ other. is_below last (method_at all other)) places) (length registered) places
-          ∙ ap (λ (n : ℕ). insert (methods_at all places) n last) (sym (position-map (method_at all) (is_below last) places))
-          ∙ ap (λ l. in_place l last) (methods_at-push registered one places order.within ∙ order.all)
-          ∙ ap (in_place (ordered (methods_of registered))) (last_method registered one)
-          ∙ sym (ap ordered (map_push method_of registered one) ∙ fold-push in_place [] (methods_of registered) (method_of one));
+      within = all_inserted (λ place. place < length all) places at (length registered)
+          (λ k d lt. let within = order.within k d lt in omega arith) (omega arith);
+      all = insert-map (method_at all) at (length registered) places
+          ∙ ap (λ l. insert l at (method_at all (length registered))) (methods_at-push registered one places order.within)
+          ∙ ap (insert ms at) (last_method registered one)
+          ∙ ap (λ (n : ℕ). insert ms n method)
+          (sym (enters_there method ms at so (subst (λ l. NoneAt l one.address) (sym order.all) (none_in_order (methods_of registered) one.address none))))
+          ∙ ap (λ l. in_place l method) order.all
+          ∙ sym (ap ordered (map_push method_of registered one) ∙ fold-push in_place [] (methods_of registered) method);
     }

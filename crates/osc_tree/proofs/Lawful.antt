@@ -69,7 +69,7 @@ one_more_kept registered id address method_limit node_limit count capacity more 
       few_nodes = omega arith;
     })
 
-map-remove : {X Y : Type 0} (view : X → Y) (xs : List X) (place : ℕ) → map view (remove xs place) ≡ remove (map view xs) place
+pub map-remove : {X Y : Type 0} (view : X → Y) (xs : List X) (place : ℕ) → map view (remove xs place) ≡ remove (map view xs) place
 map-remove view xs place = map-append view (take place xs) (drop (suc place) xs) ∙ ap (λ l. l ++ map view (drop (suc place) xs)) (sym (take-map view place xs))
     ∙ ap (λ l. take place (map view xs) ++ l) (sym (drop-map view (suc place) xs))
 

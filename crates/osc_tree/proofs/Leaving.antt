@@ -7,13 +7,20 @@ use Rattle.std.proofs.lemmas.Slice.Eq.{bytes_eq-Decides}
 use Rattle.std.proofs.lemmas.List.{length-map, get_or-map}
 use Rattle.std.proofs.lemmas.List.Edits.{get_or-remove_below, get_or-remove_above, length-remove}
 use Rattle.std.proofs.lemmas.List.Elements.{All-cons, All-head, All-tail, All-nil}
-use Rattle.std.proofs.lemmas.List.Sums.{passes_at_first}
+use Rattle.std.proofs.lemmas.List.Sums.{passes_at_first, position_or_len_is}
 use Rattle.osc_pattern.specs.Methods.{Method, IsMethodList}
 use Rattle.osc_tree.specs.declared.registered.Registered.{Registered}
 use Rattle.osc_tree.specs.Views.{method_of, methods_of, method_at, methods_at}
-use Rattle.osc_tree.specs.Order.{IsOrder, ordered, closed_up}
-use Rattle.osc_tree.proofs.Places.{method_at-get}
-use Rattle.osc_tree.proofs.Lawful.{removed_is}
+use Rattle.osc_tree.specs.Adding.{IsApart}
+use Rattle.osc_tree.specs.Order.{IsOrder, IsSearched, StandsAt, ordered, closed_up}
+use Rattle.osc_tree.specs.Walking.{IsSorted}
+use Rattle.osc_tree.proofs.Places.{method_at-get, any_default}
+use Rattle.osc_tree.proofs.Lawful.{map-remove, once, some_lawful, removed_is}
+use Rattle.osc_tree.proofs.Lists.{position-map, remove-filter}
+use Rattle.osc_tree.proofs.InOrder.{methods_at-get, methods_at-length}
+use Rattle.osc_tree.proofs.Apart.{ordered_sorted}
+use Rattle.osc_tree.proofs.Lookups.{first_there, others_apart}
+use Rattle.osc_tree.proofs.Searches.{searched_without}
 use Rattle.osc_tree.proofs.Sorting.{filter_ordered}
 
 -- what holds of the method that leaves, at its place among all
@@ -132,7 +139,7 @@ others_stay registered place address d (other ∷ places) so all =
           (filter test (methods_at registered places))) is)
 
 -- the place of the method that leaves is taken out, and those above it close up
-pub one_fewer_ordered : (registered : List Registered) (place : ℕ) (address : List ℕ) (d : Registered) (places : List ℕ) → Leaves registered place address
+one_fewer_ordered : (registered : List Registered) (place : ℕ) (address : List ℕ) (d : Registered) (places : List ℕ) → Leaves registered place address
     → IsOrder registered places → IsOrder (remove registered place) (closed place places)
 one_fewer_ordered registered place address d places so order = record {
   within = (let long : length registered - 1 ≡ length (remove registered place) = omega (arith, length-remove registered place so.within) in
@@ -142,3 +149,111 @@ one_fewer_ordered registered place address d places so order = record {
       ∙ filter_ordered (λ method. not (bytes_eq method.address address)) (methods_of registered)
       ∙ sym (ap ordered (removed_is registered place address so.list so.first so.within));
 }
+
+-- the method whose place stands at an index is the one that leaves
+pub leaves_at : (registered : List Registered) (places : List ℕ) (at : ℕ) (address : List ℕ) → IsMethodList (methods_of registered)
+    → IsOrder registered places → StandsAt registered places at address → Leaves registered (get_or places at 0) address
+leaves_at registered places at address list order stands =
+    let within = order.within at 0 stands.0 in
+    record {
+      list = list;
+      first = sym (sym (position-map method_of (λ (method : Method). bytes_eq method.address address) registered)
+          ∙ first_there (methods_of registered) (get_or places at 0) (record { id = 0; address = [] }) address list
+          (omega (arith, length-map registered method_of)) stands.1);
+      within = within;
+    }
+
+sorted_at : (registered : List Registered) (places : List ℕ) → IsMethodList (methods_of registered) → IsOrder registered places
+    → IsSorted (methods_at registered places)
+sorted_at registered places list order = subst IsSorted (sym order.all) (ordered_sorted (methods_of registered) list)
+
+-- no place stands at two indexes
+places_differ : (registered : List Registered) (places : List ℕ) (i j : ℕ) → IsMethodList (methods_of registered) → IsOrder registered places → i < j
+    → j < length places → get_or places i 0 ≡ get_or places j 0 → ⊥
+places_differ registered places i j list order lt within same =
+    let d : Method = record { id = 0; address = [] } in
+    let long = methods_at-length registered places in
+    (sorted_at registered places list order).list.addresses i j d lt (omega arith)
+    (ap (λ (m : Method). m.address)
+    (methods_at-get registered places i d (omega arith) ∙ ap (method_at registered) same ∙ sym (methods_at-get registered places j d within)))
+
+-- to take out the place at an index is to leave that place out
+taken_out : (registered : List Registered) (places : List ℕ) (at : ℕ) → IsMethodList (methods_of registered) → IsOrder registered places → at < length places
+    → remove places at ≡ filter (λ other. not (other == get_or places at 0)) places
+taken_out registered places at list order within =
+    ap (remove places) (sym first)
+    ∙ remove-filter test places (λ i j d lt in' is. once i j d lt in' is (test (get_or places j d)) refl) (omega (arith, first))
+  where
+    test : ℕ → Bool
+    test other = other == get_or places at 0
+
+    own : (n : ℕ) → (n == n) ≡ true
+    own n = grind (arith, nat_tests)
+
+    earlier : (k : ℕ) → k < at → (t : Bool) → test (get_or places k 0) ≡ t → test (get_or places k 0) ≡ false
+    earlier k lt false e = e
+    earlier k lt true e = absurd (places_differ registered places k at list order lt within (same_place (get_or places k 0) (get_or places at 0) e))
+
+    first : position_or_len test places ≡ at
+    first = position_or_len_is test places at 0 (omega arith) (λ k lt. earlier k lt (test (get_or places k 0)) refl) (λ _. own (get_or places at 0))
+
+    once : (i j d : ℕ) → i < j → j < length places → test (get_or places i d) ≡ true → (t : Bool) → test (get_or places j d) ≡ t
+        → test (get_or places j d) ≡ false
+    once i j d lt in' is false e = e
+    once i j d lt in' is true e =
+        absurd (places_differ registered places i j list order lt in'
+        (any_default places i 0 d (omega arith) ∙ same_place (get_or places i d) (get_or places at 0) is
+        ∙ sym (same_place (get_or places j d) (get_or places at 0) e) ∙ any_default places j d 0 in'))
+
+-- the places of the others, in their order
+order_left : (registered : List Registered) (places : List ℕ) (at : ℕ) (address : List ℕ) (d : Registered) → IsMethodList (methods_of registered)
+    → IsOrder registered places → StandsAt registered places at address
+    → IsOrder (remove registered (get_or places at 0)) (map (closed_up (get_or places at 0)) (remove places at))
+order_left registered places at address d list order stands =
+    subst (λ l. IsOrder (remove registered (get_or places at 0)) (map (closed_up (get_or places at 0)) l))
+    (sym (taken_out registered places at list order stands.0))
+    (one_fewer_ordered registered (get_or places at 0) address d places (leaves_at registered places at address list order stands) order)
+
+-- the others stand as they did
+methods_left : (registered : List Registered) (places : List ℕ) (at : ℕ) (address : List ℕ) (d : Registered) → IsMethodList (methods_of registered)
+    → IsOrder registered places → StandsAt registered places at address
+    → methods_at (remove registered (get_or places at 0)) (map (closed_up (get_or places at 0)) (remove places at)) ≡ remove (methods_at registered places) at
+methods_left registered places at address d list order stands =
+    let place = get_or places at 0 in
+    let none : Method = record { id = 0; address = [] } in
+    let ms = methods_at registered places in
+    let sorted = sorted_at registered places list order in
+    let long = methods_at-length registered places in
+    let within : at < length ms = (let lt = stands.0 in omega arith) in
+    let first : position_or_len (λ method. bytes_eq method.address address) ms ≡ at =
+    first_there ms at none address sorted.list within (ap (λ (m : Method). m.address) (methods_at-get registered places at none stands.0) ∙ stands.1) in
+    ap (λ l. methods_at (remove registered place) (map (closed_up place) l)) (taken_out registered places at list order stands.0)
+    ∙ others_stay registered place address d places (leaves_at registered places at address list order stands) order.within
+    ∙ sym (remove-filter (λ method. bytes_eq method.address address) ms (once ms address sorted.list) (omega (arith, first)))
+    ∙ ap (remove ms) first
+
+-- what is left once the method that a search came to is out
+pub record IsLeft (registered : List Registered) (places : List ℕ) (at : ℕ) (address : List ℕ) : Type 0 where
+  pub list : IsMethodList (methods_of registered)
+  pub order : IsOrder registered places
+  pub apart : IsApart (methods_of registered) address
+  pub searched : IsSearched address (methods_at registered places) at at
+
+pub left_is : (registered : List Registered) (places : List ℕ) (at : ℕ) (address : List ℕ) (d : Registered) → IsMethodList (methods_of registered)
+    → IsOrder registered places → StandsAt registered places at address → IsSearched address (methods_at registered places) at at
+    → IsLeft (remove registered (get_or places at 0)) (map (closed_up (get_or places at 0)) (remove places at)) at address
+left_is registered places at address d list order stands so =
+    let place = get_or places at 0 in
+    let none : Method = record { id = 0; address = [] } in
+    let leaves = leaves_at registered places at address list order stands in
+    let long = methods_at-length registered places in
+    record {
+      list = subst IsMethodList (sym (removed_is registered place address list leaves.first leaves.within))
+          (some_lawful (λ method. not (bytes_eq method.address address)) (methods_of registered) list);
+      order = order_left registered places at address d list order stands;
+      apart = subst (λ l. IsApart l address) (sym (map-remove method_of registered place))
+          (subst (IsApart (remove (methods_of registered) place)) stands.1
+          (others_apart (methods_of registered) place none list (let within = leaves.within in omega (arith, length-map registered method_of))));
+      searched = subst (λ l. IsSearched address l at at) (sym (methods_left registered places at address d list order stands))
+          (searched_without address (methods_at registered places) at so (let lt = stands.0 in omega arith));
+    }

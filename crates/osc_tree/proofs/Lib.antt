@@ -2,7 +2,6 @@ pub mod Above
 pub mod Lists
 pub mod Prefixes
 pub mod Counts
-pub mod Tallies
 pub mod Lines
 pub mod Lawful
 pub mod Places
@@ -14,9 +13,11 @@ pub mod InOrder
 pub mod Leaving
 mod Refusing
 mod Found
-pub mod Weights
 pub mod Alike
 pub mod Charges
 pub mod Walks
 pub mod Apart
 pub mod Neighbours
+pub mod Searches
+pub mod Lookups
+pub mod Spelled

@@ -1,10 +1,9 @@
 -- Which line refuses an address, and what that says of the methods.
-use Rattle.std.proofs.Common.{◌≡◌, ◌≢◌, ℕ, suc, ◌+◌, ◌<◌, ◌≤◌, ◌==◌, Bool, true, false, not, cond, ◌||◌, nat_lt, List, [], ◌∷◌, length, find, position, get_or, Option, Some, None, All, refl, sym, ap, subst, ◌∙◌, arith}
-use Rattle.std.specs.List.{list_any, position_or_len, Contains}
+use Rattle.std.proofs.Common.{◌≡◌, ◌≢◌, ℕ, ◌<◌, ◌≤◌, ◌==◌, Bool, true, false, cond, nat_lt, List, length, find, get_or, Option, Some, None, All, refl, sym, ap, subst, ◌∙◌, arith}
+use Rattle.std.specs.List.{list_any, Contains}
 use Rattle.std.specs.Option.{option_map}
 use Rattle.std.specs.Str.{bytes_eq}
 use Rattle.std.proofs.lemmas.Bool.Decides.{nat_tests}
-use Rattle.std.proofs.lemmas.Bool.{ltb-false}
 use Rattle.std.proofs.lemmas.Slice.Eq.{bytes_eq-Decides}
 use Rattle.osc_pattern.specs.Addresses.{is_proper_prefix}
 use Rattle.osc_pattern.specs.Methods.{Method, IsMethodList}
@@ -17,8 +16,7 @@ use Rattle.osc_tree.specs.Registry.{Registry, IsAt, IsAbove, HasBelow, IsNewId, 
 use Rattle.osc_tree.specs.Nodes.{new_nodes, free_nodes}
 use Rattle.osc_tree.specs.Adding.{IsApart, IsAddable, IsRefused, taken, under_method, is_container, methods_full, nodes_full, add_refusal}
 use Rattle.osc_tree.specs.Views.{method_of, methods_of}
-use Rattle.osc_tree.proofs.Lists.{find-map, find-some, find-none, none-find, list_any-none, list_any-some, position-some, find-at}
-use Rattle.osc_tree.proofs.Prefixes.{list_any-map}
+use Rattle.osc_tree.proofs.Lists.{find-map, find-some, find-none, none-find, list_any-none, list_any-some, find-at}
 
 option_map-map : {X Y Z : Type 0} (g : Y → Z) (f : X → Y) (o : Option X) → option_map g (option_map f o) ≡ option_map (λ x. g (f x)) o
 option_map-map g f None = refl
@@ -33,24 +31,10 @@ map-none f None e = refl
 map-none f (Some x) e = absurd (cc)
 
 -- what the code finds among the methods that it keeps
-pub id_at-of : (methods : List Registered) (address : List ℕ)
-    → id_at (methods_of methods) address ≡ option_map (λ method. method.id) (find (λ method. bytes_eq method.address address) methods)
-id_at-of methods address = ap (option_map (λ method. method.id)) (find-map method_of (λ method. bytes_eq method.address address) methods)
-    ∙ option_map-map (λ method. method.id) method_of (find (λ method. bytes_eq method.address address) methods)
-
-pub id_above-of : (methods : List Registered) (address : List ℕ)
-    → id_above (methods_of methods) address ≡ option_map (λ method. method.id) (find (λ method. is_proper_prefix method.address address) methods)
-id_above-of methods address = ap (option_map (λ method. method.id)) (find-map method_of (λ method. is_proper_prefix method.address address) methods)
-    ∙ option_map-map (λ method. method.id) method_of (find (λ method. is_proper_prefix method.address address) methods)
-
 pub address_by_id-of : (methods : List Registered) (id : ℕ)
     → address_by_id (methods_of methods) id ≡ option_map (λ method. method.address) (find (λ method. method.id == id) methods)
 address_by_id-of methods id = ap (option_map (λ method. method.address)) (find-map method_of (λ method. method.id == id) methods)
     ∙ option_map-map (λ method. method.address) method_of (find (λ method. method.id == id) methods)
-
-pub below-of : (methods : List Registered) (address : List ℕ)
-    → list_any (λ method. is_proper_prefix address method.address) (methods_of methods) ≡ list_any (λ method. is_proper_prefix address method.address) methods
-below-of methods address = list_any-map method_of (λ method. is_proper_prefix address method.address) methods
 
 held : (methods : List Method) (method : Method) (id : ℕ) (address : List ℕ) → Contains methods method → method.id ≡ id → method.address ≡ address
     → IsAt methods id address
@@ -70,7 +54,7 @@ id_at-some methods address id e =
     let there = find-some (λ method. bytes_eq method.address address) methods found.0 found.1 in
     held methods found.0 id address there.0 found.2 ((bytes_eq-Decides found.0.address address).0 there.1)
 
-different : (a b : List ℕ) → bytes_eq a b ≡ false → a ≢ b
+pub different : (a b : List ℕ) → bytes_eq a b ≡ false → a ≢ b
 different a b e same = let yes : bytes_eq a b ≡ true = (bytes_eq-Decides a b).1 same in cc
 
 no_longer_equal : (a b : List ℕ) → a ≢ b → bytes_eq a b ≡ false
@@ -182,35 +166,6 @@ not_addable tree address IsContainer (none, roof, (id, below, there, is)) can =
     all_at (λ method. is_proper_prefix address method.address ≡ false) tree.methods id below can.apart.none_below there in cc
 not_addable tree address (MethodsFull limit) (apart, full, is) can = let room = can.method_room in omega arith
 not_addable tree address (NodesFull room) (apart, more, need, free, short) can = let enough = can.node_room in omega arith
-
-none_past : {X : Type 0} (test : X → Bool) (xs : List X) → length xs ≤ position_or_len test xs → list_any test xs ≡ false
-none_past test [] past = refl
-none_past test (y ∷ ys) past = go (test y) past (none_past test ys) where
-  go : (t : Bool) → suc (length ys) ≤ cond (not t) (1 + position_or_len test ys) 0 → (length ys ≤ position_or_len test ys → list_any test ys ≡ false)
-      → (t || list_any test ys) ≡ false
-  go true past more = absurd (omega arith)
-  go false past more = more (omega arith)
-
-none_placed : {X : Type 0} (test : X → Bool) (xs : List X) → position test xs ≡ None → list_any test xs ≡ false
-none_placed test xs e = go (nat_lt (position_or_len test xs) (length xs)) refl e where
-  go : (t : Bool) → nat_lt (position_or_len test xs) (length xs) ≡ t → cond t (Some (position_or_len test xs)) None ≡ None → list_any test xs ≡ false
-  go true is e = absurd (cc)
-  go false is e = none_past test xs (ltb-false _ _ is)
-
--- where the code finds no place, no method has the address
-pub unplaced : (registered : List Registered) (address : List ℕ) → position (λ method. bytes_eq method.address address) registered ≡ None
-    → id_at (methods_of registered) address ≡ None
-unplaced registered address e =
-    id_at-of registered address ∙ ap (option_map (λ method. method.id))
-    (none-find (λ method. bytes_eq method.address address) registered
-    (list_any-none (λ method. bytes_eq method.address address) registered (none_placed (λ method. bytes_eq method.address address) registered e)))
-
--- where the code finds a place, the method there has the address
-pub placed : (registered : List Registered) (address : List ℕ) (place : ℕ) (d : Registered)
-    → position (λ method. bytes_eq method.address address) registered ≡ Some place → id_at (methods_of registered) address ≡ Some (get_or registered place d).id
-placed registered address place d e =
-    let there = position-some (λ method. bytes_eq method.address address) registered place e in
-    id_at-of registered address ∙ ap (option_map (λ method. method.id)) (find-at (λ method. bytes_eq method.address address) registered place d there.0 there.1)
 
 -- where the code finds no method with the number, there is none
 pub no_such_id : (registered : List Registered) (id : ℕ) → find (λ method. method.id == id) registered ≡ None → IsNewId (methods_of registered) id

@@ -125,3 +125,17 @@ position-else test xs = go (nat_lt (position_or_len test xs) (length xs)) refl w
       → unwrap_or (cond t (Some (position_or_len test xs)) None) (length xs) ≡ position_or_len test xs
   go true is = refl
   go false is = let le = position_or_len-bound test xs in let ge = ltb-false (position_or_len test xs) (length xs) is in omega arith
+
+none_past : {X : Type 0} (test : X → Bool) (xs : List X) → length xs ≤ position_or_len test xs → list_any test xs ≡ false
+none_past test [] past = refl
+none_past test (y ∷ ys) past = go (test y) past (none_past test ys) where
+  go : (t : Bool) → suc (length ys) ≤ cond (not t) (1 + position_or_len test ys) 0 → (length ys ≤ position_or_len test ys → list_any test ys ≡ false)
+      → (t || list_any test ys) ≡ false
+  go true past more = absurd (omega arith)
+  go false past more = more (omega arith)
+
+pub none_placed : {X : Type 0} (test : X → Bool) (xs : List X) → position test xs ≡ None → list_any test xs ≡ false
+none_placed test xs e = go (nat_lt (position_or_len test xs) (length xs)) refl e where
+  go : (t : Bool) → nat_lt (position_or_len test xs) (length xs) ≡ t → cond t (Some (position_or_len test xs)) None ≡ None → list_any test xs ≡ false
+  go true is e = absurd (cc)
+  go false is e = none_past test xs (ltb-false _ _ is)

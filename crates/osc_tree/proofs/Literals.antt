@@ -8,8 +8,7 @@ use Rattle.osc_pattern.specs.Items.{Item, any, star, set, choice, plain, is_slas
 use Rattle.osc_pattern.specs.Cuts.{match_items}
 use Rattle.osc_pattern.specs.Reading.{cut_at, first_item, read_part, read_within, match_read, match_part, with_first}
 use Rattle.osc_pattern.specs.Patterns.{begins_with_slash, is_special, matches, match_parts}
-use Rattle.std.proofs.lemmas.List.{take_all}
-use Rattle.osc_tree.proofs.Lists.{position-some, position-none}
+use Rattle.osc_tree.proofs.Lists.{position-some}
 use Rattle.osc_tree.proofs.Prefixes.{split-cons}
 
 -- a part without bytes matches the name without bytes alone
@@ -173,8 +172,3 @@ matched_starts pattern address p a e = let found = matched_begins pattern addres
 -- what the code cuts off
 pub front_found : (pattern : List ℕ) (k : ℕ) → position is_special pattern ≡ Some k → take k pattern ≡ before_first is_special pattern
 front_found pattern k e = ap (λ n. take n pattern) (position-some is_special pattern k e).0
-
-pub front_none : (pattern : List ℕ) → position is_special pattern ≡ None → pattern ≡ before_first is_special pattern
-front_none pattern e = sym (take_all (position_or_len is_special pattern) pattern (position-none is_special pattern e))
-
-pub ruleset fronts = (front_found, front_none)

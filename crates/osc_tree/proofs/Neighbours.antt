@@ -1,24 +1,22 @@
 -- The nodes that an address adds, by what it has in common with the two methods beside its place in the order.
-use Rattle.std.proofs.Common.{◌≡◌, ◌≢◌, ◌≤◌, ◌<◌, ℕ, zero, suc, ◌+◌, ◌-◌, max, Bool, true, false, not, cond, ◌||◌, nat_eq, nat_lt, List, [], ◌∷◌, ◌++◌, length, fold, take, drop, get_or, count_by, All, refl, sym, ap, subst, ◌∙◌, arith}
-use Rattle.std.specs.List.{list_any, position_or_len, AllByRecursion}
+use Rattle.std.proofs.Common.{◌≡◌, ◌≢◌, ◌≤◌, ◌<◌, ℕ, zero, suc, ◌-◌, max, Bool, true, false, not, cond, ◌||◌, nat_lt, List, [], ◌∷◌, ◌++◌, length, fold, take, drop, get_or, count_by, refl, sym, ap, ◌∙◌, arith}
+use Rattle.std.specs.List.{list_any, position_or_len}
 use Rattle.std.specs.Str.{bytes_eq}
 use Rattle.std.proofs.lemmas.Bool.Decides.{nat_tests}
 use Rattle.std.proofs.lemmas.List.{take-append-drop}
 use Rattle.std.proofs.lemmas.List.Folds.{list_any-append, list_any_at}
 use Rattle.std.proofs.lemmas.List.Sums.{sum_by-cons}
 use Rattle.std.proofs.lemmas.Slice.Eq.{bytes_eq-Decides}
-use Rattle.osc_pattern.specs.Addresses.{is_proper_prefix}
 use Rattle.osc_pattern.specs.Patterns.{parts_of, begins_with_slash}
 use Rattle.osc_pattern.specs.Methods.{Method, IsMethodList, prefixes_of}
-use Rattle.osc_tree.specs.Registry.{NoneAt, NoneAbove, NoneBelow}
 use Rattle.osc_tree.specs.Adding.{IsApart}
 use Rattle.osc_tree.specs.Matching.{is_below, in_place}
 use Rattle.osc_tree.specs.Nodes.{has_node, new_nodes}
 use Rattle.osc_tree.specs.Order.{ordered, is_before, IsSearched}
-use Rattle.osc_tree.specs.Walking.{shared, IsSorted}
+use Rattle.osc_tree.specs.Walking.{shared, shared_at, shared_before, IsSorted}
 use Rattle.osc_tree.proofs.Lists.{list_any-some}
 use Rattle.osc_tree.proofs.Places.{any_default}
-use Rattle.osc_tree.proofs.Ranges.{lower, lower_order, ascend_far}
+use Rattle.osc_tree.proofs.Ranges.{lower_order, ascend_far}
 use Rattle.osc_tree.proofs.Alike.{prefixes_long, node_shares, shares_node, shared_first, shared_turn, shared_through}
 use Rattle.osc_tree.proofs.Apart.{all_of, all_back, all_folded, ordered_sorted}
 use Rattle.osc_tree.proofs.Charges.{AreApart, shared_between, at_slash}
@@ -75,15 +73,6 @@ count_behind test (x ∷ xs) (suc near) le each =
 
     some : (near : ℕ) → nat_lt 0 (suc near) ≡ true
     some near = grind (arith, nat_tests)
-
--- what an address has in common with a method at a place, or none where there is none
-abbrev pub shared_at : List Method → List (List ℕ) → ℕ → ℕ
-shared_at methods names k =
-    cond (nat_lt k (length methods)) (shared names (parts_of (get_or methods k (record { id = 0; address = [] })).address)) 0
-
-abbrev pub shared_before : List Method → List (List ℕ) → ℕ → ℕ
-shared_before methods names zero = 0
-shared_before methods names (suc k) = shared_at methods names k
 
 -- an address that is apart from all
 pub record IsAside (methods : List Method) (address : List ℕ) : Type 0 where
@@ -163,13 +152,31 @@ beside methods address at i d sorted aside so within = go (nat_lt i at) refl whe
       let own = shared_through last (parts_of address) middle (shared (parts_of address) last) (omega arith) (omega arith) in
       omega arith
 
+at_most : (methods : List Method) (names : List (List ℕ)) (at : ℕ) → shared_at methods names at ≤ length names
+at_most methods names at = go (nat_lt at (length methods)) (shared_first names (parts_of (get_or methods at none).address)) where
+  none : Method
+  none = record { id = 0; address = [] }
+
+  go : (t : Bool) → shared names (parts_of (get_or methods at none).address) ≤ length names
+      → cond t (shared names (parts_of (get_or methods at none).address)) 0 ≤ length names
+  go true le = le
+  go false le = omega arith
+
+before_most : (methods : List Method) (names : List (List ℕ)) (at : ℕ) → shared_before methods names at ≤ length names
+before_most methods names zero = omega arith
+before_most methods names (suc at) = at_most methods names at
+
+-- the two have no more names in common with an address than it has
+pub near_most : (methods : List Method) (names : List (List ℕ)) (at : ℕ) → max (shared_before methods names at) (shared_at methods names at) ≤ length names
+near_most methods names at = let one = at_most methods names at in let two = before_most methods names at in omega arith
+
 -- as many nodes are new as there are names past those
 pub new_nodes_beside : (methods : List Method) (address : List ℕ) (at : ℕ) → IsMethodList methods → begins_with_slash address ≡ true → IsApart methods address
     → IsSearched address (ordered methods) at at
     → new_nodes methods address
     ≡ length (parts_of address) - max (shared_before (ordered methods) (parts_of address) at) (shared_at (ordered methods) (parts_of address) at)
 new_nodes_beside methods address at list slash apart so =
-    count_behind (has_node methods) (prefixes_of address) near (omega (arith, near_most, prefixes_long address)) each
+    count_behind (has_node methods) (prefixes_of address) near (omega (arith, near_most all (parts_of address) at, prefixes_long address)) each
     ∙ ap (λ (n : ℕ). n - near) (prefixes_long address)
   where
     all : List Method
@@ -180,20 +187,6 @@ new_nodes_beside methods address at list slash apart so =
 
     none : Method
     none = record { id = 0; address = [] }
-
-    at_most : (k : ℕ) → shared_at all (parts_of address) k ≤ length (parts_of address)
-    at_most k = go (nat_lt k (length all)) (shared_first (parts_of address) (parts_of (get_or all k none).address)) where
-      go : (t : Bool) → shared (parts_of address) (parts_of (get_or all k none).address) ≤ length (parts_of address)
-          → cond t (shared (parts_of address) (parts_of (get_or all k none).address)) 0 ≤ length (parts_of address)
-      go true le = le
-      go false le = omega arith
-
-    before_most : (at : ℕ) → shared_before all (parts_of address) at ≤ length (parts_of address)
-    before_most zero = omega arith
-    before_most (suc k) = at_most k
-
-    near_most : near ≤ length (parts_of address)
-    near_most = let one = at_most at in let two = before_most at in omega arith
 
     has : (k j : ℕ) → k < shared_at all (parts_of address) j → list_any (λ (method : Method). list_any (bytes_eq (get_or (prefixes_of address) k [])) (prefixes_of method.address)) all ≡ true
     has k j lt = go (nat_lt j (length all)) refl lt where

@@ -19,7 +19,7 @@ pub lower_order : IsStrictWeakOrder lower
 lower_order = ranks_by nat_list_cmp_total (λ (text : List ℕ). text)
 
 -- the first bytes decide, or else what follows them
-lower_more : (x y : ℕ) (xs ys : List ℕ) → lower (x ∷ xs) (y ∷ ys) ≡ cond (nat_lt x y) true (cond (x == y) (lower xs ys) false)
+pub lower_more : (x y : ℕ) (xs ys : List ℕ) → lower (x ∷ xs) (y ∷ ys) ≡ cond (nat_lt x y) true (cond (x == y) (lower xs ys) false)
 lower_more x y xs ys = go (nat_lt x y) (x == y) where
   go : (s t : Bool) → is_lt (ordering_then (cond s Less (cond t Equal Greater)) (slice_cmp nat_cmp xs ys)) ≡ cond s true (cond t (lower xs ys) false)
   go true t = refl

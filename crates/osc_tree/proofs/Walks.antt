@@ -1,6 +1,6 @@
 -- A pattern goes from method to method, and passes over those below a node that doesn't match.
 use Rattle.std.proofs.Common.{◌≡◌, ◌≤◌, ◌<◌, ℕ, zero, suc, ◌+◌, ◌-◌, Bool, true, false, not, cond, ◌&&◌, ◌||◌, ◌==◌, nat_eq, nat_lt, nat_le, List, [], ◌∷◌, ◌++◌, length, map, filter, take, drop, get_or, refl, sym, ap, subst, ◌∙◌, All, arith, add-zero, add-suc, add-one}
-use Rattle.std.specs.List.{list_any, position_or_len, slice_split}
+use Rattle.std.specs.List.{position_or_len, slice_split}
 use Rattle.std.specs.Str.{bytes_eq}
 use Rattle.std.proofs.Math.Seq.{take-suc}
 use Rattle.std.proofs.lemmas.List.{append-nil, get_or-drop, length-drop, length-map, length-take-le, map-append, take_all, drop-map}
@@ -10,7 +10,7 @@ use Rattle.std.proofs.lemmas.Bool.Decides.{nat_tests}
 use Rattle.std.proofs.lemmas.Slice.Eq.{bytes_eq-Decides}
 use Rattle.osc_pattern.specs.Addresses.{is_proper_prefix}
 use Rattle.osc_pattern.specs.Items.{is_slash}
-use Rattle.osc_pattern.specs.Patterns.{parts_of, matches, match_parts, begins_with_slash}
+use Rattle.osc_pattern.specs.Patterns.{parts_of, matches, begins_with_slash}
 use Rattle.osc_pattern.specs.Methods.{Method, prefixes_of}
 use Rattle.osc_tree.specs.Walking.{shared, agreeing, known_at, IsWalked, IsSorted}
 use Rattle.osc_tree.proofs.Prefixes.{has_prefix_is, split-cons}
@@ -19,7 +19,7 @@ use Rattle.osc_tree.specs.Views.{method_of, method_at, methods_at}
 use Rattle.osc_tree.proofs.Lists.{position_or_len-bound, position-map}
 use Rattle.osc_tree.proofs.InOrder.{methods_at-get, methods_at-length}
 use Rattle.osc_tree.proofs.Places.{any_default, method_at-get}
-use Rattle.osc_tree.proofs.Alike.{agreeing_parts, agreeing_names, shared_first, shared_turn, shared_all, all_agree, matched_agree, agree_too, shared_through, shared_taken, prefix_names, prefix_slash, same_parts, shares_node}
+use Rattle.osc_tree.proofs.Alike.{shared_first, shared_turn, all_agree, matched_agree, agree_too, shared_through, prefix_names, prefix_slash, same_parts, shares_node}
 use Rattle.std.specs.List.Sorted.{IsPartitionedBy}
 use Rattle.osc_tree.proofs.Charges.{AreApart, at_slash, at_apart, shared_between}
 use Rattle.osc_tree.proofs.Ranges.{ascend_far}

@@ -7,7 +7,7 @@ use Rattle.std.specs.Cmp.Lexicographic.{slice_cmp}
 use Rattle.osc_pattern.specs.Methods.{Method}
 use Rattle.osc_tree.specs.declared.registered.Registered.{Registered}
 use Rattle.osc_tree.specs.Matching.{in_place}
-use Rattle.osc_tree.specs.Views.{methods_of, methods_at, IsKept}
+use Rattle.osc_tree.specs.Views.{methods_of, method_at, methods_at, IsKept}
 
 -- the methods in ascending order of the address
 abbrev pub ordered : List Method → List Method
@@ -46,3 +46,8 @@ pub record IsSearched (text : List ℕ) (methods : List Method) (low high : ℕ)
 -- where a place stands once another is taken out of a list
 abbrev pub closed_up : ℕ → ℕ → ℕ
 closed_up place other = if nat_lt place other then other - 1 else other
+
+-- the method whose place stands at an index of the places has the address
+abbrev pub StandsAt : List Registered → List ℕ → ℕ → List ℕ → Type 0
+StandsAt registered places at address = (at < length places)
+    × ((method_at registered (get_or places at 0)).address ≡ address)

@@ -28,6 +28,17 @@ shared (name ∷ names) [] = 0
 shared (name ∷ names) (other ∷ others) =
     if bytes_eq name other then shared names others + 1 else 0
 
+-- how many of the names the method at a place has, from the first on; none where there is no method
+abbrev pub shared_at : List Method → List (List ℕ) → ℕ → ℕ
+shared_at methods names at =
+    if nat_lt at (length methods)
+    then shared names (parts_of (get_or methods at (record { id = 0; address = [] })).address) else 0
+
+-- how many of the names the method before a place has
+abbrev pub shared_before : List Method → List (List ℕ) → ℕ → ℕ
+shared_before methods names zero = 0
+shared_before methods names (suc at) = shared_at methods names at
+
 -- how many parts match the names at their places, from the first on
 abbrev pub agreeing : List (List ℕ) → List (List ℕ) → ℕ
 agreeing [] names = 0

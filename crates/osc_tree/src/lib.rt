@@ -14,6 +14,7 @@ mod nodes;
 mod order;
 mod refusals;
 mod registered;
+mod search;
 mod tree;
 mod uncounted;
 

@@ -1,13 +1,16 @@
 // Which methods stand at, above and below an address.
-ghost use Rattle.std.specs.Prelude.{◌≡◌, find, nat_eq, position};
-ghost use Rattle.std.specs.Option.{option_map, option_copied};
+ghost use Rattle.std.specs.Prelude.{◌≡◌, ◌<◌, if◌then◌else◌, find, length, nat_eq, slice_index, take, All, None, MatchBool};
+ghost use Rattle.std.specs.Option.{option_copied};
 ghost use Rattle.std.specs.List.{list_any};
-ghost use Rattle.std.specs.Str.{bytes_eq};
 ghost use Rattle.osc_pattern.specs.Addresses.{is_proper_prefix};
+ghost use Rattle.osc_pattern.specs.Items.{is_slash};
 ghost use Rattle.osc_pattern.specs.Methods.{IsMethodList};
-ghost use Rattle.osc_tree.specs.Views.{methods_of};
+ghost use Rattle.osc_tree.specs.Order.{IsOrder, IsSearched, StandsAt};
+ghost use Rattle.osc_tree.specs.Registry.{NoneAt, id_at, id_above};
+ghost use Rattle.osc_tree.specs.Views.{method_at, methods_of, methods_at};
 
 use crate::registered::Registered;
+use crate::search::{count_before, count_before_both};
 
 /// The first address, a slash and more are the second.
 #[tactic(auto, using(crate::proofs::Above::above_is))]
@@ -17,45 +20,81 @@ pub(crate) fn is_above(prefix: &[u8], address: &[u8]) -> bool
     prefix.len() < address.len() && address[prefix.len()] == b'/' && address.starts_with(prefix)
 }
 
-/// The id of the method at the address.
-pub(crate) fn id_at(methods: &[Registered], address: &[u8]) -> Option<u32>
-    ensures { result ≡ option_map (λ method. method.id)
-        (find (λ method. bytes_eq method.address address.now) methods.now) }
+/// Whether the method that the search for an address came to has it. No other method does.
+pub(crate) fn is_there(methods: &[Registered], places: &[u32], at: usize, address: &[u8]) -> bool
+    requires order { IsOrder methods.now places.now }
+    requires searched { IsSearched address.now (methods_at methods.now places.now) at at }
+    ensures { MatchBool result (StandsAt methods.now places.now at address.now)
+        (NoneAt (methods_of methods.now) address.now) }
 {
-    methods
-        .iter()
-        .find(|method| method.address.bytes() == address)
-        .map(|method| method.id)
+    at < places.len() && methods[places[at] as usize].address.bytes() == address
+}
+
+/// The id of the method at the address.
+pub(crate) fn id_at(methods: &[Registered], places: &[u32], address: &[u8]) -> Option<u32>
+    requires list { IsMethodList (methods_of methods.now) }
+    requires order { IsOrder methods.now places.now }
+    ensures { result ≡ id_at (methods_of methods.now) address.now }
+{
+    let at = count_before(methods, places, address);
+    id_there(methods, places, at, address)
+}
+
+/// The id of the method that the search for an address came to, if it has it.
+pub(crate) fn id_there(
+    methods: &[Registered],
+    places: &[u32],
+    at: usize,
+    address: &[u8],
+) -> Option<u32>
+    requires list { IsMethodList (methods_of methods.now) }
+    requires order { IsOrder methods.now places.now }
+    requires searched { IsSearched address.now (methods_at methods.now places.now) at at }
+    ensures { result ≡ id_at (methods_of methods.now) address.now }
+{
+    if !is_there(methods, places, at, address) {
+        return None;
+    }
+    Some(methods[places[at] as usize].id)
 }
 
 /// The id of the method at a proper prefix of the address.
-pub(crate) fn id_above(methods: &[Registered], address: &[u8]) -> Option<u32>
-    ensures { result ≡ option_map (λ method. method.id)
-        (find (λ method. is_proper_prefix method.address address.now) methods.now) }
+pub(crate) fn id_above(methods: &[Registered], places: &[u32], address: &[u8]) -> Option<u32>
+    requires list { IsMethodList (methods_of methods.now) }
+    requires order { IsOrder methods.now places.now }
+    ensures { result ≡ id_above (methods_of methods.now) address.now }
 {
-    methods
-        .iter()
-        .find(|method| is_above(method.address.bytes(), address))
-        .map(|method| method.id)
+    for end in 1..address.len() {
+        if let Some(id) = id_before(methods, places, address, end) {
+            return Some(id);
+        }
+    }
+    None
 }
 
-/// Whether a method lies below the address.
-pub(crate) fn has_below(methods: &[Registered], address: &[u8]) -> bool
+/// The id of the method at what the address has before a slash at this place.
+fn id_before(methods: &[Registered], places: &[u32], address: &[u8], end: usize) -> Option<u32>
+    requires list { IsMethodList (methods_of methods.now) }
+    requires order { IsOrder methods.now places.now }
+    requires within { end < length address.now }
     ensures { result
-        ≡ list_any (λ method. is_proper_prefix address.now method.address) methods.now }
+        ≡ if is_slash (slice_index address.now end)
+        then id_at (methods_of methods.now) (take end address.now) else None }
 {
-    methods
-        .iter()
-        .any(|method| is_above(address, method.address.bytes()))
+    if address[end] != b'/' {
+        return None;
+    }
+    id_at(methods, places, &address[..end])
 }
 
-/// The place of the method at the address.
-pub(crate) fn place_of(methods: &[Registered], address: &[u8]) -> Option<usize>
-    ensures { result ≡ position (λ method. bytes_eq method.address address.now) methods.now }
+/// Whether a method lies below the address. Those that do begin with it and a slash, and others may stand between.
+pub(crate) fn has_below(methods: &[Registered], places: &[u32], address: &[u8]) -> bool
+    requires { IsOrder methods.now places.now }
+    ensures { result ≡ list_any (λ method. is_proper_prefix address.now method.address)
+        (methods_of methods.now) }
 {
-    methods
-        .iter()
-        .position(|method| method.address.bytes() == address)
+    let at = count_before_both(methods, places, address, b"/");
+    at < places.len() && is_above(address, methods[places[at] as usize].address.bytes())
 }
 
 /// The method with the id. It is first looked for at the place of that number, where ids that count the methods added

@@ -1,11 +1,11 @@
 // The methods that a pattern matches.
 ghost use Rattle.osc_pattern.specs.declared.limits.TheConstants.{MAX_NAME};
-ghost use Rattle.std.specs.Prelude.{◌≡◌, ◌≤◌, ◌<◌, ◌+◌, ◌++◌, ◌∷◌, ◌==◌, ◌&&◌, [], not, nat_le, nat_lt, if◌then◌else◌, true, length, take, All, vec_len, vec_capacity};
+ghost use Rattle.std.specs.Prelude.{◌≡◌, ◌≤◌, ◌<◌, ◌+◌, ◌++◌, ◌∷◌, ◌==◌, ◌&&◌, [], not, nat_le, nat_lt, if◌then◌else◌, true, None, length, take, filter, map, position, All, vec_len, vec_capacity};
 ghost use Rattle.std.specs.List.{slice_split, position_or_len};
 ghost use Rattle.std.specs.List.Sorted.{IsPartitionedBy};
 ghost use Rattle.osc_pattern.specs.Items.{is_slash};
 ghost use Rattle.osc_pattern.specs.Methods.{IsMethodList};
-ghost use Rattle.osc_pattern.specs.Patterns.{parts_of, part_at};
+ghost use Rattle.osc_pattern.specs.Patterns.{parts_of, part_at, is_special, matches};
 ghost use Rattle.osc_pattern.specs.Reading.{match_part};
 ghost use Rattle.osc_tree.specs.Matching.{matching_ids};
 ghost use Rattle.osc_tree.specs.Order.{IsOrder};
@@ -13,14 +13,16 @@ ghost use Rattle.osc_tree.specs.Views.{method_at, methods_of, methods_at};
 ghost use Rattle.osc_tree.specs.Walking.{most_steps, shared, agreeing, part_steps, spent, known_at, IsWalked, IsSorted};
 
 use crate::beginning::beginning_with;
-use crate::literal::literal_front;
+use crate::literal::first_special;
+use crate::lookup::id_at;
 use crate::names::{count_names, first_name, names_of, shared_names};
 use crate::registered::Registered;
+use osc_pattern::laws::{plain_pattern, tests_are_exact};
 use osc_pattern::{Pattern, Steps};
 use std::sync::ledger::Ledger;
 
-/// Fills the list with the ids of the methods that the pattern matches, in ascending order of the address. Only those
-/// that begin with the pattern's literal front are tried.
+/// Fills the list with the ids of the methods that the pattern matches, in ascending order of the address. A pattern
+/// without special bytes is looked up; else only the methods that begin with its literal front are tried.
 pub(crate) fn find_ids<L: Ledger>(
     methods: &[Registered],
     places: &[u32],
@@ -38,7 +40,54 @@ pub(crate) fn find_ids<L: Ledger>(
     ensures bounded { steps.new ≤ steps.old + most_steps pattern.now (methods_of methods.now) }
 {
     ids.clear();
-    let near = beginning_with(methods, places, literal_front(pattern.bytes()));
+    let text = pattern.bytes();
+    match first_special(text) {
+        Some(end) => {
+            let near = beginning_with(methods, places, &text[..end]);
+            walk(methods, near, pattern, ids, steps);
+        }
+        None => add_spelled(methods, places, pattern, ids),
+    }
+}
+
+/// Adds the id of the method whose address the pattern spells, if there is one. It matches no other.
+fn add_spelled(methods: &[Registered], places: &[u32], pattern: &Pattern<'_>, ids: &mut Vec<u32>)
+    requires list { IsMethodList (methods_of methods.now) }
+    requires order { IsOrder methods.now places.now }
+    requires plain { position is_special pattern.now ≡ None }
+    requires empty { ids.old.items ≡ [] }
+    requires room { length places.now ≤ vec_capacity ids.old }
+    ensures ids { ids.new.items ≡ matching_ids pattern.now (methods_of methods.now) }
+    ensures len { vec_len ids.new ≤ length places.now }
+    ensures capacity { vec_capacity ids.old ≤ vec_capacity ids.new }
+{
+    plain_pattern();
+    tests_are_exact();
+    if let Some(id) = id_at(methods, places, pattern.bytes()) {
+        add_id(id, ids);
+    }
+}
+
+/// Adds the ids of those of the methods at these places that the pattern matches.
+fn walk<L: Ledger>(
+    methods: &[Registered],
+    near: &[u32],
+    pattern: &Pattern<'_>,
+    ids: &mut Vec<u32>,
+    steps: &mut Steps<L>,
+)
+    requires within { All (λ place. place < length methods.now) near.now }
+    requires sorted { IsSorted (methods_at methods.now near.now) }
+    requires empty { ids.old.items ≡ [] }
+    requires room { length near.now ≤ vec_capacity ids.old }
+    ensures ids { ids.new.items ≡ map (λ method. method.id)
+        (filter (λ method. matches pattern.now method.address) (methods_at methods.now near.now)) }
+    ensures len { vec_len ids.new ≤ length near.now }
+    ensures capacity { vec_capacity ids.old ≤ vec_capacity ids.new }
+    ensures counted { steps.old ≤ steps.new }
+    ensures bounded { steps.new
+        ≤ steps.old + most_steps pattern.now (methods_at methods.now near.now) }
+{
     let mut at = 0;
     while at < near.len() {
         at = visit(methods, near, at, pattern, ids, steps);

@@ -2,6 +2,7 @@
 ghost use Rattle.osc_pattern.specs.declared.limits.TheConstants.{MAX_NAME};
 ghost use Rattle.std.specs.Prelude.{◌≡◌, ◌≤◌, ◌+◌, ◌∷◌, ◌==◌, [], All, MatchOption, IfSome, option_map, length, count_by, position};
 ghost use Rattle.std.specs.List.{slice_split};
+ghost use Rattle.osc_pattern.specs.Addresses.{IsAddress};
 ghost use Rattle.osc_pattern.specs.Items.{is_slash};
 ghost use Rattle.osc_pattern.specs.Reading.{cut_at};
 ghost use Rattle.osc_pattern.specs.Patterns.{parts_of};
@@ -13,6 +14,7 @@ use osc_pattern::Address;
 pub(crate) fn names_of(address: &Address) -> &[u8]
     ensures parts { slice_split is_slash result.now ≡ parts_of address.now }
     ensures short { All (λ name. length name ≤ MAX_NAME) (slice_split is_slash result.now) }
+    ensures lawful { IsAddress address.now }
 {
     &address.bytes()[1..]
 }

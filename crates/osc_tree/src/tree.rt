@@ -11,12 +11,13 @@ ghost use Rattle.osc_tree.specs.Walking.{most_steps};
 
 use crate::adding::admit;
 use crate::hits::Hits;
-use crate::lookup::{place_of, with_id};
+use crate::lookup::{is_there, with_id};
 use crate::matching::find_ids;
 use crate::nodes::new_nodes;
 use crate::order::{enter, leave};
 use crate::refusals::{NotThere, TreeRefusal};
 use crate::registered::Registered;
+use crate::search::count_before;
 use osc_pattern::{Address, Pattern, Steps};
 use std::alloc::{AllocError, Global};
 use std::marker::Model;
@@ -92,14 +93,15 @@ impl Tree {
         ensures unchanged { OnErr result (self.new ≡ self.old) }
         ensures lawful { IsLawful self.new }
     {
-        let need = match admit(
+        let admission = match admit(
             &self.methods,
+            &self.places,
             &address,
             self.method_limit,
             self.node_limit,
             self.node_count,
         ) {
-            Ok(need) => need,
+            Ok(admission) => admission,
             Err(refusal) => return Err((refusal, address)),
         };
         let place = self.methods.len() as u32;
@@ -107,8 +109,8 @@ impl Tree {
             Ok(()) => {}
             Err(_) => unreachable!(),
         }
-        enter(&self.methods, place, &mut self.places);
-        self.node_count += need;
+        enter(admission.at, place, &mut self.places);
+        self.node_count += admission.need;
         Ok(())
     }
 
@@ -122,12 +124,13 @@ impl Tree {
             (self.new ≡ record self.old { methods = without self.old.methods address.now }) }
         ensures lawful { IsLawful self.new }
     {
-        let Some(place) = place_of(&self.methods, address.bytes()) else {
+        let at = count_before(&self.methods, &self.places, address.bytes());
+        if !is_there(&self.methods, &self.places, at, address.bytes()) {
             return Err(NotThere);
-        };
-        let method = self.methods.remove(place);
-        leave(place as u32, &mut self.places);
-        self.node_count -= new_nodes(&self.methods, &method.address);
+        }
+        let place = leave(at, &mut self.places);
+        let method = self.methods.remove(place as usize);
+        self.node_count -= new_nodes(&self.methods, &self.places, at, &method.address);
         Ok(method.id)
     }
 

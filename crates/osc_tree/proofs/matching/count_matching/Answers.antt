@@ -1,4 +1,4 @@
-use Rattle.std.proofs.Common.{◌≡◌, ◌≤◌, ◌<◌, ◌+◌, ◌-◌, ◌∷◌, [], true, false, cond, length, drop, All, sym, ap, subst, ◌∙◌, arith, rules}
+use Rattle.std.proofs.Common.{◌≡◌, ◌≤◌, ◌<◌, ◌+◌, ◌-◌, ◌∷◌, [], true, false, cond, length, drop, All, ap, subst, ◌∙◌, arith, rules}
 use Rattle.std.specs.List.{slice_split}
 use Rattle.std.proofs.lemmas.List.Elements.{All-tail}
 use Rattle.osc_pattern.specs.declared.limits.TheConstants.{MAX_NAME}
@@ -6,7 +6,7 @@ use Rattle.osc_pattern.specs.Items.{is_slash}
 use Rattle.osc_pattern.specs.Reading.{match_part}
 use Rattle.osc_pattern.specs.Patterns.{parts_of, part_at}
 use Rattle.osc_tree.specs.Walking.{agreeing, part_steps, spent}
-use Rattle.osc_tree.proofs.Alike.{agree_here, spent_here, known_matches, known_less, none_left, first_piece_is}
+use Rattle.osc_tree.proofs.Alike.{agree_here, spent_here, known_matches, none_left, first_piece_is}
 use Rattle.osc_tree.proofs.matching.count_matching.Goals as goal
 
 pub is_matching-requires-clause-known : goal.is_matching-requires-clause-known

@@ -1,10 +1,10 @@
-use Rattle.std.proofs.Common.{◌≡◌, ◌-◌, ◌<◌, ◌+◌, suc, get_or, sym, ap, ◌∙◌, arith}
+use Rattle.std.proofs.Common.{◌-◌, get_or, sym, ap, ◌∙◌, arith}
 use Rattle.std.specs.List.{slice_split}
 use Rattle.osc_pattern.specs.Items.{is_slash}
 use Rattle.osc_pattern.specs.Methods.{Method}
 use Rattle.osc_pattern.specs.Patterns.{parts_of}
-use Rattle.osc_tree.specs.Views.{method_of, method_at, methods_at}
-use Rattle.osc_tree.specs.Walking.{shared, known_at}
+use Rattle.osc_tree.specs.Views.{method_at, methods_at}
+use Rattle.osc_tree.specs.Walking.{shared}
 use Rattle.osc_tree.proofs.Walks.{method_here, known_is}
 use Rattle.osc_tree.proofs.matching.known_at.Goals as goal
 

@@ -1,10 +1,9 @@
-use Rattle.std.proofs.Common.{◌≡◌, ℕ, suc, ◌≤◌, ◌<◌, ◌+◌, ◌-◌, ◌∷◌, [], ◌&&◌, ◌==◌, true, false, not, nat_le, cond, length, take, drop, get_or, sym, ap, subst, ◌∙◌, arith, add-one, rules, vec_len}
+use Rattle.std.proofs.Common.{◌≡◌, ℕ, suc, ◌<◌, ◌+◌, ◌&&◌, ◌==◌, false, not, nat_le, length, take, drop, get_or, sym, ap, subst, ◌∙◌, arith, add-one}
 use Rattle.std.specs.List.{slice_split, position_or_len}
-use Rattle.std.proofs.lemmas.List.{length-map}
 use Rattle.osc_pattern.specs.Items.{is_slash}
 use Rattle.osc_pattern.specs.Methods.{Method}
 use Rattle.osc_pattern.specs.Patterns.{parts_of}
-use Rattle.osc_tree.specs.Views.{method_of, method_at, methods_at}
+use Rattle.osc_tree.specs.Views.{method_at, methods_at}
 use Rattle.osc_tree.specs.Walking.{shared, agreeing, spent, known_at, most_steps, IsWalked}
 use Rattle.osc_tree.proofs.InOrder.{methods_at-length}
 use Rattle.osc_tree.proofs.Alike.{agreeing_parts}

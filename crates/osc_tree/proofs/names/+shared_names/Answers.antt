@@ -1,4 +1,4 @@
-use Rattle.std.proofs.Common.{◌≡◌, ◌∷◌, [], true, false, sym, rules}
+use Rattle.std.proofs.Common.{◌≡◌, ◌∷◌, [], true, sym, rules}
 use Rattle.std.specs.List.{slice_split}
 use Rattle.std.specs.Str.{bytes_eq}
 use Rattle.osc_pattern.specs.Items.{is_slash}

@@ -1,41 +1,42 @@
-use Rattle.std.proofs.Common.{◌≡◌, true, false, sym, ap, ◌∙◌, add-zero, arith}
-use Rattle.osc_tree.specs.Nodes.{new_nodes}
-use Rattle.osc_tree.specs.Views.{methods_of}
-use Rattle.osc_tree.proofs.Tallies.{first, step, last}
+use Rattle.std.proofs.Common.{◌≡◌, ℕ, ◌-◌, max, List, length, sym, ap, subst, ◌∙◌, arith}
+use Rattle.std.specs.List.{slice_split}
+use Rattle.osc_pattern.specs.Items.{is_slash}
+use Rattle.osc_pattern.specs.Patterns.{parts_of}
+use Rattle.osc_pattern.specs.Methods.{Method}
+use Rattle.osc_tree.specs.Order.{IsSearched, ordered}
+use Rattle.osc_tree.specs.Views.{methods_of, methods_at}
+use Rattle.osc_tree.specs.Walking.{shared_at, shared_before}
+use Rattle.osc_tree.proofs.Neighbours.{near_most, new_nodes_beside}
 use Rattle.osc_tree.proofs.nodes.new_nodes.Goals as goal
-use Rattle.osc_tree.proofs.nodes.new_nodes.Goals.{then-ends_new_node, else-ends_new_node}
 
-pub loop-end-init : goal.loop-end-init
-loop-end-init c =
-    record {
-      few = omega arith;
-      tally = first (methods_of c.args.methods.now) c.bytes-bytes.result.now c.bytes-bytes.ensures.lawful.slash
-          ∙ ap (new_nodes (methods_of c.args.methods.now)) c.bytes-bytes.ensures.value;
-    }
+pub overflow_sub-result : goal.overflow_sub-result
+overflow_sub-result c =
+    let names = slice_split is_slash c.names_of-names.result.now in
+    let all = methods_at c.args.methods.now c.args.places.now in
+    let most = near_most all names c.args.at in
+    omega (arith, c.max.ensures, c.shared_before-before.ensures.count, c.shared_at-behind.ensures.count, c.count_names.ensures.count)
 
-pub loop-end-preserved : goal.loop-end-preserved
-loop-end-preserved c =
-    elim c.if-ends_new_node.branch [
-      | then-ends_new_node w ↦ record {
-        few = omega arith;
-        tally = step c.args.methods.now c.bytes-bytes.result.now c.loop-end.end c.loop-end.count c.if-ends_new_node.count _ true (omega arith)
-            (sym w.if-ends_new_node.true ∙ c.ends_new_node.ensures) (omega arith) c.loop-end.invariant.tally;
-      }
-      | else-ends_new_node w ↦ record {
-        few = omega arith;
-        tally = step c.args.methods.now c.bytes-bytes.result.now c.loop-end.end c.loop-end.count c.if-ends_new_node.count _ false (omega arith)
-            (sym w.if-ends_new_node.false ∙ c.ends_new_node.ensures) (omega arith) c.loop-end.invariant.tally;
-      }
-    ]
+pub overflow_cast-result : goal.overflow_cast-result
+overflow_cast-result c =
+    let few = c.names_of-names.ensures.lawful.few in
+    omega (arith, c.count_names.ensures.count, ap length c.names_of-names.ensures.parts)
 
-pub returns-then-not-has_node : goal.returns-then-not-has_node
-returns-then-not-has_node c =
-    let e : c.has_node.result ≡ false = cc in
-    last c.args.methods.now c.bytes-bytes.result.now c.loop-end.end c.loop-end.count _ false (omega arith)
-    (sym e ∙ c.has_node.ensures) c.loop-end.invariant.tally
-
-pub returns-else-not-has_node : goal.returns-else-not-has_node
-returns-else-not-has_node c =
-    let e : c.has_node.result ≡ true = cc in
-    sym (add-zero c.loop-end.count) ∙ last c.args.methods.now c.bytes-bytes.result.now c.loop-end.end c.loop-end.count _ true (omega arith)
-    (sym e ∙ c.has_node.ensures) c.loop-end.invariant.tally
+pub returns : goal.returns
+returns c =
+    let registered = c.args.methods.now in
+    let at = c.args.at in
+    let all = ordered (methods_of registered) in
+    let parts = parts_of c.args.address.now in
+    let before : c.shared_before-before.result ≡ shared_before all parts at =
+    c.shared_before-before.ensures.count ∙ ap (λ l. shared_before (methods_at registered c.args.places.now) l at) c.names_of-names.ensures.parts
+    ∙ ap (λ l. shared_before l parts at) c.requires.order.all in
+    let behind : c.shared_at-behind.result ≡ shared_at all parts at =
+    c.shared_at-behind.ensures.count ∙ ap (λ l. shared_at (methods_at registered c.args.places.now) l at) c.names_of-names.ensures.parts
+    ∙ ap (λ l. shared_at l parts at) c.requires.order.all in
+    let so : IsSearched c.args.address.now all at at =
+    subst (λ (l : List Method). IsSearched c.args.address.now l at at) c.requires.order.all c.requires.searched in
+    let long = c.count_names.ensures.count ∙ ap length c.names_of-names.ensures.parts in
+    let near : c.max.result ≡ max (shared_before all parts at) (shared_at all parts at) =
+    c.max.ensures ∙ ap (λ (n : ℕ). max n c.shared_at-behind.result) before ∙ ap (max (shared_before all parts at)) behind in
+    ap (λ (n : ℕ). n - c.max.result) long ∙ ap (λ (n : ℕ). length parts - n) near
+    ∙ sym (new_nodes_beside (methods_of registered) c.args.address.now at c.requires.list c.names_of-names.ensures.lawful.slash c.requires.apart so)

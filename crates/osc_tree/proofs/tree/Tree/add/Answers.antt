@@ -1,11 +1,10 @@
-use Rattle.std.proofs.Common.{◌≡◌, ℕ, ◌<◌, List, [], ◌∷◌, ◌++◌, length, insert, All, Some, sym, ap, subst, ◌∙◌, arith, vec_capacity}
+use Rattle.std.proofs.Common.{◌≡◌, List, length, insert, Some, sym, ap, subst, ◌∙◌, arith, vec_capacity}
 use Rattle.osc_tree.specs.declared.registered.Registered.{Registered}
 use Rattle.osc_tree.specs.Registry.{Registry, IsNewId}
 use Rattle.osc_tree.specs.Nodes.{new_nodes}
 use Rattle.osc_tree.specs.Adding.{IsAddable, IsRefused, refusal_of, add_refusal}
-use Rattle.osc_tree.specs.Views.{method_of, methods_of, method_at}
-use Rattle.osc_tree.specs.Matching.{is_below}
-use Rattle.std.specs.List.{position_or_len}
+use Rattle.osc_tree.specs.Order.{IsSearched}
+use Rattle.osc_tree.specs.Views.{method_of, methods_of, methods_at}
 use Rattle.std.proofs.lemmas.List.{length-map}
 use Rattle.osc_tree.proofs.InOrder.{order_length, one_more_ordered}
 use Rattle.osc_tree.proofs.Lines.{not_addable}
@@ -51,33 +50,28 @@ pub invariant_of-self : goal.invariant_of-self
 invariant_of-self c =
     let inside = c.self.inside in
     let registered = inside.methods.items in
+    let places = inside.places.items in
     let one : Registered = record { id = c.args.id; address = c.args.address } in
-    let need : c.in-Ok.need ≡ new_nodes (methods_of registered) c.args.address =
-    c.in-Ok.ensures.ok ∙ ap (λ l. new_nodes (methods_of l) c.args.address) c.deref.ensures.value in
+    let at = c.in-Ok.admission.at in
+    let need : c.in-Ok.admission.need ≡ new_nodes (methods_of registered) c.args.address =
+    c.in-Ok.ensures.need ∙ ap (λ l. new_nodes (methods_of l) c.args.address) c.deref.ensures.value in
     let can : IsAddable (record { methods = methods_of registered; method_limit = inside.method_limit; node_limit = inside.node_limit }) c.args.address =
     subst (λ (l : List Registered). IsAddable (record { methods = methods_of l; method_limit = inside.method_limit; node_limit = inside.node_limit })
     c.args.address) c.deref.ensures.value c.in-Ok.ensures.accepted in
+    let so : IsSearched c.args.address (methods_at registered places) at at =
+    subst (λ l. IsSearched c.args.address (methods_at registered l) at at) c.deref-2.ensures.value
+    (subst (λ (l : List Registered). IsSearched c.args.address (methods_at l c.deref-2.result.now) at at) c.deref.ensures.value c.in-Ok.ensures.at) in
     let new : IsNewId (methods_of registered) c.args.id = subst (λ (tree : Registry). IsNewId tree.methods c.args.id) (sym c.self.view_is) c.requires in
-    let lists : c.deref-2.result.now ≡ registered ++ one ∷ [] = c.deref-2.ensures.value ∙ c.in-Ok-push.ensures.items in
     let last : c.len-place.result ≡ length registered = omega (arith, c.len-place.ensures, c.deref.ensures.len, ap length c.deref.ensures.value) in
-    let within : All (λ place. place < length (registered ++ one ∷ [])) c.enter.new.places.items =
-    subst (λ (l : List Registered). All (λ place. place < length l) c.enter.new.places.items) lists c.enter.ensures.within in
-    let entered : c.enter.new.places.items
-    ≡ insert inside.places.items
-    (position_or_len (λ other. is_below (method_at (registered ++ one ∷ []) (length registered)) (method_at (registered ++ one ∷ []) other))
-    inside.places.items) (length registered) =
-    c.enter.ensures.items
-    ∙ ap (λ (l : List Registered). insert inside.places.items
-    (position_or_len (λ other. is_below (method_at l c.len-place.result) (method_at l other)) inside.places.items) c.len-place.result) lists
-    ∙ ap (λ (n : ℕ). insert inside.places.items
-    (position_or_len (λ other. is_below (method_at (registered ++ one ∷ []) n) (method_at (registered ++ one ∷ []) other)) inside.places.items) n) last in
+    let entered : c.enter.new.places.items ≡ insert places at (length registered) =
+    c.enter.ensures.items ∙ ap (insert places at) last in
     record {
       kept = rw (c.in-Ok-push.ensures.items, need)
           (one_more_kept registered c.args.id c.args.address inside.method_limit inside.node_limit inside.node_count (vec_capacity inside.methods)
           (vec_capacity c.push.new.self) c.self.invariant.kept new can.apart c.in-Ok.ensures.lawful can.method_room can.node_room
           c.in-Ok-push.ensures.capacity);
-      order = rw c.in-Ok-push.ensures.items
-          (one_more_ordered registered one inside.places.items c.enter.new.places.items c.self.invariant.order within entered);
+      order = rw (c.in-Ok-push.ensures.items, entered)
+          (one_more_ordered registered one places at c.self.invariant.order can.apart.none_at so);
       room = (let room = c.self.invariant.room in omega (arith, c.enter.ensures.capacity));
     }
 

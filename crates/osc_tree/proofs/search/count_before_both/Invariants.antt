@@ -1,10 +1,10 @@
-use Rattle.std.proofs.Common.{◌-◌}
+use Rattle.std.proofs.Common.{◌-◌, ◌++◌}
 use Rattle.osc_tree.specs.Order.{IsSearched}
 use Rattle.osc_tree.specs.Views.{methods_at}
-use Rattle.osc_tree.proofs.beginning.count_before.Given as goal
+use Rattle.osc_tree.proofs.search.count_before_both.Given as goal
 
 abbrev pub invariant-loop-low : goal.invariant-loop-low
-invariant-loop-low l = IsSearched l.text (methods_at l.methods l.places) l.low l.high
+invariant-loop-low l = IsSearched (l.text ++ l.tail) (methods_at l.methods l.places) l.low l.high
 
 abbrev pub decreases-loop-low : goal.decreases-loop-low
 decreases-loop-low l = l.high - l.low

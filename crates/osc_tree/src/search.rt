@@ -1,0 +1,50 @@
+// Where a text stands in the order of the methods' addresses.
+ghost use Rattle.std.specs.Prelude.{◌≡◌, ◌≤◌, ◌<◌, ◌++◌, length};
+ghost use Rattle.osc_tree.specs.Order.{is_before, IsOrder, IsSearched};
+ghost use Rattle.osc_tree.specs.Views.{method_at, methods_at};
+
+use crate::registered::Registered;
+
+/// How many methods are before the text.
+pub(crate) fn count_before(methods: &[Registered], places: &[u32], text: &[u8]) -> usize
+    requires { IsOrder methods.now places.now }
+    ensures searched { IsSearched text.now (methods_at methods.now places.now) result result }
+    ensures bound { result ≤ length places.now }
+{
+    count_before_both(methods, places, text, b"")
+}
+
+/// How many methods are before the text with its tail. It halves the range in which the first that isn't must stand.
+pub(crate) fn count_before_both(
+    methods: &[Registered],
+    places: &[u32],
+    text: &[u8],
+    tail: &[u8],
+) -> usize
+    requires { IsOrder methods.now places.now }
+    ensures searched { IsSearched (text.now ++ tail.now) (methods_at methods.now places.now)
+        result result }
+    ensures bound { result ≤ length places.now }
+{
+    let mut low = 0;
+    let mut high = places.len();
+    while low < high {
+        let middle = low + (high - low) / 2;
+        if is_before(methods, places[middle], text, tail) {
+            low = middle + 1;
+        } else {
+            high = middle;
+        }
+    }
+    low
+}
+
+/// Whether the address of the method at a place is before the text with its tail, in the order of their bytes.
+fn is_before(methods: &[Registered], place: u32, text: &[u8], tail: &[u8]) -> bool
+    requires { place < length methods.now }
+    ensures { result ≡ is_before (text.now ++ tail.now) (method_at methods.now place) }
+{
+    let address = methods[place as usize].address.bytes();
+    let (front, rest) = address.split_at(text.len().min(address.len()));
+    front.cmp(text).then(rest.cmp(tail)).is_lt()
+}
