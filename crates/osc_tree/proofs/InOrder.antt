@@ -1,8 +1,8 @@
 -- The places of methods that stand in the order of their addresses.
-use Rattle.std.proofs.Common.{◌≡◌, ◌≢◌, ℕ, ◌+◌, ◌-◌, ◌<◌, Bool, true, false, not, cond, List, [], ◌∷◌, ◌++◌, length, filter, take, drop, insert, get_or, fold, All, refl, sym, ap, subst, ◌∙◌, arith, length-append}
+use Rattle.std.proofs.Common.{◌≡◌, ◌≢◌, ℕ, ◌+◌, ◌<◌, Bool, true, false, cond, List, [], ◌∷◌, ◌++◌, length, filter, take, drop, insert, get_or, fold, All, refl, sym, ap, subst, ◌∙◌, arith, length-append}
 use Rattle.std.specs.List.{position_or_len}
 use Rattle.std.specs.List.{before_first}
-use Rattle.std.proofs.lemmas.List.{take-map, drop-map, take_all, length-map, get_or-map, length-drop, map_push}
+use Rattle.std.proofs.lemmas.List.{length-map, get_or-map, map_push}
 use Rattle.std.proofs.lemmas.List.Edits.{length-insert}
 use Rattle.std.proofs.lemmas.List.Elements.{All-head, All-tail, All-nil, All-cons, All-append, All-take, All-drop}
 use Rattle.std.proofs.Math.ListN.{get_or-append}
@@ -14,11 +14,10 @@ use Rattle.osc_tree.specs.Matching.{is_below, in_place, matching, IsAscending}
 use Rattle.osc_tree.specs.Registry.{NoneAt}
 use Rattle.osc_tree.specs.Views.{method_of, methods_of, method_at, methods_at}
 use Rattle.osc_tree.specs.Order.{IsOrder, IsSearched, ordered, begins_with}
-use Rattle.osc_tree.proofs.Lists.{position-map, position_or_len-bound, insert-map}
+use Rattle.osc_tree.proofs.Lists.{position_or_len-bound, insert-map}
 use Rattle.osc_tree.proofs.Literals.{matched_starts}
 use Rattle.osc_tree.proofs.Places.{method_at-get}
 use Rattle.osc_tree.proofs.Sorting.{filter_ordered, ordered_ascend}
-use Rattle.osc_tree.proofs.Ranges.{begun_range}
 use Rattle.osc_tree.proofs.Searches.{enters_there}
 use Rattle.osc_tree.proofs.Apart.{all_of, all_back, all_folded}
 
@@ -28,24 +27,6 @@ methods_at-length registered places = length-map places (method_at registered)
 pub methods_at-get : (registered : List Registered) (places : List ℕ) (k : ℕ) (d : Method) → k < length places
     → get_or (methods_at registered places) k d ≡ method_at registered (get_or places k 0)
 methods_at-get registered places k d within = get_or-map (method_at registered) places k 0 d within
-
--- the places that the search cuts out
-pub range_at : (text : List ℕ) (registered : List Registered) (places : List ℕ) (low count : ℕ) → IsAscending (methods_at registered places)
-    → IsSearched text (methods_at registered places) low low
-    → count ≡ position_or_len (λ place. not (begins_with text (method_at registered place))) (take (length places - low) (drop low places))
-    → methods_at registered (take count (take (length places - low) (drop low places))) ≡ filter (begins_with text) (methods_at registered places)
-range_at text registered places low count up so is =
-    let whole : take (length places - low) (drop low places) ≡ drop low places =
-    take_all (length places - low) (drop low places) (omega (arith, length-drop low places)) in
-    let counted : count ≡ position_or_len (λ method. not (begins_with text method)) (drop low (methods_at registered places)) =
-    is ∙ ap (position_or_len (λ place. not (begins_with text (method_at registered place)))) whole
-    ∙ sym (position-map (method_at registered) (λ method. not (begins_with text method)) (drop low places))
-    ∙ ap (position_or_len (λ method. not (begins_with text method))) (sym (drop-map (method_at registered) low places)) in
-    ap (λ l. methods_at registered (take count l)) whole
-    ∙ sym (take-map (method_at registered) count (drop low places))
-    ∙ ap (take count) (sym (drop-map (method_at registered) low places))
-    ∙ ap (λ n. take n (drop low (methods_at registered places))) counted
-    ∙ sym (begun_range text (methods_at registered places) low up so)
 
 length-placed : (methods : List Method) (method : Method) → length (in_place methods method) ≡ length methods + 1
 length-placed methods method = length-insert methods (position_or_len (is_below method) methods) method (position_or_len-bound (is_below method) methods)

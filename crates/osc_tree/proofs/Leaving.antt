@@ -163,7 +163,7 @@ leaves_at registered places at address list order stands =
       within = within;
     }
 
-sorted_at : (registered : List Registered) (places : List ℕ) → IsMethodList (methods_of registered) → IsOrder registered places
+pub sorted_at : (registered : List Registered) (places : List ℕ) → IsMethodList (methods_of registered) → IsOrder registered places
     → IsSorted (methods_at registered places)
 sorted_at registered places list order = subst IsSorted (sym order.all) (ordered_sorted (methods_of registered) list)
 

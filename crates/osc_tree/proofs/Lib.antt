@@ -21,3 +21,4 @@ pub mod Neighbours
 pub mod Searches
 pub mod Lookups
 pub mod Spelled
+pub mod Beginnings

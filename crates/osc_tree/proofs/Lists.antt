@@ -1,7 +1,7 @@
 -- Lists of the code, and what they stand for.
 use Rattle.std.proofs.Common.{◌≡◌, ℕ, suc, ◌+◌, ◌<◌, ◌≤◌, Bool, true, false, not, cond, ◌||◌, List, [], ◌∷◌, ◌++◌, map, find, filter, length, take, drop, insert, get_or, Some, None, position, All, nat_lt, refl, sym, ap, ◌∙◌, one-add, arith}
 use Rattle.std.specs.List.{list_any, position_or_len, AllPairs, Contains, remove}
-use Rattle.std.specs.Option.{option_map, unwrap_or}
+use Rattle.std.specs.Option.{option_map}
 use Rattle.std.proofs.lemmas.Bool.{ltb-true, ltb-false}
 use Rattle.std.proofs.lemmas.List.{map-append, take-map, drop-map}
 use Rattle.std.proofs.lemmas.List.Elements.{All-cons, All-head, All-tail, All-nil}
@@ -117,14 +117,6 @@ position_or_len-bound test (x ∷ xs) = go (test x) (position_or_len-bound test 
   go : (t : Bool) → position_or_len test xs ≤ length xs → cond (not t) (1 + position_or_len test xs) 0 ≤ suc (length xs)
   go true le = omega arith
   go false le = omega arith
-
--- a place that may be none, and stands past the end then
-pub position-else : {X : Type 0} (test : X → Bool) (xs : List X) → unwrap_or (position test xs) (length xs) ≡ position_or_len test xs
-position-else test xs = go (nat_lt (position_or_len test xs) (length xs)) refl where
-  go : (t : Bool) → nat_lt (position_or_len test xs) (length xs) ≡ t
-      → unwrap_or (cond t (Some (position_or_len test xs)) None) (length xs) ≡ position_or_len test xs
-  go true is = refl
-  go false is = let le = position_or_len-bound test xs in let ge = ltb-false (position_or_len test xs) (length xs) is in omega arith
 
 none_past : {X : Type 0} (test : X → Bool) (xs : List X) → length xs ≤ position_or_len test xs → list_any test xs ≡ false
 none_past test [] past = refl

@@ -1,6 +1,6 @@
 -- Of methods in the order of their addresses, those that begin with a text stand together.
-use Rattle.std.proofs.Common.{Less, Equal, Greater, ◌≡◌, ℕ, zero, suc, ◌+◌, ◌<◌, ◌≤◌, Bool, true, false, cond, not, ◌==◌, List, [], ◌∷◌, length, filter, take, drop, get_or, refl, ap, subst, arith, one-add, nat_eq, nat_lt}
-use Rattle.std.specs.List.{AllByRecursion, position_or_len, starts_with}
+use Rattle.std.proofs.Common.{Less, Equal, Greater, ◌≡◌, ℕ, zero, suc, ◌+◌, ◌<◌, ◌≤◌, Bool, true, false, cond, ◌==◌, List, [], ◌∷◌, length, get_or, refl, subst, arith, nat_eq, nat_lt}
+use Rattle.std.specs.List.{AllByRecursion, starts_with}
 use Rattle.std.specs.Ordering.{is_lt, nat_cmp, ordering_then}
 use Rattle.std.specs.Cmp.{IsStrictWeakOrder}
 use Rattle.std.specs.Cmp.Lexicographic.{slice_cmp}
@@ -9,7 +9,7 @@ use Rattle.std.proofs.lemmas.List.MinMax.{ranks_by}
 use Rattle.std.proofs.lemmas.Bool.Decides.{nat_tests}
 use Rattle.osc_pattern.specs.Methods.{Method}
 use Rattle.osc_tree.specs.Matching.{is_below, IsAscending}
-use Rattle.osc_tree.specs.Order.{is_before, begins_with, IsSearched}
+use Rattle.osc_tree.specs.Order.{is_before, IsSearched}
 use Rattle.osc_tree.proofs.Places.{any_default}
 
 abbrev pub lower : List ℕ → List ℕ → Bool
@@ -106,50 +106,3 @@ searched_down text methods low high middle d up so above below e =
           (ascend_far methods middle k other up (omega arith) (omega arith))
           (subst (λ m. is_before text m ≡ false) (any_default methods middle d other (omega arith)) e);
     }
-
-none_begin : (text : List ℕ) (methods : List Method) → AllByRecursion (λ method. begins_with text method ≡ false) methods
-    → filter (begins_with text) methods ≡ []
-none_begin text [] all = refl
-none_begin text (method ∷ methods) all = rw all.0 (none_begin text methods all.1)
-
-later_begin : (text : List ℕ) (method : Method) (methods : List Method) → begins_with text method ≡ false → is_before text method ≡ false
-    → AllByRecursion (λ other. is_below other method ≡ false) methods → AllByRecursion (λ other. begins_with text other ≡ false) methods
-later_begin text method [] e f all = tt
-later_begin text method (other ∷ methods) e f all = (begun_no_more text method.address other.address e f all.0, later_begin text method methods e f all.1)
-
--- of methods in order, none of which is before the text, those that begin with it stand first
-begun_first : (text : List ℕ) (methods : List Method) → IsAscending methods
-    → ((k : ℕ) (d : Method) → k < length methods → is_before text (get_or methods k d) ≡ false)
-    → filter (begins_with text) methods ≡ take (position_or_len (λ method. not (begins_with text method)) methods) methods
-begun_first text [] up behind = refl
-begun_first text (method ∷ methods) up behind =
-    go (begins_with text method) refl (begun_first text methods up.1 (λ k d lt. behind (suc k) d (omega arith))) where
-      go : (t : Bool) → begins_with text method ≡ t
-          → filter (begins_with text) methods ≡ take (position_or_len (λ method. not (begins_with text method)) methods) methods
-          → cond t (method ∷ filter (begins_with text) methods) (filter (begins_with text) methods)
-          ≡ take (cond (not (not t)) (1 + position_or_len (λ method. not (begins_with text method)) methods) 0) (method ∷ methods)
-      go true e more = rw one-add (ap (λ l. method ∷ l) more)
-      go false e more = none_begin text methods (later_begin text method methods e (behind 0 method (omega arith)) up.0)
-
--- and of methods in order, those from the first that isn't before the text
-pub begun_range : (text : List ℕ) (methods : List Method) (low : ℕ) → IsAscending methods → IsSearched text methods low low
-    → filter (begins_with text) methods ≡ take (position_or_len (λ method. not (begins_with text method)) (drop low methods)) (drop low methods)
-begun_range text methods zero up so = begun_first text methods up (λ k d lt. so.behind k d (omega arith) lt)
-begun_range text [] (suc low) up so = refl
-begun_range text (method ∷ methods) (suc low) up so =
-    let bound = so.bound in
-    go (begins_with text method) refl
-    (begun_range text methods low up.1
-    (record {
-      order = omega arith;
-      bound = omega arith;
-      before = λ k d lt. so.before (suc k) d (omega arith);
-      behind = λ k d ge lt. so.behind (suc k) d (omega arith) (omega arith);
-    }))
-  where
-    go : (t : Bool) → begins_with text method ≡ t
-        → filter (begins_with text) methods ≡ take (position_or_len (λ method. not (begins_with text method)) (drop low methods)) (drop low methods)
-        → cond t (method ∷ filter (begins_with text) methods) (filter (begins_with text) methods)
-        ≡ take (position_or_len (λ method. not (begins_with text method)) (drop low methods)) (drop low methods)
-    go true e more = absurd (let yes = so.before 0 method (omega arith) in let no = begun_not_before text method.address e in cc)
-    go false e more = more

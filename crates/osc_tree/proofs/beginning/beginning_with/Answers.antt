@@ -1,7 +1,21 @@
-use Rattle.osc_tree.proofs.InOrder.{range_at, order_ascends}
+use Rattle.osc_tree.proofs.Beginnings.{ends_of, ends_in_order, places_between}
+use Rattle.osc_tree.specs.Views.{methods_at}
 use Rattle.osc_tree.proofs.beginning.beginning_with.Goals as goal
+
+pub slice_bounds-result-count : goal.slice_bounds-result-count
+slice_bounds-result-count c =
+    ends_in_order c.args.text.now (methods_at c.args.methods.now c.args.places.now) c.count_before-first.result c.count_before_both-end.result
+    (ends_of c.args.text.now c.args.methods.now c.args.places.now c.count_before-first.result c.count_before_both-end.result c.requires.list c.requires.order
+    c.count_before-first.ensures.searched c.count_before_both-end.ensures.searched)
+
+pub slice_bounds-result-start : goal.slice_bounds-result-start
+slice_bounds-result-start c =
+    ends_in_order c.args.text.now (methods_at c.args.methods.now c.args.places.now) c.count_before-first.result c.count_before_both-end.result
+    (ends_of c.args.text.now c.args.methods.now c.args.places.now c.count_before-first.result c.count_before_both-end.result c.requires.list c.requires.order
+    c.count_before-first.ensures.searched c.count_before_both-end.ensures.searched)
 
 pub returns-clause-those : goal.returns-clause-those
 returns-clause-those c =
-    range_at c.args.text.now c.args.methods.now c.args.places.now c.count_before.result c.count_beginning.result (order_ascends c.args.methods.now c.args.places.now c.requires)
-    c.count_before.ensures.searched c.count_beginning.ensures.count
+    places_between c.args.text.now c.args.methods.now c.args.places.now c.count_before-first.result c.count_before_both-end.result
+    (ends_of c.args.text.now c.args.methods.now c.args.places.now c.count_before-first.result c.count_before_both-end.result c.requires.list c.requires.order
+    c.count_before-first.ensures.searched c.count_before_both-end.ensures.searched)
