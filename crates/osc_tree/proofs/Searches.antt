@@ -32,7 +32,7 @@ cmp_cut (x ∷ address) (y ∷ text) tail =
     ∙ sym (then_assoc (nat_cmp x y) (slice_cmp nat_cmp (take (length text) address) text) (slice_cmp nat_cmp (drop (length text) address) tail))
 
 -- an address is compared with as much of it as the text has bytes first, and the rest with the tail
-pub before_cut : (address text tail : List ℕ) (n : ℕ) → n ≡ min (length text) (length address)
+before_cut : (address text tail : List ℕ) (n : ℕ) → n ≡ min (length text) (length address)
     → is_lt (ordering_then (slice_cmp nat_cmp (take n address) text) (slice_cmp nat_cmp (drop n address) tail)) ≡ lower address (text ++ tail)
 before_cut address text tail n is = go (nat_lt (length address) (length text)) refl where
   same : take n address ≡ take (length text) address → drop n address ≡ drop (length text) address
@@ -51,6 +51,26 @@ before_cut address text tail n is = go (nat_lt (length address) (length text)) r
       let long : length text ≤ length address = (let h : nat_lt (length address) (length text) ≡ false = e in grind (arith, nat_tests)) in
       let whole : n ≡ length text = omega arith in
       same (ap (λ (k : ℕ). take k address) whole) (ap (λ (k : ℕ). drop k address) whole)
+
+decided : (a b : Ordering) → (a ≡ Equal → ⊥) → is_lt a ≡ is_lt (ordering_then a b)
+decided Less b other = refl
+decided Equal b other = absurd (other refl)
+decided Greater b other = refl
+
+pub front_decides : (address text tail : List ℕ) (n : ℕ) (front : Ordering) → n ≡ min (length text) (length address)
+    → front ≡ slice_cmp nat_cmp (take n address) text → (front ≡ Equal → ⊥) → is_lt front ≡ lower address (text ++ tail)
+front_decides address text tail n front is e other =
+    decided front (slice_cmp nat_cmp (drop n address) tail) other
+    ∙ ap (λ (o : Ordering). is_lt (ordering_then o (slice_cmp nat_cmp (drop n address) tail))) e
+    ∙ before_cut address text tail n is
+
+pub rest_decides : (address text tail : List ℕ) (n : ℕ) (front rest : Ordering) → n ≡ min (length text) (length address)
+    → front ≡ slice_cmp nat_cmp (take n address) text → front ≡ Equal → rest ≡ slice_cmp nat_cmp (drop n address) tail
+    → is_lt rest ≡ lower address (text ++ tail)
+rest_decides address text tail n front rest is e same f =
+    ap is_lt f
+    ∙ ap (λ (o : Ordering). is_lt (ordering_then o (slice_cmp nat_cmp (drop n address) tail))) (sym same ∙ e)
+    ∙ before_cut address text tail n is
 
 -- two texts neither of which is before the other
 level : (a b : List ℕ) → lower a b ≡ false → lower b a ≡ false → a ≡ b

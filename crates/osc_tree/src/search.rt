@@ -4,6 +4,7 @@ ghost use Rattle.osc_tree.specs.Order.{is_before, IsOrder, IsSearched};
 ghost use Rattle.osc_tree.specs.Views.{method_at, methods_at};
 
 use crate::registered::Registered;
+use std::cmp::Ordering;
 
 /// How many methods are before the text.
 pub(crate) fn count_before(methods: &[Registered], places: &[u32], text: &[u8]) -> usize
@@ -46,5 +47,8 @@ fn is_before(methods: &[Registered], place: u32, text: &[u8], tail: &[u8]) -> bo
 {
     let address = methods[place as usize].address.bytes();
     let (front, rest) = address.split_at(text.len().min(address.len()));
-    front.cmp(text).then(rest.cmp(tail)).is_lt()
+    match front.cmp(text) {
+        Ordering::Equal => rest.cmp(tail).is_lt(),
+        order => order.is_lt(),
+    }
 }

@@ -73,8 +73,8 @@ pub returns-then-not-is_there-clause-not_there : goal.returns-then-not-is_there-
 returns-then-not-is_there-clause-not_there c =
     (λ _. id_at-none c.args.self.now.methods c.args.address.now (sym (returns-then-not-is_there-clause-read c)), λ _. refl)
 
-pub new_nodes-requires-clause-list : goal.new_nodes-requires-clause-list
-new_nodes-requires-clause-list c =
+pub new_nodes-requires : goal.new_nodes-requires
+new_nodes-requires c =
     let registered = c.self.inside.methods.items in
     let places = c.self.inside.places.items in
     let at = c.count_before-at.result in
@@ -86,56 +86,9 @@ new_nodes-requires-clause-list c =
     let out = out_is registered places place at c.args.address.now method c.remove-method.new.self.items c.leave-place.new.places.items
     c.self.invariant.kept.list c.self.invariant.order told c.leave-place.ensures.place c.remove-method.ensures.value
     c.remove-method.ensures.items c.leave-place.ensures.items in
-    (same_left c.remove-method.new.self.items c.deref-5.result.now c.leave-place.new.places.items c.deref-6.result.now at method.address
-    c.deref-5.ensures.value c.deref-6.ensures.value out.left).list
-
-pub new_nodes-requires-clause-order : goal.new_nodes-requires-clause-order
-new_nodes-requires-clause-order c =
-    let registered = c.self.inside.methods.items in
-    let places = c.self.inside.places.items in
-    let at = c.count_before-at.result in
-    let told = told_is registered c.deref.result.now c.deref-3.result.now places c.deref-2.result.now c.deref-4.result.now at c.args.address.now
-    c.bytes.result.now c.bytes-2.result.now c.deref.ensures.value c.deref-2.ensures.value c.bytes.ensures.value
-    c.deref-3.ensures.value c.deref-4.ensures.value c.bytes-2.ensures.value c.count_before-at.ensures.searched c.if-not-is_there.ensures in
-    let place = c.leave-place.result in
-    let method = c.remove-method.result in
-    let out = out_is registered places place at c.args.address.now method c.remove-method.new.self.items c.leave-place.new.places.items
-    c.self.invariant.kept.list c.self.invariant.order told c.leave-place.ensures.place c.remove-method.ensures.value
-    c.remove-method.ensures.items c.leave-place.ensures.items in
-    (same_left c.remove-method.new.self.items c.deref-5.result.now c.leave-place.new.places.items c.deref-6.result.now at method.address
-    c.deref-5.ensures.value c.deref-6.ensures.value out.left).order
-
-pub new_nodes-requires-clause-apart : goal.new_nodes-requires-clause-apart
-new_nodes-requires-clause-apart c =
-    let registered = c.self.inside.methods.items in
-    let places = c.self.inside.places.items in
-    let at = c.count_before-at.result in
-    let told = told_is registered c.deref.result.now c.deref-3.result.now places c.deref-2.result.now c.deref-4.result.now at c.args.address.now
-    c.bytes.result.now c.bytes-2.result.now c.deref.ensures.value c.deref-2.ensures.value c.bytes.ensures.value
-    c.deref-3.ensures.value c.deref-4.ensures.value c.bytes-2.ensures.value c.count_before-at.ensures.searched c.if-not-is_there.ensures in
-    let place = c.leave-place.result in
-    let method = c.remove-method.result in
-    let out = out_is registered places place at c.args.address.now method c.remove-method.new.self.items c.leave-place.new.places.items
-    c.self.invariant.kept.list c.self.invariant.order told c.leave-place.ensures.place c.remove-method.ensures.value
-    c.remove-method.ensures.items c.leave-place.ensures.items in
-    (same_left c.remove-method.new.self.items c.deref-5.result.now c.leave-place.new.places.items c.deref-6.result.now at method.address
-    c.deref-5.ensures.value c.deref-6.ensures.value out.left).apart
-
-pub new_nodes-requires-clause-searched : goal.new_nodes-requires-clause-searched
-new_nodes-requires-clause-searched c =
-    let registered = c.self.inside.methods.items in
-    let places = c.self.inside.places.items in
-    let at = c.count_before-at.result in
-    let told = told_is registered c.deref.result.now c.deref-3.result.now places c.deref-2.result.now c.deref-4.result.now at c.args.address.now
-    c.bytes.result.now c.bytes-2.result.now c.deref.ensures.value c.deref-2.ensures.value c.bytes.ensures.value
-    c.deref-3.ensures.value c.deref-4.ensures.value c.bytes-2.ensures.value c.count_before-at.ensures.searched c.if-not-is_there.ensures in
-    let place = c.leave-place.result in
-    let method = c.remove-method.result in
-    let out = out_is registered places place at c.args.address.now method c.remove-method.new.self.items c.leave-place.new.places.items
-    c.self.invariant.kept.list c.self.invariant.order told c.leave-place.ensures.place c.remove-method.ensures.value
-    c.remove-method.ensures.items c.leave-place.ensures.items in
-    (same_left c.remove-method.new.self.items c.deref-5.result.now c.leave-place.new.places.items c.deref-6.result.now at method.address
-    c.deref-5.ensures.value c.deref-6.ensures.value out.left).searched
+    let left = same_left c.remove-method.new.self.items c.deref-5.result.now c.leave-place.new.places.items c.deref-6.result.now at method.address
+    c.deref-5.ensures.value c.deref-6.ensures.value out.left in
+    record { list = left.list; order = left.order; apart = left.apart; searched = left.searched }
 
 pub overflow_sub-self : goal.overflow_sub-self
 overflow_sub-self c =
