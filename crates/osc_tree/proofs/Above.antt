@@ -14,7 +14,8 @@ above_is (a ∷ prefix) [] = grind (arith, nat_tests)
 above_is (a ∷ prefix) (x ∷ address) = let more = above_is prefix address in grind (arith, nat_tests)
 
 -- what an address has before a slash is above it
-pub cut_above : (address : List ℕ) (end : ℕ) → end < length address → is_slash (get_or address end 0) ≡ true → is_proper_prefix (take end address) address ≡ true
+pub cut_above : (address : List ℕ) (end : ℕ) → end < length address → is_slash (get_or address end 0) ≡ true
+    → is_proper_prefix (take end address) address ≡ true
 cut_above [] end lt e = absurd (omega arith)
 cut_above (x ∷ address) zero lt e = grind (arith, nat_tests)
 cut_above (x ∷ address) (suc end) lt e = let more = cut_above address end (omega arith) e in grind (arith, nat_tests)

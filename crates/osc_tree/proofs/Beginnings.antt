@@ -92,7 +92,8 @@ pub record AreEnds (text : List ℕ) (methods : List Method) (low high : ℕ) : 
 
 here_is : (text : List ℕ) (methods : List Method) (low high k : ℕ) (d : Method) → AreEnds text methods low high → k < length methods
     → is_before (text ++ 127 ∷ []) (get_or methods k d) ≡ (is_before text (get_or methods k d) || begins_with text (get_or methods k d))
-here_is text methods low high k d ends lt = before_end (get_or methods k d).address text 127 (address_low (get_or methods k d).address (ends.list.lawful k d lt))
+here_is text methods low high k d ends lt =
+    before_end (get_or methods k d).address text 127 (address_low (get_or methods k d).address (ends.list.lawful k d lt))
 
 pub ends_in_order : (text : List ℕ) (methods : List Method) (low high : ℕ) → AreEnds text methods low high → low ≤ high
 ends_in_order text methods low high ends = go (nat_lt high low) refl where

@@ -157,7 +157,8 @@ others_apart methods place d list within =
 -- what is told of the method that a search came to
 pub there_is : (registered : List Registered) (places : List ℕ) (at : ℕ) (address : List ℕ) (d : Registered) (r : Bool) → IsOrder registered places
     → IsSearched address (methods_at registered places) at at → at < length places
-    → r ≡ bytes_eq (get_or registered (get_or places at 0) d).address address → MatchBool r (StandsAt registered places at address) (NoneAt (methods_of registered) address)
+    → r ≡ bytes_eq (get_or registered (get_or places at 0) d).address address
+    → MatchBool r (StandsAt registered places at address) (NoneAt (methods_of registered) address)
 there_is registered places at address d r order so lt test = go r refl where
   own : List ℕ
   own = (get_or registered (get_or places at 0) d).address
@@ -193,7 +194,8 @@ id_at_place registered places at address d list order stands =
 -- whether a method lies below an address
 pub below_there : (registered : List Registered) (places : List ℕ) (at : ℕ) (address : List ℕ) (d : Registered) → IsOrder registered places
     → IsSearched (address ++ 47 ∷ []) (methods_at registered places) at at → at < length places
-    → is_proper_prefix address (get_or registered (get_or places at 0) d).address ≡ list_any (λ method. is_proper_prefix address method.address) (methods_of registered)
+    → is_proper_prefix address (get_or registered (get_or places at 0) d).address
+    ≡ list_any (λ method. is_proper_prefix address method.address) (methods_of registered)
 below_there registered places at address d order so lt =
     let none : Method = record { id = 0; address = [] } in
     let long = methods_at-length registered places in

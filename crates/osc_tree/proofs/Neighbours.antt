@@ -21,7 +21,8 @@ use Rattle.osc_tree.proofs.Alike.{prefixes_long, node_shares, shares_node, share
 use Rattle.osc_tree.proofs.Apart.{all_of, all_back, all_folded, ordered_sorted}
 use Rattle.osc_tree.proofs.Charges.{AreApart, shared_between, at_slash}
 
-any_middle : {X : Type 0} (test : X → Bool) (front : List X) (x : X) (back : List X) → list_any test (front ++ x ∷ back) ≡ (test x || list_any test (front ++ back))
+any_middle : {X : Type 0} (test : X → Bool) (front : List X) (x : X) (back : List X)
+    → list_any test (front ++ x ∷ back) ≡ (test x || list_any test (front ++ back))
 any_middle test front x back = list_any-append test front (x ∷ back) ∙ turn (list_any test front) (test x) (list_any test back)
     ∙ ap (λ (t : Bool). test x || t) (sym (list_any-append test front back)) where
       turn : (a b c : Bool) → (a || (b || c)) ≡ (b || (a || c))
@@ -188,7 +189,8 @@ new_nodes_beside methods address at list slash apart so =
     none : Method
     none = record { id = 0; address = [] }
 
-    has : (k j : ℕ) → k < shared_at all (parts_of address) j → list_any (λ (method : Method). list_any (bytes_eq (get_or (prefixes_of address) k [])) (prefixes_of method.address)) all ≡ true
+    has : (k j : ℕ) → k < shared_at all (parts_of address) j
+        → list_any (λ (method : Method). list_any (bytes_eq (get_or (prefixes_of address) k [])) (prefixes_of method.address)) all ≡ true
     has k j lt = go (nat_lt j (length all)) refl lt where
       go : (t : Bool) → nat_lt j (length all) ≡ t → k < cond t (shared (parts_of address) (parts_of (get_or all j none).address)) 0
           → list_any (λ (method : Method). list_any (bytes_eq (get_or (prefixes_of address) k [])) (prefixes_of method.address)) all ≡ true

@@ -60,6 +60,7 @@ spelled_ids pattern methods list alone exact =
     here : Method → Bool
     here method = bytes_eq method.address pattern
 
-    last : (o : Option Method) → map (λ (method : Method). method.id) (ordered (option_to_list o)) ≡ option_to_list (option_map (λ (method : Method). method.id) o)
+    last : (o : Option Method) → map (λ (method : Method). method.id) (ordered (option_to_list o))
+        ≡ option_to_list (option_map (λ (method : Method). method.id) o)
     last None = refl
     last (Some method) = refl

@@ -32,7 +32,8 @@ shared (name ∷ names) (other ∷ others) =
 abbrev pub shared_at : List Method → List (List ℕ) → ℕ → ℕ
 shared_at methods names at =
     if nat_lt at (length methods)
-    then shared names (parts_of (get_or methods at (record { id = 0; address = [] })).address) else 0
+    then shared names (parts_of (get_or methods at (record { id = 0; address = [] })).address)
+    else 0
 
 -- how many of the names the method before a place has
 abbrev pub shared_before : List Method → List (List ℕ) → ℕ → ℕ

@@ -14,7 +14,8 @@ use Rattle.osc_tree.proofs.adding.admit.Goals as goal
 
 -- what is read off the list is why the address is refused
 refuses : (registered : List Registered) (method_limit node_limit : ℕ) (address : List ℕ) (refusal : Refusal) → length registered ≤ method_limit
-    → add_refusal (registry_of registered method_limit node_limit) address ≡ Some refusal → Refuses (registry_of registered method_limit node_limit) address refusal
+    → add_refusal (registry_of registered method_limit node_limit) address ≡ Some refusal
+    → Refuses (registry_of registered method_limit node_limit) address refusal
 refuses registered method_limit node_limit address refusal few read =
     first_refuses (registry_of registered method_limit node_limit) address refusal (omega (arith, length-map registered method_of)) read
 
@@ -78,7 +79,8 @@ returns-then-methods-method_limit-clause-read c =
 
 pub returns-then-methods-method_limit-clause-refused : goal.returns-then-methods-method_limit-clause-refused
 returns-then-methods-method_limit-clause-refused c =
-    refuses c.args.methods.now c.args.method_limit c.args.node_limit c.args.address.now _ c.requires.few_methods (returns-then-methods-method_limit-clause-read c)
+    refuses c.args.methods.now c.args.method_limit c.args.node_limit c.args.address.now _ c.requires.few_methods
+    (returns-then-methods-method_limit-clause-read c)
 
 pub new_nodes-need-requires-clause-apart : goal.new_nodes-need-requires-clause-apart
 new_nodes-need-requires-clause-apart c =
