@@ -1,5 +1,6 @@
-/* Plays a script of `add`, `send` and `pump` lines on a liblo server, handing it each packet in memory, and prints a line
-   for each call: the address, the type tags and a word for each argument. A packet is dispatched as it is sent.
+/* Plays a script of `add`, `remove`, `send` and `pump` lines on a liblo server, handing it each packet in memory, and
+   prints a line for each call: the address, the type tags and a word for each argument. A packet is dispatched as it is
+   sent, or queued where its tag is later than now.
 
        lo_script < script.osc */
 #include <lo/lo.h>
@@ -64,6 +65,8 @@ int main(void) {
         line[strcspn(line, "\n")] = 0;
         if (!strncmp(line, "add ", 4))
             lo_server_add_method(server, line + 4, NULL, print_call, strdup(line + 4));
+        else if (!strncmp(line, "remove ", 7))
+            lo_server_del_method(server, line + 7, NULL);
         else if (!strncmp(line, "send ", 5))
             lo_server_dispatch_data(server, packet, read_digits(line + 5, packet));
     }

@@ -6,7 +6,8 @@
 #include <stdlib.h>
 #include <string.h>
 
-enum { FIRST_MOMENT = 1000 };
+/* The second of the first moment, which is later than any run. */
+static const long FIRST_SECOND = 0xf0000000;
 
 /* The k-th of count numbers, which are those from 0 to count - 1. */
 static long place(const char *order, long k, long count) {
@@ -23,7 +24,7 @@ int main(int count_of_words, char **words) {
     }
     long count = atol(words[2]);
     for (long k = 0; k < count; k++)
-        printf("send 2362756e646c6500%016lx000000082f610000%s\n", FIRST_MOMENT + place(words[1], k, count), "2c000000");
-    printf("tick %016lx\npump\n", FIRST_MOMENT + count);
+        printf("send 2362756e646c6500%08lx00000000000000082f6100002c000000\n", FIRST_SECOND + place(words[1], k, count));
+    printf("tick %08lx00000000\npump\n", FIRST_SECOND + count);
     return 0;
 }
