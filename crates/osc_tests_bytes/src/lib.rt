@@ -12,6 +12,8 @@ mod packet;
 #[cfg(test)]
 mod pattern;
 #[cfg(test)]
+mod pool;
+#[cfg(test)]
 mod queue;
 #[cfg(test)]
 mod tree;

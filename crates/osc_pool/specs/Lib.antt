@@ -1,0 +1,4 @@
+-- What public contracts cite.
+pub mod Holding
+-- Inside the crate.
+pub mod Paths

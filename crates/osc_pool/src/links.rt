@@ -1,0 +1,97 @@
+// Blocks that follow one another by their links.
+ghost use Rattle.std.specs.Prelude.{◌≡◌, ◌-◌, ◌<◌, ◌≤◌, ◌^◌, IfOk, length, replicate, take};
+ghost use Rattle.std.specs.List.{range_with_len};
+ghost use Rattle.osc_pool.specs.Holding.{blocks_for};
+ghost use Rattle.osc_pool.specs.Paths.{behind, text, IsPath, IsWritten, AreWhole};
+
+use crate::limits::BLOCK_SIZE;
+use std::alloc::{AllocError, Global};
+
+/// A block of a pool.
+pub(crate) type Block = [u8; BLOCK_SIZE];
+
+/// How many blocks hold so many bytes.
+pub(crate) fn blocks_for(size: usize) -> usize
+    ensures { result ≡ blocks_for size }
+{
+    size.div_ceil(BLOCK_SIZE)
+}
+
+/// Links from each of so many blocks to the one after it.
+pub(crate) fn linked(alloc: Global, blocks: u32) -> Result<Vec<u32>, AllocError>
+    requires { blocks < 2 ^ 31 }
+    ensures { IfOk result (λ next. next.items ≡ range_with_len 1 blocks) }
+{
+    let mut next = Vec::with_capacity(alloc, blocks as usize)?;
+    for block in 0..blocks {
+        next.push(block + 1)?;
+    }
+    Ok(next)
+}
+
+/// So many times the same value.
+pub(crate) fn copies<T: Copy>(alloc: Global, value: T, count: u32) -> Result<Vec<T>, AllocError>
+    ensures { IfOk result (λ all. all.items ≡ replicate count value) }
+{
+    let mut all = Vec::with_capacity(alloc, count as usize)?;
+    all.resize(count as usize, value)?;
+    Ok(all)
+}
+
+/// The last of so many blocks, from the first on.
+pub(crate) fn last_of(next: &[u32], first: u32, count: usize) -> u32
+    requires some { 0 < count }
+    requires path { IsPath next.now count first (length next.now) }
+    ensures { result ≡ behind next.now (count - 1) first }
+{
+    let mut block = first;
+    for _step in 1..count {
+        block = next[block as usize];
+    }
+    block
+}
+
+/// Writes the bytes into blocks, from the first on, and answers the block behind them.
+pub(crate) fn write(blocks: &mut [Block], next: &[u32], first: u32, bytes: &[u8]) -> u32
+    requires linked { length next.now ≡ length blocks.old }
+    requires path { IsPath next.now (blocks_for (length bytes.now)) first (length blocks.old) }
+    requires whole { AreWhole blocks.old }
+    ensures { IsWritten blocks.old blocks.new next.now first result bytes.now }
+{
+    let mut block = first;
+    let mut rest = bytes;
+    while !rest.is_empty() {
+        let (piece, others) = rest.split_at(rest.len().min(BLOCK_SIZE));
+        fill(&mut blocks[block as usize], piece);
+        block = next[block as usize];
+        rest = others;
+    }
+    block
+}
+
+/// Writes the piece over the beginning of a block.
+fn fill(block: &mut Block, piece: &[u8])
+    requires { length piece.now ≤ 64 }
+    ensures taken { take (length piece.now) block.new ≡ piece.now }
+    ensures whole { length block.new ≡ 64 }
+{
+    block[..piece.len()].copy_from_slice(piece);
+}
+
+/// Reads as many bytes as `out` has room for, from the first block on.
+pub(crate) fn read(blocks: &[Block], next: &[u32], first: u32, out: &mut [u8])
+    requires linked { length next.now ≡ length blocks.now }
+    requires path { IsPath next.now (blocks_for (length out.old)) first (length blocks.now) }
+    requires whole { AreWhole blocks.now }
+    ensures { out.new
+        ≡ text blocks.now next.now (blocks_for (length out.old)) first (length out.old) }
+{
+    let mut block = first;
+    let mut done = 0;
+    while done < out.len() {
+        let end = out.len().min(done + BLOCK_SIZE);
+        out[done..end].copy_from_slice(&blocks[block as usize][..end - done]);
+        block = next[block as usize];
+        done = end;
+    }
+}

@@ -1,0 +1,90 @@
+// A pool of three blocks, whose chains come and go.
+ghost use Rattle.osc_pool.specs.Holding.{IsLive};
+
+use osc_atoms::Room;
+use osc_pool::{Chain, Pool};
+use std::alloc::Global;
+use std::process::Abort;
+use std::test::Fail;
+
+/// So many bytes that count up from the first one.
+fn counting(alloc: Global, first: u8, count: usize) -> Result<Vec<u8>, Fail> {
+    let mut bytes = Vec::with_capacity(alloc, count)?;
+    let mut byte = first;
+    for _ in 0..count {
+        bytes.push(byte)?;
+        byte = byte.wrapping_add(1);
+    }
+    Ok(bytes)
+}
+
+fn assert_reads<R: Abort>(
+    rt: &R,
+    alloc: Global,
+    pool: &Pool,
+    chain: &Chain,
+    bytes: &[u8],
+) -> Result<(), Fail>
+    requires { IsLive chain.now pool.now }
+{
+    let mut out = vec![in alloc; 0; chain.len()]?;
+    pool.read(chain, &mut out);
+    assert_eq!(rt; out.as_slice(), bytes);
+    Ok(())
+}
+
+/// The first chain has two blocks and the second one. The third takes those of the first.
+fn take_turns<R: Abort>(
+    rt: &R,
+    alloc: Global,
+    first_bytes: &[u8],
+    second_bytes: &[u8],
+    third_bytes: &[u8],
+) -> Result<(), Fail> {
+    let mut pool = Pool::open(alloc, 3)?;
+    let Ok(first) = pool.store(first_bytes) else {
+        return Err(Fail::new("the first is refused"));
+    };
+    assert_eq!(rt; pool.free(), 1);
+    let Ok(second) = pool.store(second_bytes) else {
+        return Err(Fail::new("the second is refused"));
+    };
+    assert_eq!(rt;
+        pool.store(second_bytes).err(),
+        Some(Room { need: 1, free: 0 })
+    );
+    assert_reads(rt, alloc, &pool, &first, first_bytes)?;
+    pool.give(first);
+    assert_eq!(rt; pool.free(), 2);
+    let Ok(third) = pool.store(third_bytes) else {
+        return Err(Fail::new("the third is refused"));
+    };
+    assert_reads(rt, alloc, &pool, &second, second_bytes)?;
+    assert_reads(rt, alloc, &pool, &third, third_bytes)?;
+    pool.give(second);
+    assert_reads(rt, alloc, &pool, &third, third_bytes)?;
+    assert_eq!(rt; pool.free(), 1);
+    Ok(())
+}
+
+#[test]
+fn a_chain_reads_its_bytes_while_others_come_and_go(rt: HostRuntime) -> Result<(), Fail> {
+    let alloc = rt.alloc();
+    let first = counting(alloc, 1, 65)?;
+    let second = counting(alloc, 100, 1)?;
+    let third = counting(alloc, 120, 128)?;
+    take_turns(&rt, alloc, &first, &second, &third)
+}
+
+#[test]
+fn no_bytes_need_no_block(rt: HostRuntime) -> Result<(), Fail> {
+    let mut pool = Pool::open(rt.alloc(), 0)?;
+    let Ok(chain) = pool.store(&[]) else {
+        return Err(Fail::new("refused"));
+    };
+    assert_eq!(rt; chain.len(), 0);
+    pool.read(&chain, &mut []);
+    pool.give(chain);
+    assert_eq!(rt; pool.free(), 0);
+    Ok(())
+}
