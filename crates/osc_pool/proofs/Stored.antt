@@ -169,7 +169,8 @@ module _ {blocks : List (List ℕ)} {next sizes : List ℕ} {first free : ℕ} (
     uses_stored b =
         let paths = paths_from next 0 sizes in
         let taken = path next (blocks_for (length bytes)) first in
-        let set_is : paths_from next 0 (set sizes first (length bytes)) ≡ set paths first taken = rw zero-add at (paths_set next 0 sizes first (length bytes)) in
+        let set_is : paths_from next 0 (set sizes first (length bytes)) ≡ set paths first taken = rw zero-add at (paths_set next 0 sizes first
+        (length bytes)) in
         let none : get_or paths first [] ≡ [] = path_at next 0 sizes first ∙ rw (first_vacant (omega arith)) refl in
         let none' : times b (get_or paths first []) ≡ 0 = ap (times b) none in
         let sums : sum_by (times b) (paths_from next 0 (set sizes first (length bytes))) ≡ sum_by (times b) (set paths first taken) =

@@ -24,7 +24,8 @@ pub record IsWriting (before now : List (List ℕ)) (next : List ℕ) (first blo
       → text later next (blocks_for (length rest)) block (length rest) ≡ rest
       → text later next (blocks_for (length bytes)) first (length bytes) ≡ bytes
 
-pub writing_begins : (before : List (List ℕ)) (next : List ℕ) (first : ℕ) (bytes : List ℕ) → AreWhole before → IsWriting before before next first first bytes bytes
+pub writing_begins : (before : List (List ℕ)) (next : List ℕ) (first : ℕ) (bytes : List ℕ) → AreWhole before
+    → IsWriting before before next first first bytes bytes
 writing_begins before next first bytes whole = record {
   left = λ b. omega arith;
   ends = refl;
@@ -39,7 +40,8 @@ module _ {before now : List (List ℕ)} {next : List ℕ} {first block : ℕ} {b
     (path_is : IsPath next (blocks_for (length bytes)) first (length before)) (some : 0 < length rest) where
   pub writing_inside : block < length now
   writing_inside =
-      let below : block < length before = path_inside next (blocks_for (length bytes)) first (length before) (blocks_for (length rest)) block path_is (omega arith) is.left in
+      let below : block < length before =
+      path_inside next (blocks_for (length bytes)) first (length before) (blocks_for (length rest)) block path_is (omega arith) is.left in
       omega (arith, is.long)
 
   module _ (piece others filled : List ℕ) (split : rest ≡ piece ++ others) (piece_long : length piece ≡ min 64 (length rest))
@@ -50,17 +52,19 @@ module _ {before now : List (List ℕ)} {next : List ℕ} {first block : ℕ} {b
     blocks_fewer : blocks_for (length rest) ≡ suc (blocks_for (length others))
     blocks_fewer = blocks_more (length rest) some ∙ ap (λ n. suc (blocks_for n)) fewer
 
-    rest_times : (b : ℕ) → times b (path next (blocks_for (length rest)) block) ≡ times b (block ∷ path next (blocks_for (length others)) (get_or next block 0))
+    rest_times : (b : ℕ) → times b (path next (blocks_for (length rest)) block)
+        ≡ times b (block ∷ path next (blocks_for (length others)) (get_or next block 0))
     rest_times b = ap (λ n. times b (path next n block)) blocks_fewer
 
     block_once : times block (path next (blocks_for (length others)) (get_or next block 0)) ≡ 0
-    block_once = omega (arith, rest_times block, times_head block (path next (blocks_for (length others)) (get_or next block 0)), is.left block, path_is.once block)
+    block_once =
+        omega (arith, rest_times block, times_head block (path next (blocks_for (length others)) (get_or next block 0)), is.left block, path_is.once block)
 
     outside : (b : ℕ) → times b (path next (blocks_for (length bytes)) first) ≡ 0 → b ≢ block
     outside b none same =
-        let there : times b (block ∷ path next (blocks_for (length others)) (get_or next block 0)) ≡ times b (b ∷ path next (blocks_for (length others)) (get_or next block 0)) =
-        ap (λ n. times b (n ∷ path next (blocks_for (length others)) (get_or next block 0))) (sym same) in
-        omega (arith, is.left b, rest_times b, there, times_head b (path next (blocks_for (length others)) (get_or next block 0)))
+        let others_path = path next (blocks_for (length others)) (get_or next block 0) in
+        let there : times b (block ∷ others_path) ≡ times b (b ∷ others_path) = ap (λ n. times b (n ∷ others_path)) (sym same) in
+        omega (arith, is.left b, rest_times b, there, times_head b others_path)
 
     filled_whole : AreWhole (set now block filled)
     filled_whole b within = elim (cases_eq b block) [
@@ -134,11 +138,13 @@ module _ {blocks : List (List ℕ)} {next : List ℕ} {first block size done : �
       → IsReading blocks next first (get_or next block 0) size end (put_mid done (end - done) out piece)
   reading_more end piece whole ends reads =
       let fewer : size - done - 64 ≡ size - end = omega arith in
-      let blocks_fewer : blocks_for (size - done) ≡ suc (blocks_for (size - end)) = blocks_more (size - done) (omega arith) ∙ ap (λ n. suc (blocks_for n)) fewer in
+      let blocks_fewer : blocks_for (size - done) ≡ suc (blocks_for (size - end)) =
+      blocks_more (size - done) (omega arith) ∙ ap (λ n. suc (blocks_for n)) fewer in
       let large : end - done ≡ min 64 (size - done) = omega arith in
       let piece_long : length piece ≡ end - done =
       omega (arith, ap length reads, length-take (end - done) (get_or blocks block []), whole block reading_inside) in
-      let times_left : (b : ℕ) → times b (path next (blocks_for (size - done)) block) ≡ times b (block ∷ path next (blocks_for (size - end)) (get_or next block 0)) =
+      let times_left : (b : ℕ) → times b (path next (blocks_for (size - done)) block)
+      ≡ times b (block ∷ path next (blocks_for (size - end)) (get_or next block 0)) =
       λ b. ap (λ n. times b (path next n block)) blocks_fewer in
       let rest = text blocks next (blocks_for (size - end)) (get_or next block 0) (size - end) in
       let text_left : text blocks next (blocks_for (size - done)) block (size - done) ≡ piece ++ rest =

@@ -53,7 +53,8 @@ AreWhole blocks =
     (block : ℕ) → block < length blocks → length (slice_index_or blocks block []) ≡ 64
 
 -- bytes are written on a path, and other blocks stay; the block behind the path is this one
-pub record IsWritten (before after : List (List ℕ)) (next : List ℕ) (first behind_it : ℕ) (bytes : List ℕ) : Type 0 where
+pub record IsWritten (before after : List (List ℕ)) (next : List ℕ) (first behind_it : ℕ)
+    (bytes : List ℕ) : Type 0 where
   pub ends : behind_it ≡ behind next (blocks_for (length bytes)) first
   pub written : text after next (blocks_for (length bytes)) first (length bytes) ≡ bytes
   pub others : (block : ℕ) → times block (path next (blocks_for (length bytes)) first) ≡ 0

@@ -17,5 +17,6 @@ bounds-next-block c =
 pub loop-rest-preserved : goal.loop-rest-preserved
 loop-rest-preserved c =
     let some = eqb-false (length c.loop-rest.rest.now) 0 (sym c.is_empty.ensures ∙ c.loop-rest-test.true) in
-    writing_more c.loop-rest.invariant c.requires.path (omega arith) c.split_at.result.0.now c.split_at.result.1.now c.fill.new.block c.split_at.ensures.by_index.0
+    writing_more c.loop-rest.invariant c.requires.path (omega arith) c.split_at.result.0.now c.split_at.result.1.now c.fill.new.block
+    c.split_at.ensures.by_index.0
     (omega (arith, c.min.ensures, c.split_at.ensures.front_len)) c.fill.ensures.taken c.fill.ensures.whole _ refl

@@ -22,20 +22,25 @@ index_mut-requires-2 c =
 
 pub invariant_of-self : goal.invariant_of-self
 invariant_of-self c =
-    (given c.args.chain c.args.self.now c.self.invariant c.self.view_is c.requires c.if-chain-eq0.false c.blocks_for-count.ensures c.deref.ensures.value c.last_of-last.ensures).sound
+    (given c.args.chain c.args.self.now c.self.invariant c.self.view_is c.requires c.if-chain-eq0.false c.blocks_for-count.ensures
+    c.deref.ensures.value c.last_of-last.ensures).sound
 
 pub returns-clause-given : goal.returns-clause-given
 returns-clause-given c =
-    (given c.args.chain c.args.self.now c.self.invariant c.self.view_is c.requires c.if-chain-eq0.false c.blocks_for-count.ensures c.deref.ensures.value c.last_of-last.ensures).given
+    (given c.args.chain c.args.self.now c.self.invariant c.self.view_is c.requires c.if-chain-eq0.false c.blocks_for-count.ensures
+    c.deref.ensures.value c.last_of-last.ensures).given
 
 pub returns-clause-kept : goal.returns-clause-kept
 returns-clause-kept c =
-    (given c.args.chain c.args.self.now c.self.invariant c.self.view_is c.requires c.if-chain-eq0.false c.blocks_for-count.ensures c.deref.ensures.value c.last_of-last.ensures).kept
+    (given c.args.chain c.args.self.now c.self.invariant c.self.view_is c.requires c.if-chain-eq0.false c.blocks_for-count.ensures
+    c.deref.ensures.value c.last_of-last.ensures).kept
 
 pub returns-clause-used : goal.returns-clause-used
 returns-clause-used c =
-    (given c.args.chain c.args.self.now c.self.invariant c.self.view_is c.requires c.if-chain-eq0.false c.blocks_for-count.ensures c.deref.ensures.value c.last_of-last.ensures).used
+    (given c.args.chain c.args.self.now c.self.invariant c.self.view_is c.requires c.if-chain-eq0.false c.blocks_for-count.ensures
+    c.deref.ensures.value c.last_of-last.ensures).used
 
 pub returns-clause-limit : goal.returns-clause-limit
 returns-clause-limit c =
-    (given c.args.chain c.args.self.now c.self.invariant c.self.view_is c.requires c.if-chain-eq0.false c.blocks_for-count.ensures c.deref.ensures.value c.last_of-last.ensures).limit
+    (given c.args.chain c.args.self.now c.self.invariant c.self.view_is c.requires c.if-chain-eq0.false c.blocks_for-count.ensures
+    c.deref.ensures.value c.last_of-last.ensures).limit

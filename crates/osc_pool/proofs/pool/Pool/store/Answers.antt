@@ -22,7 +22,10 @@ returns-then-is_empty-clause-full c =
 
 pub write-self-inside-requires-clause-path : goal.write-self-inside-requires-clause-path
 write-self-inside-requires-clause-path c =
-    rw (c.deref.ensures.value, c.deref_mut.ensures.value) (free_path c.self.invariant (blocks_for (length c.args.bytes.now)) (omega (arith, c.blocks_for-need.ensures)))
+    rw (c.deref.ensures.value, c.deref_mut.ensures.value) (free_path c.self.invariant (blocks_for (length c.args.bytes.now)) (omega (
+      arith,
+      c.blocks_for-need.ensures,
+    )))
 
 pub index_mut-requires : goal.index_mut-requires
 index_mut-requires c =
@@ -34,7 +37,8 @@ pub invariant_of-self : goal.invariant_of-self
 invariant_of-self c =
     let some = eqb-false (length c.args.bytes.now) 0 (sym c.is_empty.ensures ∙ c.if-is_empty.false) in
     (stored c.args.self.now c.args.bytes.now c.self.invariant c.self.view_is (omega arith) c.blocks_for-need.ensures (omega arith)
-    c.deref_mut.ensures.value c.deref.ensures.value (with_items_is c.self.inside.blocks c.write-self-inside.new.blocks (omega arith)) c.write-self-inside.ensures).sound
+    c.deref_mut.ensures.value c.deref.ensures.value (with_items_is c.self.inside.blocks c.write-self-inside.new.blocks (omega arith))
+    c.write-self-inside.ensures).sound
 
 pub returns-clause-full : goal.returns-clause-full
 returns-clause-full c =
@@ -45,34 +49,40 @@ pub returns-clause-stored : goal.returns-clause-stored
 returns-clause-stored c =
     let some = eqb-false (length c.args.bytes.now) 0 (sym c.is_empty.ensures ∙ c.if-is_empty.false) in
     (stored c.args.self.now c.args.bytes.now c.self.invariant c.self.view_is (omega arith) c.blocks_for-need.ensures (omega arith)
-    c.deref_mut.ensures.value c.deref.ensures.value (with_items_is c.self.inside.blocks c.write-self-inside.new.blocks (omega arith)) c.write-self-inside.ensures).stored
+    c.deref_mut.ensures.value c.deref.ensures.value (with_items_is c.self.inside.blocks c.write-self-inside.new.blocks (omega arith))
+    c.write-self-inside.ensures).stored
 
 pub returns-clause-new : goal.returns-clause-new
 returns-clause-new c =
     let some = eqb-false (length c.args.bytes.now) 0 (sym c.is_empty.ensures ∙ c.if-is_empty.false) in
     (stored c.args.self.now c.args.bytes.now c.self.invariant c.self.view_is (omega arith) c.blocks_for-need.ensures (omega arith)
-    c.deref_mut.ensures.value c.deref.ensures.value (with_items_is c.self.inside.blocks c.write-self-inside.new.blocks (omega arith)) c.write-self-inside.ensures).new
+    c.deref_mut.ensures.value c.deref.ensures.value (with_items_is c.self.inside.blocks c.write-self-inside.new.blocks (omega arith))
+    c.write-self-inside.ensures).new
 
 pub returns-clause-kept : goal.returns-clause-kept
 returns-clause-kept c =
     let some = eqb-false (length c.args.bytes.now) 0 (sym c.is_empty.ensures ∙ c.if-is_empty.false) in
     (stored c.args.self.now c.args.bytes.now c.self.invariant c.self.view_is (omega arith) c.blocks_for-need.ensures (omega arith)
-    c.deref_mut.ensures.value c.deref.ensures.value (with_items_is c.self.inside.blocks c.write-self-inside.new.blocks (omega arith)) c.write-self-inside.ensures).kept
+    c.deref_mut.ensures.value c.deref.ensures.value (with_items_is c.self.inside.blocks c.write-self-inside.new.blocks (omega arith))
+    c.write-self-inside.ensures).kept
 
 pub returns-clause-ok : goal.returns-clause-ok
 returns-clause-ok c =
     let some = eqb-false (length c.args.bytes.now) 0 (sym c.is_empty.ensures ∙ c.if-is_empty.false) in
     (stored c.args.self.now c.args.bytes.now c.self.invariant c.self.view_is (omega arith) c.blocks_for-need.ensures (omega arith)
-    c.deref_mut.ensures.value c.deref.ensures.value (with_items_is c.self.inside.blocks c.write-self-inside.new.blocks (omega arith)) c.write-self-inside.ensures).ok
+    c.deref_mut.ensures.value c.deref.ensures.value (with_items_is c.self.inside.blocks c.write-self-inside.new.blocks (omega arith))
+    c.write-self-inside.ensures).ok
 
 pub returns-clause-used : goal.returns-clause-used
 returns-clause-used c =
     let some = eqb-false (length c.args.bytes.now) 0 (sym c.is_empty.ensures ∙ c.if-is_empty.false) in
     (stored c.args.self.now c.args.bytes.now c.self.invariant c.self.view_is (omega arith) c.blocks_for-need.ensures (omega arith)
-    c.deref_mut.ensures.value c.deref.ensures.value (with_items_is c.self.inside.blocks c.write-self-inside.new.blocks (omega arith)) c.write-self-inside.ensures).used
+    c.deref_mut.ensures.value c.deref.ensures.value (with_items_is c.self.inside.blocks c.write-self-inside.new.blocks (omega arith))
+    c.write-self-inside.ensures).used
 
 pub returns-clause-limit : goal.returns-clause-limit
 returns-clause-limit c =
     let some = eqb-false (length c.args.bytes.now) 0 (sym c.is_empty.ensures ∙ c.if-is_empty.false) in
     (stored c.args.self.now c.args.bytes.now c.self.invariant c.self.view_is (omega arith) c.blocks_for-need.ensures (omega arith)
-    c.deref_mut.ensures.value c.deref.ensures.value (with_items_is c.self.inside.blocks c.write-self-inside.new.blocks (omega arith)) c.write-self-inside.ensures).limit
+    c.deref_mut.ensures.value c.deref.ensures.value (with_items_is c.self.inside.blocks c.write-self-inside.new.blocks (omega arith))
+    c.write-self-inside.ensures).limit
