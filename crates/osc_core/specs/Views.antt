@@ -39,12 +39,13 @@ pub record AreRegistered (tree : Registry) (hits : HitList) (next : ℕ) : Type 
   pub ids : All (λ method. method.id < next) tree.methods
   pub room : tree.method_limit ≤ hits.limit
 
--- the parts of a server fit together
+-- the parts of a server fit together, and there is room for the messages of one unit
 pub record IsRunning (tree : Registry) (hits : HitList) (stock : Stock) (queue : Timed ℕ)
-    (next_id next_unit callers caller_limit : ℕ) : Type 0 where
+    (next_id next_unit callers caller_limit bytes_room : ℕ) : Type 0 where
   pub methods : AreRegistered tree hits next_id
   pub units : AreQueued stock queue next_unit
   pub few_callers : callers ≤ caller_limit
+  pub reserved : 65508 ≤ bytes_room
 
 -- an item with the number is the first, and the others are these
 pub record HasFirst (number : ℕ) (items others : List (Item ℕ)) : Type 0 where

@@ -17,7 +17,8 @@ ghost use Rattle.osc_core.specs.Playing.{tables};
 use crate::answers::{Enrolled, Releasing, Submitted, Ticking};
 use crate::calls::release_unit;
 use crate::entry_answers::Leaving;
-use crate::store::Store;
+use crate::messages::Messages;
+use crate::store::{MAX_STORED, Store};
 use crate::units::{enter_all, take_first};
 use osc_atoms::Room;
 use osc_method::Method;
@@ -39,6 +40,8 @@ pub(crate) struct Server {
     queue: Queue<u64>,
     /// Their messages, by the units' numbers.
     store: Store,
+    /// The messages of the unit that is released.
+    bytes: Vec<u8>,
     clock: u64,
     next_id: u32,
     next_unit: u64,
@@ -48,6 +51,7 @@ pub(crate) struct Server {
 
 impl Model for Server {
     ghost use Rattle.osc_model.specs.State.{State};
+    ghost use Rattle.std.specs.Prelude.{vec_capacity};
     ghost use Rattle.osc_core.specs.Views.{queue_of, IsRunning};
 
     ghost Value = { State };
@@ -72,7 +76,8 @@ impl Model for Server {
       recorded = 0;
     } };
 
-    ghost invariant = { λ s. IsRunning s.tree s.hits s.store s.queue s.next_id s.next_unit s.callers s.caller_limit };
+    ghost invariant = { λ s. IsRunning s.tree s.hits s.store s.queue s.next_id s.next_unit s.callers s.caller_limit
+        (vec_capacity s.bytes) };
 }
 
 impl Server {
@@ -84,6 +89,7 @@ impl Server {
             hits: Hits::open(alloc, caps.methods())?,
             queue: Queue::open(alloc, caps.units())?,
             store: Store::open(alloc, caps.units(), caps.blocks())?,
+            bytes: Vec::with_capacity(alloc, MAX_STORED)?,
             clock: 1,
             next_id: 0,
             next_unit: 0,
@@ -222,7 +228,8 @@ impl Server {
         if due > self.clock {
             return Releasing::NothingDue { next: Some(due) };
         }
-        let messages = self.store.messages(unit);
+        let count = self.store.read(unit, &mut self.bytes);
+        let messages = Messages::new(count, &self.bytes);
         match release_unit(
             &self.tree,
             &mut self.hits,

@@ -1,45 +1,47 @@
-// The messages of the queued units, in room that is reserved at opening.
+// The messages of the queued units, in blocks that are reserved at opening.
 ghost use Rattle.osc_atoms.specs.declared.limits.TheConstants.{MAX_BYTES};
-ghost use Rattle.std.specs.Prelude.{◌≡◌, ◌+◌, ◌/◌, ◌<◌, ◌≤◌, ◌^◌, ◌==◌, ◌++◌, ◌∷◌, [], length, map, take, drop, remove, Contains, IsTrue, IfOk, vec_len, vec_capacity};
-ghost use Rattle.std.specs.List.{list_all, list_any};
+ghost use Rattle.std.specs.Prelude.{◌≡◌, ◌+◌, ◌<◌, ◌≤◌, ◌^◌, ◌++◌, ◌∷◌, [], length, map, remove, slice_get, Some, Contains, IsTrue, IfOk, vec_len, vec_capacity};
+ghost use Rattle.std.specs.List.{list_all};
 ghost use Rattle.osc_message.specs.Reading.{is_message};
 ghost use Rattle.osc_packet.specs.Units.{stored_size, blocks};
 ghost use Rattle.osc_atoms.specs.Atoms.{word};
-ghost use Rattle.osc_core.specs.Frames.{framed};
+ghost use Rattle.osc_core.specs.Frames.{framed, unframed, IsFramed};
 ghost use Rattle.osc_core.specs.Kept.{Kept, kept_blocks, messages_by, without_unit};
-ghost use Rattle.osc_core.specs.Sections.{sizes, has_section, section_by, start_by, without_section};
+ghost use Rattle.osc_core.specs.Sections.{has_section, section_by, without_section};
 
-use crate::messages::Messages;
 use osc_packet::{Unit, UnitMessages};
+use osc_pool::{Chain, Pool};
 use std::alloc::{AllocError, Global};
 use std::marker::Model;
+
+/// How many bytes the messages of one unit take at most, each after its length.
+pub(crate) const MAX_STORED: usize = 65_508;
 
 /// The messages of queued units, by the units' numbers. A contract sees what is kept in the order of entering, and for
 /// how many units and blocks of 64 bytes there is room.
 ///
-/// The messages stand one after another, each after its length in 4 bytes. No call but `open` takes memory.
+/// The messages of a unit are one chain, each after its length in 4 bytes. No call but `open` takes memory.
 #[derive(Drop)]
 pub(crate) struct Store {
-    bytes: Vec<u8>,
-    /// One for each unit, in the order of its bytes.
+    pool: Pool,
+    /// One for each unit, in the order of entering.
     sections: Vec<Section>,
+    /// The messages of the unit that enters.
+    bytes: Vec<u8>,
     places: u32,
-    limit: u32,
-    /// How many blocks the units take.
-    used: u32,
 }
 
-/// The part of the bytes that a unit takes.
-#[derive(Clone, Copy)]
+/// What is kept of a unit.
+#[derive(Drop)]
 pub(crate) struct Section {
     unit: u64,
-    size: u32,
     /// How many messages there are.
     count: u32,
+    chain: Chain,
 }
 
 impl Model for Store {
-    ghost use Rattle.std.specs.Prelude.{vec_capacity};
+    ghost use Rattle.std.specs.Prelude.{length, vec_capacity};
     ghost use Rattle.osc_core.specs.Kept.{Stock};
     ghost use Rattle.osc_core.specs.Sections.{kept_of, IsStock};
 
@@ -47,12 +49,12 @@ impl Model for Store {
 
     ghost view = { λ s. record {
       places = s.places;
-      limit = s.limit;
-      kept = kept_of s.sections.items s.bytes.items;
+      limit = length s.pool;
+      kept = kept_of s.pool s.sections.items;
     } };
 
-    ghost invariant = { λ s. IsStock s.sections.items s.bytes.items s.used s.limit s.places (vec_capacity s.bytes)
-        (vec_capacity s.sections) };
+    ghost invariant = { λ s. IsStock s.sections.items s.pool s.places (vec_capacity s.sections)
+        (vec_capacity s.bytes) };
 }
 
 impl Store {
@@ -65,11 +67,10 @@ impl Store {
         ensures limit { IfOk result (λ store. store.limit ≡ blocks) }
     {
         Ok(Store {
-            bytes: Vec::with_capacity(alloc, 64 * blocks as usize)?,
+            pool: Pool::open(alloc, blocks)?,
             sections: Vec::with_capacity(alloc, units as usize)?,
+            bytes: Vec::with_capacity(alloc, MAX_STORED)?,
             places: units,
-            limit: blocks,
-            used: 0,
         })
     }
 
@@ -77,7 +78,7 @@ impl Store {
     pub(crate) fn free(&self) -> u32
         ensures { result + kept_blocks self.now.kept ≡ self.now.limit }
     {
-        self.limit - self.used
+        self.pool.free()
     }
 
     /// Keeps the messages of a unit under its number.
@@ -89,47 +90,62 @@ impl Store {
         ensures places { self.new.places ≡ self.old.places }
         ensures limit { self.new.limit ≡ self.old.limit }
     {
-        let section = Section {
-            unit: number,
-            size: unit.stored(),
-            count: unit.count(),
+        spell(&mut self.bytes, unit);
+        let chain = match self.pool.store(&self.bytes) {
+            Ok(chain) => chain,
+            Err(_) => unreachable!(),
         };
-        append(&mut self.bytes, unit.messages());
-        enter(&mut self.sections, section);
-        self.used += blocks_of(section.size);
+        let count = unit.count();
+        enter(
+            &mut self.sections,
+            Section {
+                unit: number,
+                count,
+                chain,
+            },
+        );
     }
 
-    /// The messages that are kept under a number.
-    pub(crate) fn messages(&self, number: u64) -> Messages<'_>
-        requires { Contains (map (λ one. one.unit) self.now.kept) number }
-        ensures value { result ≡ messages_by self.now.kept number }
-        ensures few { length result < 2 ^ 32 }
+    /// Reads the messages that are kept under a number into a list of bytes that has room for them, and tells how many
+    /// they are.
+    pub(crate) fn read(&self, number: u64, bytes: &mut Vec<u8>) -> u32
+        requires there { Contains (map (λ one. one.unit) self.now.kept) number }
+        requires room { 65508 ≤ vec_capacity bytes.old }
+        ensures framed { IsFramed result bytes.new.items }
+        ensures messages { unframed result bytes.new.items ≡ messages_by self.now.kept number }
+        ensures capacity { vec_capacity bytes.old ≤ vec_capacity bytes.new }
     {
-        let found = find(&self.sections, number);
-        let bytes = part(&self.bytes, found.start, found.section.size as usize);
-        Messages::new(found.section.count, bytes)
+        let place = find(&self.sections, number);
+        let section = &self.sections[place];
+        fit(bytes, section.chain.len());
+        self.pool.read(&section.chain, bytes);
+        section.count
     }
 
-    /// Gives up the messages that are kept under a number. Those behind them close up.
+    /// Gives up the messages that are kept under a number.
     pub(crate) fn give(&mut self, number: u64)
         requires { Contains (map (λ one. one.unit) self.old.kept) number }
         ensures kept { self.new.kept ≡ without_unit self.old.kept number }
         ensures places { self.new.places ≡ self.old.places }
         ensures limit { self.new.limit ≡ self.old.limit }
     {
-        let found = find(&self.sections, number);
-        cut(&mut self.bytes, found.start, found.section.size as usize);
-        self.sections.remove(found.place);
-        self.used -= blocks_of(found.section.size);
+        let place = find(&self.sections, number);
+        let Section { chain, .. } = self.sections.remove(place);
+        self.pool.give(chain);
     }
 }
 
-/// How many blocks of 64 bytes hold so many bytes.
-fn blocks_of(size: u32) -> u32
-    requires { size < 2 ^ 31 }
-    ensures { result ≡ (size + 63) / 64 }
+/// Writes the messages of a unit, each after its length, in place of what was there.
+fn spell(bytes: &mut Vec<u8>, unit: &Unit<'_>)
+    requires { 65508 ≤ vec_capacity bytes.old }
+    ensures items { bytes.new.items ≡ framed unit.now.messages }
+    ensures small { stored_size unit.now.messages ≤ 65508 }
+    ensures read { IsTrue (list_all (is_message MAX_BYTES) unit.now.messages) }
+    ensures capacity { vec_capacity bytes.old ≤ vec_capacity bytes.new }
 {
-    (size + 63) / 64
+    prove!(unit.stored() as usize <= MAX_STORED);
+    bytes.clear();
+    append(bytes, unit.messages());
 }
 
 /// Adds the messages, each after its length, in room that is there.
@@ -170,23 +186,16 @@ fn add(bytes: &mut Vec<u8>, more: &[u8])
     }
 }
 
-/// So many bytes, from a place on.
-fn part(bytes: &[u8], start: usize, size: usize) -> &[u8]
-    requires { start + size ≤ length bytes.now }
-    ensures { result.now ≡ take size (drop start bytes.now) }
-{
-    &bytes[start..][..size]
-}
-
-/// Takes so many bytes out, from a place on. Those behind them close up.
-fn cut(bytes: &mut Vec<u8>, start: usize, size: usize)
-    requires { start + size ≤ vec_len bytes.old }
-    ensures items { bytes.new.items
-        ≡ take start bytes.old.items ++ drop (start + size) bytes.old.items }
+/// Makes the list as long as this, in room that is there.
+fn fit(bytes: &mut Vec<u8>, size: usize)
+    requires { size ≤ vec_capacity bytes.old }
+    ensures len { length bytes.new.items ≡ size }
     ensures capacity { vec_capacity bytes.old ≤ vec_capacity bytes.new }
 {
-    bytes.copy_within(start + size.., start);
-    bytes.truncate(bytes.len() - size);
+    match bytes.resize(size, 0) {
+        Ok(()) => {}
+        Err(_) => unreachable!(),
+    }
 }
 
 /// A section enters behind the others, in room that is there.
@@ -201,34 +210,17 @@ fn enter(sections: &mut Vec<Section>, section: Section)
     }
 }
 
-/// Where a unit's section stands, and where its bytes begin.
-#[derive(Clone, Copy)]
-struct Found {
-    place: usize,
-    start: usize,
-    section: Section,
-}
-
-/// The first section of a unit.
-fn find(sections: &[Section], number: u64) -> Found
-    requires there { IsTrue (has_section sections.now number) }
-    requires small { sizes sections.now < 2 ^ 32 }
-    ensures section { result.section ≡ section_by sections.now number }
-    ensures start { result.start ≡ start_by sections.now number }
-    ensures place { result.place < length sections.now }
-    ensures others { remove sections.now result.place ≡ without_section sections.now number }
+/// The place of the first section of a unit.
+fn find(sections: &[Section], number: u64) -> usize
+    requires { IsTrue (has_section sections.now number) }
+    ensures within { result < length sections.now }
+    ensures section { slice_get sections.now result ≡ Some (section_by sections.now number) }
+    ensures others { remove sections.now result ≡ without_section sections.now number }
 {
-    let mut start = 0;
     for place in 0..sections.len() {
-        let section = sections[place];
-        if section.unit == number {
-            return Found {
-                place,
-                start,
-                section,
-            };
+        if sections[place].unit == number {
+            return place;
         }
-        start += section.size as usize;
     }
     unreachable!()
 }

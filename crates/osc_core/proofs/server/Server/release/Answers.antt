@@ -5,6 +5,7 @@ use Rattle.osc_model.specs.Step.{decided, calls_from, hits_of, invocations_of}
 use Rattle.osc_record.specs.Writing.{with_release}
 use Rattle.osc_core.specs.Calls.{hit_by}
 use Rattle.osc_core.specs.Due.{IsDue}
+use Rattle.osc_core.specs.Frames.{unframed}
 use Rattle.osc_core.specs.Kept.{messages_by}
 use Rattle.osc_core.specs.Recorded.{TellsRoom, with_hits}
 use Rattle.osc_core.specs.contracts.server.Server.{the_view}
@@ -20,8 +21,8 @@ returns-in_default-clause-boxes g c = hears_nothing _ _ refl
 pub returns-then-due-self-clause-boxes : goal.returns-then-due-self-clause-boxes
 returns-then-due-self-clause-boxes g c = hears_nothing _ _ refl
 
-pub messages-messages-requires : goal.messages-messages-requires
-messages-messages-requires g c =
+pub read-count-requires-clause-there : goal.read-count-requires-clause-there
+read-count-requires-clause-there g c =
     let s = c.self.inside in
     first_kept s.store.kept s.queue.items c.in-Some.due c.in-Some.unit c.in-Some.field-0-2.now c.in-Some.ensures.head c.self.invariant.units.kept
 
@@ -49,7 +50,7 @@ returns-in-Ok-clause-answer g c =
     let due = first_answer (the_view s) s.store.kept s.queue.items c.in-Some.due unit c.in-Some.field-0-2.now refl c.in-Some.ensures.head
     (omega (arith, c.if-due-self.false)) in
     let item = is_item (the_view s) s.store.kept s.queue.items unit (hits_of calls) refl c.self.invariant.units.kept due in
-    let kept = c.messages-messages.ensures.value in
+    let kept = c.new-messages.ensures.value ∙ ap (unframed c.read-count.result) c.deref.ensures.value ∙ c.read-count.ensures.messages in
     let begun = with_release c.args.recorder.now c.args.caller unit c.in-Ok.calls in
     let invocations = ap (λ (state : State). (decided state release).invocations) (sym c.self.view_is) ∙ item.invocations_are in
     record {
@@ -72,8 +73,9 @@ returns-in-Ok-clause-boxes g c =
     (omega (arith, c.if-due-self.false)) in
     let item = is_item (the_view s) s.store.kept s.queue.items unit (hits_of calls) refl c.self.invariant.units.kept due in
     let invocations = ap (λ (state : State). (decided state release).invocations) (sym c.self.view_is) ∙ item.invocations_are in
+    let kept = c.new-messages.ensures.value ∙ ap (unframed c.read-count.result) c.deref.ensures.value ∙ c.read-count.ensures.messages in
     hear_same _ _ _ _ c.in-Ok.ensures.boxes
-    (ap (λ (l : List (List ℕ)). invocations_of unit (calls_from s.tree.methods 0 l)) c.messages-messages.ensures.value ∙ sym invocations)
+    (ap (λ (l : List (List ℕ)). invocations_of unit (calls_from s.tree.methods 0 l)) kept ∙ sym invocations)
 
 pub returns-in-Err-clause-answer : goal.returns-in-Err-clause-answer
 returns-in-Err-clause-answer g c =
@@ -82,8 +84,9 @@ returns-in-Err-clause-answer g c =
     let calls = calls_from s.tree.methods 0 (messages_by s.store.kept unit) in
     let due = first_answer (the_view s) s.store.kept s.queue.items c.in-Some.due unit c.in-Some.field-0-2.now refl c.in-Some.ensures.head
     (omega (arith, c.if-due-self.false)) in
-    let many : length (calls_from s.tree.methods 0 c.messages-messages.result) ≡ length (hits_of calls) =
-    ap (λ (l : List (List ℕ)). length (calls_from s.tree.methods 0 l)) c.messages-messages.ensures.value ∙ sym (length-hits_of calls) in
+    let kept = c.new-messages.ensures.value ∙ ap (unframed c.read-count.result) c.deref.ensures.value ∙ c.read-count.ensures.messages in
+    let many : length (calls_from s.tree.methods 0 c.new-messages.result) ≡ length (hits_of calls) =
+    ap (λ (l : List (List ℕ)). length (calls_from s.tree.methods 0 l)) kept ∙ sym (length-hits_of calls) in
     record {
       unit = unit;
       hits = hits_of calls;

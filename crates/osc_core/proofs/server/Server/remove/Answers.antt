@@ -18,6 +18,7 @@ invariant_of-self-2 c = record {
   };
   units = c.self.invariant.units;
   few_callers = c.self.invariant.few_callers;
+  reserved = c.self.invariant.reserved;
 }
 
 pub returns-clause-others : goal.returns-clause-others
