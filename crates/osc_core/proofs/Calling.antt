@@ -1,17 +1,10 @@
 -- Methods by their ids, and the calls of the methods that match.
-use Rattle.std.proofs.Common.{◌≡◌, ◌≢◌, ℕ, suc, ◌+◌, ◌≤◌, ◌==◌, Bool, true, false, cond, List, [], ◌∷◌, ◌++◌, length, length-append, map, is_some, find, get_or, Option, Some, None, All, Contains, inl, inr, refl, sym, ap, ◌∙◌, arith}
-use Rattle.std.specs.List.{AllPairs}
-use Rattle.std.specs.Option.{option_map}
-use Rattle.std.specs.List.Sorted.{IsPermutation}
-use Rattle.std.proofs.lemmas.Bool.{cond-false, eq-eqb, eqb-true, cases_order}
-use Rattle.std.proofs.lemmas.List.{append-nil, get_or_default, length-map}
-use Rattle.std.proofs.lemmas.List.Elements.{All-cons, All-head, All-tail, All-nil, All-filter, All-contains}
-use Rattle.std.proofs.lemmas.List.Sorted.{All-permutation, length_permutation}
-use Rattle.std.proofs.lemmas.List.Sums.{length-filter, count_by-le-length}
-use Rattle.osc_pattern.specs.Patterns.{matches}
+use Rattle.std.proofs.Common.{◌≡◌, ℕ, suc, ◌+◌, Bool, true, false, cond, List, [], ◌∷◌, ◌++◌, length, length-append, map, is_some, Some, All, Contains, refl, sym, ap, ◌∙◌, arith}
+use Rattle.std.proofs.lemmas.Bool.{cond-false}
+use Rattle.std.proofs.lemmas.List.{append-nil, length-map}
 use Rattle.osc_pattern.specs.Methods.{Method}
-use Rattle.osc_tree.specs.Registry.{Registry, IsLawful, address_by_id}
-use Rattle.osc_tree.specs.Matching.{matched, matching, matching_ids}
+use Rattle.osc_tree.specs.Registry.{address_by_id}
+use Rattle.osc_tree.specs.Matching.{matching, matching_ids}
 use Rattle.osc_method.specs.declared.call.Call.{Call as CodeCall}
 use Rattle.osc_message.specs.Reading.{pattern_of}
 use Rattle.osc_message.specs.Arguments.{unknown_of}
