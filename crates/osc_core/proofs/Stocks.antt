@@ -4,6 +4,7 @@ use Rattle.std.specs.List.{AllByRecursion, list_all}
 use Rattle.std.proofs.lemmas.List.{map-append}
 use Rattle.std.proofs.lemmas.Option.{get_or_from_slice_get}
 use Rattle.osc_message.specs.Reading.{is_message}
+use Rattle.osc_model.proofs.Calls.{all_append}
 use Rattle.osc_packet.specs.Units.{stored_size}
 use Rattle.osc_pool.specs.Holding.{blocks_for, used_blocks, held_by, AreApart, IsNew, KeepsLive, KeepsOthers}
 use Rattle.osc_core.specs.declared.store.Section.{Section}
@@ -13,15 +14,12 @@ use Rattle.osc_core.specs.Sections.{kept_by, kept_of, IsStored, AreAllApart, IsS
 use Rattle.osc_core.proofs.Storing.{length-framed, blocks-append}
 use Rattle.osc_core.proofs.Finding.{has_kept, found_is, found_messages, stored_messages, all_still, live_still, left_of}
 
-all-append : (P : Section → Type 0) (sections : List Section) (one : Section) → AllByRecursion P sections → P one → AllByRecursion P (sections ++ one ∷ [])
-all-append P [] one all is = (is, tt)
-all-append P (first ∷ sections) one all is = (all.0, all-append P sections one all.1 is)
-
 apart-append : (held : List (List ℕ)) (sections : List Section) (one : Section) → AllByRecursion (IsStored held) sections → AreAllApart sections
     → IsNew one.chain held → AreAllApart (sections ++ one ∷ [])
 apart-append held [] one stored apart new = (tt, tt)
 apart-append held (first ∷ sections) one stored apart new = (
-  all-append (λ other. AreApart first.chain other.chain) sections one apart.0 (λ some more same. new first.chain stored.0.live more some (sym same)),
+  all_append (λ other. AreApart first.chain other.chain) sections (one ∷ []) apart.0
+      (λ some more same. new first.chain stored.0.live more some (sym same), tt),
   apart-append held sections one stored.1 apart.1 new,
 )
 
@@ -54,7 +52,7 @@ put_is {sections} {held} {later} one messages bytes new_room new_bytes_room is s
     let size : length bytes ≡ stored_size messages = ap length spelled ∙ length-framed messages in
     record {
       stock = record {
-        stored = all-append (IsStored later) sections one still.0 stored;
+        stored = all_append (IsStored later) sections (one ∷ []) still.0 (stored, tt);
         apart = apart-append held sections one is.stored is.apart new;
         counted = used ∙ omega (
           arith,
