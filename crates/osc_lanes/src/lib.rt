@@ -5,6 +5,8 @@
 mod acts;
 mod gate;
 pub mod laws;
+mod part;
+mod performing;
 mod plan;
 mod playing;
 mod stops;
@@ -12,5 +14,7 @@ mod tally;
 mod worker;
 
 pub use gate::{Gate, OpenGate};
+pub use part::{LanePart, LaneTold};
+pub use performing::{Performed, perform};
 pub use plan::{LaneEnd, LanePlan};
 pub use playing::play;

@@ -1,0 +1,118 @@
+-- What a performance of lanes comes to: one history, and each lane's share of it.
+use Rattle.std.specs.Prelude.{◌≡◌, ℕ, zero, suc, ◌+◌, ◌<◌, ◌≤◌, true, IsTrue, List, [], ◌∷◌, ◌++◌, length, map, All, Option, None, MatchOption}
+use Rattle.std.specs.List.{AllByRecursion, flat_map}
+use Rattle.std.specs.List.Sorted.{IsPermutation}
+use Rattle.std.specs.Option.{option_map}
+use Rattle.osc_model.specs.Limits.{Limits}
+use Rattle.osc_model.specs.Events.{Answer, Entry, Room, enrol, number, added, record_full}
+use Rattle.osc_model.specs.Recordings.{record_text}
+use Rattle.osc_model.specs.History.{Legal, HaveHeard, stepped_in}
+use Rattle.osc_laws.specs.Laws.{KeepsTheLaws}
+use Rattle.osc_core.specs.Answers.{room_of}
+use Rattle.osc_core.specs.Ids.{is_ascending}
+use Rattle.osc_core.specs.Telling.{told}
+use Rattle.osc_core.specs.Standing.{history_in, AreMarked}
+use Rattle.osc_script.specs.declared.line.Line.{Line}
+use Rattle.osc_turn.specs.declared.view.Entry.{Entry as Seen}
+use Rattle.osc_turn.specs.History.{StartsWith, texts, own}
+use Rattle.osc_live.specs.Seen.{performance_in, names}
+use Rattle.osc_lanes.specs.declared.part.LanePart.{LanePart}
+use Rattle.osc_lanes.specs.declared.part.LaneTold.{LaneTold}
+use Rattle.osc_lanes.specs.Shares.{Player, Account, LaneOf, IsRemovedAt, ended, count_adds}
+
+-- the id of a method that was added, if one was
+abbrev pub added_id : Answer → List ℕ
+added_id (added id) = id ∷ []
+added_id _ = []
+
+-- the ids of the methods that a history adds, in order
+abbrev pub added_ids : List Entry → List ℕ
+added_ids entries = flat_map (λ entry. added_id entry.answer) entries
+
+-- caller 0 enrols the callers from this number on, so many
+abbrev pub enrolments : ℕ → ℕ → List Entry
+enrolments first zero = []
+enrolments first (suc count) =
+    record { caller = 0; event = enrol; answer = number first } ∷ enrolments (first + 1) count
+
+-- the caller with this number, whose token has the same number
+abbrev pub player_at : Limits → ℕ → Player
+player_at caps number = record { caps = caps; token = number; caller = number }
+
+-- The history of a server with these limits, on which caller 0 enrolled so many callers and did
+-- nothing else. It is legal, keeps the four laws, and begins with the enrolments; and each entry is
+-- of the caller whose number its token has.
+pub record IsStage (caps : Limits) (callers : ℕ) (history : List Seen) : Type 0 where
+  pub legal : Legal caps (history_in (texts history))
+  pub laws : KeepsTheLaws caps (history_in (texts history))
+  pub begins : StartsWith history (own 0 history)
+  pub enrolled : history_in (texts (own 0 history)) ≡ enrolments 1 callers
+  pub named : All (λ one. names one.number one ≡ true) history
+  pub within : All (λ one. one.number ≤ callers) history
+
+-- Each item of one list has this relation to the item in its place of the other, where the first
+-- items have this number.
+abbrev pub Numbered : {X Y : Type 0} → (ℕ → X → Y → Type 0) → ℕ → List X → List Y → Type 0
+Numbered relation first [] [] = Unit {0}
+Numbered relation first (x ∷ xs) (y ∷ ys) =
+    relation first x y × Numbered relation (first + 1) xs ys
+Numbered relation first _ _ = ⊥
+
+-- a lane's lines, and a box for each of them that adds a method
+pub record Part (M : Type 0) : Type 0 where
+  pub lines : List Line
+  pub boxes : List M
+
+module _ {M : Type 0} where
+  abbrev pub part_of : LanePart M → Part M
+  part_of part = record { lines = part.lines.items; boxes = part.boxes.items }
+
+  abbrev pub told_of : LaneTold M → Account M
+  told_of told =
+      record {
+        faults = told.faults.items;
+        removed = told.removed.items;
+        back = told.back.items;
+        stop = option_map room_of told.stop;
+      }
+
+  -- there is a box for each line that adds a method
+  abbrev pub IsWhole : Part M → Type 0
+  IsWhole part = count_adds part.lines ≤ length part.boxes
+
+  -- the ids that lanes removed
+  abbrev pub removed_ids : List (Account M) → List ℕ
+  removed_ids accounts = flat_map (λ account. map (λ one. one.0) account.removed) accounts
+
+  -- the k-th lane was played by caller k, and nothing else was done under its token
+  abbrev pub AreShares : (M → ℕ) → (M → Option (List ℕ)) → Limits → List Seen → List (Part M)
+      → List (Account M) → Type 0
+  AreShares keep heard caps history parts accounts =
+      Numbered
+      (λ number part account. LaneOf keep heard (player_at caps number) part.lines part.boxes
+      account history) 1 parts accounts
+
+  -- The parts were played on one new server, each as a lane beside the others, unless the recording
+  -- had no room for an enrolment: then no lane was started, and all boxes come back. There is one
+  -- history, which is recorded, and each lane has its share of it. The ids that it adds are those
+  -- of the boxes that are kept and of those that lanes removed, each once; and these boxes have heard
+  -- the history, each with the mark of its id's entry.
+  pub record Performs (keep : M → ℕ) (heard : M → Option (List ℕ)) (caps : Limits)
+      (parts : List (Part M)) (recording : List ℕ) (kept : List (ℕ × M))
+      (accounts : List (Account M)) (unenrolled : Option Room) : Type 0 where
+    pub history : List Seen
+    pub callers : ℕ
+    pub stage : IsStage caps callers history
+    pub recorded : recording ≡ record_text caps (history_in (texts history))
+    pub ids : IsPermutation (added_ids (history_in (texts history)))
+        (map (λ one. one.0) kept ++ removed_ids accounts)
+    pub ascending : IsTrue (is_ascending (added_ids (history_in (texts history))))
+    pub kept_heard : HaveHeard (performance_in caps (texts history)) (told keep heard kept)
+    pub kept_marked : AreMarked (texts history) (told keep heard kept)
+    pub removed : All (λ account. AllByRecursion (IsRemovedAt keep heard caps history)
+        account.removed) accounts
+    pub shares : MatchOption unenrolled
+        ((callers ≡ length parts) × AreShares keep heard caps history parts accounts)
+        (λ room. (callers < length parts)
+        × (record_full room ≡ (stepped_in (performance_in caps (texts history)) enrol).answer)
+        × (accounts ≡ map (λ part. ended part.boxes None) parts))

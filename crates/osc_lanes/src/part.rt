@@ -1,0 +1,23 @@
+//! What a performance is given for each lane, and what each lane tells.
+use osc_atoms::{Fault, Room};
+use osc_script::Line;
+
+/// The lines of one lane, and a box for each line that adds a method.
+#[derive(Drop)]
+pub struct LanePart<M> {
+    pub lines: Vec<Line>,
+    pub boxes: Vec<M>,
+}
+
+/// What a lane told besides the history.
+#[derive(Drop)]
+pub struct LaneTold<M> {
+    /// The line's number and the fault of each send that was refused, in line order.
+    pub faults: Vec<(u32, Fault)>,
+    /// Each id that the lane removed, with its box, in that order.
+    pub removed: Vec<(u32, M)>,
+    /// The boxes that weren't added, in line order.
+    pub back: Vec<M>,
+    /// The room at the first answer that the recording is full. The lane ended there.
+    pub stop: Option<Room>,
+}
