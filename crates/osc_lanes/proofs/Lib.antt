@@ -1,5 +1,11 @@
 pub mod Answering
+pub mod Balance
+pub mod Enrolling
 pub mod Going
+pub mod Parting
+pub mod Removals
+pub mod Sharing
+pub mod Staging
 pub mod Staying
 pub mod Telling
 pub mod Zipping

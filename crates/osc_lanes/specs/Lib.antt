@@ -3,4 +3,5 @@ pub mod Ends
 pub mod Performs
 pub mod Shares
 -- Inside the crate.
+pub mod Crews
 pub mod Tallies

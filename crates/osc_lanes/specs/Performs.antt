@@ -37,7 +37,7 @@ enrolments first (suc count) =
 
 -- the caller with this number, whose token has the same number
 abbrev pub player_at : Limits → ℕ → Player
-player_at caps number = record { caps = caps; token = number; caller = number }
+player_at caps caller = record { caps = caps; token = caller; caller = caller }
 
 -- The history of a server with these limits, on which caller 0 enrolled so many callers and did
 -- nothing else. It is legal, keeps the four laws, and begins with the enrolments; and each entry is

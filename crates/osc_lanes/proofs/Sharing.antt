@@ -1,0 +1,188 @@
+-- From what the lanes' tokens have seen to the one history.
+use Rattle.std.proofs.Common.{◌≡◌, ℕ, zero, suc, ◌+◌, ◌<◌, ◌≤◌, List, [], ◌∷◌, ◌++◌, length, get_or, map, All, Contains, flat_map, Option, None, Some, refl, sym, ap, subst, ◌∙◌, arith}
+use Rattle.std.specs.List.{AllByRecursion, AllZip}
+use Rattle.std.specs.List.Sorted.{IsPermutation}
+use Rattle.std.proofs.lemmas.List.{length-map}
+use Rattle.std.proofs.lemmas.List.Elements.{All-from_recursion, recursion_from_All}
+use Rattle.std.proofs.lemmas.List.Sorted.{IsPermutation-refl, IsPermutation-trans, IsPermutation-append_right}
+use Rattle.osc_model.specs.Limits.{Limits}
+use Rattle.osc_model.specs.State.{State, opening}
+use Rattle.osc_model.specs.Events.{Entry, Room, enrol, record_full}
+use Rattle.osc_model.specs.Heard.{Told}
+use Rattle.osc_model.specs.Recordings.{record_text}
+use Rattle.osc_model.specs.History.{Legal, IsSound, HaveHeard, after, stepped_in}
+use Rattle.osc_model.specs.Passing.{numbers_from}
+use Rattle.osc_core.specs.Standing.{history_in, AreMarked}
+use Rattle.osc_core.specs.Telling.{told}
+use Rattle.osc_turn.specs.declared.view.Entry.{Entry as Seen}
+use Rattle.osc_turn.specs.declared.view.View.{View}
+use Rattle.osc_turn.specs.History.{StartsWith, texts, own}
+use Rattle.osc_turn.specs.Rule.{number_of}
+use Rattle.osc_turn.specs.Passes.{view}
+use Rattle.osc_live.specs.declared.caller.Caller.{Caller}
+use Rattle.osc_live.specs.Seen.{performance_in}
+use Rattle.osc_lanes.specs.declared.plan.LanePlan.{LanePlan}
+use Rattle.osc_lanes.specs.declared.plan.LaneEnd.{LaneEnd}
+use Rattle.osc_lanes.specs.Ends.{seen_by, player_of, account_of, IsReady, IsEndOf}
+use Rattle.osc_lanes.specs.Shares.{Player, Account, LaneOf, IsRemovedAt, ended}
+use Rattle.osc_lanes.specs.Performs.{Part, Numbered, AreShares, IsStage, Performs, player_at, added_ids, removed_ids, enrolments}
+use Rattle.osc_lanes.specs.Crews.{names_of, same_names, caller_of, part_in, caller_in}
+use Rattle.osc_lanes.proofs.Balance.{StaysSound, gone_ids, ids_of, balance, ascends}
+use Rattle.osc_lanes.proofs.Parting.{given_by, given_in, parted}
+use Rattle.osc_lanes.proofs.Removals.{gone, gone_in, lane_gone, told_ids}
+
+-- the history begins with what the token has seen, and has no further entry of it
+abbrev pub Carried : List Seen → Caller → Type 0
+Carried history caller = StartsWith history (seen_by caller)
+    × (own (number_of (view caller.pass)) history ≡ own (number_of (view caller.pass)) (seen_by caller))
+
+-- enrolments remove nothing
+enrolments_keep : (first count : ℕ) → gone_ids (enrolments first count) ≡ []
+enrolments_keep first zero = refl
+enrolments_keep first (suc count) = enrolments_keep (first + 1) count
+
+module _ {M : Type 0} (keep : M → ℕ) (heard : M → Option (List ℕ)) (caps : Limits) where
+  -- what is kept of the boxes that were removed
+  abbrev pub KeepsRemoved : Type 0
+  KeepsRemoved = (plan : LanePlan M) (end : LaneEnd M) (history : List Seen) → IsEndOf keep heard caps plan end
+      → StartsWith history (seen_by end.caller) → Legal caps (history_in (texts history))
+      → AllByRecursion (IsRemovedAt keep heard caps history) end.removed.items
+
+  module _ (history : List Seen) where
+    abbrev IsShare : ℕ → Part M → Account M → Type 0
+    IsShare number part account = LaneOf keep heard (player_at caps number) part.lines part.boxes account history
+
+    share : (number : ℕ) (plan : LanePlan M) (end : LaneEnd M)
+        → ◌≡◌ {A = ℕ × ℕ} (plan.caller.number, number_of (view plan.caller.pass)) (number, number) → IsReady plan → IsEndOf keep heard caps plan end
+        → Carried history end.caller → IsShare number (part_in plan) (account_of end)
+    share number plan end name ready is carried =
+        let player : player_of caps plan.caller ≡ player_at caps number =
+        λ i. record { caps = caps; token = (ap (λ (n : ℕ × ℕ). n.1) name) i; caller = (ap (λ (n : ℕ × ℕ). n.0) name) i } in
+        let token : number_of (view end.caller.pass) ≡ number_of (view plan.caller.pass) = ap (λ (p : Player). p.token) is.player in
+        subst (λ (p : Player). LaneOf keep heard p plan.lines.items plan.boxes.items (account_of end) history) player
+        (
+          seen_by plan.caller,
+          seen_by end.caller,
+          ready.1,
+          is.plays,
+          (carried.0, subst (λ (n : ℕ). own n history ≡ own n (seen_by end.caller)) token carried.1),
+        )
+
+    pub shares : (first : ℕ) (plans : List (LanePlan M)) (ends : List (LaneEnd M)) → names_of (map caller_of plans) ≡ same_names first (length plans)
+        → AllByRecursion IsReady plans → AllZip (IsEndOf keep heard caps) plans ends → AllByRecursion (Carried history) (map caller_in ends)
+        → Numbered IsShare first (map part_in plans) (map account_of ends)
+    shares first [] [] named ready all carried = tt
+    shares first [] (end ∷ ends) named ready all carried = absurd all
+    shares first (plan ∷ plans) [] named ready all carried = absurd all
+    shares first (plan ∷ plans) (end ∷ ends) named ready all carried =
+        let head : ◌≡◌ {A = ℕ × ℕ} (plan.caller.number, number_of (view plan.caller.pass)) (first, first) = cc in
+        let rest : names_of (map caller_of plans) ≡ same_names (first + 1) (length plans) = cc in
+        (share first plan end head ready.0 all.0 carried.0, shares (first + 1) plans ends rest ready.1 all.1 carried.1)
+
+    pub removed_all : KeepsRemoved → Legal caps (history_in (texts history)) → (plans : List (LanePlan M)) (ends : List (LaneEnd M))
+        → AllZip (IsEndOf keep heard caps) plans ends → AllByRecursion (Carried history) (map caller_in ends)
+        → AllByRecursion (λ account. AllByRecursion (IsRemovedAt keep heard caps history) account.removed) (map account_of ends)
+    removed_all law legal [] [] all carried = tt
+    removed_all law legal [] (end ∷ ends) all carried = absurd all
+    removed_all law legal (plan ∷ plans) [] all carried = absurd all
+    removed_all law legal (plan ∷ plans) (end ∷ ends) all carried =
+        (law plan end history all.0 carried.0.0 legal, removed_all law legal plans ends all.1 carried.1)
+
+    -- the ids that the history removes are those that the lanes tell
+    gone_of : (number : ℕ) (parts : List (Part M)) (accounts : List (Account M)) → Numbered IsShare number parts accounts
+        → Numbered (λ n part account. given_by gone history n ≡ map (λ one. one.0) account.removed) number parts accounts
+    gone_of number [] [] all = tt
+    gone_of number [] (account ∷ accounts) all = absurd all
+    gone_of number (part ∷ parts) [] all = absurd all
+    gone_of number (part ∷ parts) (account ∷ accounts) all = (
+      lane_gone (player_at caps number) keep heard part.lines part.boxes account history all.0,
+      gone_of (number + 1) parts accounts all.1,
+    )
+
+    pub gone_told : (parts : List (Part M)) (accounts : List (Account M)) → IsStage caps (length parts) history → Numbered IsShare 1 parts accounts
+        → IsPermutation (gone_ids (history_in (texts history))) (removed_ids accounts)
+    gone_told parts accounts stage all =
+        let none : given_by gone history 0 ≡ [] = gone_in (own 0 history) ∙ ap gone_ids stage.enrolled ∙ enrolments_keep 1 (length parts) in
+        let whole : given_in gone history 0 (suc (length parts)) ≡ removed_ids accounts =
+        (λ i. none i ++ given_in gone history 1 (length parts)) ∙ told_ids history 1 parts accounts (gone_of 1 parts accounts all) in
+        let below : AllByRecursion (λ one. one.number < suc (length parts)) history =
+        recursion_from_All (λ one. one.number < suc (length parts)) history (λ k d within. omega (arith, stage.within k d within)) in
+        subst (λ (q : List ℕ × List ℕ). IsPermutation q.0 q.1) (λ i. (gone_in history i, whole i))
+        (parted gone (suc (length parts)) history below)
+
+    ids_kept : (kept : List (ℕ × M)) → map (λ (box : Told). box.id) (told keep heard kept) ≡ map (λ one. one.0) kept
+    ids_kept [] = refl
+    ids_kept (one ∷ kept) = ap (λ (l : List ℕ). one.0 ∷ l) (ids_kept kept)
+
+    -- the ids that it adds are those of the boxes that are kept and those that are removed
+    pub ids_added : StaysSound → IsSound (opening caps) → (kept : List (ℕ × M)) (gone_by : List ℕ) → Legal caps (history_in (texts history))
+        → HaveHeard (performance_in caps (texts history)) (told keep heard kept) → IsPermutation (gone_ids (history_in (texts history))) gone_by
+        → IsPermutation (added_ids (history_in (texts history))) (map (λ one. one.0) kept ++ gone_by)
+    ids_added stays sound kept gone_by legal have same =
+        let entries = history_in (texts history) in
+        let ids : ids_of (after (opening caps) entries).methods ≡ map (λ one. one.0) kept = sym have.ids ∙ ids_kept kept in
+        IsPermutation-trans (added_ids entries) (map (λ one. one.0) kept ++ gone_ids entries) (map (λ one. one.0) kept ++ gone_by)
+        (subst (λ (l : List ℕ). IsPermutation (added_ids entries) (l ++ gone_ids entries)) ids (balance stays caps entries legal sound))
+        (IsPermutation-append_right (map (λ one. one.0) kept) (gone_ids entries) gone_by same)
+
+    -- what is known of a history that was closed
+    pub record IsClosed (bytes : List ℕ) (kept : List (ℕ × M)) : Type 0 where
+      pub recorded : bytes ≡ record_text caps (history_in (texts history))
+      pub kept_heard : HaveHeard (performance_in caps (texts history)) (told keep heard kept)
+      pub kept_marked : AreMarked (texts history) (told keep heard kept)
+
+    -- all lanes were played
+    pub performs_all : StaysSound → IsSound (opening caps) → KeepsRemoved → (bytes : List ℕ) (kept : List (ℕ × M)) → IsClosed bytes kept
+        → (plans : List (LanePlan M)) (ends : List (LaneEnd M)) → IsStage caps (length plans) history
+        → names_of (map caller_of plans) ≡ same_names 1 (length plans) → AllByRecursion IsReady plans → AllZip (IsEndOf keep heard caps) plans ends
+        → AllByRecursion (Carried history) (map caller_in ends) → Performs keep heard caps (map part_in plans) bytes kept (map account_of ends) None
+    performs_all stays sound law bytes kept closed plans ends stage named ready all carried =
+        let many : length plans ≡ length (map part_in plans) = sym (length-map plans part_in) in
+        let here = shares 1 plans ends named ready all carried in
+        record {
+          history = history;
+          callers = length plans;
+          stage = stage;
+          recorded = closed.recorded;
+          ids = ids_added stays sound kept (removed_ids (map account_of ends)) stage.legal closed.kept_heard
+              (gone_told (map part_in plans) (map account_of ends) (subst (λ (n : ℕ). IsStage caps n history) many stage) here);
+          ascending = ascends caps (history_in (texts history)) stage.legal;
+          kept_heard = closed.kept_heard;
+          kept_marked = closed.kept_marked;
+          removed = All-from_recursion (λ account. AllByRecursion (IsRemovedAt keep heard caps history) account.removed) (map account_of ends)
+              (removed_all law stage.legal plans ends all carried);
+          shares = (many, here);
+        }
+
+    nothing_removed : (parts : List (Part M)) → removed_ids (map (λ part. ended part.boxes None) parts) ≡ []
+    nothing_removed [] = refl
+    nothing_removed (part ∷ parts) = nothing_removed parts
+
+    none_removed : (parts : List (Part M))
+        → AllByRecursion (λ account. AllByRecursion (IsRemovedAt keep heard caps history) account.removed) (map (λ part. ended part.boxes None) parts)
+    none_removed [] = tt
+    none_removed (part ∷ parts) = (tt, none_removed parts)
+
+    -- there was no room for an enrolment
+    pub performs_none : StaysSound → IsSound (opening caps) → (bytes : List ℕ) (kept : List (ℕ × M)) → IsClosed bytes kept
+        → (parts : List (Part M)) (callers : ℕ) (room : Room) → IsStage caps callers history → own 0 history ≡ history → callers < length parts
+        → record_full room ≡ (stepped_in (performance_in caps (texts history)) enrol).answer
+        → Performs keep heard caps parts bytes kept (map (λ part. ended part.boxes None) parts) (Some room)
+    performs_none stays sound bytes kept closed parts callers room stage alone few full =
+        let accounts : List (Account M) = map (λ part. ended part.boxes None) parts in
+        let none : gone_ids (history_in (texts history)) ≡ removed_ids accounts =
+        ap (λ (l : List Seen). gone_ids (history_in (texts l))) (sym alone) ∙ ap gone_ids stage.enrolled ∙ enrolments_keep 1 callers
+        ∙ sym (nothing_removed parts) in
+        record {
+          history = history;
+          callers = callers;
+          stage = stage;
+          recorded = closed.recorded;
+          ids = ids_added stays sound kept (removed_ids accounts) stage.legal closed.kept_heard
+              (subst (IsPermutation (gone_ids (history_in (texts history)))) none (IsPermutation-refl (gone_ids (history_in (texts history)))));
+          ascending = ascends caps (history_in (texts history)) stage.legal;
+          kept_heard = closed.kept_heard;
+          kept_marked = closed.kept_marked;
+          removed = All-from_recursion (λ account. AllByRecursion (IsRemovedAt keep heard caps history) account.removed) accounts (none_removed parts);
+          shares = (few, full, refl);
+        }

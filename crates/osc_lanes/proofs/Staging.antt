@@ -1,0 +1,121 @@
+-- What stands before all lanes: the enrolments, and nothing else.
+use Rattle.std.proofs.Common.{◌≡◌, ◌≢◌, ◌⊎◌, inl, inr, ℕ, zero, suc, ◌+◌, ◌<◌, ◌≤◌, Bool, true, false, cond, eqb, List, [], ◌∷◌, ◌++◌, length, get_or, map, All, Contains, refl, sym, ap, subst, ◌∙◌, arith, eq-eqb, ne_eqb}
+use Rattle.std.specs.List.{AllByRecursion}
+use Rattle.std.proofs.lemmas.List.Elements.{All-nil, All-cons, All-head, All-tail, All-contains, All-map, All-from_recursion, recursion_from_All}
+use Rattle.osc_model.specs.Limits.{Limits}
+use Rattle.osc_model.specs.Heard.{Told}
+use Rattle.osc_core.specs.Standing.{history_in}
+use Rattle.osc_turn.specs.declared.view.Entry.{Entry as Seen}
+use Rattle.osc_turn.specs.declared.view.View.{View}
+use Rattle.osc_turn.specs.History.{StartsWith, texts, own}
+use Rattle.osc_turn.specs.Rule.{number_of}
+use Rattle.osc_turn.specs.Passes.{view}
+use Rattle.osc_turn.proofs.Histories.{own_append}
+use Rattle.osc_live.specs.declared.caller.Caller.{Caller}
+use Rattle.osc_live.specs.Seen.{history_of, names}
+use Rattle.osc_live.specs.Closing.{known, IsOfCaller, Closes}
+use Rattle.osc_lanes.specs.Performs.{IsStage, enrolments}
+use Rattle.osc_lanes.specs.Crews.{names_of, same_names, IsCrew}
+
+-- a history with no own entries of a number names it nowhere
+none_named : (number : ℕ) (history : List Seen) → own number history ≡ [] → All (λ one. one.number ≢ number) history
+none_named number [] none = All-nil (λ (one : Seen). one.number ≢ number)
+none_named number (one ∷ history) none = go (eqb one.number number) refl none (λ rest. none_named number history rest) where
+  go : (t : Bool) → eqb one.number number ≡ t → cond t (one ∷ own number history) (own number history) ≡ []
+      → (own number history ≡ [] → All (λ other. other.number ≢ number) history) → All (λ other. other.number ≢ number) (one ∷ history)
+  go true is none rest = absurd (cc)
+  go false is none rest =
+      All-cons (λ (other : Seen). other.number ≢ number) one history
+      (λ same. let yes = eq-eqb one.number number same in absurd (cc)) (rest none)
+
+-- where all entries are of a number, they are its own
+pub all_own : (number : ℕ) (history : List Seen) → AllByRecursion (λ one. one.number ≡ number) history → own number history ≡ history
+all_own number [] all = refl
+all_own number (one ∷ history) all =
+    ap (λ t. cond t (one ∷ own number history) (own number history)) (eq-eqb one.number number all.0)
+    ∙ ap (λ (l : List Seen). one ∷ l) (all_own number history all.1)
+
+pub all_before : {X : Type 0} (P : X → Type 0) (xs ys zs : List X) → zs ≡ xs ++ ys → AllByRecursion P zs → AllByRecursion P xs
+all_before P xs ys zs is all = go xs (subst (AllByRecursion P) is all) where
+  go : (us : List _) → AllByRecursion P (us ++ ys) → AllByRecursion P us
+  go [] all = tt
+  go (u ∷ us) all = (all.0, go us all.1)
+
+first_or : {X : Type 0} (x : X) (xs : List X) (y : X) → Contains (x ∷ xs) y → (x ≡ y) ⊎ Contains xs y
+first_or x xs y (zero, within, is) = inl is
+first_or x xs y (suc k, within, is) = inr (k, omega arith, is)
+
+-- where each entry is of one of these tokens, and no token but the first has entries, all are the first's
+only_first : (first : ℕ × View) (others : List (ℕ × View)) (seen : List Seen) → number_of first.1 ≡ 0
+    → AllByRecursion (λ other. own (number_of other.1) seen ≡ []) others → AllByRecursion (IsOfCaller (first ∷ others)) seen
+    → own 0 seen ≡ seen
+only_first first others seen zero_is none of =
+    all_own 0 seen
+    (recursion_from_All (λ one. one.number ≡ 0) seen
+    (λ k d within. go (get_or seen k d) (λ number empty. none_named number seen empty k d within)
+    (All-from_recursion (IsOfCaller (first ∷ others)) seen of k d within)))
+  where
+    go : (one : Seen) → ((number : ℕ) → own number seen ≡ [] → one.number ≢ number) → IsOfCaller (first ∷ others) one → one.number ≡ 0
+    go one off (caller, there, same, named) = cases (first_or first others caller there) where
+      cases : (first ≡ caller) ⊎ Contains others caller → one.number ≡ 0
+      cases (inl is) = sym same ∙ (ap (λ (c : ℕ × View). number_of c.1) (sym is) ∙ zero_is)
+      cases (inr behind) =
+          absurd (off (number_of caller.1)
+          (All-contains (λ (other : ℕ × View). own (number_of other.1) seen ≡ []) others caller
+          (All-from_recursion (λ (other : ℕ × View). own (number_of other.1) seen ≡ []) others none) behind) (sym same))
+
+-- the caller has its token's number, which is one of the first so many
+abbrev pub IsNamed : ℕ → ℕ × View → Type 0
+IsNamed count caller = (caller.0 ≡ number_of caller.1) × (number_of caller.1 ≤ count)
+
+all_named : (first count most : ℕ) (callers : List Caller) → names_of callers ≡ same_names first count → first + count ≤ suc most
+    → AllByRecursion (IsNamed most) (known callers)
+all_named first count most [] are few = tt
+all_named first zero most (caller ∷ callers) are few = absurd (cc)
+all_named first (suc count) most (caller ∷ callers) are few =
+    let head : ◌≡◌ {A = ℕ × ℕ} (caller.number, number_of (view caller.pass)) (first, first) = cc in
+    let rest : names_of callers ≡ same_names (first + 1) count = cc in
+    let number : caller.number ≡ first = ap (λ (p : ℕ × ℕ). p.0) head in
+    let token : number_of (view caller.pass) ≡ first = ap (λ (p : ℕ × ℕ). p.1) head in
+    ((number ∙ sym token, omega (arith, token)), all_named (first + 1) count most callers rest (omega arith))
+
+module _ (caps : Limits) (v : View) (callers : List Caller) (made : ℕ) (crew : IsCrew made v callers) (history : List Seen) where
+  -- all that caller 0 has seen is its own
+  pub alone_from : (first : ℕ × View) (others : List Caller) → first.1 ≡ v
+      → AllByRecursion (λ other. own (number_of other.1) v.seen ≡ []) (known others)
+      → StartsWith history v.seen → All (IsOfCaller (first ∷ known others)) history → own 0 v.seen ≡ v.seen
+  alone_from first others is none starts of =
+      only_first first (known others) v.seen (ap number_of is ∙ crew.token) none
+      (all_before (IsOfCaller (first ∷ known others)) v.seen starts.0 history starts.1
+      (recursion_from_All (IsOfCaller (first ∷ known others)) history of))
+
+  -- each entry is of the caller whose number its token has
+  each_named : (count : ℕ) (knows : List (ℕ × View)) → AllByRecursion (IsNamed count) knows → (one : Seen) → IsOfCaller knows one
+      → (names one.number one ≡ true) × (one.number ≤ count)
+  each_named count knows all one (caller, there, same, named) =
+      let is = All-contains (IsNamed count) knows caller (All-from_recursion (IsNamed count) knows all) there in
+      (subst (λ (n : ℕ). names n one ≡ true) (is.0 ∙ same) named, omega (arith, is.1, same))
+
+  -- the stage on which callers are enrolled
+  pub staged : {bytes : List ℕ} {kept : List Told} {views : List View} (first : Caller) (others : List Caller)
+      (closes : Closes caps (known (first ∷ others)) views bytes kept) → closes.history ≡ history → first.number ≡ 0 → view first.pass ≡ v
+      → names_of others ≡ names_of callers → own 0 v.seen ≡ v.seen → StartsWith history v.seen → own 0 history ≡ own 0 v.seen
+      → IsStage caps (length callers) history
+  staged first others closes same number_is is names_are alone starts owned =
+      let here = crew.alone alone in
+      let named : AllByRecursion (IsNamed (length callers)) (known (first ∷ others)) =
+      (
+        (number_is ∙ sym (ap number_of is ∙ crew.token), omega (arith, ap number_of is, crew.token)),
+        all_named 1 (length callers) (length callers) others (names_are ∙ here.1) (omega arith),
+      ) in
+      let each : (one : Seen) → IsOfCaller (known (first ∷ others)) one → (names one.number one ≡ true) × (one.number ≤ length callers) =
+      each_named (length callers) (known (first ∷ others)) named in
+      subst (IsStage caps (length callers)) same
+      (record {
+        legal = closes.legal;
+        laws = closes.laws;
+        begins = subst (StartsWith closes.history) (sym (ap (own 0) same ∙ owned ∙ alone)) (subst (λ (h : List Seen). StartsWith h v.seen) (sym same) starts);
+        enrolled = ap (λ (l : List Seen). history_in (texts l)) (ap (own 0) same ∙ owned ∙ alone) ∙ here.0;
+        named = λ k d within. (each (get_or closes.history k d) (closes.named k d within)).0;
+        within = λ k d within. (each (get_or closes.history k d) (closes.named k d within)).1;
+      })

@@ -1,0 +1,78 @@
+-- Inside the crate: the callers that caller 0 enrols for lanes.
+use Rattle.std.specs.Prelude.{◌≡◌, ℕ, zero, suc, ◌+◌, ◌≤◌, List, [], ◌∷◌, length, map, All, Option, None, Some, MatchOption}
+use Rattle.osc_model.specs.Limits.{Limits}
+use Rattle.osc_model.specs.Events.{Answer, Room, enrol, record_full}
+use Rattle.osc_model.specs.History.{stepped_in}
+use Rattle.osc_turn.specs.declared.view.Entry.{Entry as Seen}
+use Rattle.osc_turn.specs.declared.view.View.{View}
+use Rattle.osc_turn.specs.History.{StartsWith, texts, own}
+use Rattle.osc_turn.specs.Rule.{number_of}
+use Rattle.osc_turn.specs.Passes.{view}
+use Rattle.osc_live.specs.Seen.{history_of, performance_in}
+use Rattle.osc_live.specs.declared.caller.Caller.{Caller}
+use Rattle.osc_live.specs.declared.guest.Guest.{Guest}
+use Rattle.osc_live.specs.declared.refusal.EnrolRefusal.{EnrolRefusal}
+use Rattle.osc_live.specs.Enrolments.{refusal_of}
+use Rattle.osc_lanes.specs.declared.part.LanePart.{LanePart}
+use Rattle.osc_lanes.specs.declared.part.LaneTold.{LaneTold}
+use Rattle.osc_lanes.specs.declared.plan.LanePlan.{LanePlan}
+use Rattle.osc_lanes.specs.declared.plan.LaneEnd.{LaneEnd}
+use Rattle.osc_lanes.specs.Ends.{seen_by}
+use Rattle.osc_lanes.specs.Performs.{Part, enrolments}
+
+-- a caller's number, and that of its token
+abbrev pub names_of : List Caller → List (ℕ × ℕ)
+names_of callers = map (λ caller. (caller.number, number_of (view caller.pass))) callers
+
+-- callers and tokens with the same numbers, so many from this one on
+abbrev pub same_names : ℕ → ℕ → List (ℕ × ℕ)
+same_names first zero = []
+same_names first (suc count) = (first, first) ∷ same_names (first + 1) count
+
+-- the token has no entries in what it has seen
+abbrev pub IsSilent : Caller → Type 0
+IsSilent caller = own (number_of (view caller.pass)) (seen_by caller) ≡ []
+
+-- the token has seen all this
+abbrev pub HasSeen : List Seen → Caller → Type 0
+HasSeen seen caller = StartsWith (seen_by caller) seen
+
+-- Caller 0 enrolled these callers, which have no entries of their own, and so many tokens were made.
+-- If it has seen no entries but its own, these are the enrolments, and the callers are numbered as
+-- their tokens are.
+pub record IsCrew (made : ℕ) (first : View) (callers : List Caller) : Type 0 where
+  pub token : number_of first ≡ 0
+  pub made_is : first.made ≡ made
+  pub silent : All IsSilent callers
+  pub alone : own 0 first.seen ≡ first.seen
+      → (history_of first ≡ enrolments 1 (length callers))
+      × (names_of callers ≡ same_names 1 (length callers))
+
+-- if caller 0 has seen no entries but its own, there was no room for this enrolment
+abbrev pub FindsNoRoom : Limits → View → EnrolRefusal → Type 0
+FindsNoRoom caps first why = own 0 first.seen ≡ first.seen
+    → (room : Room) × (refusal_of why ≡ record_full room)
+    × (record_full room ≡ (stepped_in (performance_in caps (texts first.seen)) enrol).answer)
+
+-- all callers were enrolled, or there was no room for the next one
+abbrev pub HasEnrolled : Limits → ℕ → View → List Caller → Option (EnrolRefusal × Guest) → Type 0
+HasEnrolled caps count first callers None =
+    IsCrew (1 + length callers) first callers × (length callers ≡ count)
+HasEnrolled caps count first callers (Some refused) =
+    IsCrew (2 + length callers) first callers × (suc (length callers) ≤ count)
+    × FindsNoRoom caps first refused.0
+
+module _ {M : Type 0} where
+  abbrev pub caller_of : LanePlan M → Caller
+  caller_of plan = plan.caller
+
+  abbrev pub part_in : LanePlan M → Part M
+  part_in plan = record { lines = plan.lines.items; boxes = plan.boxes.items }
+
+  abbrev pub caller_in : LaneEnd M → Caller
+  caller_in end = end.caller
+
+  -- what an end tells without its token
+  abbrev pub without_caller : LaneEnd M → LaneTold M
+  without_caller end =
+      record { faults = end.faults; removed = end.removed; back = end.back; stop = end.stop }
