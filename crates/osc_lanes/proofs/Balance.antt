@@ -1,5 +1,5 @@
 -- The ids that a history adds are those of the methods that are left and those that it removes, each once.
-use Rattle.std.proofs.Common.{◌≡◌, ◌≢◌, inl, inr, ℕ, suc, ◌+◌, ◌<◌, ◌≤◌, Bool, true, false, not, cond, ◌&&◌, nat_lt, IsTrue, List, [], ◌∷◌, ◌++◌, map, Some, AllPairs, flat_map, refl, sym, ap, subst, ◌∙◌, arith, append_assoc}
+use Rattle.std.proofs.Common.{◌≡◌, ◌≢◌, inl, inr, ℕ, suc, ◌+◌, ◌≤◌, Bool, true, false, not, cond, ◌&&◌, nat_lt, IsTrue, List, [], ◌∷◌, ◌++◌, map, Some, AllPairs, flat_map, refl, sym, ap, subst, ◌∙◌, arith, append_assoc}
 use Rattle.std.specs.List.{AllByRecursion, list_all}
 use Rattle.std.specs.List.Sorted.{IsPermutation}
 use Rattle.std.specs.Str.{bytes_eq}
@@ -158,8 +158,7 @@ ascends_from state (entry ∷ entries) legal = go (changes state entry.event) (a
   go (inr (inl adds)) now =
       let is : entry.answer ≡ added state.next_id = legal.3 ∙ adds.answer in
       let above : AllFrom (state.next_id + 1) (added_ids entries) = subst (λ (n : ℕ). AllFrom n (added_ids entries)) adds.next_id now.0 in
-      subst (λ (a : Answer). AllFrom state.next_id (added_id a ++ added_ids entries) × IsTrue (is_ascending (added_id a ++ added_ids entries))) (sym is)
-      (
+      subst (λ (a : Answer). AllFrom state.next_id (added_id a ++ added_ids entries) × IsTrue (is_ascending (added_id a ++ added_ids entries))) (sym is) (
         (omega arith, from_less state.next_id (state.next_id + 1) (added_ids entries) (omega arith) above),
         (λ i. all_above state.next_id (added_ids entries) above i && is_ascending (added_ids entries)) ∙ now.1,
       )

@@ -1,16 +1,15 @@
 -- Caller 0 enrols callers, one after another.
-use Rattle.std.proofs.Common.{◌≡◌, ℕ, zero, suc, ◌+◌, ◌<◌, ◌≤◌, ◌==◌, Bool, true, false, cond, eqb, List, [], ◌∷◌, ◌++◌, length, map, All, Option, None, Some, refl, sym, ap, subst, ◌∙◌, arith, eqb-true, length-append, append-nil}
+use Rattle.std.proofs.Common.{◌≡◌, ℕ, zero, suc, ◌+◌, ◌<◌, ◌≤◌, ◌==◌, Bool, true, false, cond, eqb, List, [], ◌∷◌, ◌++◌, length, Option, None, Some, refl, sym, ap, subst, ◌∙◌, arith, eqb-true, length-append, append-nil}
 use Rattle.std.specs.List.{AllByRecursion}
-use Rattle.std.proofs.lemmas.Bool.Decides.{nat_tests}
 use Rattle.std.proofs.lemmas.List.{map-append}
 use Rattle.std.proofs.lemmas.List.Elements.{All-nil, All-push}
 use Rattle.osc_model.specs.Limits.{Limits}
 use Rattle.osc_model.specs.State.{State, opening}
-use Rattle.osc_model.specs.Events.{Event, enrol, Answer, number, callers_full, record_full, Entry, Room}
+use Rattle.osc_model.specs.Events.{enrol, Answer, number, callers_full, record_full, Entry, Room}
 use Rattle.osc_model.specs.Enrolled.{callers_in}
 use Rattle.osc_tree.specs.Adding.{Refusal}
 use Rattle.osc_model.specs.Step.{step, decided, leaves, add_at, remove_at}
-use Rattle.osc_model.specs.History.{Legal, LegalFrom, after, stepped_in}
+use Rattle.osc_model.specs.History.{Legal, after, stepped_in}
 use Rattle.osc_model.proofs.Stepping.{step_so}
 use Rattle.osc_model.proofs.Keeping.{after_keeps}
 use Rattle.osc_model.proofs.Onward.{legal_split}
@@ -185,8 +184,7 @@ module _ (caps : Limits) (made : ℕ) (v w : View) (callers : List Caller) (crew
         let next : new.number ≡ 1 + length callers = omega (arith, legal.1, counted 1 (length callers) (enrolled_as new.number ∷ [])) in
         let longer : length (callers ++ new ∷ []) ≡ suc (length callers) = omega (arith, length-append callers (new ∷ [])) in
         let name : (new.number, number_of (view new.pass)) ≡ (1 + length callers, 1 + length callers) =
-        λ i. (next i, (token ∙ crew.made_is ∙ many) i) in
-        (
+        λ i. (next i, (token ∙ crew.made_is ∙ many) i) in (
           a.history ∙ ap (λ (n : ℕ). enrolments 1 (length callers) ++ enrolled_as n ∷ []) next ∙ enrolments_push 1 (length callers)
               ∙ ap (enrolments 1) (sym longer),
           map-append (λ (caller : Caller). (caller.number, number_of (view caller.pass))) callers (new ∷ [])

@@ -1,6 +1,7 @@
 pub mod Answering
 pub mod Balance
 pub mod Enrolling
+pub mod Finishing
 pub mod Going
 pub mod Parting
 pub mod Removals

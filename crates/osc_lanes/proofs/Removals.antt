@@ -1,5 +1,5 @@
 -- The ids that a lane's own entries remove are those of the boxes that it tells.
-use Rattle.std.proofs.Common.{◌≡◌, inl, inr, ℕ, zero, suc, ◌+◌, Bool, true, false, List, [], ◌∷◌, ◌++◌, map, length, flat_map, Option, Some, None, MatchBool, refl, sym, ap, subst, ◌∙◌, append_assoc, append-nil}
+use Rattle.std.proofs.Common.{◌≡◌, inl, inr, ℕ, zero, suc, ◌+◌, Bool, true, false, List, [], ◌∷◌, ◌++◌, map, length, flat_map, Option, Some, None, MatchBool, refl, sym, ap, ◌∙◌, append_assoc, append-nil}
 use Rattle.std.specs.Prelude.{MatchOption}
 use Rattle.std.specs.Option.{option_map_or}
 use Rattle.std.proofs.lemmas.List.{map-append}
@@ -7,11 +7,10 @@ use Rattle.std.proofs.lemmas.List.Concat.{flat_map-append}
 use Rattle.osc_atoms.specs.declared.fault.Fault.{Fault}
 use Rattle.osc_packet.specs.declared.limits.TheConstants.{MAX_PACKET}
 use Rattle.osc_packet.specs.Reading.{packet_fault}
-use Rattle.osc_model.specs.Limits.{Limits}
 use Rattle.osc_model.specs.State.{State}
-use Rattle.osc_model.specs.Events.{Event, enrol, submit, add, remove, tick, release, Answer, added, removed, released, nothing_due, record_full, adds_entry, Entry, Room}
+use Rattle.osc_model.specs.Events.{Event, submit, add, remove, tick, release, Answer, released, nothing_due, record_full, adds_entry, Entry, Room}
 use Rattle.osc_model.specs.Step.{step}
-use Rattle.osc_model.specs.History.{stepped_in, state_of}
+use Rattle.osc_model.specs.History.{state_of}
 use Rattle.osc_model.proofs.Changes.{Changes, changes}
 use Rattle.osc_record.specs.Reading.{entry_in}
 use Rattle.osc_core.specs.Standing.{history_in}
@@ -22,7 +21,6 @@ use Rattle.osc_turn.specs.declared.view.Entry.{Entry as Seen}
 use Rattle.osc_turn.specs.History.{texts, entry, own}
 use Rattle.osc_turn.proofs.Histories.{own_append, own_of_mine}
 use Rattle.osc_live.specs.Seen.{performance_in}
-use Rattle.osc_model.specs.Passing.{numbers_from}
 use Rattle.osc_lanes.specs.Shares.{Player, Answered, EntersOne, Releases, Account, then_told, ended, stop_of, id_in, PlaysAct, Plays, LaneOf}
 use Rattle.osc_lanes.specs.Performs.{Part, Numbered, removed_ids}
 use Rattle.osc_lanes.proofs.Balance.{gone_ids, unchanged}

@@ -1,21 +1,19 @@
 -- From what the lanes' tokens have seen to the one history.
-use Rattle.std.proofs.Common.{◌≡◌, ℕ, zero, suc, ◌+◌, ◌<◌, ◌≤◌, List, [], ◌∷◌, ◌++◌, length, get_or, map, All, Contains, flat_map, Option, None, Some, refl, sym, ap, subst, ◌∙◌, arith}
+use Rattle.std.proofs.Common.{◌≡◌, ℕ, zero, suc, ◌+◌, ◌<◌, List, [], ◌∷◌, ◌++◌, length, map, Option, None, Some, refl, sym, ap, subst, ◌∙◌, arith}
 use Rattle.std.specs.List.{AllByRecursion, AllZip}
 use Rattle.std.specs.List.Sorted.{IsPermutation}
 use Rattle.std.proofs.lemmas.List.{length-map}
 use Rattle.std.proofs.lemmas.List.Elements.{All-from_recursion, recursion_from_All}
 use Rattle.std.proofs.lemmas.List.Sorted.{IsPermutation-refl, IsPermutation-trans, IsPermutation-append_right}
 use Rattle.osc_model.specs.Limits.{Limits}
-use Rattle.osc_model.specs.State.{State, opening}
-use Rattle.osc_model.specs.Events.{Entry, Room, enrol, record_full}
+use Rattle.osc_model.specs.State.{opening}
+use Rattle.osc_model.specs.Events.{Room, enrol, record_full}
 use Rattle.osc_model.specs.Heard.{Told}
 use Rattle.osc_model.specs.Recordings.{record_text}
 use Rattle.osc_model.specs.History.{Legal, IsSound, HaveHeard, after, stepped_in}
-use Rattle.osc_model.specs.Passing.{numbers_from}
 use Rattle.osc_core.specs.Standing.{history_in, AreMarked}
 use Rattle.osc_core.specs.Telling.{told}
 use Rattle.osc_turn.specs.declared.view.Entry.{Entry as Seen}
-use Rattle.osc_turn.specs.declared.view.View.{View}
 use Rattle.osc_turn.specs.History.{StartsWith, texts, own}
 use Rattle.osc_turn.specs.Rule.{number_of}
 use Rattle.osc_turn.specs.Passes.{view}
@@ -25,7 +23,7 @@ use Rattle.osc_lanes.specs.declared.plan.LanePlan.{LanePlan}
 use Rattle.osc_lanes.specs.declared.plan.LaneEnd.{LaneEnd}
 use Rattle.osc_lanes.specs.Ends.{seen_by, player_of, account_of, IsReady, IsEndOf}
 use Rattle.osc_lanes.specs.Shares.{Player, Account, LaneOf, IsRemovedAt, ended}
-use Rattle.osc_lanes.specs.Performs.{Part, Numbered, AreShares, IsStage, Performs, player_at, added_ids, removed_ids, enrolments}
+use Rattle.osc_lanes.specs.Performs.{Part, Numbered, IsStage, Performs, player_at, added_ids, removed_ids, enrolments}
 use Rattle.osc_lanes.specs.Crews.{names_of, same_names, caller_of, part_in, caller_in}
 use Rattle.osc_lanes.proofs.Balance.{StaysSound, gone_ids, ids_of, balance, ascends}
 use Rattle.osc_lanes.proofs.Parting.{given_by, given_in, parted}
@@ -59,8 +57,7 @@ module _ {M : Type 0} (keep : M → ℕ) (heard : M → Option (List ℕ)) (caps
         let player : player_of caps plan.caller ≡ player_at caps number =
         λ i. record { caps = caps; token = (ap (λ (n : ℕ × ℕ). n.1) name) i; caller = (ap (λ (n : ℕ × ℕ). n.0) name) i } in
         let token : number_of (view end.caller.pass) ≡ number_of (view plan.caller.pass) = ap (λ (p : Player). p.token) is.player in
-        subst (λ (p : Player). LaneOf keep heard p plan.lines.items plan.boxes.items (account_of end) history) player
-        (
+        subst (λ (p : Player). LaneOf keep heard p plan.lines.items plan.boxes.items (account_of end) history) player (
           seen_by plan.caller,
           seen_by end.caller,
           ready.1,

@@ -1,7 +1,7 @@
 -- What stands before all lanes: the enrolments, and nothing else.
-use Rattle.std.proofs.Common.{◌≡◌, ◌≢◌, ◌⊎◌, inl, inr, ℕ, zero, suc, ◌+◌, ◌<◌, ◌≤◌, Bool, true, false, cond, eqb, List, [], ◌∷◌, ◌++◌, length, get_or, map, All, Contains, refl, sym, ap, subst, ◌∙◌, arith, eq-eqb, ne_eqb}
+use Rattle.std.proofs.Common.{◌≡◌, ◌≢◌, ◌⊎◌, inl, inr, ℕ, zero, suc, ◌+◌, ◌≤◌, Bool, true, false, cond, eqb, List, [], ◌∷◌, ◌++◌, length, get_or, All, Contains, refl, sym, ap, subst, ◌∙◌, arith, eq-eqb}
 use Rattle.std.specs.List.{AllByRecursion}
-use Rattle.std.proofs.lemmas.List.Elements.{All-nil, All-cons, All-head, All-tail, All-contains, All-map, All-from_recursion, recursion_from_All}
+use Rattle.std.proofs.lemmas.List.Elements.{All-nil, All-cons, All-contains, All-from_recursion, recursion_from_All}
 use Rattle.osc_model.specs.Limits.{Limits}
 use Rattle.osc_model.specs.Heard.{Told}
 use Rattle.osc_core.specs.Standing.{history_in}
@@ -10,11 +10,10 @@ use Rattle.osc_turn.specs.declared.view.View.{View}
 use Rattle.osc_turn.specs.History.{StartsWith, texts, own}
 use Rattle.osc_turn.specs.Rule.{number_of}
 use Rattle.osc_turn.specs.Passes.{view}
-use Rattle.osc_turn.proofs.Histories.{own_append}
 use Rattle.osc_live.specs.declared.caller.Caller.{Caller}
-use Rattle.osc_live.specs.Seen.{history_of, names}
+use Rattle.osc_live.specs.Seen.{names}
 use Rattle.osc_live.specs.Closing.{known, IsOfCaller, Closes}
-use Rattle.osc_lanes.specs.Performs.{IsStage, enrolments}
+use Rattle.osc_lanes.specs.Performs.{IsStage}
 use Rattle.osc_lanes.specs.Crews.{names_of, same_names, IsCrew}
 
 -- a history with no own entries of a number names it nowhere
@@ -46,7 +45,7 @@ first_or x xs y (zero, within, is) = inl is
 first_or x xs y (suc k, within, is) = inr (k, omega arith, is)
 
 -- where each entry is of one of these tokens, and no token but the first has entries, all are the first's
-only_first : (first : ℕ × View) (others : List (ℕ × View)) (seen : List Seen) → number_of first.1 ≡ 0
+pub only_first : (first : ℕ × View) (others : List (ℕ × View)) (seen : List Seen) → number_of first.1 ≡ 0
     → AllByRecursion (λ other. own (number_of other.1) seen ≡ []) others → AllByRecursion (IsOfCaller (first ∷ others)) seen
     → own 0 seen ≡ seen
 only_first first others seen zero_is none of =
@@ -103,8 +102,7 @@ module _ (caps : Limits) (v : View) (callers : List Caller) (made : ℕ) (crew :
       → IsStage caps (length callers) history
   staged first others closes same number_is is names_are alone starts owned =
       let here = crew.alone alone in
-      let named : AllByRecursion (IsNamed (length callers)) (known (first ∷ others)) =
-      (
+      let named : AllByRecursion (IsNamed (length callers)) (known (first ∷ others)) = (
         (number_is ∙ sym (ap number_of is ∙ crew.token), omega (arith, ap number_of is, crew.token)),
         all_named 1 (length callers) (length callers) others (names_are ∙ here.1) (omega arith),
       ) in

@@ -1,7 +1,7 @@
 -- Inside the crate: the callers that caller 0 enrols for lanes.
-use Rattle.std.specs.Prelude.{◌≡◌, ℕ, zero, suc, ◌+◌, ◌≤◌, List, [], ◌∷◌, length, map, All, Option, None, Some, MatchOption}
+use Rattle.std.specs.Prelude.{◌≡◌, ℕ, zero, suc, ◌+◌, ◌≤◌, List, [], ◌∷◌, length, map, All, Option, None, Some}
 use Rattle.osc_model.specs.Limits.{Limits}
-use Rattle.osc_model.specs.Events.{Answer, Room, enrol, record_full}
+use Rattle.osc_model.specs.Events.{Room, enrol, record_full}
 use Rattle.osc_model.specs.History.{stepped_in}
 use Rattle.osc_turn.specs.declared.view.Entry.{Entry as Seen}
 use Rattle.osc_turn.specs.declared.view.View.{View}
@@ -13,7 +13,6 @@ use Rattle.osc_live.specs.declared.caller.Caller.{Caller}
 use Rattle.osc_live.specs.declared.guest.Guest.{Guest}
 use Rattle.osc_live.specs.declared.refusal.EnrolRefusal.{EnrolRefusal}
 use Rattle.osc_live.specs.Enrolments.{refusal_of}
-use Rattle.osc_lanes.specs.declared.part.LanePart.{LanePart}
 use Rattle.osc_lanes.specs.declared.part.LaneTold.{LaneTold}
 use Rattle.osc_lanes.specs.declared.plan.LanePlan.{LanePlan}
 use Rattle.osc_lanes.specs.declared.plan.LaneEnd.{LaneEnd}

@@ -3,11 +3,14 @@
 #![tactic(auto)]
 
 mod acts;
+mod crew;
+mod ending;
 mod gate;
 pub mod laws;
 mod part;
 mod performing;
 mod plan;
+mod planning;
 mod playing;
 mod stops;
 mod tally;

@@ -1,13 +1,24 @@
 //! Plays many lanes on a new server, and closes it.
-ghost use Rattle.std.specs.Prelude.{◌≡◌, ◌<◌, length, map, All, IfOk};
+ghost use Rattle.std.specs.Prelude.{◌≡◌, ◌<◌, ◌+◌, length, map, All, IfOk};
 ghost use Rattle.std.specs.Option.{option_map};
 ghost use Rattle.osc_core.specs.Answers.{room_of};
+ghost use Rattle.osc_turn.specs.Passes.{view};
+ghost use Rattle.osc_live.specs.Seen.{IsTokenOf};
 ghost use Rattle.osc_lanes.specs.Performs.{part_of, told_of, IsWhole, Performs};
+ghost use Rattle.osc_lanes.specs.Crews.{IsCrew, FindsNoRoom};
 
+use crate::crew::{Crew, enrol_all};
+use crate::ending::{close_all, none_played, part_ends};
 use crate::gate::Gate;
+use crate::laws::a_lane_keeps_its_share;
 use crate::part::{LanePart, LaneTold};
+use crate::planning::{make_plans, meet_all};
+use crate::playing::play;
 use osc_atoms::Room;
+use osc_core::Closed;
+use osc_live::{Caller, EnrolRefusal, Guest, Live};
 use osc_method::Method;
+use osc_model::laws::a_server_stays_sound;
 use osc_record::Caps;
 use std::alloc::{AllocError, Global};
 use std::sync::Wait;
@@ -41,6 +52,94 @@ pub fn perform<M: Method + Send, W: Threads + Wait + Sync, G: Gate + Sync>(
         performed.bytes.items performed.kept.items (map told_of performed.lanes.items)
         (option_map room_of performed.unenrolled)) }
 {
-    for _ in rt.forever() {}
-    unreachable!()
+    // Limits are in their ranges, as each of them tells.
+    let _ = caps.callers();
+    let (live, first) = Live::open(alloc, caps)?;
+    let crew = enrol_all(rt, alloc, &live, first, parts.len())?;
+    let Crew {
+        first,
+        callers,
+        refused,
+    } = crew;
+    match refused {
+        None => play_all(rt, alloc, live, first, callers, parts, gate),
+        Some((why, guest)) => play_none(alloc, live, first, callers, guest, why, parts),
+    }
+}
+
+/// Plays each part under the caller in its place.
+fn play_all<M: Method + Send, W: Threads + Wait + Sync, G: Gate + Sync>(
+    rt: &W,
+    alloc: Global,
+    live: Live<M>,
+    first: Caller,
+    callers: Vec<Caller>,
+    parts: Vec<LanePart<M>>,
+    gate: &G,
+) -> Result<Performed<M>, AllocError>
+    requires ours { IsTokenOf live.turn live.caps first.pass }
+    requires number { first.number ≡ 0 }
+    requires callers_ours { All (λ caller. IsTokenOf live.turn live.caps caller.pass)
+        callers.items }
+    requires crew { IsCrew (1 + length callers.items) (view first.pass) callers.items }
+    requires many { length callers.items ≡ length parts.items }
+    requires few { length parts.items < 1024 }
+    requires whole { All (λ part. IsWhole (part_of part)) parts.items }
+    ensures { IfOk result (λ performed. Performs M.keep M.heard live.caps
+        (map part_of parts.items) performed.bytes.items performed.kept.items
+        (map told_of performed.lanes.items) (option_map room_of performed.unenrolled)) }
+{
+    a_server_stays_sound();
+    a_lane_keeps_its_share::<M>();
+    let (first, callers) = meet_all(alloc, &live, first, callers)?;
+    let plans = make_plans(alloc, callers, parts)?;
+    let ends = play(rt, alloc, &live, plans, gate)?;
+    let (callers, lanes) = part_ends(alloc, first, ends)?;
+    let Closed { bytes, kept } = close_all(alloc, live, callers, Vec::new(alloc))?;
+    Ok(Performed {
+        bytes,
+        kept,
+        lanes,
+        unenrolled: None,
+    })
+}
+
+/// Closes the server, where there was no room for an enrolment.
+fn play_none<M: Method>(
+    alloc: Global,
+    live: Live<M>,
+    first: Caller,
+    mut callers: Vec<Caller>,
+    guest: Guest,
+    why: EnrolRefusal,
+    parts: Vec<LanePart<M>>,
+) -> Result<Performed<M>, AllocError>
+    requires ours { IsTokenOf live.turn live.caps first.pass }
+    requires number { first.number ≡ 0 }
+    requires callers_ours { All (λ caller. IsTokenOf live.turn live.caps caller.pass)
+        callers.items }
+    requires guest_ours { IsTokenOf live.turn live.caps guest.pass }
+    requires crew { IsCrew (2 + length callers.items) (view first.pass) callers.items }
+    requires fewer { length callers.items < length parts.items }
+    requires few { length parts.items < 1024 }
+    requires refused { FindsNoRoom live.caps (view first.pass) why }
+    ensures { IfOk result (λ performed. Performs M.keep M.heard live.caps
+        (map part_of parts.items) performed.bytes.items performed.kept.items
+        (map told_of performed.lanes.items) (option_map room_of performed.unenrolled)) }
+{
+    a_server_stays_sound();
+    let lanes = none_played(alloc, parts)?;
+    callers.insert(0, first)?;
+    let mut guests = Vec::with_capacity(alloc, 1)?;
+    guests.push(guest)?;
+    let Closed { bytes, kept } = close_all(alloc, live, callers, guests)?;
+    match why {
+        EnrolRefusal::RecordFull(room) => Ok(Performed {
+            bytes,
+            kept,
+            lanes,
+            unenrolled: Some(room),
+        }),
+        EnrolRefusal::CallersFull => unreachable!(),
+    }
 }

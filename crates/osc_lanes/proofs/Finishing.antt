@@ -1,0 +1,160 @@
+-- From the close of a server to what a performance says.
+use Rattle.std.proofs.Common.{◌≡◌, ℕ, ◌+◌, ◌<◌, List, [], ◌∷◌, ◌++◌, length, map, None, Some, Option, refl, sym, ap, subst, ◌∙◌}
+use Rattle.std.specs.List.{AllByRecursion, AllZip}
+use Rattle.std.proofs.lemmas.List.Elements.{recursion_from_All}
+use Rattle.osc_model.specs.Limits.{Limits, AreInRange}
+use Rattle.osc_model.specs.State.{opening}
+use Rattle.osc_model.specs.Events.{Room, enrol, record_full}
+use Rattle.osc_model.specs.History.{IsSound, stepped_in}
+use Rattle.osc_core.specs.Telling.{told}
+use Rattle.osc_model.specs.Heard.{Told}
+use Rattle.osc_turn.specs.declared.view.Entry.{Entry as Seen}
+use Rattle.osc_turn.specs.declared.view.View.{View}
+use Rattle.osc_turn.specs.History.{StartsWith, texts, own}
+use Rattle.osc_turn.specs.Rule.{number_of}
+use Rattle.osc_turn.specs.Passes.{view}
+use Rattle.osc_turn.proofs.Histories.{none_begun}
+use Rattle.osc_live.specs.declared.caller.Caller.{Caller}
+use Rattle.osc_live.specs.declared.guest.Guest.{Guest}
+use Rattle.osc_live.specs.declared.refusal.EnrolRefusal.{EnrolRefusal}
+use Rattle.osc_live.specs.Enrolments.{refusal_of}
+use Rattle.osc_live.specs.Seen.{performance_in}
+use Rattle.osc_live.specs.Closing.{known, views_of, IsOfCaller, Closes}
+use Rattle.osc_lanes.specs.declared.plan.LanePlan.{LanePlan}
+use Rattle.osc_lanes.specs.declared.plan.LaneEnd.{LaneEnd}
+use Rattle.osc_lanes.specs.Ends.{seen_by, account_of, IsReady, IsEndOf}
+use Rattle.osc_lanes.specs.Shares.{Player, Account, ended}
+use Rattle.osc_lanes.specs.Performs.{Part, IsWhole, IsStage, Performs, told_of}
+use Rattle.osc_lanes.specs.Crews.{names_of, same_names, caller_of, part_in, caller_in, without_caller, IsSilent, HasSeen, IsCrew, FindsNoRoom}
+use Rattle.osc_lanes.proofs.Balance.{StaysSound}
+use Rattle.osc_lanes.proofs.Staging.{only_first, alone_from, staged}
+use Rattle.osc_lanes.proofs.Sharing.{Carried, KeepsRemoved, performs_all, performs_none}
+
+-- each server opens sound
+abbrev pub OpensSound : Type 0
+OpensSound = (caps : Limits) → AreInRange caps → IsSound (opening caps)
+
+abbrev views : List Caller → List View
+views callers = map (λ (caller : Caller). view caller.pass) callers
+
+module _ (history : List Seen) where
+  carried_each : (callers : List Caller) (more : List View) → AllByRecursion (λ v. StartsWith history v.seen) (views callers ++ more)
+      → AllByRecursion (λ v. own (number_of v) history ≡ own (number_of v) v.seen) (views callers ++ more) → AllByRecursion (Carried history) callers
+  carried_each [] more starts owned = tt
+  carried_each (caller ∷ callers) more starts owned = ((starts.0, owned.0), carried_each callers more starts.1 owned.1)
+
+-- the history of a close begins with what each caller has seen, and has no further entry of it
+all_carried : {caps : Limits} {knows : List (ℕ × View)} {bytes : List ℕ} {kept : List Told} (callers : List Caller) (guests : List Guest)
+    (closes : Closes caps knows (views_of callers guests) bytes kept) → AllByRecursion (Carried closes.history) callers
+all_carried callers guests closes =
+    carried_each closes.history callers (map (λ (guest : Guest). view guest.pass) guests)
+    (recursion_from_All (λ v. StartsWith closes.history v.seen) (views_of callers guests) closes.carried)
+    (recursion_from_All (λ v. own (number_of v) closes.history ≡ own (number_of v) v.seen) (views_of callers guests) closes.owned)
+
+pub from_mapped : {X Y : Type 0} (P : Y → Type 0) (f : X → Y) (xs : List X) → AllByRecursion P (map f xs) → AllByRecursion (λ x. P (f x)) xs
+from_mapped P f [] all = tt
+from_mapped P f (x ∷ xs) all = (all.0, from_mapped P f xs all.1)
+
+module _ {M : Type 0} where
+  -- the plan of a whole part can be played
+  pub ready : (plans : List (LanePlan M)) → AllByRecursion IsWhole (map part_in plans) → AllByRecursion IsSilent (map caller_of plans)
+      → AllByRecursion IsReady plans
+  ready [] whole silent = tt
+  ready (plan ∷ plans) whole silent = ((whole.0, silent.0), ready plans whole.1 silent.1)
+
+  pub told_ends : (ends : List (LaneEnd M)) → map told_of (map without_caller ends) ≡ map account_of ends
+  told_ends [] = refl
+  told_ends (end ∷ ends) = ap (λ (l : List (Account M)). account_of end ∷ l) (told_ends ends)
+
+module _ {M : Type 0} (keep : M → ℕ) (heard : M → Option (List ℕ)) (caps : Limits) where
+  -- the callers that come back have the names of the plans'
+  names_back : (plans : List (LanePlan M)) (ends : List (LaneEnd M)) → AllZip (IsEndOf keep heard caps) plans ends
+      → names_of (map caller_in ends) ≡ names_of (map caller_of plans)
+  names_back [] [] all = refl
+  names_back [] (end ∷ ends) all = absurd all
+  names_back (plan ∷ plans) [] all = absurd all
+  names_back (plan ∷ plans) (end ∷ ends) all =
+      λ i. ((ap (λ (p : Player). p.caller) all.0.player) i, (ap (λ (p : Player). p.token) all.0.player) i) ∷ names_back plans ends all.1 i
+
+  -- no lane's token has entries in what all of them had seen
+  none_before : (seen : List Seen) (plans : List (LanePlan M)) (ends : List (LaneEnd M)) → AllZip (IsEndOf keep heard caps) plans ends
+      → AllByRecursion IsSilent (map caller_of plans) → AllByRecursion (HasSeen seen) (map caller_of plans)
+      → AllByRecursion (λ other. own (number_of other.1) seen ≡ []) (known (map caller_in ends))
+  none_before seen [] [] all silent has = tt
+  none_before seen [] (end ∷ ends) all silent has = absurd all
+  none_before seen (plan ∷ plans) [] all silent has = absurd all
+  none_before seen (plan ∷ plans) (end ∷ ends) all silent has = (
+    subst (λ (n : ℕ). own n seen ≡ []) (sym (ap (λ (p : Player). p.token) all.0.player))
+        (none_begun (number_of (view plan.caller.pass)) (seen_by plan.caller) seen has.0 silent.0),
+    none_before seen plans ends all.1 silent.1 has.1,
+  )
+
+  module _ (stays : StaysSound) (opens : OpensSound) (bytes : List ℕ) (kept : List (ℕ × M)) (first : Caller) (v : View)
+      (enrolled : List Caller) (is : view first.pass ≡ v) (zero_is : first.number ≡ 0) where
+    -- all lanes were played
+    pub finish_played : KeepsRemoved keep heard caps → IsCrew (1 + length enrolled) v enrolled → (plans : List (LanePlan M)) (ends : List (LaneEnd M))
+        → names_of (map caller_of plans) ≡ names_of enrolled → length plans ≡ length enrolled → AllByRecursion IsSilent (map caller_of plans)
+        → AllByRecursion (HasSeen v.seen) (map caller_of plans) → AllByRecursion IsReady plans → AllZip (IsEndOf keep heard caps) plans ends
+        → Closes caps (known (first ∷ map caller_in ends)) (views_of (first ∷ map caller_in ends) []) bytes (told keep heard kept)
+        → Performs keep heard caps (map part_in plans) bytes kept (map account_of ends) None
+    finish_played law crew plans ends named many silent has all_ready all closes =
+        let others = map caller_in ends in
+        let history = closes.history in
+        let carried = all_carried (first ∷ others) [] closes in
+        let starts : StartsWith history v.seen = subst (λ (u : View). StartsWith history u.seen) is carried.0.0 in
+        let owned : own 0 history ≡ own 0 v.seen =
+        subst (λ (n : ℕ). own n history ≡ own n v.seen) crew.token
+        (subst (λ (u : View). own (number_of u) history ≡ own (number_of u) u.seen) is carried.0.1) in
+        let alone : own 0 v.seen ≡ v.seen =
+        alone_from caps v enrolled (1 + length enrolled) crew history (first.number, view first.pass) others is
+        (none_before v.seen plans ends all silent has) starts closes.named in
+        let stage =
+        staged caps v enrolled (1 + length enrolled) crew history first others closes refl zero_is is (names_back plans ends all ∙ named) alone starts owned in
+        let here : names_of (map caller_of plans) ≡ same_names 1 (length plans) = named ∙ (crew.alone alone).1 ∙ ap (same_names 1) (sym many) in
+        performs_all keep heard caps history stays (opens caps closes.legal.0) law bytes kept
+        (record { recorded = closes.recorded; kept_heard = closes.heard; kept_marked = closes.marked })
+        plans ends (subst (λ (n : ℕ). IsStage caps n history) (sym many) stage) here all_ready all carried.1
+
+    silent_then : (history : List Seen) (callers : List Caller) → AllByRecursion IsSilent callers → AllByRecursion (Carried history) callers
+        → AllByRecursion (λ other. own (number_of other.1) history ≡ []) (known callers)
+    silent_then history [] silent carried = tt
+    silent_then history (caller ∷ callers) silent carried = (carried.0.1 ∙ silent.0, silent_then history callers silent.1 carried.1)
+
+    silent_before : (history seen : List Seen) → StartsWith history seen → (knows : List (ℕ × View))
+        → AllByRecursion (λ other. own (number_of other.1) history ≡ []) knows → AllByRecursion (λ other. own (number_of other.1) seen ≡ []) knows
+    silent_before history seen starts [] none = tt
+    silent_before history seen starts (one ∷ knows) none =
+        (none_begun (number_of one.1) history seen starts none.0, silent_before history seen starts knows none.1)
+
+    -- there was no room for an enrolment
+    pub finish_none : IsCrew (2 + length enrolled) v enrolled → (why : EnrolRefusal) → FindsNoRoom caps v why → (guests : List Guest)
+        → (parts : List (Part M)) → length enrolled < length parts
+        → Closes caps (known (first ∷ enrolled)) (views_of (first ∷ enrolled) guests) bytes (told keep heard kept)
+        → (room : Room) × (refusal_of why ≡ record_full room)
+        × Performs keep heard caps parts bytes kept (map (λ part. ended part.boxes None) parts) (Some room)
+    finish_none crew why refused guests parts few closes =
+        let history = closes.history in
+        let carried = all_carried (first ∷ enrolled) guests closes in
+        let starts : StartsWith history v.seen = subst (λ (u : View). StartsWith history u.seen) is carried.0.0 in
+        let owned : own 0 history ≡ own 0 v.seen =
+        subst (λ (n : ℕ). own n history ≡ own n v.seen) crew.token
+        (subst (λ (u : View). own (number_of u) history ≡ own (number_of u) u.seen) is carried.0.1) in
+        let none = silent_then history enrolled (recursion_from_All IsSilent enrolled crew.silent) carried.1 in
+        let knows : List (ℕ × View) = known enrolled in
+        let whole : own 0 history ≡ history =
+        only_first (first.number, view first.pass) knows history (ap number_of is ∙ crew.token) none
+        (recursion_from_All (IsOfCaller (known (first ∷ enrolled))) history closes.named) in
+        let alone : own 0 v.seen ≡ v.seen =
+        alone_from caps v enrolled (2 + length enrolled) crew history (first.number, view first.pass) enrolled is
+        (silent_before history v.seen starts knows none) starts closes.named in
+        let same : history ≡ v.seen = sym whole ∙ owned ∙ alone in
+        let stage =
+        staged caps v enrolled (2 + length enrolled) crew history first enrolled closes refl zero_is is refl alone starts owned in
+        let full = refused alone in (
+          full.0,
+          full.1,
+          performs_none keep heard caps history stays (opens caps closes.legal.0) bytes kept
+              (record { recorded = closes.recorded; kept_heard = closes.heard; kept_marked = closes.marked })
+              parts (length enrolled) full.0 stage whole few
+              (full.2 ∙ ap (λ (l : List Seen). (stepped_in (performance_in caps (texts l)) enrol).answer) (sym same)),
+        )

@@ -1,0 +1,14 @@
+use Rattle.std.proofs.Common.{◌≡◌, ◌+◌, All, length}
+use Rattle.osc_turn.specs.Passes.{view}
+use Rattle.osc_live.specs.Seen.{IsTokenOf}
+use Rattle.osc_lanes.specs.Crews.{IsCrew}
+use Rattle.osc_lanes.proofs.crew.enrol_all.Given as goal
+
+abbrev pub invariant-loop : goal.invariant-loop
+invariant-loop g l = record {
+  ours : IsTokenOf l.live.turn l.live.caps l.first.pass;
+  number : l.first.number ≡ 0;
+  callers_ours : All (λ caller. IsTokenOf l.live.turn l.live.caps caller.pass) l.callers.items;
+  crew : IsCrew (1 + length l.callers.items) (view l.first.pass) l.callers.items;
+  so_many : length l.callers.items ≡ l.counter;
+}

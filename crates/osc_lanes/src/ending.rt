@@ -1,0 +1,95 @@
+// What comes of lanes at the end of their server.
+ghost use Rattle.std.specs.Prelude.{◌≡◌, ◌≤◌, ◌+◌, [], ◌∷◌, length, map, All, IfOk, None};
+ghost use Rattle.osc_core.specs.Telling.{told};
+ghost use Rattle.osc_live.specs.Seen.{IsTokenOf};
+ghost use Rattle.osc_live.specs.Closing.{Closes, known, views_of, made_by, StartsAtZero};
+ghost use Rattle.osc_lanes.specs.Shares.{ended};
+ghost use Rattle.osc_lanes.specs.Performs.{part_of, told_of};
+ghost use Rattle.osc_lanes.specs.Crews.{caller_in, without_caller};
+
+use crate::part::{LanePart, LaneTold};
+use crate::plan::LaneEnd;
+use osc_core::Closed;
+use osc_live::{Caller, Guest, Live, LiveOut};
+use osc_method::Method;
+use std::alloc::{AllocError, Global};
+
+/// The callers, with the first in the first place, and what the lanes told.
+pub(crate) fn part_ends<M: Drop>(
+    alloc: Global,
+    first: Caller,
+    ends: Vec<LaneEnd<M>>,
+) -> Result<(Vec<Caller>, Vec<LaneTold<M>>), AllocError>
+    requires few { length ends.items ≤ 1024 }
+    ensures callers { IfOk result
+        (λ both. both.0.items ≡ first ∷ map caller_in ends.items) }
+    ensures told { IfOk result (λ both. both.1.items ≡ map without_caller ends.items) }
+{
+    let mut callers = Vec::with_capacity(alloc, ends.len() + 1)?;
+    let mut lanes = Vec::with_capacity(alloc, ends.len())?;
+    callers.push(first)?;
+    for end in ends {
+        let LaneEnd {
+            caller,
+            faults,
+            removed,
+            back,
+            stop,
+            ..
+        } = end;
+        callers.push(caller)?;
+        lanes.push(LaneTold {
+            faults,
+            removed,
+            back,
+            stop,
+        })?;
+    }
+    Ok((callers, lanes))
+}
+
+/// What a lane tells that wasn't started, of each part.
+pub(crate) fn none_played<M: Drop>(
+    alloc: Global,
+    parts: Vec<LanePart<M>>,
+) -> Result<Vec<LaneTold<M>>, AllocError>
+    ensures { IfOk result (λ lanes. map told_of lanes.items
+        ≡ map (λ part. ended part.boxes None) (map part_of parts.items)) }
+{
+    let mut lanes = Vec::with_capacity(alloc, parts.len())?;
+    for part in parts {
+        let LanePart { boxes, .. } = part;
+        lanes.push(LaneTold {
+            faults: Vec::new(alloc),
+            removed: Vec::new(alloc),
+            back: boxes,
+            stop: None,
+        })?;
+    }
+    Ok(lanes)
+}
+
+/// Closes a server whose tokens are all handed in.
+pub(crate) fn close_all<M: Method>(
+    alloc: Global,
+    live: Live<M>,
+    callers: Vec<Caller>,
+    guests: Vec<Guest>,
+) -> Result<Closed<M>, AllocError>
+    requires callers_ours { All (λ caller. IsTokenOf live.turn live.caps caller.pass)
+        callers.items }
+    requires guests_ours { All (λ guest. IsTokenOf live.turn live.caps guest.pass)
+        guests.items }
+    requires first { StartsAtZero callers.items }
+    requires few { length callers.items + length guests.items ≤ 65536 }
+    requires all_in { made_by callers.items ≡ length callers.items + length guests.items }
+    ensures { IfOk result (λ closed. Closes live.caps (known callers.items)
+        (views_of callers.items guests.items) closed.bytes.items
+        (told M.keep M.heard closed.kept.items)) }
+{
+    match live.close(alloc, callers, guests) {
+        Ok(closed) => Ok(closed),
+        Err(LiveOut::NoMemory { .. }) => Err(AllocError),
+        Err(LiveOut::StillOut { .. }) => unreachable!(),
+    }
+}
