@@ -90,7 +90,8 @@ counted first (suc count) more = omega (arith, counted (first + 1) count more)
 
 -- An enrolment that is answered that there are as many callers as there may be.
 
-added_caps : (caps : Limits) (state : State) (address : List ℕ) (refusal : Option Refusal) → state.caps ≡ caps → (add_at state address refusal).state.caps ≡ caps
+added_caps : (caps : Limits) (state : State) (address : List ℕ) (refusal : Option Refusal) → state.caps ≡ caps
+    → (add_at state address refusal).state.caps ≡ caps
 added_caps caps state address None same = same
 added_caps caps state address (Some refusal) same = same
 

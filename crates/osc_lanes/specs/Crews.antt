@@ -1,5 +1,5 @@
 -- Inside the crate: the callers that caller 0 enrols for lanes.
-use Rattle.std.specs.Prelude.{◌≡◌, ℕ, zero, suc, ◌+◌, ◌≤◌, List, [], ◌∷◌, length, map, All, Option, None, Some}
+use Rattle.std.specs.Prelude.{◌≡◌, ℕ, zero, suc, ◌+◌, ◌<◌, List, [], ◌∷◌, length, map, All, Option, None, Some}
 use Rattle.osc_model.specs.Limits.{Limits}
 use Rattle.osc_model.specs.Events.{Room, enrol, record_full}
 use Rattle.osc_model.specs.History.{stepped_in}
@@ -36,9 +36,9 @@ IsSilent caller = own (number_of (view caller.pass)) (seen_by caller) ≡ []
 abbrev pub HasSeen : List Seen → Caller → Type 0
 HasSeen seen caller = StartsWith (seen_by caller) seen
 
--- Caller 0 enrolled these callers, which have no entries of their own, and so many tokens were made.
--- If it has seen no entries but its own, these are the enrolments, and the callers are numbered as
--- their tokens are.
+-- Caller 0 enrolled these callers, which have no entries of their own, and so many tokens were
+-- made. If it has seen no entries but its own, these are the enrolments, and the callers are
+-- numbered as their tokens are.
 pub record IsCrew (made : ℕ) (first : View) (callers : List Caller) : Type 0 where
   pub token : number_of first ≡ 0
   pub made_is : first.made ≡ made
@@ -58,7 +58,7 @@ abbrev pub HasEnrolled : Limits → ℕ → View → List Caller → Option (Enr
 HasEnrolled caps count first callers None =
     IsCrew (1 + length callers) first callers × (length callers ≡ count)
 HasEnrolled caps count first callers (Some refused) =
-    IsCrew (2 + length callers) first callers × (suc (length callers) ≤ count)
+    IsCrew (2 + length callers) first callers × (length callers < count)
     × FindsNoRoom caps first refused.0
 
 module _ {M : Type 0} where

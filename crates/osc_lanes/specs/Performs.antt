@@ -95,8 +95,8 @@ module _ {M : Type 0} where
   -- The parts were played on one new server, each as a lane beside the others, unless the recording
   -- had no room for an enrolment: then no lane was started, and all boxes come back. There is one
   -- history, which is recorded, and each lane has its share of it. The ids that it adds are those
-  -- of the boxes that are kept and of those that lanes removed, each once; and these boxes have heard
-  -- the history, each with the mark of its id's entry.
+  -- of the boxes that are kept and of those that lanes removed, each once; and these boxes have
+  -- heard the history, each with the mark of its id's entry.
   pub record Performs (keep : M → ℕ) (heard : M → Option (List ℕ)) (caps : Limits)
       (parts : List (Part M)) (recording : List ℕ) (kept : List (ℕ × M))
       (accounts : List (Account M)) (unenrolled : Option Room) : Type 0 where

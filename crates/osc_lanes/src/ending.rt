@@ -1,5 +1,5 @@
 // What comes of lanes at the end of their server.
-ghost use Rattle.std.specs.Prelude.{◌≡◌, ◌≤◌, ◌+◌, [], ◌∷◌, length, map, All, IfOk, None};
+ghost use Rattle.std.specs.Prelude.{◌≡◌, ◌≤◌, ◌+◌, ◌∷◌, length, map, All, IfOk, None};
 ghost use Rattle.osc_core.specs.Telling.{told};
 ghost use Rattle.osc_live.specs.Seen.{IsTokenOf};
 ghost use Rattle.osc_live.specs.Closing.{Closes, known, views_of, made_by, StartsAtZero};
