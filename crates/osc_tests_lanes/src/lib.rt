@@ -2,4 +2,8 @@
 #![tactic(auto)]
 
 #[cfg(test)]
+mod parts;
+#[cfg(test)]
+mod performed;
+#[cfg(test)]
 mod two_lanes;

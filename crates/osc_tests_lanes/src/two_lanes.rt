@@ -1,68 +1,25 @@
 // Two lanes on one server, each held at its first line until the other has played its own.
-ghost use Rattle.std.specs.Prelude.{◌≡◌, ◌≤◌, [], length, OnOk, IfOk, All};
+ghost use Rattle.std.specs.Prelude.{◌≡◌, ◌≤◌, [], length, IfOk};
 ghost use Rattle.osc_turn.specs.History.{own};
 ghost use Rattle.osc_turn.specs.Rule.{number_of};
 ghost use Rattle.osc_turn.specs.Passes.{view};
 ghost use Rattle.osc_live.specs.Seen.{IsTokenOf};
-ghost use Rattle.osc_lanes.specs.Shares.{adds_of, count_adds};
+ghost use Rattle.osc_lanes.specs.Shares.{count_adds};
 
+use crate::parts::{address, empty, push_add, push_line};
 use osc_atoms::Fault;
-use osc_lanes::{Gate, LaneEnd, LanePlan, play};
+use osc_lanes::{Gate, LaneEnd, LanePart, LanePlan, play};
 use osc_live::{Caller, Live};
 use osc_message::Bytes;
-use osc_method::{Method, Mute};
-use osc_pattern::Address;
+use osc_method::Mute;
 use osc_record::Caps;
-use osc_script::{Act, Line};
-use std::alloc::{AllocError, Global};
+use osc_script::Act;
+use std::alloc::Global;
 use std::sync::Wait;
 use std::sync::atomic::{AtomicU64, Ordering};
 use std::test::*;
 use std::thread;
 use std::thread::Threads;
-
-/// The lines of a lane, and a box for each that adds a method.
-#[derive(Drop)]
-struct Part {
-    lines: Vec<Line>,
-    boxes: Vec<Mute>,
-}
-
-/// A lane with no lines.
-fn empty(alloc: Global) -> Part
-    ensures { count_adds result.lines.items ≤ length result.boxes.items }
-{
-    Part {
-        lines: Vec::new(alloc),
-        boxes: Vec::new(alloc),
-    }
-}
-
-fn push_line(part: &mut Part, number: u32, act: Act) -> Result<(), AllocError>
-    requires whole { count_adds part.old.lines.items ≤ length part.old.boxes.items }
-    requires none { adds_of act ≡ 0 }
-    ensures { OnOk result (count_adds part.new.lines.items ≤ length part.new.boxes.items) }
-{
-    part.lines.push(Line {
-        number,
-        lane: 0,
-        act,
-    })?;
-    Ok(())
-}
-
-fn push_add(part: &mut Part, number: u32, address: Address, method: Mute) -> Result<(), AllocError>
-    requires { count_adds part.old.lines.items ≤ length part.old.boxes.items }
-    ensures { OnOk result (count_adds part.new.lines.items ≤ length part.new.boxes.items) }
-{
-    part.boxes.push(method)?;
-    part.lines.push(Line {
-        number,
-        lane: 0,
-        act: Act::Add(address),
-    })?;
-    Ok(())
-}
 
 /// Holds one lane before its first line until the other has left its own, for a bounded number of turns.
 #[derive(Drop)]
@@ -101,12 +58,8 @@ fn holding(lane: u32) -> Hold {
     }
 }
 
-fn address(alloc: Global, bytes: &[u8]) -> Result<Address, Fail> {
-    Ok(Address::read(alloc, bytes).ok().ok_or("an address")?)
-}
-
 /// Adds `/a`, sends it a message, releases it and removes the method.
-fn calling(alloc: Global) -> Result<Part, Fail>
+fn calling(alloc: Global) -> Result<LanePart<Mute>, Fail>
     ensures { IfOk result (λ part. count_adds part.lines.items ≤ length part.boxes.items) }
 {
     let mut part = empty(alloc);
@@ -119,7 +72,7 @@ fn calling(alloc: Global) -> Result<Part, Fail>
 }
 
 /// Sends what is no packet, sets the clock, and adds `/b` twice.
-fn adding(alloc: Global) -> Result<Part, Fail>
+fn adding(alloc: Global) -> Result<LanePart<Mute>, Fail>
     ensures { IfOk result (λ part. count_adds part.lines.items ≤ length part.boxes.items) }
 {
     let mut part = empty(alloc);
@@ -149,12 +102,12 @@ fn enrolled<W: Wait>(rt: &W, live: &Live<Mute>, first: Caller) -> Result<(Caller
 }
 
 /// The plan of a lane.
-fn plan_of(lane: u32, caller: Caller, part: Part) -> LanePlan<Mute>
+fn plan_of(lane: u32, caller: Caller, part: LanePart<Mute>) -> LanePlan<Mute>
     ensures caller { result.caller ≡ caller }
     ensures lines { result.lines.items ≡ part.lines.items }
     ensures boxes { result.boxes.items ≡ part.boxes.items }
 {
-    let Part { lines, boxes } = part;
+    let LanePart { lines, boxes } = part;
     LanePlan {
         lane,
         caller,

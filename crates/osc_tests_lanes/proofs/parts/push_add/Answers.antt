@@ -2,7 +2,7 @@ use Rattle.std.proofs.Common.{ap, arith, length, ◌∷◌, [], length-append}
 use Rattle.osc_script.specs.declared.act.Act.TheVariants.{Add}
 use Rattle.osc_lanes.specs.Shares.{count_adds}
 use Rattle.osc_tests_lanes.proofs.Counting.{count_push}
-use Rattle.osc_tests_lanes.proofs.two_lanes.push_add.Goals as goal
+use Rattle.osc_tests_lanes.proofs.parts.push_add.Goals as goal
 
 pub returns : goal.returns
 returns c =

@@ -1,7 +1,7 @@
 use Rattle.std.proofs.Common.{ap, arith}
 use Rattle.osc_lanes.specs.Shares.{count_adds}
 use Rattle.osc_tests_lanes.proofs.Counting.{count_push}
-use Rattle.osc_tests_lanes.proofs.two_lanes.push_line.Goals as goal
+use Rattle.osc_tests_lanes.proofs.parts.push_line.Goals as goal
 
 pub returns : goal.returns
 returns c =

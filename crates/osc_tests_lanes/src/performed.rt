@@ -1,0 +1,117 @@
+// Lanes that are performed on a new server, and what is recorded of them.
+ghost use Rattle.std.specs.Prelude.{◌≤◌, length, IfOk};
+ghost use Rattle.osc_lanes.specs.Shares.{count_adds};
+
+use crate::parts::{address, empty, push_add, push_line};
+use osc_lanes::{LanePart, OpenGate, Performed, perform};
+use osc_message::Bytes;
+use osc_method::Mute;
+use osc_record::{Caps, Event, Reader};
+use osc_replay::replay;
+use osc_script::Act;
+use std::alloc::Global;
+use std::sync::Wait;
+use std::test::*;
+use std::thread::Threads;
+
+/// Adds `/a`, and pumps.
+fn adding(alloc: Global) -> Result<LanePart<Mute>, Fail>
+    ensures { IfOk result (λ part. count_adds part.lines.items ≤ length part.boxes.items) }
+{
+    let mut part = empty(alloc);
+    push_add(&mut part, 1, address(alloc, b"/a")?, Mute)?;
+    push_line(&mut part, 3, Act::Pump)?;
+    Ok(part)
+}
+
+/// Sends messages to `/a` and to `/b`.
+fn sending(alloc: Global) -> Result<LanePart<Mute>, Fail>
+    ensures { IfOk result (λ part. count_adds part.lines.items ≤ length part.boxes.items) }
+{
+    let mut part = empty(alloc);
+    let first = Bytes::copied(alloc, b"/a\0\0")?;
+    let second = Bytes::copied(alloc, b"/b\0\0")?;
+    push_line(&mut part, 2, Act::Send(first))?;
+    push_line(&mut part, 4, Act::Send(second))?;
+    Ok(part)
+}
+
+/// Performs both on a server with so many bytes of recording.
+fn performed<R: Threads + Wait + Sync>(
+    rt: &R,
+    alloc: Global,
+    recording: u32,
+) -> Result<Performed<Mute>, Fail> {
+    let caps = Caps::new(8, 8, 8, 8, 3, recording).ok().ok_or("limits")?;
+    let adding = adding(alloc)?;
+    let sending = sending(alloc)?;
+    let mut parts = Vec::with_capacity(alloc, 2)?;
+    parts.push_reserved(adding);
+    parts.push_reserved(sending);
+    let performed = perform(rt, alloc, caps, parts, &OpenGate)?;
+    Ok(performed)
+}
+
+/// A letter for each event of the caller, and for a packet that of its address.
+fn letters(alloc: Global, bytes: &[u8], caller: u32) -> Result<Vec<u8>, Fail> {
+    let mut letters = Vec::new(alloc);
+    if bytes.len() > 4096 {
+        return Ok(letters);
+    }
+    let reader = Reader::check(bytes).ok().ok_or("a recording")?;
+    for entry in reader.entries() {
+        if entry.caller == caller {
+            letters.push(letter(&entry.event))?;
+        }
+    }
+    Ok(letters)
+}
+
+fn letter(event: &Event<'_>) -> u8 {
+    match event {
+        Event::Enrol => b'e',
+        Event::Submit(packet) => packet.get(1).copied().unwrap_or(b'?'),
+        Event::Add(_) => b'+',
+        Event::Remove(_) => b'-',
+        Event::Tick(_) => b't',
+        Event::Release => b'r',
+    }
+}
+
+#[test]
+fn each_caller_has_the_entries_of_its_lane_in_order(rt: HostRuntime) -> Result<(), Fail> {
+    let done = performed(&rt, rt.alloc(), 4096)?;
+    assert_eq!(rt; done.unenrolled, None);
+    assert_eq!(rt; (done.lanes.len(), done.kept.len()), (2, 1));
+    let bytes = done.bytes.as_slice();
+    assert!(rt; bytes.len() <= 4096);
+    assert!(rt; replay(rt.alloc(), bytes).is_ok());
+    assert_eq!(rt; letters(rt.alloc(), bytes, 0)?.as_slice(), b"ee".as_slice());
+    assert_eq!(rt; letters(rt.alloc(), bytes, 2)?.as_slice(), b"ab".as_slice());
+    // What is queued when the lane pumps is released.
+    let first = letters(rt.alloc(), bytes, 1)?;
+    assert!(rt; b"+rr".as_slice().starts_with(first.as_slice()) && !first.is_empty());
+    for lane in &done.lanes {
+        assert!(rt; lane.faults.is_empty() && lane.removed.is_empty() && lane.back.is_empty());
+        assert_eq!(rt; lane.stop, None);
+    }
+    Ok(())
+}
+
+#[test]
+fn no_lane_is_started_where_an_enrolment_finds_no_room(rt: HostRuntime) -> Result<(), Fail> {
+    // The header has 56 bytes, and the first enrolment 28.
+    let done = performed(&rt, rt.alloc(), 56 + 28)?;
+    let room = done.unenrolled.ok_or("a room")?;
+    assert_eq!(rt; (room.need, room.free), (28, 0));
+    assert_eq!(rt;
+        (done.bytes.len(), done.kept.len(), done.lanes.len()),
+        (84, 0, 2)
+    );
+    let boxes = [1, 0];
+    for (lane, count) in done.lanes.iter().zip(boxes) {
+        assert_eq!(rt; lane.back.len(), count);
+        assert!(rt; lane.faults.is_empty() && lane.removed.is_empty() && lane.stop.is_none());
+    }
+    Ok(())
+}
