@@ -5,6 +5,7 @@ pub mod Bank
 pub mod Commands
 pub mod Ends
 pub mod Enough
+pub mod Lanes
 -- Inside the crate.
 pub mod Tally
 pub mod Whole

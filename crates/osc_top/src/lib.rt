@@ -5,6 +5,8 @@ mod boxes;
 mod command;
 pub mod laws;
 mod lines;
+mod live;
+mod name;
 mod player;
 mod playing;
 mod recorded;
@@ -14,4 +16,6 @@ mod whole;
 mod writing;
 
 pub use boxes::traces;
+pub use live::live_top;
+pub use name::recording_name;
 pub use top::{Ended, plain_top};

@@ -1,0 +1,105 @@
+//! The top call of many threads.
+ghost use Rattle.osc_top.specs.declared.status.TheConstants.{BANK_SHORT, DONE, NO_MEMORY, RECORDING_FULL, SINK_FAILED, SOURCE_FAILED, USAGE};
+ghost use Rattle.std.specs.Prelude.{◌≡◌, ◌≢◌, ◌⊎◌, ◌≤◌, IsTrue, true, false, IsOkAnd, IfSome, Some, [], length, map, string_bytes};
+ghost use Rattle.osc_edge.specs.Faults.{Rose};
+ghost use Rattle.osc_core.specs.Ids.{is_ascending};
+ghost use Rattle.osc_script.specs.declared.script.TheConstants.{MAX_SCRIPT};
+ghost use Rattle.osc_script.specs.declared.mode.Mode.TheVariants.{Lanes};
+ghost use Rattle.osc_script.specs.Scripts.{script_of};
+ghost use Rattle.osc_top.specs.Commands.{are_lanes};
+ghost use Rattle.osc_top.specs.Plain.{live_caps, count_adds};
+ghost use Rattle.osc_top.specs.Printing.{usage_text};
+ghost use Rattle.osc_top.specs.Ends.{GainsUnless, left_behind, IsUnplayed};
+ghost use Rattle.osc_top.specs.Lanes.{EndsLanes};
+
+use crate::top::Ended;
+use osc_edge::{Sink, Source};
+use osc_lanes::Gate;
+use osc_method::Method;
+use std::alloc::Global;
+use std::sync::Wait;
+use std::thread::Threads;
+
+/// Does all that the program of many threads does. `lanes FILE` reads a script from `input` to its end, plays each of its
+/// lanes by a thread of its own on one new server, and writes the recording to `rec`, and then the printed history and
+/// the faults of the lanes' packets to `out`. `osc replay` prints the same history from the recording.
+///
+/// `words` are those of the command line, without the program's name. The k-th add of the script, whatever its lane, gets
+/// the k-th box of `bank`. `gate` is called round each line. What stands in the sinks, and what becomes of the boxes, at
+/// want of memory isn't said.
+pub fn live_top<S: Source, O: Sink, R: Sink, W: Threads + Wait + Sync, G: Gate + Sync>(
+    rt: &W,
+    alloc: Global,
+    words: &[String],
+    input: &mut S,
+    out: &mut O,
+    rec: &mut R,
+    bank: Vec<Box<dyn Method + Send>>,
+    gate: &G,
+) -> Ended
+    ensures known { (result.status ≤ RECORDING_FULL) ⊎ (result.status ≡ BANK_SHORT) }
+
+    // Words that are no command are answered first, by a line on usage, and nothing is read then.
+    ensures usage { result.status ≡ USAGE → are_lanes (map string_bytes words.now) ≡ false }
+    ensures no_command { are_lanes (map string_bytes words.now) ≡ false
+        → (result.status ≡ USAGE) ⊎ (result.status ≡ NO_MEMORY) }
+    ensures unread { are_lanes (map string_bytes words.now) ≡ false → input.new ≡ input.old }
+    ensures usage_text { result.status ≡ USAGE → GainsUnless (O.held out.old) (O.held out.new)
+        (O.faults out.old) (O.faults out.new) usage_text }
+
+    // Then a source that failed, of which nothing is written. Any other answer but want of memory means that the
+    // source didn't fail, and that it was read to its end, or to the first byte that is too many.
+    ensures source { result.status ≡ SOURCE_FAILED
+        → Rose (S.faults input.old) (S.faults input.new) }
+    ensures unwritten { result.status ≡ SOURCE_FAILED → out.new ≡ out.old }
+    ensures sound { result.status ≢ NO_MEMORY → result.status ≢ SOURCE_FAILED
+        → S.faults input.new ≡ S.faults input.old }
+    ensures read { IsTrue (are_lanes (map string_bytes words.now)) → IfSome (S.left input.old)
+        (λ all. result.status ≢ NO_MEMORY → result.status ≢ SOURCE_FAILED →
+        S.left input.new ≡ Some (left_behind MAX_SCRIPT all)) }
+
+    // Then a script that is refused, or that adds more methods than there are boxes, or what its lanes came to, with
+    // sinks that took all of it or failed.
+    ensures lanes { IsTrue (are_lanes (map string_bytes words.now)) → IfSome (S.left input.old)
+        (λ script. result.status ≢ SOURCE_FAILED →
+        EndsLanes (λ box. keep box) (λ box. heard box) live_caps result.status script bank.items
+        result.heard.items result.left.items
+        (record {
+          before = R.held rec.old;
+          after = R.held rec.new;
+          faults = R.faults rec.old;
+          now = R.faults rec.new;
+        })
+        (record {
+          before = O.held out.old;
+          after = O.held out.new;
+          faults = O.faults out.old;
+          now = O.faults out.new;
+        })) }
+    ensures sink { result.status ≡ SINK_FAILED
+        → Rose (O.faults out.old) (O.faults out.new) ⊎ Rose (R.faults rec.old) (R.faults rec.new) }
+    ensures unrecorded { IsUnplayed result.status → rec.new ≡ rec.old }
+
+    // Done means that nothing failed and that the input was read to its end.
+    ensures steady { result.status ≡ DONE → (O.faults out.new ≡ O.faults out.old)
+        × (R.faults rec.new ≡ R.faults rec.old) }
+    ensures ended { result.status ≡ DONE
+        → IfSome (S.left input.old) (λ all. S.left input.new ≡ Some []) }
+
+    // The boxes that were added stand by their ids. Where nothing was played, all of them come back.
+    ensures ascending { IsTrue (is_ascending (map (λ one. one.0) result.heard.items)) }
+    ensures none_heard { IsUnplayed result.status → result.heard.items ≡ [] }
+    ensures all_left { IsUnplayed result.status → result.left.items ≡ bank.items }
+
+    // A lawful script with enough boxes is played, over edges that don't fail, unless memory runs out.
+    ensures complete { IsTrue (are_lanes (map string_bytes words.now)) → IfSome (S.left input.old)
+        (λ script. IsOkAnd (script_of Lanes script) (λ lines. count_adds lines ≤ length bank.items)
+        → ¬ Rose (S.faults input.old) (S.faults input.new)
+        → ¬ Rose (O.faults out.old) (O.faults out.new)
+        → ¬ Rose (R.faults rec.old) (R.faults rec.new) →
+        (result.status ≡ DONE) ⊎ (result.status ≡ NO_MEMORY)
+        ⊎ (result.status ≡ RECORDING_FULL)) }
+{
+    for _ in rt.forever() {}
+    unreachable!()
+}
