@@ -10,3 +10,6 @@ mod Runs
 mod Transfers
 mod Tops
 mod Enough
+mod Dealt
+mod Staged
+mod LaneEnds

@@ -19,7 +19,7 @@ no_room : (stop : Option CodeRoom) → is_some stop ≡ false → option_map roo
 no_room None none = refl
 no_room (Some room) none = absurd (cc)
 
-count_cons : (line : Line) (lines : List Line) → count_adds (line ∷ lines) ≡ adds_of line.act + count_adds lines
+pub count_cons : (line : Line) (lines : List Line) → count_adds (line ∷ lines) ≡ adds_of line.act + count_adds lines
 count_cons line lines = go (is_add line.act) where
   go : (t : Bool) → length (cond t (line ∷ filter (λ other. is_add other.act) lines) (filter (λ other. is_add other.act) lines))
       ≡ cond {A = ℕ} t 1 0 + count_adds lines

@@ -1,6 +1,6 @@
 -- What a run of lanes comes to, and how a program that plays lanes ends.
 use Rattle.osc_top.specs.declared.status.TheConstants.{BANK_SHORT, DONE, NO_MEMORY, RECORDING_FULL, REFUSED, SINK_FAILED}
-use Rattle.std.specs.Prelude.{◌≡◌, ◌⊎◌, ℕ, zero, suc, ◌+◌, ◌≤◌, ◌<◌, ◌==◌, max, List, [], ◌∷◌, ◌++◌, length, map, filter, drop, Option, Some, None, IsSome, IsOkAnd, IsErrAnd, if◌then◌else◌}
+use Rattle.std.specs.Prelude.{◌≡◌, ◌⊎◌, ℕ, zero, suc, ◌+◌, ◌≤◌, ◌<◌, ◌==◌, max, List, [], ◌∷◌, ◌++◌, length, map, filter, drop, Option, Some, None, IsOkAnd, IsErrAnd, if◌then◌else◌}
 use Rattle.std.specs.List.{AllByRecursion, flat_map}
 use Rattle.std.specs.Option.{option_or}
 use Rattle.osc_edge.specs.Faults.{Rose}

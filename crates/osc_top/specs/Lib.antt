@@ -10,3 +10,6 @@ pub mod Lanes
 pub mod Tally
 pub mod Whole
 pub mod Tallied
+pub mod Dealt
+pub mod Staged
+pub mod Recorded

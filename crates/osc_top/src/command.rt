@@ -21,6 +21,16 @@ pub(crate) enum Command {
     Replay,
 }
 
+/// Whether the words say to play lanes, `lanes FILE`.
+pub(crate) fn are_lanes(words: &[String]) -> bool
+    ensures { result ≡ Commands.are_lanes (map string_bytes words.now) }
+{
+    match words {
+        [word, _name] => word.as_str() == "lanes",
+        _ => false,
+    }
+}
+
 /// The command that the words say: `run`, `run --bytes` or `replay`.
 pub(crate) fn command_of(words: &[String]) -> Option<Command>
     ensures { result ≡ Commands.command_of (map string_bytes words.now) }

@@ -1,15 +1,16 @@
 //! What the definitions say of examples, of a recording with room enough, and of a pump.
-ghost use Rattle.std.specs.Prelude.{◌≡◌, ◌≤◌, false, List, IsOkAnd, None, codes};
+ghost use Rattle.std.specs.Prelude.{◌≡◌, ◌≤◌, ◌∷◌, [], ℕ, false, List, IsOkAnd, None, codes, map};
 ghost use Rattle.osc_model.specs.Limits.{Limits};
 ghost use Rattle.osc_model.specs.State.{State};
 ghost use Rattle.osc_model.specs.Events.{release};
 ghost use Rattle.osc_model.specs.Step.{step};
 ghost use Rattle.osc_model.specs.History.{after};
 ghost use Rattle.osc_script.specs.declared.line.Line.{Line};
-ghost use Rattle.osc_script.specs.declared.mode.Mode.TheVariants.{Plain};
+ghost use Rattle.osc_script.specs.declared.mode.Mode.TheVariants.{Plain, Lanes};
 ghost use Rattle.osc_script.specs.Scripts.{script_of};
 ghost use Rattle.osc_top.specs.Plain.{is_released, pump, plain};
 ghost use Rattle.osc_top.specs.Enough.{enough};
+ghost use Rattle.osc_top.specs.Lanes.{parts_of};
 ghost use Rattle.osc_top.specs.Ends.{run_text};
 
 /// A method, a message to it, and its call.
@@ -25,6 +26,15 @@ pub fn first_light()
 pub fn early_tick()
     ensures { IsOkAnd (script_of Plain (codes "tick 0000000000000000\n"))
         (λ lines. run_text lines ≡ codes "tick 0 0000000000000000 clock-back 0000000000000001\n") }
+{}
+
+/// Three lines of three lanes, of which one has no line, and a bank of three boxes, of which one is left.
+pub fn lines_are_dealt_to_their_lanes()
+    ensures { IsOkAnd (script_of Lanes (codes "0 add /a\n2 add /b\n0 pump\n"))
+        (λ lines. map {B = List ℕ × List ℕ}
+        (λ part. (map (λ line. line.number) part.lines, part.boxes))
+        (parts_of lines (7 ∷ 8 ∷ 9 ∷ []))
+        ≡ (1 ∷ 3 ∷ [], 7 ∷ []) ∷ ([], []) ∷ (2 ∷ [], 8 ∷ []) ∷ []) }
 {}
 
 /// A recording of as many bytes as `enough` says never stops a script.

@@ -2,14 +2,19 @@
 #![tactic(auto)]
 
 mod boxes;
+mod caps;
 mod command;
+mod counting;
+mod dealing;
 pub mod laws;
 mod lines;
 mod live;
+mod live_writing;
 mod name;
 mod player;
 mod playing;
 mod recorded;
+mod staging;
 mod status;
 mod top;
 mod whole;

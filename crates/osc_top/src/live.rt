@@ -1,21 +1,30 @@
 //! The top call of many threads.
-ghost use Rattle.osc_top.specs.declared.status.TheConstants.{BANK_SHORT, DONE, NO_MEMORY, RECORDING_FULL, SINK_FAILED, SOURCE_FAILED, USAGE};
-ghost use Rattle.std.specs.Prelude.{◌≡◌, ◌≢◌, ◌⊎◌, ◌≤◌, IsTrue, true, false, IsOkAnd, IfSome, Some, [], length, map, string_bytes};
+ghost use Rattle.osc_top.specs.declared.status.TheConstants.{BANK_SHORT, DONE, NO_MEMORY, RECORDING_FULL, REFUSED, SINK_FAILED, SOURCE_FAILED, USAGE};
+ghost use Rattle.std.specs.Prelude.{◌≡◌, ◌≢◌, ◌⊎◌, ◌≤◌, ◌<◌, ℕ, IsTrue, true, false, IsOkAnd, IsErrAnd, IfSome, Some, Ok, List, [], length, map, string_bytes};
 ghost use Rattle.osc_edge.specs.Faults.{Rose};
 ghost use Rattle.osc_core.specs.Ids.{is_ascending};
 ghost use Rattle.osc_script.specs.declared.script.TheConstants.{MAX_SCRIPT};
 ghost use Rattle.osc_script.specs.declared.mode.Mode.TheVariants.{Lanes};
-ghost use Rattle.osc_script.specs.Scripts.{script_of};
+ghost use Rattle.osc_script.specs.Scripts.{script_of, AreOf};
 ghost use Rattle.osc_top.specs.Commands.{are_lanes};
 ghost use Rattle.osc_top.specs.Plain.{live_caps, count_adds};
-ghost use Rattle.osc_top.specs.Printing.{usage_text};
+ghost use Rattle.osc_top.specs.Printing.{usage_text, refusal_text};
 ghost use Rattle.osc_top.specs.Ends.{GainsUnless, left_behind, IsUnplayed};
 ghost use Rattle.osc_top.specs.Lanes.{EndsLanes};
 
-use crate::top::Ended;
+use crate::command::are_lanes;
+use crate::counting::count_adds;
+use crate::live_writing::write_both;
+use crate::playing::Played;
+use crate::staging::stage;
+use crate::status::{NO_MEMORY, SOURCE_FAILED, USAGE};
+use crate::top::{Ended, unplayed};
+use crate::whole::{Input, read_whole};
+use crate::writing::{bank_short, last_line, refuse};
 use osc_edge::{Sink, Source};
 use osc_lanes::Gate;
 use osc_method::Method;
+use osc_script::{Line, MAX_SCRIPT, Mode, Script, ScriptFault, ScriptRefusal};
 use std::alloc::Global;
 use std::sync::Wait;
 use std::thread::Threads;
@@ -100,6 +109,129 @@ pub fn live_top<S: Source, O: Sink, R: Sink, W: Threads + Wait + Sync, G: Gate +
         (result.status ≡ DONE) ⊎ (result.status ≡ NO_MEMORY)
         ⊎ (result.status ≡ RECORDING_FULL)) }
 {
-    for _ in rt.forever() {}
-    unreachable!()
+    if !are_lanes(words) {
+        return unplayed(alloc, last_line(USAGE, b"usage\n", out), bank);
+    }
+    match read_whole(alloc, MAX_SCRIPT, input) {
+        Input::Whole(bytes) => play_script(rt, alloc, bytes, out, rec, bank, gate),
+        Input::TooLong => unplayed(alloc, refuse_long(alloc, out), bank),
+        Input::Failed => unplayed(alloc, SOURCE_FAILED, bank),
+        Input::NoMemory => unplayed(alloc, NO_MEMORY, bank),
+    }
+}
+
+/// Refuses a script that is too long.
+fn refuse_long<O: Sink>(alloc: Global, out: &mut O) -> u8
+    ensures known { (result ≡ 1) ⊎ (result ≡ 3) }
+    ensures refused { (script : List ℕ) → MAX_SCRIPT < length script → result ≡ 1
+        → IsErrAnd (script_of Lanes script)
+        (λ fault. GainsUnless (O.held out.old) (O.held out.new) (O.faults out.old)
+        (O.faults out.new) (refusal_text fault)) }
+{
+    let fault = ScriptFault {
+        line: 0,
+        kind: ScriptFault::TOO_LONG,
+    };
+    refuse(alloc, fault, out)
+}
+
+/// Reads the script and plays its lanes. The memory of the input is given back before anything is played.
+fn play_script<O: Sink, R: Sink, W: Threads + Wait + Sync, G: Gate + Sync>(
+    rt: &W,
+    alloc: Global,
+    bytes: Vec<u8>,
+    out: &mut O,
+    rec: &mut R,
+    bank: Vec<Box<dyn Method + Send>>,
+    gate: &G,
+) -> Ended
+    ensures ends { EndsLanes (λ box. keep box) (λ box. heard box) live_caps result.status
+        bytes.items bank.items result.heard.items result.left.items
+        (record {
+          before = R.held rec.old;
+          after = R.held rec.new;
+          faults = R.faults rec.old;
+          now = R.faults rec.new;
+        })
+        (record {
+          before = O.held out.old;
+          after = O.held out.new;
+          faults = O.faults out.old;
+          now = O.faults out.new;
+        }) }
+    ensures sink { result.status ≡ SINK_FAILED
+        → Rose (O.faults out.old) (O.faults out.new) ⊎ Rose (R.faults rec.old) (R.faults rec.new) }
+    ensures steady { result.status ≡ DONE → (O.faults out.new ≡ O.faults out.old)
+        × (R.faults rec.new ≡ R.faults rec.old) }
+    ensures unrecorded { (result.status ≡ REFUSED) ⊎ (result.status ≡ BANK_SHORT)
+        → rec.new ≡ rec.old }
+    ensures ascending { IsTrue (is_ascending (map (λ one. one.0) result.heard.items)) }
+    ensures none_heard { (result.status ≡ REFUSED) ⊎ (result.status ≡ BANK_SHORT)
+        → result.heard.items ≡ [] }
+    ensures all_left { (result.status ≡ REFUSED) ⊎ (result.status ≡ BANK_SHORT)
+        → result.left.items ≡ bank.items }
+{
+    let read = Script::read(alloc, &bytes, Mode::Lanes);
+    drop(bytes);
+    match read {
+        Ok(script) => play_lanes(rt, alloc, script.into_lines(), out, rec, bank, gate),
+        Err(ScriptRefusal::Fault(fault)) => unplayed(alloc, refuse(alloc, fault, out), bank),
+        Err(ScriptRefusal::NoMemory) => unplayed(alloc, NO_MEMORY, bank),
+    }
+}
+
+fn play_lanes<O: Sink, R: Sink, W: Threads + Wait + Sync, G: Gate + Sync>(
+    rt: &W,
+    alloc: Global,
+    lines: Vec<Line>,
+    out: &mut O,
+    rec: &mut R,
+    bank: Vec<Box<dyn Method + Send>>,
+    gate: &G,
+) -> Ended
+    requires lanes { AreOf Lanes lines.items }
+    ensures ends { (script : List ℕ) → script_of Lanes script ≡ Ok lines.items →
+        EndsLanes (λ box. keep box) (λ box. heard box) live_caps result.status
+        script bank.items result.heard.items result.left.items
+        (record {
+          before = R.held rec.old;
+          after = R.held rec.new;
+          faults = R.faults rec.old;
+          now = R.faults rec.new;
+        })
+        (record {
+          before = O.held out.old;
+          after = O.held out.new;
+          faults = O.faults out.old;
+          now = O.faults out.new;
+        }) }
+    ensures known { result.status ≢ REFUSED }
+    ensures sink { result.status ≡ SINK_FAILED
+        → Rose (O.faults out.old) (O.faults out.new) ⊎ Rose (R.faults rec.old) (R.faults rec.new) }
+    ensures steady { result.status ≡ DONE → (O.faults out.new ≡ O.faults out.old)
+        × (R.faults rec.new ≡ R.faults rec.old) }
+    ensures unrecorded { result.status ≡ BANK_SHORT → rec.new ≡ rec.old }
+    ensures ascending { IsTrue (is_ascending (map (λ one. one.0) result.heard.items)) }
+    ensures none_heard { result.status ≡ BANK_SHORT → result.heard.items ≡ [] }
+    ensures all_left { result.status ≡ BANK_SHORT → result.left.items ≡ bank.items }
+{
+    let need = count_adds(&lines);
+    if bank.len() < need {
+        let status = bank_short(alloc, need, bank.len(), out);
+        return unplayed(alloc, status, bank);
+    }
+    match stage(rt, alloc, lines, bank, gate) {
+        Ok(
+            Played {
+                recorded,
+                heard,
+                left,
+            },
+        ) => Ended {
+            status: write_both(alloc, &recorded, out, rec),
+            heard,
+            left,
+        },
+        Err(_) => unplayed(alloc, NO_MEMORY, Vec::new(alloc)),
+    }
 }

@@ -1,6 +1,7 @@
 //! The file that the words name.
-ghost use Rattle.std.specs.Prelude.{◌≡◌, map, string_bytes};
+ghost use Rattle.std.specs.Prelude.{◌≡◌, ◌||◌, map, string_bytes, codes};
 ghost use Rattle.std.specs.Option.{option_copied};
+ghost use Rattle.std.specs.Str.{bytes_eq};
 ghost use Rattle.osc_top.specs.Commands.{name_in};
 
 /// The name of the file for the recording: the last of at least two words, of which the first is `lanes` or `serve`.
@@ -8,7 +9,14 @@ pub fn recording_name(words: &[String]) -> Option<&str>
     ensures { option_copied result ≡ name_in (map string_bytes words.now) }
 {
     match words {
-        [word, .., name] if word == "lanes" || word == "serve" => Some(name.as_str()),
+        [word, .., name] if names_recording(word.as_str()) => Some(name.as_str()),
         _ => None,
     }
+}
+
+/// Whether a command of this word has the name of a file as its last word.
+fn names_recording(word: &str) -> bool
+    ensures { result ≡ (bytes_eq word.now (codes "lanes") || bytes_eq word.now (codes "serve")) }
+{
+    word == "lanes" || word == "serve"
 }

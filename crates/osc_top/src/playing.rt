@@ -14,6 +14,7 @@ ghost use Rattle.osc_top.specs.Ends.{IsRunOf, RunsByTheLaws};
 ghost use Rattle.osc_top.specs.Bank.{IsAccounted};
 ghost use Rattle.osc_top.specs.Tallied.{HasTallied, IsDone, AreParted};
 
+use crate::caps::default_caps;
 use crate::player::Player;
 use crate::recorded::Recorded;
 use osc_atoms::Room;
@@ -21,7 +22,6 @@ use osc_core::{Closed, Core};
 use osc_laws::laws::every_history_keeps_the_laws;
 use osc_method::Method;
 use osc_print::Text;
-use osc_record::Caps;
 use osc_script::Line;
 use std::alloc::{AllocError, Global};
 use std::vec::IntoIter;
@@ -116,18 +116,8 @@ impl<M: Method> Player<M> {
     }
 }
 
-/// The limits of the program's server.
-fn default_caps() -> Caps
-    ensures { result ≡ scripts.default_caps }
-{
-    match Caps::new(4096, 16_384, 1024, 4096, 1, 67_108_864) {
-        Ok(caps) => caps,
-        Err(_) => unreachable!(),
-    }
-}
-
 /// The boxes of the registered methods and those of the removed ones, by ascending ids.
-fn gather<M: Method>(
+pub(crate) fn gather<M: Method>(
     mut kept: Vec<(u32, M)>,
     mut removed: Vec<(u32, M)>,
 ) -> Result<Vec<(u32, M)>, AllocError>
@@ -153,7 +143,7 @@ fn sort_by_id<M: Method>(heard: &mut Vec<(u32, M)>) -> Result<(), AllocError>
 }
 
 /// Keeps the boxes that no add has taken.
-fn keep_rest<M: Method>(left: &mut Vec<M>, rest: IntoIter<M>) -> Result<(), AllocError>
+pub(crate) fn keep_rest<M: Method>(left: &mut Vec<M>, rest: IntoIter<M>) -> Result<(), AllocError>
     ensures { OnOk result (left.new.items ≡ left.old.items ++ into_iter_items rest) }
 {
     for method in rest {

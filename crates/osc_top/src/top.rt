@@ -12,13 +12,13 @@ ghost use Rattle.osc_script.specs.Scripts.{script_of};
 ghost use Rattle.osc_top.specs.declared.command.Output.{Output};
 ghost use Rattle.osc_top.specs.declared.command.Command.TheVariants.{Run, Replay};
 ghost use Rattle.osc_top.specs.Plain as scripts;
-ghost use Rattle.osc_top.specs.Plain.{is_add};
 ghost use Rattle.osc_top.specs.Bank.{IsAccounted};
 ghost use Rattle.osc_top.specs.Printing.{usage_text};
 ghost use Rattle.osc_top.specs.Commands as commands;
 ghost use Rattle.osc_top.specs.Ends.{GainsUnless, IsUnstopped, RunsByTheLaws, RecordsTheLaws, EndsRun, EndsLines, EndsReplay, EndsCommand, left_behind, IsPlayed, IsUnplayed};
 
 use crate::command::{Command, Output, command_of};
+use crate::counting::count_adds;
 use crate::playing::{Played, play};
 use crate::status::{NO_MEMORY, SOURCE_FAILED, USAGE};
 use crate::whole::{Input, read_whole};
@@ -27,7 +27,7 @@ use osc_edge::{Sink, Source};
 use osc_method::Method;
 use osc_model::laws::a_legal_history_is_recordable;
 use osc_record::MAX_RECORDING;
-use osc_script::{Act, Line, MAX_SCRIPT, Mode, Script, ScriptFault, ScriptRefusal};
+use osc_script::{Line, MAX_SCRIPT, Mode, Script, ScriptFault, ScriptRefusal};
 use std::alloc::Global;
 
 /// How a program ends.
@@ -161,7 +161,7 @@ fn most_bytes(command: Command) -> usize
 }
 
 /// The end of a program that played nothing.
-fn unplayed(alloc: Global, status: u8, bank: Vec<Box<dyn Method + Send>>) -> Ended
+pub(crate) fn unplayed(alloc: Global, status: u8, bank: Vec<Box<dyn Method + Send>>) -> Ended
     ensures status { result.status ≡ status }
     ensures heard { result.heard.items ≡ [] }
     ensures left { result.left.items ≡ bank.items }
@@ -307,17 +307,4 @@ fn run_lines<O: Sink>(
         },
         Err(_) => unplayed(alloc, NO_MEMORY, Vec::new(alloc)),
     }
-}
-
-/// How many lines add a method.
-fn count_adds(lines: &[Line]) -> usize
-    ensures { result ≡ scripts.count_adds lines.now }
-{
-    lines.iter().filter(|line| is_add(&line.act)).count()
-}
-
-fn is_add(act: &Act) -> bool
-    ensures { result ≡ is_add act.now }
-{
-    matches!(act, Act::Add(_))
 }

@@ -8,7 +8,7 @@ ghost use Rattle.osc_record.specs.Shown.{room_of};
 ghost use Rattle.osc_replay.specs.Disagreeing.{IsRecordingOf};
 ghost use Rattle.osc_script.specs.declared.line.Line.{Line};
 ghost use Rattle.osc_top.specs.Printing.{refusal_text, malformed_text, disagrees_text, bank_short_text};
-ghost use Rattle.osc_top.specs.Ends as ends;
+ghost use Rattle.osc_top.specs.Recorded.{recorded_text, status_of};
 ghost use Rattle.osc_top.specs.Ends.{IsRunOf, EndsText, EndsLine, EndsPlayed, EndsReplay, RecordsTheLaws};
 
 use crate::command::Output;
@@ -41,29 +41,46 @@ pub(crate) fn write_recorded<O: Sink>(
         EndsPlayed output result lines (O.held out.old) (O.held out.new) (O.faults out.old)
         (O.faults out.new) }
 {
-    let status = match recorded.stop {
-        Some(_) => RECORDING_FULL,
-        None => DONE,
-    };
     match output {
-        Output::Recording => write_text(status, &recorded.bytes, out),
-        Output::Text => match run_text(alloc, recorded) {
-            Ok(text) => write_text(status, text.bytes(), out),
-            Err(_) => NO_MEMORY,
-        },
+        Output::Recording => write_text(played_status(recorded), &recorded.bytes, out),
+        Output::Text => write_run_text(alloc, recorded, out),
     }
 }
 
-/// The printed history, the lines of the faults, and where the script was stopped the line on that. An `Err` is want of
-/// memory.
+/// The status of what was played and written.
+fn played_status(recorded: &Recorded) -> u8
+    ensures { result ≡ status_of (option_map room_of recorded.now.stop) }
+{
+    match recorded.stop {
+        Some(_) => RECORDING_FULL,
+        None => DONE,
+    }
+}
+
+/// Writes the text of what was recorded.
+pub(crate) fn write_run_text<O: Sink>(alloc: Global, recorded: &Recorded, out: &mut O) -> u8
+    requires { (caps : Limits) × (history : List Entry)
+        × IsRecordingOf recorded.now.bytes.items caps history }
+    ensures { (caps : Limits) (history : List Entry)
+        → IsRecordingOf recorded.now.bytes.items caps history →
+        EndsText (status_of (option_map room_of recorded.now.stop)) result
+        (recorded_text caps history recorded.now.faults (option_map room_of recorded.now.stop))
+        (O.held out.old) (O.held out.new) (O.faults out.old) (O.faults out.new) }
+{
+    match run_text(alloc, recorded) {
+        Ok(text) => write_text(played_status(recorded), text.bytes(), out),
+        Err(_) => NO_MEMORY,
+    }
+}
+
+/// The printed history, the lines of the faults, and where it was stopped the line on that. An `Err` is want of memory.
 fn run_text(alloc: Global, recorded: &Recorded) -> Result<Text, AllocError>
-    requires { (lines : List Line)
-        × IsRunOf recorded.now.bytes.items recorded.now.faults
-        (option_map room_of recorded.now.stop) lines }
-    ensures { (lines : List Line)
-        → IsRunOf recorded.now.bytes.items recorded.now.faults
-        (option_map room_of recorded.now.stop) lines
-        → IfOk result (λ text. text ≡ ends.run_text lines) }
+    requires { (caps : Limits) × (history : List Entry)
+        × IsRecordingOf recorded.now.bytes.items caps history }
+    ensures { (caps : Limits) (history : List Entry)
+        → IsRecordingOf recorded.now.bytes.items caps history
+        → IfOk result (λ text. text ≡ recorded_text caps history recorded.now.faults
+        (option_map room_of recorded.now.stop)) }
 {
     a_legal_history_is_recordable();
     let mut text = match replay(alloc, &recorded.bytes) {

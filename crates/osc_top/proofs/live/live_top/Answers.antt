@@ -1,0 +1,15 @@
+use Rattle.osc_script.specs.declared.script.TheConstants.{MAX_SCRIPT}
+use Rattle.osc_top.proofs.LaneEnds.{whole_complete, long_complete}
+use Rattle.osc_top.proofs.Transfers.{left_whole}
+use Rattle.osc_top.proofs.live.live_top.Goals as goal
+
+pub returns-in-Whole-clause-read : goal.returns-in-Whole-clause-read
+returns-in-Whole-clause-read g c = λ lanes. left_whole MAX_SCRIPT _ _ c.in-Whole.bytes.items _ _ c.in-Whole.ensures.0 c.in-Whole.ensures.1
+
+pub returns-in-Whole-clause-complete : goal.returns-in-Whole-clause-complete
+returns-in-Whole-clause-complete g c = λ lanes.
+    whole_complete _ _ _ _ c.in-Whole.bytes.items _ c.args.bank.items _ _ _ _ _ _ _ c.in-Whole.ensures.0 c.play_script.ensures.ends c.play_script.ensures.sink
+
+pub returns-in-TooLong-clause-complete : goal.returns-in-TooLong-clause-complete
+returns-in-TooLong-clause-complete g c = λ lanes.
+    long_complete _ _ _ _ _ _ _ _ _ c.unplayed-in-TooLong.ensures.status c.refuse_long.ensures.known c.refuse_long.ensures.refused c.in-TooLong.ensures.0

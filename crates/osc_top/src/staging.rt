@@ -1,0 +1,170 @@
+// Plays the lanes of a script on a server, which records them.
+ghost use Rattle.std.specs.Prelude.{◌≡◌, ◌++◌, ◌≤◌, IsTrue, map, length, IfOk, OnOk};
+ghost use Rattle.std.specs.Option.{option_map, option_or};
+ghost use Rattle.std.specs.List.{flat_map};
+ghost use Rattle.std.specs.List.Sorted.{IsPermutation, IsNonDecreasingBy};
+ghost use Rattle.std.specs.Vec.Iter.{into_iter_items};
+ghost use Rattle.osc_core.specs.Answers.{room_of};
+ghost use Rattle.osc_core.specs.Ids.{is_ascending};
+ghost use Rattle.osc_lanes.specs.Performs.{told_of};
+ghost use Rattle.osc_print.specs.Lines.{fault_text};
+ghost use Rattle.osc_script.specs.declared.mode.Mode.TheVariants.{Lanes};
+ghost use Rattle.osc_script.specs.Scripts.{AreOf};
+ghost use Rattle.osc_top.specs.Plain.{count_adds};
+ghost use Rattle.osc_top.specs.Lanes.{first_stop, lane_faults};
+ghost use Rattle.osc_top.specs.Staged.{IsStaged};
+
+use crate::caps::live_caps;
+use crate::dealing::deal;
+use crate::playing::{Played, gather, keep_rest};
+use crate::recorded::Recorded;
+use osc_atoms::{Fault, Room};
+use osc_lanes::{Gate, LaneTold, Performed, perform};
+use osc_method::Method;
+use osc_print::{Text, fault_line};
+use osc_script::Line;
+use std::alloc::{AllocError, Global};
+use std::sync::Wait;
+use std::thread::Threads;
+use std::vec::IntoIter;
+
+/// Plays the lanes of the lines on a new server, beside each other; the k-th add gets the k-th box. An `Err` is want of
+/// memory.
+pub(crate) fn stage<M: Method + Send, W: Threads + Wait + Sync, G: Gate + Sync>(
+    rt: &W,
+    alloc: Global,
+    lines: Vec<Line>,
+    bank: Vec<M>,
+    gate: &G,
+) -> Result<Played<M>, AllocError>
+    requires enough { count_adds lines.items ≤ length bank.items }
+    requires lanes { AreOf Lanes lines.items }
+    ensures staged { IfOk result
+        (λ played. IsStaged M.keep M.heard lines.items bank.items played.heard.items
+        played.left.items played.recorded.bytes.items played.recorded.faults
+        (option_map room_of played.recorded.stop)) }
+    ensures ascending { IfOk result
+        (λ played. IsTrue (is_ascending (map (λ one. one.0) played.heard.items))) }
+{
+    let (parts, rest) = deal(alloc, lines, bank)?;
+    let performed = perform(rt, alloc, live_caps(), parts, gate)?;
+    let played = settle(alloc, performed, rest)?;
+    Ok(played)
+}
+
+/// Puts together what the lanes tell. The boxes that no lane got are among those that are left.
+fn settle<M: Method>(
+    alloc: Global,
+    performed: Performed<M>,
+    rest: IntoIter<M>,
+) -> Result<Played<M>, AllocError>
+    ensures bytes { IfOk result
+        (λ played. played.recorded.bytes.items ≡ performed.bytes.items) }
+    ensures faults { IfOk result (λ played. played.recorded.faults
+        ≡ lane_faults (map told_of performed.lanes.items)) }
+    ensures stop { IfOk result (λ played. option_map room_of played.recorded.stop
+        ≡ option_or (option_map room_of performed.unenrolled)
+        (first_stop (map told_of performed.lanes.items))) }
+    ensures each { IfOk result (λ played. IsPermutation (performed.kept.items
+        ++ flat_map (λ account. account.removed) (map told_of performed.lanes.items))
+        played.heard.items) }
+    ensures ascending { IfOk result
+        (λ played. IsNonDecreasingBy (λ one. one.0) played.heard.items) }
+    ensures left { IfOk result (λ played. played.left.items
+        ≡ flat_map (λ account. account.back) (map told_of performed.lanes.items)
+        ++ into_iter_items rest) }
+{
+    let Performed {
+        bytes,
+        kept,
+        lanes,
+        unenrolled,
+    } = performed;
+    let Gathered {
+        removed,
+        mut left,
+        faults,
+        stop,
+    } = gather_lanes(alloc, lanes)?;
+    let heard = gather(kept, removed)?;
+    keep_rest(&mut left, rest)?;
+    let stop = unenrolled.or(stop);
+    let recorded = Recorded {
+        bytes,
+        faults,
+        stop,
+    };
+    Ok(Played {
+        recorded,
+        heard,
+        left,
+    })
+}
+
+/// What lanes told, one lane after another.
+#[derive(Drop)]
+struct Gathered<M> {
+    removed: Vec<(u32, M)>,
+    left: Vec<M>,
+    /// The lines of the faults.
+    faults: Text,
+    /// That of the first lane that stopped.
+    stop: Option<Room>,
+}
+
+fn gather_lanes<M: Method>(
+    alloc: Global,
+    lanes: Vec<LaneTold<M>>,
+) -> Result<Gathered<M>, AllocError>
+    ensures removed { IfOk result (λ gathered. gathered.removed.items
+        ≡ flat_map (λ account. account.removed) (map told_of lanes.items)) }
+    ensures left { IfOk result (λ gathered. gathered.left.items
+        ≡ flat_map (λ account. account.back) (map told_of lanes.items)) }
+    ensures faults { IfOk result
+        (λ gathered. gathered.faults ≡ lane_faults (map told_of lanes.items)) }
+    ensures stop { IfOk result (λ gathered. option_map room_of gathered.stop
+        ≡ first_stop (map told_of lanes.items)) }
+{
+    let mut gathered = Gathered {
+        removed: Vec::new(alloc),
+        left: Vec::new(alloc),
+        faults: Text::open(alloc),
+        stop: None,
+    };
+    for lane in lanes {
+        gather_lane(&mut gathered, lane)?;
+    }
+    Ok(gathered)
+}
+
+fn gather_lane<M: Method>(gathered: &mut Gathered<M>, lane: LaneTold<M>) -> Result<(), AllocError>
+    ensures removed { OnOk result
+        (gathered.new.removed.items ≡ gathered.old.removed.items ++ lane.removed.items) }
+    ensures left { OnOk result
+        (gathered.new.left.items ≡ gathered.old.left.items ++ lane.back.items) }
+    ensures faults { OnOk result (gathered.new.faults ≡ gathered.old.faults
+        ++ flat_map (λ one. fault_text one.0 one.1) lane.faults.items) }
+    ensures stop { OnOk result (gathered.new.stop ≡ option_or gathered.old.stop lane.stop) }
+{
+    let LaneTold {
+        faults,
+        mut removed,
+        mut back,
+        stop,
+    } = lane;
+    gathered.removed.append(&mut removed)?;
+    gathered.left.append(&mut back)?;
+    fault_lines(&mut gathered.faults, &faults)?;
+    gathered.stop = gathered.stop.or(stop);
+    Ok(())
+}
+
+fn fault_lines(text: &mut Text, faults: &[(u32, Fault)]) -> Result<(), AllocError>
+    ensures { OnOk result
+        (text.new ≡ text.old ++ flat_map (λ one. fault_text one.0 one.1) faults.now) }
+{
+    for (line, fault) in faults {
+        fault_line(text, *line, *fault)?;
+    }
+    Ok(())
+}
