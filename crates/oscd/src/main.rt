@@ -1,0 +1,55 @@
+// An Open Sound Control server that plays the lanes of a script beside each other.
+#![tactic(auto)]
+
+use osc_edge::{FileSink, StdSink, StdSource};
+use osc_lanes::OpenGate;
+use osc_method::Method;
+use osc_top::{live_top, recording_name, traces};
+use std::alloc::AllocError;
+use std::process::ExitCode;
+use std::sync::Wait;
+use std::thread::Threads;
+use std::{env, io};
+
+const NO_MEMORY: u8 = 3;
+
+fn main(rt: HostRuntime) -> ExitCode {
+    match run(&rt, &rt) {
+        Ok(status) => ExitCode::from(status),
+        Err(_) => ExitCode::from(NO_MEMORY),
+    }
+}
+
+/// `threads` is the runtime too, which starts threads and waits only where `main` hands it on.
+fn run<W: Threads + Wait + Sync>(rt: &HostRuntime, threads: &W) -> Result<u8, AllocError> {
+    let alloc = rt.alloc();
+    let words = words(rt)?;
+    let mut bank: Vec<Box<dyn Method + Send>> = Vec::new(alloc);
+    for trace in traces(alloc)? {
+        bank.push(Box::new(alloc, trace)?)?;
+    }
+    let name = recording_name(&words).unwrap_or("");
+    let mut rec = FileSink::at(rt, String::from_str(alloc, name)?);
+    let mut input = StdSource::open(rt);
+    let mut out = StdSink::open(rt);
+    let ended = live_top(
+        threads, alloc, &words, &mut input, &mut out, &mut rec, bank, &OpenGate,
+    );
+    Ok(ended.status)
+}
+
+/// The words of the command line, without the program's name; none where one of them isn't UTF-8, which is no
+/// command either.
+fn words(rt: &HostRuntime) -> Result<Vec<String>, AllocError> {
+    let mut words = Vec::new(rt.alloc());
+    match env::args(rt) {
+        Ok(args) => {
+            for word in args.skip(1) {
+                words.push(word)?;
+            }
+        }
+        Err(error) if error.kind() == io::ErrorKind::InvalidData => {}
+        Err(_) => return Err(AllocError),
+    }
+    Ok(words)
+}
