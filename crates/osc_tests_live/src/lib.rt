@@ -1,0 +1,7 @@
+//! Tests of the program of many threads, over its public call.
+#![tactic(auto)]
+
+#[cfg(test)]
+mod hold;
+#[cfg(test)]
+mod live;

@@ -1,0 +1,214 @@
+// Scripts of lanes, run over sources and sinks in memory.
+use crate::hold::Hold;
+use osc_edge::{MemorySink, MemorySource, SteadySink, SteadySource};
+use osc_lanes::{Gate, OpenGate};
+use osc_method::{Method, Trace};
+use osc_top::{live_top, plain_top, recording_name};
+use std::alloc::{AllocError, Global};
+use std::process::Abort;
+use std::sync::Wait;
+use std::test::Fail;
+use std::thread::Threads;
+
+const TWO_LANES: &str = "0 add /a\n1 send 2f610000\n0 pump\n1 send 2f620000\n";
+
+/// What the program is given beside its words and its script.
+#[derive(Clone, Copy)]
+struct Setting {
+    boxes: u32,
+    /// Which call of the source and of each sink fails, counted from 1; 0 where none does.
+    source_fails: u32,
+    sink_fails: u32,
+    recording_fails: u32,
+}
+
+const SETTING: Setting = Setting {
+    boxes: 8,
+    source_fails: 0,
+    sink_fails: 0,
+    recording_fails: 0,
+};
+
+/// What the program came to.
+#[derive(Drop)]
+struct Outcome {
+    status: u8,
+    written: Vec<u8>,
+    recorded: Vec<u8>,
+    heard: usize,
+    left: usize,
+}
+
+fn words(alloc: Global, line: &str) -> Result<Vec<String>, AllocError> {
+    let mut words = Vec::new(alloc);
+    for word in line.split_whitespace() {
+        words.push(String::from_str(alloc, word)?)?;
+    }
+    Ok(words)
+}
+
+/// Does what the words say with the script.
+fn perform<R: Threads + Wait + Sync, G: Gate + Sync>(
+    rt: &R,
+    alloc: Global,
+    line: &str,
+    script: &str,
+    setting: Setting,
+    gate: &G,
+) -> Result<Outcome, Fail> {
+    let mut bank: Vec<Box<dyn Method + Send>> = Vec::new(alloc);
+    for _ in 0..setting.boxes {
+        bank.push(Box::new(alloc, Trace::open(alloc, 64)?)?)?;
+    }
+    let source_fails = Vec::from_array(alloc, [setting.source_fails])?;
+    let mut source = MemorySource::open(Vec::from_slice(alloc, script.as_bytes())?, source_fails);
+    let mut out = MemorySink::open(alloc, Vec::from_array(alloc, [setting.sink_fails])?);
+    let mut rec = MemorySink::open(alloc, Vec::from_array(alloc, [setting.recording_fails])?);
+    let words = words(alloc, line)?;
+    let ended = live_top(
+        rt,
+        alloc,
+        &words,
+        &mut source,
+        &mut out,
+        &mut rec,
+        bank,
+        gate,
+    );
+    Ok(Outcome {
+        status: ended.status,
+        written: Vec::from_slice(alloc, out.bytes())?,
+        recorded: Vec::from_slice(alloc, rec.bytes())?,
+        heard: ended.heard.len(),
+        left: ended.left.len(),
+    })
+}
+
+/// What a recording prints as, replayed by the plain program.
+fn replayed(alloc: Global, recording: &[u8]) -> Result<(u8, Vec<u8>), Fail> {
+    let words = words(alloc, "replay")?;
+    let mut source = SteadySource::open(Vec::from_slice(alloc, recording)?);
+    let mut sink = SteadySink::open(alloc);
+    let ended = plain_top(alloc, &words, &mut source, &mut sink, Vec::new(alloc));
+    Ok((ended.status, Vec::from_slice(alloc, sink.bytes())?))
+}
+
+/// The first words of a caller's entries in a printed history, with a space behind each.
+fn entries_of(alloc: Global, printed: &str, caller: &str) -> Result<String, AllocError> {
+    let mut entries = String::new(alloc);
+    for line in printed.lines() {
+        let mut words = line.split(' ');
+        if let (Some(event), Some(number)) = (words.next(), words.next()) {
+            if event != "call" && number == caller {
+                entries.push_str(event)?;
+                entries.push_str(" ")?;
+            }
+        }
+    }
+    Ok(entries)
+}
+
+/// Checks what came of the script of two lanes.
+fn is_played(rt: &impl Abort, alloc: Global, outcome: &Outcome) -> Result<(), Fail> {
+    assert_eq!(rt; (outcome.status, outcome.heard, outcome.left), (0, 1, 7));
+    let (status, printed) = replayed(alloc, &outcome.recorded)?;
+    assert_eq!(rt; status, 0);
+    assert_eq!(rt; printed.as_slice(), outcome.written.as_slice());
+    let text = String::from_utf8_lossy(alloc, &outcome.written)?;
+    assert_eq!(rt;
+        entries_of(alloc, text.as_str(), "0")?.as_str(),
+        "enrol enrol "
+    );
+    assert!(rt;
+        entries_of(alloc, text.as_str(), "1")?
+            .as_str()
+            .starts_with("add ")
+    );
+    assert_eq!(rt;
+        entries_of(alloc, text.as_str(), "2")?.as_str(),
+        "submit submit "
+    );
+    Ok(())
+}
+
+#[test]
+fn two_lanes_print_what_their_recording_replays_to(rt: HostRuntime) -> Result<(), Fail> {
+    let outcome = perform(&rt, rt.alloc(), "lanes f", TWO_LANES, SETTING, &OpenGate)?;
+    is_played(&rt, rt.alloc(), &outcome)
+}
+
+#[test]
+fn two_lanes_are_played_at_once(rt: HostRuntime) -> Result<(), Fail> {
+    for held in 1..3u32 {
+        let gate = Hold::of(held);
+        let outcome = perform(&rt, rt.alloc(), "lanes f", TWO_LANES, SETTING, &gate)?;
+        assert!(rt; !gate.gave_up());
+        is_played(&rt, rt.alloc(), &outcome)?;
+    }
+    Ok(())
+}
+
+#[test]
+fn each_status_has_its_last_line(rt: HostRuntime) -> Result<(), Fail> {
+    let source = Setting {
+        source_fails: 1,
+        ..SETTING
+    };
+    let sink = Setting {
+        sink_fails: 1,
+        ..SETTING
+    };
+    let recording = Setting {
+        recording_fails: 1,
+        ..SETTING
+    };
+    let bank = Setting {
+        boxes: 0,
+        ..SETTING
+    };
+    let rows = [
+        ("", TWO_LANES, SETTING, 2, "usage\n", 0),
+        ("lanes", TWO_LANES, SETTING, 2, "usage\n", 0),
+        ("lanes f g", TWO_LANES, SETTING, 2, "usage\n", 0),
+        ("serve f", TWO_LANES, SETTING, 2, "usage\n", 0),
+        ("lanes f", "add /a\n", SETTING, 1, "script 1 7\n", 0),
+        ("lanes f", TWO_LANES, source, 4, "", 0),
+        ("lanes f", TWO_LANES, bank, 8, "bank-short 1 0\n", 0),
+        ("lanes f", "0 tick 0000000000000005\n", recording, 5, "", 0),
+        ("lanes f", "0 tick 0000000000000005\n", sink, 5, "", 132),
+        ("lanes f", "", SETTING, 0, "", 56),
+        (
+            "lanes f",
+            "0 send\n",
+            SETTING,
+            0,
+            "enrol 0 1\nfault 1 1 0\n",
+            84,
+        ),
+    ];
+    for (line, script, setting, status, printed, recorded) in rows {
+        let outcome = perform(&rt, rt.alloc(), line, script, setting, &OpenGate)?;
+        assert_eq!(rt; outcome.status, status, "{line}");
+        assert_eq!(rt; outcome.written.as_slice(), printed.as_bytes(), "{line}");
+        assert_eq!(rt; outcome.recorded.len(), recorded, "{line}");
+        assert_eq!(rt; outcome.heard, 0, "{line}");
+        assert_eq!(rt; outcome.left, setting.boxes as usize, "{line}");
+    }
+    Ok(())
+}
+
+#[test]
+fn the_last_word_names_the_recording(rt: HostRuntime) -> Result<(), Fail> {
+    let rows = [
+        ("lanes f", Some("f")),
+        ("serve --port 9000 f", Some("f")),
+        ("lanes", None),
+        ("run f", None),
+        ("", None),
+    ];
+    for (line, name) in rows {
+        let words = words(rt.alloc(), line)?;
+        assert_eq!(rt; recording_name(&words), name, "{line}");
+    }
+    Ok(())
+}
