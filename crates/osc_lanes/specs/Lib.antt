@@ -1,5 +1,6 @@
 -- What public contracts cite.
 pub mod Ends
+pub mod Enough
 pub mod Performs
 pub mod Shares
 -- Inside the crate.
