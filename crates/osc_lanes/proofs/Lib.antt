@@ -7,7 +7,9 @@ pub mod Going
 pub mod Parting
 pub mod Removals
 pub mod Sharing
+pub mod Spending
 pub mod Staging
 pub mod Staying
 pub mod Telling
+pub mod Weights
 pub mod Zipping
