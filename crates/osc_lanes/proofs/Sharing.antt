@@ -181,5 +181,5 @@ module _ {M : Type 0} (keep : M → ℕ) (heard : M → Option (List ℕ)) (caps
           kept_heard = closed.kept_heard;
           kept_marked = closed.kept_marked;
           removed = All-from_recursion (λ account. AllByRecursion (IsRemovedAt keep heard caps history) account.removed) accounts (none_removed parts);
-          shares = (few, full, refl);
+          shares = (few, full, refl, alone);
         }

@@ -93,10 +93,10 @@ module _ {M : Type 0} where
       account history) 1 parts accounts
 
   -- The parts were played on one new server, each as a lane beside the others, unless the recording
-  -- had no room for an enrolment: then no lane was started, and all boxes come back. There is one
-  -- history, which is recorded, and each lane has its share of it. The ids that it adds are those
-  -- of the boxes that are kept and of those that lanes removed, each once; and these boxes have
-  -- heard the history, each with the mark of its id's entry.
+  -- had no room for an enrolment: then no lane was started, so that all entries are caller 0's, and
+  -- all boxes come back. There is one history, which is recorded, and each lane has its share of
+  -- it. The ids that it adds are those of the boxes that are kept and of those that lanes removed,
+  -- each once; and these boxes have heard the history, each with the mark of its id's entry.
   pub record Performs (keep : M → ℕ) (heard : M → Option (List ℕ)) (caps : Limits)
       (parts : List (Part M)) (recording : List ℕ) (kept : List (ℕ × M))
       (accounts : List (Account M)) (unenrolled : Option Room) : Type 0 where
@@ -115,4 +115,4 @@ module _ {M : Type 0} where
         ((callers ≡ length parts) × AreShares keep heard caps history parts accounts)
         (λ room. (callers < length parts)
         × (record_full room ≡ (stepped_in (performance_in caps (texts history)) enrol).answer)
-        × (accounts ≡ map (λ part. ended part.boxes None) parts))
+        × (accounts ≡ map (λ part. ended part.boxes None) parts) × (own 0 history ≡ history))
