@@ -11,5 +11,6 @@ pub mod Spending
 pub mod Staging
 pub mod Staying
 pub mod Telling
+pub mod Unstopped
 pub mod Weights
 pub mod Zipping

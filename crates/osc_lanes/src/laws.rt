@@ -1,16 +1,19 @@
-//! What holds of a lane in every history that goes on from what its token has seen.
-ghost use Rattle.std.specs.Prelude.{◌≡◌, ℕ, ◌+◌, List, [], ◌∷◌, codes, None};
+//! What holds of a lane in every history that goes on from what its token has seen, and of a recording with room enough
+//! for all lanes.
+ghost use Rattle.std.specs.Prelude.{◌≡◌, ℕ, ◌+◌, ◌*◌, ◌≤◌, List, [], ◌∷◌, All, Option, codes, None};
 ghost use Rattle.std.specs.List.{AllByRecursion};
 ghost use Rattle.osc_turn.specs.History.{StartsWith, texts};
 ghost use Rattle.osc_turn.specs.declared.view.Entry.{Entry};
 ghost use Rattle.osc_model.specs.Limits.{Limits};
-ghost use Rattle.osc_model.specs.Events.{enrol, add, remove, number, added, removed};
+ghost use Rattle.osc_model.specs.Events.{Room, enrol, add, remove, number, added, removed};
 ghost use Rattle.osc_model.specs.History.{Legal};
 ghost use Rattle.osc_core.specs.Standing.{history_in};
 ghost use Rattle.osc_lanes.specs.declared.plan.LanePlan.{LanePlan};
 ghost use Rattle.osc_lanes.specs.declared.plan.LaneEnd.{LaneEnd};
-ghost use Rattle.osc_lanes.specs.Shares.{Onward, LaneOf, IsRemovedAt};
-ghost use Rattle.osc_lanes.specs.Performs.{enrolments, added_ids, removed_ids, Numbered};
+ghost use Rattle.osc_script.specs.declared.act.Act.TheVariants.{Add, Send};
+ghost use Rattle.osc_lanes.specs.Shares.{Account, Onward, LaneOf, IsRemovedAt};
+ghost use Rattle.osc_lanes.specs.Performs.{enrolments, added_ids, removed_ids, Numbered, Part, Performs};
+ghost use Rattle.osc_lanes.specs.Enough.{enough_for};
 ghost use Rattle.osc_lanes.specs.Ends.{seen_by, player_of, account_of, IsReady, IsEndOf};
 
 use osc_method::Method;
@@ -32,8 +35,18 @@ pub fn a_lane_keeps_its_share<M: Method>()
     a_method_is_called_while_it_is_registered();
 }
 
+/// A recording of as many bytes as `enough_for` says stops no lane, and refuses no enrolment.
+pub fn enough_room_never_stops<M: Method>()
+    ensures { (caps : Limits) (parts : List (Part M)) (recording : List ℕ) (kept : List (ℕ × M))
+        (accounts : List (Account M)) (unenrolled : Option Room)
+        → Performs M.keep M.heard caps parts recording kept accounts unenrolled
+        → enough_for parts ≤ caps.recording
+        → (unenrolled ≡ None) × All (λ account. account.stop ≡ None) accounts }
+{}
+
 /// Two callers are enrolled in the order of their numbers; of a history the ids that were added are told, and of lanes
-/// those that they removed; and two items are numbered from 1.
+/// those that they removed; two items are numbered from 1; and so many bytes are enough for a lane that adds a method,
+/// and for it beside a lane that sends a message.
 pub fn examples()
     ensures enrolled { enrolments 1 2
         ≡ record { caller = 0; event = enrol; answer = number 1 }
@@ -51,4 +64,23 @@ pub fn examples()
     ensures numbered { (before after : ℕ) →
         Numbered (λ place x y. x + place ≡ y) 1 (before ∷ after ∷ [])
         ((before + 1) ∷ (after + 2) ∷ []) }
+    ensures enough { (boxes : List ℕ) → enough_for
+        (record {
+          lines = record { number = 1; lane = 0; act = Add (codes "/a") } ∷ [];
+          boxes = boxes;
+        } ∷ []) ≡ 56 + 28 + 44 }
+    ensures enough_for_two { (boxes : List ℕ) → enough_for
+        (record {
+          lines = record { number = 1; lane = 0; act = Add (codes "/a") } ∷ [];
+          boxes = boxes;
+        }
+        ∷ record {
+          lines = record {
+            number = 2;
+            lane = 1;
+            act = Send (47 ∷ 97 ∷ 0 ∷ 0 ∷ 44 ∷ 0 ∷ 0 ∷ 0 ∷ []);
+          } ∷ [];
+          boxes = [];
+        } ∷ [])
+        ≡ 56 + 28 * 2 + (44 + 56) + 44 + 8 }
 {}
