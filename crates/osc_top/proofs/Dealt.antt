@@ -20,10 +20,10 @@ use Rattle.osc_top.proofs.Runs.{count_cons}
 
 -- one line more, of this lane or of another
 
-lines_here : (lane : ℕ) (line : Line) (rest : List Line) → (line.lane == lane) ≡ true → lines_in lane (line ∷ rest) ≡ line ∷ lines_in lane rest
+pub lines_here : (lane : ℕ) (line : Line) (rest : List Line) → (line.lane == lane) ≡ true → lines_in lane (line ∷ rest) ≡ line ∷ lines_in lane rest
 lines_here lane line rest is = ap (λ (t : Bool). cond t (line ∷ lines_in lane rest) (lines_in lane rest)) is
 
-lines_other : (lane : ℕ) (line : Line) (rest : List Line) → (line.lane == lane) ≡ false → lines_in lane (line ∷ rest) ≡ lines_in lane rest
+pub lines_other : (lane : ℕ) (line : Line) (rest : List Line) → (line.lane == lane) ≡ false → lines_in lane (line ∷ rest) ≡ lines_in lane rest
 lines_other lane line rest is = ap (λ (t : Bool). cond t (line ∷ lines_in lane rest) (lines_in lane rest)) is
 
 boxes_by : {M : Type 0} (lane : ℕ) (line : Line) (others : List Line) (boxes : List M) (t here : Bool) → cond t 1 0 ≤ length boxes → (line.lane == lane) ≡ here
@@ -177,7 +177,7 @@ all_others lines rest bank boxes parts dealing none = sym (ap (λ (l : List Line
 
 -- Each lane has a box for each line that adds a method.
 
-same_adds : (act : Act) → shares.adds_of act ≡ cond (is_add act) 1 0
+pub same_adds : (act : Act) → shares.adds_of act ≡ cond (is_add act) 1 0
 same_adds (Add address) = refl
 same_adds (Remove address) = refl
 same_adds (Send bytes) = refl

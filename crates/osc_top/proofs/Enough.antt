@@ -27,11 +27,12 @@ use Rattle.osc_model.specs.History.{after}
 use Rattle.osc_model.proofs.Queues.{all_joined}
 use Rattle.osc_model.proofs.Refusals.{decided_none, none_stays}
 use Rattle.osc_model.proofs.Stepping.{step_so}
+use Rattle.osc_lanes.specs.Enough.{event_size, act_size, act_units, act_messages}
 use Rattle.osc_script.specs.declared.act.Act.{Act}
 use Rattle.osc_script.specs.declared.act.Act.TheVariants.{Add, Remove, Send, Tick, Pump}
 use Rattle.osc_script.specs.declared.line.Line.{Line}
 use Rattle.osc_top.specs.Plain.{entry_of, entry_if, room_in, stop_at, is_released, pumped, sent, stop_sent, entries_of, stop_of, Played, followed, plain_from, plain, is_add, count_adds, act_faults}
-use Rattle.osc_top.specs.Enough.{event_size, act_size, act_units, act_messages, enough}
+use Rattle.osc_top.specs.Enough.{enough}
 
 -- The bytes that the releases of units take, where there are at most so many methods.
 

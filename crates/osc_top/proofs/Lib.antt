@@ -12,4 +12,5 @@ mod Tops
 mod Enough
 mod Dealt
 mod Staged
+mod Unstopped
 mod LaneEnds

@@ -4,8 +4,8 @@ pub mod Printing
 pub mod Bank
 pub mod Commands
 pub mod Ends
-pub mod Enough
 pub mod Lanes
+pub mod Enough
 -- Inside the crate.
 pub mod Tally
 pub mod Whole

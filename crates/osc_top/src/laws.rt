@@ -1,17 +1,19 @@
 //! What the definitions say of examples, of a recording with room enough, and of a pump.
-ghost use Rattle.std.specs.Prelude.{◌≡◌, ◌≤◌, ◌∷◌, [], ℕ, false, List, IsOkAnd, None, codes, map};
+ghost use Rattle.std.specs.Prelude.{◌≡◌, ◌≤◌, ◌+◌, ◌*◌, ◌∷◌, [], ℕ, false, List, IsOkAnd, Option, None, codes, map};
 ghost use Rattle.osc_model.specs.Limits.{Limits};
 ghost use Rattle.osc_model.specs.State.{State};
-ghost use Rattle.osc_model.specs.Events.{release};
+ghost use Rattle.osc_model.specs.Events.{Room, release};
 ghost use Rattle.osc_model.specs.Step.{step};
 ghost use Rattle.osc_model.specs.History.{after};
 ghost use Rattle.osc_script.specs.declared.line.Line.{Line};
 ghost use Rattle.osc_script.specs.declared.mode.Mode.TheVariants.{Plain, Lanes};
 ghost use Rattle.osc_script.specs.Scripts.{script_of};
 ghost use Rattle.osc_top.specs.Plain.{is_released, pump, plain};
-ghost use Rattle.osc_top.specs.Enough.{enough};
-ghost use Rattle.osc_top.specs.Lanes.{parts_of};
+ghost use Rattle.osc_top.specs.Enough.{enough, enough_lanes};
+ghost use Rattle.osc_top.specs.Lanes.{parts_of, PlaysLanes};
 ghost use Rattle.osc_top.specs.Ends.{run_text};
+
+use osc_method::Method;
 
 /// A method, a message to it, and its call.
 pub fn first_light()
@@ -37,11 +39,27 @@ pub fn lines_are_dealt_to_their_lanes()
         ≡ (1 ∷ 3 ∷ [], 7 ∷ []) ∷ ([], []) ∷ (2 ∷ [], 8 ∷ []) ∷ []) }
 {}
 
+/// The header of 56 bytes, the enrolments of two lanes, an add, a send, its release, and a call.
+pub fn what_is_enough_for_two_lanes()
+    ensures { IsOkAnd (script_of Lanes (codes "0 add /a\n1 send 2f610000 2c000000\n"))
+        (λ lines. enough_lanes lines ≡ 56 + 28 * 2 + (44 + 56) + 44 + 8) }
+{}
+
 /// A recording of as many bytes as `enough` says never stops a script.
 pub fn enough_room_never_stops()
     ensures { (caps : Limits) (lines : List Line) → enough lines ≤ caps.recording
         → (plain caps lines).stop ≡ None }
 {}
+
+/// A recording of as many bytes as `enough_lanes` says stops no lane of a script.
+pub fn enough_room_stops_no_lane<M: Method>()
+    ensures { (caps : Limits) (lines : List Line) (bank : List M) (added : List (ℕ × M))
+        (left : List M) (recording : List ℕ) (text : List ℕ) (stop : Option Room)
+        → PlaysLanes M.keep M.heard caps lines bank added left recording text stop
+        → enough_lanes lines ≤ caps.recording → stop ≡ None }
+{
+    osc_lanes::laws::enough_room_never_stops::<M>();
+}
 
 /// A pump goes on until nothing is due, or until there is no room for the next release.
 pub fn nothing_is_released_after_a_pump()

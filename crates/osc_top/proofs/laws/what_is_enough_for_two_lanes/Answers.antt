@@ -1,0 +1,11 @@
+use Rattle.std.proofs.Common.{refl}
+use Rattle.hex.proofs.OnLiterals.{hex_on_literals}
+use Rattle.osc_script.specs.Acts.{act_of}
+use Rattle.osc_message.specs.Reading.{message_read}
+use Rattle.osc_packet.specs.Reading.{element_fault}
+use Rattle.osc_pattern.specs.Reading.{read_part}
+use Rattle.osc_top.proofs.laws.what_is_enough_for_two_lanes.Goals as goal
+
+pub returns : goal.returns
+unfolding act_of message_read element_fault read_part hex_on_literals
+returns c = refl
