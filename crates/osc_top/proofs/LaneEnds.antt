@@ -7,6 +7,7 @@ use Rattle.osc_script.specs.declared.mode.Mode.TheVariants.{Lanes}
 use Rattle.osc_script.specs.declared.script.TheConstants.{MAX_SCRIPT}
 use Rattle.osc_script.specs.Scripts.{script_of}
 use Rattle.osc_top.specs.Ends.{GainsUnless, EndsLine, left_behind}
+use Rattle.osc_top.specs.Enough.{enough_lanes}
 use Rattle.osc_top.specs.Lanes.{PlaysLanes, Sunk, HasGained, HasFailed, IsUntouched, EndsLanes}
 use Rattle.osc_top.specs.Plain.{live_caps, count_adds}
 use Rattle.osc_top.specs.Printing.{refusal_text, bank_short_text}
@@ -171,15 +172,47 @@ whole_complete keep heard (Some all) now bytes status bank added rest rec out A 
       (subst (λ (l : List ℕ). IsOkAnd (script_of Lanes l) (λ lines. (length bank < count_adds lines)
       × GainsUnless out.before out.after out.faults out.now (bank_short_text (count_adds lines) (length bank)))) whole.0 (ends.bank_short eight)))
 
+ok_weaker : (read : Result (List Line) ScriptFault) (P Q : List Line → Type 0) → ((lines : List Line) → P lines → Q lines) → IsOkAnd read P → IsOkAnd read Q
+ok_weaker (Ok lines) P Q so holds = so lines holds
+ok_weaker (Err fault) P Q so holds = absurd holds
+
+-- where nothing stops that has room enough, it isn't full then
+module _ {M : Type 0} (keep : M → ℕ) (heard : M → Option (List ℕ)) (bank : List M) (added : List (ℕ × M)) (left : List M)
+    (never : (lines : List Line) (recording text : List ℕ) (stop : Option Room) → PlaysLanes keep heard live_caps lines bank added left recording text stop
+    → enough_lanes lines ≤ live_caps.recording → stop ≡ None) where
+  -- there are boxes and room enough
+  abbrev AreEnough : List Line → Type 0
+  AreEnough lines = (count_adds lines ≤ length bank) × (enough_lanes lines ≤ live_caps.recording)
+
+  not_full : (script : List ℕ) (rec out : Sunk) (read : Result (List Line) ScriptFault) → IsOkAnd read AreEnough
+      → IsOkAnd read (AreFull keep heard script bank added left rec out) → ⊥
+  not_full script rec out (Ok lines) enough full =
+      let none : Some full.3 ≡ None = never lines full.1 full.2 (Some full.3) full.4 enough.1 in
+      absurd (cc)
+  not_full script rec out (Err fault) enough full = absurd enough
+
+  pub whole_enough : (whole now : Option (List ℕ)) (bytes : List ℕ) (status : ℕ) (rec out : Sunk) (A B C : Type 0)
+      → IfSome whole (λ all. (bytes ≡ all) × (now ≡ Some [])) → EndsLanes keep heard live_caps status bytes bank added left rec out → (status ≡ 5 → B ⊎ C)
+      → IfSome whole (λ script. IsOkAnd (script_of Lanes script) AreEnough → (A → ⊥) → (B → ⊥) → (C → ⊥) → (status ≡ 0) ⊎ (status ≡ 3))
+  whole_enough None now bytes status rec out A B C whole ends sink = tt
+  whole_enough (Some all) now bytes status rec out A B C whole ends sink = λ enough a b c.
+      go enough (whole_complete keep heard (Some all) now bytes status bank added left rec out A B C whole ends sink
+      (ok_weaker (script_of Lanes all) AreEnough (λ lines. count_adds lines ≤ length bank) (λ lines both. both.0) enough) a b c) where
+        go : IsOkAnd (script_of Lanes all) AreEnough → (status ≡ 0) ⊎ (status ≡ 3) ⊎ (status ≡ 6) → (status ≡ 0) ⊎ (status ≡ 3)
+        go enough (inl zero_is) = inl zero_is
+        go enough (inr (inl three)) = inr three
+        go enough (inr (inr six)) =
+            absurd (not_full bytes rec out (script_of Lanes all) enough
+            (subst (λ (l : List ℕ). IsOkAnd (script_of Lanes l) (AreFull keep heard bytes bank added left rec out)) whole.0 (ends.full six)))
+
 -- a script that is too long isn't lawful
-pub long_complete : (left now : Option (List ℕ)) (status decided have : ℕ) (Q : ScriptFault → Type 0) (A B C : Type 0) → status ≡ decided
-    → (decided ≡ 1) ⊎ (decided ≡ 3) → ((script : List ℕ) → MAX_SCRIPT < length script → decided ≡ 1 → IsErrAnd (script_of Lanes script) Q)
+pub long_complete : (left now : Option (List ℕ)) (status decided : ℕ) (P : List Line → Type 0) (Q : ScriptFault → Type 0) (A B C R : Type 0)
+    → (status ≡ 3 → R) → status ≡ decided → (decided ≡ 1) ⊎ (decided ≡ 3)
+    → ((script : List ℕ) → MAX_SCRIPT < length script → decided ≡ 1 → IsErrAnd (script_of Lanes script) Q)
     → IfSome left (λ all. (MAX_SCRIPT < length all) × (now ≡ Some (left_behind MAX_SCRIPT all)))
-    → IfSome left (λ script. IsOkAnd (script_of Lanes script) (λ lines. count_adds lines ≤ have) → (A → ⊥) → (B → ⊥) → (C → ⊥)
-    → (status ≡ 0) ⊎ (status ≡ 3) ⊎ (status ≡ 6))
-long_complete None now status decided have Q A B C same known refused long = tt
-long_complete (Some all) now status decided have Q A B C same known refused long = λ lawful a b c. go lawful known where
-  go : IsOkAnd (script_of Lanes all) (λ lines. count_adds lines ≤ have) → (decided ≡ 1) ⊎ (decided ≡ 3) → (status ≡ 0) ⊎ (status ≡ 3) ⊎ (status ≡ 6)
-  go lawful (inl one) =
-      absurd (not_both (script_of Lanes all) (λ lines. count_adds lines ≤ have) Q lawful (refused all long.0 one))
-  go lawful (inr three) = inr (inl (same ∙ three))
+    → IfSome left (λ script. IsOkAnd (script_of Lanes script) P → (A → ⊥) → (B → ⊥) → (C → ⊥) → R)
+long_complete None now status decided P Q A B C R short same known refused long = tt
+long_complete (Some all) now status decided P Q A B C R short same known refused long = λ lawful a b c. go lawful known where
+  go : IsOkAnd (script_of Lanes all) P → (decided ≡ 1) ⊎ (decided ≡ 3) → R
+  go lawful (inl one) = absurd (not_both (script_of Lanes all) P Q lawful (refused all long.0 one))
+  go lawful (inr three) = short (same ∙ three)

@@ -11,9 +11,11 @@ ghost use Rattle.osc_top.specs.Plain.{live_caps, count_adds};
 ghost use Rattle.osc_top.specs.Printing.{usage_text, refusal_text};
 ghost use Rattle.osc_top.specs.Ends.{GainsUnless, left_behind, IsUnplayed};
 ghost use Rattle.osc_top.specs.Lanes.{EndsLanes};
+ghost use Rattle.osc_top.specs.Enough.{enough_lanes};
 
 use crate::command::are_lanes;
 use crate::counting::count_adds;
+use crate::laws::enough_room_stops_no_lane;
 use crate::live_writing::write_both;
 use crate::playing::Played;
 use crate::staging::stage;
@@ -108,7 +110,18 @@ pub fn live_top<S: Source, O: Sink, R: Sink, W: Threads + Wait + Sync, G: Gate +
         → ¬ Rose (R.faults rec.old) (R.faults rec.new) →
         (result.status ≡ DONE) ⊎ (result.status ≡ NO_MEMORY)
         ⊎ (result.status ≡ RECORDING_FULL)) }
+
+    // No lane stops where the recording may have as many bytes as `enough_lanes` says.
+    ensures enough { IsTrue (are_lanes (map string_bytes words.now)) → IfSome (S.left input.old)
+        (λ script. IsOkAnd (script_of Lanes script)
+        (λ lines. (count_adds lines ≤ length bank.items)
+        × (enough_lanes lines ≤ live_caps.recording))
+        → ¬ Rose (S.faults input.old) (S.faults input.new)
+        → ¬ Rose (O.faults out.old) (O.faults out.new)
+        → ¬ Rose (R.faults rec.old) (R.faults rec.new) →
+        (result.status ≡ DONE) ⊎ (result.status ≡ NO_MEMORY)) }
 {
+    enough_room_stops_no_lane::<Box<dyn Method + Send>>();
     if !are_lanes(words) {
         return unplayed(alloc, last_line(USAGE, b"usage\n", out), bank);
     }

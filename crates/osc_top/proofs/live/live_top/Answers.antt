@@ -1,5 +1,7 @@
+use Rattle.std.proofs.Common.{inl, inr}
 use Rattle.osc_script.specs.declared.script.TheConstants.{MAX_SCRIPT}
-use Rattle.osc_top.proofs.LaneEnds.{whole_complete, long_complete}
+use Rattle.osc_top.specs.Plain.{live_caps}
+use Rattle.osc_top.proofs.LaneEnds.{whole_complete, whole_enough, long_complete}
 use Rattle.osc_top.proofs.Transfers.{left_whole}
 use Rattle.osc_top.proofs.live.live_top.Goals as goal
 
@@ -12,4 +14,16 @@ returns-in-Whole-clause-complete g c = λ lanes.
 
 pub returns-in-TooLong-clause-complete : goal.returns-in-TooLong-clause-complete
 returns-in-TooLong-clause-complete g c = λ lanes.
-    long_complete _ _ _ _ _ _ _ _ _ c.unplayed-in-TooLong.ensures.status c.refuse_long.ensures.known c.refuse_long.ensures.refused c.in-TooLong.ensures.0
+    long_complete _ _ _ _ _ _ _ _ _ _ (λ three. inr (inl three)) c.unplayed-in-TooLong.ensures.status c.refuse_long.ensures.known
+    c.refuse_long.ensures.refused c.in-TooLong.ensures.0
+
+pub returns-in-Whole-clause-enough : goal.returns-in-Whole-clause-enough
+returns-in-Whole-clause-enough g c = λ lanes.
+    whole_enough _ _ c.args.bank.items _ _
+    (λ lines recording text stop. c.enough_room_stops_no_lane.ensures live_caps lines c.args.bank.items _ _ recording text stop)
+    _ _ c.in-Whole.bytes.items _ _ _ _ _ _ c.in-Whole.ensures.0 c.play_script.ensures.ends c.play_script.ensures.sink
+
+pub returns-in-TooLong-clause-enough : goal.returns-in-TooLong-clause-enough
+returns-in-TooLong-clause-enough g c = λ lanes.
+    long_complete _ _ _ _ _ _ _ _ _ _ inr c.unplayed-in-TooLong.ensures.status c.refuse_long.ensures.known c.refuse_long.ensures.refused
+    c.in-TooLong.ensures.0
