@@ -6,21 +6,23 @@ use Rattle.osc_atoms.specs.Reading.{and_then, word_read, tag_read, string_read, 
 use Rattle.osc_message.specs.Tags.{is_word_tag, is_long_tag, is_text_tag, is_blob_tag}
 use Rattle.osc_message.specs.Messages.{Argument, integer, float, text, content, long, time, double, symbol, character, rgba, midi, true_, false_, nil, infinitum, array_start, array_end}
 
--- the argument of a word under i f c r m
+-- the argument of a word under i f c r m; nil under any other tag
 abbrev pub word_argument : ℕ → ℕ → Argument
 word_argument tag number =
     if tag == 105 then integer (cast_signed w32 number) else if tag == 102 then float number
-    else if tag == 99 then character number
-    else if tag == 114 then rgba number else midi number
+    else if tag == 99 then character number else if tag == 114 then rgba number
+    else if tag == 109 then midi number else nil
 
--- the argument of eight bytes under h t d
+-- the argument of eight bytes under h t d; nil under any other tag
 abbrev pub long_argument : ℕ → ℕ → Argument
-long_argument tag number = if tag == 104 then long (cast_signed w64 number)
-    else if tag == 116 then time number else double number
+long_argument tag number =
+    if tag == 104 then long (cast_signed w64 number) else if tag == 116 then time number
+    else if tag == 100 then double number else nil
 
--- the argument of a string under s S
+-- the argument of a string under s S; nil under any other tag
 abbrev pub text_argument : ℕ → List ℕ → Argument
-text_argument tag bytes = if tag == 115 then text bytes else symbol bytes
+text_argument tag bytes =
+    if tag == 115 then text bytes else if tag == 83 then symbol bytes else nil
 
 -- the argument under T F N I [ ]
 abbrev pub bare_argument : ℕ → Argument

@@ -4,6 +4,7 @@ ghost use Rattle.std.specs.Prelude.{◌≡◌, ◌%◌, ◌≤◌, length, IfOk,
 ghost use Rattle.osc_atoms.specs.Reading.{and_then};
 ghost use Rattle.osc_message.specs.ArgumentReading.{argument_read, arguments_end, word_argument, long_argument, text_argument, bare_argument};
 ghost use Rattle.osc_message.specs.Shown.{shown};
+ghost use Rattle.osc_message.specs.Tags.{is_word_tag, is_long_tag, is_text_tag};
 
 use crate::Arg;
 use crate::tags::{is_long_tag, is_text_tag, is_word_tag};
@@ -40,6 +41,7 @@ pub(crate) fn known_argument(tag: u8, bytes: &[u8], at: u32) -> (Arg<'_>, u32)
 }
 
 fn word_argument_of<'a>(tag: u8, word: u32) -> Arg<'a>
+    requires { IsTrue (is_word_tag tag) }
     ensures { shown result ≡ word_argument tag word }
 {
     match tag {
@@ -47,27 +49,31 @@ fn word_argument_of<'a>(tag: u8, word: u32) -> Arg<'a>
         b'f' => Arg::Float(word),
         b'c' => Arg::Char(word),
         b'r' => Arg::Rgba(word),
-        _ => Arg::Midi(word),
+        b'm' => Arg::Midi(word),
+        _ => unreachable!(),
     }
 }
 
 fn long_argument_of<'a>(tag: u8, word: u64) -> Arg<'a>
+    requires { IsTrue (is_long_tag tag) }
     ensures { shown result ≡ long_argument tag word }
 {
     match tag {
         b'h' => Arg::Long(word.cast_signed()),
         b't' => Arg::Time(word),
-        _ => Arg::Double(word),
+        b'd' => Arg::Double(word),
+        _ => unreachable!(),
     }
 }
 
 fn text_argument_of(tag: u8, text: &[u8]) -> Arg<'_>
+    requires { IsTrue (is_text_tag tag) }
     ensures { shown result ≡ text_argument tag text.now }
 {
-    if tag == b's' {
-        Arg::Str(text)
-    } else {
-        Arg::Symbol(text)
+    match tag {
+        b's' => Arg::Str(text),
+        b'S' => Arg::Symbol(text),
+        _ => unreachable!(),
     }
 }
 
