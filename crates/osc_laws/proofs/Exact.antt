@@ -4,6 +4,7 @@ use Rattle.std.specs.List.{AllByRecursion, Contains}
 use Rattle.std.proofs.lemmas.Bool.Decides.{nat_tests}
 use Rattle.std.proofs.lemmas.List.{map-append, append-nil}
 use Rattle.std.proofs.lemmas.List.Elements.{filter-append}
+use Rattle.osc_message.specs.Reading.{pattern_of}
 use Rattle.osc_pattern.specs.Methods.{Method}
 use Rattle.osc_queue.specs.Timed.{unit_of, due_of}
 use Rattle.osc_model.specs.Limits.{Limits, AreInRange}
@@ -122,7 +123,7 @@ unit_calls_exactly of caps history legal unit call =
             message = subst (λ (n : ℕ). slice_get unit.2.messages n ≡ Some call.message) place is.message_is;
             known = is.known;
             registered = read.0 is.registered;
-            matched = is.matched;
+            matched = (of.exactly.decides (pattern_of call.message) call.address).0 is.matched;
           }
 
       back : IsCallOf history unit.2 call → IsCallFrom methods 0 unit.2.messages call
@@ -132,7 +133,7 @@ unit_calls_exactly of caps history legal unit call =
         message_is = is.message;
         known = is.known;
         registered = read.1 is.registered;
-        matched = is.matched;
+        matched = (of.exactly.decides (pattern_of call.message) call.address).1 is.matched;
       }
 
 taken_exactly : OfServer → (caps : Limits) (before later : List Entry) (caller number : ℕ) (hits : List Hit)

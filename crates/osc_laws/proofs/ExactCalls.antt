@@ -48,7 +48,8 @@ one_call exactly methods index message call held = go (unknown_of message) refl 
   go (Some tag) e held = absurd (none_in call held)
   go None e held =
       let from = sent_from (called index message) (matching (pattern_of message) methods) call held in
-      let back = IsPermutation-sym (matched (pattern_of message) methods) (matching (pattern_of message) methods) (exactly (pattern_of message) methods) in
+      let back = IsPermutation-sym (matched (pattern_of message) methods) (matching (pattern_of message) methods)
+      (exactly.listed (pattern_of message) methods) in
       let among = passed test methods from.0
       (Contains-permutation (matching (pattern_of message) methods) (matched (pattern_of message) methods) from.0 back from.1) in
       subst (IsOneCall methods index message) from.2 (record { index_is = refl; message_is = refl; known = e; registered = among.0; matched = among.1 })
@@ -67,7 +68,7 @@ call_one exactly methods index message call is = go (unknown_of message) refl wh
   go None e =
       let matched_is : test (method_of call) ≡ true = ap (λ (m : List ℕ). matches (pattern_of m) call.address) (sym is.message_is) ∙ is.matched in
       let among = Contains-permutation (matched (pattern_of message) methods) (matching (pattern_of message) methods) (method_of call)
-      (exactly (pattern_of message) methods) (passes test methods (method_of call) is.registered matched_is) in
+      (exactly.listed (pattern_of message) methods) (passes test methods (method_of call) is.registered matched_is) in
       let same : called index message (method_of call) ≡ call =
       λ i. record { index = sym is.index_is i; id = call.id; address = call.address; message = sym is.message_is i } in
       subst (Contains (matching_calls methods index message)) same (sent (called index message) (matching (pattern_of message) methods) (method_of call) among)

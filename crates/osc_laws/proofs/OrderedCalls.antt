@@ -53,7 +53,7 @@ matching_apart exactly pattern methods pairs address =
     let differ : Method → Method → Type 0 = λ a b. a.address ≢ b.address in
     let kept = AllPairs-filter differ (λ method. matches pattern method.address) methods pairs in
     let few = at_most_one differ (has_address address) (matched pattern methods) (λ a b is apart. other_address a.address b.address address is apart) kept in
-    let same = times_permuted (has_address address) (matched pattern methods) (matching pattern methods) (exactly pattern methods) in
+    let same = times_permuted (has_address address) (matched pattern methods) (matching pattern methods) (exactly.listed pattern methods) in
     omega (arith, few, same)
 
 -- Within a message.

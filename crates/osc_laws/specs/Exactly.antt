@@ -1,8 +1,8 @@
 -- The second and the third law: no unit is released before its tag, and it calls exactly the
 -- methods that match then.
-use Rattle.std.specs.Prelude.{◌≡◌, ◌↔◌, ℕ, ◌≤◌, ◌==◌, IsTrue, List, [], ◌∷◌, ◌++◌, map, filter, slice_get, Some, None}
+use Rattle.std.specs.Prelude.{◌≡◌, ◌↔◌, ℕ, ◌≤◌, ◌==◌, List, [], ◌∷◌, ◌++◌, map, filter, slice_get, Some, None}
 use Rattle.std.specs.List.{AllByRecursion, Contains}
-use Rattle.osc_pattern.specs.Patterns.{matches}
+use Rattle.osc_pattern.specs.Patterns.{Match}
 use Rattle.osc_message.specs.Reading.{pattern_of}
 use Rattle.osc_message.specs.Arguments.{unknown_of}
 use Rattle.osc_packet.specs.Units.{Timed}
@@ -36,7 +36,7 @@ pub record IsCallOf (history : List Entry) (unit : Timed) (call : Call) : Type 0
   pub message : slice_get unit.messages call.index ≡ Some call.message
   pub known : unknown_of call.message ≡ None
   pub registered : IsRegistered history call.id call.address
-  pub matched : IsTrue (matches (pattern_of call.message) call.address)
+  pub matched : Match (pattern_of call.message) call.address
 
 -- each call comes before all those behind it, so none stands there twice
 abbrev pub AreInOrder : List Call → Type 0

@@ -14,6 +14,7 @@ ghost use Rattle.osc_laws.specs.Once.{AreReleasedOnce};
 ghost use Rattle.osc_laws.specs.Laws.{KeepsTheLaws};
 
 use osc_model::laws as model;
+use osc_pattern::laws as patterns;
 use osc_tree::laws as trees;
 
 /// The clock stands where the last tick of the history left it.
@@ -59,6 +60,7 @@ pub fn the_calls_of_a_unit_stand_together()
     model::a_server_stays_sound();
     model::a_release_takes_the_least_unit();
     trees::the_matching_methods_ascend();
+    patterns::tests_are_exact();
 }
 
 /// Each release calls exactly the methods that match when it is made, each once.
@@ -69,6 +71,7 @@ pub fn each_release_calls_exactly_what_matches()
     model::a_server_stays_sound();
     model::a_release_takes_the_least_unit();
     trees::the_matching_methods_ascend();
+    patterns::tests_are_exact();
 }
 
 /// Every legal history keeps the four laws.

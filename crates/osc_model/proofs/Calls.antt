@@ -1,5 +1,5 @@
 -- The calls of a unit are of registered methods whose addresses match.
-use Rattle.std.proofs.Common.{◌≡◌, ℕ, suc, ◌+◌, ◌<◌, Bool, true, false, cond, IsTrue, List, [], ◌∷◌, ◌++◌, map, length, Option, Some, None, is_some, slice_index_or, refl, sym, subst, arith, zero-add, add-zero}
+use Rattle.std.proofs.Common.{◌≡◌, ◌↔◌, ℕ, suc, ◌+◌, ◌<◌, Bool, true, false, cond, IsTrue, List, [], ◌∷◌, ◌++◌, map, length, Option, Some, None, is_some, slice_index_or, refl, sym, subst, arith, zero-add, add-zero}
 use Rattle.std.specs.List.{AllByRecursion, Contains}
 use Rattle.std.specs.List.Sorted.{IsPermutation}
 use Rattle.std.proofs.lemmas.List.Elements.{All-from_recursion, recursion_from_All}
@@ -7,7 +7,7 @@ use Rattle.std.proofs.lemmas.List.Sorted.{All-permutation}
 use Rattle.osc_message.specs.Reading.{pattern_of}
 use Rattle.osc_message.specs.Arguments.{unknown_of}
 use Rattle.osc_pattern.specs.Methods.{Method}
-use Rattle.osc_pattern.specs.Patterns.{matches}
+use Rattle.osc_pattern.specs.Patterns.{matches, Match}
 use Rattle.osc_queue.specs.Timed.{unit_of}
 use Rattle.osc_tree.specs.Matching.{matched, matching}
 use Rattle.osc_model.specs.State.{Queued, State}
@@ -15,9 +15,10 @@ use Rattle.osc_model.specs.Events.{Call, Invocation}
 use Rattle.osc_model.specs.Step.{matching_calls, calls_of, calls_from, calls_of_unit, invocations_of}
 use Rattle.osc_model.specs.Releases.{IsCallIn}
 
--- the methods that are called are exactly those that match
-abbrev pub MatchesExactly : Type 0
-MatchesExactly = (pattern : List ℕ) (methods : List Method) → IsPermutation (matched pattern methods) (matching pattern methods)
+-- the methods that are called are exactly those that match, by a test that decides the relation
+pub record MatchesExactly : Type 0 where
+  pub listed : (pattern : List ℕ) (methods : List Method) → IsPermutation (matched pattern methods) (matching pattern methods)
+  pub decides : (pattern address : List ℕ) → IsTrue (matches pattern address) ↔ Match pattern address
 
 pub all_more : {X : Type 0} (P Q : X → Type 0) → ((x : X) → P x → Q x) → (xs : List X) → AllByRecursion P xs → AllByRecursion Q xs
 all_more P Q f [] all = tt
@@ -51,7 +52,7 @@ all_matched pattern (method ∷ methods) =
 all_matching : MatchesExactly → (pattern : List ℕ) (methods : List Method) → AllByRecursion (IsMatchOf pattern methods) (matching pattern methods)
 all_matching exactly pattern methods =
     recursion_from_All (IsMatchOf pattern methods) (matching pattern methods)
-    (All-permutation (IsMatchOf pattern methods) (matched pattern methods) (matching pattern methods) (exactly pattern methods)
+    (All-permutation (IsMatchOf pattern methods) (matched pattern methods) (matching pattern methods) (exactly.listed pattern methods)
     (All-from_recursion (IsMatchOf pattern methods) (matched pattern methods) (all_matched pattern methods)))
 
 -- the messages are those of a whole list from a place on
@@ -84,7 +85,14 @@ message_calls : MatchesExactly → (state : State) (unit : Queued) (index : ℕ)
 message_calls exactly state unit index message stands = go (unknown_of message) refl where
   one : unknown_of message ≡ None → (method : Method) → IsMatchOf (pattern_of message) state.methods method
       → IsCallIn state unit (invocation (unit_of unit) (record { index = index; id = method.id; address = method.address; message = message }))
-  one known method is = record { of_unit = refl; within = stands.0; message = stands.1; known = known; registered = is.0; matched = is.1 }
+  one known method is = record {
+    of_unit = refl;
+    within = stands.0;
+    message = stands.1;
+    known = known;
+    registered = is.0;
+    matched = (exactly.decides (pattern_of message) method.address).0 is.1;
+  }
 
   go : (tag : Option ℕ) → unknown_of message ≡ tag
       → AllByRecursion (λ call. IsCallIn state unit (invocation (unit_of unit) call)) (cond (is_some tag) [] (matching_calls state.methods index message))

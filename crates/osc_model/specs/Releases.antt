@@ -1,11 +1,11 @@
 -- What a release does, in words: it takes the least unit that is due, or there is no room for its
 -- entry, or nothing is due.
-use Rattle.std.specs.Prelude.{◌≡◌, ◌⊎◌, ℕ, ◌+◌, ◌*◌, ◌<◌, ◌≤◌, IsTrue, List, [], ◌∷◌, Option, Some, None, slice_index_or, length}
+use Rattle.std.specs.Prelude.{◌≡◌, ◌⊎◌, ℕ, ◌+◌, ◌*◌, ◌<◌, ◌≤◌, List, [], ◌∷◌, Option, Some, None, slice_index_or, length}
 use Rattle.std.specs.List.{AllByRecursion, Contains}
 use Rattle.std.specs.List.Sorted.{IsPermutation}
 use Rattle.osc_message.specs.Reading.{pattern_of}
 use Rattle.osc_message.specs.Arguments.{unknown_of}
-use Rattle.osc_pattern.specs.Patterns.{matches}
+use Rattle.osc_pattern.specs.Patterns.{Match}
 use Rattle.osc_queue.specs.Timed.{due_of, unit_of, IsLeast, NoneIsDue}
 use Rattle.osc_model.specs.State.{Queued, State}
 use Rattle.osc_model.specs.Counts.{free_bytes}
@@ -77,7 +77,7 @@ pub record IsCallIn (state : State) (unit : Queued) (invocation : Invocation) : 
   pub known : unknown_of invocation.call.message ≡ None
   pub registered : Contains state.methods
       (record { id = invocation.call.id; address = invocation.call.address })
-  pub matched : IsTrue (matches (pattern_of invocation.call.message) invocation.call.address)
+  pub matched : Match (pattern_of invocation.call.message) invocation.call.address
 
 -- all invocations of a step are calls in the state before it, of one unit that was queued there; or
 -- there are none

@@ -171,6 +171,7 @@ pub fn invocations_are_of_registered_methods()
     ensures history { (state : State) (history : List Entry)
         → AllByRecursion (IsInvokedIn state history) (invocations state history) }
 {
+    addresses::tests_are_exact();
     trees::the_matching_methods_ascend();
 }
 

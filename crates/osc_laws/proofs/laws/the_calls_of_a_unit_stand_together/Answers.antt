@@ -4,7 +4,7 @@ use Rattle.osc_laws.proofs.laws.the_calls_of_a_unit_stand_together.Goals as goal
 pub returns : goal.returns
 returns c = all_consecutive (record {
   least = c.a_release_takes_the_least_unit.ensures.after;
-  exactly = c.the_matching_methods_ascend.ensures.exactly;
+  exactly = record { listed = c.the_matching_methods_ascend.ensures.exactly; decides = c.tests_are_exact.ensures.whole };
   ascends = c.the_matching_methods_ascend.ensures.ascending;
   opens = c.a_server_stays_sound.ensures.opening;
   stays = c.a_server_stays_sound.ensures.step;

@@ -4,7 +4,10 @@ use Rattle.osc_model.proofs.laws.a_legal_history_is_recordable.Goals as goal
 pub returns-clause-next : goal.returns-clause-next
 returns-clause-next c =
     next_fits (record {
-      answers = record { spelled = c.tests_are_exact.ensures.address; exactly = c.the_matching_methods_ascend.ensures.exactly };
+      answers = record {
+        spelled = c.tests_are_exact.ensures.address;
+        exactly = record { listed = c.the_matching_methods_ascend.ensures.exactly; decides = c.tests_are_exact.ensures.whole };
+      };
       sound = c.a_server_stays_sound.ensures.after;
       counted = c.a_server_stays_sound.ensures.counted;
     })
@@ -12,7 +15,10 @@ returns-clause-next c =
 pub returns-clause-all : goal.returns-clause-all
 returns-clause-all c =
     all_fit (record {
-      answers = record { spelled = c.tests_are_exact.ensures.address; exactly = c.the_matching_methods_ascend.ensures.exactly };
+      answers = record {
+        spelled = c.tests_are_exact.ensures.address;
+        exactly = record { listed = c.the_matching_methods_ascend.ensures.exactly; decides = c.tests_are_exact.ensures.whole };
+      };
       sound = c.a_server_stays_sound.ensures.after;
       counted = c.a_server_stays_sound.ensures.counted;
     })
@@ -21,7 +27,10 @@ pub returns-clause-recorded : goal.returns-clause-recorded
 returns-clause-recorded c =
     all_recorded
     (record {
-      answers = record { spelled = c.tests_are_exact.ensures.address; exactly = c.the_matching_methods_ascend.ensures.exactly };
+      answers = record {
+        spelled = c.tests_are_exact.ensures.address;
+        exactly = record { listed = c.the_matching_methods_ascend.ensures.exactly; decides = c.tests_are_exact.ensures.whole };
+      };
       sound = c.a_server_stays_sound.ensures.after;
       counted = c.a_server_stays_sound.ensures.counted;
     })
@@ -29,7 +38,10 @@ returns-clause-recorded c =
 pub returns-clause-within : goal.returns-clause-within
 returns-clause-within c =
     all_within (record {
-      answers = record { spelled = c.tests_are_exact.ensures.address; exactly = c.the_matching_methods_ascend.ensures.exactly };
+      answers = record {
+        spelled = c.tests_are_exact.ensures.address;
+        exactly = record { listed = c.the_matching_methods_ascend.ensures.exactly; decides = c.tests_are_exact.ensures.whole };
+      };
       sound = c.a_server_stays_sound.ensures.after;
       counted = c.a_server_stays_sound.ensures.counted;
     })
