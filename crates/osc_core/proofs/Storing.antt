@@ -7,7 +7,7 @@ use Rattle.std.proofs.lemmas.List.{take_at, drop_at}
 use Rattle.std.proofs.lemmas.Nat.{from_be_bytes-to_be_bytes_4}
 use Rattle.osc_atoms.specs.Atoms.{word}
 use Rattle.osc_atoms.specs.declared.fault.Fault.{Fault}
-use Rattle.osc_message.specs.Faults.{empty, too_long}
+use Rattle.osc_atoms.specs.Faults.{empty, too_long}
 use Rattle.osc_message.specs.Reading.{Parts, is_message, fourfold_read}
 use Rattle.osc_packet.specs.Units.{stored_size}
 use Rattle.osc_core.specs.Frames.{framed, first_length, first_framed, after_framed, unframed, IsFramed}

@@ -12,7 +12,8 @@ use Rattle.osc_pattern.specs.Patterns.{IsPattern, pattern_fault}
 use Rattle.osc_pattern.proofs.PatternLaws.{IsFound, pattern_fault-found}
 use Rattle.osc_message.specs.Tags.{is_unknown, Balanced}
 use Rattle.osc_message.specs.Messages.{Argument, tag_of, atom_of, AllFit, Form, bare, known, unknown, IsLawful, IsMessage, tag_string, message_text}
-use Rattle.osc_message.specs.Faults.{empty, not_four, too_long, start, of_pattern, no_tags, left_over}
+use Rattle.osc_atoms.specs.Faults.{empty, not_four, too_long, start}
+use Rattle.osc_message.specs.Faults.{of_pattern, no_tags, left_over}
 use Rattle.osc_message.specs.Wants.{Want, some_byte, within, fourfold, slash, pattern, lawful, comma, tag_text, brackets_balance, arguments, done, Leads, Names, Reaches, first, later, FaultFrom}
 use Rattle.osc_message.proofs.ArrayBrackets.{balance_seen}
 use Rattle.osc_message.proofs.ArgumentAtoms.{argument_seen, string_fours}

@@ -9,7 +9,8 @@ use Rattle.osc_atoms.specs.Atoms.{string_end}
 use Rattle.osc_atoms.specs.Reading.{and_then, is_zero, padding_read, text_read, string_read}
 use Rattle.osc_pattern.specs.declared.faults.PatternFault.{PatternFault}
 use Rattle.osc_pattern.specs.Patterns.{pattern_fault, is_pattern}
-use Rattle.osc_message.specs.Faults.{no_tags, start}
+use Rattle.osc_atoms.specs.Faults.{start}
+use Rattle.osc_message.specs.Faults.{no_tags}
 use Rattle.osc_message.specs.Reading.{Parts, begins, tags_read, tagged_read, comma_read, unless_fault, lawful_read, message_read, parts_of}
 
 ok_is : {X : Type 0} (a b : X) → ◌≡◌ {A = Result X Fault} (Ok a) (Ok b) → a ≡ b

@@ -3,7 +3,7 @@ use Rattle.std.proofs.Common.{◌≡◌, ℕ, ◌%◌, Bool, true, false, cond, 
 use Rattle.std.specs.Result.{result_ok}
 use Rattle.std.proofs.lemmas.Bool.Decides.{nat_tests}
 use Rattle.osc_atoms.specs.declared.fault.Fault.{Fault}
-use Rattle.osc_message.specs.Faults.{empty, not_four, too_long}
+use Rattle.osc_atoms.specs.Faults.{empty, not_four, too_long}
 use Rattle.osc_message.specs.Reading.{Parts, IsReadable, message_read, is_message}
 
 read_ok : (read : Result Parts Fault) (parts : Parts) → result_ok read ≡ Some parts → is_ok read ≡ true

@@ -14,7 +14,8 @@ use Rattle.osc_pattern.specs.Patterns.{pattern_fault}
 use Rattle.osc_pattern.proofs.PatternLaws.{IsPattern-read, IsFault-read}
 use Rattle.osc_message.specs.Tags.{is_unknown}
 use Rattle.osc_message.specs.Messages.{Argument, tag_of, atom_of, tag_string}
-use Rattle.osc_message.specs.Faults.{start, no_tags, brackets, left_over}
+use Rattle.osc_atoms.specs.Faults.{start}
+use Rattle.osc_message.specs.Faults.{no_tags, brackets, left_over}
 use Rattle.osc_message.specs.Wants.{Want, some_byte, within, fourfold, slash, pattern, lawful, comma, tag_text, brackets_balance, arguments, done, after_tags, Leads, Names, NamesOtherByte, StartsWithArgument, NamesArgumentFault, of_word, of_long, of_text, of_blob, ClosesNothing, NeverCloses}
 use Rattle.osc_message.specs.ArgumentReading.{argument_read, arguments_end}
 use Rattle.osc_message.specs.Reading.{Parts, begins, brackets_read, arguments_read, tags_read, tagged_read, comma_read, unless_fault, lawful_read, message_read, fourfold_read, within_read, limited_read}

@@ -9,7 +9,8 @@ use Rattle.osc_atoms.specs.Reading.{and_then, string_read, is_zero}
 use Rattle.osc_pattern.specs.declared.faults.PatternFault.{PatternFault}
 use Rattle.osc_pattern.specs.Patterns.{pattern_fault}
 use Rattle.osc_message.specs.Tags.{is_unknown}
-use Rattle.osc_message.specs.Faults.{empty, not_four, too_long, start, of_pattern, no_tags, brackets, left_over}
+use Rattle.osc_atoms.specs.Faults.{empty, not_four, too_long, start}
+use Rattle.osc_message.specs.Faults.{of_pattern, no_tags, brackets, left_over}
 use Rattle.osc_message.specs.ArgumentReading.{arguments_end}
 
 -- the pattern, the tags without the comma if there is a tag string, and the place of the first byte

@@ -7,7 +7,8 @@ use Rattle.osc_atoms.specs.Standing.{StartsWith, StartsWithString, NamesShort, N
 use Rattle.osc_pattern.specs.Patterns.{IsPattern, IsFault}
 use Rattle.osc_message.specs.Tags.{is_word_tag, is_long_tag, is_text_tag, is_blob_tag, is_unknown, ClosesOpenOnes, Balanced}
 use Rattle.osc_message.specs.Messages.{Argument, tag_of, atom_of, Fits, tag_string}
-use Rattle.osc_message.specs.Faults.{empty, not_four, too_long, start, of_pattern, no_tags, brackets, left_over}
+use Rattle.osc_atoms.specs.Faults.{empty, not_four, too_long, start}
+use Rattle.osc_message.specs.Faults.{of_pattern, no_tags, brackets, left_over}
 
 -- One check, with its place and what it is about. A message that stands within other bytes is read
 -- from its place to

@@ -8,7 +8,7 @@ use Rattle.osc_atoms.specs.declared.fault.Fault.{Fault}
 use Rattle.osc_packet.specs.declared.walk.OpenBundle.{OpenBundle}
 use Rattle.osc_packet.specs.declared.walk.Found.{Found}
 use Rattle.osc_packet.specs.Packets.{effective_tag}
-use Rattle.osc_packet.specs.Faults.{start}
+use Rattle.osc_atoms.specs.Faults.{start}
 use Rattle.osc_packet.specs.Units.{Timed}
 use Rattle.osc_packet.specs.Wants.{part}
 use Rattle.osc_packet.specs.Contents.{own_fault}

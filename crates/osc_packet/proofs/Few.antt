@@ -6,7 +6,7 @@ use Rattle.std.proofs.lemmas.Bool.{cases_lt, ltb-false}
 use Rattle.std.proofs.lemmas.List.{length-take-le}
 use Rattle.osc_atoms.specs.declared.fault.Fault.{Fault}
 use Rattle.osc_packet.specs.Packets.{effective_tag}
-use Rattle.osc_packet.specs.Faults.{empty, too_long, not_four}
+use Rattle.osc_atoms.specs.Faults.{empty, too_long, not_four}
 use Rattle.osc_packet.specs.Units.{Timed}
 use Rattle.osc_packet.specs.Reading.{is_bundle, bundle_tag, packet_fault, element_fault, body_fault, first_size, first_element, after_first, elements_in, bundle_read, enclosed_read, units_read}
 use Rattle.osc_packet.proofs.Steps.{bundle_step}

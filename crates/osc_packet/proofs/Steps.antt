@@ -7,7 +7,8 @@ use Rattle.std.proofs.lemmas.Bool.{cond-true, cond-false}
 use Rattle.std.proofs.lemmas.Bool.Decides.{nat_tests}
 use Rattle.osc_atoms.specs.declared.fault.Fault.{Fault}
 use Rattle.osc_packet.specs.Packets.{bundle_word, effective_tag}
-use Rattle.osc_packet.specs.Faults.{start, no_bundle_word, no_bundle_head, too_deep, element_size}
+use Rattle.osc_atoms.specs.Faults.{start}
+use Rattle.osc_packet.specs.Faults.{no_bundle_word, no_bundle_head, too_deep, element_size}
 use Rattle.osc_packet.specs.Reading.{first_size, first_element, after_first, begins_with_size, size_read, elements_fault, body_fault, element_fault, fault_with, fault_or, message_fault_at, is_bundle, head_read, elements_of, elements_in, messages_in, bundle_tag, bundle_read, enclosed_read}
 
 -- what a reading of elements gives, by that of the first and that of the rest

@@ -12,7 +12,8 @@ use Rattle.osc_atoms.specs.Atoms.{AreBytes}
 use Rattle.osc_message.specs.Messages.{IsMessage}
 use Rattle.osc_message.specs.Reading.{message_fault}
 use Rattle.osc_packet.specs.Packets.{bundle_word, effective_tag, IsInTime}
-use Rattle.osc_packet.specs.Faults.{empty, too_long, not_four, start, no_bundle_word, no_bundle_head, too_deep, tag_before, moved, element_size}
+use Rattle.osc_atoms.specs.Faults.{empty, too_long, not_four, start}
+use Rattle.osc_packet.specs.Faults.{no_bundle_word, no_bundle_head, too_deep, tag_before, moved, element_size}
 use Rattle.osc_packet.specs.Wants.{Want, Element, Frame, some_byte, within, fourfold, begun, is_message, named_bundle, headed, shallow, in_time, sized, Stands, next_of, after, announced, opened, own_tag, tag_around, word_of, part, bytes_of, IsSize, Reaches, first, later, FirstFault}
 use Rattle.osc_packet.specs.Reading.{packet_fault, fault_or, message_fault_at, head_read, is_early, bundle_tag, element_fault, body_fault, first_size, first_element, after_first, begins_with_size}
 use Rattle.osc_packet.specs.Known.{OfMessages}

@@ -6,7 +6,7 @@ use Rattle.osc_atoms.specs.Atoms.{AreBytes}
 use Rattle.osc_packet.specs.Packets.{IsPacket}
 use Rattle.osc_packet.specs.Wants.{FirstFault}
 use Rattle.osc_packet.specs.Reading.{packet_fault, element_fault}
-use Rattle.osc_packet.specs.Faults.{empty, too_long, not_four}
+use Rattle.osc_atoms.specs.Faults.{empty, too_long, not_four}
 use Rattle.osc_packet.specs.Known.{OfMessages}
 use Rattle.osc_packet.proofs.Chains.{one_fault, no_fault}
 use Rattle.osc_packet.proofs.Told.{Outcome, packet_told}

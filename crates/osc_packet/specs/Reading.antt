@@ -8,7 +8,8 @@ use Rattle.osc_atoms.specs.declared.fault.Fault.{Fault}
 use Rattle.osc_message.specs.Reading.{message_fault}
 use Rattle.osc_packet.specs.Packets.{bundle_word, effective_tag, deepest}
 use Rattle.osc_packet.specs.Units.{Timed}
-use Rattle.osc_packet.specs.Faults.{empty, not_four, too_long, start, no_bundle_word, no_bundle_head, element_size, too_deep, tag_before, moved}
+use Rattle.osc_atoms.specs.Faults.{empty, not_four, too_long, start}
+use Rattle.osc_packet.specs.Faults.{no_bundle_word, no_bundle_head, element_size, too_deep, tag_before, moved}
 
 -- the size that the bytes begin with
 abbrev pub first_size : List ℕ → ℕ

@@ -5,7 +5,8 @@ use Rattle.osc_atoms.specs.declared.fault.Fault.{Fault}
 use Rattle.osc_message.specs.Messages.{IsMessage}
 use Rattle.osc_message.specs.Wants.{FirstFault as FirstMessageFault}
 use Rattle.osc_packet.specs.Packets.{bundle_word, effective_tag, IsInTime, deepest}
-use Rattle.osc_packet.specs.Faults.{empty, not_four, too_long, start, no_bundle_word, no_bundle_head, element_size, too_deep, tag_before, moved}
+use Rattle.osc_atoms.specs.Faults.{empty, not_four, too_long, start}
+use Rattle.osc_packet.specs.Faults.{no_bundle_word, no_bundle_head, element_size, too_deep, tag_before, moved}
 
 -- an open bundle: the place after its last byte, and its effective tag
 pub record Frame : Type 0 where
