@@ -3,6 +3,7 @@
 #![tactic(auto)]
 
 mod chain;
+pub mod laws;
 mod limits;
 mod links;
 mod pool;
