@@ -1,6 +1,7 @@
 pub mod Counts
 pub mod Live
 pub mod Opened
+pub mod Reached
 pub mod Stored
 pub mod Walks
 pub mod Writing

@@ -1,12 +1,12 @@
 -- A pool whose blocks are all free.
-use Rattle.std.proofs.Common.{◌≡◌, ℕ, zero, suc, ◌+◌, ◌<◌, ◌≤◌, inl, inr, List, [], ◌∷◌, ◌++◌, length, get_or, replicate, sum_by, refl, sym, ap, ◌∙◌, arith}
+use Rattle.std.proofs.Common.{◌≡◌, ℕ, zero, suc, ◌+◌, ◌-◌, ◌<◌, ◌≤◌, inl, inr, List, [], ◌∷◌, ◌++◌, length, get_or, replicate, sum_by, refl, sym, ap, ◌∙◌, arith}
 use Rattle.std.specs.List.{range_with_len}
 use Rattle.std.proofs.lemmas.Bool.{cases_eq}
 use Rattle.std.proofs.lemmas.List.{length-replicate, get_or-replicate}
 use Rattle.std.proofs.lemmas.List.FromFn.{length-range_with_len, get_or-range_with_len}
 use Rattle.std.proofs.lemmas.List.Sums.{sum_by-cons}
 use Rattle.osc_pool.specs.Holding.{blocks_for}
-use Rattle.osc_pool.specs.Paths.{path, paths_from, texts_from, times, IsSound}
+use Rattle.osc_pool.specs.Paths.{path, paths_from, texts_from, times, IsSound, IsLaid}
 use Rattle.osc_pool.proofs.Counts.{times_head, times_other}
 
 -- one number more of a range
@@ -60,7 +60,7 @@ no_texts blocks next (suc n) from = ap (λ (l : List (List ℕ)). [] ∷ l) (no_
 pub opened_view : (blocks : List (List ℕ)) (next sizes : List ℕ) (limit : ℕ) → sizes ≡ replicate limit 0 → texts_from blocks next 0 sizes ≡ replicate limit []
 opened_view blocks next sizes limit none = ap (texts_from blocks next 0) none ∙ no_texts blocks next limit 0
 
-pub opened_sound : (block : List ℕ) (limit : ℕ) → length block ≡ 64 → limit ≤ 1048576
+opened_sound : (block : List ℕ) (limit : ℕ) → length block ≡ 64 → limit ≤ 1048576
     → IsSound (replicate limit block) (range_with_len 1 limit) (replicate limit 0) 0 limit
 opened_sound block limit whole few = record {
   linked = length-range_with_len 1 limit ∙ sym (length-replicate limit block);
@@ -72,3 +72,14 @@ opened_sound block limit whole few = record {
       omega (arith, once.above (omega (arith, length-replicate limit block)), no_paths (range_with_len 1 limit) b limit 0));
   counted = omega (arith, no_sizes limit, length-replicate limit block);
 }
+
+pub opened_laid : (limit capacity : ℕ) → limit ≤ 1048576 → limit ≤ capacity → IsLaid [] (range_with_len 1 limit) (replicate limit 0) 0 limit capacity
+opened_laid limit capacity few room =
+    let long = length-range_with_len 1 limit in
+    let all : limit - 0 ≡ limit = omega arith in
+    record {
+      sound = rw (long, all) (opened_sound (replicate 64 0) limit refl few);
+      few = omega arith;
+      room = omega (arith, long, room);
+      reached = λ b _. no_paths (range_with_len 1 limit) b limit 0;
+    }

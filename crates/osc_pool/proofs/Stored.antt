@@ -1,11 +1,11 @@
 -- A pool before and after bytes are stored and given back.
-use Rattle.std.proofs.Common.{◌≡◌, ◌≢◌, ℕ, ◌+◌, ◌-◌, ◌<◌, ◌≤◌, inl, inr, List, [], ◌∷◌, ◌++◌, length, get_or, set, sum_by, refl, sym, ap, ◌∙◌, subst, subst₂, arith, zero-add}
+use Rattle.std.proofs.Common.{◌≡◌, ◌≢◌, ℕ, ◌+◌, ◌-◌, ◌<◌, ◌≤◌, inl, inr, List, [], ◌∷◌, ◌++◌, length, get_or, set, sum_by, refl, sym, ap, ◌∙◌, subst, arith, zero-add}
 use Rattle.std.proofs.lemmas.Bool.{cases_eq, cases_lt}
 use Rattle.std.proofs.lemmas.List.{length-set, get_or-set_same, get_or-set_other, get_or_past, ext_get_or}
 use Rattle.std.proofs.lemmas.List.Sums.{sum_by-set}
 use Rattle.osc_pool.specs.declared.chain.Chain.{Chain}
 use Rattle.osc_pool.specs.Holding.{blocks_for, used_blocks, held_by, with_chain, IsLive, IsNew, KeepsLive, KeepsOthers}
-use Rattle.osc_pool.specs.Paths.{path, behind, text, paths_from, texts_from, times, uses, IsPath, AreWhole, IsWritten, IsSound}
+use Rattle.osc_pool.specs.Paths.{path, behind, filled_up, text, paths_from, texts_from, times, uses, IsPath, AreWhole, IsWritten, IsSound}
 use Rattle.osc_pool.proofs.Counts.{times-append, times_head, times_part, times_parts}
 use Rattle.osc_pool.proofs.Live.{held_none, held_some, with_some, is_new, keeps_live, keeps_others, holds}
 use Rattle.osc_pool.proofs.Walks.{path-add, behind-add, path_kept, behind_kept, text_relinked, text_same, length-text, length-paths, length-texts, path_at, text_at, times_first, paths_set, paths_same, used-texts}
@@ -95,6 +95,17 @@ module _ {blocks : List (List ℕ)} {next sizes : List ℕ} {first free : ℕ} (
     | inr some ↦ subst (λ (n : ℕ). IsPath next (blocks_for n) chain.first (length blocks)) (live_size chain live some) (chain_path chain.first)
   ]
 
+  -- among those that were reached
+  pub live_reached : (chain : Chain) (count : ℕ) → IsLive chain (texts_from blocks next 0 sizes)
+      → ((b : ℕ) → count ≤ b → sum_by (times b) (paths_from next 0 sizes) ≡ 0) → IsPath next (blocks_for chain.len) chain.first count
+  live_reached chain count live reached = elim (cases_eq chain.len 0) [
+    | inl none ↦ subst (λ (n : ℕ). IsPath next (blocks_for n) chain.first count) (sym none) (record { once = λ b. omega arith; inside = λ b above. refl })
+    | inr some ↦ subst (λ (n : ℕ). IsPath next (blocks_for n) chain.first count) (live_size chain live some) (record {
+      once = (chain_path chain.first).once;
+      inside = λ b above. omega (arith, reached b above, chain_part b chain.first);
+    })
+  ]
+
   -- and have its bytes
   pub live_text : (chain : Chain) → IsLive chain (texts_from blocks next 0 sizes)
       → text blocks next (blocks_for chain.len) chain.first chain.len ≡ held_by chain (texts_from blocks next 0 sizes)
@@ -123,6 +134,19 @@ module _ {blocks : List (List ℕ)} {next sizes : List ℕ} {first free : ℕ} (
     | inl below ↦ below
     | inr above ↦ absurd (omega (arith, is.inside first above, times_first next free first some))
   ]
+
+  -- where a chain comes to begin at the first free block, its blocks stand in the chains besides
+  pub sums_stored : (size b : ℕ) → 0 < free
+      → sum_by (times b) (paths_from next 0 (set sizes first size)) ≡ sum_by (times b) (paths_from next 0 sizes) + times b (path next (blocks_for size) first)
+  sums_stored size b some =
+      let paths = paths_from next 0 sizes in
+      let taken = path next (blocks_for size) first in
+      let set_is : paths_from next 0 (set sizes first size) ≡ set paths first taken = rw zero-add at (paths_set next 0 sizes first size) in
+      let none : get_or paths first [] ≡ [] = path_at next 0 sizes first ∙ rw (first_vacant some) refl in
+      let none' : times b (get_or paths first []) ≡ 0 = ap (times b) none in
+      let sums : sum_by (times b) (paths_from next 0 (set sizes first size)) ≡ sum_by (times b) (set paths first taken) = ap (sum_by (times b)) set_is in
+      let inside : first < length paths = omega (arith, first_inside some, is.sized, length-paths next 0 sizes) in
+      omega (arith, sums, none', sum_by-set (times b) paths first taken [] inside)
 
   -- bytes that are written on the first free blocks
   module _ (later : List (List ℕ)) (bytes : List ℕ) (some : 0 < length bytes) (few : blocks_for (length bytes) ≤ free)
@@ -166,17 +190,7 @@ module _ {blocks : List (List ℕ)} {next sizes : List ℕ} {first free : ℕ} (
 
     uses_stored : (b : ℕ) → uses next (set sizes first (length bytes)) (behind next (blocks_for (length bytes)) first) (free - blocks_for (length bytes)) b
         ≡ uses next sizes first free b
-    uses_stored b =
-        let paths = paths_from next 0 sizes in
-        let taken = path next (blocks_for (length bytes)) first in
-        let set_is : paths_from next 0 (set sizes first (length bytes)) ≡ set paths first taken = rw zero-add at (paths_set next 0 sizes first
-        (length bytes)) in
-        let none : get_or paths first [] ≡ [] = path_at next 0 sizes first ∙ rw (first_vacant (omega arith)) refl in
-        let none' : times b (get_or paths first []) ≡ 0 = ap (times b) none in
-        let sums : sum_by (times b) (paths_from next 0 (set sizes first (length bytes))) ≡ sum_by (times b) (set paths first taken) =
-        ap (sum_by (times b)) set_is in
-        let inside : first < length paths = omega (arith, first_inside (omega arith), is.sized, length-paths next 0 sizes) in
-        omega (arith, taken_part b, sums, none', sum_by-set (times b) paths first taken [] inside)
+    uses_stored b = omega (arith, taken_part b, sums_stored (length bytes) b (omega arith))
 
     pub stored_sound : AreWhole later → length later ≡ length blocks
         → IsSound later next (set sizes first (length bytes)) (behind next (blocks_for (length bytes)) first) (free - blocks_for (length bytes))
@@ -267,6 +281,10 @@ module _ {blocks : List (List ℕ)} {next sizes : List ℕ} {first free : ℕ} (
         ap (times b) free_is ∙ times-append b _ _ in
         omega (arith, sums, here', frees, sum_by-set (times b) paths i [] [] (omega (arith, length-paths next 0 sizes)))
 
+    pub sums_given : (b : ℕ) → sum_by (times b) (paths_from (set next last first) 0 (set sizes i 0)) ≤ sum_by (times b) (paths_from next 0 sizes)
+    sums_given b =
+        omega (arith, uses_given b, ap (times b) free_is, times-append b (path next (blocks_for (get_or sizes i 0)) i) (path next free first))
+
     pub given_sound : IsSound blocks (set next last first) (set sizes i 0) i (free + blocks_for (get_or sizes i 0))
     given_sound = record {
       linked = length-set next last first ∙ is.linked;
@@ -337,13 +355,15 @@ stored_is {blocks} {now} {next} {sizes} {first} {free} {behind_it} old bytes is 
     }
 
 -- the same, as it is seen through slices
-pub stored : {blocks now later shown : List (List ℕ)} {next links sizes : List ℕ} {first free behind_it need : ℕ} (old : List (List ℕ)) (bytes : List ℕ)
-    → IsSound blocks next sizes first free → texts_from blocks next 0 sizes ≡ old → 0 < length bytes → need ≡ blocks_for (length bytes) → need ≤ free
-    → shown ≡ blocks → links ≡ next → now ≡ later → IsWritten shown later links first behind_it bytes
-    → IsStored now next (set sizes first (length bytes)) behind_it (free - need) (record { first = first; len = length bytes }) bytes old
-stored {later = later} {first = first} {behind_it = behind_it} old bytes is view some needs few shows links_are now_is written =
-    rw (needs, now_is) (stored_is old bytes is view some (omega arith)
-    (subst₂ (λ (b : List (List ℕ)) (n : List ℕ). IsWritten b later n first behind_it bytes) shows links_are written))
+pub stored : {next links sizes : List ℕ} {first free behind_it need : ℕ} (blocks now old : List (List ℕ)) (bytes : List ℕ)
+    → IsSound (filled_up (length next) blocks) next sizes first free → texts_from (filled_up (length next) blocks) next 0 sizes ≡ old → 0 < length bytes
+    → need ≡ blocks_for (length bytes) → need ≤ free → links ≡ next
+    → IsWritten (filled_up (length links) blocks) (filled_up (length links) now) links first behind_it bytes
+    → IsStored (filled_up (length next) now) next (set sizes first (length bytes)) behind_it (free - need)
+    (record { first = first; len = length bytes }) bytes old
+stored {first = first} {behind_it = behind_it} blocks now old bytes is view some needs few links_are written =
+    rw needs (stored_is old bytes is view some (omega arith)
+    (subst (λ (n : List ℕ). IsWritten (filled_up (length n) blocks) (filled_up (length n) now) n first behind_it bytes) links_are written))
 
 -- a pool in which the chain that began here holds nothing more
 pub record IsGiven (blocks : List (List ℕ)) (next sizes : List ℕ) (first free : ℕ) (chain : Chain) (old : List (List ℕ)) : Type 0 where
@@ -374,14 +394,28 @@ given_is {blocks} {next} {sizes} {first} {free} {last} chain is live some ends =
       limit = omega (arith, limit_is is, limit_is sound);
     }
 
-pub given : {blocks : List (List ℕ)} {next links sizes : List ℕ} {first free last count : ℕ} (chain : Chain) (old : List (List ℕ))
+pub given : {next links sizes : List ℕ} {first free last count : ℕ} (blocks : List (List ℕ)) (chain : Chain) (old : List (List ℕ))
+    → IsSound (filled_up (length next) blocks) next sizes first free → texts_from (filled_up (length next) blocks) next 0 sizes ≡ old → IsLive chain old
+    → (chain.len ≡ 0 → ⊥) → count ≡ blocks_for chain.len → links ≡ next → last ≡ behind links (count - 1) chain.first
+    → IsGiven (filled_up (length (set next last first)) blocks) (set next last first) (set sizes chain.first 0) chain.first (free + count) chain old
+given {next} {links} {sizes} {first} {free} {last} {count} blocks chain old is view live some counts links_are ends =
+    let ends' : last ≡ behind next (blocks_for chain.len - 1) chain.first = ends ∙ rw (links_are, counts) refl in
+    subst (λ (l : List (List ℕ)). IsGiven (filled_up (length (set next last first)) blocks) (set next last first) (set sizes chain.first 0) chain.first
+    (free + count) chain l) view
+    (subst (λ (n : ℕ). IsGiven (filled_up n blocks) (set next last first) (set sizes chain.first 0) chain.first (free + count) chain
+    (texts_from (filled_up (length next) blocks) next 0 sizes)) (sym (length-set next last first))
+    (rw counts (given_is chain is (subst (λ (l : List (List ℕ)). IsLive chain l) (sym view) live) some ends')))
+
+-- no block stands in the chains that are left more often
+pub given_sums : {blocks : List (List ℕ)} {next links sizes : List ℕ} {first free last count : ℕ} (chain : Chain) (old : List (List ℕ))
     → IsSound blocks next sizes first free → texts_from blocks next 0 sizes ≡ old → IsLive chain old → (chain.len ≡ 0 → ⊥)
     → count ≡ blocks_for chain.len → links ≡ next → last ≡ behind links (count - 1) chain.first
-    → IsGiven blocks (set next last first) (set sizes chain.first 0) chain.first (free + count) chain old
-given {blocks} {next} {links} {sizes} {first} {free} {last} {count} chain old is view live some counts links_are ends =
-    let ends' : last ≡ behind next (blocks_for chain.len - 1) chain.first = ends ∙ rw (links_are, counts) refl in
-    subst (λ (l : List (List ℕ)). IsGiven blocks (set next last first) (set sizes chain.first 0) chain.first (free + count) chain l) view
-    (rw counts (given_is chain is (subst (λ (l : List (List ℕ)). IsLive chain l) (sym view) live) some ends'))
+    → (b : ℕ) → sum_by (times b) (paths_from (set next last first) 0 (set sizes chain.first 0)) ≤ sum_by (times b) (paths_from next 0 sizes)
+given_sums {blocks} {next} {links} {sizes} {first} {free} {last} {count} chain old is view live some counts links_are ends =
+    let live' = subst (λ (l : List (List ℕ)). IsLive chain l) (sym view) live in
+    let size : get_or sizes chain.first 0 ≡ chain.len = live_size is chain live' some in
+    let ends' : last ≡ behind next (blocks_for (get_or sizes chain.first 0) - 1) chain.first = ends ∙ rw (links_are, counts, size) refl in
+    sums_given is chain.first last (live_inside is chain live' some) (omega arith) ends'
 
 -- the last block of a chain lies in the pool
 pub last_within : {blocks : List (List ℕ)} {next links sizes : List ℕ} {first free last count : ℕ} (chain : Chain) (old : List (List ℕ))

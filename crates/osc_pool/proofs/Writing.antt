@@ -6,7 +6,7 @@ use Rattle.std.proofs.lemmas.Slice.{take-put_mid}
 use borrow.Rule.Slice.PartMut.{put_mid, post_of}
 use Rattle.osc_pool.specs.Holding.{blocks_for}
 use Rattle.osc_pool.specs.Paths.{path, behind, text, times, IsPath, IsWritten, AreWhole}
-use Rattle.osc_pool.proofs.Counts.{times_head, times_none}
+use Rattle.osc_pool.proofs.Counts.{times_head, times_none, times_other}
 use Rattle.osc_pool.proofs.Walks.{path_inside}
 
 -- one block more is needed than for what a block doesn't hold
@@ -85,6 +85,11 @@ module _ {before now : List (List ℕ)} {next : List ℕ} {first block : ℕ} {b
         let apart = times_none b block (path next (blocks_for (length others)) (get_or next block 0)) (sym (rest_times b) ∙ none) in
         same b apart.1 ∙ get_or-set_other now block b filled [] apart.0))
         (ap (λ n. text later next n block (length rest)) blocks_fewer ∙ rw (front, fewer, written) (sym split))
+
+    -- another block lies on what is left of the path as often as before
+    pub writing_others : (b : ℕ) → (b ≡ block → ⊥)
+        → times b (path next (blocks_for (length rest)) block) ≡ times b (path next (blocks_for (length others)) (get_or next block 0))
+    writing_others b differs = rest_times b ∙ times_other b block (path next (blocks_for (length others)) (get_or next block 0)) differs
 
     pub writing_more : (later_block : ℕ) → later_block ≡ get_or next block 0 → IsWriting before (set now block filled) next first later_block bytes others
     writing_more later_block follows = subst (λ (n : ℕ). IsWriting before (set now block filled) next first n bytes others) (sym follows) record {

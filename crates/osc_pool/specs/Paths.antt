@@ -1,5 +1,5 @@
 -- Inside the crate: how chains and the free blocks lie in the blocks of a pool.
-use Rattle.std.specs.Prelude.{◌≡◌, ℕ, zero, suc, ◌+◌, ◌-◌, ◌<◌, ◌≤◌, ◌==◌, min, if◌then◌else◌, List, [], ◌∷◌, ◌++◌, length, take, slice_index_or}
+use Rattle.std.specs.Prelude.{◌≡◌, ℕ, zero, suc, ◌+◌, ◌-◌, ◌<◌, ◌≤◌, ◌==◌, min, if◌then◌else◌, List, [], ◌∷◌, ◌++◌, length, replicate, take, slice_index_or, slice_set}
 use Rattle.std.specs.List.{sum_by}
 use Rattle.osc_pool.specs.Holding.{blocks_for}
 
@@ -52,6 +52,30 @@ abbrev pub AreWhole : List (List ℕ) → Type 0
 AreWhole blocks =
     (block : ℕ) → block < length blocks → length (slice_index_or blocks block []) ≡ 64
 
+-- the bytes of a block that was never written
+abbrev pub zeros : List ℕ
+zeros = replicate 64 0
+
+-- as many blocks as the limit, where those that were never reached have zeros
+abbrev pub filled_up : ℕ → List (List ℕ) → List (List ℕ)
+filled_up limit blocks = blocks ++ replicate (limit - length blocks) zeros
+
+-- a piece stands at the beginning of a block, and the others stay
+pub record IsPut (limit : ℕ) (before after : List (List ℕ)) (block : ℕ) (piece : List ℕ) : Type 0 where
+  pub filled : List ℕ
+  pub is : filled_up limit after ≡ slice_set (filled_up limit before) block filled
+  pub taken : take (length piece) filled ≡ piece
+  pub long : length filled ≡ 64
+  pub there : block < length after
+  pub more : length before ≤ length after
+  pub few : length after ≤ limit
+
+-- blocks are among those that were reached, which are no fewer than before
+pub record AreReached (blocks : List ℕ) (before after limit : ℕ) : Type 0 where
+  pub within : (block : ℕ) → after ≤ block → times block blocks ≡ 0
+  pub more : before ≤ after
+  pub few : after ≤ limit
+
 -- bytes are written on a path, and other blocks stay; the block behind the path is this one
 pub record IsWritten (before after : List (List ℕ)) (next : List ℕ) (first behind_it : ℕ)
     (bytes : List ℕ) : Type 0 where
@@ -71,3 +95,11 @@ pub record IsSound (blocks : List (List ℕ)) (next sizes : List ℕ) (first fre
   pub apart : (block : ℕ) → uses next sizes first free block ≤ 1
   pub inside : (block : ℕ) → length blocks ≤ block → uses next sizes first free block ≡ 0
   pub counted : free + sum_by blocks_for sizes ≡ length blocks
+
+-- the same, where the blocks of chains were reached, and the others have room
+pub record IsLaid (blocks : List (List ℕ)) (next sizes : List ℕ) (first free capacity : ℕ) : Type 0 where
+  pub sound : IsSound (filled_up (length next) blocks) next sizes first free
+  pub few : length blocks ≤ length next
+  pub room : length next ≤ capacity
+  pub reached : (block : ℕ) → length blocks ≤ block
+      → sum_by (times block) (paths_from next 0 sizes) ≡ 0

@@ -1,8 +1,8 @@
 // Blocks that follow one another by their links.
-ghost use Rattle.std.specs.Prelude.{◌≡◌, ◌-◌, ◌<◌, ◌≤◌, ◌^◌, IfOk, length, replicate, take};
+ghost use Rattle.std.specs.Prelude.{◌≡◌, ◌-◌, ◌<◌, ◌≤◌, ◌^◌, ℕ, IfOk, length, max, replicate, take, vec_capacity};
 ghost use Rattle.std.specs.List.{range_with_len};
 ghost use Rattle.osc_pool.specs.Holding.{blocks_for};
-ghost use Rattle.osc_pool.specs.Paths.{behind, text, IsPath, IsWritten, AreWhole};
+ghost use Rattle.osc_pool.specs.Paths.{behind, filled_up, path, text, IsPath, IsPut, IsWritten, AreReached, AreWhole};
 
 use crate::limits::BLOCK_SIZE;
 use std::alloc::{AllocError, Global};
@@ -52,21 +52,55 @@ pub(crate) fn last_of(next: &[u32], first: u32, count: usize) -> u32
 }
 
 /// Writes the bytes into blocks, from the first on, and answers the block behind them.
-pub(crate) fn write(blocks: &mut [Block], next: &[u32], first: u32, bytes: &[u8]) -> u32
-    requires linked { length next.now ≡ length blocks.old }
-    requires path { IsPath next.now (blocks_for (length bytes.now)) first (length blocks.old) }
-    requires whole { AreWhole blocks.old }
-    ensures { IsWritten blocks.old blocks.new next.now first result bytes.now }
+pub(crate) fn write(blocks: &mut Vec<Block>, next: &[u32], first: u32, bytes: &[u8]) -> u32
+    requires linked { length blocks.old.items ≤ length next.now }
+    requires room { length next.now ≤ vec_capacity blocks.old }
+    requires path { IsPath next.now (blocks_for (length bytes.now)) first (length next.now) }
+    requires whole { AreWhole (filled_up (length next.now) blocks.old.items) }
+    ensures written { IsWritten (filled_up (length next.now) blocks.old.items)
+        (filled_up (length next.now) blocks.new.items) next.now first result bytes.now }
+    ensures reached { AreReached (path next.now (blocks_for (length bytes.now)) first)
+        (length blocks.old.items) (length blocks.new.items) (length next.now) }
+    ensures capacity { vec_capacity blocks.old ≤ vec_capacity blocks.new }
 {
     let mut block = first;
     let mut rest = bytes;
     while !rest.is_empty() {
         let (piece, others) = rest.split_at(rest.len().min(BLOCK_SIZE));
-        fill(&mut blocks[block as usize], piece);
+        put(blocks, block as usize, piece);
         block = next[block as usize];
         rest = others;
     }
     block
+}
+
+/// Writes the piece over the beginning of a block.
+fn put(blocks: &mut Vec<Block>, block: usize, piece: &[u8])
+    requires room { block < vec_capacity blocks.old }
+    requires small { length piece.now ≤ 64 }
+    ensures put { (limit : ℕ) → block < limit → length blocks.old.items ≤ limit →
+        IsPut limit blocks.old.items blocks.new.items block piece.now }
+    ensures capacity { vec_capacity blocks.old ≤ vec_capacity blocks.new }
+{
+    reach(blocks, block + 1);
+    fill(&mut blocks[block], piece);
+}
+
+/// So many blocks are reached, those that weren't with zeros.
+fn reach(blocks: &mut Vec<Block>, count: usize)
+    requires { count ≤ vec_capacity blocks.old }
+    ensures same { (limit : ℕ) → count ≤ limit → length blocks.old.items ≤ limit →
+        filled_up limit blocks.new.items ≡ filled_up limit blocks.old.items }
+    ensures len { length blocks.new.items ≡ max (length blocks.old.items) count }
+    ensures capacity { vec_capacity blocks.old ≤ vec_capacity blocks.new }
+{
+    if blocks.len() >= count {
+        return;
+    }
+    match blocks.resize(count, [0; BLOCK_SIZE]) {
+        Ok(()) => {}
+        Err(_) => unreachable!(),
+    }
 }
 
 /// Writes the piece over the beginning of a block.
@@ -80,7 +114,7 @@ fn fill(block: &mut Block, piece: &[u8])
 
 /// Reads as many bytes as `out` has room for, from the first block on.
 pub(crate) fn read(blocks: &[Block], next: &[u32], first: u32, out: &mut [u8])
-    requires linked { length next.now ≡ length blocks.now }
+    requires linked { length blocks.now ≤ length next.now }
     requires path { IsPath next.now (blocks_for (length out.old)) first (length blocks.now) }
     requires whole { AreWhole blocks.now }
     ensures { out.new

@@ -4,7 +4,6 @@ ghost use Rattle.std.specs.Prelude.{◌≡◌, ◌+◌, ◌<◌, ◌≤◌, ◌�
 ghost use Rattle.osc_pool.specs.Holding.{blocks_for, used_blocks, held_by, with_chain, IsLive, IsNew, KeepsLive, KeepsOthers};
 
 use crate::chain::Chain;
-use crate::limits::BLOCK_SIZE;
 use crate::links::{self, Block};
 use osc_atoms::Room;
 use std::alloc::{AllocError, Global};
@@ -16,6 +15,7 @@ use std::marker::Model;
 /// No call but `open` takes memory.
 #[derive(Drop)]
 pub struct Pool {
+    /// The blocks that chains have reached, in room that is reserved for all.
     blocks: Vec<Block>,
     /// The block after each, in its chain or among the free ones.
     next: Vec<u32>,
@@ -28,15 +28,16 @@ pub struct Pool {
 }
 
 impl Model for Pool {
-    ghost use Rattle.std.specs.Prelude.{List, ℕ};
-    ghost use Rattle.osc_pool.specs.Paths.{texts_from, IsSound};
+    ghost use Rattle.std.specs.Prelude.{List, ℕ, length, vec_capacity};
+    ghost use Rattle.osc_pool.specs.Paths.{filled_up, texts_from, IsLaid};
 
     ghost Value = { List (List ℕ) };
 
-    ghost view = { λ pool. texts_from pool.blocks.items pool.next.items 0 pool.sizes.items };
+    ghost view = { λ pool. texts_from (filled_up (length pool.next.items) pool.blocks.items)
+        pool.next.items 0 pool.sizes.items };
 
-    ghost invariant = { λ pool. IsSound pool.blocks.items pool.next.items pool.sizes.items
-        pool.first pool.free };
+    ghost invariant = { λ pool. IsLaid pool.blocks.items pool.next.items pool.sizes.items
+        pool.first pool.free (vec_capacity pool.blocks) };
 }
 
 impl Pool {
@@ -46,7 +47,7 @@ impl Pool {
         ensures { IfOk result (λ pool. pool ≡ replicate blocks []) }
     {
         Ok(Pool {
-            blocks: links::copies(alloc, [0; BLOCK_SIZE], blocks)?,
+            blocks: Vec::with_capacity(alloc, blocks as usize)?,
             next: links::linked(alloc, blocks)?,
             sizes: links::copies(alloc, 0, blocks)?,
             first: 0,

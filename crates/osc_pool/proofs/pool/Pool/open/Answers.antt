@@ -1,10 +1,8 @@
-use Rattle.std.proofs.Common.{replicate, refl}
-use Rattle.osc_pool.proofs.Opened.{opened_sound, opened_view}
+use Rattle.osc_pool.proofs.Opened.{opened_laid, opened_view}
 use Rattle.osc_pool.proofs.pool.Pool.open.Goals as goal
 
 pub invariant_of-result : goal.invariant_of-result
-invariant_of-result c = rw (c.in_ok-copies.ensures, c.in_ok-linked.ensures, c.in_ok-copies-2.ensures) (opened_sound (replicate 64 0) c.args.blocks
-    refl c.requires)
+invariant_of-result c = rw (c.in_ok-with_capacity.ensures.items, c.in_ok-linked.ensures, c.in_ok-copies.ensures) (opened_laid c.args.blocks _ c.requires c.in_ok-with_capacity.ensures.capacity)
 
 pub returns : goal.returns
-returns c = opened_view _ _ _ c.args.blocks c.in_ok-copies-2.ensures
+returns c = opened_view _ _ _ c.args.blocks c.in_ok-copies.ensures
