@@ -1,6 +1,5 @@
 -- The first unit, where it is due.
 use Rattle.std.proofs.Common.{◌≡◌, ℕ, ◌<◌, ◌≤◌, Bool, true, false, nat_le, List, [], ◌∷◌, map, drop, slice_get, Option, Some, None, unwrap_or, refl, sym, ap, subst, ◌∙◌, arith}
-use Rattle.std.specs.List.{AllByRecursion, Contains}
 use Rattle.std.proofs.lemmas.Bool.Decides.{nat_tests}
 use Rattle.osc_queue.specs.Timed.{Item, due_of, unit_of, NoneIsDue}
 use Rattle.osc_model.specs.State.{State, Queued, AreNumbered}
@@ -8,13 +7,13 @@ use Rattle.osc_model.specs.Events.{Answer, Call, Hit, release, released, nothing
 use Rattle.osc_model.specs.Step.{decided, releases, calls_from, calls_of_unit, hits_of, invocations_of}
 use Rattle.osc_core.specs.Calls.{hit_by}
 use Rattle.osc_core.specs.Due.{IsDue}
-use Rattle.osc_core.specs.Kept.{Kept, messages_by}
-use Rattle.osc_core.specs.Views.{queued_of, queue_of, AreKept}
-use Rattle.osc_core.proofs.Joins.{contains_kept}
+use Rattle.osc_core.specs.declared.store.Stored.{Stored}
+use Rattle.osc_core.specs.Stored.{unit_in, IsStored}
+use Rattle.osc_core.specs.Views.{queued_of, queue_of, AreQueued}
 
-abbrev unit_in : Answer → ℕ
-unit_in (released unit hits) = unit
-unit_in _ = 0
+abbrev unit_told : Answer → ℕ
+unit_told (released unit hits) = unit
+unit_told _ = 0
 
 abbrev hits_told : Answer → List Hit
 hits_told (released unit hits) = hits
@@ -44,7 +43,7 @@ is_first state unit hits is = go state.queue refl where
           first = first;
           others = others;
           queue_is = e;
-          unit_is = ap unit_in f;
+          unit_is = ap unit_told f;
           due = grind (arith, nat_tests);
           hits_are = sym (ap hits_told f);
           invocations_are = ap (λ s. s.invocations) stepped;
@@ -69,46 +68,36 @@ unit_below state unit next hits is numbers =
     subst (λ (n : ℕ). n < next) first.unit_is below.0
 
 -- the same, where a queue and a store hold the units
-pub record IsItem (state : State) (kept : List Kept) (items : List (Item ℕ)) (unit : ℕ) (hits : List Hit) : Type 0 where
-  pub held : Contains (map (λ one. one.unit) kept) unit
+pub record IsItem (state : State) (held : List (List ℕ)) (items : List (Item Stored)) (unit next : ℕ) (stored : Stored) : Type 0 where
+  pub is_stored : IsStored held stored
+  pub below : unit < next
   pub due : NoneIsDue state.clock items → ⊥
-  pub hits_are : hits ≡ hits_of (calls_from state.methods 0 (messages_by kept unit))
-  pub invocations_are : (decided state release).invocations ≡ invocations_of unit (calls_from state.methods 0 (messages_by kept unit))
-  pub state_is : (decided state release).state ≡ record state { queue = drop 1 (queue_of kept items) }
+  pub answer : IsDue state unit (hits_of (calls_from state.methods 0 (unit_in held stored).messages))
+  pub invocations_are : (decided state release).invocations ≡ invocations_of unit (calls_from state.methods 0 (unit_in held stored).messages)
+  pub state_is : (decided state release).state ≡ record state { queue = drop 1 (queue_of held items) }
 
-pub is_item : (state : State) (kept : List Kept) (items : List (Item ℕ)) (unit : ℕ) (hits : List Hit) → state.queue ≡ queue_of kept items → AreKept kept items
-    → IsDue state unit hits → IsItem state kept items unit hits
-is_item state kept [] unit hits queue are is = let f : nothing_due None ≡ released unit hits = rw queue at is in absurd (cc)
-is_item state kept (item ∷ items) unit hits queue are is = cases (nat_le (due_of item) state.clock) refl where
-  cases : (t : Bool) → nat_le (due_of item) state.clock ≡ t → IsItem state kept (item ∷ items) unit hits
-  cases true le =
-      let calls = calls_from state.methods 0 (messages_by kept (unit_of item)) in
-      let f : released (unit_of item) (hits_of calls) ≡ released unit hits = rw (queue, le) at is in
-      let stepped : decided state release ≡ releases state (queued_of kept item) (queue_of kept items) = rw (queue, le) refl in
-      let same : unit_of item ≡ unit = ap unit_in f in
-      let now : due_of item ≤ state.clock = grind (arith, nat_tests) in
-      record {
-        held = subst (Contains (map (λ (one : Kept). one.unit) kept)) same (contains_kept kept (unit_of item) are.0);
-        due = λ none. omega (arith, none.0, now);
-        hits_are = sym (ap hits_told f) ∙ ap (λ (n : ℕ). hits_of (calls_from state.methods 0 (messages_by kept n))) same;
-        invocations_are = ap (λ s. s.invocations) stepped ∙ ap (λ (n : ℕ). invocations_of n (calls_from state.methods 0 (messages_by kept n))) same;
-        state_is = ap (λ s. s.state) stepped;
-      }
-  cases false le = let f : nothing_due (Some (due_of item)) ≡ released unit hits = rw (queue, le) at is in absurd (cc)
-
-pub first_answer : (state : State) (kept : List Kept) (items : List (Item ℕ)) (due unit tag : ℕ) → state.queue ≡ queue_of kept items
-    → slice_get items 0 ≡ Some (due, unit, tag) → due ≤ state.clock → IsDue state unit (hits_of (calls_from state.methods 0 (messages_by kept unit)))
-first_answer state kept [] due unit tag queue at now = absurd (cc)
-first_answer state kept (item ∷ items) due unit tag queue at now =
-    let same : item ≡ (due, unit, tag) = ap (λ (o : Option (Item ℕ)). unwrap_or o item) at in
+pub is_item : (state : State) (held : List (List ℕ)) (items : List (Item Stored)) (due unit next : ℕ) (stored : Stored) → state.queue ≡ queue_of held items
+    → AreQueued held items next → slice_get items 0 ≡ Some (due, unit, stored) → due ≤ state.clock → IsItem state held items unit next stored
+is_item state held [] due unit next stored queue are at now = absurd (cc)
+is_item state held (item ∷ items) due unit next stored queue are at now =
+    let same : item ≡ (due, unit, stored) = ap (λ (o : Option (Item Stored)). unwrap_or o item) at in
     let le : nat_le (due_of item) state.clock ≡ true = grind (arith, nat_tests, ap due_of same) in
-    let here : IsDue state (unit_of item) (hits_of (calls_from state.methods 0 (messages_by kept (unit_of item)))) = rw (queue, le) refl in
-    subst (λ (n : ℕ). IsDue state n (hits_of (calls_from state.methods 0 (messages_by kept n)))) (ap unit_of same) here
+    let stepped : decided state release ≡ releases state (queued_of held item) (queue_of held items) = rw (queue, le) refl in
+    let here : IsItem state held (item ∷ items) (unit_of item) next item.2 = record {
+      is_stored = are.kept.stored.0;
+      below = are.numbers.0;
+      due = λ none. omega (arith, none.0, ap due_of same);
+      answer = ap (λ s. s.answer) stepped;
+      invocations_are = ap (λ s. s.invocations) stepped;
+      state_is = ap (λ s. s.state) stepped;
+    } in
+    subst (λ (one : Item Stored). IsItem state held (item ∷ items) (unit_of one) next one.2) same here
 
--- the first item's number was given
-pub first_below : (items : List (Item ℕ)) (due unit tag next : ℕ) → slice_get items 0 ≡ Some (due, unit, tag)
-    → AllByRecursion (λ item. unit_of item < next) items → unit < next
-first_below [] due unit tag next at below = absurd (cc)
-first_below (item ∷ items) due unit tag next at below =
-    let same : unit_of item ≡ unit = ap (λ (o : Option (Item ℕ)). unit_of (unwrap_or o item)) at in
-    subst (λ (n : ℕ). n < next) same below.0
+-- the first unit isn't due
+pub first_waits : (state : State) (held : List (List ℕ)) (items : List (Item Stored)) (due unit : ℕ) (stored : Stored) → state.queue ≡ queue_of held items
+    → slice_get items 0 ≡ Some (due, unit, stored) → state.clock < due → (decided state release).answer ≡ nothing_due (Some due)
+first_waits state held [] due unit stored queue at later = absurd (cc)
+first_waits state held (item ∷ items) due unit stored queue at later =
+    let same : due_of item ≡ due = ap (λ (o : Option (Item Stored)). due_of (unwrap_or o item)) at in
+    let le : nat_le (due_of item) state.clock ≡ false = grind (arith, nat_tests, same) in
+    rw (queue, le) (ap (λ (n : ℕ). nothing_due (Some n)) same)

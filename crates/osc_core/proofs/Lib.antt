@@ -1,9 +1,7 @@
 pub mod Added
 pub mod Ascents
 pub mod Calling
-pub mod Finding
 pub mod Firsts
-pub mod Framing
 pub mod Hearing
 pub mod Invoking
 pub mod Joins

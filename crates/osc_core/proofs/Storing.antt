@@ -1,5 +1,5 @@
 -- The messages of a unit in a list of bytes.
-use Rattle.std.proofs.Common.{◌≡◌, ℕ, suc, ◌+◌, ◌/◌, ◌<◌, ◌≤◌, ◌^◌, Bool, true, false, cond, ◌==◌, IsTrue, List, [], ◌∷◌, ◌++◌, length, take, drop, refl, ap, subst, sym, ◌∙◌, arith, length-append, append_assoc}
+use Rattle.std.proofs.Common.{◌≡◌, ℕ, zero, suc, ◌+◌, ◌<◌, ◌≤◌, ◌^◌, Bool, true, false, cond, ◌==◌, IsTrue, List, [], ◌∷◌, ◌++◌, length, take, drop, refl, ap, subst, sym, ◌∙◌, arith, length-append}
 use Rattle.std.specs.Prelude.{nat_le, Result, Err, is_ok}
 use Rattle.std.specs.List.{list_all}
 use Rattle.std.proofs.lemmas.Bool.{leb-true, and_parts}
@@ -10,8 +10,7 @@ use Rattle.osc_atoms.specs.declared.fault.Fault.{Fault}
 use Rattle.osc_atoms.specs.Faults.{empty, too_long}
 use Rattle.osc_message.specs.Reading.{Parts, is_message, fourfold_read}
 use Rattle.osc_packet.specs.Units.{stored_size}
-use Rattle.osc_core.specs.Frames.{framed, first_length, first_framed, after_framed, unframed, IsFramed}
-use Rattle.osc_core.specs.Kept.{Kept, kept_blocks}
+use Rattle.osc_core.specs.Frames.{framed, first_length, first_framed, after_framed, messages_from, messages_in, BeginsFramed, AreFramed}
 
 -- a message that can be read is small
 pub message_small : (bytes : List ℕ) → IsTrue (is_message 1073741824 bytes) → length bytes < 2 ^ 32
@@ -39,40 +38,72 @@ message_again message rest small = ap (λ (n : ℕ). take n (message ++ rest)) (
 rest_again : (message rest : List ℕ) → length message < 2 ^ 32 → after_framed (word (length message) ++ (message ++ rest)) ≡ rest
 rest_again message rest small = ap (λ (n : ℕ). drop n (message ++ rest)) (first_again message rest small) ∙ drop_at message rest (length message) refl
 
+-- where there are bytes, there is a first message
+from_some : (most : ℕ) (bytes : List ℕ) → 0 < length bytes → messages_from (suc most) bytes ≡ first_framed bytes ∷ messages_from most (after_framed bytes)
+from_some most [] some = absurd (omega arith)
+from_some most (byte ∷ bytes) some = refl
+
 -- messages are read again
-pub unframed-framed : (messages : List (List ℕ)) (rest : List ℕ) → IsTrue (list_all (is_message 1073741824) messages)
-    → unframed (length messages) (framed messages ++ rest) ≡ messages
-unframed-framed [] rest read = refl
-unframed-framed (message ∷ messages) rest read =
+read_again : (most : ℕ) (messages : List (List ℕ)) → length (framed messages) ≤ most → IsTrue (list_all (is_message 1073741824) messages)
+    → messages_from most (framed messages) ≡ messages
+read_again most [] few read = refl
+read_again zero (message ∷ messages) few read = absurd (omega (arith, few, length-framed (message ∷ messages)))
+read_again (suc most) (message ∷ messages) few read =
     let parts = and_parts (is_message 1073741824 message) (list_all (is_message 1073741824) messages) read in
     let small = message_small message parts.0 in
-    let more = framed messages ++ rest in
-    let spelled : framed (message ∷ messages) ++ rest ≡ word (length message) ++ (message ++ more) =
-    append_assoc (word (length message)) (message ++ framed messages) rest
-    ∙ ap (λ (l : List ℕ). word (length message) ++ l) (append_assoc message (framed messages) rest) in
-    rw (spelled, message_again message more small, rest_again message more small)
-    (ap (λ (l : List (List ℕ)). message ∷ l) (unframed-framed messages rest parts.1))
+    let bytes = framed (message ∷ messages) in
+    let size : length bytes ≡ 4 + length message + stored_size messages = length-framed (message ∷ messages) in
+    from_some most bytes (omega arith) ∙ ap (λ (l : List ℕ). l ∷ messages_from most (after_framed bytes)) (message_again message (framed messages) small)
+    ∙ ap (λ (l : List ℕ). message ∷ messages_from most l) (rest_again message (framed messages) small)
+    ∙ ap (λ (l : List (List ℕ)). message ∷ l) (read_again most messages (omega (arith, few, length-framed messages)) parts.1)
 
--- and stand at the front of their bytes
-pub framed_stands : (messages : List (List ℕ)) (rest : List ℕ) → IsTrue (list_all (is_message 1073741824) messages)
-    → IsFramed (length messages) (framed messages ++ rest)
-framed_stands [] rest read = tt
-framed_stands (message ∷ messages) rest read =
+pub messages-framed : (messages : List (List ℕ)) → IsTrue (list_all (is_message 1073741824) messages) → messages_in (framed messages) ≡ messages
+messages-framed messages read = read_again (length (framed messages)) messages (omega arith) read
+
+-- there are fewer messages than bytes
+fewer : (messages : List (List ℕ)) → length messages ≤ stored_size messages
+fewer [] = omega arith
+fewer (message ∷ messages) = omega (arith, fewer messages)
+
+pub framed_few : {bytes : List ℕ} → AreFramed bytes → length (messages_in bytes) < 2 ^ 32
+framed_few {bytes} is =
+    let same : messages_in bytes ≡ is.messages = ap messages_in is.is ∙ messages-framed is.messages is.read in
+    omega (arith, is.few, ap length same, ap length is.is, length-framed is.messages, fewer is.messages)
+
+-- bytes that are messages, split behind the first
+pub record IsSplit (bytes message rest : List ℕ) : Type 0 where
+  pub begins : BeginsFramed bytes
+  pub others : AreFramed rest
+  pub shows : messages_in bytes ≡ message ∷ messages_in rest
+
+split_framed : (message : List ℕ) (messages : List (List ℕ)) → length (framed (message ∷ messages)) < 2 ^ 32
+    → IsTrue (list_all (is_message 1073741824) (message ∷ messages))
+    → IsSplit (framed (message ∷ messages)) (first_framed (framed (message ∷ messages))) (after_framed (framed (message ∷ messages)))
+split_framed message messages few read =
     let parts = and_parts (is_message 1073741824 message) (list_all (is_message 1073741824) messages) read in
     let small = message_small message parts.0 in
-    let more = framed messages ++ rest in
-    let spelled : framed (message ∷ messages) ++ rest ≡ word (length message) ++ (message ++ more) =
-    append_assoc (word (length message)) (message ++ framed messages) rest
-    ∙ ap (λ (l : List ℕ). word (length message) ++ l) (append_assoc message (framed messages) rest) in
-    let sized : 4 + length message ≤ length (word (length message) ++ (message ++ more)) =
-    omega (arith, length-append (word (length message)) (message ++ more), length-append message more) in
-    subst (λ (l : List ℕ). IsFramed (suc (length messages)) l) (sym spelled) (
-      subst (λ (n : ℕ). 4 + n ≤ length (word (length message) ++ (message ++ more))) (sym (first_again message more small)) sized,
-      subst (λ (l : List ℕ). IsTrue (is_message 1073741824 l)) (sym (message_again message more small)) parts.0,
-      subst (λ (l : List ℕ). IsFramed (length messages) l) (sym (rest_again message more small)) (framed_stands messages rest parts.1),
-    )
+    let bytes = framed (message ∷ messages) in
+    let size : length bytes ≡ 4 + length message + stored_size messages = length-framed (message ∷ messages) in
+    let first : first_framed bytes ≡ message = message_again message (framed messages) small in
+    let after : after_framed bytes ≡ framed messages = rest_again message (framed messages) small in
+    record {
+      begins = (
+        omega (arith, size, first_again message (framed messages) small),
+        subst (λ (l : List ℕ). IsTrue (is_message 1073741824 l)) (sym first) parts.0,
+      );
+      others = record { messages = messages; is = after; read = parts.1; few = omega (arith, few, size, ap length after, length-framed messages) };
+      shows = messages-framed (message ∷ messages) read ∙ ap (λ (l : List (List ℕ)). message ∷ l) (sym (messages-framed messages parts.1))
+          ∙ ap (λ (l : List ℕ). message ∷ messages_in l) (sym after) ∙ ap (λ (l : List ℕ). l ∷ messages_in (after_framed bytes)) (sym first);
+    }
 
--- the blocks of one unit more
-pub blocks-append : (kept : List Kept) (one : Kept) → kept_blocks (kept ++ one ∷ []) ≡ (stored_size one.messages + 63) / 64 + kept_blocks kept
-blocks-append [] one = refl
-blocks-append (first ∷ kept) one = omega (arith, blocks-append kept one)
+pub split_is : {bytes : List ℕ} → AreFramed bytes → 0 < length bytes → IsSplit bytes (first_framed bytes) (after_framed bytes)
+split_is {bytes} is some = go is.messages is.is is.read where
+  go : (messages : List (List ℕ)) → bytes ≡ framed messages → IsTrue (list_all (is_message 1073741824) messages)
+      → IsSplit bytes (first_framed bytes) (after_framed bytes)
+  go [] e read = absurd (omega (arith, some, ap length e))
+  go (message ∷ messages) e read = subst (λ (l : List ℕ). IsSplit l (first_framed l) (after_framed l)) (sym e)
+      (split_framed message messages (subst (λ (l : List ℕ). length l < 2 ^ 32) e is.few) read)
+
+pub split_next : {bytes : List ℕ} (message rest : List ℕ) → AreFramed bytes → 0 < length bytes → message ≡ first_framed bytes → rest ≡ after_framed bytes
+    → IsSplit bytes message rest
+split_next message rest is some first after = rw (first, after) (split_is is some)

@@ -1,6 +1,6 @@
 // The kept messages of a unit, one after another.
 ghost use Rattle.std.specs.Prelude.{◌≡◌, length};
-ghost use Rattle.osc_core.specs.Frames.{first_framed, after_framed, unframed, IsFramed};
+ghost use Rattle.osc_core.specs.Frames.{first_framed, after_framed, BeginsFramed};
 
 use osc_message::Message;
 use std::marker::Model;
@@ -8,51 +8,51 @@ use std::marker::Model;
 /// The messages of a unit that are left, in order. A contract sees the bytes of each.
 #[derive(Drop)]
 pub(crate) struct Messages<'a> {
-    count: u32,
     bytes: &'a [u8],
 }
 
 impl<'a> Model for Messages<'a> {
     ghost use Rattle.std.specs.Prelude.{List, ℕ};
-    ghost use Rattle.osc_core.specs.Frames.{unframed, IsFramed};
+    ghost use Rattle.osc_core.specs.Frames.{messages_in, AreFramed};
 
     ghost Value = { List (List ℕ) };
 
-    ghost view = { λ m. unframed m.count m.bytes.now };
+    ghost view = { λ m. messages_in m.bytes.now };
 
-    ghost invariant = { λ m. IsFramed m.count m.bytes.now };
+    ghost invariant = { λ m. AreFramed m.bytes.now };
 }
 
 impl<'a> Messages<'a> {
     ghost use Rattle.std.specs.Prelude.{◌≡◌, ◌<◌, ◌^◌, ◌∷◌, [], length, IfSome};
-    ghost use Rattle.osc_core.specs.Frames.{unframed, IsFramed};
+    ghost use Rattle.osc_core.specs.Frames.{messages_in, AreFramed};
 
-    pub(crate) fn new(count: u32, bytes: &'a [u8]) -> Messages<'a>
-        requires { IsFramed count bytes.now }
-        ensures value { result ≡ unframed count bytes.now }
+    pub(crate) fn new(bytes: &'a [u8]) -> Messages<'a>
+        requires { AreFramed bytes.now }
+        ensures value { result ≡ messages_in bytes.now }
         ensures few { length result < 2 ^ 32 }
     {
-        Messages { count, bytes }
+        Messages { bytes }
     }
 
     /// The same messages, to go through them once more.
     pub(crate) fn again(&self) -> Messages<'a>
         ensures { result ≡ self.now }
     {
-        Messages {
-            count: self.count,
-            bytes: self.bytes,
-        }
+        Messages { bytes: self.bytes }
     }
 
     /// The only message, where there is one.
     pub(crate) fn only(&self) -> Option<Message<'a>>
         ensures { IfSome result (λ message. self.now ≡ message ∷ []) }
     {
-        if self.count != 1 {
+        if self.bytes.is_empty() {
             return None;
         }
-        Some(split_first(self.bytes).0)
+        let (message, rest) = split_first(self.bytes);
+        if !rest.is_empty() {
+            return None;
+        }
+        Some(message)
     }
 }
 
@@ -66,11 +66,10 @@ impl<'a> Iterator for Messages<'a> {
     ghost remaining = { item_count (λ left. left) };
 
     fn next(&mut self) -> Option<Message<'a>> {
-        if self.count == 0 {
+        if self.bytes.is_empty() {
             return None;
         }
         let (message, rest) = split_first(self.bytes);
-        self.count -= 1;
         self.bytes = rest;
         Some(message)
     }
@@ -78,7 +77,7 @@ impl<'a> Iterator for Messages<'a> {
 
 /// The first message, and the bytes after it.
 fn split_first(bytes: &[u8]) -> (Message<'_>, &[u8])
-    requires { IsFramed 1 bytes.now }
+    requires { BeginsFramed bytes.now }
     ensures message { result.0 ≡ first_framed bytes.now }
     ensures rest { result.1.now ≡ after_framed bytes.now }
 {

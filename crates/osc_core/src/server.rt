@@ -18,7 +18,7 @@ use crate::answers::{Enrolled, Releasing, Submitted, Ticking};
 use crate::calls::release_unit;
 use crate::entry_answers::Leaving;
 use crate::messages::Messages;
-use crate::store::{MAX_STORED, Store};
+use crate::store::{MAX_STORED, Store, Stored};
 use crate::units::{enter_all, take_first};
 use osc_atoms::Room;
 use osc_method::Method;
@@ -36,9 +36,9 @@ use std::marker::Model;
 pub(crate) struct Server {
     tree: Tree,
     hits: Hits,
-    /// The tags of the queued units.
-    queue: Queue<u64>,
-    /// Their messages, by the units' numbers.
+    /// The queued units.
+    queue: Queue<Stored>,
+    /// Their messages.
     store: Store,
     /// The messages of the unit that is released.
     bytes: Vec<u8>,
@@ -51,7 +51,7 @@ pub(crate) struct Server {
 
 impl Model for Server {
     ghost use Rattle.osc_model.specs.State.{State};
-    ghost use Rattle.std.specs.Prelude.{vec_capacity};
+    ghost use Rattle.std.specs.Prelude.{length, vec_capacity};
     ghost use Rattle.osc_core.specs.Views.{queue_of, IsRunning};
 
     ghost Value = { State };
@@ -59,7 +59,7 @@ impl Model for Server {
     ghost view = { λ s. record {
       caps = record {
         units = s.queue.limit;
-        blocks = s.store.limit;
+        blocks = length s.store;
         methods = s.tree.method_limit;
         nodes = s.tree.node_limit;
         callers =
@@ -67,7 +67,7 @@ impl Model for Server {
         recording = 0;
       };
       methods = s.tree.methods;
-      queue = queue_of s.store.kept s.queue.items;
+      queue = queue_of s.store s.queue.items;
       clock = s.clock;
       next_id =
           s.next_id;
@@ -88,7 +88,7 @@ impl Server {
             tree: Tree::open(alloc, caps.methods(), caps.nodes())?,
             hits: Hits::open(alloc, caps.methods())?,
             queue: Queue::open(alloc, caps.units())?,
-            store: Store::open(alloc, caps.units(), caps.blocks())?,
+            store: Store::open(alloc, caps.blocks())?,
             bytes: Vec::with_capacity(alloc, MAX_STORED)?,
             clock: 1,
             next_id: 0,
@@ -222,14 +222,14 @@ impl Server {
         ensures ids { map (λ one. one.0) boxes.new.items ≡ map (λ one. one.0) boxes.old.items }
         ensures capacity { vec_capacity boxes.old ≤ vec_capacity boxes.new }
     {
-        let Some((due, unit, _)) = self.queue.first() else {
+        let Some((due, unit, stored)) = self.queue.first() else {
             return Releasing::NothingDue { next: None };
         };
         if due > self.clock {
             return Releasing::NothingDue { next: Some(due) };
         }
-        let count = self.store.read(unit, &mut self.bytes);
-        let messages = Messages::new(count, &self.bytes);
+        self.store.read(stored, &mut self.bytes);
+        let messages = Messages::new(&self.bytes);
         match release_unit(
             &self.tree,
             &mut self.hits,

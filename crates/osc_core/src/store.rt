@@ -1,13 +1,13 @@
 // The messages of the queued units, in blocks that are reserved at opening.
 ghost use Rattle.osc_atoms.specs.declared.limits.TheConstants.{MAX_BYTES};
-ghost use Rattle.std.specs.Prelude.{◌≡◌, ◌+◌, ◌<◌, ◌≤◌, ◌^◌, ◌++◌, ◌∷◌, [], length, map, remove, slice_get, Some, Contains, IsTrue, IfOk, vec_len, vec_capacity};
+ghost use Rattle.std.specs.Prelude.{◌≡◌, ◌+◌, ◌<◌, ◌≤◌, ◌^◌, ◌++◌, [], length, replicate, IsTrue, IfOk, vec_len, vec_capacity};
 ghost use Rattle.std.specs.List.{list_all};
 ghost use Rattle.osc_message.specs.Reading.{is_message};
 ghost use Rattle.osc_packet.specs.Units.{stored_size, blocks};
 ghost use Rattle.osc_atoms.specs.Atoms.{word};
-ghost use Rattle.osc_core.specs.Frames.{framed, unframed, IsFramed};
-ghost use Rattle.osc_core.specs.Kept.{Kept, kept_blocks, messages_by, without_unit};
-ghost use Rattle.osc_core.specs.Sections.{has_section, section_by, without_section};
+ghost use Rattle.osc_pool.specs.Holding.{blocks_for, used_blocks, IsLive, IsNew, KeepsLive, KeepsOthers};
+ghost use Rattle.osc_core.specs.Frames.{framed, messages_in, AreFramed};
+ghost use Rattle.osc_core.specs.Stored.{unit_in, IsStored};
 
 use osc_packet::{Unit, UnitMessages};
 use osc_pool::{Chain, Pool};
@@ -17,121 +17,95 @@ use std::marker::Model;
 /// How many bytes the messages of one unit take at most, each after its length.
 pub(crate) const MAX_STORED: usize = 65_508;
 
-/// The messages of queued units, by the units' numbers. A contract sees what is kept in the order of entering, and for
-/// how many units and blocks of 64 bytes there is room.
-///
-/// The messages of a unit are one chain, each after its length in 4 bytes. No call but `open` takes memory.
+/// A unit whose messages are in a store.
 #[derive(Drop)]
-pub(crate) struct Store {
-    pool: Pool,
-    /// One for each unit, in the order of entering.
-    sections: Vec<Section>,
-    /// The messages of the unit that enters.
-    bytes: Vec<u8>,
-    places: u32,
-}
-
-/// What is kept of a unit.
-#[derive(Drop)]
-pub(crate) struct Section {
-    unit: u64,
-    /// How many messages there are.
-    count: u32,
+pub(crate) struct Stored {
+    tag: u64,
+    /// The messages in order, each after its length in 4 bytes.
     chain: Chain,
 }
 
+/// Blocks of 64 bytes, in which the messages of units are chains. A contract sees what a pool holds.
+///
+/// No call but `open` takes memory.
+#[derive(Drop)]
+pub(crate) struct Store {
+    pool: Pool,
+    /// The messages of the unit that enters.
+    bytes: Vec<u8>,
+}
+
 impl Model for Store {
-    ghost use Rattle.std.specs.Prelude.{length, vec_capacity};
-    ghost use Rattle.osc_core.specs.Kept.{Stock};
-    ghost use Rattle.osc_core.specs.Sections.{kept_of, IsStock};
+    ghost use Rattle.std.specs.Prelude.{ℕ, ◌≤◌, List, vec_capacity};
 
-    ghost Value = { Stock };
+    ghost Value = { List (List ℕ) };
 
-    ghost view = { λ s. record {
-      places = s.places;
-      limit = length s.pool;
-      kept = kept_of s.pool s.sections.items;
-    } };
+    ghost view = { λ s. s.pool };
 
-    ghost invariant = { λ s. IsStock s.sections.items s.pool s.places (vec_capacity s.sections)
-        (vec_capacity s.bytes) };
+    ghost invariant = { λ s. 65508 ≤ vec_capacity s.bytes };
 }
 
 impl Store {
-    /// A store with room for so many units, and so many blocks of 64 bytes. The `Err` means that there is no memory for
-    /// them.
-    pub(crate) fn open(alloc: Global, units: u32, blocks: u32) -> Result<Store, AllocError>
+    /// A store of so many blocks, all free. The `Err` means that there is no memory for them.
+    pub(crate) fn open(alloc: Global, blocks: u32) -> Result<Store, AllocError>
         requires { blocks ≤ 1048576 }
-        ensures empty { IfOk result (λ store. store.kept ≡ []) }
-        ensures places { IfOk result (λ store. store.places ≡ units) }
-        ensures limit { IfOk result (λ store. store.limit ≡ blocks) }
+        ensures { IfOk result (λ store. store ≡ replicate blocks []) }
     {
         Ok(Store {
             pool: Pool::open(alloc, blocks)?,
-            sections: Vec::with_capacity(alloc, units as usize)?,
             bytes: Vec::with_capacity(alloc, MAX_STORED)?,
-            places: units,
         })
     }
 
     /// How many blocks are free.
     pub(crate) fn free(&self) -> u32
-        ensures { result + kept_blocks self.now.kept ≡ self.now.limit }
+        ensures { result + used_blocks self.now ≡ length self.now }
     {
         self.pool.free()
     }
 
-    /// Keeps the messages of a unit under its number.
-    pub(crate) fn put(&mut self, number: u64, unit: &Unit<'_>)
-        requires place { length self.old.kept < self.old.places }
-        requires blocks { blocks unit.now + kept_blocks self.old.kept ≤ self.old.limit }
-        ensures kept { self.new.kept ≡ self.old.kept
-            ++ record { unit = number; messages = unit.now.messages } ∷ [] }
-        ensures places { self.new.places ≡ self.old.places }
-        ensures limit { self.new.limit ≡ self.old.limit }
+    /// Stores the messages of a unit.
+    pub(crate) fn put(&mut self, unit: &Unit<'_>) -> Stored
+        requires { used_blocks self.old + blocks unit.now ≤ length self.old }
+        ensures stored { IsStored self.new result }
+        ensures value { unit_in self.new result ≡ unit.now }
+        ensures new { IsNew result.chain self.old }
+        ensures kept { KeepsLive self.old self.new }
+        ensures used { used_blocks self.new ≡ used_blocks self.old + blocks unit.now }
+        ensures limit { length self.new ≡ length self.old }
     {
         spell(&mut self.bytes, unit);
         let chain = match self.pool.store(&self.bytes) {
             Ok(chain) => chain,
             Err(_) => unreachable!(),
         };
-        let count = unit.count();
-        enter(
-            &mut self.sections,
-            Section {
-                unit: number,
-                count,
-                chain,
-            },
-        );
+        Stored {
+            tag: unit.tag(),
+            chain,
+        }
     }
 
-    /// Reads the messages that are kept under a number into a list of bytes that has room for them, and tells how many
-    /// they are.
-    pub(crate) fn read(&self, number: u64, bytes: &mut Vec<u8>) -> u32
-        requires there { Contains (map (λ one. one.unit) self.now.kept) number }
+    /// Reads the messages of a unit into a list of bytes that has room for them.
+    pub(crate) fn read(&self, stored: &Stored, bytes: &mut Vec<u8>)
+        requires stored { IsStored self.now stored.now }
         requires room { 65508 ≤ vec_capacity bytes.old }
-        ensures framed { IsFramed result bytes.new.items }
-        ensures messages { unframed result bytes.new.items ≡ messages_by self.now.kept number }
+        ensures framed { AreFramed bytes.new.items }
+        ensures messages { messages_in bytes.new.items
+            ≡ (unit_in self.now stored.now).messages }
         ensures capacity { vec_capacity bytes.old ≤ vec_capacity bytes.new }
     {
-        let place = find(&self.sections, number);
-        let section = &self.sections[place];
-        fit(bytes, section.chain.len());
-        self.pool.read(&section.chain, bytes);
-        section.count
+        fit(bytes, stored.chain.len());
+        self.pool.read(&stored.chain, bytes);
     }
 
-    /// Gives up the messages that are kept under a number.
-    pub(crate) fn give(&mut self, number: u64)
-        requires { Contains (map (λ one. one.unit) self.old.kept) number }
-        ensures kept { self.new.kept ≡ without_unit self.old.kept number }
-        ensures places { self.new.places ≡ self.old.places }
-        ensures limit { self.new.limit ≡ self.old.limit }
+    /// Frees the blocks of a unit.
+    pub(crate) fn give(&mut self, stored: Stored)
+        requires { IsLive stored.chain self.old }
+        ensures kept { KeepsOthers stored.chain self.old self.new }
+        ensures used { used_blocks self.new + blocks_for stored.chain.len ≡ used_blocks self.old }
+        ensures limit { length self.new ≡ length self.old }
     {
-        let place = find(&self.sections, number);
-        let Section { chain, .. } = self.sections.remove(place);
-        self.pool.give(chain);
+        self.pool.give(stored.chain);
     }
 }
 
@@ -196,31 +170,4 @@ fn fit(bytes: &mut Vec<u8>, size: usize)
         Ok(()) => {}
         Err(_) => unreachable!(),
     }
-}
-
-/// A section enters behind the others, in room that is there.
-fn enter(sections: &mut Vec<Section>, section: Section)
-    requires { vec_len sections.old < vec_capacity sections.old }
-    ensures items { sections.new.items ≡ sections.old.items ++ section ∷ [] }
-    ensures capacity { vec_capacity sections.old ≤ vec_capacity sections.new }
-{
-    match sections.push(section) {
-        Ok(()) => {}
-        Err(_) => unreachable!(),
-    }
-}
-
-/// The place of the first section of a unit.
-fn find(sections: &[Section], number: u64) -> usize
-    requires { IsTrue (has_section sections.now number) }
-    ensures within { result < length sections.now }
-    ensures section { slice_get sections.now result ≡ Some (section_by sections.now number) }
-    ensures others { remove sections.now result ≡ without_section sections.now number }
-{
-    for place in 0..sections.len() {
-        if sections[place].unit == number {
-            return place;
-        }
-    }
-    unreachable!()
 }

@@ -5,57 +5,60 @@ use Rattle.osc_model.specs.Step.{decided, calls_from, hits_of, invocations_of}
 use Rattle.osc_record.specs.Writing.{with_release}
 use Rattle.osc_core.specs.Calls.{hit_by}
 use Rattle.osc_core.specs.Due.{IsDue}
-use Rattle.osc_core.specs.Frames.{unframed}
-use Rattle.osc_core.specs.Kept.{messages_by}
+use Rattle.osc_core.specs.Frames.{messages_in}
 use Rattle.osc_core.specs.Recorded.{TellsRoom, with_hits}
+use Rattle.osc_core.specs.Stored.{unit_in}
 use Rattle.osc_core.specs.contracts.server.Server.{the_view}
 use Rattle.osc_core.proofs.Calling.{length-hits_of}
-use Rattle.osc_core.proofs.Firsts.{first_answer, first_below, is_item, hits_by}
-use Rattle.osc_core.proofs.Joins.{first_kept}
+use Rattle.osc_core.proofs.Firsts.{is_item, first_waits, hits_by}
 use Rattle.osc_core.proofs.Hearing.{hear_same, hears_nothing}
 use Rattle.osc_core.proofs.server.Server.release.Goals as goal
 
 pub returns-in_default-clause-boxes : goal.returns-in_default-clause-boxes
 returns-in_default-clause-boxes g c = hears_nothing _ _ refl
 
+pub returns-then-due-self-clause-answer : goal.returns-then-due-self-clause-answer
+returns-then-due-self-clause-answer g c =
+    let s = c.self.inside in
+    let none = first_waits (the_view s) s.store s.queue.items c.in-Some.due c.in-Some.unit c.in-Some.stored.now refl c.in-Some.ensures.head
+    (omega (arith, c.if-due-self.true)) in
+    record { none = ap (λ (state : State). (decided state release).answer) (sym c.self.view_is) ∙ none; state = refl; recorder = refl }
+
 pub returns-then-due-self-clause-boxes : goal.returns-then-due-self-clause-boxes
 returns-then-due-self-clause-boxes g c = hears_nothing _ _ refl
 
-pub read-count-requires-clause-there : goal.read-count-requires-clause-there
-read-count-requires-clause-there g c =
+pub read-requires-clause-stored : goal.read-requires-clause-stored
+read-requires-clause-stored g c =
     let s = c.self.inside in
-    first_kept s.store.kept s.queue.items c.in-Some.due c.in-Some.unit c.in-Some.field-0-2.now c.in-Some.ensures.head c.self.invariant.units.kept
+    (is_item (the_view s) s.store s.queue.items c.in-Some.due c.in-Some.unit s.next_unit c.in-Some.stored.now refl c.self.invariant.units
+    c.in-Some.ensures.head (omega (arith, c.if-due-self.false))).is_stored
 
 pub release_unit-requires-clause-unit : goal.release_unit-requires-clause-unit
 release_unit-requires-clause-unit g c =
     let s = c.self.inside in
-    let below = first_below s.queue.items c.in-Some.due c.in-Some.unit c.in-Some.field-0-2.now s.next_unit c.in-Some.ensures.head c.self.invariant.units.numbers
-    in
-    omega (arith, below, c.requires.units, ap (λ (state : State). state.next_unit) c.self.view_is)
+    let item = is_item (the_view s) s.store s.queue.items c.in-Some.due c.in-Some.unit s.next_unit c.in-Some.stored.now refl c.self.invariant.units
+    c.in-Some.ensures.head (omega (arith, c.if-due-self.false)) in
+    omega (arith, item.below, c.requires.units, ap (λ (state : State). state.next_unit) c.self.view_is)
 
 pub take_first-requires-clause-due : goal.take_first-requires-clause-due
 take_first-requires-clause-due g c =
     let s = c.self.inside in
-    let hits = hits_of (calls_from s.tree.methods 0 (messages_by s.store.kept c.in-Some.unit)) in
-    let due = first_answer (the_view s) s.store.kept s.queue.items c.in-Some.due c.in-Some.unit c.in-Some.field-0-2.now refl c.in-Some.ensures.head
-    (omega (arith, c.if-due-self.false)) in
-    let item = is_item (the_view s) s.store.kept s.queue.items c.in-Some.unit hits refl c.self.invariant.units.kept due in
-    item.due
+    (is_item (the_view s) s.store s.queue.items c.in-Some.due c.in-Some.unit s.next_unit c.in-Some.stored.now refl c.self.invariant.units
+    c.in-Some.ensures.head (omega (arith, c.if-due-self.false))).due
 
 pub returns-in-Ok-clause-answer : goal.returns-in-Ok-clause-answer
 returns-in-Ok-clause-answer g c =
     let s = c.self.inside in
     let unit = c.in-Some.unit in
-    let calls = calls_from s.tree.methods 0 (messages_by s.store.kept unit) in
-    let due = first_answer (the_view s) s.store.kept s.queue.items c.in-Some.due unit c.in-Some.field-0-2.now refl c.in-Some.ensures.head
-    (omega (arith, c.if-due-self.false)) in
-    let item = is_item (the_view s) s.store.kept s.queue.items unit (hits_of calls) refl c.self.invariant.units.kept due in
-    let kept = c.new-messages.ensures.value ∙ ap (unframed c.read-count.result) c.deref.ensures.value ∙ c.read-count.ensures.messages in
+    let calls = calls_from s.tree.methods 0 (unit_in s.store c.in-Some.stored.now).messages in
+    let item = is_item (the_view s) s.store s.queue.items c.in-Some.due unit s.next_unit c.in-Some.stored.now refl c.self.invariant.units
+    c.in-Some.ensures.head (omega (arith, c.if-due-self.false)) in
+    let kept = c.new-messages.ensures.value ∙ ap messages_in c.deref.ensures.value ∙ c.read.ensures.messages in
     let begun = with_release c.args.recorder.now c.args.caller unit c.in-Ok.calls in
     let invocations = ap (λ (state : State). (decided state release).invocations) (sym c.self.view_is) ∙ item.invocations_are in
     record {
       hits = hits_of calls;
-      due = subst (λ (state : State). IsDue state unit (hits_of calls)) c.self.view_is due;
+      due = subst (λ (state : State). IsDue state unit (hits_of calls)) c.self.view_is item.answer;
       many = c.in-Ok.ensures.recorder.0 ∙ ap (λ (l : List (List ℕ)). length (calls_from s.tree.methods 0 l)) kept ∙ sym (length-hits_of calls);
       fits = c.in-Ok.ensures.recorder.1;
       state = rw (c.take_first.ensures.queue, c.take_first.ensures.places, c.take_first.ensures.limit)
@@ -68,12 +71,10 @@ pub returns-in-Ok-clause-boxes : goal.returns-in-Ok-clause-boxes
 returns-in-Ok-clause-boxes g c =
     let s = c.self.inside in
     let unit = c.in-Some.unit in
-    let calls = calls_from s.tree.methods 0 (messages_by s.store.kept unit) in
-    let due = first_answer (the_view s) s.store.kept s.queue.items c.in-Some.due unit c.in-Some.field-0-2.now refl c.in-Some.ensures.head
-    (omega (arith, c.if-due-self.false)) in
-    let item = is_item (the_view s) s.store.kept s.queue.items unit (hits_of calls) refl c.self.invariant.units.kept due in
+    let item = is_item (the_view s) s.store s.queue.items c.in-Some.due unit s.next_unit c.in-Some.stored.now refl c.self.invariant.units
+    c.in-Some.ensures.head (omega (arith, c.if-due-self.false)) in
     let invocations = ap (λ (state : State). (decided state release).invocations) (sym c.self.view_is) ∙ item.invocations_are in
-    let kept = c.new-messages.ensures.value ∙ ap (unframed c.read-count.result) c.deref.ensures.value ∙ c.read-count.ensures.messages in
+    let kept = c.new-messages.ensures.value ∙ ap messages_in c.deref.ensures.value ∙ c.read.ensures.messages in
     hear_same _ _ _ _ c.in-Ok.ensures.boxes
     (ap (λ (l : List (List ℕ)). invocations_of unit (calls_from s.tree.methods 0 l)) kept ∙ sym invocations)
 
@@ -81,16 +82,16 @@ pub returns-in-Err-clause-answer : goal.returns-in-Err-clause-answer
 returns-in-Err-clause-answer g c =
     let s = c.self.inside in
     let unit = c.in-Some.unit in
-    let calls = calls_from s.tree.methods 0 (messages_by s.store.kept unit) in
-    let due = first_answer (the_view s) s.store.kept s.queue.items c.in-Some.due unit c.in-Some.field-0-2.now refl c.in-Some.ensures.head
-    (omega (arith, c.if-due-self.false)) in
-    let kept = c.new-messages.ensures.value ∙ ap (unframed c.read-count.result) c.deref.ensures.value ∙ c.read-count.ensures.messages in
+    let calls = calls_from s.tree.methods 0 (unit_in s.store c.in-Some.stored.now).messages in
+    let item = is_item (the_view s) s.store s.queue.items c.in-Some.due unit s.next_unit c.in-Some.stored.now refl c.self.invariant.units
+    c.in-Some.ensures.head (omega (arith, c.if-due-self.false)) in
+    let kept = c.new-messages.ensures.value ∙ ap messages_in c.deref.ensures.value ∙ c.read.ensures.messages in
     let many : length (calls_from s.tree.methods 0 c.new-messages.result) ≡ length (hits_of calls) =
     ap (λ (l : List (List ℕ)). length (calls_from s.tree.methods 0 l)) kept ∙ sym (length-hits_of calls) in
     record {
       unit = unit;
       hits = hits_of calls;
-      due = subst (λ (state : State). IsDue state unit (hits_of calls)) c.self.view_is due;
+      due = subst (λ (state : State). IsDue state unit (hits_of calls)) c.self.view_is item.answer;
       wanting = subst (λ (n : ℕ). TellsRoom (Some c.in-Err.room) c.args.recorder.now (44 + 8 * n)) many c.in-Err.ensures.recorder.0;
       state = c.self.view_is;
       recorder = c.in-Err.ensures.recorder.1;

@@ -4,17 +4,16 @@ use Rattle.osc_packet.specs.Reading.{units_read}
 use Rattle.osc_model.specs.Counts.{queued_blocks}
 use Rattle.osc_core.specs.Views.{queue_of, queued_of}
 use Rattle.osc_core.specs.contracts.server.Server.{the_view}
-use Rattle.osc_core.proofs.Joins.{same_blocks}
 use Rattle.osc_core.proofs.Submits.{finds_the_pool_full, queues_the_units}
 use Rattle.osc_core.proofs.server.Server.submit.Goals as goal
 
 pub returns-then-need-free-clause-answer : goal.returns-then-need-free-clause-answer
 returns-then-need-free-clause-answer c =
     let s = c.self.inside in
-    let places : c.free-places.result ≡ s.queue.limit - length (queue_of s.store.kept s.queue.items) =
-    omega (arith, length-map s.queue.items (queued_of s.store.kept), c.free-places.ensures) in
-    let free : c.free-free.result ≡ s.store.limit - queued_blocks (queue_of s.store.kept s.queue.items) =
-    omega (arith, same_blocks s.store.kept s.queue.items c.self.invariant.units.kept, c.free-free.ensures) in
+    let places : c.free-places.result ≡ s.queue.limit - length (queue_of s.store s.queue.items) =
+    omega (arith, length-map s.queue.items (queued_of s.store), c.free-places.ensures) in
+    let free : c.free-free.result ≡ length s.store - queued_blocks (queue_of s.store s.queue.items) =
+    omega (arith, c.self.invariant.units.kept.counted, c.free-free.ensures) in
     let full = finds_the_pool_full (the_view s) (units_read c.args.packet.now) c.free-places.result c.free-free.result places free (omega arith)
     (omega arith) in
     rw (← c.self.view_is, full, c.new-then-need-free.ensures.need, c.new-then-need-free.ensures.free, c.from-then-need-free.ensures, c.from-then-need-free-2.ensures, c.blocks-need.ensures)
@@ -23,10 +22,10 @@ returns-then-need-free-clause-answer c =
 pub returns-then-need-free-clause-state : goal.returns-then-need-free-clause-state
 returns-then-need-free-clause-state c =
     let s = c.self.inside in
-    let places : c.free-places.result ≡ s.queue.limit - length (queue_of s.store.kept s.queue.items) =
-    omega (arith, length-map s.queue.items (queued_of s.store.kept), c.free-places.ensures) in
-    let free : c.free-free.result ≡ s.store.limit - queued_blocks (queue_of s.store.kept s.queue.items) =
-    omega (arith, same_blocks s.store.kept s.queue.items c.self.invariant.units.kept, c.free-free.ensures) in
+    let places : c.free-places.result ≡ s.queue.limit - length (queue_of s.store s.queue.items) =
+    omega (arith, length-map s.queue.items (queued_of s.store), c.free-places.ensures) in
+    let free : c.free-free.result ≡ length s.store - queued_blocks (queue_of s.store s.queue.items) =
+    omega (arith, c.self.invariant.units.kept.counted, c.free-free.ensures) in
     let full = finds_the_pool_full (the_view s) (units_read c.args.packet.now) c.free-places.result c.free-free.result places free (omega arith)
     (omega arith) in
     rw (← c.self.view_is, full) refl
@@ -34,20 +33,20 @@ returns-then-need-free-clause-state c =
 pub returns-clause-answer : goal.returns-clause-answer
 returns-clause-answer c =
     let s = c.self.inside in
-    let places : c.free-places.result ≡ s.queue.limit - length (queue_of s.store.kept s.queue.items) =
-    omega (arith, length-map s.queue.items (queued_of s.store.kept), c.free-places.ensures) in
-    let free : c.free-free.result ≡ s.store.limit - queued_blocks (queue_of s.store.kept s.queue.items) =
-    omega (arith, same_blocks s.store.kept s.queue.items c.self.invariant.units.kept, c.free-free.ensures) in
+    let places : c.free-places.result ≡ s.queue.limit - length (queue_of s.store s.queue.items) =
+    omega (arith, length-map s.queue.items (queued_of s.store), c.free-places.ensures) in
+    let free : c.free-free.result ≡ length s.store - queued_blocks (queue_of s.store s.queue.items) =
+    omega (arith, c.self.invariant.units.kept.counted, c.free-free.ensures) in
     let enters = queues_the_units (the_view s) (units_read c.args.packet.now) c.free-places.result c.free-free.result places free (omega arith) (omega arith) in
     rw (← c.self.view_is, enters, c.count-count.ensures.value) refl
 
 pub returns-clause-state : goal.returns-clause-state
 returns-clause-state c =
     let s = c.self.inside in
-    let places : c.free-places.result ≡ s.queue.limit - length (queue_of s.store.kept s.queue.items) =
-    omega (arith, length-map s.queue.items (queued_of s.store.kept), c.free-places.ensures) in
-    let free : c.free-free.result ≡ s.store.limit - queued_blocks (queue_of s.store.kept s.queue.items) =
-    omega (arith, same_blocks s.store.kept s.queue.items c.self.invariant.units.kept, c.free-free.ensures) in
+    let places : c.free-places.result ≡ s.queue.limit - length (queue_of s.store s.queue.items) =
+    omega (arith, length-map s.queue.items (queued_of s.store), c.free-places.ensures) in
+    let free : c.free-free.result ≡ length s.store - queued_blocks (queue_of s.store s.queue.items) =
+    omega (arith, c.self.invariant.units.kept.counted, c.free-free.ensures) in
     let enters = queues_the_units (the_view s) (units_read c.args.packet.now) c.free-places.result c.free-free.result places free (omega arith) (omega arith) in
     rw (← c.self.view_is, enters, c.enter_all.ensures.queue, c.enter_all.ensures.places, c.enter_all.ensures.limit, c.from-2.ensures, c.count-count.ensures.value)
     refl
