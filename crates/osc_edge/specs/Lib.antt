@@ -1,5 +1,7 @@
 pub mod Faults
 pub mod Source
 pub mod Sink
+pub mod Link
+pub mod Clock
 pub mod Calls
 pub mod Memory

@@ -1,11 +1,15 @@
-//! Where bytes come from and go to: sources and sinks, in memory and real, each with a count of its faults.
+//! Where bytes, datagrams and the time come from and where bytes go to: sources, sinks, links and clocks, in memory and
+//! real, each with a count of its faults.
 //!
-//! A contract sees what is left in a source and what a sink holds, where the object tells it, and how often
-//! the object has failed. Only the standard streams and files tell nothing of their bytes.
+//! A contract sees what is left in a source, a link or a clock and what a sink holds, where the object tells it, and how
+//! often the object has failed. Only the standard streams, files, ports and the system's clock tell nothing.
 #![tactic(auto)]
 
 mod calls;
+mod clock;
 mod file_sink;
+mod limits;
+mod link;
 mod memory_sink;
 mod memory_source;
 mod sink;
@@ -13,7 +17,10 @@ mod source;
 mod standard;
 mod steady;
 
+pub use clock::{Clock, Moment};
 pub use file_sink::FileSink;
+pub use limits::MAX_DATAGRAM;
+pub use link::{Datagram, Link};
 pub use memory_sink::MemorySink;
 pub use memory_source::MemorySource;
 pub use sink::{Put, Sink};
