@@ -5,3 +5,4 @@ pub mod Link
 pub mod Clock
 pub mod Calls
 pub mod Memory
+pub mod Times

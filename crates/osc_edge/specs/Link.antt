@@ -1,5 +1,6 @@
 -- What a call of a link does.
 use Rattle.std.specs.Prelude.{◌≡◌, ℕ, ◌≤◌, List, [], ◌∷◌, length, take, Option, Some, None, IfSome, option_map}
+use Rattle.std.specs.Option.{ForSome}
 use Rattle.osc_edge.specs.declared.limits.TheConstants.{MAX_DATAGRAM}
 use Rattle.osc_edge.specs.declared.link.Datagram.{Datagram}
 use Rattle.osc_edge.specs.declared.link.Datagram.TheVariants.{Got, Quiet, End, Failed}
@@ -7,7 +8,7 @@ use Rattle.osc_edge.specs.Faults.{Rose}
 
 -- a turn of a link is a datagram's bytes or, for a quiet, none; a datagram fits the slice
 abbrev pub IsShortTurn : Option (List ℕ) → Type 0
-IsShortTurn turn = IfSome turn (λ datagram. length datagram ≤ MAX_DATAGRAM)
+IsShortTurn turn = ForSome turn (λ datagram. length datagram ≤ MAX_DATAGRAM)
 
 -- at most as many bytes as the slice has
 abbrev pub IsGotWithin : Datagram → List ℕ → Type 0

@@ -1,13 +1,19 @@
--- What sources and sinks in memory hold, and which of their calls fail.
-use Rattle.std.specs.Prelude.{◌≡◌, ℕ, min, false, IsTrue, if◌then◌else◌, List, length, drop}
+-- What the kinds in memory hold, and which of their calls fail.
+use Rattle.std.specs.Prelude.{◌≡◌, ℕ, min, false, IsTrue, if◌then◌else◌, List, [], ◌∷◌, length, drop, get_or, Option, Some, None}
 use Rattle.osc_edge.specs.declared.memory_source.MemorySource.{MemorySource}
 use Rattle.osc_edge.specs.declared.memory_sink.MemorySink.{MemorySink}
+use Rattle.osc_edge.specs.declared.memory_link.MemoryLink.{MemoryLink}
+use Rattle.osc_edge.specs.declared.memory_clock.MemoryClock.{MemoryClock}
 use Rattle.osc_edge.specs.declared.steady.SteadySource.{SteadySource}
 use Rattle.osc_edge.specs.declared.steady.SteadySink.{SteadySink}
 use Rattle.osc_edge.specs.declared.source.Taken.{Taken}
 use Rattle.osc_edge.specs.declared.source.Taken.TheVariants.{Bytes, Failed}
 use Rattle.osc_edge.specs.declared.sink.Put.{Put}
 use Rattle.osc_edge.specs.declared.sink.Put.TheVariants.{Took, NoMemory, Failed as FailedToTake}
+use Rattle.osc_edge.specs.declared.link.Datagram.{Datagram}
+use Rattle.osc_edge.specs.declared.link.Datagram.TheVariants.{Got, Quiet, End, Failed as FailedToGet}
+use Rattle.osc_edge.specs.declared.clock.Moment.{Moment}
+use Rattle.osc_edge.specs.declared.clock.Moment.TheVariants.{At, Failed as FailedToTell}
 use Rattle.osc_edge.specs.Calls.{CallsToCome, fails_next}
 
 -- the bytes that a source has left
@@ -52,3 +58,33 @@ abbrev pub IsWholeOrNoMemory : List ℕ → Put → Type 0
 IsWholeOrNoMemory piece (Took count) = count ≡ length piece
 IsWholeOrNoMemory piece FailedToTake = ⊥
 IsWholeOrNoMemory piece NoMemory = Unit {0}
+
+-- the turns that a link has left
+abbrev pub link_turns : MemoryLink → List (Option (List ℕ))
+link_turns link = drop link.at link.turns.items
+
+-- the calls of a link
+abbrev pub link_calls : MemoryLink → CallsToCome
+link_calls link = link.calls
+
+-- the answer to the first of the turns, or the end
+abbrev pub turn_answer : List (Option (List ℕ)) → Datagram
+turn_answer [] = End
+turn_answer (None ∷ turns) = Quiet
+turn_answer (Some datagram ∷ turns) = Got (length datagram)
+
+-- a call that fails gives nothing; any other gives the first of the turns left
+abbrev pub datagram_of : CallsToCome → List (Option (List ℕ)) → Datagram
+datagram_of calls left = if fails_next calls then FailedToGet else turn_answer left
+
+-- the moments that a clock has left
+abbrev pub clock_moments : MemoryClock → List ℕ
+clock_moments clock = drop clock.at clock.moments.items
+
+-- the calls of a clock
+abbrev pub clock_calls : MemoryClock → CallsToCome
+clock_calls clock = clock.calls
+
+-- a call that fails gives nothing; any other gives the first of the moments left
+abbrev pub moment_of : CallsToCome → List ℕ → Moment
+moment_of calls left = if fails_next calls then FailedToTell else At (get_or left 0 0)

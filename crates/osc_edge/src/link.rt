@@ -29,7 +29,7 @@ pub trait Link {
 
     /// Puts the next datagram at the front of `into`, a slice of [`MAX_DATAGRAM`](crate::MAX_DATAGRAM) bytes.
     fn next(&mut self, into: &mut [u8]) -> Datagram
-        requires space { length into.now ≡ MAX_DATAGRAM }
+        requires space { length into.old ≡ MAX_DATAGRAM }
         ensures within { IsGotWithin result into.new }
         ensures turns { TakesTurn (left self.old) (left self.new) result into.new }
         ensures cause { HasLinkCause (faults self.old) (faults self.new) result }
