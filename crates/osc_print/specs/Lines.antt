@@ -28,3 +28,14 @@ abbrev pub fault_text : ℕ → Fault → List ℕ
 fault_text number fault =
     line (codes "fault" ++ spaced (decimal number) ++ spaced (decimal fault.kind)
     ++ spaced (decimal fault.at))
+
+-- a link, which counts from 0, and one of its datagrams, which count from 1
+abbrev pub datagram_words : ℕ → ℕ → List ℕ
+datagram_words link number =
+    codes "link" ++ spaced (decimal link) ++ spaced (codes "datagram") ++ spaced (decimal number)
+
+-- the line of a fault of a datagram
+abbrev pub link_fault_text : ℕ → ℕ → Fault → List ℕ
+link_fault_text link number fault =
+    line (codes "fault" ++ spaced (datagram_words link number) ++ spaced (decimal fault.kind)
+    ++ spaced (decimal fault.at))

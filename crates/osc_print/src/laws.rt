@@ -3,8 +3,9 @@ ghost use Rattle.std.specs.Prelude.{◌≡◌, [], ◌∷◌, codes};
 ghost use Rattle.osc_tree.specs.Adding.{taken, under_method, is_container, methods_full, nodes_full};
 ghost use Rattle.osc_model.specs.Events.{enrol, add, remove, submit, tick, release, number, callers_full, queued, units_full, pool_full, added, refused, removed, not_there, ticked, clock_back, released};
 ghost use Rattle.osc_print.specs.Entries.{entry_text, invocation_text};
+ghost use Rattle.osc_print.specs.Lines.{fault_text, link_fault_text};
 
-/// A line of each kind of answer, and the line of a call.
+/// A line of each kind of answer, and the lines of a call and of faults.
 pub fn examples()
     ensures number { entry_text (record { caller = 0; event = enrol; answer = number 1 })
         ≡ codes "enrol 0 1\n" }
@@ -70,4 +71,7 @@ pub fn examples()
           };
         })
         ≡ codes "call 0 0 0 /light/dim ,i i:7\n" }
+    ensures fault { fault_text 2 (record { kind = 14; at = 8 }) ≡ codes "fault 2 14 8\n" }
+    ensures link_fault { link_fault_text 0 2 (record { kind = 2; at = 30 })
+        ≡ codes "fault link 0 datagram 2 2 30\n" }
 {}

@@ -10,5 +10,5 @@ mod text;
 
 pub use call::call_line;
 pub use entry::entry_line;
-pub use fault::fault_line;
+pub use fault::{fault_line, link_fault_line};
 pub use text::Text;

@@ -25,4 +25,6 @@ returns c = record {
   clock_back = refl;
   released = refl;
   call = refl;
+  fault = refl;
+  link_fault = refl;
 }
