@@ -53,9 +53,13 @@ event_words caller (remove address) = named (codes "remove") caller ++ spaced ad
 event_words caller (tick moment) = named (codes "tick") caller ++ spaced (moment_word moment)
 event_words caller release = named (codes "release") caller
 
--- an entry's line
+-- an entry in words
+abbrev pub entry_words : Entry → List ℕ
+entry_words entry = event_words entry.caller entry.event ++ spaced (answer_words entry.answer)
+
+-- its line
 abbrev pub entry_text : Entry → List ℕ
-entry_text entry = line (event_words entry.caller entry.event ++ spaced (answer_words entry.answer))
+entry_text entry = line (entry_words entry)
 
 -- the line of an invocation
 abbrev pub invocation_text : Invocation → List ℕ

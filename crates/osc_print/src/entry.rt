@@ -5,7 +5,7 @@ ghost use Rattle.osc_model.specs.Recordings.{hits_in};
 ghost use Rattle.osc_record.specs.Shown.{event_of, answer_of};
 ghost use Rattle.osc_record.specs.Left.{placed_of};
 ghost use Rattle.osc_print.specs.Words.{spaced, BeginsWith};
-ghost use Rattle.osc_print.specs.Entries.{named, named_room, moment_word, event_words, answer_words, entry_text};
+ghost use Rattle.osc_print.specs.Entries.{named, named_room, moment_word, event_words, answer_words, entry_words, entry_text};
 
 use crate::Text;
 use osc_atoms::Room;
@@ -19,18 +19,26 @@ pub fn entry_line(text: &mut Text, entry: &Entry<'_>) -> Result<(), AllocError>
     ensures err { OnErr result (text.new ≡ text.old) }
 {
     let start = text.bytes().len();
-    let added = text.entry_words(entry);
+    let added = text.entry_text(entry);
     text.whole_line(start, added)
 }
 
 impl Text {
-    fn entry_words(&mut self, entry: &Entry<'_>) -> Result<(), AllocError>
+    fn entry_text(&mut self, entry: &Entry<'_>) -> Result<(), AllocError>
         ensures ok { OnOk result (self.new ≡ self.old ++ entry_text (placed_of entry.now).entry) }
         ensures err { OnErr result (BeginsWith self.new self.old) }
     {
-        self.event_words(entry.caller, entry.event)?;
-        self.space_answer(entry.answer)?;
+        self.entry_words(entry)?;
         self.end_line()
+    }
+
+    /// Adds an entry's words, without a line feed.
+    pub(crate) fn entry_words(&mut self, entry: &Entry<'_>) -> Result<(), AllocError>
+        ensures ok { OnOk result (self.new ≡ self.old ++ entry_words (placed_of entry.now).entry) }
+        ensures err { OnErr result (BeginsWith self.new self.old) }
+    {
+        self.event_words(entry.caller, entry.event)?;
+        self.space_answer(entry.answer)
     }
 
     fn event_words(&mut self, caller: u32, event: Event<'_>) -> Result<(), AllocError>

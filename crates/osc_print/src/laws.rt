@@ -2,10 +2,13 @@
 ghost use Rattle.std.specs.Prelude.{◌≡◌, [], ◌∷◌, codes};
 ghost use Rattle.osc_tree.specs.Adding.{taken, under_method, is_container, methods_full, nodes_full};
 ghost use Rattle.osc_model.specs.Events.{enrol, add, remove, submit, tick, release, number, callers_full, queued, units_full, pool_full, added, refused, removed, not_there, ticked, clock_back, released};
+ghost use Rattle.osc_model.specs.Limits.{limits_of};
 ghost use Rattle.osc_print.specs.Entries.{entry_text, invocation_text};
 ghost use Rattle.osc_print.specs.Lines.{fault_text, link_fault_text};
+ghost use Rattle.osc_print.specs.Dates.{date_text};
+ghost use Rattle.osc_print.specs.Dumps.{dumped};
 
-/// A line of each kind of answer, and the lines of a call and of faults.
+/// A line of each kind of answer, the lines of a call and of faults, dates, and a dump.
 pub fn examples()
     ensures number { entry_text (record { caller = 0; event = enrol; answer = number 1 })
         ≡ codes "enrol 0 1\n" }
@@ -74,4 +77,11 @@ pub fn examples()
     ensures fault { fault_text 2 (record { kind = 14; at = 8 }) ≡ codes "fault 2 14 8\n" }
     ensures link_fault { link_fault_text 0 2 (record { kind = 2; at = 30 })
         ≡ codes "fault link 0 datagram 2 2 30\n" }
+    ensures first_second { date_text 0 ≡ codes "1900-01-01T00:00:00Z" }
+    ensures last_second { date_text 4_294_967_295 ≡ codes "2036-02-07T06:28:15Z" }
+    ensures unix_epoch { date_text 2_208_988_800 ≡ codes "1970-01-01T00:00:00Z" }
+    ensures leap_day { date_text 3_160_857_599 ≡ codes "2000-02-29T23:59:59Z" }
+    ensures dump { dumped (limits_of 4096 16384 1024 4096 1 67_108_864)
+        (record { caller = 0; event = tick 0x83aa_7e80_0000_0000; answer = ticked } ∷ [])
+        ≡ codes "rec 1 4096 16384 1024 4096 1 67108864\n56 tick 0 83aa7e8000000000 ticked 1970-01-01T00:00:00Z\n" }
 {}

@@ -3,12 +3,15 @@
 
 mod argument;
 mod call;
+mod date;
+mod dump;
 mod entry;
 mod fault;
 pub mod laws;
 mod text;
 
 pub use call::call_line;
+pub use dump::{dump_line, header_line};
 pub use entry::entry_line;
 pub use fault::{fault_line, link_fault_line};
 pub use text::Text;

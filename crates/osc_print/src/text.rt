@@ -63,6 +63,14 @@ impl Text {
         self.word(word)
     }
 
+    /// Adds the number in decimal.
+    pub(crate) fn number(&mut self, number: u64) -> Result<(), AllocError>
+        ensures ok { OnOk result (self.new ≡ self.old ++ decimal number) }
+        ensures err { OnErr result (self.new ≡ self.old) }
+    {
+        self.word(Buffer::new().format(number).as_bytes())
+    }
+
     /// Adds a space and the number in decimal. After an `Err` the space may stand.
     pub fn space_number(&mut self, number: u64) -> Result<(), AllocError>
         ensures ok { OnOk result (self.new ≡ self.old ++ spaced (decimal number)) }
@@ -85,6 +93,11 @@ impl Text {
         ensures err { OnErr result (self.new ≡ self.old) }
     {
         append_hex(&mut self.bytes, bytes)
+    }
+
+    /// What memory is taken from.
+    pub(crate) fn allocator(&self) -> Global {
+        *self.bytes.allocator()
     }
 
     /// Answers what became of a line, and cuts the text back to where the line began if it wasn't added whole.
