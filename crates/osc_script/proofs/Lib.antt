@@ -5,3 +5,8 @@ pub mod Lawful
 pub mod First
 pub mod Operands
 pub mod Modes
+pub mod Packed
+pub mod Going
+pub mod Inked
+pub mod Again
+pub mod DrawnAgain

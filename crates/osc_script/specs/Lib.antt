@@ -4,4 +4,7 @@ pub mod Lanes
 pub mod Acts
 pub mod Scripts
 pub mod Faults
+pub mod Written
+pub mod Draws
+pub mod Generated
 pub mod Answers

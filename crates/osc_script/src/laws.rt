@@ -1,8 +1,9 @@
 //! What the definitions say of all scripts, and of the examples of docs/FORMATS.md.
 ghost use Rattle.osc_script.specs.declared.script.TheConstants.{MAX_SCRIPT};
+ghost use Rattle.osc_script.specs.declared.generating.TheConstants.{MAX_GENERATED_LINES};
 ghost use Rattle.osc_script.specs.declared.lane.TheConstants.{MAX_LANES};
 ghost use Rattle.std.specs.Prelude.{◌≡◌, ◌≤◌, ◌<◌, ◌↔◌, ◌^◌, ◌%◌, ℕ, true, false, List, [], ◌∷◌, ◌++◌, length, Some, None, Ok, Err, IsOk, IfOk, codes};
-ghost use Rattle.std.specs.List.{All, AllPass, concat};
+ghost use Rattle.std.specs.List.{All, AllByRecursion, AllPass, concat};
 ghost use Rattle.std.specs.Int.{w64, to_be_bytes};
 ghost use Rattle.std.specs.Str.{bytes_eq};
 ghost use Rattle.std.specs.Fmt.{decimal};
@@ -12,11 +13,14 @@ ghost use Rattle.osc_script.specs.Kinds.{word_kind, count_kind, lane_kind, not_h
 ghost use Rattle.osc_script.specs.Lanes.{lane_of};
 ghost use Rattle.osc_script.specs.Acts.{is_known, has_count, act_of, served_of, packet_of, moment_of};
 ghost use Rattle.osc_script.specs.declared.fault.ScriptFault.{ScriptFault};
+ghost use Rattle.osc_script.specs.declared.act.Act.{Act};
 ghost use Rattle.osc_script.specs.declared.act.Act.TheVariants.{Add, Send, Tick, Pump};
 ghost use Rattle.osc_script.specs.declared.mode.Mode.{Mode};
 ghost use Rattle.osc_script.specs.declared.mode.Mode.TheVariants.{Plain, Lanes, Serve};
 ghost use Rattle.osc_script.specs.Scripts.{said_of, on_lane, script_of, AreLawful, AreOf};
 ghost use Rattle.osc_script.specs.Faults.{IsFirstFault};
+ghost use Rattle.osc_script.specs.Written.{IsWritable, numbered, written};
+ghost use Rattle.osc_script.specs.Generated.{drawn_acts, generated_acts, generated_script};
 
 /// A line feed ends a line; one carriage return right before it is no part of the line; a last line without a line feed
 /// stands as it is.
@@ -117,7 +121,23 @@ pub fn written_is_read_again()
         → moment_of (encode_lower (to_be_bytes w64 moment) ∷ []) ≡ Ok moment }
 {}
 
-/// Each kind of fault, skipped lines, and operands.
+/// A script of acts, a line each, is read as these acts, and the lines are counted from 1.
+#[tactic(auto, using(crate::proofs::Again::script_again))]
+pub fn written_scripts_are_read_again()
+    ensures { (acts : List Act) → AllByRecursion IsWritable acts → length (written acts) ≤ MAX_SCRIPT
+        → script_of Plain (written acts) ≡ Ok (numbered 1 acts) }
+{}
+
+/// A generated script has as many lines as it was asked for, and is read as the acts that were drawn.
+#[tactic(auto, using(crate::proofs::DrawnAgain::drawn_again, crate::proofs::DrawnAgain::so_many))]
+pub fn generated_scripts_are_read_again()
+    ensures again { (seed lines : ℕ) → lines ≤ MAX_GENERATED_LINES
+        → script_of Plain (generated_script seed lines)
+        ≡ Ok (numbered 1 (generated_acts seed lines)) }
+    ensures many { (seed lines : ℕ) → length (generated_acts seed lines) ≡ lines }
+{}
+
+/// Each kind of fault, skipped lines, operands, and lines that are drawn.
 pub fn examples()
     ensures address { script_of Plain (codes "add foo") ≡ Err (record { line = 1; kind = 4 }) }
     ensures word { script_of Plain (codes "jump") ≡ Err (record { line = 1; kind = 2 }) }
@@ -151,4 +171,7 @@ pub fn examples()
     ensures not_here { script_of Serve (codes "pump") ≡ Err (record { line = 1; kind = 8 }) }
     ensures undigested { script_of Serve (codes "send 123") ≡ Err (record { line = 1; kind = 8 }) }
     ensures uncounted { script_of Serve (codes "pump now") ≡ Err (record { line = 1; kind = 3 }) }
+    ensures generated { generated_script 1 3 ≡ codes "add /g0/n0\nadd /g1/n0\nadd /g2/n0\n" }
+    ensures drawn { written (drawn_acts 2 2 1)
+        ≡ codes "send 2f67312f2a0000002c690000000534cc\npump\n" }
 {}

@@ -1,20 +1,28 @@
-//! Scripts: what the lines of an input say, or the first fault.
+//! Scripts: what the lines of an input say, or the first fault; and scripts that are drawn from a seed.
 #![tactic(auto)]
 
 mod act;
 mod act_reading;
+mod drawing;
+mod draws;
 mod fault;
+mod generating;
 mod lane;
 pub mod laws;
 mod line;
+mod line_kind;
 mod line_reading;
+mod line_writing;
 mod mode;
+mod packets;
+mod patterns;
 mod said;
 mod script;
 mod words;
 
 pub use act::Act;
 pub use fault::{ScriptFault, ScriptRefusal};
+pub use generating::MAX_GENERATED_LINES;
 pub use lane::MAX_LANES;
 pub use line::Line;
 pub use mode::Mode;

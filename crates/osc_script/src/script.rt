@@ -1,9 +1,11 @@
 // Scripts, read whole.
 use crate::fault::{ScriptFault, ScriptRefusal};
+use crate::generating::script_of_seed;
 use crate::line::Line;
 use crate::line_reading::read_lines;
 use crate::mode::Mode;
-use std::alloc::Global;
+use osc_message::Bytes;
+use std::alloc::{AllocError, Global};
 use std::marker::Model;
 
 /// The most bytes of a script, 64 MiB.
@@ -26,8 +28,10 @@ impl Model for Script {
 
 impl Script {
     ghost use Rattle.osc_script.specs.declared.script.TheConstants.{MAX_SCRIPT};
+    ghost use Rattle.osc_script.specs.declared.generating.TheConstants.{MAX_GENERATED_LINES};
     ghost use Rattle.std.specs.Prelude.{◌≡◌, ◌≤◌, ◌<◌, length, Err, IfOk};
     ghost use Rattle.osc_script.specs.Scripts.{script_of, AreLawful, AreOf};
+    ghost use Rattle.osc_script.specs.Generated.{generated_script};
     ghost use Rattle.osc_script.specs.Answers.{Reads};
     ghost use Rattle.osc_script.specs.Kinds.{too_long_kind};
     ghost use Rattle.osc_script.specs.Faults.{IsFirstFault};
@@ -52,6 +56,15 @@ impl Script {
             }));
         }
         read_lines(alloc, bytes, mode)
+    }
+
+    /// The bytes of the script of so many lines that is drawn from the seed (docs/FORMATS.md, "Generated scripts"). An
+    /// `Err` is want of memory.
+    pub fn generate(alloc: Global, seed: u64, lines: u32) -> Result<Bytes, AllocError>
+        requires few { lines ≤ MAX_GENERATED_LINES }
+        ensures { IfOk result (λ bytes. bytes ≡ generated_script seed lines) }
+    {
+        Ok(Bytes::of(script_of_seed(alloc, seed, lines)?))
     }
 
     /// The script of these lines.

@@ -1,0 +1,89 @@
+// Writes the lines of a generated script.
+ghost use Rattle.std.specs.Prelude.{◌≡◌, ◌++◌, ◌∷◌, [], ◌+◌, ◌<◌, ◌≤◌, ◌^◌, IfOk, OnOk};
+ghost use Rattle.hex.specs.Hex.{encode_lower};
+ghost use Rattle.osc_script.specs.Written.{act_line, with_operand};
+ghost use Rattle.osc_script.specs.Generated.{act_of_kind, draws_of, moment_after};
+ghost use Rattle.osc_script.specs.Draws.{after};
+
+use crate::drawing::{drawn_address, nested_of, to_all, to_one, two_of};
+use crate::draws::Draws;
+use crate::line_kind::LineKind;
+use std::alloc::{AllocError, Global};
+
+/// Adds a line of this kind, and gives the moment of the last tick behind it.
+pub(crate) fn put_drawn_line(
+    alloc: Global,
+    script: &mut Vec<u8>,
+    kind: LineKind,
+    moment: u64,
+    draws: &mut Draws,
+) -> Result<u64, AllocError>
+    requires { moment < 2 ^ 63 }
+    ensures line { OnOk result
+        (script.new.items
+        ≡ script.old.items ++ act_line (act_of_kind kind moment draws.old.number)) }
+    ensures draws { OnOk result (draws.new.number ≡ after (draws_of kind) draws.old.number) }
+    ensures moment { IfOk result (λ next. next ≡ moment_after kind moment draws.old.number) }
+    ensures within { IfOk result (λ next. next < moment + 1024) }
+{
+    match kind {
+        LineKind::Add => {
+            let address = drawn_address(alloc, draws)?;
+            put_line(script, b"add", address.as_bytes())?;
+        }
+        LineKind::Remove => {
+            let address = drawn_address(alloc, draws)?;
+            put_line(script, b"remove", address.as_bytes())?;
+        }
+        LineKind::Tick => {
+            let next = moment + draws.below(1_024);
+            put_digits(alloc, script, b"tick", &next.to_be_bytes())?;
+            return Ok(next);
+        }
+        LineKind::Pump => script.extend_from_slice(b"pump\n")?,
+        LineKind::One => {
+            let packet = to_one(alloc, draws)?;
+            put_digits(alloc, script, b"send", packet.as_slice())?;
+        }
+        LineKind::All => {
+            let packet = to_all(alloc, draws)?;
+            put_digits(alloc, script, b"send", packet.as_slice())?;
+        }
+        LineKind::Two => {
+            let packet = two_of(alloc, moment, draws)?;
+            put_digits(alloc, script, b"send", packet.as_slice())?;
+        }
+        LineKind::Nested => {
+            let packet = nested_of(alloc, moment, draws)?;
+            put_digits(alloc, script, b"send", packet.as_slice())?;
+        }
+    }
+    Ok(moment)
+}
+
+/// Adds a line of a word and its operand.
+pub(crate) fn put_line(script: &mut Vec<u8>, word: &[u8], operand: &[u8]) -> Result<(), AllocError>
+    ensures { OnOk result
+        (script.new.items
+        ≡ script.old.items ++ (with_operand word.now operand.now ++ 10 ∷ [])) }
+{
+    script.extend_from_slice(word)?;
+    script.extend_from_slice(b" ")?;
+    script.extend_from_slice(operand)?;
+    script.extend_from_slice(b"\n")
+}
+
+/// The same, the operand being the digits of these bytes.
+fn put_digits(
+    alloc: Global,
+    script: &mut Vec<u8>,
+    word: &[u8],
+    bytes: &[u8],
+) -> Result<(), AllocError>
+    ensures { OnOk result
+        (script.new.items
+        ≡ script.old.items ++ (with_operand word.now (encode_lower bytes.now) ++ 10 ∷ [])) }
+{
+    let digits = hex::encode(alloc, bytes)?;
+    put_line(script, word, digits.as_bytes())
+}
