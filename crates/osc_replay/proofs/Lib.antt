@@ -6,3 +6,5 @@ pub mod Entering
 pub mod Reached
 pub mod Agreeing
 pub mod Replayed
+pub mod Listed
+pub mod Tallies

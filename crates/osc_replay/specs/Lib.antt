@@ -7,3 +7,5 @@ pub mod Calls
 pub mod Disagreeing
 pub mod Playing
 pub mod Answers
+pub mod Counted
+pub mod Dumping

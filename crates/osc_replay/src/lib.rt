@@ -4,6 +4,8 @@
 
 mod agreement;
 mod calls;
+mod counts;
+mod dumping;
 mod event;
 mod fault;
 mod forming;
@@ -12,7 +14,10 @@ mod outcome;
 mod replaying;
 mod row;
 mod server;
+mod summing;
 mod units;
 
+pub use dumping::{DumpFault, dump};
 pub use fault::ReplayFault;
 pub use replaying::replay;
+pub use summing::summary;
