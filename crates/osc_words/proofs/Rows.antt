@@ -1,0 +1,113 @@
+-- What some lines of words say.
+use Rattle.std.proofs.Common.{◌≡◌, refl, [], ◌∷◌, Some, None, codes}
+use Rattle.clap.proofs.OnLiterals.{clap_on_literals}
+use Rattle.osc_words.specs.Commands.{command_of}
+use Rattle.osc_words.specs.Reading.{found_by}
+use Rattle.osc_words.specs.declared.command.Capacities.{Capacities}
+use Rattle.osc_words.specs.declared.command.Output.TheVariants as output
+use Rattle.osc_words.specs.declared.command.PlainCommand.TheVariants.{Run, Replay, Gen}
+use Rattle.osc_words.specs.declared.command.LiveCommand.TheVariants.{Lanes, Serve}
+use Rattle.osc_words.specs.declared.command.Command.TheVariants.{Plain, Live}
+
+abbrev defaults : Capacities
+defaults = record { units = 4096; blocks = 16384; methods = 1024; nodes = 4096; recording = 67108864 }
+
+run : command_of (codes "run" ∷ []) ≡ Some (Plain (Run output.Text defaults))
+unfolding clap_on_literals command_of found_by
+run = refl
+
+run_bytes : command_of (codes "run" ∷ codes "--nodes" ∷ codes "1" ∷ codes "--bytes" ∷ codes "--units=7" ∷ []) ≡ Some (Plain (Run output.Recording (record defaults { nodes = 1; units = 7 })))
+unfolding clap_on_literals command_of found_by
+run_bytes = refl
+
+no_unit : command_of (codes "run" ∷ codes "--units" ∷ codes "0" ∷ []) ≡ None
+unfolding clap_on_literals command_of found_by
+no_unit = refl
+
+leading_zero : command_of (codes "run" ∷ codes "--units" ∷ codes "01" ∷ []) ≡ None
+unfolding clap_on_literals command_of found_by
+leading_zero = refl
+
+plus : command_of (codes "run" ∷ codes "--units" ∷ codes "+1" ∷ []) ≡ None
+unfolding clap_on_literals command_of found_by
+plus = refl
+
+twice : command_of (codes "run" ∷ codes "--units" ∷ codes "1" ∷ codes "--units" ∷ codes "1" ∷ []) ≡ None
+unfolding clap_on_literals command_of found_by
+twice = refl
+
+help : command_of (codes "run" ∷ codes "--help" ∷ []) ≡ None
+unfolding clap_on_literals command_of found_by
+help = refl
+
+short_help : command_of (codes "dump" ∷ codes "-h" ∷ []) ≡ None
+unfolding clap_on_literals command_of found_by
+short_help = refl
+
+stray : command_of (codes "replay" ∷ codes "it" ∷ []) ≡ None
+unfolding clap_on_literals command_of found_by
+stray = refl
+
+trailing : command_of (codes "replay" ∷ codes "--" ∷ []) ≡ Some (Plain Replay)
+unfolding clap_on_literals command_of found_by
+trailing = refl
+
+gen : command_of (codes "gen" ∷ codes "--seed" ∷ codes "18446744073709551615" ∷ codes "--lines" ∷ codes "64" ∷ []) ≡ Some (Plain (Gen 18446744073709551615 64))
+unfolding clap_on_literals command_of found_by
+gen = refl
+
+seed_too_large : command_of (codes "gen" ∷ codes "--seed" ∷ codes "18446744073709551616" ∷ []) ≡ None
+unfolding clap_on_literals command_of found_by
+seed_too_large = refl
+
+lanes : command_of (codes "lanes" ∷ codes "--recording" ∷ codes "56" ∷ codes "out.rec" ∷ []) ≡ Some (Live (Lanes (record defaults { recording = 56 })))
+unfolding clap_on_literals command_of found_by
+lanes = refl
+
+file_first : command_of (codes "lanes" ∷ codes "out.rec" ∷ codes "--recording" ∷ codes "56" ∷ []) ≡ None
+unfolding clap_on_literals command_of found_by
+file_first = refl
+
+no_file : command_of (codes "lanes" ∷ codes "--recording" ∷ codes "56" ∷ []) ≡ None
+unfolding clap_on_literals command_of found_by
+no_file = refl
+
+two_files : command_of (codes "lanes" ∷ codes "a" ∷ codes "b" ∷ []) ≡ None
+unfolding clap_on_literals command_of found_by
+two_files = refl
+
+hyphen_file : command_of (codes "lanes" ∷ codes "--" ∷ codes "--units" ∷ []) ≡ Some (Live (Lanes defaults))
+unfolding clap_on_literals command_of found_by
+hyphen_file = refl
+
+serve : command_of (codes "serve" ∷ codes "--port" ∷ codes "65528" ∷ codes "--links" ∷ codes "8" ∷ codes "--count" ∷ codes "3" ∷ codes "out.rec" ∷ []) ≡ Some (Live (Serve 65528 8 3 1000000 defaults))
+unfolding clap_on_literals command_of found_by
+serve = refl
+
+no_last_port : command_of (codes "serve" ∷ codes "--port" ∷ codes "65529" ∷ codes "--links" ∷ codes "8" ∷ codes "out.rec" ∷ []) ≡ None
+unfolding clap_on_literals command_of found_by
+no_last_port = refl
+
+unknown : command_of (codes "walk" ∷ []) ≡ None
+unfolding clap_on_literals command_of found_by
+unknown = refl
+
+none : command_of [] ≡ None
+unfolding command_of
+none = refl
+
+no_number : command_of (codes "run" ∷ codes "--units=" ∷ []) ≡ None
+unfolding clap_on_literals command_of found_by
+no_number = refl
+
+negative : command_of (codes "gen" ∷ codes "--seed" ∷ codes "-1" ∷ []) ≡ None
+unfolding clap_on_literals command_of found_by
+negative = refl
+
+no_value : command_of (codes "lanes" ∷ codes "--units" ∷ codes "out.rec" ∷ []) ≡ None
+unfolding clap_on_literals command_of found_by
+no_value = refl
+
+same_number : command_of (codes "lanes" ∷ codes "5" ∷ codes "--units" ∷ codes "5" ∷ []) ≡ None
+unfolding clap_on_literals command_of found_by
+same_number = refl

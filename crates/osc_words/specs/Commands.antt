@@ -1,0 +1,109 @@
+-- What the words of the command line say.
+use Rattle.std.specs.Prelude.{ℕ, ◌+◌, Bool, false, nat_le, if◌then◌else◌, List, [], ◌∷◌, Option, Some, None, option_map, option_and_then, codes}
+use Rattle.std.specs.Option.{option_map_or}
+use Rattle.std.specs.Str.{bytes_eq}
+use Rattle.clap.specs.Words.{Row, first_of}
+use Rattle.osc_words.specs.Numbers.{number_within}
+use Rattle.osc_words.specs.Options.{flag_name, row_of}
+use Rattle.osc_words.specs.Reading.{found_by}
+use Rattle.osc_words.specs.Verbs as verbs
+use Rattle.osc_words.specs.declared.options.Flag.{Flag}
+use Rattle.osc_words.specs.declared.options.Flag.TheVariants.{Bytes}
+use Rattle.osc_words.specs.declared.options.Quantity.{Quantity}
+use Rattle.osc_words.specs.declared.options.Quantity.TheVariants.{Units, Blocks, Methods, Nodes, Recording, Seed, Lines, Port, Links, Count, Idle}
+use Rattle.osc_words.specs.declared.verb.Verb.{Verb}
+use Rattle.osc_words.specs.declared.verb.Verb.TheVariants as verb
+use Rattle.osc_words.specs.declared.command.Capacities.{Capacities}
+use Rattle.osc_words.specs.declared.command.Output.{Output}
+use Rattle.osc_words.specs.declared.command.Output.TheVariants as output
+use Rattle.osc_words.specs.declared.command.PlainCommand.{PlainCommand}
+use Rattle.osc_words.specs.declared.command.PlainCommand.TheVariants.{Run, Replay, Dump, Gen}
+use Rattle.osc_words.specs.declared.command.LiveCommand.{LiveCommand}
+use Rattle.osc_words.specs.declared.command.LiveCommand.TheVariants.{Lanes, Serve}
+use Rattle.osc_words.specs.declared.command.Command.{Command}
+use Rattle.osc_words.specs.declared.command.Command.TheVariants.{Plain, Live}
+
+-- whether a flag stands among the words
+abbrev pub is_given : Flag → List Row → Bool
+is_given flag rows =
+    option_map_or (λ text. bytes_eq text (codes "true")) (first_of (flag_name flag) rows) false
+
+-- a number of the words in its range, or the one that stands for it where it isn't given; none
+-- where the word is no number in its range
+abbrev pub number_of : Quantity → List Row → Option ℕ
+number_of quantity rows =
+    option_map_or (number_within (row_of quantity).least (row_of quantity).most)
+    (first_of (row_of quantity).name rows) (Some (row_of quantity).default)
+
+abbrev pub caps_from : Option ℕ → Option ℕ → Option ℕ → Option ℕ → Option ℕ → Option Capacities
+caps_from (Some units) (Some blocks) (Some methods) (Some nodes) (Some recording) =
+    Some (record {
+      units = units;
+      blocks = blocks;
+      methods = methods;
+      nodes = nodes;
+      recording = recording;
+    })
+caps_from _ _ _ _ _ = None
+
+abbrev pub caps_of : List Row → Option Capacities
+caps_of rows =
+    caps_from (number_of Units rows) (number_of Blocks rows) (number_of Methods rows)
+    (number_of Nodes rows) (number_of Recording rows)
+
+abbrev pub output_of : List Row → Output
+output_of rows = if is_given Bytes rows then output.Recording else output.Text
+
+abbrev pub gen_from : Option ℕ → Option ℕ → Option Command
+gen_from (Some seed) (Some lines) = Some (Plain (Gen seed lines))
+gen_from _ _ = None
+
+abbrev pub gen_of : List Row → Option Command
+gen_of rows = gen_from (number_of Seed rows) (number_of Lines rows)
+
+-- each link has a port of its own, from the first one on, and the last is a port too
+abbrev pub serve_from : Option ℕ → Option ℕ → Option ℕ → Option ℕ → Option Capacities
+    → Option Command
+serve_from (Some port) (Some links) (Some count) (Some idle) (Some caps) =
+    if nat_le (port + links) 65536 then Some (Live (Serve port links count idle caps)) else None
+serve_from _ _ _ _ _ = None
+
+abbrev pub serve_of : List Row → Option Command
+serve_of rows =
+    serve_from (number_of Port rows) (number_of Links rows) (number_of Count rows)
+    (number_of Idle rows) (caps_of rows)
+
+abbrev pub said_by : Verb → List Row → Option Command
+said_by verb.Run rows = option_map (λ caps. Plain (Run (output_of rows) caps)) (caps_of rows)
+said_by verb.Replay rows = Some (Plain Replay)
+said_by verb.Dump rows = Some (Plain Dump)
+said_by verb.Gen rows = gen_of rows
+said_by verb.Lanes rows = option_map (λ caps. Live (Lanes caps)) (caps_of rows)
+said_by verb.Serve rows = serve_of rows
+
+-- the first word chooses the command
+abbrev pub first_verb : List (List ℕ) → Option Verb
+first_verb [] = None
+first_verb (word ∷ words) = verbs.verb_of word
+
+-- the command that the words say; none where they are refused
+unfoldable pub command_of : List (List ℕ) → Option Command
+command_of words =
+    option_and_then (λ verb. option_and_then (said_by verb) (found_by verb words))
+    (first_verb words)
+
+abbrev pub plain_in : Command → Option PlainCommand
+plain_in (Plain command) = Some command
+plain_in (Live command) = None
+
+abbrev pub live_in : Command → Option LiveCommand
+live_in (Plain command) = None
+live_in (Live command) = Some command
+
+-- the command of `osc` that the words say
+abbrev pub plain_command_of : List (List ℕ) → Option PlainCommand
+plain_command_of words = option_and_then plain_in (command_of words)
+
+-- the command of `oscd` that the words say
+abbrev pub live_command_of : List (List ℕ) → Option LiveCommand
+live_command_of words = option_and_then live_in (command_of words)

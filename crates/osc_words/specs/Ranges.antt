@@ -1,0 +1,52 @@
+-- The numbers of a command lie in the ranges of their options.
+use Rattle.std.specs.Prelude.{ℕ, ◌+◌, ◌≤◌}
+use Rattle.osc_words.specs.Options.{IsInRange, row_of}
+use Rattle.osc_words.specs.declared.options.Quantity.TheVariants.{Units, Blocks, Methods, Nodes, Recording, Lines, Port, Links, Count, Idle}
+use Rattle.osc_words.specs.declared.command.Capacities.{Capacities}
+use Rattle.osc_words.specs.declared.command.PlainCommand.{PlainCommand}
+use Rattle.osc_words.specs.declared.command.PlainCommand.TheVariants.{Run, Replay, Dump, Gen}
+use Rattle.osc_words.specs.declared.command.LiveCommand.{LiveCommand}
+use Rattle.osc_words.specs.declared.command.LiveCommand.TheVariants.{Lanes, Serve}
+use Rattle.osc_words.specs.declared.command.Command.{Command}
+use Rattle.osc_words.specs.declared.command.Command.TheVariants.{Plain, Live}
+
+pub record AreInRange (caps : Capacities) : Type 0 where
+  pub units : IsInRange Units caps.units
+  pub blocks : IsInRange Blocks caps.blocks
+  pub methods : IsInRange Methods caps.methods
+  pub nodes : IsInRange Nodes caps.nodes
+  pub recording : IsInRange Recording caps.recording
+
+-- what a `serve` has: each link has a port
+pub record IsServable (port links count idle : ℕ) (caps : Capacities) : Type 0 where
+  pub first_port : IsInRange Port port
+  pub link_count : IsInRange Links links
+  pub last_port : port + links ≤ 65536
+  pub datagrams : IsInRange Count count
+  pub quiets : IsInRange Idle idle
+  pub capacities : AreInRange caps
+
+abbrev pub IsLawfulPlain : PlainCommand → Type 0
+IsLawfulPlain (Run output caps) = AreInRange caps
+IsLawfulPlain Replay = Unit {0}
+IsLawfulPlain Dump = Unit {0}
+IsLawfulPlain (Gen seed lines) = IsInRange Lines lines
+
+abbrev pub IsLawfulLive : LiveCommand → Type 0
+IsLawfulLive (Lanes caps) = AreInRange caps
+IsLawfulLive (Serve port links count idle caps) = IsServable port links count idle caps
+
+abbrev pub IsLawful : Command → Type 0
+IsLawful (Plain command) = IsLawfulPlain command
+IsLawful (Live command) = IsLawfulLive command
+
+-- the capacities where no option is given
+abbrev pub default_capacities : Capacities
+default_capacities =
+    record {
+      units = (row_of Units).default;
+      blocks = (row_of Blocks).default;
+      methods = (row_of Methods).default;
+      nodes = (row_of Nodes).default;
+      recording = (row_of Recording).default;
+    }

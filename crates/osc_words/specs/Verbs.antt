@@ -1,0 +1,32 @@
+-- The first word, and what each command has behind it.
+use Rattle.std.specs.Prelude.{ℕ, if◌then◌else◌, List, [], ◌∷◌, ◌++◌, map, Option, Some, None, codes}
+use Rattle.std.specs.Str.{bytes_eq}
+use Rattle.osc_words.specs.declared.options.Flag.TheVariants.{Bytes}
+use Rattle.osc_words.specs.declared.options.Quantity.TheVariants.{Units, Blocks, Methods, Nodes, Recording, Seed, Lines, Port, Links, Count, Idle}
+use Rattle.osc_words.specs.declared.options.Parameter.{Parameter}
+use Rattle.osc_words.specs.declared.options.Parameter.TheVariants.{Flag, Number, File}
+use Rattle.osc_words.specs.declared.verb.Verb.{Verb}
+use Rattle.osc_words.specs.declared.verb.Verb.TheVariants.{Run, Replay, Dump, Gen, Lanes, Serve}
+
+abbrev pub verb_of : List ℕ → Option Verb
+verb_of word =
+    if bytes_eq word (codes "run") then Some Run
+    else if bytes_eq word (codes "replay") then Some Replay
+    else if bytes_eq word (codes "dump") then Some Dump
+    else if bytes_eq word (codes "gen") then Some Gen
+    else if bytes_eq word (codes "lanes") then Some Lanes
+    else if bytes_eq word (codes "serve") then Some Serve
+    else None
+
+-- the limits of a server
+abbrev pub caps : List Parameter
+caps = map Number (Units ∷ Blocks ∷ Methods ∷ Nodes ∷ Recording ∷ [])
+
+-- what may stand behind the first word
+abbrev pub options_of : Verb → List Parameter
+options_of Run = Flag Bytes ∷ caps
+options_of Replay = []
+options_of Dump = []
+options_of Gen = Number Seed ∷ Number Lines ∷ []
+options_of Lanes = caps ++ File ∷ []
+options_of Serve = map Number (Port ∷ Links ∷ Count ∷ Idle ∷ []) ++ caps ++ File ∷ []

@@ -1,0 +1,59 @@
+// The commands of the programs.
+
+/// How much a server holds, as far as words set it: queued units, blocks of 64 bytes for their messages, methods, nodes of
+/// the methods' addresses, and bytes of recording.
+#[derive(Clone, Copy, Debug, PartialEq, Eq)]
+pub struct Capacities {
+    pub units: u32,
+    pub blocks: u32,
+    pub methods: u32,
+    pub nodes: u32,
+    pub recording: u32,
+}
+
+/// What a run writes.
+#[derive(Clone, Copy, Debug, PartialEq, Eq)]
+pub enum Output {
+    /// The printed history, the lines of the faults, and where it was stopped the line on that.
+    Text,
+    /// The recording alone.
+    Recording,
+}
+
+/// A command of `osc`.
+#[derive(Clone, Copy, Debug, PartialEq, Eq)]
+pub enum PlainCommand {
+    /// To play a script.
+    Run { output: Output, caps: Capacities },
+    /// To print the history of a recording, computed again.
+    Replay,
+    /// To print the entries of a recording as they stand there.
+    Dump,
+    /// To make a script of so many lines from a seed, and to play it.
+    Gen { seed: u64, lines: u32 },
+}
+
+/// A command of `oscd`.
+#[derive(Clone, Copy, Debug, PartialEq, Eq)]
+pub enum LiveCommand {
+    /// To play the lanes of a script.
+    Lanes {
+        caps: Capacities,
+    },
+    /// To serve so many links, whose ports ascend by one from the first, each up to `count` datagrams or `idle` quiets in a
+    /// row.
+    Serve {
+        port: u16,
+        links: u32,
+        count: u32,
+        idle: u32,
+        caps: Capacities,
+    },
+}
+
+/// A command of one of the programs.
+#[derive(Clone, Copy, Debug, PartialEq, Eq)]
+pub enum Command {
+    Plain(PlainCommand),
+    Live(LiveCommand),
+}

@@ -1,0 +1,13 @@
+//! The words of a command line, and the command that they say.
+#![tactic(auto)]
+
+mod command;
+pub mod laws;
+mod number;
+mod options;
+mod reading;
+mod said;
+mod verb;
+
+pub use command::{Capacities, Command, LiveCommand, Output, PlainCommand};
+pub use said::{command_of, live_command_of, plain_command_of};

@@ -1,0 +1,167 @@
+// What the words of a command line say.
+ghost use Rattle.std.specs.Prelude.{◌≡◌, IfOk, IfSome, map, option_map, string_bytes};
+ghost use Rattle.clap.specs.Words.{first_of, found_of, rows_of};
+ghost use Rattle.osc_words.specs.Options.{IsInRange};
+ghost use Rattle.osc_words.specs.Commands as commands;
+ghost use Rattle.osc_words.specs.Commands.{caps_of, gen_of, is_given, number_of, said_by, serve_of};
+ghost use Rattle.osc_words.specs.Ranges.{AreInRange, IsLawful, IsLawfulPlain, IsLawfulLive};
+
+use crate::command::{Capacities, Command, LiveCommand, Output, PlainCommand};
+use crate::number::number_within;
+use crate::options::{Flag, Quantity};
+use crate::reading::read;
+use crate::verb::Verb;
+use clap::ArgMatches;
+use std::alloc::{AllocError, Global};
+
+/// The command that the words say, the program's name left out; none where they are refused. An `Err` is want of memory.
+/// The commands, their options, the ranges and the defaults are those of docs/FORMATS.md, "Programs".
+#[tactic(auto, unfolding(crate::specs::Commands::command_of))]
+pub fn command_of(alloc: Global, words: &[String]) -> Result<Option<Command>, AllocError>
+    ensures said { IfOk result
+        (λ command. command ≡ commands.command_of (map string_bytes words.now)) }
+    ensures lawful { IfOk result (λ command. IfSome command IsLawful) }
+{
+    let Some(verb) = verb_of(words) else {
+        return Ok(None);
+    };
+    match read(alloc, verb, words)? {
+        Some(found) => Ok(command_from(verb, &found)),
+        None => Ok(None),
+    }
+}
+
+/// The command of `osc` that the words say; none where they are refused, or say a command of another program. An `Err` is
+/// want of memory.
+pub fn plain_command_of(alloc: Global, words: &[String]) -> Result<Option<PlainCommand>, AllocError>
+    ensures said { IfOk result
+        (λ command. command ≡ commands.plain_command_of (map string_bytes words.now)) }
+    ensures lawful { IfOk result (λ command. IfSome command IsLawfulPlain) }
+{
+    match command_of(alloc, words)? {
+        Some(Command::Plain(command)) => Ok(Some(command)),
+        _ => Ok(None),
+    }
+}
+
+/// The command of `oscd` that the words say; none where they are refused, or say a command of another program. An `Err` is
+/// want of memory.
+pub fn live_command_of(alloc: Global, words: &[String]) -> Result<Option<LiveCommand>, AllocError>
+    ensures said { IfOk result
+        (λ command. command ≡ commands.live_command_of (map string_bytes words.now)) }
+    ensures lawful { IfOk result (λ command. IfSome command IsLawfulLive) }
+{
+    match command_of(alloc, words)? {
+        Some(Command::Live(command)) => Ok(Some(command)),
+        _ => Ok(None),
+    }
+}
+
+fn verb_of(words: &[String]) -> Option<Verb>
+    ensures { result ≡ commands.first_verb (map string_bytes words.now) }
+{
+    match words {
+        [] => None,
+        [word, ..] => Verb::read(word.as_str()),
+    }
+}
+
+fn command_from(verb: Verb, found: &ArgMatches<'_>) -> Option<Command>
+    ensures said { result ≡ said_by verb (rows_of (found_of found.now)) }
+    ensures lawful { IfSome result IsLawful }
+{
+    match verb {
+        Verb::Run => Some(Command::Plain(PlainCommand::Run {
+            output: output_in(found),
+            caps: caps_in(found)?,
+        })),
+        Verb::Replay => Some(Command::Plain(PlainCommand::Replay)),
+        Verb::Dump => Some(Command::Plain(PlainCommand::Dump)),
+        Verb::Gen => gen_in(found),
+        Verb::Lanes => Some(Command::Live(LiveCommand::Lanes {
+            caps: caps_in(found)?,
+        })),
+        Verb::Serve => serve_in(found),
+    }
+}
+
+fn output_in(found: &ArgMatches<'_>) -> Output
+    ensures { result ≡ commands.output_of (rows_of (found_of found.now)) }
+{
+    if flag(found, Flag::Bytes) {
+        Output::Recording
+    } else {
+        Output::Text
+    }
+}
+
+fn caps_in(found: &ArgMatches<'_>) -> Option<Capacities>
+    ensures said { result ≡ caps_of (rows_of (found_of found.now)) }
+    ensures range { IfSome result AreInRange }
+{
+    Some(Capacities {
+        units: number(found, Quantity::Units)? as u32,
+        blocks: number(found, Quantity::Blocks)? as u32,
+        methods: number(found, Quantity::Methods)? as u32,
+        nodes: number(found, Quantity::Nodes)? as u32,
+        recording: number(found, Quantity::Recording)? as u32,
+    })
+}
+
+fn gen_in(found: &ArgMatches<'_>) -> Option<Command>
+    ensures said { result ≡ gen_of (rows_of (found_of found.now)) }
+    ensures lawful { IfSome result IsLawful }
+{
+    Some(Command::Plain(PlainCommand::Gen {
+        seed: number(found, Quantity::Seed)?,
+        lines: number(found, Quantity::Lines)? as u32,
+    }))
+}
+
+fn serve_in(found: &ArgMatches<'_>) -> Option<Command>
+    ensures said { result ≡ serve_of (rows_of (found_of found.now)) }
+    ensures lawful { IfSome result IsLawful }
+{
+    let port = number(found, Quantity::Port)?;
+    let links = number(found, Quantity::Links)?;
+    let count = number(found, Quantity::Count)?;
+    let idle = number(found, Quantity::Idle)?;
+    let caps = caps_in(found)?;
+    if port + links > 65_536 {
+        return None;
+    }
+    Some(Command::Live(LiveCommand::Serve {
+        port: port as u16,
+        links: links as u32,
+        count: count as u32,
+        idle: idle as u32,
+        caps,
+    }))
+}
+
+fn flag(found: &ArgMatches<'_>, flag: Flag) -> bool
+    ensures { result ≡ is_given flag (rows_of (found_of found.now)) }
+{
+    match text_in(found, flag.name()) {
+        Some(text) => text == "true",
+        None => false,
+    }
+}
+
+fn number(found: &ArgMatches<'_>, quantity: Quantity) -> Option<u64>
+    ensures value { result ≡ number_of quantity (rows_of (found_of found.now)) }
+    ensures range { IfSome result (IsInRange quantity) }
+{
+    let row = quantity.row();
+    match text_in(found, row.name) {
+        Some(text) => number_within(row.least, row.most, text),
+        None => Some(row.default),
+    }
+}
+
+fn text_in<'a>(found: &ArgMatches<'a>, name: &str) -> Option<&'a str>
+    ensures { option_map (λ text. text.now) result
+        ≡ first_of name.now (rows_of (found_of found.now)) }
+{
+    found.get_str(name)
+}

@@ -1,0 +1,82 @@
+// The first word, and what each command has behind it.
+ghost use Rattle.std.specs.Prelude.{◌≡◌};
+ghost use Rattle.osc_words.specs.Verbs;
+
+use crate::options::{Flag, Parameter, Quantity};
+
+/// What a command does.
+#[derive(Clone, Copy, Debug, PartialEq, Eq)]
+pub enum Verb {
+    Run,
+    Replay,
+    Dump,
+    Gen,
+    Lanes,
+    Serve,
+}
+
+static RUN: [Parameter; 6] = [
+    Parameter::Flag(Flag::Bytes),
+    Parameter::Number(Quantity::Units),
+    Parameter::Number(Quantity::Blocks),
+    Parameter::Number(Quantity::Methods),
+    Parameter::Number(Quantity::Nodes),
+    Parameter::Number(Quantity::Recording),
+];
+
+static GEN: [Parameter; 2] = [
+    Parameter::Number(Quantity::Seed),
+    Parameter::Number(Quantity::Lines),
+];
+
+static LANES: [Parameter; 6] = [
+    Parameter::Number(Quantity::Units),
+    Parameter::Number(Quantity::Blocks),
+    Parameter::Number(Quantity::Methods),
+    Parameter::Number(Quantity::Nodes),
+    Parameter::Number(Quantity::Recording),
+    Parameter::File,
+];
+
+static SERVE: [Parameter; 10] = [
+    Parameter::Number(Quantity::Port),
+    Parameter::Number(Quantity::Links),
+    Parameter::Number(Quantity::Count),
+    Parameter::Number(Quantity::Idle),
+    Parameter::Number(Quantity::Units),
+    Parameter::Number(Quantity::Blocks),
+    Parameter::Number(Quantity::Methods),
+    Parameter::Number(Quantity::Nodes),
+    Parameter::Number(Quantity::Recording),
+    Parameter::File,
+];
+
+impl Verb {
+    /// What the word says.
+    pub(crate) fn read(word: &str) -> Option<Verb>
+        ensures { result ≡ Verbs.verb_of word.now }
+    {
+        match word {
+            "run" => Some(Verb::Run),
+            "replay" => Some(Verb::Replay),
+            "dump" => Some(Verb::Dump),
+            "gen" => Some(Verb::Gen),
+            "lanes" => Some(Verb::Lanes),
+            "serve" => Some(Verb::Serve),
+            _ => None,
+        }
+    }
+
+    /// What may stand behind it.
+    pub(crate) fn options(self) -> &'static [Parameter]
+        ensures { result.now ≡ Verbs.options_of self }
+    {
+        match self {
+            Verb::Run => RUN.as_slice(),
+            Verb::Gen => GEN.as_slice(),
+            Verb::Lanes => LANES.as_slice(),
+            Verb::Serve => SERVE.as_slice(),
+            Verb::Replay | Verb::Dump => &[],
+        }
+    }
+}
