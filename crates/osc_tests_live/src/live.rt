@@ -3,7 +3,7 @@ use crate::hold::Hold;
 use osc_edge::{MemorySink, MemorySource, SteadySink, SteadySource};
 use osc_lanes::{Gate, OpenGate};
 use osc_method::{Method, Trace};
-use osc_top::{live_top, plain_top, recording_name};
+use osc_top::{live_top, plain_top, ports, recording_name};
 use std::alloc::{AllocError, Global};
 use std::process::Abort;
 use std::sync::Wait;
@@ -170,6 +170,25 @@ fn each_status_has_its_last_line(rt: HostRuntime) -> Result<(), Fail> {
         ("", TWO_LANES, SETTING, 2, "usage\n", 0),
         ("lanes", TWO_LANES, SETTING, 2, "usage\n", 0),
         ("lanes f g", TWO_LANES, SETTING, 2, "usage\n", 0),
+        ("lanes f --units 1", TWO_LANES, SETTING, 2, "usage\n", 0),
+        (
+            "lanes --recording 55 f",
+            TWO_LANES,
+            SETTING,
+            2,
+            "usage\n",
+            0,
+        ),
+        ("lanes --help f", TWO_LANES, SETTING, 2, "usage\n", 0),
+        ("run", TWO_LANES, SETTING, 2, "usage\n", 0),
+        (
+            "lanes --recording 100 f",
+            TWO_LANES,
+            SETTING,
+            6,
+            "enrol 0 1\nrecording-full 28 16\n",
+            84,
+        ),
         ("serve f", TWO_LANES, SETTING, 2, "usage\n", 0),
         ("lanes f", "add /a\n", SETTING, 1, "script 1 7\n", 0),
         ("lanes f", TWO_LANES, source, 4, "", 0),
@@ -209,6 +228,30 @@ fn the_last_word_names_the_recording(rt: HostRuntime) -> Result<(), Fail> {
     for (line, name) in rows {
         let words = words(rt.alloc(), line)?;
         assert_eq!(rt; recording_name(&words), name, "{line}");
+    }
+    Ok(())
+}
+
+#[test]
+fn each_link_has_a_port(rt: HostRuntime) -> Result<(), Fail> {
+    let alloc = rt.alloc();
+    let rows: [(&str, &[u16]); 6] = [
+        (
+            "serve --port 9000 --links 1 --count 2 --idle 3 f",
+            &[9000],
+        ),
+        ("serve f", &[9000]),
+        ("serve --links=3 --units 1 f", &[9000, 9001, 9002]),
+        (
+            "serve --port 65528 --links 8 f",
+            &[65528, 65529, 65530, 65531, 65532, 65533, 65534, 65535],
+        ),
+        ("serve --port 65529 --links 8 f", &[]),
+        ("lanes f", &[]),
+    ];
+    for (line, expected) in rows {
+        let words = words(alloc, line)?;
+        assert_eq!(rt; ports(alloc, &words)?.as_slice(), expected, "{line}");
     }
     Ok(())
 }

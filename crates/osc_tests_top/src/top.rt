@@ -441,9 +441,116 @@ fn a_sink_that_fails_half_way_holds_a_front(rt: HostRuntime) -> Result<(), Fail>
 
 #[test]
 fn other_words_are_refused(rt: HostRuntime) -> Result<(), Fail> {
-    for line in ["", "play", "run x", "--bytes", "run --bytes x", "replay x"] {
+    for line in [
+        "",
+        "play",
+        "run x",
+        "--bytes",
+        "run --bytes x",
+        "replay x",
+        "--help",
+        "run --help",
+        "run -h",
+        "run --units 0",
+        "run --units 01",
+        "run --units +1",
+        "run --units",
+        "run --units 1048577",
+        "run --units 7 --units 7",
+        "run --callers 2",
+        "lanes f",
+    ] {
         let script = FIRST_LIGHT.as_bytes();
         writes(&rt, rt.alloc(), line, script, SETTING, (2, b"usage\n"))?;
+    }
+    Ok(())
+}
+
+/// Words with limits, a script, the status, and what is written.
+const LIMITED: [(&str, &str, u8, &str); 9] = [
+    (
+        "run --blocks 1",
+        "send 2f610000 2c690000 00000001\nsend 2f610000 2c690000 00000001\npump\nsend 2f610000 2c690000 00000001\n",
+        0,
+        "submit 0 queued 0 1\nsubmit 0 pool-full 1 0\nrelease 0 0 0\nsubmit 0 queued 1 1\n",
+    ),
+    (
+        "run --units 1",
+        "send 2f610000\nsend 2f610000\n",
+        0,
+        "submit 0 queued 0 1\nsubmit 0 units-full 1 0\n",
+    ),
+    (
+        "run --methods=1",
+        "add /a\nadd /b\n",
+        0,
+        "add 0 /a id 0\nadd 0 /b methods-full 1\n",
+    ),
+    (
+        "run --nodes 2",
+        "add /a/b\nadd /a/c\n",
+        0,
+        "add 0 /a/b id 0\nadd 0 /a/c nodes-full 1 0\n",
+    ),
+    (
+        "run --recording 203",
+        "add /a\nsend 2f610000\npump\n",
+        6,
+        "add 0 /a id 0\nsubmit 0 queued 0 1\nrecording-full 52 51\n",
+    ),
+    (
+        "run --recording 204",
+        "add /a\nsend 2f610000\npump\n",
+        0,
+        "add 0 /a id 0\nsubmit 0 queued 0 1\nrelease 0 0 1\ncall 0 0 0 /a -\n",
+    ),
+    (
+        "run --recording 56 --units 1048576",
+        "add /a\n",
+        6,
+        "recording-full 44 0\n",
+    ),
+    (
+        "run --units 1 --methods 65536 --nodes 1048576 --blocks 1048576 --recording 1073741824",
+        "",
+        0,
+        "",
+    ),
+    ("run --recording 56", "", 0, ""),
+];
+
+#[test]
+fn words_set_the_limits(rt: HostRuntime) -> Result<(), Fail> {
+    for (line, script, status, printed) in LIMITED {
+        let expected = (status, printed.as_bytes());
+        writes(&rt, rt.alloc(), line, script.as_bytes(), SETTING, expected)?;
+    }
+    Ok(())
+}
+
+/// Messages to `/a` with one blob of so many bytes, in a server of so many blocks of 64 bytes.
+#[test]
+fn a_message_takes_as_many_blocks_as_it_fills(rt: HostRuntime) -> Result<(), Fail> {
+    let alloc = rt.alloc();
+    for (blocks, blob, printed) in [
+        (1, 48usize, "submit 0 queued 0 1\n"),
+        (1, 52, "submit 0 pool-full 2 1\n"),
+        (1024, 65_492, "submit 0 queued 0 1\n"),
+        (1023, 65_492, "submit 0 pool-full 1024 1023\n"),
+        (1024, 65_496, "fault 1 3 65504\n"),
+    ] {
+        let line = format!(in alloc; "run --blocks {blocks}")?;
+        let zeros = "00".repeat(alloc, blob)?;
+        let script = format!(in alloc; "send 2f610000 2c620000 {blob:08x} {zeros}\n")?;
+        let expected = (0, printed.as_bytes());
+        writes(
+            &rt,
+            alloc,
+            line.as_str(),
+            script.as_bytes(),
+            SETTING,
+            expected,
+        )?;
     }
     Ok(())
 }

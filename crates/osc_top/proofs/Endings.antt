@@ -5,6 +5,7 @@ use Rattle.std.specs.List.Sorted.{IsPermutation, IsNonDecreasingBy}
 use Rattle.std.proofs.lemmas.Bool.Decides.{nat_tests}
 use Rattle.std.proofs.lemmas.List.{map-append}
 use Rattle.std.proofs.lemmas.List.Sorted.{IsPermutation-map, IsPermutation-sym, IsPermutation-trans, Contains-permutation, sum_by-IsPermutation}
+use Rattle.osc_model.specs.Limits.{Limits}
 use Rattle.osc_model.specs.Events.{Answer}
 use Rattle.osc_model.specs.Heard.{Told}
 use Rattle.osc_model.specs.History.{Performance, Legal, invoked_in}
@@ -12,7 +13,7 @@ use Rattle.osc_core.specs.Ids.{is_ascending}
 use Rattle.osc_core.specs.Telling.{told}
 use Rattle.osc_script.specs.declared.line.Line.{Line}
 use Rattle.osc_top.specs.Bank.{Meaning, IsAccounted, add_answers, box_left, boxes_left, boxes_heard}
-use Rattle.osc_top.specs.Plain.{default_caps, plain, count_adds}
+use Rattle.osc_top.specs.Plain.{plain, count_adds}
 use Rattle.osc_top.specs.Tally.{IsOver, IsRising, refused_boxes}
 use Rattle.osc_top.specs.Tallied.{AreParted}
 use Rattle.osc_top.proofs.Rising.{times, ascending_told, same_rising}
@@ -83,10 +84,10 @@ module _ {M : Type 0} (keep : M → ℕ) (heard : M → Option (List ℕ)) where
       }
 
   -- so each box of the bank is accounted for
-  pub accounted : (lines : List Line) (performance : Performance) (bank : List M) (added : List (ℕ × M)) (left : List M)
-      → performance ≡ record { caps = default_caps; history = (plain default_caps lines).history } → count_adds lines ≤ length bank
+  pub accounted : (caps : Limits) (lines : List Line) (performance : Performance) (bank : List M) (added : List (ℕ × M)) (left : List M)
+      → performance ≡ record { caps = caps; history = (plain caps lines).history } → count_adds lines ≤ length bank
       → Legal performance.caps performance.history → AreParted keep heard performance bank added left
-      → IsAccounted lines (told keep heard added) left (map meaning bank) bank
-  accounted lines performance bank added left is enough legal parted =
+      → IsAccounted caps lines (told keep heard added) left (map meaning bank) bank
+  accounted caps lines performance bank added left is enough legal parted =
       let there = subst (λ (p : Performance). Legal p.caps p.history × AreParted keep heard p bank added left) is (legal, parted) in
       record { enough = enough; legal = there.0; boxes = there.1.boxes; others = there.1.others }

@@ -9,6 +9,7 @@ mod Pumps
 mod Runs
 mod Transfers
 mod Tops
+mod Said
 mod Enough
 mod Dealt
 mod Staged

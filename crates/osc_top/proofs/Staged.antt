@@ -14,12 +14,13 @@ use Rattle.osc_lanes.specs.Performs.{Performs, added_ids, removed_ids}
 use Rattle.osc_lanes.specs.Shares.{Account, IsRemovedAt, known_of}
 use Rattle.osc_live.specs.Seen.{performance_in}
 use Rattle.osc_model.specs.Events.{Room}
+use Rattle.osc_model.specs.Limits.{Limits}
 use Rattle.osc_model.specs.Heard.{Told}
 use Rattle.osc_model.specs.History.{HasHeard, invoked_in}
 use Rattle.osc_replay.specs.Printed.{printed}
 use Rattle.osc_script.specs.declared.line.Line.{Line}
 use Rattle.osc_top.specs.Lanes.{parts_of, first_stop, lane_faults}
-use Rattle.osc_top.specs.Plain.{live_caps, count_adds}
+use Rattle.osc_top.specs.Plain.{count_adds}
 use Rattle.osc_top.specs.Printing.{stop_text}
 use Rattle.osc_top.specs.Staged.{IsStaged}
 use Rattle.osc_top.specs.Tally.{IsRising}
@@ -109,8 +110,8 @@ module _ {M : Type 0} where
     both_each P Q (x ∷ xs) p q = ((p.0, q.0), both_each P Q xs p.1 q.1)
 
     -- the lanes of lines, put together
-    module _ (lines : List Line) (bank : List M) (recording : List ℕ) (kept : List (ℕ × M)) (accounts : List (Account M)) (unenrolled : Option Room)
-        (added : List (ℕ × M)) (performs : Performs keep heard live_caps (parts_of lines bank) recording kept accounts unenrolled)
+    module _ (caps : Limits) (lines : List Line) (bank : List M) (recording : List ℕ) (kept : List (ℕ × M)) (accounts : List (Account M)) (unenrolled : Option Room)
+        (added : List (ℕ × M)) (performs : Performs keep heard caps (parts_of lines bank) recording kept accounts unenrolled)
         (moved : IsPermutation (kept ++ all_removed accounts) added) (ordered : IsNonDecreasingBy (λ one. one.0) added) where
       ids_are : map (λ one. one.0) added ≡ added_ids (history_in (texts performs.history))
       ids_are =
@@ -126,24 +127,24 @@ module _ {M : Type 0} where
       pub ascending_ids : is_ascending (map (λ one. one.0) added) ≡ true
       ascending_ids = subst (λ (l : List ℕ). is_ascending l ≡ true) (sym ids_are) performs.ascending
 
-      kept_are : AllByRecursion (IsRemovedAt keep heard live_caps performs.history) kept
+      kept_are : AllByRecursion (IsRemovedAt keep heard caps performs.history) kept
       kept_are =
-          let heard_so = λ (box : Told). HasHeard (invoked_in (performance_in live_caps (texts performs.history))) box in
+          let heard_so = λ (box : Told). HasHeard (invoked_in (performance_in caps (texts performs.history))) box in
           let marked_so = λ (box : Told). CarriesMark (texts performs.history) box.id (mark_of box) in
           both_each (λ one. marked_so (known_of keep heard one.0 one.1)) (λ one. heard_so (known_of keep heard one.0 one.1)) kept
           (told_each marked_so kept performs.kept_marked) (told_each heard_so kept performs.kept_heard.heard)
 
-      added_are : AllByRecursion (IsRemovedAt keep heard live_caps performs.history) added
+      added_are : AllByRecursion (IsRemovedAt keep heard caps performs.history) added
       added_are =
-          let is = IsRemovedAt keep heard live_caps performs.history in
+          let is = IsRemovedAt keep heard caps performs.history in
           each_moved is (kept ++ all_removed accounts) added moved
           (all_append is kept (all_removed accounts) kept_are (each_removed is accounts performs.removed))
 
       pub staged : (left rest : List M) (said : List ℕ) (stop : Option Room) → left ≡ flat_map (λ account. account.back) accounts ++ rest
           → rest ≡ drop (count_adds lines) bank → said ≡ lane_faults accounts → stop ≡ option_or unenrolled (first_stop accounts)
-          → IsStaged keep heard lines bank added left recording said stop
+          → IsStaged keep heard caps lines bank added left recording said stop
       staged left rest said stop left_so rest_so said_so stop_so =
-          let heard_so = λ (box : Told). HasHeard (invoked_in (performance_in live_caps (texts performs.history))) box in
+          let heard_so = λ (box : Told). HasHeard (invoked_in (performance_in caps (texts performs.history))) box in
           let marked_so = λ (box : Told). CarriesMark (texts performs.history) box.id (mark_of box) in
           record {
             history = history_in (texts performs.history);
@@ -155,15 +156,15 @@ module _ {M : Type 0} where
               performs = performs;
               ids = ids_are;
               have_heard =
-                  all_weaker (IsRemovedAt keep heard live_caps performs.history) (λ one. heard_so (known_of keep heard one.0 one.1)) added
+                  all_weaker (IsRemovedAt keep heard caps performs.history) (λ one. heard_so (known_of keep heard one.0 one.1)) added
                   (λ one is. is.1) added_are;
               marked =
                   each_told marked_so added
-                  (all_weaker (IsRemovedAt keep heard live_caps performs.history) (λ one. marked_so (known_of keep heard one.0 one.1)) added
+                  (all_weaker (IsRemovedAt keep heard caps performs.history) (λ one. marked_so (known_of keep heard one.0 one.1)) added
                   (λ one is. is.0) added_are);
               left_is = left_so ∙ ap (λ (l : List M). flat_map (λ account. account.back) accounts ++ l) rest_so;
               stop_is = stop_so;
               text_is =
-                  ap (λ (l : List ℕ). printed live_caps (history_in (texts performs.history)) ++ (l ++ stop_text stop)) said_so;
+                  ap (λ (l : List ℕ). printed caps (history_in (texts performs.history)) ++ (l ++ stop_text stop)) said_so;
             };
           }

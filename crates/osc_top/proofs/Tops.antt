@@ -4,8 +4,11 @@ use Rattle.osc_script.specs.declared.line.Line.{Line}
 use Rattle.osc_script.specs.declared.fault.ScriptFault.{ScriptFault}
 use Rattle.osc_script.specs.declared.mode.Mode.TheVariants.{Plain}
 use Rattle.osc_script.specs.Scripts.{script_of}
-use Rattle.osc_top.specs.declared.command.Output.{Output}
-use Rattle.osc_top.specs.Plain.{default_caps, plain, count_adds}
+use Rattle.osc_model.specs.Limits.{Limits}
+use Rattle.osc_words.specs.declared.command.Output.{Output}
+use Rattle.osc_model.specs.Heard.{Told}
+use Rattle.osc_top.specs.Bank.{Meaning, IsAccounted}
+use Rattle.osc_top.specs.Plain.{plain, count_adds}
 use Rattle.osc_top.specs.Printing.{bank_short_text}
 use Rattle.osc_top.specs.Ends.{Gains, GainsFront, GainsUnless, IsLegalRun, IsUnstopped, run_output, EndsLines, EndsRun, EndsLine}
 
@@ -13,15 +16,22 @@ pub line_text : (decided status : ℕ) (text text' : List ℕ) (held after : Opt
     → EndsLine decided status text held after faults now → EndsLine decided status text' held after faults now
 line_text decided status text text' held after faults now same ends = subst (λ (t : List ℕ). EndsLine decided status t held after faults now) same ends
 
+-- the same limits, otherwise named
+pub accounted_so : {X : Type 0} (script : List ℕ) (heard : List Told) (left : List X) (meanings : List Meaning) (bank : List X) (caps same : Limits) → caps ≡ same
+    → (lines : List Line) × (script_of Plain script ≡ Ok lines) × IsAccounted caps lines heard left meanings bank
+    → (lines : List Line) × (script_of Plain script ≡ Ok lines) × IsAccounted same lines heard left meanings bank
+accounted_so script heard left meanings bank caps same is accounted =
+    subst (λ (limits : Limits). (lines : List Line) × (script_of Plain script ≡ Ok lines) × IsAccounted limits lines heard left meanings bank) is accounted
+
 -- too few boxes
-pub short_ends : (output : Output) (status status' have have' need : ℕ) (lines : List Line) (held after : Option (List ℕ)) (faults now : ℕ) → status' ≡ status
+pub short_ends : (output : Output) (caps : Limits) (status status' have have' need : ℕ) (lines : List Line) (held after : Option (List ℕ)) (faults now : ℕ) → status' ≡ status
     → have ≡ have' → need ≡ count_adds lines → have < need → EndsLine 8 status (bank_short_text need have) held after faults now
-    → EndsLines output status' have' lines held after faults now
-short_ends output status status' have have' need lines held after faults now same boxes adds few ends = go ends.known where
+    → EndsLines output caps status' have' lines held after faults now
+short_ends output caps status status' have have' need lines held after faults now same boxes adds few ends = go ends.known where
   text : bank_short_text need have ≡ bank_short_text (count_adds lines) have'
   text = ap (λ (n : ℕ). bank_short_text n have) adds ∙ ap (bank_short_text (count_adds lines)) boxes
 
-  go : (status ≡ 8) ⊎ (status ≡ 3) → EndsLines output status' have' lines held after faults now
+  go : (status ≡ 8) ⊎ (status ≡ 3) → EndsLines output caps status' have' lines held after faults now
   go (inl is) = record {
     known = inr (inr (inr (inr (same ∙ is))));
     done = λ zero_is. absurd (omega (arith, same, is, zero_is));
@@ -42,23 +52,23 @@ module _ (script : List ℕ) (lines : List Line) where
   ok_and P is holds = subst (λ (r : Result (List Line) ScriptFault). IsOkAnd r P) (sym is) holds
 
   -- lines that were read end as their script
-  pub lines_end : (output : Output) (status have : ℕ) (held after : Option (List ℕ)) (faults now : ℕ) → script_of Plain script ≡ Ok lines
-      → EndsLines output status have lines held after faults now → EndsRun output status have script held after faults now
-  lines_end output status have held after faults now is ends = record {
+  pub lines_end : (output : Output) (caps : Limits) (status have : ℕ) (held after : Option (List ℕ)) (faults now : ℕ) → script_of Plain script ≡ Ok lines
+      → EndsLines output caps status have lines held after faults now → EndsRun output caps status have script held after faults now
+  lines_end output caps status have held after faults now is ends = record {
     known = among ends.known;
     done = λ zero_is. let done = ends.done zero_is in (
-      ok_and (λ (l : List Line). (count_adds l ≤ have) × IsLegalRun l × IsUnstopped l × Gains held after (run_output output l)) is
+      ok_and (λ (l : List Line). (count_adds l ≤ have) × IsLegalRun caps l × IsUnstopped caps l × Gains held after (run_output output caps l)) is
           (done.0, done.1, done.2, done.3),
       done.4,
     );
     refused = λ one_is. not_one ends.known one_is;
     cut_short = λ five_is. let short = ends.cut_short five_is in (
-      ok_and (λ (l : List Line). (count_adds l ≤ have) × IsLegalRun l × GainsFront held after (run_output output l)) is
+      ok_and (λ (l : List Line). (count_adds l ≤ have) × IsLegalRun caps l × GainsFront held after (run_output output caps l)) is
           (short.0, short.1, short.2),
       short.3,
     );
     full = λ six_is. let full = ends.full six_is in (
-      ok_and (λ (l : List Line). (count_adds l ≤ have) × IsLegalRun l × IsSome (plain default_caps l).stop × Gains held after (run_output output l)) is
+      ok_and (λ (l : List Line). (count_adds l ≤ have) × IsLegalRun caps l × IsSome (plain caps l).stop × Gains held after (run_output output caps l)) is
           (full.0, full.1, full.2, full.3),
       full.4,
     );

@@ -8,7 +8,7 @@ use Rattle.osc_model.specs.Events.{Event, add, Answer, added, Entry, Invocation}
 use Rattle.osc_model.specs.Heard.{Told, heard_of}
 use Rattle.osc_model.specs.History.{Legal, invocations}
 use Rattle.osc_script.specs.declared.line.Line.{Line}
-use Rattle.osc_top.specs.Plain.{default_caps, plain, count_adds}
+use Rattle.osc_top.specs.Plain.{plain, count_adds}
 
 -- how many bytes a box keeps, and those that it tells, where it tells
 pub record Meaning : Type 0 where
@@ -62,9 +62,9 @@ heard_after caps history bank =
 -- What came of a bank: there was a box for each add of the lines, and their history is a legal one;
 -- the boxes that were
 -- added have heard what it says; and the others are left, as they were.
-pub record IsAccounted {X : Type 0} (lines : List Line) (heard : List Told) (left : List X)
-    (meanings : List Meaning) (bank : List X) : Type 0 where
+pub record IsAccounted {X : Type 0} (caps : Limits) (lines : List Line) (heard : List Told)
+    (left : List X) (meanings : List Meaning) (bank : List X) : Type 0 where
   pub enough : count_adds lines ≤ length bank
-  pub legal : Legal default_caps (plain default_caps lines).history
-  pub boxes : heard ≡ heard_after default_caps (plain default_caps lines).history meanings
-  pub others : left ≡ boxes_left (add_answers (plain default_caps lines).history) bank
+  pub legal : Legal caps (plain caps lines).history
+  pub boxes : heard ≡ heard_after caps (plain caps lines).history meanings
+  pub others : left ≡ boxes_left (add_answers (plain caps lines).history) bank

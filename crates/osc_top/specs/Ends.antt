@@ -13,11 +13,11 @@ use Rattle.osc_replay.specs.Disagreeing.{DisagreesAt, IsRecordingOf}
 use Rattle.osc_script.specs.declared.line.Line.{Line}
 use Rattle.osc_script.specs.declared.mode.Mode.TheVariants.{Plain}
 use Rattle.osc_script.specs.Scripts.{script_of}
-use Rattle.osc_top.specs.declared.command.Output.{Output}
-use Rattle.osc_top.specs.declared.command.Output.TheVariants.{Text, Recording}
+use Rattle.osc_words.specs.declared.command.Output.{Output}
+use Rattle.osc_words.specs.declared.command.Output.TheVariants.{Text, Recording}
 use Rattle.osc_top.specs.declared.command.Command.{Command}
 use Rattle.osc_top.specs.declared.command.Command.TheVariants.{Run, Replay}
-use Rattle.osc_top.specs.Plain.{default_caps, plain, count_adds}
+use Rattle.osc_top.specs.Plain.{plain_limits, plain, count_adds}
 use Rattle.osc_top.specs.Printing.{printed_faults, printed_run, refusal_text, malformed_text, disagrees_text, bank_short_text}
 
 -- a script was played, and recorded
@@ -47,27 +47,27 @@ GainsUnless held after faults now text =
 abbrev pub left_behind : ℕ → List ℕ → List ℕ
 left_behind most input = drop (most + 1) input
 
--- the history of a script's lines is one that the server's rules give
-abbrev pub IsLegalRun : List Line → Type 0
-IsLegalRun lines = Legal default_caps (plain default_caps lines).history
+-- the history of a script's lines is one that the rules of a server with these limits give
+abbrev pub IsLegalRun : Limits → List Line → Type 0
+IsLegalRun caps lines = Legal caps (plain caps lines).history
 
 -- that history keeps the four laws
-abbrev pub RunsByTheLaws : List Line → Type 0
-RunsByTheLaws lines = KeepsTheLaws default_caps (plain default_caps lines).history
+abbrev pub RunsByTheLaws : Limits → List Line → Type 0
+RunsByTheLaws caps lines = KeepsTheLaws caps (plain caps lines).history
 
 -- no event of the lines wants more room than is left
-abbrev pub IsUnstopped : List Line → Type 0
-IsUnstopped lines = (plain default_caps lines).stop ≡ None
+abbrev pub IsUnstopped : Limits → List Line → Type 0
+IsUnstopped caps lines = (plain caps lines).stop ≡ None
 
 -- the text of a run: the printed history, the lines of the faults, and where it was stopped the
 -- line on that
-abbrev pub run_text : List Line → List ℕ
-run_text lines = printed_run default_caps (plain default_caps lines)
+abbrev pub run_text : Limits → List Line → List ℕ
+run_text caps lines = printed_run caps (plain caps lines)
 
 -- what a run writes
-abbrev pub run_output : Output → List Line → List ℕ
-run_output Text lines = run_text lines
-run_output Recording lines = record_text default_caps (plain default_caps lines).history
+abbrev pub run_output : Output → Limits → List Line → List ℕ
+run_output Text caps lines = run_text caps lines
+run_output Recording caps lines = record_text caps (plain caps lines).history
 
 -- The end of a run of lines over so many boxes, by its status: done (0), where there is a box for
 -- each add, no event wanted
@@ -77,16 +77,16 @@ run_output Recording lines = record_text default_caps (plain default_caps lines)
 -- wanted more room; bank
 -- short (8), where there are fewer boxes than adds, and the line on that was gained. Want of memory
 -- (3) promises nothing.
-pub record EndsLines (output : Output) (status have : ℕ) (lines : List Line)
+pub record EndsLines (output : Output) (caps : Limits) (status have : ℕ) (lines : List Line)
     (held after : Option (List ℕ)) (faults now : ℕ) : Type 0 where
   pub known : (status ≡ DONE) ⊎ (status ≡ NO_MEMORY) ⊎ (status ≡ SINK_FAILED)
       ⊎ (status ≡ RECORDING_FULL) ⊎ (status ≡ BANK_SHORT)
-  pub done : status ≡ DONE → (count_adds lines ≤ have) × IsLegalRun lines × IsUnstopped lines
-      × Gains held after (run_output output lines) × (now ≡ faults)
-  pub cut_short : status ≡ SINK_FAILED → (count_adds lines ≤ have) × IsLegalRun lines
-      × GainsFront held after (run_output output lines) × Rose faults now
-  pub full : status ≡ RECORDING_FULL → (count_adds lines ≤ have) × IsLegalRun lines
-      × IsSome (plain default_caps lines).stop × Gains held after (run_output output lines)
+  pub done : status ≡ DONE → (count_adds lines ≤ have) × IsLegalRun caps lines × IsUnstopped caps lines
+      × Gains held after (run_output output caps lines) × (now ≡ faults)
+  pub cut_short : status ≡ SINK_FAILED → (count_adds lines ≤ have) × IsLegalRun caps lines
+      × GainsFront held after (run_output output caps lines) × Rose faults now
+  pub full : status ≡ RECORDING_FULL → (count_adds lines ≤ have) × IsLegalRun caps lines
+      × IsSome (plain caps lines).stop × Gains held after (run_output output caps lines)
       × (now ≡ faults)
   pub bank_short : status ≡ BANK_SHORT → (have < count_adds lines)
       × GainsUnless held after faults now (bank_short_text (count_adds lines) have)
@@ -94,26 +94,26 @@ pub record EndsLines (output : Output) (status have : ℕ) (lines : List Line)
 -- The end of a run of a script, by its status: refused (1), where it has a first fault, and the
 -- line on that fault was
 -- gained; else the script is lawful, and the end is that of a run of its lines.
-pub record EndsRun (output : Output) (status have : ℕ) (script : List ℕ)
+pub record EndsRun (output : Output) (caps : Limits) (status have : ℕ) (script : List ℕ)
     (held after : Option (List ℕ)) (faults now : ℕ) : Type 0 where
   pub known : (status ≡ DONE) ⊎ (status ≡ REFUSED) ⊎ (status ≡ NO_MEMORY) ⊎ (status ≡ SINK_FAILED)
       ⊎ (status ≡ RECORDING_FULL)
       ⊎ (status ≡ BANK_SHORT)
   pub done : status ≡ DONE
       → IsOkAnd (script_of Plain script)
-      (λ lines. (count_adds lines ≤ have) × IsLegalRun lines × IsUnstopped lines
-      × Gains held after (run_output output lines)) × (now ≡ faults)
+      (λ lines. (count_adds lines ≤ have) × IsLegalRun caps lines × IsUnstopped caps lines
+      × Gains held after (run_output output caps lines)) × (now ≡ faults)
   pub refused : status ≡ REFUSED
       → IsErrAnd (script_of Plain script)
       (λ fault. GainsUnless held after faults now (refusal_text fault))
   pub cut_short : status ≡ SINK_FAILED
       → IsOkAnd (script_of Plain script)
-      (λ lines. (count_adds lines ≤ have) × IsLegalRun lines
-      × GainsFront held after (run_output output lines)) × Rose faults now
+      (λ lines. (count_adds lines ≤ have) × IsLegalRun caps lines
+      × GainsFront held after (run_output output caps lines)) × Rose faults now
   pub full : status ≡ RECORDING_FULL
       → IsOkAnd (script_of Plain script)
-      (λ lines. (count_adds lines ≤ have) × IsLegalRun lines
-      × IsSome (plain default_caps lines).stop × Gains held after (run_output output lines))
+      (λ lines. (count_adds lines ≤ have) × IsLegalRun caps lines
+      × IsSome (plain caps lines).stop × Gains held after (run_output output caps lines))
       × (now ≡ faults)
   pub bank_short : status ≡ BANK_SHORT
       → IsOkAnd (script_of Plain script)
@@ -166,30 +166,31 @@ pub record EndsReplay (status : ℕ) (bytes : List ℕ) (held after : Option (Li
 -- the end of a command, of which so many boxes and this input were handed in
 abbrev pub EndsCommand : Command → ℕ → ℕ → List ℕ → Option (List ℕ) → Option (List ℕ) → ℕ → ℕ
     → Type 0
-EndsCommand (Run output) status have input held after faults now =
-    EndsRun output status have input held after faults now
+EndsCommand (Run output caps) status have input held after faults now =
+    EndsRun output (plain_limits caps) status have input held after faults now
 EndsCommand Replay status have input held after faults now =
     EndsReplay status input held after faults now
 
 -- what was recorded of a run of lines: its recording, the lines of the faults, and the stop
-pub record IsRunOf (bytes faults : List ℕ) (stop : Option Room) (lines : List Line) : Type 0 where
-  pub recording : IsRecordingOf bytes default_caps (plain default_caps lines).history
-  pub said : faults ≡ printed_faults (plain default_caps lines).faults
-  pub stopped : stop ≡ (plain default_caps lines).stop
+pub record IsRunOf (bytes faults : List ℕ) (stop : Option Room) (caps : Limits)
+    (lines : List Line) : Type 0 where
+  pub recording : IsRecordingOf bytes caps (plain caps lines).history
+  pub said : faults ≡ printed_faults (plain caps lines).faults
+  pub stopped : stop ≡ (plain caps lines).stop
 
 -- The end of writing what a run of lines came to: done (0) or full (6) where all was gained, cut
 -- short (5) where the sink
 -- failed.
-pub record EndsPlayed (output : Output) (status : ℕ) (lines : List Line)
+pub record EndsPlayed (output : Output) (caps : Limits) (status : ℕ) (lines : List Line)
     (held after : Option (List ℕ)) (faults now : ℕ) : Type 0 where
   pub known : (status ≡ DONE) ⊎ (status ≡ NO_MEMORY) ⊎ (status ≡ SINK_FAILED)
       ⊎ (status ≡ RECORDING_FULL)
-  pub done : status ≡ DONE → IsUnstopped lines × Gains held after (run_output output lines)
+  pub done : status ≡ DONE → IsUnstopped caps lines × Gains held after (run_output output caps lines)
       × (now ≡ faults)
   pub cut_short : status ≡ SINK_FAILED
-      → GainsFront held after (run_output output lines) × Rose faults now
-  pub full : status ≡ RECORDING_FULL → IsSome (plain default_caps lines).stop
-      × Gains held after (run_output output lines) × (now ≡ faults)
+      → GainsFront held after (run_output output caps lines) × Rose faults now
+  pub full : status ≡ RECORDING_FULL → IsSome (plain caps lines).stop
+      × Gains held after (run_output output caps lines) × (now ≡ faults)
 
 -- a text that was made before is written, or a front of it; the status is the decided one where all
 -- of it is

@@ -1,30 +1,49 @@
 // The limits of the programs' servers.
+ghost use Rattle.osc_top.specs.declared.caps.TheConstants.{LIVE_CALLERS, PLAIN_CALLERS};
 ghost use Rattle.std.specs.Prelude.{◌≡◌, ◌≤◌};
+ghost use Rattle.osc_words.specs.Ranges.{AreInRange};
 ghost use Rattle.osc_top.specs.Plain as scripts;
 
 use osc_record::Caps;
+use osc_words::Capacities;
+
+/// A script is played by caller 0 alone.
+pub(crate) const PLAIN_CALLERS: u32 = 1;
+
+/// How many callers a server of lanes may have: more than lanes, so that none is refused for this.
+pub(crate) const LIVE_CALLERS: u32 = 32;
 
 /// The limits of a server that plays a script as caller 0.
-pub(crate) fn default_caps() -> Caps
-    ensures { result ≡ scripts.default_caps }
+pub(crate) fn plain_limits(caps: Capacities) -> Caps
+    requires { AreInRange caps }
+    ensures { result ≡ scripts.plain_limits caps }
 {
-    caps_for(1)
+    limits_for(PLAIN_CALLERS, caps)
 }
 
 /// The limits of a server of lanes.
-pub(crate) fn live_caps() -> Caps
-    ensures { result ≡ scripts.live_caps }
+pub(crate) fn live_limits(caps: Capacities) -> Caps
+    requires { AreInRange caps }
+    ensures { result ≡ scripts.live_limits caps }
 {
-    caps_for(32)
+    limits_for(LIVE_CALLERS, caps)
 }
 
-fn caps_for(callers: u32) -> Caps
+fn limits_for(callers: u32, caps: Capacities) -> Caps
     requires some { 1 ≤ callers }
     requires few { callers ≤ 1024 }
-    ensures { result ≡ record scripts.default_caps { callers = callers } }
+    requires caps { AreInRange caps }
+    ensures { result ≡ scripts.limits_for callers caps }
 {
-    match Caps::new(4096, 16_384, 1024, 4096, callers, 67_108_864) {
-        Ok(caps) => caps,
+    match Caps::new(
+        caps.units,
+        caps.blocks,
+        caps.methods,
+        caps.nodes,
+        callers,
+        caps.recording,
+    ) {
+        Ok(limits) => limits,
         Err(_) => unreachable!(),
     }
 }

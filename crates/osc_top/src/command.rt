@@ -1,65 +1,43 @@
-// The words of the command line.
-ghost use Rattle.std.specs.Prelude.{◌≡◌, map, string_bytes};
+// The commands of the top calls.
+ghost use Rattle.std.specs.Prelude.{◌≡◌, IfOk, IfSome, map, string_bytes};
+ghost use Rattle.osc_words.specs.Ranges.{AreInRange};
 ghost use Rattle.osc_top.specs.Commands;
-ghost use Rattle.osc_top.specs.Commands.{command_of_word, command_of_words};
+ghost use Rattle.osc_top.specs.Commands.{HasRanges};
 
-/// What a run writes.
-#[derive(Clone, Copy, Debug, PartialEq, Eq)]
-pub(crate) enum Output {
-    /// The printed history, the lines of the faults, and where it was stopped the line on that.
-    Text,
-    /// The recording alone.
-    Recording,
-}
+use osc_words::{Capacities, LiveCommand, Output, PlainCommand, live_command_of, plain_command_of};
+use std::alloc::{AllocError, Global};
 
-/// What the program is told to do.
+/// What `plain_top` is told to do.
 #[derive(Clone, Copy, Debug, PartialEq, Eq)]
 pub(crate) enum Command {
     /// To play a script.
-    Run(Output),
+    Run { output: Output, caps: Capacities },
     /// To replay a recording.
     Replay,
 }
 
-/// Whether the words say to play lanes, `lanes FILE`.
-pub(crate) fn are_lanes(words: &[String]) -> bool
-    ensures { result ≡ Commands.are_lanes (map string_bytes words.now) }
+/// The command that the words say; none where they are refused, or say what `plain_top` doesn't do. An `Err` is want of
+/// memory.
+pub(crate) fn command_of(alloc: Global, words: &[String]) -> Result<Option<Command>, AllocError>
+    ensures said { IfOk result
+        (λ command. command ≡ Commands.command_of (map string_bytes words.now)) }
+    ensures range { IfOk result (λ command. IfSome command HasRanges) }
 {
-    match words {
-        [word, _name] => word.as_str() == "lanes",
-        _ => false,
+    match plain_command_of(alloc, words)? {
+        Some(PlainCommand::Run { output, caps }) => Ok(Some(Command::Run { output, caps })),
+        Some(PlainCommand::Replay) => Ok(Some(Command::Replay)),
+        _ => Ok(None),
     }
 }
 
-/// The command that the words say: `run`, `run --bytes` or `replay`.
-pub(crate) fn command_of(words: &[String]) -> Option<Command>
-    ensures { result ≡ Commands.command_of (map string_bytes words.now) }
+/// The capacities of the server whose lanes the words say to play; none where they are refused, or say what `live_top`
+/// doesn't do. An `Err` is want of memory.
+pub(crate) fn lanes_of(alloc: Global, words: &[String]) -> Result<Option<Capacities>, AllocError>
+    ensures said { IfOk result (λ caps. caps ≡ Commands.lanes_of (map string_bytes words.now)) }
+    ensures range { IfOk result (λ caps. IfSome caps AreInRange) }
 {
-    match words {
-        [word] => command_of_word(word.as_str()),
-        [word, next] => command_of_words(word.as_str(), next.as_str()),
-        _ => None,
-    }
-}
-
-fn command_of_word(word: &str) -> Option<Command>
-    ensures { result ≡ command_of_word word.now }
-{
-    if word == "run" {
-        Some(Command::Run(Output::Text))
-    } else if word == "replay" {
-        Some(Command::Replay)
-    } else {
-        None
-    }
-}
-
-fn command_of_words(word: &str, next: &str) -> Option<Command>
-    ensures { result ≡ command_of_words word.now next.now }
-{
-    if word == "run" && next == "--bytes" {
-        Some(Command::Run(Output::Recording))
-    } else {
-        None
+    match live_command_of(alloc, words)? {
+        Some(LiveCommand::Lanes { caps }) => Ok(Some(caps)),
+        _ => Ok(None),
     }
 }

@@ -5,10 +5,11 @@ ghost use Rattle.osc_model.specs.State.{State};
 ghost use Rattle.osc_model.specs.Events.{Room, release};
 ghost use Rattle.osc_model.specs.Step.{step};
 ghost use Rattle.osc_model.specs.History.{after};
+ghost use Rattle.osc_words.specs.Ranges.{default_capacities};
 ghost use Rattle.osc_script.specs.declared.line.Line.{Line};
 ghost use Rattle.osc_script.specs.declared.mode.Mode.TheVariants.{Plain, Lanes};
 ghost use Rattle.osc_script.specs.Scripts.{script_of};
-ghost use Rattle.osc_top.specs.Plain.{is_released, pump, plain};
+ghost use Rattle.osc_top.specs.Plain.{is_released, pump, plain, plain_limits};
 ghost use Rattle.osc_top.specs.Enough.{enough, enough_lanes};
 ghost use Rattle.osc_top.specs.Lanes.{parts_of, PlaysLanes};
 ghost use Rattle.osc_top.specs.Ends.{run_text};
@@ -20,14 +21,14 @@ pub fn first_light()
     ensures { IsOkAnd
         (script_of Plain
         (codes "add /light/dim\nsend 2f6c696768742f64696d0000 2c690000 00000007\npump\n"))
-        (λ lines. run_text lines
+        (λ lines. run_text (plain_limits default_capacities) lines
         ≡ codes "add 0 /light/dim id 0\nsubmit 0 queued 0 1\nrelease 0 0 1\ncall 0 0 0 /light/dim ,i i:7\n") }
 {}
 
 /// A clock that stands at 1 isn't set back.
 pub fn early_tick()
     ensures { IsOkAnd (script_of Plain (codes "tick 0000000000000000\n"))
-        (λ lines. run_text lines ≡ codes "tick 0 0000000000000000 clock-back 0000000000000001\n") }
+        (λ lines. run_text (plain_limits default_capacities) lines ≡ codes "tick 0 0000000000000000 clock-back 0000000000000001\n") }
 {}
 
 /// Three lines of three lanes, of which one has no line, and a bank of three boxes, of which one is left.

@@ -8,6 +8,7 @@ mod counting;
 mod dealing;
 pub mod laws;
 mod lines;
+mod link_ports;
 mod live;
 mod live_writing;
 mod name;
@@ -21,6 +22,7 @@ mod whole;
 mod writing;
 
 pub use boxes::traces;
+pub use link_ports::ports;
 pub use live::live_top;
 pub use name::recording_name;
 pub use top::{Ended, plain_top};

@@ -1,19 +1,21 @@
 //! The top call of many threads.
+ghost use Rattle.osc_top.specs.declared.caps.TheConstants.{LIVE_CALLERS};
 ghost use Rattle.osc_top.specs.declared.status.TheConstants.{BANK_SHORT, DONE, NO_MEMORY, RECORDING_FULL, REFUSED, SINK_FAILED, SOURCE_FAILED, USAGE};
-ghost use Rattle.std.specs.Prelude.{◌≡◌, ◌≢◌, ◌⊎◌, ◌≤◌, ◌<◌, ℕ, IsTrue, true, false, IsOkAnd, IsErrAnd, IfSome, Some, Ok, List, [], length, map, string_bytes};
+ghost use Rattle.std.specs.Prelude.{◌≡◌, ◌≢◌, ◌⊎◌, ◌≤◌, ◌<◌, ℕ, IsTrue, IsOkAnd, IsErrAnd, IfSome, Some, None, Ok, List, [], length, map, string_bytes};
 ghost use Rattle.osc_edge.specs.Faults.{Rose};
 ghost use Rattle.osc_core.specs.Ids.{is_ascending};
 ghost use Rattle.osc_script.specs.declared.script.TheConstants.{MAX_SCRIPT};
 ghost use Rattle.osc_script.specs.declared.mode.Mode.TheVariants.{Lanes};
 ghost use Rattle.osc_script.specs.Scripts.{script_of, AreOf};
-ghost use Rattle.osc_top.specs.Commands.{are_lanes};
-ghost use Rattle.osc_top.specs.Plain.{live_caps, count_adds};
+ghost use Rattle.osc_top.specs.Commands as commands;
+ghost use Rattle.osc_top.specs.Plain.{live_limits, count_adds};
 ghost use Rattle.osc_top.specs.Printing.{usage_text, refusal_text};
 ghost use Rattle.osc_top.specs.Ends.{GainsUnless, left_behind, IsUnplayed};
 ghost use Rattle.osc_top.specs.Lanes.{EndsLanes};
 ghost use Rattle.osc_top.specs.Enough.{enough_lanes};
 
-use crate::command::are_lanes;
+use crate::caps::live_limits;
+use crate::command::lanes_of;
 use crate::counting::count_adds;
 use crate::laws::enough_room_stops_no_lane;
 use crate::live_writing::write_both;
@@ -26,6 +28,7 @@ use crate::writing::{bank_short, last_line, refuse};
 use osc_edge::{Sink, Source};
 use osc_lanes::Gate;
 use osc_method::Method;
+use osc_record::Caps;
 use osc_script::{Line, MAX_SCRIPT, Mode, Script, ScriptFault, ScriptRefusal};
 use std::alloc::Global;
 use std::sync::Wait;
@@ -51,10 +54,12 @@ pub fn live_top<S: Source, O: Sink, R: Sink, W: Threads + Wait + Sync, G: Gate +
     ensures known { (result.status ≤ RECORDING_FULL) ⊎ (result.status ≡ BANK_SHORT) }
 
     // Words that are no command are answered first, by a line on usage, and nothing is read then.
-    ensures usage { result.status ≡ USAGE → are_lanes (map string_bytes words.now) ≡ false }
-    ensures no_command { are_lanes (map string_bytes words.now) ≡ false
+    ensures usage { result.status ≡ USAGE
+        → commands.lanes_of (map string_bytes words.now) ≡ None }
+    ensures no_command { commands.lanes_of (map string_bytes words.now) ≡ None
         → (result.status ≡ USAGE) ⊎ (result.status ≡ NO_MEMORY) }
-    ensures unread { are_lanes (map string_bytes words.now) ≡ false → input.new ≡ input.old }
+    ensures unread { commands.lanes_of (map string_bytes words.now) ≡ None
+        → input.new ≡ input.old }
     ensures usage_text { result.status ≡ USAGE → GainsUnless (O.held out.old) (O.held out.new)
         (O.faults out.old) (O.faults out.new) usage_text }
 
@@ -65,16 +70,17 @@ pub fn live_top<S: Source, O: Sink, R: Sink, W: Threads + Wait + Sync, G: Gate +
     ensures unwritten { result.status ≡ SOURCE_FAILED → out.new ≡ out.old }
     ensures sound { result.status ≢ NO_MEMORY → result.status ≢ SOURCE_FAILED
         → S.faults input.new ≡ S.faults input.old }
-    ensures read { IsTrue (are_lanes (map string_bytes words.now)) → IfSome (S.left input.old)
+    ensures read { IfSome (commands.lanes_of (map string_bytes words.now))
+        (λ caps. IfSome (S.left input.old)
         (λ all. result.status ≢ NO_MEMORY → result.status ≢ SOURCE_FAILED →
-        S.left input.new ≡ Some (left_behind MAX_SCRIPT all)) }
+        S.left input.new ≡ Some (left_behind MAX_SCRIPT all))) }
 
     // Then a script that is refused, or that adds more methods than there are boxes, or what its lanes came to, with
     // sinks that took all of it or failed.
-    ensures lanes { IsTrue (are_lanes (map string_bytes words.now)) → IfSome (S.left input.old)
-        (λ script. result.status ≢ SOURCE_FAILED →
-        EndsLanes (λ box. keep box) (λ box. heard box) live_caps result.status script bank.items
-        result.heard.items result.left.items
+    ensures lanes { IfSome (commands.lanes_of (map string_bytes words.now))
+        (λ caps. IfSome (S.left input.old) (λ script. result.status ≢ SOURCE_FAILED →
+        EndsLanes (λ box. keep box) (λ box. heard box) (live_limits caps) result.status script
+        bank.items result.heard.items result.left.items
         (record {
           before = R.held rec.old;
           after = R.held rec.new;
@@ -86,7 +92,7 @@ pub fn live_top<S: Source, O: Sink, R: Sink, W: Threads + Wait + Sync, G: Gate +
           after = O.held out.new;
           faults = O.faults out.old;
           now = O.faults out.new;
-        })) }
+        }))) }
     ensures sink { result.status ≡ SINK_FAILED
         → Rose (O.faults out.old) (O.faults out.new) ⊎ Rose (R.faults rec.old) (R.faults rec.new) }
     ensures unrecorded { IsUnplayed result.status → rec.new ≡ rec.old }
@@ -103,30 +109,33 @@ pub fn live_top<S: Source, O: Sink, R: Sink, W: Threads + Wait + Sync, G: Gate +
     ensures all_left { IsUnplayed result.status → result.left.items ≡ bank.items }
 
     // A lawful script with enough boxes is played, over edges that don't fail, unless memory runs out.
-    ensures complete { IsTrue (are_lanes (map string_bytes words.now)) → IfSome (S.left input.old)
+    ensures complete { IfSome (commands.lanes_of (map string_bytes words.now))
+        (λ caps. IfSome (S.left input.old)
         (λ script. IsOkAnd (script_of Lanes script) (λ lines. count_adds lines ≤ length bank.items)
         → ¬ Rose (S.faults input.old) (S.faults input.new)
         → ¬ Rose (O.faults out.old) (O.faults out.new)
         → ¬ Rose (R.faults rec.old) (R.faults rec.new) →
         (result.status ≡ DONE) ⊎ (result.status ≡ NO_MEMORY)
-        ⊎ (result.status ≡ RECORDING_FULL)) }
+        ⊎ (result.status ≡ RECORDING_FULL))) }
 
     // No lane stops where the recording may have as many bytes as `enough_lanes` says.
-    ensures enough { IsTrue (are_lanes (map string_bytes words.now)) → IfSome (S.left input.old)
-        (λ script. IsOkAnd (script_of Lanes script)
-        (λ lines. (count_adds lines ≤ length bank.items)
-        × (enough_lanes lines ≤ live_caps.recording))
+    ensures enough { IfSome (commands.lanes_of (map string_bytes words.now))
+        (λ caps. IfSome (S.left input.old) (λ script. IsOkAnd (script_of Lanes script)
+        (λ lines. (count_adds lines ≤ length bank.items) × (enough_lanes lines ≤ caps.recording))
         → ¬ Rose (S.faults input.old) (S.faults input.new)
         → ¬ Rose (O.faults out.old) (O.faults out.new)
         → ¬ Rose (R.faults rec.old) (R.faults rec.new) →
-        (result.status ≡ DONE) ⊎ (result.status ≡ NO_MEMORY)) }
+        (result.status ≡ DONE) ⊎ (result.status ≡ NO_MEMORY))) }
 {
     enough_room_stops_no_lane::<Box<dyn Method + Send>>();
-    if !are_lanes(words) {
-        return unplayed(alloc, last_line(USAGE, b"usage\n", out), bank);
-    }
+    let caps = match lanes_of(alloc, words) {
+        Ok(Some(caps)) => caps,
+        Ok(None) => return unplayed(alloc, last_line(USAGE, b"usage\n", out), bank),
+        Err(_) => return unplayed(alloc, NO_MEMORY, bank),
+    };
+    let limits = live_limits(caps);
     match read_whole(alloc, MAX_SCRIPT, input) {
-        Input::Whole(bytes) => play_script(rt, alloc, bytes, out, rec, bank, gate),
+        Input::Whole(bytes) => play_script(rt, alloc, limits, bytes, out, rec, bank, gate),
         Input::TooLong => unplayed(alloc, refuse_long(alloc, out), bank),
         Input::Failed => unplayed(alloc, SOURCE_FAILED, bank),
         Input::NoMemory => unplayed(alloc, NO_MEMORY, bank),
@@ -152,13 +161,15 @@ fn refuse_long<O: Sink>(alloc: Global, out: &mut O) -> u8
 fn play_script<O: Sink, R: Sink, W: Threads + Wait + Sync, G: Gate + Sync>(
     rt: &W,
     alloc: Global,
+    caps: Caps,
     bytes: Vec<u8>,
     out: &mut O,
     rec: &mut R,
     bank: Vec<Box<dyn Method + Send>>,
     gate: &G,
 ) -> Ended
-    ensures ends { EndsLanes (λ box. keep box) (λ box. heard box) live_caps result.status
+    requires callers { caps.callers ≡ LIVE_CALLERS }
+    ensures ends { EndsLanes (λ box. keep box) (λ box. heard box) caps result.status
         bytes.items bank.items result.heard.items result.left.items
         (record {
           before = R.held rec.old;
@@ -187,7 +198,7 @@ fn play_script<O: Sink, R: Sink, W: Threads + Wait + Sync, G: Gate + Sync>(
     let read = Script::read(alloc, &bytes, Mode::Lanes);
     drop(bytes);
     match read {
-        Ok(script) => play_lanes(rt, alloc, script.into_lines(), out, rec, bank, gate),
+        Ok(script) => play_lanes(rt, alloc, caps, script.into_lines(), out, rec, bank, gate),
         Err(ScriptRefusal::Fault(fault)) => unplayed(alloc, refuse(alloc, fault, out), bank),
         Err(ScriptRefusal::NoMemory) => unplayed(alloc, NO_MEMORY, bank),
     }
@@ -196,15 +207,17 @@ fn play_script<O: Sink, R: Sink, W: Threads + Wait + Sync, G: Gate + Sync>(
 fn play_lanes<O: Sink, R: Sink, W: Threads + Wait + Sync, G: Gate + Sync>(
     rt: &W,
     alloc: Global,
+    caps: Caps,
     lines: Vec<Line>,
     out: &mut O,
     rec: &mut R,
     bank: Vec<Box<dyn Method + Send>>,
     gate: &G,
 ) -> Ended
+    requires callers { caps.callers ≡ LIVE_CALLERS }
     requires lanes { AreOf Lanes lines.items }
     ensures ends { (script : List ℕ) → script_of Lanes script ≡ Ok lines.items →
-        EndsLanes (λ box. keep box) (λ box. heard box) live_caps result.status
+        EndsLanes (λ box. keep box) (λ box. heard box) caps result.status
         script bank.items result.heard.items result.left.items
         (record {
           before = R.held rec.old;
@@ -233,7 +246,7 @@ fn play_lanes<O: Sink, R: Sink, W: Threads + Wait + Sync, G: Gate + Sync>(
         let status = bank_short(alloc, need, bank.len(), out);
         return unplayed(alloc, status, bank);
     }
-    match stage(rt, alloc, lines, bank, gate) {
+    match stage(rt, alloc, caps, lines, bank, gate) {
         Ok(
             Played {
                 recorded,

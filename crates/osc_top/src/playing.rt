@@ -8,13 +8,11 @@ ghost use Rattle.osc_model.specs.History.{Legal};
 ghost use Rattle.osc_record.specs.Shown.{room_of};
 ghost use Rattle.osc_core.specs.Ids.{is_ascending};
 ghost use Rattle.osc_core.specs.Telling.{told};
-ghost use Rattle.osc_top.specs.Plain as scripts;
 ghost use Rattle.osc_top.specs.Plain.{count_adds};
 ghost use Rattle.osc_top.specs.Ends.{IsRunOf, RunsByTheLaws};
 ghost use Rattle.osc_top.specs.Bank.{IsAccounted};
 ghost use Rattle.osc_top.specs.Tallied.{HasTallied, IsDone, AreParted};
 
-use crate::caps::default_caps;
 use crate::player::Player;
 use crate::recorded::Recorded;
 use osc_atoms::Room;
@@ -22,6 +20,7 @@ use osc_core::{Closed, Core};
 use osc_laws::laws::every_history_keeps_the_laws;
 use osc_method::Method;
 use osc_print::Text;
+use osc_record::Caps;
 use osc_script::Line;
 use std::alloc::{AllocError, Global};
 use std::vec::IntoIter;
@@ -40,39 +39,39 @@ pub(crate) struct Played<M> {
 /// add gets the k-th box. An `Err` is want of memory.
 pub(crate) fn play<M: Method>(
     alloc: Global,
+    caps: Caps,
     lines: Vec<Line>,
     bank: Vec<M>,
 ) -> Result<Played<M>, AllocError>
     requires enough { count_adds lines.items ≤ length bank.items }
     ensures run { IfOk result
         (λ played. IsRunOf played.recorded.bytes.items played.recorded.faults
-        (option_map room_of played.recorded.stop) lines.items) }
+        (option_map room_of played.recorded.stop) caps lines.items) }
     ensures accounted { IfOk result
-        (λ played. IsAccounted lines.items
+        (λ played. IsAccounted caps lines.items
         (told M.keep M.heard played.heard.items) played.left.items
         (map (λ box. record { keep = M.keep box; heard = M.heard box }) bank.items) bank.items) }
     ensures ascending { IfOk result
         (λ played. IsTrue (is_ascending (map (λ one. one.0) played.heard.items))) }
-    ensures laws { OnOk result (RunsByTheLaws lines.items) }
+    ensures laws { OnOk result (RunsByTheLaws caps lines.items) }
 {
     every_history_keeps_the_laws();
-    let mut player = Player::open(alloc, bank)?;
+    let mut player = Player::open(alloc, caps, bank)?;
     let stop = player.play_lines(lines)?;
     let played = player.finish(stop)?;
     Ok(played)
 }
 
 impl<M: Method> Player<M> {
-    fn open(alloc: Global, bank: Vec<M>) -> Result<Player<M>, AllocError>
+    fn open(alloc: Global, caps: Caps, bank: Vec<M>) -> Result<Player<M>, AllocError>
         ensures performance { IfOk result
-            (λ player. player.core.performance
-            ≡ record { caps = scripts.default_caps; history = [] }) }
+            (λ player. player.core.performance ≡ record { caps = caps; history = [] }) }
         ensures faults { IfOk result (λ player. player.faults ≡ []) }
         ensures bank { IfOk result (λ player. into_iter_items player.bank ≡ bank.items) }
         ensures boxes { IfOk result (λ player. HasTallied M.keep M.heard bank.items player) }
     {
         Ok(Player {
-            core: Core::open(alloc, default_caps())?,
+            core: Core::open(alloc, caps)?,
             bank: bank.into_iter(),
             removed: Vec::new(alloc),
             left: Vec::new(alloc),

@@ -1,4 +1,5 @@
 // Plays the lanes of a script on a server, which records them.
+ghost use Rattle.osc_top.specs.declared.caps.TheConstants.{LIVE_CALLERS};
 ghost use Rattle.std.specs.Prelude.{◌≡◌, ◌++◌, ◌≤◌, IsTrue, map, length, IfOk, OnOk};
 ghost use Rattle.std.specs.Option.{option_map, option_or};
 ghost use Rattle.std.specs.List.{flat_map};
@@ -14,7 +15,6 @@ ghost use Rattle.osc_top.specs.Plain.{count_adds};
 ghost use Rattle.osc_top.specs.Lanes.{first_stop, lane_faults};
 ghost use Rattle.osc_top.specs.Staged.{IsStaged};
 
-use crate::caps::live_caps;
 use crate::dealing::deal;
 use crate::playing::{Played, gather, keep_rest};
 use crate::recorded::Recorded;
@@ -22,6 +22,7 @@ use osc_atoms::{Fault, Room};
 use osc_lanes::{Gate, LaneTold, Performed, perform};
 use osc_method::Method;
 use osc_print::{Text, fault_line};
+use osc_record::Caps;
 use osc_script::Line;
 use std::alloc::{AllocError, Global};
 use std::sync::Wait;
@@ -33,21 +34,23 @@ use std::vec::IntoIter;
 pub(crate) fn stage<M: Method + Send, W: Threads + Wait + Sync, G: Gate + Sync>(
     rt: &W,
     alloc: Global,
+    caps: Caps,
     lines: Vec<Line>,
     bank: Vec<M>,
     gate: &G,
 ) -> Result<Played<M>, AllocError>
+    requires callers { caps.callers ≡ LIVE_CALLERS }
     requires enough { count_adds lines.items ≤ length bank.items }
     requires lanes { AreOf Lanes lines.items }
     ensures staged { IfOk result
-        (λ played. IsStaged M.keep M.heard lines.items bank.items played.heard.items
+        (λ played. IsStaged M.keep M.heard caps lines.items bank.items played.heard.items
         played.left.items played.recorded.bytes.items played.recorded.faults
         (option_map room_of played.recorded.stop)) }
     ensures ascending { IfOk result
         (λ played. IsTrue (is_ascending (map (λ one. one.0) played.heard.items))) }
 {
     let (parts, rest) = deal(alloc, lines, bank)?;
-    let performed = perform(rt, alloc, live_caps(), parts, gate)?;
+    let performed = perform(rt, alloc, caps, parts, gate)?;
     let played = settle(alloc, performed, rest)?;
     Ok(played)
 }

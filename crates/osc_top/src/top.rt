@@ -9,15 +9,18 @@ ghost use Rattle.osc_replay.specs.Disagreeing.{IsRecordingOf};
 ghost use Rattle.osc_script.specs.declared.line.Line.{Line};
 ghost use Rattle.osc_script.specs.declared.mode.Mode.TheVariants.{Plain};
 ghost use Rattle.osc_script.specs.Scripts.{script_of};
-ghost use Rattle.osc_top.specs.declared.command.Output.{Output};
+ghost use Rattle.osc_words.specs.declared.command.Capacities.{Capacities};
+ghost use Rattle.osc_words.specs.declared.command.Output.{Output};
 ghost use Rattle.osc_top.specs.declared.command.Command.TheVariants.{Run, Replay};
 ghost use Rattle.osc_top.specs.Plain as scripts;
 ghost use Rattle.osc_top.specs.Bank.{IsAccounted};
 ghost use Rattle.osc_top.specs.Printing.{usage_text};
 ghost use Rattle.osc_top.specs.Commands as commands;
+ghost use Rattle.osc_top.specs.Commands.{HasRanges};
 ghost use Rattle.osc_top.specs.Ends.{GainsUnless, IsUnstopped, RunsByTheLaws, RecordsTheLaws, EndsRun, EndsLines, EndsReplay, EndsCommand, left_behind, IsPlayed, IsUnplayed};
 
-use crate::command::{Command, Output, command_of};
+use crate::caps::plain_limits;
+use crate::command::{Command, command_of};
 use crate::counting::count_adds;
 use crate::playing::{Played, play};
 use crate::status::{NO_MEMORY, SOURCE_FAILED, USAGE};
@@ -26,8 +29,9 @@ use crate::writing::{bank_short, last_line, malformed, refuse, write_recorded, w
 use osc_edge::{Sink, Source};
 use osc_method::Method;
 use osc_model::laws::a_legal_history_is_recordable;
-use osc_record::MAX_RECORDING;
+use osc_record::{Caps, MAX_RECORDING};
 use osc_script::{Line, MAX_SCRIPT, Mode, Script, ScriptFault, ScriptRefusal};
+use osc_words::Output;
 use std::alloc::Global;
 
 /// How a program ends.
@@ -96,11 +100,11 @@ pub fn plain_top<S: Source, O: Sink>(
 
     // Each box that was added has heard what the history says, and each other one comes back as it was; where nothing was
     // played, all of them.
-    ensures accounted { (output : Output)
-        → commands.command_of (map string_bytes words.now) ≡ Some (Run output)
+    ensures accounted { (output : Output) (caps : Capacities)
+        → commands.command_of (map string_bytes words.now) ≡ Some (Run output caps)
         → IsPlayed result.status → (lines : List Line) ×
         IfSome (S.left input.old) (λ script. script_of Plain script ≡ Ok lines) ×
-        IsAccounted lines
+        IsAccounted (scripts.plain_limits caps) lines
         (map (λ one. record { id = one.0; keep = keep one.1; heard = heard one.1 })
         result.heard.items) result.left.items
         (map (λ box. record { keep = keep box; heard = heard box }) bank.items) bank.items }
@@ -113,22 +117,23 @@ pub fn plain_top<S: Source, O: Sink>(
         → result.status ≢ NO_MEMORY → result.left.items ≡ bank.items }
 
     // The history of each run and of each recording that is replayed keeps the four laws.
-    ensures laws { (output : Output)
-        → commands.command_of (map string_bytes words.now) ≡ Some (Run output)
+    ensures laws { (output : Output) (caps : Capacities)
+        → commands.command_of (map string_bytes words.now) ≡ Some (Run output caps)
         → IsPlayed result.status → (lines : List Line) ×
         IfSome (S.left input.old) (λ script. script_of Plain script ≡ Ok lines)
-        × RunsByTheLaws lines }
+        × RunsByTheLaws (scripts.plain_limits caps) lines }
     ensures replay_laws { commands.command_of (map string_bytes words.now) ≡ Some Replay
         → result.status ≡ DONE →
         IfSome (S.left input.old) (λ recording. RecordsTheLaws recording) }
 
     // A lawful script with enough boxes and room for its recording is played, and the recording of each history that the
     // server's rules give is replayed, over edges that don't fail, unless memory runs out.
-    ensures complete { (output : Output)
-        → commands.command_of (map string_bytes words.now) ≡ Some (Run output)
+    ensures complete { (output : Output) (caps : Capacities)
+        → commands.command_of (map string_bytes words.now) ≡ Some (Run output caps)
         → IfSome (S.left input.old) (λ script.
         IsOkAnd (script_of Plain script)
-        (λ lines. (scripts.count_adds lines ≤ length bank.items) × IsUnstopped lines) →
+        (λ lines. (scripts.count_adds lines ≤ length bank.items)
+        × IsUnstopped (scripts.plain_limits caps) lines) →
         ¬ Rose (S.faults input.old) (S.faults input.new)
         → ¬ Rose (O.faults out.old) (O.faults out.new) →
         (result.status ≡ DONE) ⊎ (result.status ≡ NO_MEMORY)) }
@@ -139,8 +144,10 @@ pub fn plain_top<S: Source, O: Sink>(
         → ¬ Rose (O.faults out.old) (O.faults out.new) →
         (result.status ≡ DONE) ⊎ (result.status ≡ NO_MEMORY)) }
 {
-    let Some(command) = command_of(words) else {
-        return unplayed(alloc, last_line(USAGE, b"usage\n", out), bank);
+    let command = match command_of(alloc, words) {
+        Ok(Some(command)) => command,
+        Ok(None) => return unplayed(alloc, last_line(USAGE, b"usage\n", out), bank),
+        Err(_) => return unplayed(alloc, NO_MEMORY, bank),
     };
     match read_whole(alloc, most_bytes(command), input) {
         Input::Whole(bytes) => perform(alloc, command, bytes, out, bank),
@@ -155,7 +162,7 @@ fn most_bytes(command: Command) -> usize
     ensures { result ≡ commands.most_bytes command }
 {
     match command {
-        Command::Run(_) => MAX_SCRIPT,
+        Command::Run { .. } => MAX_SCRIPT,
         Command::Replay => MAX_RECORDING as usize,
     }
 }
@@ -184,7 +191,7 @@ fn refuse_long<O: Sink>(alloc: Global, command: Command, out: &mut O) -> u8
 {
     a_legal_history_is_recordable();
     match command {
-        Command::Run(_) => {
+        Command::Run { .. } => {
             let fault = ScriptFault {
                 line: 0,
                 kind: ScriptFault::TOO_LONG,
@@ -203,20 +210,22 @@ fn perform<O: Sink>(
     out: &mut O,
     bank: Vec<Box<dyn Method + Send>>,
 ) -> Ended
-    requires { length bytes.items ≤ commands.most_bytes command }
+    requires size { length bytes.items ≤ commands.most_bytes command }
+    requires range { HasRanges command }
     ensures ends { EndsCommand command result.status (length bank.items) bytes.items
         (O.held out.old) (O.held out.new) (O.faults out.old) (O.faults out.new) }
-    ensures accounted { (output : Output) → command ≡ Run output
+    ensures accounted { (output : Output) (caps : Capacities) → command ≡ Run output caps
         → IsPlayed result.status
         → (lines : List Line) × (script_of Plain bytes.items ≡ Ok lines)
-        × IsAccounted lines
+        × IsAccounted (scripts.plain_limits caps) lines
         (map (λ one. record { id = one.0; keep = keep one.1; heard = heard one.1 })
         result.heard.items) result.left.items
         (map (λ box. record { keep = keep box; heard = heard box }) bank.items) bank.items }
     ensures ascending { IsTrue (is_ascending (map (λ one. one.0) result.heard.items)) }
-    ensures laws { (output : Output) → command ≡ Run output
+    ensures laws { (output : Output) (caps : Capacities) → command ≡ Run output caps
         → IsPlayed result.status →
-        (lines : List Line) × (script_of Plain bytes.items ≡ Ok lines) × RunsByTheLaws lines }
+        (lines : List Line) × (script_of Plain bytes.items ≡ Ok lines)
+        × RunsByTheLaws (scripts.plain_limits caps) lines }
     ensures replay_laws { command ≡ Replay → result.status ≡ DONE → RecordsTheLaws bytes.items }
     ensures none_heard { (result.status ≡ REFUSED) ⊎ (result.status ≡ BANK_SHORT)
         → result.heard.items ≡ [] }
@@ -230,7 +239,7 @@ fn perform<O: Sink>(
     ensures sink { result.status ≡ SINK_FAILED → Rose (O.faults out.old) (O.faults out.new) }
 {
     match command {
-        Command::Run(output) => run(alloc, output, bytes, out, bank),
+        Command::Run { output, caps } => run(alloc, output, plain_limits(caps), bytes, out, bank),
         Command::Replay => unplayed(alloc, write_replay(alloc, &bytes, out), bank),
     }
 }
@@ -239,21 +248,23 @@ fn perform<O: Sink>(
 fn run<O: Sink>(
     alloc: Global,
     output: Output,
+    caps: Caps,
     bytes: Vec<u8>,
     out: &mut O,
     bank: Vec<Box<dyn Method + Send>>,
 ) -> Ended
-    ensures ends { EndsRun output result.status (length bank.items) bytes.items (O.held out.old)
-        (O.held out.new) (O.faults out.old) (O.faults out.new) }
+    ensures ends { EndsRun output caps result.status (length bank.items) bytes.items
+        (O.held out.old) (O.held out.new) (O.faults out.old) (O.faults out.new) }
     ensures accounted { IsPlayed result.status
         → (lines : List Line) × (script_of Plain bytes.items ≡ Ok lines)
-        × IsAccounted lines
+        × IsAccounted caps lines
         (map (λ one. record { id = one.0; keep = keep one.1; heard = heard one.1 })
         result.heard.items) result.left.items
         (map (λ box. record { keep = keep box; heard = heard box }) bank.items) bank.items }
     ensures ascending { IsTrue (is_ascending (map (λ one. one.0) result.heard.items)) }
     ensures laws { IsPlayed result.status →
-        (lines : List Line) × (script_of Plain bytes.items ≡ Ok lines) × RunsByTheLaws lines }
+        (lines : List Line) × (script_of Plain bytes.items ≡ Ok lines)
+        × RunsByTheLaws caps lines }
     ensures none_heard { (result.status ≡ REFUSED) ⊎ (result.status ≡ BANK_SHORT)
         → result.heard.items ≡ [] }
     ensures all_left { (result.status ≡ REFUSED) ⊎ (result.status ≡ BANK_SHORT)
@@ -262,7 +273,7 @@ fn run<O: Sink>(
     let read = Script::read(alloc, &bytes, Mode::Plain);
     drop(bytes);
     match read {
-        Ok(script) => run_lines(alloc, output, script.into_lines(), out, bank),
+        Ok(script) => run_lines(alloc, output, caps, script.into_lines(), out, bank),
         Err(ScriptRefusal::Fault(fault)) => unplayed(alloc, refuse(alloc, fault, out), bank),
         Err(ScriptRefusal::NoMemory) => unplayed(alloc, NO_MEMORY, bank),
     }
@@ -271,20 +282,21 @@ fn run<O: Sink>(
 fn run_lines<O: Sink>(
     alloc: Global,
     output: Output,
+    caps: Caps,
     lines: Vec<Line>,
     out: &mut O,
     bank: Vec<Box<dyn Method + Send>>,
 ) -> Ended
-    ensures ends { EndsLines output result.status (length bank.items) lines.items (O.held out.old)
-        (O.held out.new) (O.faults out.old) (O.faults out.new) }
+    ensures ends { EndsLines output caps result.status (length bank.items) lines.items
+        (O.held out.old) (O.held out.new) (O.faults out.old) (O.faults out.new) }
     ensures accounted { IsPlayed result.status
-        → IsAccounted lines.items
+        → IsAccounted caps lines.items
         (map (λ one. record { id = one.0; keep = keep one.1; heard = heard one.1 })
         result.heard.items) result.left.items
         (map (λ box. record { keep = keep box; heard = heard box }) bank.items) bank.items }
     ensures ascending { IsTrue (is_ascending (map (λ one. one.0) result.heard.items)) }
     ensures laws { IsPlayed result.status
-        → RunsByTheLaws lines.items }
+        → RunsByTheLaws caps lines.items }
     ensures none_heard { result.status ≡ BANK_SHORT → result.heard.items ≡ [] }
     ensures all_left { result.status ≡ BANK_SHORT → result.left.items ≡ bank.items }
 {
@@ -293,7 +305,7 @@ fn run_lines<O: Sink>(
         let status = bank_short(alloc, need, bank.len(), out);
         return unplayed(alloc, status, bank);
     }
-    match play(alloc, lines, bank) {
+    match play(alloc, caps, lines, bank) {
         Ok(
             Played {
                 recorded,

@@ -11,7 +11,6 @@ ghost use Rattle.osc_top.specs.Printing.{refusal_text, malformed_text, disagrees
 ghost use Rattle.osc_top.specs.Recorded.{recorded_text, status_of};
 ghost use Rattle.osc_top.specs.Ends.{IsRunOf, EndsText, EndsLine, EndsPlayed, EndsReplay, RecordsTheLaws};
 
-use crate::command::Output;
 use crate::lines::{bank_short_line, disagrees_lines, full_line, malformed_line, refusal_line};
 use crate::recorded::Recorded;
 use crate::status::{BANK_SHORT, DONE, NO_MEMORY, RECORDING_FULL, REFUSED, SINK_FAILED};
@@ -23,6 +22,7 @@ use osc_model::laws::a_legal_history_is_recordable;
 use osc_print::Text;
 use osc_replay::{ReplayFault, replay};
 use osc_script::ScriptFault;
+use osc_words::Output;
 use std::alloc::{AllocError, Global};
 
 /// Writes what a script came to.
@@ -32,13 +32,13 @@ pub(crate) fn write_recorded<O: Sink>(
     recorded: &Recorded,
     out: &mut O,
 ) -> u8
-    requires { (lines : List Line)
+    requires { (caps : Limits) × (lines : List Line)
         × IsRunOf recorded.now.bytes.items recorded.now.faults
-        (option_map room_of recorded.now.stop) lines }
-    ensures { (lines : List Line)
+        (option_map room_of recorded.now.stop) caps lines }
+    ensures { (caps : Limits) (lines : List Line)
         → IsRunOf recorded.now.bytes.items recorded.now.faults
-        (option_map room_of recorded.now.stop) lines →
-        EndsPlayed output result lines (O.held out.old) (O.held out.new) (O.faults out.old)
+        (option_map room_of recorded.now.stop) caps lines →
+        EndsPlayed output caps result lines (O.held out.old) (O.held out.new) (O.faults out.old)
         (O.faults out.new) }
 {
     match output {

@@ -1,6 +1,6 @@
 use Rattle.std.proofs.Common.{◌≡◌, rules, subst}
 use Rattle.osc_model.specs.History.{Performance, Legal}
-use Rattle.osc_top.specs.Plain.{default_caps, plain}
+use Rattle.osc_top.specs.Plain.{plain}
 use Rattle.osc_top.proofs.Endings.{accounted}
 use Rattle.osc_top.proofs.playing.play.Goals as goal
 
@@ -8,10 +8,10 @@ pub returns-clause-accounted : goal.returns-clause-accounted
 returns-clause-accounted g c =
     let performance = c.play_lines.new.self.core.performance in
     let lines = c.args.lines.items in
-    let is : performance ≡ record { caps = default_caps; history = (plain default_caps lines).history } = search rules in
+    let is : performance ≡ record { caps = c.args.caps; history = (plain c.args.caps lines).history } = search rules in
     let over = c.in_ok-stop.ensures.boxes c.args.bank.items c.in_ok-player.ensures.boxes in
     let done = c.in_ok-played.ensures in
-    accounted g.M.Method.keep g.M.Method.heard lines performance c.args.bank.items _ _ is c.requires.enough done.legal (done.boxes c.args.bank.items over)
+    accounted g.M.Method.keep g.M.Method.heard c.args.caps lines performance c.args.bank.items _ _ is c.requires.enough done.legal (done.boxes c.args.bank.items over)
 
 pub returns-clause-ascending : goal.returns-clause-ascending
 returns-clause-ascending g c =
@@ -22,6 +22,6 @@ pub returns-clause-laws : goal.returns-clause-laws
 returns-clause-laws g c =
     let performance = c.play_lines.new.self.core.performance in
     let lines = c.args.lines.items in
-    let is : performance ≡ record { caps = default_caps; history = (plain default_caps lines).history } = search rules in
+    let is : performance ≡ record { caps = c.args.caps; history = (plain c.args.caps lines).history } = search rules in
     let legal = subst (λ (p : Performance). Legal p.caps p.history) is c.in_ok-played.ensures.legal in
-    c.every_history_keeps_the_laws.ensures default_caps (plain default_caps lines).history legal
+    c.every_history_keeps_the_laws.ensures c.args.caps (plain c.args.caps lines).history legal

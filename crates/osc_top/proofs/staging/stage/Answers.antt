@@ -2,9 +2,7 @@ use Rattle.std.proofs.Common.{ℕ, List, map, sym, ap, subst, arith}
 use Rattle.std.specs.Option.{option_map}
 use Rattle.osc_core.specs.Answers.{room_of}
 use Rattle.osc_lanes.specs.Performs.{Part, Performs, told_of}
-use Rattle.osc_model.specs.Limits.{Limits}
 use Rattle.osc_top.specs.Lanes.{parts_of}
-use Rattle.osc_top.specs.Plain.{live_caps}
 use Rattle.osc_top.specs.Staged.{IsStaged}
 use Rattle.osc_top.proofs.Dealt.{parts_whole, few_parts}
 use Rattle.osc_top.proofs.Staged.{staged, ascending_ids}
@@ -15,7 +13,7 @@ pub perform-requires-clause-callers : goal.perform-requires-clause-callers
 perform-requires-clause-callers g c =
     omega (
       arith,
-      ap (λ (caps : Limits). caps.callers) c.live_caps.ensures,
+      c.requires.callers,
       few_parts c.args.lines.items c.args.bank.items _ c.in_ok-parts.ensures.parts c.requires.lanes,
     )
 
@@ -25,7 +23,7 @@ perform-requires-clause-whole g c _ _ =
 
 -- what was played, of the lines and the bank
 performed_so : (g : _) (c : In_ok-played g)
-    → Performs g.M.Method.keep g.M.Method.heard live_caps (parts_of c.args.lines.items c.args.bank.items) c.in_ok-performed.performed.bytes.items
+    → Performs g.M.Method.keep g.M.Method.heard c.args.caps (parts_of c.args.lines.items c.args.bank.items) c.in_ok-performed.performed.bytes.items
     c.in_ok-performed.performed.kept.items (map told_of c.in_ok-performed.performed.lanes.items)
     (option_map room_of c.in_ok-performed.performed.unenrolled)
 performed_so g c =
@@ -34,10 +32,8 @@ performed_so g c =
     let performed = c.in_ok-performed.performed in
     let accounts = map told_of performed.lanes.items in
     let unenrolled = option_map room_of performed.unenrolled in
-    subst (λ (caps : Limits). Performs keep heard caps (parts_of c.args.lines.items c.args.bank.items) performed.bytes.items performed.kept.items accounts
-    unenrolled) c.live_caps.ensures
-    (subst (λ (parts : List (Part g.row.M.Denot)). Performs keep heard c.live_caps.result parts performed.bytes.items performed.kept.items accounts unenrolled)
-    c.in_ok-parts.ensures.parts c.in_ok-performed.ensures)
+    subst (λ (parts : List (Part g.row.M.Denot)). Performs keep heard c.args.caps parts performed.bytes.items performed.kept.items accounts unenrolled)
+    c.in_ok-parts.ensures.parts c.in_ok-performed.ensures
 
 pub returns-clause-staged : goal.returns-clause-staged
 returns-clause-staged g c =
@@ -49,8 +45,8 @@ returns-clause-staged g c =
     let played = c.in_ok-played.played in
     let done = c.in_ok-played.ensures in
     let stop = option_map room_of played.recorded.stop in
-    subst (λ (l : List ℕ). IsStaged keep heard lines bank played.heard.items played.left.items l played.recorded.faults stop) (sym done.bytes)
-    (staged keep heard lines bank performed.bytes.items performed.kept.items (map told_of performed.lanes.items) (option_map room_of performed.unenrolled)
+    subst (λ (l : List ℕ). IsStaged keep heard c.args.caps lines bank played.heard.items played.left.items l played.recorded.faults stop) (sym done.bytes)
+    (staged keep heard c.args.caps lines bank performed.bytes.items performed.kept.items (map told_of performed.lanes.items) (option_map room_of performed.unenrolled)
     played.heard.items (performed_so g (goal.at.returns-clause-staged g c).In_ok-played) done.each done.ascending played.left.items _ played.recorded.faults stop
     done.left c.in_ok-parts.ensures.rest done.faults done.stop)
 
@@ -58,6 +54,6 @@ pub returns-clause-ascending : goal.returns-clause-ascending
 returns-clause-ascending g c =
     let performed = c.in_ok-performed.performed in
     let done = c.in_ok-played.ensures in
-    ascending_ids g.M.Method.keep g.M.Method.heard c.args.lines.items c.args.bank.items performed.bytes.items performed.kept.items
+    ascending_ids g.M.Method.keep g.M.Method.heard c.args.caps c.args.lines.items c.args.bank.items performed.bytes.items performed.kept.items
     (map told_of performed.lanes.items) (option_map room_of performed.unenrolled) c.in_ok-played.played.heard.items
     (performed_so g (goal.at.returns-clause-ascending g c).In_ok-played) done.each done.ascending

@@ -1,0 +1,9 @@
+use Rattle.std.proofs.Common.{◌≡◌, ◌∙◌, ap}
+use Rattle.osc_top.specs.Plain.{plain_limits}
+use Rattle.osc_top.proofs.Tops.{accounted_so}
+use Rattle.osc_top.proofs.top.perform.Goals as goal
+
+pub returns-in-Run-clause-accounted : goal.returns-in-Run-clause-accounted
+returns-in-Run-clause-accounted g c = λ output caps is played.
+    let same : c.in-Run.caps ≡ caps = cc in
+    accounted_so c.args.bytes.items _ _ _ _ _ _ (c.plain_limits.ensures ∙ ap plain_limits same) (c.run.ensures.accounted played)
