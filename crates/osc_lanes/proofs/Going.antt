@@ -10,7 +10,7 @@ use Rattle.osc_lanes.specs.Shares.{Player, Account, then_told, ended, Plays}
 use Rattle.osc_lanes.specs.Tallies.{Played, PlaysTo}
 
 module _ {M : Type 0} where
-  then_assoc : (a b c : Account M) → then_told (then_told a b) c ≡ then_told a (then_told b c)
+  pub then_assoc : (a b c : Account M) → then_told (then_told a b) c ≡ then_told a (then_told b c)
   then_assoc a b c i = record {
     faults = append_assoc a.faults b.faults c.faults i;
     removed = append_assoc a.removed b.removed c.removed i;

@@ -11,6 +11,8 @@ pub mod Spending
 pub mod Staging
 pub mod Staying
 pub mod Telling
+pub mod Ticking
+pub mod Turning
 pub mod Unstopped
 pub mod Weights
 pub mod Zipping

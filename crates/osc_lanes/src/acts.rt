@@ -8,14 +8,14 @@ ghost use Rattle.osc_lanes.specs.Shares.{stop_of, adds_of};
 ghost use Rattle.osc_lanes.specs.Ends.{seen_by, player_of};
 ghost use Rattle.osc_lanes.specs.Tallies.{gathered, refused_in, removed_in, Played};
 
-use crate::stops::{pumped_stop, refused_stop, submitted_stop, ticked_stop};
+use crate::sending::send;
+use crate::stops::{pumped_stop, refused_stop, ticked_stop};
 use crate::tally::Tally;
 use osc_atoms::Room;
 use osc_core::{Adding, Removing};
 use osc_live::{Caller, Live};
 use osc_message::Bytes;
 use osc_method::Method;
-use osc_packet::{MAX_PACKET, Packet};
 use osc_pattern::Address;
 use osc_script::Act;
 use std::alloc::AllocError;
@@ -156,17 +156,9 @@ fn play_send<M: Method, W: Wait>(
         number (Act.Send bytes) (into_iter_items boxes.old) (into_iter_items boxes.new)
         (gathered tally.old None) (gathered tally.new r.1) r.1 (seen_by caller) (seen_by r.0)) }
 {
-    match Packet::check(bytes.as_slice(), MAX_PACKET) {
-        Ok(packet) => {
-            let (caller, answer) = live.submit(rt, caller, &packet);
-            let stop = submitted_stop(answer);
-            Ok((caller, stop))
-        }
-        Err(fault) => {
-            tally.faults.push((number, fault))?;
-            Ok((caller, None))
-        }
-    }
+    let bytes = bytes.as_slice();
+    let (caller, stop) = send(rt, live, caller, number, bytes, &mut tally.faults)?;
+    Ok((caller, stop))
 }
 
 fn play_tick<M: Method, W: Wait>(

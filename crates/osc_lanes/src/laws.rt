@@ -1,6 +1,6 @@
 //! What holds of a lane in every history that goes on from what its token has seen, and of a recording with room enough
 //! for all lanes.
-ghost use Rattle.std.specs.Prelude.{◌≡◌, ℕ, ◌+◌, ◌*◌, ◌≤◌, List, [], ◌∷◌, All, Option, codes, None};
+ghost use Rattle.std.specs.Prelude.{◌≡◌, ℕ, ◌+◌, ◌*◌, ◌≤◌, List, [], ◌∷◌, All, Option, codes, Some, None};
 ghost use Rattle.std.specs.List.{AllByRecursion};
 ghost use Rattle.osc_turn.specs.History.{StartsWith, texts};
 ghost use Rattle.osc_turn.specs.declared.view.Entry.{Entry};
@@ -11,9 +11,12 @@ ghost use Rattle.osc_core.specs.Standing.{history_in};
 ghost use Rattle.osc_lanes.specs.declared.plan.LanePlan.{LanePlan};
 ghost use Rattle.osc_lanes.specs.declared.plan.LaneEnd.{LaneEnd};
 ghost use Rattle.osc_script.specs.declared.act.Act.TheVariants.{Add, Send};
-ghost use Rattle.osc_lanes.specs.Shares.{Account, Onward, LaneOf, IsRemovedAt};
+ghost use Rattle.osc_lanes.specs.Shares.{Account, Onward, LaneOf, IsRemovedAt, Player, ended};
 ghost use Rattle.osc_lanes.specs.Performs.{enrolments, added_ids, removed_ids, Numbered, Part, Performs};
 ghost use Rattle.osc_lanes.specs.Enough.{enough_for};
+ghost use Rattle.osc_lanes.specs.declared.link_plan.Over.TheVariants.{Idle};
+ghost use Rattle.osc_lanes.specs.Links.{PlaysTurns};
+ghost use Rattle.osc_lanes.specs.Ticks.{Reads, round_lines, tick_line, pump_line};
 ghost use Rattle.osc_lanes.specs.Ends.{seen_by, player_of, account_of, IsReady, IsEndOf};
 
 use osc_method::Method;
@@ -83,4 +86,16 @@ pub fn examples()
           boxes = [];
         } ∷ [])
         ≡ 56 + 28 * 2 + (44 + 56) + 44 + 8 }
+{}
+
+/// Two quiets in a row end a link that may have so many, and a datagram between them starts their count anew; a moment is
+/// handed in that is the first or greater than the last; a clock's last moment stays; and faults stand link by link.
+pub fn serve_examples()
+    ensures quiets { (player : Player) (here : List Entry) → PlaysTurns {M = ℕ} (λ _. 0) (λ _. None)
+        player (record { count = 3; idle = 2 }) 0 0 (None ∷ None ∷ []) Idle (ended [] None) here
+        here }
+    ensures first { round_lines None 5 ≡ tick_line 5 ∷ pump_line ∷ [] }
+    ensures same { round_lines (Some 5) 5 ≡ pump_line ∷ [] }
+    ensures later { round_lines (Some 5) 6 ≡ tick_line 6 ∷ pump_line ∷ [] }
+    ensures reads { Reads (Some (5 ∷ 7 ∷ [])) (5 ∷ 7 ∷ 7 ∷ []) (Some (7 ∷ [])) }
 {}

@@ -48,10 +48,11 @@ pub fn play<M: Method + Send, W: Threads + Wait + Sync, G: Gate + Sync>(
     Ok(all)
 }
 
-fn all_ended<M: Drop>(
+/// The ends, unless there was no memory for one.
+pub(crate) fn all_ended<E: Drop>(
     alloc: Global,
-    ends: Vec<Result<LaneEnd<M>, AllocError>>,
-) -> Result<Vec<LaneEnd<M>>, AllocError>
+    ends: Vec<Result<E, AllocError>>,
+) -> Result<Vec<E>, AllocError>
     ensures { IfOk result (λ all. ends.items ≡ map Ok all.items) }
 {
     let mut all = Vec::with_capacity(alloc, ends.len())?;

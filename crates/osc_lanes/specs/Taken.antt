@@ -1,0 +1,45 @@
+-- Inside the crate: the turns of a link.
+use Rattle.std.specs.Prelude.{◌≡◌, ℕ, List, [], ◌∷◌, ◌++◌, Option, Some, None, option_map, IfSome}
+use Rattle.osc_atoms.specs.declared.fault.Fault.{Fault}
+use Rattle.osc_edge.specs.Faults.{Rose}
+use Rattle.osc_core.specs.Answers.{room_of}
+use Rattle.osc_script.specs.declared.act.Act.TheVariants.{Send}
+use Rattle.osc_turn.specs.declared.view.Entry.{Entry as Seen}
+use Rattle.osc_lanes.specs.declared.link_plan.Over.{Over}
+use Rattle.osc_lanes.specs.declared.linking.Turn.{Turn as Came}
+use Rattle.osc_lanes.specs.declared.linking.Turn.TheVariants.{Sent, Quiet, End, Failed, Full}
+use Rattle.osc_lanes.specs.declared.served.Bounds.{Bounds}
+use Rattle.osc_lanes.specs.Shares.{Player, Account, then_told}
+use Rattle.osc_lanes.specs.Links.{Turn, stop_by, link_account, PlaysTurns}
+use Rattle.osc_lanes.specs.Tallies.{Played}
+
+module _ {M : Type 0} (keep : M → ℕ) (heard : M → Option (List ℕ)) where
+  -- One turn was taken, with these faults told before and now, these turns left before and now,
+  -- and these counts of faults of the link before and now.
+  abbrev pub TakesOne : Player → ℕ → List (ℕ × Fault) → List (ℕ × Fault) → Option (List Turn)
+      → Option (List Turn) → ℕ → ℕ → Came → List Seen → List Seen → Type 0
+  TakesOne player number told now left after before count Sent here there =
+      (count ≡ before) × (bytes : List ℕ) × (left ≡ option_map (λ more. Some bytes ∷ more) after)
+      × Played keep heard player number (Send bytes) [] [] (link_account told None)
+      (link_account now None) None here there
+  TakesOne player number told now left after before count Quiet here there =
+      (count ≡ before) × (left ≡ option_map (λ more. None ∷ more) after) × (now ≡ told)
+      × (there ≡ here)
+  TakesOne player number told now left after before count End here there =
+      (count ≡ before) × (after ≡ left) × IfSome left (λ turns. turns ≡ []) × (now ≡ told)
+      × (there ≡ here)
+  TakesOne player number told now left after before count Failed here there =
+      Rose before count × (after ≡ left) × (now ≡ told) × (there ≡ here)
+  TakesOne player number told now left after before count (Full room) here there =
+      (count ≡ before) × (bytes : List ℕ) × (left ≡ option_map (λ more. Some bytes ∷ more) after)
+      × Played keep heard player number (Send bytes) [] [] (link_account told None)
+      (link_account now (Some (room_of room))) (Some room) here there
+
+  -- The turns of a link were taken until it was over.
+  pub record TakesAll (player : Player) (bounds : Bounds) (told now : List (ℕ × Fault))
+      (left after : Option (List Turn)) (over : Over) (here there : List Seen) : Type 0 where
+    pub turns : List Turn
+    pub account : Account M
+    pub plays : PlaysTurns keep heard player bounds 0 0 turns over account here there
+    pub told_is : link_account now (stop_by over) ≡ then_told (link_account told None) account
+    pub taken : left ≡ option_map (λ more. turns ++ more) after

@@ -1,0 +1,96 @@
+-- The ticker's share of a history.
+use Rattle.std.specs.Prelude.{◌≡◌, ℕ, Bool, true, nat_lt, if◌then◌else◌, List, [], ◌∷◌, All, Option, Some, None}
+use Rattle.osc_edge.specs.declared.clock.Moment.TheVariants.{At, Failed}
+use Rattle.osc_edge.specs.Clock.{GivesMoment}
+use Rattle.osc_edge.specs.Faults.{Rose}
+use Rattle.osc_model.specs.Events.{Room}
+use Rattle.osc_core.specs.Answers.{room_of}
+use Rattle.osc_script.specs.declared.act.Act.TheVariants.{Tick, Pump}
+use Rattle.osc_script.specs.declared.line.Line.{Line}
+use Rattle.osc_turn.specs.declared.view.Entry.{Entry as Seen}
+use Rattle.osc_turn.specs.History.{StartsWith}
+use Rattle.osc_lanes.specs.declared.served.TickerEnd.{TickerEnd}
+use Rattle.osc_lanes.specs.declared.served.TickerEnd.TheVariants.{Done, ClockFailed, Full}
+use Rattle.osc_lanes.specs.Shares.{Player, Onward, ended, Plays}
+
+-- a moment is handed in if it is the first, or greater than the last one that was
+abbrev pub is_later : Option ℕ → ℕ → Bool
+is_later None moment = true
+is_later (Some last) moment = nat_lt last moment
+
+-- the last moment that was handed in, after a round that reads this one
+abbrev pub last_after : Option ℕ → ℕ → Option ℕ
+last_after last moment = if is_later last moment then Some moment else last
+
+abbrev pub tick_line : ℕ → Line
+tick_line moment = record { number = 0; lane = 0; act = Tick moment }
+
+abbrev pub pump_line : Line
+pump_line = record { number = 0; lane = 0; act = Pump }
+
+-- what a round plays that reads this moment
+abbrev pub round_lines : Option ℕ → ℕ → List Line
+round_lines last moment =
+    if is_later last moment then tick_line moment ∷ pump_line ∷ [] else pump_line ∷ []
+
+-- a clock gives these moments, one a call, and then has this left, where it tells
+abbrev pub Reads : Option (List ℕ) → List ℕ → Option (List ℕ) → Type 0
+Reads before [] after = after ≡ before
+Reads before (moment ∷ moments) after =
+    (between : Option (List ℕ)) × GivesMoment before between (At moment)
+    × Reads between moments after
+
+-- what a clock has left before and after, where it tells, and its counts of faults
+pub record ClockRead : Type 0 where
+  pub before : Option (List ℕ)
+  pub after : Option (List ℕ)
+  pub faults : ℕ
+  pub now : ℕ
+
+module _ {M : Type 0} (keep : M → ℕ) (heard : M → Option (List ℕ)) where
+  -- one round is played between two places, up to the first event that finds no room
+  abbrev pub PlaysRound : Player → Option ℕ → ℕ → Option Room → List Seen → List Seen → Type 0
+  PlaysRound player last moment stop here there =
+      Plays keep heard player (round_lines last moment) [] (ended [] stop) here there
+
+  -- rounds that read these moments, one after another, each of which finds room
+  abbrev pub PlaysRounds : Player → Option ℕ → List ℕ → Option ℕ → List Seen → List Seen
+      → Type 0
+  PlaysRounds player first [] last here there = (last ≡ first) × (there ≡ here)
+  PlaysRounds player first (moment ∷ moments) last here there =
+      (place : List Seen) × PlaysRound player first moment None here place
+      × PlaysRounds player (last_after first moment) moments last place there
+
+  -- One more round, at a place that goes on from what was seen.
+  abbrev pub PlaysLast : Player → Option ℕ → Option Room → List (List Seen) → Option (List ℕ)
+      → Option (List ℕ) → List Seen → List Seen → Type 0
+  PlaysLast player last stop tokens before after here there =
+      (moment : ℕ) × (start : List Seen) × GivesMoment before after (At moment)
+      × Onward player.token here start × All (StartsWith start) tokens
+      × PlaysRound player last moment stop start there
+
+  -- How a ticker ends after its rounds. Done, it plays one more, which begins behind all that these
+  -- tokens have seen. It ends earlier where the clock fails, whose count of faults rose, or where a
+  -- round finds no room.
+  abbrev pub EndsTicks : Player → Option ℕ → List (List Seen) → Option (List ℕ) → ClockRead
+      → TickerEnd → List Seen → List Seen → Type 0
+  EndsTicks player last tokens before clock Done here there = (clock.now ≡ clock.faults)
+      × PlaysLast player last None tokens before clock.after here there
+  EndsTicks player last tokens before clock ClockFailed here there =
+      Rose clock.faults clock.now × GivesMoment before clock.after Failed
+      × Onward player.token here there
+  EndsTicks player last tokens before clock (Full room) here there =
+      (clock.now ≡ clock.faults)
+      × PlaysLast player last (Some (room_of room)) [] before clock.after here there
+
+  -- The ticker plays rounds between two places, one for each moment that the clock gives, and then
+  -- ends.
+  pub record Ticks (player : Player) (tokens : List (List Seen)) (clock : ClockRead)
+      (end : TickerEnd) (here there : List Seen) : Type 0 where
+    pub moments : List ℕ
+    pub last : Option ℕ
+    pub between : Option (List ℕ)
+    pub place : List Seen
+    pub reads : Reads clock.before moments between
+    pub rounds : PlaysRounds player None moments last here place
+    pub ends : EndsTicks player last tokens between clock end place there

@@ -1,0 +1,53 @@
+// Sends bytes that may be a packet.
+ghost use Rattle.std.specs.Prelude.{◌≡◌, ℕ, List, IfOk, None};
+ghost use Rattle.std.specs.Option.{option_map};
+ghost use Rattle.osc_core.specs.Answers.{room_of};
+ghost use Rattle.osc_live.specs.Seen.{IsTokenOf};
+ghost use Rattle.osc_script.specs.declared.act.Act.TheVariants.{Send};
+ghost use Rattle.osc_lanes.specs.Ends.{seen_by, player_of};
+ghost use Rattle.osc_lanes.specs.Tallies.{Played};
+
+use crate::stops::submitted_stop;
+use osc_atoms::{Fault, Room};
+use osc_live::{Caller, Live};
+use osc_method::Method;
+use osc_packet::{MAX_PACKET, Packet};
+use std::alloc::AllocError;
+use std::sync::Wait;
+
+/// Submits bytes that are a packet, and else keeps their fault under the number. The `Some` is the room where the
+/// recording was full; an `Err` is want of memory.
+pub(crate) fn send<M: Method, W: Wait>(
+    rt: &W,
+    live: &Live<M>,
+    caller: Caller,
+    number: u32,
+    bytes: &[u8],
+    faults: &mut Vec<(u32, Fault)>,
+) -> Result<(Caller, Option<Room>), AllocError>
+    requires ours { IsTokenOf live.now.turn live.now.caps caller.pass }
+    ensures ours { IfOk result (λ r. IsTokenOf live.now.turn live.now.caps r.0.pass) }
+    ensures player { IfOk result
+        (λ r. player_of live.now.caps r.0 ≡ player_of live.now.caps caller) }
+    ensures played { IfOk result (λ r. (boxes back : List M) (removed : List (ℕ × M))
+        → Played M.keep M.heard (player_of live.now.caps caller) number (Send bytes.now) boxes boxes
+        (record { faults = faults.old.items; removed = removed; back = back; stop = None })
+        (record {
+          faults = faults.new.items;
+          removed = removed;
+          back = back;
+          stop = option_map room_of r.1;
+        }) r.1 (seen_by caller) (seen_by r.0)) }
+{
+    match Packet::check(bytes, MAX_PACKET) {
+        Ok(packet) => {
+            let (caller, answer) = live.submit(rt, caller, &packet);
+            let stop = submitted_stop(answer);
+            Ok((caller, stop))
+        }
+        Err(fault) => {
+            faults.push((number, fault))?;
+            Ok((caller, None))
+        }
+    }
+}
