@@ -2,7 +2,7 @@
 use Rattle.std.proofs.Common.{◌≡◌, ℕ, ◌+◌, ◌<◌, Bool, true, false, cond, List, [], ◌∷◌, ◌++◌, map, insert, take, drop, refl, sym, ap, subst, max, ◌∙◌, not, one-add, arith}
 use Rattle.std.specs.List.{AllByRecursion, position_or_len}
 use Rattle.std.proofs.lemmas.List.{map-append, take-map, drop-map}
-use Rattle.osc_packet.specs.Units.{Timed, blocks}
+use Rattle.osc_packet.specs.Units.{TimedUnit, blocks}
 use Rattle.osc_pool.specs.Holding.{blocks_for, used_blocks, AreApart, IsNew, KeepsLive, KeepsOthers}
 use Rattle.osc_queue.specs.Timed.{Item, due_of, unit_of, is_before, enter, IsNewUnit}
 use Rattle.osc_queue.proofs.Orders.{all_entered}
@@ -20,7 +20,7 @@ insert-map view n x xs = map-append view (take n xs) (x ∷ drop n xs) ∙ ap (�
     ∙ ap (λ l. take n (map view xs) ++ view x ∷ l) (sym (drop-map view n xs))
 
 -- which comes first doesn't hang on what is stored
-place_viewed : (held : List (List ℕ)) (item : Item Stored) (unit : Timed) (items : List (Item Stored))
+place_viewed : (held : List (List ℕ)) (item : Item Stored) (unit : TimedUnit) (items : List (Item Stored))
     → position_or_len (is_before (due_of item, unit_of item, unit)) (queue_of held items) ≡ position_or_len (is_before item) items
 place_viewed held item unit [] = refl
 place_viewed held item unit (other ∷ items) = ap (λ (n : ℕ). cond (not (is_before item other)) (1 + n) 0) (place_viewed held item unit items)
@@ -64,7 +64,8 @@ pub record IsEntered (later : List (List ℕ)) (items : List (Item Stored)) (que
   pub queue_is : queue_of later items ≡ queue
   pub running : AreQueued later items next
 
-pub unit_entered : (held later : List (List ℕ)) (items : List (Item Stored)) (clock number due : ℕ) (unit : Timed) (one : Stored) → AreQueued held items number
+pub unit_entered : (held later : List (List ℕ)) (items : List (Item Stored)) (clock number due : ℕ) (unit : TimedUnit) (one : Stored)
+    → AreQueued held items number
     → due ≡ max unit.tag clock → IsStored later one → unit_in later one ≡ unit → IsNew one.chain held → KeepsLive held later
     → used_blocks later ≡ used_blocks held + blocks unit
     → IsEntered later (enter (due, number, one) items) (enter (waiting clock number unit) (queue_of held items)) (number + 1)
@@ -73,7 +74,7 @@ unit_entered held later items clock number due unit one are due_is stored value 
     let still = all_still held later items are.kept.stored (live_still held later items keeps are.kept.stored) in
     let queue : queue_of later (enter item items) ≡ enter (waiting clock number unit) (queue_of held items) =
     queue_entered later item items ∙ ap (λ (l : List Queued). enter (due, number, unit_in later one) l) still.queue
-    ∙ ap (λ (u : Timed). enter (due, number, u) (queue_of held items)) value
+    ∙ ap (λ (u : TimedUnit). enter (due, number, u) (queue_of held items)) value
     ∙ ap (λ (n : ℕ). enter (n, number, unit) (queue_of held items)) due_is in
     record {
       queue_is = queue;

@@ -2,7 +2,7 @@
 use Rattle.std.proofs.Common.{◌≡◌, ◌≢◌, ℕ, ◌+◌, ◌-◌, ◌<◌, ◌≤◌, ◌==◌, Bool, true, false, cond, nat_le, nat_lt, List, [], ◌∷◌, ◌++◌, ◌*◌, length, length-append, map, Option, Some, None, refl, sym, ap, subst, ◌∙◌, arith}
 use Rattle.std.proofs.lemmas.List.{append-nil}
 use Rattle.osc_packet.specs.Reading.{units_read}
-use Rattle.osc_packet.specs.Units.{Timed, blocks_of}
+use Rattle.osc_packet.specs.Units.{TimedUnit, blocks_of}
 use Rattle.osc_queue.specs.Timed.{due_of}
 use Rattle.osc_tree.specs.Registry.{id_at}
 use Rattle.osc_tree.specs.Adding.{Refusal, add_refusal}
@@ -31,7 +31,7 @@ use Rattle.osc_core.specs.Playing.{tables, performance_of, IsPlaying, AreSmall, 
 abbrev tabled : Stepped → Stepped
 tabled stepped = record { answer = stepped.answer; state = tables stepped.state; invocations = stepped.invocations }
 
-abbrev submits : List Timed → Bool → Bool → State → Stepped
+abbrev submits : List TimedUnit → Bool → Bool → State → Stepped
 submits units t u s = cond t (leaves s (units_full (record { need = length units; free = free_places s })))
     (cond u (leaves s (pool_full (record { need = blocks_of units; free = free_blocks s })))
     (leaves (after_submit s units) (queued s.next_unit (length units))))

@@ -1,7 +1,7 @@
 -- What is stored of units, before and after one enters or leaves.
 use Rattle.std.proofs.Common.{◌≡◌, ℕ, List, [], ◌∷◌, length, refl, ap, sym, ◌∙◌, arith}
 use Rattle.std.specs.List.{AllByRecursion}
-use Rattle.osc_packet.specs.Units.{Timed, stored_size, blocks}
+use Rattle.osc_packet.specs.Units.{TimedUnit, stored_size, blocks}
 use Rattle.osc_pool.specs.declared.chain.Chain.{Chain}
 use Rattle.osc_pool.specs.Holding.{blocks_for, held_by, AreApart, IsNew, KeepsLive, KeepsOthers}
 use Rattle.osc_queue.specs.Timed.{Item, due_of, unit_of}
@@ -42,7 +42,8 @@ stored_still later is same = record {
   small = is.small;
 }
 
-unit_still : (held later : List (List ℕ)) (stored : Stored) → held_by stored.chain later ≡ held_by stored.chain held → unit_in later stored ≡ unit_in held stored
+unit_still : (held later : List (List ℕ)) (stored : Stored) → held_by stored.chain later ≡ held_by stored.chain held
+    → unit_in later stored ≡ unit_in held stored
 unit_still held later stored same = ap (λ (l : List ℕ). record { tag = stored.tag; messages = messages_in l }) same
 
 -- so are all of them
@@ -57,7 +58,7 @@ all_still held later (item ∷ items) are same =
     let rest = all_still held later items are.2 same.1 in
     record {
       stored = (stored_still later are.0 same.0, are.1, rest.stored);
-      queue = ap (λ (u : Timed). (due_of item, unit_of item, u) ∷ queue_of later items) (unit_still held later item.2 same.0)
+      queue = ap (λ (u : TimedUnit). (due_of item, unit_of item, u) ∷ queue_of later items) (unit_still held later item.2 same.0)
           ∙ ap (λ (l : List Queued). queued_of held item ∷ l) rest.queue;
     }
 

@@ -3,14 +3,14 @@ use Rattle.std.specs.Prelude.{ℕ}
 use Rattle.osc_model.specs.Events.{Answer, removed, not_there, record_full}
 use Rattle.osc_core.specs.Answers.{room_of}
 use Rattle.osc_core.specs.declared.entry_answers.Leaving.{Leaving}
-use Rattle.osc_core.specs.declared.entry_answers.Leaving.TheVariants.{Left, RecordFull, NotThere}
+use Rattle.osc_core.specs.declared.entry_answers.Leaving.TheVariants.{Removed, RecordFull, NotThere}
 
 abbrev pub leaving_of : Leaving → Answer
-leaving_of (Left id) = removed id
+leaving_of (Removed id) = removed id
 leaving_of (RecordFull room) = record_full (room_of room)
 leaving_of NotThere = not_there
 
 -- where a method leaves, this holds of its id
-abbrev pub OnLeft : Leaving → (ℕ → Type 0) → Type 0
-OnLeft (Left id) holds = holds id
-OnLeft _ holds = Unit {0}
+abbrev pub OnRemoved : Leaving → (ℕ → Type 0) → Type 0
+OnRemoved (Removed id) holds = holds id
+OnRemoved _ holds = Unit {0}

@@ -3,14 +3,14 @@ use Rattle.osc_atoms.specs.declared.limits.TheConstants.{MAX_BYTES}
 use Rattle.std.specs.Prelude.{◌≡◌, ℕ, ◌≤◌, IsTrue, List, [], ◌∷◌}
 use Rattle.std.specs.List.{AllByRecursion, list_all}
 use Rattle.osc_message.specs.Reading.{is_message}
-use Rattle.osc_packet.specs.Units.{Timed, stored_size}
+use Rattle.osc_packet.specs.Units.{TimedUnit, stored_size}
 use Rattle.osc_pool.specs.Holding.{held_by, IsLive, AreApart}
 use Rattle.osc_queue.specs.Timed.{Item}
 use Rattle.osc_core.specs.declared.store.Stored.{Stored}
 use Rattle.osc_core.specs.Frames.{framed, messages_in}
 
 -- a unit that is stored: its tag, and the messages that its chain holds
-abbrev pub unit_in : List (List ℕ) → Stored → Timed
+abbrev pub unit_in : List (List ℕ) → Stored → TimedUnit
 unit_in held stored = record {
   tag = stored.tag;
   messages = messages_in (held_by stored.chain held);

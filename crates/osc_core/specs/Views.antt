@@ -2,7 +2,7 @@
 use Rattle.std.specs.Prelude.{◌≡◌, ℕ, ◌<◌, ◌≤◌, List, map, All}
 use Rattle.std.specs.List.{AllByRecursion}
 use Rattle.osc_pool.specs.Holding.{used_blocks}
-use Rattle.osc_queue.specs.Timed.{Item, Timed, due_of, unit_of}
+use Rattle.osc_queue.specs.Timed.{Item, TimedQueue, due_of, unit_of}
 use Rattle.osc_tree.specs.Registry.{Registry, IsLawful}
 use Rattle.osc_tree.specs.Matching.{HitList}
 use Rattle.osc_model.specs.State.{Queued}
@@ -35,7 +35,8 @@ pub record AreRegistered (tree : Registry) (hits : HitList) (next : ℕ) : Type 
   pub room : tree.method_limit ≤ hits.limit
 
 -- the parts of a server fit together, and there is room for the messages of one unit
-pub record IsRunning (tree : Registry) (hits : HitList) (held : List (List ℕ)) (queue : Timed Stored)
+pub record IsRunning (tree : Registry) (hits : HitList) (held : List (List ℕ))
+    (queue : TimedQueue Stored)
     (next_id next_unit callers caller_limit bytes_room : ℕ) : Type 0 where
   pub methods : AreRegistered tree hits next_id
   pub units : AreQueued held queue.items next_unit

@@ -15,7 +15,7 @@ use osc_tree::TreeRefusal;
 #[derive(Clone, Copy)]
 pub(crate) enum Leaving {
     /// The method with this id left.
-    Left(u32),
+    Removed(u32),
     RecordFull(Room),
     NotThere,
 }
@@ -36,7 +36,7 @@ pub(crate) fn remove_answer(leaving: Leaving) -> Answer<'static>
     ensures { answer_of result ≡ leaving_of leaving }
 {
     match leaving {
-        Leaving::Left(id) => Answer::Removed(id),
+        Leaving::Removed(id) => Answer::Removed(id),
         Leaving::NotThere => Answer::NotThere,
         Leaving::RecordFull(_) => unreachable!(),
     }

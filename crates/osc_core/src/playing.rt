@@ -13,8 +13,8 @@ ghost use Rattle.osc_core.specs.Playing.{IsPlaying, AreSmall, IsFull, IsPlayed, 
 use osc_model::laws;
 use osc_record::laws as recordings;
 
-/// The numbers of a server that is played and recorded are small. Where there is no room for an event's entry, all stays;
-/// else the event is answered by the server's rules, and its entry can be appended.
+/// The numbers of a server that is played and recorded are small. Where there is no room for an event's entry, all
+/// stays; else the event is answered by the server's rules, and its entry can be appended.
 pub(crate) fn a_performance_is_played()
     ensures small { (server : State) (recorder : Recording) (entries : ℕ)
         → IsPlaying server recorder entries → AreSmall server entries }
@@ -38,7 +38,8 @@ pub(crate) fn a_performance_is_played()
     recordings::sizes();
 }
 
-/// An event that doesn't speak of methods leaves them, and what their boxes have heard; and so does each that is refused.
+/// An event that doesn't speak of methods leaves them, and what their boxes have heard; and so does each that is
+/// refused.
 pub(crate) fn boxes_stay()
     ensures quiet { (performance : Performance) (caller : ℕ) (event : Event) (boxes : List Told)
         → IsQuiet event → HaveHeard performance boxes

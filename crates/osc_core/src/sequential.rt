@@ -159,7 +159,7 @@ impl<M: Method> Core<M> {
         let _ = address.bytes();
         boxes_hear_the_history();
         match self.performance.remove(caller, address) {
-            Leaving::Left(id) => Removing::Removed {
+            Leaving::Removed(id) => Removing::Removed {
                 id,
                 method: hand_out(&mut self.boxes, id),
             },
@@ -184,9 +184,9 @@ impl<M: Method> Core<M> {
         self.performance.tick(caller, now)
     }
 
-    /// Takes the unit that is least by due moment and number, if it is due, and invokes for each of its messages in order
-    /// each method that its pattern matches, in ascending order of the address. The calls are counted first: where the
-    /// entry has no room, no box is called.
+    /// Takes the unit that is least by due moment and number, if it is due, and invokes for each of its messages in
+    /// order each method that its pattern matches, in ascending order of the address. The calls are counted first:
+    /// where the entry has no room, no box is called.
     pub fn release(&mut self, caller: u32) -> Releasing
         requires { caller < (state_of self.old.performance).callers }
         ensures answer { TellsRelease result (stepped_in self.old.performance release).answer }

@@ -11,7 +11,7 @@ ghost use Rattle.osc_core.specs.Answers.{enrolled_of, submitted_of, ticking_of};
 ghost use Rattle.osc_core.specs.Ids.{is_ascending, without};
 ghost use Rattle.osc_core.specs.Telling.{told};
 ghost use Rattle.osc_core.specs.Due.{Releases, made_by};
-ghost use Rattle.osc_core.specs.Leaving.{leaving_of, OnLeft};
+ghost use Rattle.osc_core.specs.Leaving.{leaving_of, OnRemoved};
 ghost use Rattle.osc_core.specs.Playing.{tables};
 
 use crate::answers::{Enrolled, Releasing, Submitted, Ticking};
@@ -30,8 +30,8 @@ use osc_tree::{Hits, Tree, TreeRefusal};
 use std::alloc::{AllocError, Global};
 use std::marker::Model;
 
-/// The methods' addresses, the units with their messages, the clock and the numbers that are given next. A contract sees
-/// the server's state, in which nothing is recorded.
+/// The methods' addresses, the units with their messages, the clock and the numbers that are given next. A contract
+/// sees the server's state, in which nothing is recorded.
 #[derive(Drop)]
 pub(crate) struct Server {
     tree: Tree,
@@ -176,16 +176,16 @@ impl Server {
         ensures answer { leaving_of result ≡ (decided self.old (remove address.now)).answer }
         ensures entry { IsTrue (adds_entry (leaving_of result)) }
         ensures state { self.new ≡ (decided self.old (remove address.now)).state }
-        ensures held { OnLeft result
+        ensures held { OnRemoved result
             (λ id. Contains (map (λ method. method.id) self.old.methods) id) }
-        ensures others { OnLeft result
+        ensures others { OnRemoved result
             (λ id. map (λ method. method.id) self.new.methods
             ≡ without id (map (λ method. method.id) self.old.methods)) }
     {
         let Ok(id) = self.tree.remove(address) else {
             return Leaving::NotThere;
         };
-        Leaving::Left(id)
+        Leaving::Removed(id)
     }
 
     /// Sets the clock, unless the moment is before it.
@@ -201,8 +201,8 @@ impl Server {
         Ticking::Ticked
     }
 
-    /// Takes the first unit, if it is due, and makes the calls of its messages, each of which is recorded and then made.
-    /// Where the recording has no room for the entry, all stays.
+    /// Takes the first unit, if it is due, and makes the calls of its messages, each of which is recorded and then
+    /// made. Where the recording has no room for the entry, all stays.
     pub(crate) fn release<M: Method>(
         &mut self,
         caller: u32,

@@ -1,8 +1,8 @@
 //! Where bytes, datagrams and the time come from and where bytes go to: sources, sinks, links and clocks, in memory and
 //! real, each with a count of its faults.
 //!
-//! A contract sees what is left in a source, a link or a clock and what a sink holds, where the object tells it, and how
-//! often the object has failed. Only the standard streams, files, ports and the system's clock tell nothing.
+//! A contract sees what is left in a source, a link or a clock and what a sink holds, where the object tells it, and
+//! how often the object has failed. Only the standard streams, files, ports and the system's clock tell nothing.
 #![tactic(auto)]
 
 mod calls;

@@ -10,7 +10,7 @@ use Rattle.osc_message.specs.Reading.{pattern_of}
 use Rattle.osc_message.specs.Arguments.{unknown_of}
 use Rattle.osc_pattern.specs.Methods.{Method}
 use Rattle.osc_pattern.specs.Patterns.{matches}
-use Rattle.osc_packet.specs.Units.{Timed, blocks_of}
+use Rattle.osc_packet.specs.Units.{TimedUnit, blocks_of}
 use Rattle.osc_packet.specs.Reading.{units_read}
 use Rattle.osc_queue.specs.Timed.{due_of}
 use Rattle.osc_tree.specs.Registry.{id_at}
@@ -32,23 +32,23 @@ use Rattle.osc_lanes.specs.Shares.{stop_of}
 
 -- The bytes that the releases of units take, where there are at most so many methods.
 
-abbrev unit_cost : ℕ → Timed → ℕ
+abbrev unit_cost : ℕ → TimedUnit → ℕ
 unit_cost most unit = 44 + 8 * (length unit.messages * most)
 
-abbrev pub units_cost : ℕ → List Timed → ℕ
+abbrev pub units_cost : ℕ → List TimedUnit → ℕ
 units_cost most units = sum_by (unit_cost most) units
 
 abbrev queue_cost : ℕ → List Queued → ℕ
 queue_cost most queue = sum_by (λ unit. unit_cost most unit.2) queue
 
-numbered_cost : (most clock next : ℕ) (units : List Timed) → queue_cost most (numbered clock next units) ≡ units_cost most units
+numbered_cost : (most clock next : ℕ) (units : List TimedUnit) → queue_cost most (numbered clock next units) ≡ units_cost most units
 numbered_cost most clock next [] = refl
 numbered_cost most clock next (unit ∷ units) =
     sum_by-cons (λ (unit : Queued). unit_cost most unit.2) (waiting clock next unit) (numbered clock (next + 1) units)
     ∙ ap (λ (n : ℕ). unit_cost most unit + n) (numbered_cost most clock (next + 1) units)
     ∙ sym (sum_by-cons (unit_cost most) unit units)
 
-entered_cost : (most clock next : ℕ) (units : List Timed) (queue : List Queued)
+entered_cost : (most clock next : ℕ) (units : List TimedUnit) (queue : List Queued)
     → queue_cost most (enter_all (numbered clock next units) queue) ≡ units_cost most units + queue_cost most queue
 entered_cost most clock next units queue =
     let cost : Queued → ℕ = λ unit. unit_cost most unit.2 in
@@ -56,14 +56,14 @@ entered_cost most clock next units queue =
     ∙ sum_by-append cost (numbered clock next units) queue
     ∙ ap (λ (n : ℕ). n + queue_cost most queue) (numbered_cost most clock next units)
 
-pub units_cost_is : (most : ℕ) (units : List Timed) → units_cost most units ≡ 44 * length units + 8 * (sum_by (λ unit. length unit.messages) units * most)
+pub units_cost_is : (most : ℕ) (units : List TimedUnit) → units_cost most units ≡ 44 * length units + 8 * (sum_by (λ unit. length unit.messages) units * most)
 units_cost_is most [] = omega arith
 units_cost_is most (unit ∷ units) =
     omega (
       arith,
       sum_by-cons (unit_cost most) unit units,
       ap (λ (n : ℕ). n * most)
-          (sum_by-cons (λ (unit : Timed). length unit.messages) unit units),
+          (sum_by-cons (λ (unit : TimedUnit). length unit.messages) unit units),
       units_cost_is most units,
     )
 

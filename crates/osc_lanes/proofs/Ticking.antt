@@ -76,7 +76,8 @@ module _ {M : Type 0} (keep : M → ℕ) (heard : M → Option (List ℕ)) (play
       (place, plays, subst (λ (l : Option ℕ). PlaysRounds keep heard player l more final place there) is rest)
 
   -- no round is left
-  pub rounds_over : (start : Option (List ℕ)) (here : List Seen) (last : Option ℕ) (left : Option (List ℕ)) (now : List Seen) → RoundsGoOn start here last left now
+  pub rounds_over : (start : Option (List ℕ)) (here : List Seen) (last : Option ℕ) (left : Option (List ℕ)) (now : List Seen)
+      → RoundsGoOn start here last left now
       → (moments : List ℕ) × Reads start moments left × PlaysRounds keep heard player None moments last here now
   rounds_over start here last left now goes = goes [] last left now refl (refl, refl)
 
@@ -104,7 +105,8 @@ module _ {M : Type 0} (keep : M → ℕ) (heard : M → Option (List ℕ)) (play
       reads = all.1;
       rounds = all.2;
       ends = same_end last [] left left start after first now end place there
-          (subst (λ (n : ℕ). EndsTicks keep heard player last [] left (record { before = left; after = after; faults = n; now = now }) end place there) same ends.1);
+          (subst (λ (n : ℕ). EndsTicks keep heard player last [] left
+          (record { before = left; after = after; faults = n; now = now }) end place there) same ends.1);
     },
   )
 
@@ -118,7 +120,8 @@ module _ {M : Type 0} (keep : M → ℕ) (heard : M → Option (List ℕ)) (play
       record { moments = t.moments; last = t.last; between = t.between; place = t.place; reads = t.reads; rounds = t.rounds; ends = t.ends }
 
   -- the last round was played, or the ticker has ended in it
-  pub ended_last : (tokens : List (List Seen)) (before between after : Option (List ℕ)) (first faults now : ℕ) (last : Option ℕ) (here place start there : List Seen)
+  pub ended_last : (tokens : List (List Seen)) (before between after : Option (List ℕ)) (first faults now : ℕ) (last : Option ℕ)
+      (here place start there : List Seen)
       → TicksMeanwhile keep heard player (record { before = before; after = between; faults = first; now = faults }) (round.Played last) here place
       → Onward player.token place start → All (StartsWith start) tokens → (later : Option ℕ)
       → IsRound keep heard player last (record { before = between; after = after; faults = faults; now = now }) (round.Played later) start there
@@ -206,10 +209,12 @@ module _ {M : Type 0} (keep : M → ℕ) (heard : M → Option (List ℕ)) (play
       → Played keep heard other 0 Pump [] [] (ended [] None) (ended [] (option_map room_of stop)) stop place there
       → PlaysRound keep heard player last moment (option_map room_of stop) here there
   round_later last moment other tick stop here place there is none ticked same pumped = subst
-      (λ (b : Bool). Plays keep heard player (if b then tick_line moment ∷ pump_line ∷ [] else pump_line ∷ []) [] (ended [] (option_map room_of stop)) here there)
+      (λ (b : Bool). Plays keep heard player (if b then tick_line moment ∷ pump_line ∷ [] else pump_line ∷ []) []
+      (ended [] (option_map room_of stop)) here there)
       (sym is)
       (ticks_on moment stop here place there
-      (subst (λ (s : Option CodeRoom). Played keep heard player 0 (Tick moment) [] [] (ended [] None) (ended [] (option_map room_of s)) s here place) none ticked)
+      (subst (λ (s : Option CodeRoom). Played keep heard player 0 (Tick moment) [] [] (ended [] None)
+      (ended [] (option_map room_of s)) s here place) none ticked)
       (pumps stop place there
       (subst (λ (q : Player). Played keep heard q 0 Pump [] [] (ended [] None) (ended [] (option_map room_of stop)) stop place there) same pumped)))
 

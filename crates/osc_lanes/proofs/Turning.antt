@@ -98,7 +98,8 @@ module _ {M : Type 0} (keep : M → ℕ) (heard : M → Option (List ℕ)) (play
       }
 
   -- another player of the same number took a turn, which came to this
-  came_as : (other : Player) (number : ℕ) (so_far more : List (ℕ × Fault)) (left after : Option (List Turn)) (before count : ℕ) (turn to : Came) (now then : List Seen)
+  came_as : (other : Player) (number : ℕ) (so_far more : List (ℕ × Fault)) (left after : Option (List Turn)) (before count : ℕ) (turn to : Came)
+      (now then : List Seen)
       → other ≡ player → turn ≡ to → TakesOne keep heard other number so_far more left after before count turn now then
       → TakesOne keep heard player number so_far more left after before count to now then
   came_as other number so_far more left after before count turn to now then same is one = subst

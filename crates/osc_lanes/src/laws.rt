@@ -88,8 +88,8 @@ pub fn examples()
         ≡ 56 + 28 * 2 + (44 + 56) + 44 + 8 }
 {}
 
-/// Two quiets in a row end a link that may have so many, and a datagram between them starts their count anew; a moment is
-/// handed in that is the first or greater than the last; a clock's last moment stays; and faults stand link by link.
+/// Two quiets in a row end a link that may have so many, and a datagram between them starts their count anew; a moment
+/// is handed in that is the first or greater than the last; a clock's last moment stays; and faults stand link by link.
 pub fn serve_examples()
     ensures quiets { (player : Player) (here : List Entry) → PlaysTurns {M = ℕ} (λ _. 0) (λ _. None)
         player (record { count = 3; idle = 2 }) 0 0 (None ∷ None ∷ []) Idle (ended [] None) here

@@ -1,5 +1,5 @@
-//! Lanes: plans of script lines that are played beside each other on one server, each by a thread and under a token of its
-//! own.
+//! Lanes: plans of script lines that are played beside each other on one server, each by a thread and under a token of
+//! its own.
 #![tactic(auto)]
 
 mod acts;

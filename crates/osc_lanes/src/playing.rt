@@ -16,8 +16,8 @@ use std::sync::Wait;
 use std::thread;
 use std::thread::Threads;
 
-/// Plays the plans, each by a thread of its own where one can be made. The ends stand in the order of the plans. An `Err` is
-/// want of memory.
+/// Plays the plans, each by a thread of its own where one can be made. The ends stand in the order of the plans. An
+/// `Err` is want of memory.
 pub fn play<M: Method + Send, W: Threads + Wait + Sync, G: Gate + Sync>(
     rt: &W,
     alloc: Global,

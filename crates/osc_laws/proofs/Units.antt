@@ -2,7 +2,7 @@
 use Rattle.std.proofs.Common.{◌≡◌, ℕ, suc, ◌+◌, ◌≤◌, max, List, [], ◌∷◌, ◌++◌, Some, length, slice_get, refl, sym, ap, subst, ◌∙◌, append_assoc, arith}
 use Rattle.std.specs.List.{AllByRecursion}
 use Rattle.std.proofs.lemmas.List.{append-nil}
-use Rattle.osc_packet.specs.Units.{Timed}
+use Rattle.osc_packet.specs.Units.{TimedUnit}
 use Rattle.osc_packet.specs.Reading.{units_read}
 use Rattle.osc_queue.specs.Timed.{unit_of, due_of, enter}
 use Rattle.osc_queue.proofs.Orders.{all_entered, all_mapped}
@@ -19,7 +19,7 @@ abbrev pub IsWaiting : List Entry → Queued → Type 0
 IsWaiting history item = IsUnitOf history (unit_of item) item.2 × (item.2.tag ≤ due_of item)
 
 -- a history that goes on has the same units
-pub unit_later : (history more : List Entry) (number : ℕ) (unit : Timed) → IsUnitOf history number unit → IsUnitOf (history ++ more) number unit
+pub unit_later : (history more : List Entry) (number : ℕ) (unit : TimedUnit) → IsUnitOf history number unit → IsUnitOf (history ++ more) number unit
 unit_later history more number unit is =
     let entry : Entry = record { caller = is.caller; event = submit is.packet; answer = queued is.first is.count } in
     record {
@@ -41,13 +41,14 @@ waiting_later history more queue all =
     all_mapped queue (λ (item : Queued) (is : IsWaiting history item). (unit_later history more (unit_of item) item.2 is.0, is.1)) all
 
 -- what holds of each unit under its number holds of all that are numbered
-each_numbered : (P : Queued → Type 0) (clock next : ℕ) (units : List Timed)
-    → ((index : ℕ) (unit : Timed) → slice_get units index ≡ Some unit → P (waiting clock (next + index) unit)) → AllByRecursion P (numbered clock next units)
+each_numbered : (P : Queued → Type 0) (clock next : ℕ) (units : List TimedUnit)
+    → ((index : ℕ) (unit : TimedUnit) → slice_get units index ≡ Some unit → P (waiting clock (next + index) unit))
+    → AllByRecursion P (numbered clock next units)
 each_numbered P clock next [] holds = tt
 each_numbered P clock next (unit ∷ units) holds = (
   subst (λ (n : ℕ). P (waiting clock n unit)) (first next) (holds 0 unit refl),
   each_numbered P clock (next + 1) units
-      (λ (index : ℕ) (other : Timed) (at : slice_get units index ≡ Some other). subst (λ (n : ℕ). P (waiting clock n other)) (further next index)
+      (λ (index : ℕ) (other : TimedUnit) (at : slice_get units index ≡ Some other). subst (λ (n : ℕ). P (waiting clock n other)) (further next index)
       (holds (suc index) other at)),
 )
   where
@@ -68,7 +69,7 @@ packet_waits : (history : List Entry) (caller clock first : ℕ) (packet : List 
     (numbered clock first (units_read packet))
 packet_waits history caller clock first packet =
     each_numbered _ clock first (units_read packet)
-    (λ (index : ℕ) (unit : Timed) (at : slice_get (units_read packet) index ≡ Some unit). (
+    (λ (index : ℕ) (unit : TimedUnit) (at : slice_get (units_read packet) index ≡ Some unit). (
       record {
         before = history;
         caller = caller;

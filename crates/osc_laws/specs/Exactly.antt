@@ -5,7 +5,7 @@ use Rattle.std.specs.List.{AllByRecursion, Contains}
 use Rattle.osc_pattern.specs.Patterns.{Match}
 use Rattle.osc_message.specs.Reading.{pattern_of}
 use Rattle.osc_message.specs.Arguments.{unknown_of}
-use Rattle.osc_packet.specs.Units.{Timed}
+use Rattle.osc_packet.specs.Units.{TimedUnit}
 use Rattle.osc_model.specs.Events.{release, released, Hit, Call, Invocation, Entry}
 use Rattle.osc_model.specs.Step.{hits_of}
 use Rattle.osc_laws.specs.Facts.{IsRegistered, IsUnitOf, clock_in}
@@ -25,14 +25,14 @@ pub record IsInTime (history : List Entry) (invocation : Invocation) : Type 0 wh
   pub hits : List Hit
   pub later : List Entry
   pub place : IsReleasedAt history before invocation.unit hits later
-  pub unit : Timed
+  pub unit : TimedUnit
   pub unit_is : IsUnitOf before invocation.unit unit
   pub in_time : unit.tag ≤ clock_in before
 
 -- A call that a unit has to make where it is released after these entries: the message at its index
 -- has no unknown tag,
 -- a method with its id and address is registered, and the message's pattern matches that address.
-pub record IsCallOf (history : List Entry) (unit : Timed) (call : Call) : Type 0 where
+pub record IsCallOf (history : List Entry) (unit : TimedUnit) (call : Call) : Type 0 where
   pub message : slice_get unit.messages call.index ≡ Some call.message
   pub known : unknown_of call.message ≡ None
   pub registered : IsRegistered history call.id call.address
@@ -54,7 +54,7 @@ calls_of_number number invocations =
 -- once, and the entry tells their hits.
 pub record CallsExactly (before : List Entry) (number : ℕ) (hits : List Hit)
     (calls : List Call) : Type 0 where
-  pub unit : Timed
+  pub unit : TimedUnit
   pub unit_is : IsUnitOf before number unit
   pub in_time : unit.tag ≤ clock_in before
   pub exactly : (call : Call) → Contains calls call ↔ IsCallOf before unit call

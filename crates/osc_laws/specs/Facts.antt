@@ -1,7 +1,7 @@
 -- What is read off a history, without a state.
 use Rattle.std.specs.Prelude.{◌≡◌, ◌≢◌, ℕ, ◌+◌, List, [], ◌∷◌, ◌++◌, slice_get, Some}
 use Rattle.std.specs.List.{AllByRecursion}
-use Rattle.osc_packet.specs.Units.{Timed}
+use Rattle.osc_packet.specs.Units.{TimedUnit}
 use Rattle.osc_packet.specs.Reading.{units_read}
 use Rattle.osc_model.specs.Events.{Event, submit, add, tick, Answer, queued, added, removed, ticked, Entry}
 
@@ -33,7 +33,7 @@ pub record IsRegistered (history : List Entry) (id : ℕ) (address : List ℕ) :
   pub stays : AllByRecursion (λ entry. entry.answer ≢ removed id) later
 
 -- the unit with a number: one of those of a packet that was queued
-pub record IsUnitOf (history : List Entry) (number : ℕ) (unit : Timed) : Type 0 where
+pub record IsUnitOf (history : List Entry) (number : ℕ) (unit : TimedUnit) : Type 0 where
   pub before : List Entry
   pub caller : ℕ
   pub packet : List ℕ

@@ -4,7 +4,7 @@ use Rattle.std.specs.List.{flat_map}
 use Rattle.std.proofs.lemmas.Bool.{cases_lt}
 use Rattle.std.proofs.lemmas.List.{length-take-le, append-nil}
 use Rattle.osc_packet.specs.Packets.{effective_tag}
-use Rattle.osc_packet.specs.Units.{Timed, stored_size, blocks_of}
+use Rattle.osc_packet.specs.Units.{TimedUnit, stored_size, blocks_of}
 use Rattle.osc_packet.specs.Reading.{is_bundle, bundle_tag, packet_fault, element_fault, body_fault, first_size, first_element, after_first, elements_in, messages_in, bundle_read, enclosed_read, units_read}
 use Rattle.osc_packet.proofs.Steps.{bundle_step}
 use Rattle.osc_packet.proofs.Bodies.{silent_step, messages_step, messages_end}
@@ -12,7 +12,7 @@ use Rattle.osc_packet.proofs.Walks.{enclosed_step, enclosed_end, one_first}
 use Rattle.osc_packet.proofs.Entering.{opened}
 use Rattle.osc_packet.proofs.Few.{Sound, sound}
 
-blocks_joined : (first more : List Timed) → blocks_of (first ++ more) ≡ blocks_of first + blocks_of more
+blocks_joined : (first more : List TimedUnit) → blocks_of (first ++ more) ≡ blocks_of first + blocks_of more
 blocks_joined [] more = omega arith
 blocks_joined (unit ∷ first) more = omega (arith, blocks_joined first more)
 
@@ -32,7 +32,7 @@ none_taken : (left effective : ℕ) (bytes : List ℕ) → length bytes ≡ 0 �
 none_taken left effective bytes none = rw (messages_end bytes none, enclosed_end left effective bytes none) (omega arith)
 
 -- one element more
-one_taken : (f : List ℕ → List Timed) (test : Bool) (x : List ℕ) (messages : List (List ℕ)) (more size : ℕ) → (test ≡ true → blocks_of (f x) ≤ length x)
+one_taken : (f : List ℕ → List TimedUnit) (test : Bool) (x : List ℕ) (messages : List (List ℕ)) (more size : ℕ) → (test ≡ true → blocks_of (f x) ≤ length x)
     → stored_size messages + more ≤ size
     → stored_size (cond (not test) (x ∷ messages) messages) + (blocks_of (flat_map f (cond test (x ∷ []) [])) + more) ≤ 4 + length x + size
 one_taken f true x messages more size few rest = omega (arith, few refl, ap blocks_of (append-nil (f x)))
@@ -44,7 +44,7 @@ enclosed_few left each zero effective at bytes few silent = none_taken left effe
 enclosed_few left each (suc bound) effective at bytes few silent = elim (cases_lt 0 (length bytes)) [
   | inr none ↦ none_taken left effective bytes (omega arith)
   | inl some ↦
-      let f : List ℕ → List Timed = bundle_read left (Some effective) in
+      let f : List ℕ → List TimedUnit = bundle_read left (Some effective) in
       let x : List ℕ = first_element bytes in
       let step = silent_step (element_fault left (Some effective)) at bytes some silent in
       let size : length (first_element bytes) ≡ first_size bytes =

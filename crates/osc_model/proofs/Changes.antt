@@ -1,6 +1,6 @@
 -- What an event does to the registered methods.
 use Rattle.std.proofs.Common.{◌≡◌, ◌⊎◌, inl, inr, ℕ, ◌+◌, ◌==◌, Bool, true, false, nat_le, nat_lt, List, [], ◌∷◌, ◌++◌, length, Option, Some, None, cond, refl}
-use Rattle.osc_packet.specs.Units.{Timed, blocks_of}
+use Rattle.osc_packet.specs.Units.{TimedUnit, blocks_of}
 use Rattle.osc_packet.specs.Reading.{units_read}
 use Rattle.osc_queue.specs.Timed.{due_of}
 use Rattle.osc_tree.specs.Registry.{id_at, without}
@@ -65,7 +65,7 @@ remove_changes state address None is = inl (record { caps = refl; answer = refl;
 remove_changes state address (Some id) is =
     inr (inr (record { address = address; id = id; event_is = refl; found = is; answer = refl; caps = refl; methods = refl; next_id = refl; silent = refl }))
 
-submit_keeps : (state : State) (units : List Timed)
+submit_keeps : (state : State) (units : List TimedUnit)
     → KeepsMethods state
     (cond (nat_lt (free_places state) (length units)) (leaves state (units_full (record { need = length units; free = free_places state })))
     (cond (nat_lt (free_blocks state) (blocks_of units)) (leaves state (pool_full (record { need = blocks_of units; free = free_blocks state })))

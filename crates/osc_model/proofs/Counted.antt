@@ -4,7 +4,7 @@ use Rattle.std.specs.List.{filter, flat_map}
 use Rattle.std.proofs.lemmas.Bool.{cases_lt}
 use Rattle.std.proofs.lemmas.List.{take-append-drop}
 use Rattle.osc_packet.specs.Packets.{effective_tag}
-use Rattle.osc_packet.specs.Units.{Timed}
+use Rattle.osc_packet.specs.Units.{TimedUnit}
 use Rattle.osc_packet.specs.Reading.{is_bundle, bundle_tag, first_size, first_element, after_first, elements_in, bundle_read, enclosed_read, units_read}
 use Rattle.osc_packet.proofs.Steps.{bundle_step}
 use Rattle.osc_packet.proofs.Walks.{enclosed_step, enclosed_end, one_first}
@@ -23,7 +23,7 @@ use Rattle.osc_model.proofs.Refusals.{decided_none}
 abbrev BundleFew : ℕ → Type 0
 BundleFew left = (outer : Option ℕ) (bytes : List ℕ) → is_bundle bytes ≡ true → length (bundle_read left outer bytes) ≤ length bytes
 
-one_few : (f : List ℕ → List Timed) (test : Bool) (x : List ℕ) → (test ≡ true → length (f x) ≤ length x)
+one_few : (f : List ℕ → List TimedUnit) (test : Bool) (x : List ℕ) → (test ≡ true → length (f x) ≤ length x)
     → length (flat_map f (cond test (x ∷ []) [])) ≤ length x
 one_few f true x few = omega (arith, few refl, length-append (f x) [])
 one_few f false x few = omega arith
@@ -40,7 +40,7 @@ enclosed_few left each zero effective bytes few = rw (enclosed_end left effectiv
 enclosed_few left each (suc bound) effective bytes few = elim (cases_lt 0 (length bytes)) [
   | inr none ↦ rw (enclosed_end left effective bytes (omega arith)) (omega arith)
   | inl some ↦
-      let f : List ℕ → List Timed = bundle_read left (Some effective) in
+      let f : List ℕ → List TimedUnit = bundle_read left (Some effective) in
       let fit = parts_fit bytes some in
       let one = one_few f (is_bundle (first_element bytes)) (first_element bytes) (each (Some effective) (first_element bytes)) in
       let rest = enclosed_few left each bound effective (after_first bytes) (omega arith) in

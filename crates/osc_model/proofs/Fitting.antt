@@ -19,7 +19,7 @@ use Rattle.osc_pattern.proofs.Cutting.{neither}
 use Rattle.osc_pattern.specs.Addresses.{IsAddress, is_address, is_bad_byte, is_proper_prefix}
 use Rattle.osc_pattern.specs.Methods.{Method, prefixes_of, runs_of}
 use Rattle.osc_pattern.specs.Patterns.{parts_of}
-use Rattle.osc_packet.specs.Units.{Timed, stored_size, blocks_of}
+use Rattle.osc_packet.specs.Units.{TimedUnit, stored_size, blocks_of}
 use Rattle.osc_packet.specs.Reading.{is_packet, packet_fault, units_read}
 use Rattle.osc_packet.proofs.Few.{sound, units_few}
 use Rattle.osc_packet.proofs.Bodies.{count_stored}
@@ -108,7 +108,7 @@ submit_fits caller state packet few small lawful =
     most : state.caps.blocks ≤ 1048576
     most = small.sound.caps.blocks.below
 
-    go : (units : List Timed) → length units ≤ 65504 → blocks_of units ≤ 65508
+    go : (units : List TimedUnit) → length units ≤ 65504 → blocks_of units ≤ 65508
         → IsRecordable caller (submit packet)
         (cond (nat_lt (free_places state) (length units)) (leaves state (units_full (record { need = length units; free = free_places state })))
         (cond (nat_lt (free_blocks state) (blocks_of units)) (leaves state (pool_full (record { need = blocks_of units; free = free_blocks state })))

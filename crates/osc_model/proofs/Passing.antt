@@ -3,7 +3,7 @@ use Rattle.std.proofs.Common.{◌≡◌, ℕ, ◌+◌, List, [], ◌∷◌, ◌+
 use Rattle.std.specs.List.Sorted.{IsPermutation}
 use Rattle.std.proofs.lemmas.List.{append-nil}
 use Rattle.std.proofs.lemmas.List.Sorted.{IsPermutation-refl, IsPermutation-trans, IsPermutation-append_comm, IsPermutation-append_left, IsPermutation-append_right}
-use Rattle.osc_packet.specs.Units.{Timed}
+use Rattle.osc_packet.specs.Units.{TimedUnit}
 use Rattle.osc_packet.specs.Reading.{units_read}
 use Rattle.osc_queue.specs.Timed.{unit_of}
 use Rattle.osc_model.specs.State.{Queued, State}
@@ -96,7 +96,7 @@ history_passes state (entry ∷ entries) =
 
 -- The units that enter and leave are those of the answers.
 
-numbers_are : (clock next : ℕ) (units : List Timed) → map (λ (unit : Queued). unit_of unit) (numbered clock next units) ≡ numbers_from next (length units)
+numbers_are : (clock next : ℕ) (units : List TimedUnit) → map (λ (unit : Queued). unit_of unit) (numbered clock next units) ≡ numbers_from next (length units)
 numbers_are clock next [] = refl
 numbers_are clock next (unit ∷ units) = ap (λ (l : List ℕ). next ∷ l) (numbers_are clock (next + 1) units)
 

@@ -3,7 +3,7 @@ use Rattle.std.proofs.Common.{◌≡◌, ◌≢◌, ℕ, suc, ◌+◌, ◌<◌, 
 use Rattle.std.specs.List.Sorted.{IsPermutation}
 use Rattle.std.proofs.lemmas.List.Sums.{sum_by-cons}
 use Rattle.std.proofs.lemmas.List.Sorted.{IsPermutation-refl, IsPermutation-sym, IsPermutation-trans, IsPermutation-middle, IsPermutation-append_right, length_permutation, sum_by-IsPermutation}
-use Rattle.osc_packet.specs.Units.{Timed, blocks, blocks_of}
+use Rattle.osc_packet.specs.Units.{TimedUnit, blocks, blocks_of}
 use Rattle.osc_queue.specs.Timed.{unit_of, enter, IsInOrder, IsNewUnit}
 use Rattle.osc_queue.proofs.Orders.{enter_joined, enter_ordered, all_entered}
 use Rattle.osc_model.specs.State.{Queued, AreNumbered}
@@ -21,7 +21,7 @@ all_joined (unit ∷ units) queue =
 pub all_counted : (units queue : List Queued) → length (enter_all units queue) ≡ length units + length queue
 all_counted units queue = length_permutation (units ++ queue) (enter_all units queue) (all_joined units queue) ∙ length-append units queue
 
-pub numbered_length : (clock next : ℕ) (units : List Timed) → length (numbered clock next units) ≡ length units
+pub numbered_length : (clock next : ℕ) (units : List TimedUnit) → length (numbered clock next units) ≡ length units
 numbered_length clock next [] = omega arith
 numbered_length clock next (unit ∷ units) = ap suc (numbered_length clock (next + 1) units)
 
@@ -35,7 +35,7 @@ pub entered_on : (first more queue : List Queued) → enter_all (first ++ more) 
 entered_on [] more queue = refl
 entered_on (unit ∷ first) more queue = entered_on first more (enter unit queue)
 
-pub numbered_on : (clock next : ℕ) (first more : List Timed)
+pub numbered_on : (clock next : ℕ) (first more : List TimedUnit)
     → numbered clock next (first ++ more) ≡ numbered clock next first ++ numbered clock (next + length first) more
 numbered_on clock next [] more = let same : next ≡ next + 0 = omega arith in ap (λ (n : ℕ). numbered clock n more) same
 numbered_on clock next (unit ∷ first) more =
@@ -53,7 +53,7 @@ joined_blocks : (units queue : List Queued) → queued_blocks (units ++ queue) �
 joined_blocks [] queue = omega arith
 joined_blocks (unit ∷ units) queue = let more = joined_blocks units queue in omega arith
 
-numbered_blocks : (clock next : ℕ) (units : List Timed) → queued_blocks (numbered clock next units) ≡ blocks_of units
+numbered_blocks : (clock next : ℕ) (units : List TimedUnit) → queued_blocks (numbered clock next units) ≡ blocks_of units
 numbered_blocks clock next [] = omega arith
 numbered_blocks clock next (unit ∷ units) = ap (λ (n : ℕ). blocks unit + n) (numbered_blocks clock (next + 1) units)
 
@@ -69,7 +69,7 @@ one_blocks unit queue = entered_blocks (unit ∷ []) queue ∙ only (blocks unit
   only : (m n : ℕ) → m + 0 + n ≡ m + n
   only m n = omega arith
 
-pub all_blocks : (clock next : ℕ) (units : List Timed) (queue : List Queued)
+pub all_blocks : (clock next : ℕ) (units : List TimedUnit) (queue : List Queued)
     → queued_blocks (enter_all (numbered clock next units) queue) ≡ blocks_of units + queued_blocks queue
 all_blocks clock next units queue =
     entered_blocks (numbered clock next units) queue ∙ ap (λ (n : ℕ). n + queued_blocks queue) (numbered_blocks clock next units)
@@ -89,23 +89,23 @@ numbered_later next (unit ∷ units) below = (later (unit_of unit) below.0, numb
   later : (n : ℕ) → n < next → n < next + 1
   later n less = omega arith
 
-pub one_ordered : (clock next : ℕ) (unit : Timed) (queue : List Queued) → AreNumbered next queue → IsInOrder queue
+pub one_ordered : (clock next : ℕ) (unit : TimedUnit) (queue : List Queued) → AreNumbered next queue → IsInOrder queue
     → IsInOrder (enter (waiting clock next unit) queue)
 one_ordered clock next unit queue below ordered = enter_ordered (waiting clock next unit) queue (next_new next queue below) ordered
 
-pub one_numbered : (clock next : ℕ) (unit : Timed) (queue : List Queued) → AreNumbered next queue
+pub one_numbered : (clock next : ℕ) (unit : TimedUnit) (queue : List Queued) → AreNumbered next queue
     → AreNumbered (next + 1) (enter (waiting clock next unit) queue)
 one_numbered clock next unit queue below =
     all_entered (λ (u : Queued). unit_of u < next + 1) (waiting clock next unit) queue (omega arith) (numbered_later next queue below)
 
-pub all_ordered : (clock next : ℕ) (units : List Timed) (queue : List Queued) → AreNumbered next queue → IsInOrder queue
+pub all_ordered : (clock next : ℕ) (units : List TimedUnit) (queue : List Queued) → AreNumbered next queue → IsInOrder queue
     → IsInOrder (enter_all (numbered clock next units) queue)
 all_ordered clock next [] queue below ordered = ordered
 all_ordered clock next (unit ∷ units) queue below ordered =
     all_ordered clock (next + 1) units (enter (waiting clock next unit) queue) (one_numbered clock next unit queue below)
     (one_ordered clock next unit queue below ordered)
 
-pub all_numbered : (clock next : ℕ) (units : List Timed) (queue : List Queued) → AreNumbered next queue
+pub all_numbered : (clock next : ℕ) (units : List TimedUnit) (queue : List Queued) → AreNumbered next queue
     → AreNumbered (next + length units) (enter_all (numbered clock next units) queue)
 all_numbered clock next [] queue below = let same : next ≡ next + 0 = omega arith in subst (λ (n : ℕ). AreNumbered n queue) same below
 all_numbered clock next (unit ∷ units) queue below =

@@ -4,7 +4,7 @@ use Rattle.std.specs.Str.{bytes_eq}
 use Rattle.std.proofs.lemmas.Bool.Decides.{nat_tests}
 use Rattle.std.proofs.lemmas.List.Elements.{All-nil, All-push, All-weaker, All-filter}
 use Rattle.std.proofs.lemmas.Bool.{ltb-false}
-use Rattle.osc_packet.specs.Units.{Timed, blocks_of}
+use Rattle.osc_packet.specs.Units.{TimedUnit, blocks_of}
 use Rattle.osc_packet.specs.Reading.{units_read}
 use Rattle.osc_pattern.specs.Addresses.{IsAddress, is_address}
 use Rattle.osc_pattern.specs.Methods.{Method}
@@ -112,7 +112,7 @@ enrolled state sound = go (state.callers == state.caps.callers) refl where
   go true e = sound
   go false e = let few = sound.callers in with_callers state (state.callers + 1) sound (omega arith, grind (arith, nat_tests))
 
-submitted : (state : State) (units : List Timed) → IsSound state → nat_lt (free_places state) (length units) ≡ false
+submitted : (state : State) (units : List TimedUnit) → IsSound state → nat_lt (free_places state) (length units) ≡ false
     → nat_lt (free_blocks state) (blocks_of units) ≡ false → IsSound (after_submit state units)
 submitted state units sound places room =
     let few_units = sound.few_units in
@@ -132,7 +132,7 @@ submitted state units sound places room =
 
 submits : (state : State) (packet : List ℕ) → IsSound state → IsSound (decided state (submit packet)).state
 submits state packet sound = go (units_read packet) where
-  go : (units : List Timed)
+  go : (units : List TimedUnit)
       → IsSound (cond (nat_lt (free_places state) (length units)) (leaves state (units_full (record { need = length units; free = free_places state })))
       (cond (nat_lt (free_blocks state) (blocks_of units)) (leaves state (pool_full (record { need = blocks_of units; free = free_blocks state })))
       (leaves (after_submit state units) (queued state.next_unit (length units))))).state

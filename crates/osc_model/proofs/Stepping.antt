@@ -1,7 +1,7 @@
 -- How a step goes: an event is decided, and its entry is recorded where there is room for it.
 use Rattle.std.proofs.Common.{◌≡◌, ℕ, ◌+◌, ◌<◌, ◌≤◌, ◌==◌, Bool, true, false, cond, nat_le, nat_lt, List, [], ◌∷◌, length, Option, Some, None, refl}
 use Rattle.std.proofs.lemmas.Bool.{ltb-true, ltb-false}
-use Rattle.osc_packet.specs.Units.{Timed, blocks_of}
+use Rattle.osc_packet.specs.Units.{TimedUnit, blocks_of}
 use Rattle.osc_packet.specs.Reading.{units_read}
 use Rattle.osc_queue.specs.Timed.{due_of}
 use Rattle.osc_tree.specs.Registry.{id_at}
@@ -56,7 +56,7 @@ decided_so Q state enrol decides = go (state.callers == state.caps.callers) wher
   go true = decides.refused enrol callers_full tt
   go false = decides.enrolled
 decided_so Q state (submit packet) decides = go (units_read packet) (decides.queued packet) where
-  go : (units : List Timed) → Q (submit packet) (leaves (after_submit state units) (queued state.next_unit (length units)))
+  go : (units : List TimedUnit) → Q (submit packet) (leaves (after_submit state units) (queued state.next_unit (length units)))
       → Q (submit packet)
       (cond (nat_lt (free_places state) (length units)) (leaves state (units_full (record { need = length units; free = free_places state })))
       (cond (nat_lt (free_blocks state) (blocks_of units)) (leaves state (pool_full (record { need = blocks_of units; free = free_blocks state })))

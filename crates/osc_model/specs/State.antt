@@ -1,7 +1,7 @@
 -- What a server is between two events.
 use Rattle.std.specs.Prelude.{ℕ, ◌<◌, List, []}
 use Rattle.std.specs.List.{AllByRecursion}
-use Rattle.osc_packet.specs.Units.{Timed}
+use Rattle.osc_packet.specs.Units.{TimedUnit}
 use Rattle.osc_pattern.specs.Methods.{Method}
 use Rattle.osc_queue.specs.Timed.{Item, unit_of}
 use Rattle.osc_tree.specs.Registry.{Registry}
@@ -9,7 +9,7 @@ use Rattle.osc_model.specs.Limits.{Limits, header_size}
 
 -- a queued unit: the moment from which it is due, its number, and its effective tag and messages
 abbrev pub Queued : Type 0
-Queued = Item Timed
+Queued = Item TimedUnit
 
 -- each unit has a number below this one
 abbrev pub AreNumbered : ℕ → List Queued → Type 0

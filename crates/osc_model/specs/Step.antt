@@ -3,7 +3,7 @@ use Rattle.std.specs.Prelude.{ℕ, ◌+◌, ◌==◌, max, nat_le, nat_lt, if◌
 use Rattle.osc_pattern.specs.Methods.{Method}
 use Rattle.osc_message.specs.Reading.{pattern_of}
 use Rattle.osc_message.specs.Arguments.{unknown_of}
-use Rattle.osc_packet.specs.Units.{Timed, blocks_of}
+use Rattle.osc_packet.specs.Units.{TimedUnit, blocks_of}
 use Rattle.osc_packet.specs.Reading.{units_read}
 use Rattle.osc_tree.specs.Registry.{id_at, without}
 use Rattle.osc_tree.specs.Adding.{Refusal, add_refusal}
@@ -32,11 +32,11 @@ enrol_one state =
 
 -- a unit that waits under its number, and is due at its effective tag or at the clock, whichever is
 -- greater
-abbrev pub waiting : ℕ → ℕ → Timed → Queued
+abbrev pub waiting : ℕ → ℕ → TimedUnit → Queued
 waiting clock next unit = (max unit.tag clock, next, unit)
 
 -- units take the next numbers in their order
-abbrev pub numbered : ℕ → ℕ → List Timed → List Queued
+abbrev pub numbered : ℕ → ℕ → List TimedUnit → List Queued
 numbered clock next [] = []
 numbered clock next (unit ∷ units) = waiting clock next unit ∷ numbered clock (next + 1) units
 
@@ -46,7 +46,7 @@ enter_all [] queue = queue
 enter_all (unit ∷ units) queue = enter_all units (enter unit queue)
 
 -- the units enter the queue under the next numbers
-abbrev pub after_submit : State → List Timed → State
+abbrev pub after_submit : State → List TimedUnit → State
 after_submit state units =
     record state {
       queue = enter_all (numbered state.clock state.next_unit units) state.queue;
@@ -54,7 +54,7 @@ after_submit state units =
     }
 
 -- units are queued where there is a place for each of them, and blocks for all their messages
-abbrev pub submit_units : State → List Timed → Stepped
+abbrev pub submit_units : State → List TimedUnit → Stepped
 submit_units state units =
     if nat_lt (free_places state) (length units)
     then leaves state (units_full (record { need = length units; free = free_places state }))

@@ -5,7 +5,7 @@ ghost use Rattle.std.specs.List.{AllByRecursion, Contains};
 ghost use Rattle.std.specs.List.Sorted.{IsPermutation};
 ghost use Rattle.osc_pattern.specs.Addresses.{IsAddress};
 ghost use Rattle.osc_pattern.specs.Methods.{Method, IsMethodList};
-ghost use Rattle.osc_packet.specs.Units.{Timed, blocks, blocks_of};
+ghost use Rattle.osc_packet.specs.Units.{TimedUnit, blocks, blocks_of};
 ghost use Rattle.osc_method.specs.Heard.{last_of};
 ghost use Rattle.osc_queue.specs.Timed.{unit_of, enter, IsInOrder, IsNewUnit};
 ghost use Rattle.osc_tree.specs.Registry.{Registry, IsLawful as IsLawfulRegistry, IsNewId, without, address_by_id};
@@ -46,7 +46,7 @@ pub fn a_server_stays_sound()
 pub fn units_enter_the_queue()
     ensures joined { (units queue : List Queued)
         → IsPermutation (units ++ queue) (enter_all units queue) }
-    ensures blocks { (clock next : ℕ) (units : List Timed) (queue : List Queued)
+    ensures blocks { (clock next : ℕ) (units : List TimedUnit) (queue : List Queued)
         → queued_blocks (enter_all (numbered clock next units) queue)
         ≡ blocks_of units + queued_blocks queue }
 {}
@@ -55,14 +55,14 @@ pub fn units_enter_the_queue()
 /// numbers are below the next one after them.
 pub fn units_keep_the_order()
     ensures new { (next : ℕ) (queue : List Queued) → AreNumbered next queue → IsNewUnit next queue }
-    ensures one { (clock next : ℕ) (unit : Timed) (queue : List Queued) → AreNumbered next queue
+    ensures one { (clock next : ℕ) (unit : TimedUnit) (queue : List Queued) → AreNumbered next queue
         → IsInOrder queue → IsInOrder (enter (waiting clock next unit) queue) }
-    ensures one_number { (clock next : ℕ) (unit : Timed) (queue : List Queued)
+    ensures one_number { (clock next : ℕ) (unit : TimedUnit) (queue : List Queued)
         → AreNumbered next queue → AreNumbered (next + 1) (enter (waiting clock next unit) queue) }
-    ensures all { (clock next : ℕ) (units : List Timed) (queue : List Queued)
+    ensures all { (clock next : ℕ) (units : List TimedUnit) (queue : List Queued)
         → AreNumbered next queue → IsInOrder queue
         → IsInOrder (enter_all (numbered clock next units) queue) }
-    ensures all_numbers { (clock next : ℕ) (units : List Timed) (queue : List Queued)
+    ensures all_numbers { (clock next : ℕ) (units : List TimedUnit) (queue : List Queued)
         → AreNumbered next queue
         → AreNumbered (next + length units) (enter_all (numbered clock next units) queue) }
 {}
@@ -75,7 +75,7 @@ pub fn units_are_counted()
         → queued_blocks (enter unit queue) ≡ blocks unit.2 + queued_blocks queue }
     ensures all { (units queue : List Queued)
         → length (enter_all units queue) ≡ length units + length queue }
-    ensures numbered { (clock next : ℕ) (units : List Timed)
+    ensures numbered { (clock next : ℕ) (units : List TimedUnit)
         → length (numbered clock next units) ≡ length units }
 {}
 
@@ -83,7 +83,7 @@ pub fn units_are_counted()
 pub fn units_enter_in_two_goes()
     ensures entered { (first more queue : List Queued)
         → enter_all (first ++ more) queue ≡ enter_all more (enter_all first queue) }
-    ensures numbered { (clock next : ℕ) (first more : List Timed)
+    ensures numbered { (clock next : ℕ) (first more : List TimedUnit)
         → numbered clock next (first ++ more)
         ≡ numbered clock next first ++ numbered clock (next + length first) more }
 {}

@@ -6,7 +6,7 @@ use Rattle.std.proofs.lemmas.Bool.{cond-true, cond-false}
 use Rattle.osc_atoms.specs.Atoms.{word}
 use Rattle.osc_message.specs.Messages.{Form, message_text, IsLawful}
 use Rattle.osc_packet.specs.Packets.{Packet, Elements, message, bundle, none, more, packet_text, elements_text, depth, elements_depth, effective_tag, IsLawfulIn, AreLawfulIn}
-use Rattle.osc_packet.specs.Units.{Timed, own_messages, bundle_units, enclosed_units, units_of}
+use Rattle.osc_packet.specs.Units.{TimedUnit, own_messages, bundle_units, enclosed_units, units_of}
 use Rattle.osc_packet.specs.Reading.{is_bundle, bundle_tag, elements_in, messages_in, bundle_read, enclosed_read, units_read}
 use Rattle.osc_packet.specs.Known.{OfMessages}
 use Rattle.osc_packet.proofs.Steps.{in_step, in_end, bundle_step}
@@ -42,12 +42,12 @@ messages_again known (more (message form) elements) effective lawful =
     ∙ ap (λ (l : List (List ℕ)). message_text form ∷ l) (messages_again known elements effective lawful.1)
 messages_again known (more (bundle own inner) elements) effective lawful = messages_again known elements effective lawful.1
 
-one_and_more : (f : List ℕ → List Timed) (x : List ℕ) (xs : List (List ℕ))
+one_and_more : (f : List ℕ → List TimedUnit) (x : List ℕ) (xs : List (List ℕ))
     → flat_map f (filter is_bundle (x ∷ xs)) ≡ flat_map f (filter is_bundle (x ∷ [])) ++ flat_map f (filter is_bundle xs)
 one_and_more f x xs = go (is_bundle x) where
   go : (test : Bool) → flat_map f (cond test (x ∷ filter is_bundle xs) (filter is_bundle xs))
       ≡ flat_map f (cond test (x ∷ []) []) ++ flat_map f (filter is_bundle xs)
-  go true = ap (λ (l : List Timed). l ++ flat_map f (filter is_bundle xs)) (sym (append-nil (f x)))
+  go true = ap (λ (l : List TimedUnit). l ++ flat_map f (filter is_bundle xs)) (sym (append-nil (f x)))
   go false = refl
 
 mutual

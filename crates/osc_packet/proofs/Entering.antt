@@ -9,7 +9,7 @@ use Rattle.osc_packet.specs.declared.walk.OpenBundle.{OpenBundle}
 use Rattle.osc_packet.specs.declared.walk.Found.{Found}
 use Rattle.osc_packet.specs.Packets.{effective_tag}
 use Rattle.osc_atoms.specs.Faults.{start}
-use Rattle.osc_packet.specs.Units.{Timed}
+use Rattle.osc_packet.specs.Units.{TimedUnit}
 use Rattle.osc_packet.specs.Wants.{part}
 use Rattle.osc_packet.specs.Contents.{own_fault}
 use Rattle.osc_packet.specs.Reading.{is_bundle, bundle_tag, head_read, fault_or, message_fault_at, element_fault, body_fault, messages_in, enclosed_read}
@@ -83,7 +83,7 @@ module _ (bytes : List ℕ) (bundles : List OpenBundle) (at : ℕ) (new : OpenBu
   units_same (suc depth) place few =
       ap (λ (b : OpenBundle). enclosed_read (16 - suc depth) b.tag (part bytes place b.end) ++ units_from bytes (set bundles at new) depth b.end)
       (below_same depth (omega arith))
-      ∙ ap (λ (l : List Timed). enclosed_read (16 - suc depth) (bundle_at bundles depth).tag (part bytes place (bundle_at bundles depth).end) ++ l)
+      ∙ ap (λ (l : List TimedUnit). enclosed_read (16 - suc depth) (bundle_at bundles depth).tag (part bytes place (bundle_at bundles depth).end) ++ l)
       (units_same depth (bundle_at bundles depth).end (omega arith))
 
 -- the walk in the bundle that was found
@@ -127,13 +127,13 @@ entered bytes bundles depth place found effective size next is =
       walk = subst P (sym here) (long, next.inside, silent_there, walk_same bytes bundles found.depth new found.depth found.end (omega arith) next.rest);
       units =
           next.units
-          ∙ ap (λ (l : List Timed). l ++ units_from bytes bundles found.depth found.end) (bundle_step left (Some outer) own open_.room)
+          ∙ ap (λ (l : List TimedUnit). l ++ units_from bytes bundles found.depth found.end) (bundle_step left (Some outer) own open_.room)
           ∙ ap (λ (n : ℕ). record { tag = n; messages = messages_in (drop 16 own) }
           ∷ (enclosed_read (left - 1) n (drop 16 own) ++ units_from bytes bundles found.depth found.end)) (sym is)
-          ∙ ap (λ (l : List Timed). record { tag = effective; messages = messages_in (drop 16 own) } ∷ l)
+          ∙ ap (λ (l : List TimedUnit). record { tag = effective; messages = messages_in (drop 16 own) } ∷ l)
           (ap (λ (n : ℕ). enclosed_read n effective (drop 16 own) ++ units_from bytes bundles found.depth found.end) same_left
           ∙ ap (λ (l : List ℕ). enclosed_read (16 - suc found.depth) effective l ++ units_from bytes bundles found.depth found.end) rest_is
-          ∙ ap (λ (l : List Timed). enclosed_read (16 - suc found.depth) effective (part bytes (found.place + 16) found.end) ++ l)
+          ∙ ap (λ (l : List TimedUnit). enclosed_read (16 - suc found.depth) effective (part bytes (found.place + 16) found.end) ++ l)
           (sym (units_same bytes bundles found.depth new found.depth found.end (omega arith)))
           ∙ ap (λ (b : OpenBundle). enclosed_read (16 - suc found.depth) b.tag (part bytes (found.place + 16) b.end)
           ++ units_from bytes (set bundles found.depth new) found.depth b.end) (sym here));

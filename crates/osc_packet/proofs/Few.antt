@@ -7,7 +7,7 @@ use Rattle.std.proofs.lemmas.List.{length-take-le}
 use Rattle.osc_atoms.specs.declared.fault.Fault.{Fault}
 use Rattle.osc_packet.specs.Packets.{effective_tag}
 use Rattle.osc_atoms.specs.Faults.{empty, too_long, not_four}
-use Rattle.osc_packet.specs.Units.{Timed}
+use Rattle.osc_packet.specs.Units.{TimedUnit}
 use Rattle.osc_packet.specs.Reading.{is_bundle, bundle_tag, packet_fault, element_fault, body_fault, first_size, first_element, after_first, elements_in, bundle_read, enclosed_read, units_read}
 use Rattle.osc_packet.proofs.Steps.{bundle_step}
 use Rattle.osc_packet.proofs.Heads.{some_left}
@@ -37,7 +37,7 @@ abbrev BundleFew : ℕ → Type 0
 BundleFew left = (outer : Option ℕ) (at : ℕ) (bytes : List ℕ) → element_fault left outer at bytes ≡ None → is_bundle bytes ≡ true
     → length (bundle_read left outer bytes) ≤ length bytes
 
-one_few : (f : List ℕ → List Timed) (test : Bool) (x : List ℕ) → (test ≡ true → length (f x) ≤ length x)
+one_few : (f : List ℕ → List TimedUnit) (test : Bool) (x : List ℕ) → (test ≡ true → length (f x) ≤ length x)
     → length (flat_map f (cond test (x ∷ []) [])) ≤ length x
 one_few f true x few = omega (arith, few refl, length-append (f x) [])
 one_few f false x few = omega arith
@@ -48,7 +48,7 @@ enclosed_few left each zero effective at bytes few silent = rw (enclosed_end lef
 enclosed_few left each (suc bound) effective at bytes few silent = elim (cases_lt 0 (length bytes)) [
   | inr none ↦ rw (enclosed_end left effective bytes (omega arith)) (omega arith)
   | inl some ↦
-      let f : List ℕ → List Timed = bundle_read left (Some effective) in
+      let f : List ℕ → List TimedUnit = bundle_read left (Some effective) in
       let step = silent_step (element_fault left (Some effective)) at bytes some silent in
       let size : length (first_element bytes) ≡ first_size bytes =
       length-take-le (first_size bytes) (drop 4 bytes) (omega (arith, length-drop 4 bytes, step.size.inside)) in

@@ -3,7 +3,7 @@ use Rattle.std.proofs.Common.{◌≡◌, ℕ, zero, suc, ◌+◌, ◌-◌, ◌<�
 use Rattle.std.specs.List.{filter, flat_map}
 use Rattle.std.proofs.Math.Numerals.{sub-one}
 use Rattle.osc_packet.specs.declared.walk.OpenBundle.{OpenBundle}
-use Rattle.osc_packet.specs.Units.{Timed}
+use Rattle.osc_packet.specs.Units.{TimedUnit}
 use Rattle.osc_packet.specs.Wants.{part}
 use Rattle.osc_packet.specs.Reading.{is_bundle, element_fault, body_fault, first_size, first_element, after_first, elements_in, bundle_read, enclosed_read}
 use Rattle.osc_packet.specs.Walks.{bundle_at, units_from, IsWalk, IsNext}
@@ -61,7 +61,7 @@ left_bundle bytes bundles depth place some walk ended =
     let none : length (part bytes place (bundle_at bundles (depth - 1)).end) ≡ 0 =
     omega (arith, part_length bytes place (bundle_at bundles (depth - 1)).end here.inside) in (
       here.units
-          ∙ ap (λ (l : List Timed). l ++ units_from bytes bundles (depth - 1) (bundle_at bundles (depth - 1)).end)
+          ∙ ap (λ (l : List TimedUnit). l ++ units_from bytes bundles (depth - 1) (bundle_at bundles (depth - 1)).end)
           (enclosed_end (16 - depth) (bundle_at bundles (depth - 1)).tag (part bytes place (bundle_at bundles (depth - 1)).end) none)
           ∙ ap (units_from bytes bundles (depth - 1)) (sym ended),
       subst (IsWalk bytes bundles (depth - 1)) (sym ended) here.rest,
@@ -79,9 +79,9 @@ pub record Element (bytes : List ℕ) (bundles : List OpenBundle) (depth place s
       ≡ flat_map (bundle_read (16 - depth) (Some (bundle_at bundles (depth - 1)).tag)) (cond (is_bundle element) (element ∷ []) [])
       ++ units_from bytes bundles depth (place + 4 + size)
 
-pub one_first : (f : List ℕ → List Timed) (test : Bool) (x : List ℕ) (xs : List (List ℕ))
+pub one_first : (f : List ℕ → List TimedUnit) (test : Bool) (x : List ℕ) (xs : List (List ℕ))
     → flat_map f (cond test (x ∷ xs) xs) ≡ flat_map f (cond test (x ∷ []) []) ++ flat_map f xs
-one_first f true x xs = ap (λ (l : List Timed). l ++ flat_map f xs) (sym (append-nil (f x)))
+one_first f true x xs = ap (λ (l : List TimedUnit). l ++ flat_map f xs) (sym (append-nil (f x)))
 one_first f false x xs = refl
 
 pub element_here : (bytes : List ℕ) (bundles : List OpenBundle) (depth place size : ℕ) (element : List ℕ) → 0 < depth → IsWalk bytes bundles depth place
@@ -118,7 +118,7 @@ element_here bytes bundles depth place size element some walk more is_size is_el
       walk = next;
       units =
           here.units
-          ∙ ap (λ (l : List Timed). l ++ units_from bytes bundles (depth - 1) end)
+          ∙ ap (λ (l : List TimedUnit). l ++ units_from bytes bundles (depth - 1) end)
           (enclosed_step left effective own filled
           ∙ one_first (bundle_read left (Some effective)) (is_bundle (first_element own)) (first_element own) (filter is_bundle (elements_in (after_first own)))
           ∙ ap (λ (l : List ℕ). flat_map (bundle_read left (Some effective)) (cond (is_bundle l) (l ∷ []) []) ++ enclosed_read left effective (after_first own))
@@ -127,7 +127,7 @@ element_here bytes bundles depth place size element some walk more is_size is_el
           rest_is)
           ∙ append_assoc (flat_map (bundle_read left (Some effective)) (cond (is_bundle element) (element ∷ []) []))
           (enclosed_read left effective (part bytes (place + 4 + size) end)) (units_from bytes bundles (depth - 1) end)
-          ∙ ap (λ (l : List Timed). flat_map (bundle_read left (Some effective)) (cond (is_bundle element) (element ∷ []) []) ++ l) (sym there.units);
+          ∙ ap (λ (l : List TimedUnit). flat_map (bundle_read left (Some effective)) (cond (is_bundle element) (element ∷ []) []) ++ l) (sym there.units);
     }
 
 -- before the end of a bundle stands a size and so many bytes
@@ -156,7 +156,7 @@ pub next_here : (bytes : List ℕ) (bundles : List OpenBundle) (first from depth
     → Element bytes bundles depth place size element → is_bundle element ≡ true
     → IsNext bytes bundles first from (record { place = place + 4; end = place + 4 + size; depth = depth })
 next_here bytes bundles first from depth place size element some shallow same found test =
-    let f : List ℕ → List Timed = bundle_read (16 - depth) (Some (bundle_at bundles (depth - 1)).tag) in
+    let f : List ℕ → List TimedUnit = bundle_read (16 - depth) (Some (bundle_at bundles (depth - 1)).tag) in
     record {
       around = some;
       shallow = shallow;
@@ -167,7 +167,7 @@ next_here bytes bundles first from depth place size element some shallow same fo
       units =
           same ∙ found.units
           ∙ ap (λ (b : Bool). flat_map f (cond b (element ∷ []) []) ++ units_from bytes bundles depth (place + 4 + size)) test
-          ∙ ap (λ (l : List Timed). l ++ units_from bytes bundles depth (place + 4 + size)) (append-nil (f element))
+          ∙ ap (λ (l : List TimedUnit). l ++ units_from bytes bundles depth (place + 4 + size)) (append-nil (f element))
           ∙ ap (λ (l : List ℕ). f l ++ units_from bytes bundles depth (place + 4 + size)) found.is;
       rest = found.walk;
     }

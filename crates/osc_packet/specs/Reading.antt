@@ -7,7 +7,7 @@ use Rattle.std.specs.Int.{w32, w64, from_be_bytes}
 use Rattle.osc_atoms.specs.declared.fault.Fault.{Fault}
 use Rattle.osc_message.specs.Reading.{message_fault}
 use Rattle.osc_packet.specs.Packets.{bundle_word, effective_tag, deepest}
-use Rattle.osc_packet.specs.Units.{Timed}
+use Rattle.osc_packet.specs.Units.{TimedUnit}
 use Rattle.osc_atoms.specs.Faults.{empty, not_four, too_long, start}
 use Rattle.osc_packet.specs.Faults.{no_bundle_word, no_bundle_head, element_size, too_deep, tag_before, moved}
 
@@ -121,7 +121,7 @@ abbrev pub messages_in : List ℕ → List (List ℕ)
 messages_in bytes = filter (λ element. not (is_bundle element)) (elements_in bytes)
 
 -- the units of a bundle: its own, and those of the bundles among its elements
-unfoldable pub bundle_read : ℕ → Option ℕ → List ℕ → List Timed
+unfoldable pub bundle_read : ℕ → Option ℕ → List ℕ → List TimedUnit
 bundle_read zero outer bytes = []
 bundle_read (suc left) outer bytes =
     let effective = effective_tag outer (bundle_tag bytes) in
@@ -130,11 +130,11 @@ bundle_read (suc left) outer bytes =
     (filter is_bundle (elements_in (drop 16 bytes)))
 
 -- the units of the bundles among the elements that fill the bytes
-abbrev pub enclosed_read : ℕ → ℕ → List ℕ → List Timed
+abbrev pub enclosed_read : ℕ → ℕ → List ℕ → List TimedUnit
 enclosed_read left effective bytes =
     flat_map (bundle_read left (Some effective)) (filter is_bundle (elements_in bytes))
 
 -- the units of a packet
-abbrev pub units_read : List ℕ → List Timed
+abbrev pub units_read : List ℕ → List TimedUnit
 units_read bytes = if is_bundle bytes then bundle_read deepest None bytes
     else record { tag = 1; messages = bytes ∷ [] } ∷ []

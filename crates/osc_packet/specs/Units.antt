@@ -4,7 +4,7 @@ use Rattle.osc_message.specs.Messages.{message_text}
 use Rattle.osc_packet.specs.Packets.{Packet, Elements, message, bundle, none, more, effective_tag}
 
 -- a unit: its effective tag, and the bytes of its messages in the order of the packet
-pub record Timed : Type 0 where
+pub record TimedUnit : Type 0 where
   pub tag : ℕ
   pub messages : List (List ℕ)
 
@@ -17,19 +17,19 @@ own_messages (more (bundle own inner) elements) = own_messages elements
 -- a bundle's unit is its own messages under its effective tag; the units of the bundles that it
 -- encloses follow, in order
 abbrev mutual
-  pub bundle_units : Option ℕ → Packet → List Timed
+  pub bundle_units : Option ℕ → Packet → List TimedUnit
   bundle_units outer (message form) = []
   bundle_units outer (bundle own elements) =
       record { tag = effective_tag outer own; messages = own_messages elements }
       ∷ enclosed_units (effective_tag outer own) elements
 
-  pub enclosed_units : ℕ → Elements → List Timed
+  pub enclosed_units : ℕ → Elements → List TimedUnit
   enclosed_units outer none = []
   enclosed_units outer (more packet elements) =
       bundle_units (Some outer) packet ++ enclosed_units outer elements
 
 -- the units of a packet; a message alone is a unit of tag 1, "immediately"
-abbrev pub units_of : Packet → List Timed
+abbrev pub units_of : Packet → List TimedUnit
 units_of (message form) = record { tag = 1; messages = message_text form ∷ [] } ∷ []
 units_of (bundle own elements) = bundle_units None (bundle own elements)
 
@@ -43,10 +43,10 @@ abbrev pub block_size : ℕ
 block_size = 64
 
 -- the blocks that a unit takes
-abbrev pub blocks : Timed → ℕ
+abbrev pub blocks : TimedUnit → ℕ
 blocks unit = (stored_size unit.messages + (block_size - 1)) / block_size
 
 -- the blocks that units take, each of which begins one
-abbrev pub blocks_of : List Timed → ℕ
+abbrev pub blocks_of : List TimedUnit → ℕ
 blocks_of [] = 0
 blocks_of (unit ∷ units) = blocks unit + blocks_of units

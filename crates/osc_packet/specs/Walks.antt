@@ -3,7 +3,7 @@ use Rattle.std.specs.Prelude.{◌≡◌, ℕ, zero, suc, ◌-◌, ◌<◌, ◌�
 use Rattle.osc_packet.specs.declared.walk.OpenBundle.{OpenBundle}
 use Rattle.osc_packet.specs.declared.walk.Found.{Found}
 use Rattle.osc_packet.specs.Packets.{deepest}
-use Rattle.osc_packet.specs.Units.{Timed}
+use Rattle.osc_packet.specs.Units.{TimedUnit}
 use Rattle.osc_packet.specs.Wants.{part}
 use Rattle.osc_packet.specs.Reading.{is_bundle, element_fault, body_fault, bundle_read, enclosed_read}
 
@@ -14,7 +14,7 @@ bundle_at bundles depth = slice_index_or bundles depth (record { end = 0; tag = 
 -- the units of the bundles that stand from a place on, so many bundles being open there: those in
 -- the innermost one,
 -- then those that follow it in the ones around it
-abbrev pub units_from : List ℕ → List OpenBundle → ℕ → ℕ → List Timed
+abbrev pub units_from : List ℕ → List OpenBundle → ℕ → ℕ → List TimedUnit
 units_from bytes bundles zero place = []
 units_from bytes bundles (suc depth) place =
     enclosed_read (deepest - suc depth) (bundle_at bundles depth).tag

@@ -14,10 +14,10 @@ pub struct Unit<'a> {
 }
 
 impl<'a> Model for Unit<'a> {
-    ghost use Rattle.osc_packet.specs.Units.{Timed};
+    ghost use Rattle.osc_packet.specs.Units.{TimedUnit};
     ghost use Rattle.osc_packet.specs.Contents.{messages_of, IsSound};
 
-    ghost Value = { Timed };
+    ghost Value = { TimedUnit };
 
     ghost view = { λ u. record { tag = u.tag; messages = messages_of u.content } };
 

@@ -22,9 +22,9 @@ impl<'a> Model for Units<'a> {
     ghost use Rattle.osc_packet.specs.declared.limits.TheConstants.{MAX_PACKET};
     ghost use Rattle.std.specs.Prelude.{List, ◌++◌, ◌≤◌, length};
     ghost use Rattle.std.specs.Option.{option_to_list};
-    ghost use Rattle.osc_packet.specs.Units.{Timed};
+    ghost use Rattle.osc_packet.specs.Units.{TimedUnit};
 
-    ghost Value = { List Timed };
+    ghost Value = { List TimedUnit };
 
     ghost use Rattle.osc_packet.specs.Walks.{units_from, IsWalk};
 

@@ -61,7 +61,8 @@ abbrev pub filled_up : ℕ → List (List ℕ) → List (List ℕ)
 filled_up limit blocks = blocks ++ replicate (limit - length blocks) zeros
 
 -- a piece stands at the beginning of a block, and the others stay
-pub record IsPut (limit : ℕ) (before after : List (List ℕ)) (block : ℕ) (piece : List ℕ) : Type 0 where
+pub record IsPut (limit : ℕ) (before after : List (List ℕ)) (block : ℕ)
+    (piece : List ℕ) : Type 0 where
   pub filled : List ℕ
   pub is : filled_up limit after ≡ slice_set (filled_up limit before) block filled
   pub taken : take (length piece) filled ≡ piece
@@ -97,7 +98,8 @@ pub record IsSound (blocks : List (List ℕ)) (next sizes : List ℕ) (first fre
   pub counted : free + sum_by blocks_for sizes ≡ length blocks
 
 -- the same, where the blocks of chains were reached, and the others have room
-pub record IsLaid (blocks : List (List ℕ)) (next sizes : List ℕ) (first free capacity : ℕ) : Type 0 where
+pub record IsLaid (blocks : List (List ℕ)) (next sizes : List ℕ)
+    (first free capacity : ℕ) : Type 0 where
   pub sound : IsSound (filled_up (length next) blocks) next sizes first free
   pub few : length blocks ≤ length next
   pub room : length next ≤ capacity

@@ -2,8 +2,8 @@
 ghost use Rattle.std.specs.Prelude.{◌≡◌, ◌+◌, ◌<◌, ℕ, [], ◌∷◌, length, replicate};
 ghost use Rattle.osc_pool.specs.Holding.{blocks_for, used_blocks, held_by, with_chain, IsLive};
 
-/// 65 bytes and one byte fill three blocks, so one byte more is refused. Once the first chain is given, 128 bytes fit, and
-/// the second chain holds its byte still.
+/// 65 bytes and one byte fill three blocks, so one byte more is refused. Once the first chain is given, 128 bytes fit,
+/// and the second chain holds its byte still.
 pub fn three_blocks_hold_two_chains()
     ensures full { (one other : ℕ)
         → used_blocks (replicate 65 one ∷ [] ∷ (other ∷ []) ∷ []) ≡ 3 }

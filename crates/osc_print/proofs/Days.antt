@@ -40,7 +40,8 @@ year_found zero year day lt =
 year_found (suc more) year day lt = go (nat_lt day (days_in_year (pos year))) refl (year_found more (suc year))
   where
     go : (b : Bool) → nat_lt day (days_in_year (pos year)) ≡ b
-        → ((left : ℕ) → day_count (pos (suc year)) 1 1 + left < day_count (pos (suc year + more + 1)) 1 1 → InYear (suc year) more left (year_of more (suc year) left))
+        → ((left : ℕ) → day_count (pos (suc year)) 1 1 + left < day_count (pos (suc year + more + 1)) 1 1
+        → InYear (suc year) more left (year_of more (suc year) left))
         → InYear year (suc more) day (cond b (year, day) (year_of more (suc year) (day - days_in_year (pos year))))
     go true is later = record { low = omega arith; high = omega arith; same = refl; within = ltb-true day (days_in_year (pos year)) is }
     go false is later =
@@ -50,7 +51,13 @@ year_found (suc more) year day lt = go (nat_lt day (days_in_year (pos year))) re
         let start = ap (λ (n : ℕ). day_count (pos n) 1 1) one in
         let past : days_in_year (pos year) ≤ day = ltb-false day (days_in_year (pos year)) is in
         let found = later (day - days_in_year (pos year)) (omega (arith, next_year year, end, start)) in
-        record { low = omega (arith, found.low); high = omega (arith, found.high); same = omega (arith, found.same, next_year year, start); within = found.within }
+        record {
+          low = omega (arith, found.low);
+          high = omega (arith, found.high);
+          same = omega (arith, found.same, next_year year, start);
+          within =
+              found.within;
+        }
 
 record InMonth (year month more day : ℕ) (r : ℕ × ℕ) : Type 0 where
   low : month ≤ r.0
@@ -81,7 +88,13 @@ month_found year (suc more) month day le twelve lt = go (nat_lt day (days_in_mon
     go false is later =
         let past : days_in_month (pos year) month ≤ day = ltb-false day (days_in_month (pos year) month) is in
         let found = later (day - days_in_month (pos year) month) (omega arith) (omega arith) (omega (arith, next_month year month le)) in
-        record { low = omega (arith, found.low); high = omega (arith, found.high); same = omega (arith, found.same, next_month year month le); within = found.within }
+        record {
+          low = omega (arith, found.low);
+          high = omega (arith, found.high);
+          same = omega (arith, found.same, next_month year month le);
+          within =
+              found.within;
+        }
 
 record OnDay (day : ℕ) : Type 0 where
   date : Date

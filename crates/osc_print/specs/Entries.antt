@@ -58,8 +58,8 @@ abbrev pub entry_words : Entry → List ℕ
 entry_words entry = event_words entry.caller entry.event ++ spaced (answer_words entry.answer)
 
 -- its line
-abbrev pub entry_text : Entry → List ℕ
-entry_text entry = line (entry_words entry)
+abbrev pub event_line : Entry → List ℕ
+event_line entry = line (entry_words entry)
 
 -- the line of an invocation
 abbrev pub invocation_text : Invocation → List ℕ

@@ -5,7 +5,7 @@ ghost use Rattle.osc_model.specs.Recordings.{hits_in};
 ghost use Rattle.osc_record.specs.Shown.{event_of, answer_of};
 ghost use Rattle.osc_record.specs.Left.{placed_of};
 ghost use Rattle.osc_print.specs.Words.{spaced, BeginsWith};
-ghost use Rattle.osc_print.specs.Entries.{named, named_room, moment_word, event_words, answer_words, entry_words, entry_text};
+ghost use Rattle.osc_print.specs.Entries.{named, named_room, moment_word, event_words, answer_words, entry_words, event_line};
 
 use crate::Text;
 use osc_atoms::Room;
@@ -15,17 +15,17 @@ use std::alloc::AllocError;
 /// Adds the line of an entry: the event's word, the caller, what is handed in, and the answer (docs/FORMATS.md,
 /// "Printed text"). An `Err` is want of memory.
 pub fn entry_line(text: &mut Text, entry: &Entry<'_>) -> Result<(), AllocError>
-    ensures ok { OnOk result (text.new ≡ text.old ++ entry_text (placed_of entry.now).entry) }
+    ensures ok { OnOk result (text.new ≡ text.old ++ event_line (placed_of entry.now).entry) }
     ensures err { OnErr result (text.new ≡ text.old) }
 {
     let start = text.bytes().len();
-    let added = text.entry_text(entry);
+    let added = text.event_line(entry);
     text.whole_line(start, added)
 }
 
 impl Text {
-    fn entry_text(&mut self, entry: &Entry<'_>) -> Result<(), AllocError>
-        ensures ok { OnOk result (self.new ≡ self.old ++ entry_text (placed_of entry.now).entry) }
+    fn event_line(&mut self, entry: &Entry<'_>) -> Result<(), AllocError>
+        ensures ok { OnOk result (self.new ≡ self.old ++ event_line (placed_of entry.now).entry) }
         ensures err { OnErr result (BeginsWith self.new self.old) }
     {
         self.entry_words(entry)?;

@@ -3,60 +3,60 @@ ghost use Rattle.std.specs.Prelude.{◌≡◌, [], ◌∷◌, codes};
 ghost use Rattle.osc_tree.specs.Adding.{taken, under_method, is_container, methods_full, nodes_full};
 ghost use Rattle.osc_model.specs.Events.{enrol, add, remove, submit, tick, release, number, callers_full, queued, units_full, pool_full, added, refused, removed, not_there, ticked, clock_back, released};
 ghost use Rattle.osc_model.specs.Limits.{limits_of};
-ghost use Rattle.osc_print.specs.Entries.{entry_text, invocation_text};
+ghost use Rattle.osc_print.specs.Entries.{event_line, invocation_text};
 ghost use Rattle.osc_print.specs.Lines.{fault_text, link_fault_text};
 ghost use Rattle.osc_print.specs.Dates.{date_text};
 ghost use Rattle.osc_print.specs.Dumps.{dumped};
 
 /// A line of each kind of answer, the lines of a call and of faults, dates, and a dump.
 pub fn examples()
-    ensures number { entry_text (record { caller = 0; event = enrol; answer = number 1 })
+    ensures number { event_line (record { caller = 0; event = enrol; answer = number 1 })
         ≡ codes "enrol 0 1\n" }
-    ensures callers_full { entry_text (record { caller = 3; event = enrol; answer = callers_full })
+    ensures callers_full { event_line (record { caller = 3; event = enrol; answer = callers_full })
         ≡ codes "enrol 3 full\n" }
-    ensures queued { entry_text (record { caller = 0; event = submit []; answer = queued 12 2 })
+    ensures queued { event_line (record { caller = 0; event = submit []; answer = queued 12 2 })
         ≡ codes "submit 0 queued 12 2\n" }
-    ensures units_full { entry_text
+    ensures units_full { event_line
         (record {
           caller = 1;
           event = submit [];
           answer = units_full (record { need = 3; free = 2 });
         }) ≡ codes "submit 1 units-full 3 2\n" }
-    ensures pool_full { entry_text
+    ensures pool_full { event_line
         (record {
           caller = 0;
           event = submit [];
           answer = pool_full (record { need = 1; free = 0 });
         }) ≡ codes "submit 0 pool-full 1 0\n" }
-    ensures added { entry_text
+    ensures added { event_line
         (record { caller = 0; event = add (codes "/light/dim"); answer = added 0 })
         ≡ codes "add 0 /light/dim id 0\n" }
-    ensures taken { entry_text
+    ensures taken { event_line
         (record { caller = 0; event = add (codes "/a"); answer = refused (taken 7) })
         ≡ codes "add 0 /a taken 7\n" }
-    ensures under_method { entry_text
+    ensures under_method { event_line
         (record { caller = 0; event = add (codes "/a/b"); answer = refused (under_method 7) })
         ≡ codes "add 0 /a/b under-method 7\n" }
-    ensures is_container { entry_text
+    ensures is_container { event_line
         (record { caller = 0; event = add (codes "/a"); answer = refused is_container })
         ≡ codes "add 0 /a is-container\n" }
-    ensures methods_full { entry_text
+    ensures methods_full { event_line
         (record { caller = 0; event = add (codes "/a"); answer = refused (methods_full 1024) })
         ≡ codes "add 0 /a methods-full 1024\n" }
-    ensures nodes_full { entry_text
+    ensures nodes_full { event_line
         (record { caller = 0; event = add (codes "/a/b"); answer = refused (nodes_full 2 1) })
         ≡ codes "add 0 /a/b nodes-full 2 1\n" }
-    ensures removed { entry_text
+    ensures removed { event_line
         (record { caller = 2; event = remove (codes "/a"); answer = removed 5 })
         ≡ codes "remove 2 /a id 5\n" }
-    ensures not_there { entry_text
+    ensures not_there { event_line
         (record { caller = 2; event = remove (codes "/a"); answer = not_there })
         ≡ codes "remove 2 /a not-there\n" }
-    ensures ticked { entry_text (record { caller = 0; event = tick 5; answer = ticked })
+    ensures ticked { event_line (record { caller = 0; event = tick 5; answer = ticked })
         ≡ codes "tick 0 0000000000000005 ticked\n" }
-    ensures clock_back { entry_text (record { caller = 0; event = tick 0; answer = clock_back 1 })
+    ensures clock_back { event_line (record { caller = 0; event = tick 0; answer = clock_back 1 })
         ≡ codes "tick 0 0000000000000000 clock-back 0000000000000001\n" }
-    ensures released { entry_text
+    ensures released { event_line
         (record {
           caller = 0;
           event = release;

@@ -8,7 +8,7 @@ abbrev pub Item : Type 0 → Type 0
 Item T = ℕ × ℕ × T
 
 -- what a contract sees of a queue: how many items it may hold, and those that it holds
-pub record Timed (T : Type 0) : Type 0 where
+pub record TimedQueue (T : Type 0) : Type 0 where
   pub limit : ℕ
   pub items : List (ℕ × ℕ × T)
 
@@ -19,7 +19,7 @@ item_code {T} code =
     (λ item. (item.0, (item.1, item.2))) (λ p. (p.0, p.1.0, p.1.1)) (λ _. refl)
 
 -- a queue is stored as the pair of its fields
-abbrev pub timed_code : {T : Type 0} → Coded T → Coded (Timed T)
+abbrev pub timed_code : {T : Type 0} → Coded T → Coded (TimedQueue T)
 timed_code {T} code =
     code_by
     (ℕ × List (Item T))

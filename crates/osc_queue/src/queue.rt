@@ -25,9 +25,9 @@ pub struct Queue<T> {
 
 impl<T> Model for Queue<T> {
     ghost use Rattle.std.specs.Prelude.{vec_capacity};
-    ghost use Rattle.osc_queue.specs.Timed.{Timed, timed_code};
+    ghost use Rattle.osc_queue.specs.Timed.{TimedQueue, timed_code};
 
-    ghost Value = { Timed T };
+    ghost Value = { TimedQueue T };
 
     ghost coded = { timed_code T.code };
 

@@ -2,7 +2,7 @@
 use Rattle.std.proofs.Common.{◌≡◌, ◌≢◌, ℕ, ◌<◌, ◌≤◌, true, List, [], ◌++◌, length, Ok, Err, Result, OnOk, refl, sym, ap, subst, ◌∙◌, arith, lt-ltb}
 use Rattle.std.proofs.lemmas.Bool.{cond-true}
 use Rattle.std.specs.Prelude.{IfErr}
-use Rattle.osc_print.specs.Entries.{entry_text as entry_line}
+use Rattle.osc_print.specs.Entries.{event_line}
 use Rattle.osc_model.specs.State.{State}
 use Rattle.osc_model.specs.Events.{Event, release, Answer, released, Entry, adds_entry}
 use Rattle.osc_model.specs.Recordings.{IsRecordable, entry_text, hits_in}
@@ -66,7 +66,7 @@ made_small on within state new kept answer lines is =
 -- where the two answers are one, the entry is played
 pub made_goes : (r : Result (Unit {0}) ReplayFault) (state new : State) (kept : Entry) (answer : Answer) (lines before after : List ℕ)
     → Played state new kept answer lines
-    → OnOk r (kept.answer ≡ answer) → OnOk r (after ≡ before ++ (entry_line kept ++ lines)) → OnOk r (Goes kept state new before after)
+    → OnOk r (kept.answer ≡ answer) → OnOk r (after ≡ before ++ (event_line kept ++ lines)) → OnOk r (Goes kept state new before after)
 made_goes r state new kept answer lines before after is agree text =
     on_both r (λ agree text.
     (let same : kept.answer ≡ (step state kept.event).answer = agree ∙ is.enters.answer_is in
@@ -75,7 +75,7 @@ made_goes r state new kept answer lines before after is agree text =
       adds = adds_is kept.answer (ap adds_entry same ∙ is.enters.adds);
       answer_is = same;
       state_is = is.enters.state_is;
-      text = text ∙ ap (λ (l : List ℕ). before ++ (entry_line kept ++ l)) is.enters.lines_are;
+      text = text ∙ ap (λ (l : List ℕ). before ++ (event_line kept ++ l)) is.enters.lines_are;
     })) agree text
 
 pub made_differs : (r : Result (Unit {0}) ReplayFault) (number : ℕ) (state new : State) (kept : Entry) (answer : Answer) (lines : List ℕ)

@@ -3,8 +3,8 @@ use Rattle.std.proofs.Common.{◌≡◌, ℕ, ◌+◌, ◌%◌, ◌<◌, ◌≤�
 use Rattle.std.proofs.lemmas.Bool.{cond-true}
 use Rattle.std.specs.List.{flat_map, AllByRecursion}
 use Rattle.osc_print.specs.Entries.{invocation_text}
-use Rattle.osc_packet.specs.Units.{Timed as Messages}
-use Rattle.osc_queue.specs.Timed.{Timed, due_of, unit_of}
+use Rattle.osc_packet.specs.Units.{TimedUnit}
+use Rattle.osc_queue.specs.Timed.{TimedQueue, due_of, unit_of}
 use Rattle.osc_tree.specs.Registry.{Registry}
 use Rattle.osc_model.specs.State.{State, Queued, registry}
 use Rattle.osc_model.specs.Counts.{free_bytes}
@@ -21,7 +21,7 @@ use Rattle.osc_replay.specs.Calls.{hits_bytes, call_lines}
 use Rattle.osc_replay.specs.Playing.{Decides, Enters}
 
 -- the state of a server with these parts
-abbrev pub server_state : Registry → Timed Messages → (blocks clock next_id next_unit callers caller_limit recorded record_limit : ℕ) → State
+abbrev pub server_state : Registry → TimedQueue TimedUnit → (blocks clock next_id next_unit callers caller_limit recorded record_limit : ℕ) → State
 server_state tree queue blocks clock next_id next_unit callers caller_limit recorded record_limit = record {
   caps = record {
     units = queue.limit;

@@ -2,7 +2,7 @@
 use Rattle.std.proofs.Common.{◌≡◌, ℕ, ◌+◌, ◌≤◌, List, [], ◌∷◌, ◌++◌, length, Err, inr, refl, sym, ap, subst, ◌∙◌, arith, length-append, append_assoc}
 use Rattle.std.proofs.lemmas.List.{append-nil}
 use Rattle.std.specs.List.{flat_map, AllByRecursion}
-use Rattle.osc_print.specs.Entries.{entry_text as entry_line, invocation_text}
+use Rattle.osc_print.specs.Entries.{event_line, invocation_text}
 use Rattle.osc_model.specs.Limits.{Limits}
 use Rattle.osc_model.specs.State.{State, opening}
 use Rattle.osc_model.specs.Events.{Entry, adds_entry}
@@ -64,10 +64,10 @@ played_more bytes left rest placed state new text more number is reads lawful go
       legal = (is.legal.0, legal_more (opening is.caps) is.before (entry ∷ []) is.legal.1 (one.enrolled, lawful, one.adds, one.answer_is, tt));
       state_is = one.state_is ∙ sym (after_more (opening is.caps) is.before (entry ∷ []));
       text_is =
-          one.text ∙ ap (λ (l : List ℕ). l ++ (entry_line entry ++ flat_map invocation_text (step (after (opening is.caps) is.before) entry.event).invocations))
+          one.text ∙ ap (λ (l : List ℕ). l ++ (event_line entry ++ flat_map invocation_text (step (after (opening is.caps) is.before) entry.event).invocations))
           is.text_is
           ∙ ap (λ (l : List ℕ). printed is.caps is.before ++ l)
-          (sym (append-nil (entry_line entry ++ flat_map invocation_text (step (after (opening is.caps) is.before) entry.event).invocations)))
+          (sym (append-nil (event_line entry ++ flat_map invocation_text (step (after (opening is.caps) is.before) entry.event).invocations)))
           ∙ sym (printed-append (opening is.caps) is.before (entry ∷ []));
       number_is = omega (arith, is.number_is, length-append is.before (entry ∷ []));
     }

@@ -1,8 +1,8 @@
 -- What is kept of a queued unit.
 use Rattle.std.specs.Prelude.{◌≡◌, ℕ, ◌≤◌}
-use Rattle.osc_packet.specs.Units.{Timed, stored_size, blocks}
+use Rattle.osc_packet.specs.Units.{TimedUnit, stored_size, blocks}
 
 -- its messages are no more than a packet has, and so many blocks hold them
-pub record IsKept (unit : Timed) (count : ℕ) : Type 0 where
+pub record IsKept (unit : TimedUnit) (count : ℕ) : Type 0 where
   pub small : stored_size unit.messages ≤ 65508
   pub counted : count ≡ blocks unit

@@ -1,9 +1,9 @@
 -- What an event comes to in a plain server.
 use Rattle.std.specs.Prelude.{◌≡◌, ◌≢◌, ℕ, ◌<◌, ◌≤◌, ◌%◌, true, false, List, [], ◌++◌, length}
 use Rattle.std.specs.List.{flat_map}
-use Rattle.osc_print.specs.Entries.{entry_text as entry_line, invocation_text}
-use Rattle.osc_queue.specs.Timed.{Timed}
-use Rattle.osc_packet.specs.Units.{Timed as Messages}
+use Rattle.osc_print.specs.Entries.{event_line, invocation_text}
+use Rattle.osc_queue.specs.Timed.{TimedQueue}
+use Rattle.osc_packet.specs.Units.{TimedUnit}
 use Rattle.osc_tree.specs.Registry.{Registry}
 use Rattle.osc_tree.specs.Matching.{HitList}
 use Rattle.osc_model.specs.State.{State}
@@ -22,7 +22,7 @@ use Rattle.osc_replay.specs.declared.outcome.Outcome.TheVariants.{Answered, Rele
 use Rattle.osc_replay.specs.Disagreeing.{computed_text}
 
 -- the hits have room for the ids of all methods, and the blocks of the queued units are counted
-pub record IsRunning (tree : Registry) (hits : HitList) (queue : Timed Messages)
+pub record IsRunning (tree : Registry) (hits : HitList) (queue : TimedQueue TimedUnit)
     (used : ℕ) : Type 0 where
   pub room : tree.method_limit ≤ hits.limit
   pub counted : used ≡ queued_blocks queue.items
@@ -86,7 +86,7 @@ pub record Goes (entry : Entry) (old new : State) (printed after : List ℕ) : T
   pub answer_is : entry.answer ≡ (step old entry.event).answer
   pub state_is : new ≡ (step old entry.event).state
   pub text : after
-      ≡ printed ++ (entry_line entry ++ flat_map invocation_text (step old entry.event).invocations)
+      ≡ printed ++ (event_line entry ++ flat_map invocation_text (step old entry.event).invocations)
 
 -- why an entry isn't played: its bytes that are kept aren't those that are computed, or there is no
 -- memory

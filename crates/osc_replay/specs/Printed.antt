@@ -1,7 +1,7 @@
 -- The printed history of a server.
 use Rattle.std.specs.Prelude.{◌≡◌, ℕ, List, [], ◌∷◌, ◌++◌}
 use Rattle.std.specs.List.{flat_map}
-use Rattle.osc_print.specs.Entries.{entry_text, invocation_text}
+use Rattle.osc_print.specs.Entries.{event_line, invocation_text}
 use Rattle.osc_model.specs.Limits.{Limits}
 use Rattle.osc_model.specs.State.{State, opening}
 use Rattle.osc_model.specs.Events.{Entry, Invocation}
@@ -13,7 +13,7 @@ use Rattle.osc_model.specs.Releases.{InvokesRegistered}
 abbrev pub printed_from : State → List Entry → List ℕ
 printed_from state [] = []
 printed_from state (entry ∷ entries) =
-    entry_text entry ++ flat_map invocation_text (step state entry.event).invocations
+    event_line entry ++ flat_map invocation_text (step state entry.event).invocations
     ++ printed_from (step state entry.event).state entries
 
 -- the printed history of a server with these limits
@@ -33,5 +33,5 @@ pub record PrintsEntry (caps : Limits) (before : List Entry) (entry : Entry)
       (step (after (opening caps) before) entry.event)
   pub text : printed caps (before ++ entry ∷ behind)
       ≡ printed caps before
-      ++ (entry_text entry ++ flat_map invocation_text calls
+      ++ (event_line entry ++ flat_map invocation_text calls
       ++ printed_from (step (after (opening caps) before) entry.event).state behind)

@@ -46,22 +46,22 @@ impl Calls {
 /// Makes `calls` those of the messages of the unit with a number, in order.
 pub(crate) fn find_calls(
     tree: &Tree,
-    room: &mut Hits,
+    hits: &mut Hits,
     number: u64,
     unit: &Queued<'_>,
     calls: &mut Calls,
 ) -> Result<(), AllocError>
-    requires { tree.now.method_limit ≤ room.old.limit }
+    requires { tree.now.method_limit ≤ hits.old.limit }
     ensures hits { OnOk result
         (calls.new.hits.items ≡ hits_bytes (calls_from tree.now.methods 0 unit.now.messages)) }
     ensures lines { OnOk result
         (calls.new.lines ≡ call_lines number (calls_from tree.now.methods 0 unit.now.messages)) }
-    ensures limit { room.new.limit ≡ room.old.limit }
+    ensures limit { hits.new.limit ≡ hits.old.limit }
 {
     calls.clear();
     let mut index = 0;
     for message in unit.messages() {
-        push_calls(tree, room, number, index, message, calls)?;
+        push_calls(tree, hits, number, index, message, calls)?;
         index += 1;
     }
     Ok(())
@@ -70,31 +70,31 @@ pub(crate) fn find_calls(
 /// Adds the calls of the message at an index. One with an unknown tag has none.
 fn push_calls(
     tree: &Tree,
-    room: &mut Hits,
+    hits: &mut Hits,
     unit: u64,
     index: u32,
     message: Message<'_>,
     calls: &mut Calls,
 ) -> Result<(), AllocError>
-    requires { tree.now.method_limit ≤ room.old.limit }
+    requires { tree.now.method_limit ≤ hits.old.limit }
     ensures hits { OnOk result
         (calls.new.hits.items ≡ calls.old.hits.items
         ++ hits_bytes (calls_of tree.now.methods index message.entry)) }
     ensures lines { OnOk result
         (calls.new.lines ≡ calls.old.lines
         ++ call_lines unit (calls_of tree.now.methods index message.entry)) }
-    ensures limit { room.new.limit ≡ room.old.limit }
+    ensures limit { hits.new.limit ≡ hits.old.limit }
 {
     if message.unknown().is_some() {
         return Ok(());
     }
-    tree.find(&message.pattern(), room);
+    tree.find(&message.pattern(), hits);
     let call = Call {
         unit,
         index,
         message,
     };
-    push_hits(tree, room.ids(), &call, calls)
+    push_hits(tree, hits.ids(), &call, calls)
 }
 
 /// Adds the calls of the methods with these ids.

@@ -1,6 +1,6 @@
 // Recordings, replayed entry by entry.
 ghost use Rattle.std.specs.Prelude.{◌≡◌, ◌≢◌, ◌+◌, ◌≤◌, ◌<◌, ◌^◌, ◌%◌, ◌++◌, ℕ, List, length, IfOk, IfErr, OnOk};
-ghost use Rattle.osc_print.specs.Entries.{entry_text as line_of};
+ghost use Rattle.osc_print.specs.Entries.{event_line};
 ghost use Rattle.osc_model.specs.Limits.{Limits, max_recording};
 ghost use Rattle.osc_model.specs.Events.{Entry as Recorded};
 ghost use Rattle.osc_model.specs.Recordings.{IsRecordable, entry_text};
@@ -120,7 +120,7 @@ fn print_agreed(
         ≤ max_recording }
     ensures agree { OnOk result (answer_of entry.now.answer ≡ answer_of answer.entry) }
     ensures text { OnOk result
-        (text.new ≡ text.old ++ (line_of (placed_of entry.now).entry ++ lines.now)) }
+        (text.new ≡ text.old ++ (event_line (placed_of entry.now).entry ++ lines.now)) }
     ensures differs { IfErr result
         (λ fault. Differs fault number
         (entry_text entry.now.caller (event_of entry.now.event) (answer_of entry.now.answer))

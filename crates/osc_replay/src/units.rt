@@ -16,10 +16,10 @@ pub(crate) struct Queued<'a> {
 }
 
 impl<'a> Model for Queued<'a> {
-    ghost use Rattle.osc_packet.specs.Units.{Timed};
+    ghost use Rattle.osc_packet.specs.Units.{TimedUnit};
     ghost use Rattle.osc_replay.specs.Kept.{IsKept};
 
-    ghost Value = { Timed };
+    ghost Value = { TimedUnit };
 
     ghost view = { λ q. q.unit };
 

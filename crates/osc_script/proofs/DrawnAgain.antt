@@ -65,7 +65,8 @@ lawful_address : (a b : ℕ) → a < 8 → b < 16 → is_address (member_of a b)
 lawful_address a b p q = below 16 (λ b. is_address (member_of a b)) (below 8 (λ a. all_below 16 (λ b. is_address (member_of a b))) lawful_table a p) b q
 
 address_bytes : (a b : ℕ) → a < 8 → b < 16 → list_all is_byte (member_of a b) ≡ true
-address_bytes a b p q = below 16 (λ b. list_all is_byte (member_of a b)) (below 8 (λ a. all_below 16 (λ b. list_all is_byte (member_of a b))) address_table a p) b q
+address_bytes a b p q =
+    below 16 (λ b. list_all is_byte (member_of a b)) (below 8 (λ a. all_below 16 (λ b. list_all is_byte (member_of a b))) address_table a p) b q
 
 all_bytes : (a : ℕ) → a < 8 → list_all is_byte (all_of a) ≡ true
 all_bytes a p = below 8 (λ a. list_all is_byte (all_of a)) all_table a p
@@ -96,7 +97,8 @@ high_bytes zero n = refl
 high_bytes (suc k) n = ap₂ (λ a b. a && b) (byte_is k n) (high_bytes k n)
 
 message_bytes : (pattern : List ℕ) (value : ℕ) → list_all is_byte pattern ≡ true → list_all is_byte (message pattern value) ≡ true
-message_bytes pattern value p = both (string pattern) (string (codes ",i") ++ word value) (string_bytes_ pattern p) (both (string (codes ",i")) (word value) refl (high_bytes 4 value))
+message_bytes pattern value p =
+    both (string pattern) (string (codes ",i") ++ word value) (string_bytes_ pattern p) (both (string (codes ",i")) (word value) refl (high_bytes 4 value))
 
 element_bytes : (packet : List ℕ) → list_all is_byte packet ≡ true → list_all is_byte (element packet) ≡ true
 element_bytes packet p = both (word (length packet)) packet (high_bytes 4 (length packet)) p
@@ -127,13 +129,15 @@ two_bytes : (moment x : ℕ) → list_all is_byte (two_of moment x) ≡ true
 unfolding two_of
 two_bytes moment x =
     bundle_bytes (moment + drawn 1 4096 x) (element (to_one (after 1 x)) ++ element (to_any (after 4 x)))
-    (both (element (to_one (after 1 x))) (element (to_any (after 4 x))) (element_bytes (to_one (after 1 x)) (one_bytes (after 1 x))) (element_bytes (to_any (after 4 x)) (to_any_bytes (after 4 x))))
+    (both (element (to_one (after 1 x))) (element (to_any (after 4 x))) (element_bytes (to_one (after 1 x)) (one_bytes (after 1 x)))
+    (element_bytes (to_any (after 4 x)) (to_any_bytes (after 4 x))))
 
 nested_bytes : (moment x : ℕ) → list_all is_byte (nested_of moment x) ≡ true
 unfolding nested_of
 nested_bytes moment x =
     bundle_bytes (moment + drawn 1 4096 x) (element (to_one (after 1 x)) ++ element (at_once (after 4 x)))
-    (both (element (to_one (after 1 x))) (element (at_once (after 4 x))) (element_bytes (to_one (after 1 x)) (one_bytes (after 1 x))) (element_bytes (at_once (after 4 x)) (once_bytes (after 4 x))))
+    (both (element (to_one (after 1 x))) (element (at_once (after 4 x))) (element_bytes (to_one (after 1 x)) (one_bytes (after 1 x)))
+    (element_bytes (at_once (after 4 x)) (once_bytes (after 4 x))))
 
 -- ---- each act that is drawn can be written, in a line of at most 500 bytes
 
@@ -165,16 +169,38 @@ unfolding two_of
 two_small moment x =
     let a = element (to_one (after 1 x)) in
     let b = element (to_any (after 4 x)) in
-    let size = bundle_size (moment + drawn 1 4096 x) (a ++ b) in
-    (omega (arith, size), omega (arith, size, length-append a b, element_size (to_one (after 1 x)), element_size (to_any (after 4 x)), (one_small (after 1 x)).1, any_small (after 4 x)))
+    let size = bundle_size (moment + drawn 1 4096 x) (a ++ b) in (
+      omega (arith, size),
+      omega (
+        arith,
+        size,
+        length-append a b,
+        element_size (to_one (after 1 x)),
+        element_size (to_any (after 4 x)),
+        (one_small (after 1 x)).1,
+        any_small
+            (after 4 x),
+      ),
+    )
 
 nested_small : (moment x : ℕ) → (0 < length (nested_of moment x)) × (length (nested_of moment x) ≤ 230)
 unfolding nested_of
 nested_small moment x =
     let a = element (to_one (after 1 x)) in
     let b = element (at_once (after 4 x)) in
-    let size = bundle_size (moment + drawn 1 4096 x) (a ++ b) in
-    (omega (arith, size), omega (arith, size, length-append a b, element_size (to_one (after 1 x)), element_size (at_once (after 4 x)), (one_small (after 1 x)).1, once_small (after 4 x)))
+    let size = bundle_size (moment + drawn 1 4096 x) (a ++ b) in (
+      omega (arith, size),
+      omega (
+        arith,
+        size,
+        length-append a b,
+        element_size (to_one (after 1 x)),
+        element_size (at_once (after 4 x)),
+        (one_small (after 1 x)).1,
+        once_small
+            (after 4 x),
+      ),
+    )
 
 pub writable : (line : LineKind) (moment x : ℕ) → moment < 2 ^ 63 → IsWritable (act_of_kind line moment x)
 writable kind.Add moment x lt = lawful_address (drawn 1 8 x) (drawn 2 16 x) (omega arith) (omega arith)
@@ -193,9 +219,12 @@ address_size : (a b : ℕ) → a < 8 → b < 16 → length (member_of a b) ≤ 6
 address_size a b p q = short_member a b (omega arith) (omega arith)
 
 pub line_size : (line : LineKind) (moment x : ℕ) → length (act_line (act_of_kind line moment x)) ≤ 500
-line_size kind.Add moment x = omega (arith, length-append (act_text (act_of_kind kind.Add moment x)) (10 ∷ []), address_size (drawn 1 8 x) (drawn 2 16 x) (omega arith) (omega arith))
-line_size kind.Remove moment x = omega (arith, length-append (act_text (act_of_kind kind.Remove moment x)) (10 ∷ []), address_size (drawn 1 8 x) (drawn 2 16 x) (omega arith) (omega arith))
-line_size kind.Tick moment x = omega (arith, length-append (act_text (act_of_kind kind.Tick moment x)) (10 ∷ []), length-encode_with lower_digits (tag (moment + drawn 1 1024 x)))
+line_size kind.Add moment x =
+    omega (arith, length-append (act_text (act_of_kind kind.Add moment x)) (10 ∷ []), address_size (drawn 1 8 x) (drawn 2 16 x) (omega arith) (omega arith))
+line_size kind.Remove moment x =
+    omega (arith, length-append (act_text (act_of_kind kind.Remove moment x)) (10 ∷ []), address_size (drawn 1 8 x) (drawn 2 16 x) (omega arith) (omega arith))
+line_size kind.Tick moment x =
+    omega (arith, length-append (act_text (act_of_kind kind.Tick moment x)) (10 ∷ []), length-encode_with lower_digits (tag (moment + drawn 1 1024 x)))
 line_size kind.Pump moment x = omega arith
 line_size kind.One moment x = send_size (to_one x) (omega (arith, one_small x))
 line_size kind.All moment x = send_size (to_all x) (omega (arith, all_small x))
@@ -219,8 +248,11 @@ unfolding drawn_acts
 drawn_writable zero moment x lt = tt
 drawn_writable (suc lines) moment x lt =
     let line = kind_of (drawn 1 32 x) in
-    let next = after 1 x in
-    (writable line moment next (omega arith), drawn_writable lines (moment_after line moment next) (after (draws_of line) next) (omega (arith, rises line moment next)))
+    let next = after 1 x in (
+      writable line moment next (omega arith),
+      drawn_writable lines (moment_after line moment next) (after (draws_of line) next)
+          (omega (arith, rises line moment next)),
+    )
 
 drawn_size : (lines moment x : ℕ) → length (flat_map act_line (drawn_acts lines moment x)) ≤ 500 * lines
 unfolding drawn_acts
@@ -229,7 +261,13 @@ drawn_size (suc lines) moment x =
     let line = kind_of (drawn 1 32 x) in
     let next = after 1 x in
     let rest = flat_map act_line (drawn_acts lines (moment_after line moment next) (after (draws_of line) next)) in
-    omega (arith, length-append (act_line (act_of_kind line moment next)) rest, line_size line moment next, drawn_size lines (moment_after line moment next) (after (draws_of line) next))
+    omega (
+      arith,
+      length-append (act_line (act_of_kind line moment next)) rest,
+      line_size line moment next,
+      drawn_size lines (moment_after line moment next)
+          (after (draws_of line) next),
+    )
 
 first_writable : (lines k : ℕ) → k + lines ≤ 64 → AllByRecursion IsWritable (first_acts lines k)
 unfolding first_acts

@@ -24,14 +24,16 @@ first_end lines k before le =
 
 drawn_step : (n moment number : ℕ) (before : List ℕ)
     → (before ++ act_line (act_of_kind (kind_of (drawn 1 32 number)) moment (after 1 number)))
-    ++ written (drawn_acts n (moment_after (kind_of (drawn 1 32 number)) moment (after 1 number)) (after (draws_of (kind_of (drawn 1 32 number))) (after 1 number)))
+    ++ written (drawn_acts n (moment_after (kind_of (drawn 1 32 number)) moment (after 1 number))
+    (after (draws_of (kind_of (drawn 1 32 number))) (after 1 number)))
     ≡ before ++ written (drawn_acts (suc n) moment number)
 unfolding drawn_acts
 drawn_step n moment number before = append_assoc before (act_line (act_of_kind (kind_of (drawn 1 32 number)) moment (after 1 number))) _
 
 pub drawn_more : (lines k moment number : ℕ) (before : List ℕ) → k < lines
     → (before ++ act_line (act_of_kind (kind_of (drawn 1 32 number)) moment (after 1 number)))
-    ++ written (drawn_acts (lines - (k + 1)) (moment_after (kind_of (drawn 1 32 number)) moment (after 1 number)) (after (draws_of (kind_of (drawn 1 32 number))) (after 1 number)))
+    ++ written (drawn_acts (lines - (k + 1)) (moment_after (kind_of (drawn 1 32 number)) moment (after 1 number))
+    (after (draws_of (kind_of (drawn 1 32 number))) (after 1 number)))
     ≡ before ++ written (drawn_acts (lines - k) moment number)
 drawn_more lines k moment number before lt =
     let left : lines - k ≡ suc (lines - (k + 1)) = omega arith in

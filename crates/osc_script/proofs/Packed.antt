@@ -50,7 +50,8 @@ small_message pattern value short =
 
 pub small_bundle : (moment : ℕ) (packet : List ℕ) → length packet ≤ 80 → length (bundle moment (element packet)) ≤ 120
 small_bundle moment packet small =
-    let head : length (string (codes "#bundle") ++ (tag moment ++ (word (length packet) ++ packet))) ≡ 20 + length packet = omega (arith, length-append (tag moment) (word (length packet) ++ packet), length-append (word (length packet)) packet) in
+    let head : length (string (codes "#bundle") ++ (tag moment ++ (word (length packet) ++ packet))) ≡ 20 + length packet =
+    omega (arith, length-append (tag moment) (word (length packet) ++ packet), length-append (word (length packet)) packet) in
     omega arith
 
 pub ruleset patterns = (plain_member, plain_all, plain_any, short_member, short_all, short_any)

@@ -11,7 +11,8 @@ use std::alloc::{AllocError, Global};
 
 /// The address of a member of a group, both drawn.
 pub(crate) fn drawn_address(alloc: Global, draws: &mut Draws) -> Result<String, AllocError>
-    ensures text { IfOk result (λ text. string_bytes text ≡ Generated.drawn_address draws.old.number) }
+    ensures text { IfOk result (λ text. string_bytes text
+        ≡ Generated.drawn_address draws.old.number) }
     ensures plain { IfOk result (λ text. IsTrue (has_no_zero (string_bytes text))) }
     ensures short { IfOk result (λ text. length (string_bytes text) ≤ 60) }
     ensures draws { OnOk result (draws.new.number ≡ after 2 draws.old.number) }
@@ -60,7 +61,8 @@ fn to_any(alloc: Global, draws: &mut Draws) -> Result<Vec<u8>, AllocError>
 #[tactic(auto, unfolding(crate::specs::Generated::two_of))]
 pub(crate) fn two_of(alloc: Global, moment: u64, draws: &mut Draws) -> Result<Vec<u8>, AllocError>
     requires { moment < 2 ^ 63 }
-    ensures packet { IfOk result (λ packet. packet.items ≡ Generated.two_of moment draws.old.number) }
+    ensures packet { IfOk result (λ packet. packet.items
+        ≡ Generated.two_of moment draws.old.number) }
     ensures draws { OnOk result (draws.new.number ≡ after 6 draws.old.number) }
 {
     let due = moment + draws.below(4_096);
@@ -80,7 +82,8 @@ pub(crate) fn nested_of(
     draws: &mut Draws,
 ) -> Result<Vec<u8>, AllocError>
     requires { moment < 2 ^ 63 }
-    ensures packet { IfOk result (λ packet. packet.items ≡ Generated.nested_of moment draws.old.number) }
+    ensures packet { IfOk result (λ packet. packet.items
+        ≡ Generated.nested_of moment draws.old.number) }
     ensures draws { OnOk result (draws.new.number ≡ after 7 draws.old.number) }
 {
     let due = moment + draws.below(4_096);

@@ -124,7 +124,8 @@ pub fn written_is_read_again()
 /// A script of acts, a line each, is read as these acts, and the lines are counted from 1.
 #[tactic(auto, using(crate::proofs::Again::script_again))]
 pub fn written_scripts_are_read_again()
-    ensures { (acts : List Act) → AllByRecursion IsWritable acts → length (written acts) ≤ MAX_SCRIPT
+    ensures { (acts : List Act) → AllByRecursion IsWritable acts
+        → length (written acts) ≤ MAX_SCRIPT
         → script_of Plain (written acts) ≡ Ok (numbered 1 acts) }
 {}
 

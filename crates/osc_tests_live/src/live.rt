@@ -236,10 +236,7 @@ fn the_last_word_names_the_recording(rt: HostRuntime) -> Result<(), Fail> {
 fn each_link_has_a_port(rt: HostRuntime) -> Result<(), Fail> {
     let alloc = rt.alloc();
     let rows: [(&str, &[u16]); 6] = [
-        (
-            "serve --port 9000 --links 1 --count 2 --idle 3 f",
-            &[9000],
-        ),
+        ("serve --port 9000 --links 1 --count 2 --idle 3 f", &[9000]),
         ("serve f", &[9000]),
         ("serve --links=3 --units 1 f", &[9000, 9001, 9002]),
         (

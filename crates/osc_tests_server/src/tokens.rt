@@ -70,8 +70,8 @@ pub(crate) fn close_both<M: Method>(
     live.close(alloc, callers, Vec::new(alloc)).ok()
 }
 
-/// A server is closed after a guest was made: at first without the guest's token, and then with it. How many tokens were made
-/// and how many handed in, as the refusal tells.
+/// A server is closed after a guest was made: at first without the guest's token, and then with it. How many tokens
+/// were made and how many handed in, as the refusal tells.
 pub(crate) fn close_twice<M: Method>(
     alloc: Global,
     live: Live<M>,

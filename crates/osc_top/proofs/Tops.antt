@@ -12,9 +12,9 @@ use Rattle.osc_top.specs.Plain.{plain, count_adds}
 use Rattle.osc_top.specs.Printing.{bank_short_text}
 use Rattle.osc_top.specs.Ends.{Gains, GainsFront, GainsUnless, IsLegalRun, IsUnstopped, run_output, EndsLines, EndsRun, EndsLine}
 
-pub line_text : (decided status : ℕ) (text text' : List ℕ) (held after : Option (List ℕ)) (faults now : ℕ) → text ≡ text'
-    → EndsLine decided status text held after faults now → EndsLine decided status text' held after faults now
-line_text decided status text text' held after faults now same ends = subst (λ (t : List ℕ). EndsLine decided status t held after faults now) same ends
+pub line_text : (decided status : ℕ) (text text' : List ℕ) (held after : Option (List ℕ)) (faults later : ℕ) → text ≡ text'
+    → EndsLine decided status text held after faults later → EndsLine decided status text' held after faults later
+line_text decided status text text' held after faults later same ends = subst (λ (t : List ℕ). EndsLine decided status t held after faults later) same ends
 
 -- the same limits, otherwise named
 pub accounted_so : {X : Type 0} (script : List ℕ) (heard : List Told) (left : List X) (meanings : List Meaning) (bank : List X) (caps same : Limits) → caps ≡ same
@@ -24,20 +24,20 @@ accounted_so script heard left meanings bank caps same is accounted =
     subst (λ (limits : Limits). (lines : List Line) × (script_of Plain script ≡ Ok lines) × IsAccounted limits lines heard left meanings bank) is accounted
 
 -- too few boxes
-pub short_ends : (output : Output) (caps : Limits) (status status' have have' need : ℕ) (lines : List Line) (held after : Option (List ℕ)) (faults now : ℕ) → status' ≡ status
-    → have ≡ have' → need ≡ count_adds lines → have < need → EndsLine 8 status (bank_short_text need have) held after faults now
-    → EndsLines output caps status' have' lines held after faults now
-short_ends output caps status status' have have' need lines held after faults now same boxes adds few ends = go ends.known where
+pub short_ends : (output : Output) (caps : Limits) (status status' have have' need : ℕ) (lines : List Line) (held after : Option (List ℕ)) (faults later : ℕ) → status' ≡ status
+    → have ≡ have' → need ≡ count_adds lines → have < need → EndsLine 8 status (bank_short_text need have) held after faults later
+    → EndsLines output caps status' have' lines held after faults later
+short_ends output caps status status' have have' need lines held after faults later same boxes adds few ends = go ends.known where
   text : bank_short_text need have ≡ bank_short_text (count_adds lines) have'
   text = ap (λ (n : ℕ). bank_short_text n have) adds ∙ ap (bank_short_text (count_adds lines)) boxes
 
-  go : (status ≡ 8) ⊎ (status ≡ 3) → EndsLines output caps status' have' lines held after faults now
+  go : (status ≡ 8) ⊎ (status ≡ 3) → EndsLines output caps status' have' lines held after faults later
   go (inl is) = record {
     known = inr (inr (inr (inr (same ∙ is))));
     done = λ zero_is. absurd (omega (arith, same, is, zero_is));
     cut_short = λ five_is. absurd (omega (arith, same, is, five_is));
     full = λ six_is. absurd (omega (arith, same, is, six_is));
-    bank_short = λ eight_is. (omega (arith, boxes, adds, few), subst (GainsUnless held after faults now) text (ends.written is));
+    bank_short = λ eight_is. (omega (arith, boxes, adds, few), subst (GainsUnless held after faults later) text (ends.written is));
   }
   go (inr is) = record {
     known = inr (inl (same ∙ is));
@@ -52,9 +52,9 @@ module _ (script : List ℕ) (lines : List Line) where
   ok_and P is holds = subst (λ (r : Result (List Line) ScriptFault). IsOkAnd r P) (sym is) holds
 
   -- lines that were read end as their script
-  pub lines_end : (output : Output) (caps : Limits) (status have : ℕ) (held after : Option (List ℕ)) (faults now : ℕ) → script_of Plain script ≡ Ok lines
-      → EndsLines output caps status have lines held after faults now → EndsRun output caps status have script held after faults now
-  lines_end output caps status have held after faults now is ends = record {
+  pub lines_end : (output : Output) (caps : Limits) (status have : ℕ) (held after : Option (List ℕ)) (faults later : ℕ) → script_of Plain script ≡ Ok lines
+      → EndsLines output caps status have lines held after faults later → EndsRun output caps status have script held after faults later
+  lines_end output caps status have held after faults later is ends = record {
     known = among ends.known;
     done = λ zero_is. let done = ends.done zero_is in (
       ok_and (λ (l : List Line). (count_adds l ≤ have) × IsLegalRun caps l × IsUnstopped caps l × Gains held after (run_output output caps l)) is
@@ -73,7 +73,7 @@ module _ (script : List ℕ) (lines : List Line) where
       full.4,
     );
     bank_short =
-        λ eight_is. ok_and (λ (l : List Line). (have < count_adds l) × GainsUnless held after faults now (bank_short_text (count_adds l) have)) is
+        λ eight_is. ok_and (λ (l : List Line). (have < count_adds l) × GainsUnless held after faults later (bank_short_text (count_adds l) have)) is
         (ends.bank_short eight_is);
   } where
     among : (status ≡ 0) ⊎ (status ≡ 3) ⊎ (status ≡ 5) ⊎ (status ≡ 6) ⊎ (status ≡ 8)

@@ -40,8 +40,8 @@ GainsFront held after text =
 
 -- the text, or a front of it where the count of faults rose
 abbrev pub GainsUnless : Option (List ℕ) → Option (List ℕ) → ℕ → ℕ → List ℕ → Type 0
-GainsUnless held after faults now text =
-    Gains held after text ⊎ (GainsFront held after text × Rose faults now)
+GainsUnless held after faults later text =
+    Gains held after text ⊎ (GainsFront held after text × Rose faults later)
 
 -- what a whole input leaves: nothing, or what stands behind the first byte that is too many
 abbrev pub left_behind : ℕ → List ℕ → List ℕ
@@ -78,47 +78,47 @@ run_output Recording caps lines = record_text caps (plain caps lines).history
 -- short (8), where there are fewer boxes than adds, and the line on that was gained. Want of memory
 -- (3) promises nothing.
 pub record EndsLines (output : Output) (caps : Limits) (status have : ℕ) (lines : List Line)
-    (held after : Option (List ℕ)) (faults now : ℕ) : Type 0 where
+    (held after : Option (List ℕ)) (faults later : ℕ) : Type 0 where
   pub known : (status ≡ DONE) ⊎ (status ≡ NO_MEMORY) ⊎ (status ≡ SINK_FAILED)
       ⊎ (status ≡ RECORDING_FULL) ⊎ (status ≡ BANK_SHORT)
   pub done : status ≡ DONE → (count_adds lines ≤ have) × IsLegalRun caps lines × IsUnstopped caps lines
-      × Gains held after (run_output output caps lines) × (now ≡ faults)
+      × Gains held after (run_output output caps lines) × (later ≡ faults)
   pub cut_short : status ≡ SINK_FAILED → (count_adds lines ≤ have) × IsLegalRun caps lines
-      × GainsFront held after (run_output output caps lines) × Rose faults now
+      × GainsFront held after (run_output output caps lines) × Rose faults later
   pub full : status ≡ RECORDING_FULL → (count_adds lines ≤ have) × IsLegalRun caps lines
       × IsSome (plain caps lines).stop × Gains held after (run_output output caps lines)
-      × (now ≡ faults)
+      × (later ≡ faults)
   pub bank_short : status ≡ BANK_SHORT → (have < count_adds lines)
-      × GainsUnless held after faults now (bank_short_text (count_adds lines) have)
+      × GainsUnless held after faults later (bank_short_text (count_adds lines) have)
 
 -- The end of a run of a script, by its status: refused (1), where it has a first fault, and the
 -- line on that fault was
 -- gained; else the script is lawful, and the end is that of a run of its lines.
 pub record EndsRun (output : Output) (caps : Limits) (status have : ℕ) (script : List ℕ)
-    (held after : Option (List ℕ)) (faults now : ℕ) : Type 0 where
+    (held after : Option (List ℕ)) (faults later : ℕ) : Type 0 where
   pub known : (status ≡ DONE) ⊎ (status ≡ REFUSED) ⊎ (status ≡ NO_MEMORY) ⊎ (status ≡ SINK_FAILED)
       ⊎ (status ≡ RECORDING_FULL)
       ⊎ (status ≡ BANK_SHORT)
   pub done : status ≡ DONE
       → IsOkAnd (script_of Plain script)
       (λ lines. (count_adds lines ≤ have) × IsLegalRun caps lines × IsUnstopped caps lines
-      × Gains held after (run_output output caps lines)) × (now ≡ faults)
+      × Gains held after (run_output output caps lines)) × (later ≡ faults)
   pub refused : status ≡ REFUSED
       → IsErrAnd (script_of Plain script)
-      (λ fault. GainsUnless held after faults now (refusal_text fault))
+      (λ fault. GainsUnless held after faults later (refusal_text fault))
   pub cut_short : status ≡ SINK_FAILED
       → IsOkAnd (script_of Plain script)
       (λ lines. (count_adds lines ≤ have) × IsLegalRun caps lines
-      × GainsFront held after (run_output output caps lines)) × Rose faults now
+      × GainsFront held after (run_output output caps lines)) × Rose faults later
   pub full : status ≡ RECORDING_FULL
       → IsOkAnd (script_of Plain script)
       (λ lines. (count_adds lines ≤ have) × IsLegalRun caps lines
       × IsSome (plain caps lines).stop × Gains held after (run_output output caps lines))
-      × (now ≡ faults)
+      × (later ≡ faults)
   pub bank_short : status ≡ BANK_SHORT
       → IsOkAnd (script_of Plain script)
       (λ lines. (have < count_adds lines)
-      × GainsUnless held after faults now (bank_short_text (count_adds lines) have))
+      × GainsUnless held after faults later (bank_short_text (count_adds lines) have))
 
 -- The lines on bytes that aren't the recording of a server: there are too many; or else the first
 -- place where they are
@@ -152,24 +152,24 @@ pub record RecordsTheLaws (bytes : List ℕ) : Type 0 where
 -- short (5), where the sink
 -- failed, and a front of the printed text was gained. Want of memory (3) promises nothing.
 pub record EndsReplay (status : ℕ) (bytes : List ℕ) (held after : Option (List ℕ))
-    (faults now : ℕ) : Type 0 where
+    (faults later : ℕ) : Type 0 where
   pub known : (status ≡ DONE) ⊎ (status ≡ REFUSED) ⊎ (status ≡ NO_MEMORY) ⊎ (status ≡ SINK_FAILED)
   pub done : status ≡ DONE
       → ((printed_text : List ℕ) × ReplaysTo bytes printed_text × Gains held after printed_text)
-      × (now ≡ faults)
+      × (later ≡ faults)
   pub refused : status ≡ REFUSED → (lines : List ℕ) × RefusesRecording bytes lines
-      × GainsUnless held after faults now lines
+      × GainsUnless held after faults later lines
   pub cut_short : status ≡ SINK_FAILED
       → ((printed_text : List ℕ) × ReplaysTo bytes printed_text
-      × GainsFront held after printed_text) × Rose faults now
+      × GainsFront held after printed_text) × Rose faults later
 
 -- the end of a command, of which so many boxes and this input were handed in
 abbrev pub EndsCommand : Command → ℕ → ℕ → List ℕ → Option (List ℕ) → Option (List ℕ) → ℕ → ℕ
     → Type 0
-EndsCommand (Run output caps) status have input held after faults now =
-    EndsRun output (plain_limits caps) status have input held after faults now
-EndsCommand Replay status have input held after faults now =
-    EndsReplay status input held after faults now
+EndsCommand (Run output caps) status have input held after faults later =
+    EndsRun output (plain_limits caps) status have input held after faults later
+EndsCommand Replay status have input held after faults later =
+    EndsReplay status input held after faults later
 
 -- what was recorded of a run of lines: its recording, the lines of the faults, and the stop
 pub record IsRunOf (bytes faults : List ℕ) (stop : Option Room) (caps : Limits)
@@ -182,26 +182,26 @@ pub record IsRunOf (bytes faults : List ℕ) (stop : Option Room) (caps : Limits
 -- short (5) where the sink
 -- failed.
 pub record EndsPlayed (output : Output) (caps : Limits) (status : ℕ) (lines : List Line)
-    (held after : Option (List ℕ)) (faults now : ℕ) : Type 0 where
+    (held after : Option (List ℕ)) (faults later : ℕ) : Type 0 where
   pub known : (status ≡ DONE) ⊎ (status ≡ NO_MEMORY) ⊎ (status ≡ SINK_FAILED)
       ⊎ (status ≡ RECORDING_FULL)
   pub done : status ≡ DONE → IsUnstopped caps lines × Gains held after (run_output output caps lines)
-      × (now ≡ faults)
+      × (later ≡ faults)
   pub cut_short : status ≡ SINK_FAILED
-      → GainsFront held after (run_output output caps lines) × Rose faults now
+      → GainsFront held after (run_output output caps lines) × Rose faults later
   pub full : status ≡ RECORDING_FULL → IsSome (plain caps lines).stop
-      × Gains held after (run_output output caps lines) × (now ≡ faults)
+      × Gains held after (run_output output caps lines) × (later ≡ faults)
 
 -- a text that was made before is written, or a front of it; the status is the decided one where all
 -- of it is
 pub record EndsText (decided status : ℕ) (text : List ℕ) (held after : Option (List ℕ))
-    (faults now : ℕ) : Type 0 where
+    (faults later : ℕ) : Type 0 where
   pub known : (status ≡ decided) ⊎ (status ≡ NO_MEMORY) ⊎ (status ≡ SINK_FAILED)
-  pub done : status ≡ decided → Gains held after text × (now ≡ faults)
-  pub cut_short : status ≡ SINK_FAILED → GainsFront held after text × Rose faults now
+  pub done : status ≡ decided → Gains held after text × (later ≡ faults)
+  pub cut_short : status ≡ SINK_FAILED → GainsFront held after text × Rose faults later
 
 -- a last line of a status that is decided
 pub record EndsLine (decided status : ℕ) (text : List ℕ) (held after : Option (List ℕ))
-    (faults now : ℕ) : Type 0 where
+    (faults later : ℕ) : Type 0 where
   pub known : (status ≡ decided) ⊎ (status ≡ NO_MEMORY)
-  pub written : status ≡ decided → GainsUnless held after faults now text
+  pub written : status ≡ decided → GainsUnless held after faults later text

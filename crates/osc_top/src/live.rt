@@ -34,13 +34,13 @@ use std::alloc::Global;
 use std::sync::Wait;
 use std::thread::Threads;
 
-/// Does all that the program of many threads does. `lanes FILE` reads a script from `input` to its end, plays each of its
-/// lanes by a thread of its own on one new server, and writes the recording to `rec`, and then the printed history and
-/// the faults of the lanes' packets to `out`. `osc replay` prints the same history from the recording.
+/// Does all that the program of many threads does. `lanes FILE` reads a script from `input` to its end, plays each of
+/// its lanes by a thread of its own on one new server, and writes the recording to `rec`, and then the printed history
+/// and the faults of the lanes' packets to `out`. `osc replay` prints the same history from the recording.
 ///
-/// `words` are those of the command line, without the program's name. The k-th add of the script, whatever its lane, gets
-/// the k-th box of `bank`. `gate` is called round each line. What stands in the sinks, and what becomes of the boxes, at
-/// want of memory isn't said.
+/// `words` are those of the command line, without the program's name. The k-th add of the script, whatever its lane,
+/// gets the k-th box of `bank`. `gate` is called round each line. What stands in the sinks, and what becomes of the
+/// boxes, at want of memory isn't said.
 pub fn live_top<S: Source, O: Sink, R: Sink, W: Threads + Wait + Sync, G: Gate + Sync>(
     rt: &W,
     alloc: Global,

@@ -35,8 +35,8 @@ pub(crate) struct Played<M> {
     pub(crate) left: Vec<M>,
 }
 
-/// Plays the lines on a new server as caller 0, up to the first event for whose entry the recording has no room; the k-th
-/// add gets the k-th box. An `Err` is want of memory.
+/// Plays the lines on a new server as caller 0, up to the first event for whose entry the recording has no room; the
+/// k-th add gets the k-th box. An `Err` is want of memory.
 pub(crate) fn play<M: Method>(
     alloc: Global,
     caps: Caps,

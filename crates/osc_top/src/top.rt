@@ -37,8 +37,8 @@ use std::alloc::Global;
 /// How a program ends.
 #[derive(Drop)]
 pub struct Ended {
-    /// The exit status: 0 done, 1 script or recording refused, 2 words refused, 3 want of memory, 4 the source failed, 5
-    /// the sink failed, 6 the recording was full, 8 more adds than boxes (docs/FORMATS.md, "Programs").
+    /// The exit status: 0 done, 1 script or recording refused, 2 words refused, 3 want of memory, 4 the source failed,
+    /// 5 the sink failed, 6 the recording was full, 8 more adds than boxes (docs/FORMATS.md, "Programs").
     pub status: u8,
     /// The id of each method that was added with its box, ascending, the removed ones among them.
     pub heard: Vec<(u32, Box<dyn Method + Send>)>,
@@ -46,9 +46,9 @@ pub struct Ended {
     pub left: Vec<Box<dyn Method + Send>>,
 }
 
-/// Does all that the program does. `run` reads a script from `input` to its end, plays it on a new server, and writes the
-/// printed history and the faults of its packets to `out`, or with `--bytes` the recording. `replay` reads a recording, and
-/// writes the same printed history, each answer of which it computes again.
+/// Does all that the program does. `run` reads a script from `input` to its end, plays it on a new server, and writes
+/// the printed history and the faults of its packets to `out`, or with `--bytes` the recording. `replay` reads a
+/// recording, and writes the same printed history, each answer of which it computes again.
 ///
 /// `words` are those of the command line, without the program's name. The k-th add of a script gets the k-th box of
 /// `bank`. Scripts, recordings, printed lines and statuses are those of docs/FORMATS.md. What stands in `out`, and what
@@ -85,8 +85,8 @@ pub fn plain_top<S: Source, O: Sink>(
         (λ all. result.status ≢ NO_MEMORY → result.status ≢ SOURCE_FAILED →
         S.left input.new ≡ Some (left_behind (commands.most_bytes command) all))) }
 
-    // Then a script or a recording that is refused, or a script that adds more methods than there are boxes, or what the
-    // command writes, with a sink that took all of it or failed.
+    // Then a script or a recording that is refused, or a script that adds more methods than there are boxes, or what
+    // the command writes, with a sink that took all of it or failed.
     ensures command { IfSome (commands.command_of (map string_bytes words.now))
         (λ command. IfSome (S.left input.old) (λ all. result.status ≢ SOURCE_FAILED →
         EndsCommand command result.status (length bank.items) all (O.held out.old) (O.held out.new)
@@ -98,8 +98,8 @@ pub fn plain_top<S: Source, O: Sink>(
     ensures ended { result.status ≡ DONE
         → IfSome (S.left input.old) (λ all. S.left input.new ≡ Some []) }
 
-    // Each box that was added has heard what the history says, and each other one comes back as it was; where nothing was
-    // played, all of them.
+    // Each box that was added has heard what the history says, and each other one comes back as it was; where nothing
+    // was played, all of them.
     ensures accounted { (output : Output) (caps : Capacities)
         → commands.command_of (map string_bytes words.now) ≡ Some (Run output caps)
         → IsPlayed result.status → (lines : List Line) ×
@@ -126,8 +126,8 @@ pub fn plain_top<S: Source, O: Sink>(
         → result.status ≡ DONE →
         IfSome (S.left input.old) (λ recording. RecordsTheLaws recording) }
 
-    // A lawful script with enough boxes and room for its recording is played, and the recording of each history that the
-    // server's rules give is replayed, over edges that don't fail, unless memory runs out.
+    // A lawful script with enough boxes and room for its recording is played, and the recording of each history that
+    // the server's rules give is replayed, over edges that don't fail, unless memory runs out.
     ensures complete { (output : Output) (caps : Capacities)
         → commands.command_of (map string_bytes words.now) ≡ Some (Run output caps)
         → IfSome (S.left input.old) (λ script.

@@ -7,8 +7,8 @@ ghost use Rattle.osc_tree.specs.Views.{methods_of, methods_at};
 use crate::registered::Registered;
 use crate::search::{count_before, count_before_both};
 
-/// The places of the methods that begin with the text, which stand together. They aren't before the text, and are before
-/// it with a byte behind it that is above all of an address.
+/// The places of the methods that begin with the text, which stand together. They aren't before the text, and are
+/// before it with a byte behind it that is above all of an address.
 pub(crate) fn beginning_with<'a>(
     methods: &[Registered],
     places: &'a [u32],

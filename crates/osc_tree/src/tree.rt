@@ -1,5 +1,5 @@
-//! The tree of methods: a list in the order of adding, and their places in the order of their addresses, in room that is
-//! reserved at opening.
+//! The tree of methods: a list in the order of adding, and their places in the order of their addresses, in room that
+//! is reserved at opening.
 ghost use Rattle.std.specs.Prelude.{◌≡◌, ◌≤◌, ◌+◌, ◌↔◌, ℕ, List, [], ◌∷◌, ◌++◌, Some, None, IsOk, IsErr, IfOk, IfErr, IfSome, IsNone, OnOk, OnErr};
 ghost use Rattle.std.specs.Option.{option_map, option_copied};
 ghost use Rattle.std.specs.Result.{result_ok};

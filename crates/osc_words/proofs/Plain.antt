@@ -36,7 +36,8 @@ same_rows : (c : List Rule) (pending : Option (Text × List Text)) (rows : List 
 same_rows c None rows = refl
 same_rows c (Some p) rows = same_used (arg_by_id c p.0) p.1 rows ∙ sym (ap (λ o. used_by_id o p.1 rows) (by_id c p.0))
 
-same_action : (x : ArgAction) (again : Bool) (a : Rule) (values : List Text) (rows : List Row) → action_fault x again a values rows ≡ action_fault x again (untrailed a) values rows
+same_action : (x : ArgAction) (again : Bool) (a : Rule) (values : List Text) (rows : List Row)
+    → action_fault x again a values rows ≡ action_fault x again (untrailed a) values rows
 same_action action.Set again a values rows = refl
 same_action action.SetTrue again a values rows = refl
 same_action action.SetFalse again a values rows = refl
@@ -66,7 +67,8 @@ same_word : (o : Option Rule) (id word : Text) (h : Held) → option_word o id w
 same_word None id word h = refl
 same_word (Some a) id word h = refl
 
-pub alike : (c : List Rule) → ((name : Text) → arg_by_long c name ≡ arg_by_long (map untrailed c) name) → ((x : ℕ) → arg_by_short c x ≡ arg_by_short (map untrailed c) x)
+pub alike : (c : List Rule) → ((name : Text) → arg_by_long c name ≡ arg_by_long (map untrailed c) name)
+    → ((x : ℕ) → arg_by_short c x ≡ arg_by_short (map untrailed c) x)
     → Alike c (map untrailed c)
 alike c long short = record {
   long = long;
@@ -90,7 +92,8 @@ bare s = record s { rules = map untrailed s.rules }
 
 same_checks : (s : Shape) (rows : List Row) → check_fault s rows false ≡ check_fault (bare s) rows false
 same_checks s rows =
-    ap (λ b. check_kinds (not false && (s.arg_required_else_help && not (list_any (λ r. explicit_source r.source) rows))) (not false && s.subcommand_required) (not (s.subcommand_negates_reqs && false) && b))
+    ap (λ b. check_kinds (not false && (s.arg_required_else_help && not (list_any (λ r. explicit_source r.source) rows))) (not false && s.subcommand_required)
+    (not (s.subcommand_negates_reqs && false) && b))
     (list_any-map (λ (a : Rule). a.required && not (is_given a.id rows)) untrailed s.rules)
 
 module _ (s : Shape) (f : HasFile s.rules) (l : Alike s.rules (map untrailed s.rules)) where
@@ -109,13 +112,15 @@ module _ (s : Shape) (f : HasFile s.rules) (l : Alike s.rules (map untrailed s.r
   together : (w : Walk) (word : Text) (h : Held) (step : Step) → Clean w → Safe h → SafeStep step
       → Same word (after_step s.rules word w h step) (after_step (map untrailed s.rules) word w h step)
       ⊎ Met word (after_step s.rules word w h step) (after_step (map untrailed s.rules) word w h step)
-  together w word h (next waiting) clean safe free = inl (record { clean = record { held = safe; waiting = free; position = clean.position; running = clean.running }; same = refl })
+  together w word h (next waiting) clean safe free =
+      inl (record { clean = record { held = safe; waiting = free; position = clean.position; running = clean.running }; same = refl })
   together w word h (trailing position) clean safe first =
       inl (record { clean = record { held = safe; waiting = clean.waiting; position = first; running = clean.running }; same = refl })
   together w word h (subcommand name) clean safe never = absurd never
   together w word h value clean safe any =
       let here : Some f.file ≡ arg_by_index s.rules w.position = sym (ap (arg_by_index s.rules) clean.position ∙ f.first) in
-      let there : Some (untrailed f.file) ≡ arg_by_index (map untrailed s.rules) w.position = sym (ap (arg_by_index (map untrailed s.rules)) clean.position ∙ at_first) in
+      let there : Some (untrailed f.file) ≡ arg_by_index (map untrailed s.rules) w.position =
+      sym (ap (arg_by_index (map untrailed s.rules)) clean.position ∙ at_first) in
       let start : Met word (to_positional s.rules (Some f.file) word w h) (to_positional (map untrailed s.rules) (Some (untrailed f.file)) word w h) = record {
         done = placed s.rules f w word h clean.position safe;
         same = (λ i. record (to_positional s.rules (Some f.file) word w h) {
@@ -123,16 +128,19 @@ module _ (s : Shape) (f : HasFile s.rules) (l : Alike s.rules (map untrailed s.r
           is_trailing = or_true w.is_trailing f.file.trailing_var_arg f.trails i;
         });
       } in
-      inr (subst (λ (o : Option Rule). Met word (to_positional s.rules o word w h) (to_positional (map untrailed s.rules) (arg_by_index (map untrailed s.rules) w.position) word w h)) here
+      inr (subst (λ (o : Option Rule). Met word (to_positional s.rules o word w h)
+      (to_positional (map untrailed s.rules) (arg_by_index (map untrailed s.rules) w.position) word w h)) here
       (subst (λ (o : Option Rule). Met word (to_positional s.rules (Some f.file) word w h) (to_positional (map untrailed s.rules) o word w h)) there start))
 
   simulate : (w : Walk) (word : Text) → Clean w
-      → Same word (walked s.rules [] w word) (walked (map untrailed s.rules) [] w word) ⊎ Met word (walked s.rules [] w word) (walked (map untrailed s.rules) [] w word)
+      → Same word (walked s.rules [] w word) (walked (map untrailed s.rules) [] w word)
+      ⊎ Met word (walked s.rules [] w word) (walked (map untrailed s.rules) [] w word)
   unfolding walked
   simulate w word clean =
       let m = met s.rules f w word w.is_trailing clean in
       let here = word_met s.rules [] w.is_trailing w.waiting w.position word w.held in
-      let same : word_met s.rules [] w.is_trailing w.waiting w.position word w.held ≡ word_met (map untrailed s.rules) [] w.is_trailing w.waiting w.position word w.held =
+      let same : word_met s.rules [] w.is_trailing w.waiting w.position word w.held
+      ≡ word_met (map untrailed s.rules) [] w.is_trailing w.waiting w.position word w.held =
       word_same s.rules (map untrailed s.rules) l w.is_trailing w.waiting w.position word w.held in
       subst (λ (o : Option (Text × List Text)). Same word (walked_from s.rules [] o w word) (walked_from (map untrailed s.rules) [] o w word)
       ⊎ Met word (walked_from s.rules [] o w word) (walked_from (map untrailed s.rules) [] o w word)) (sym clean.running)
@@ -147,7 +155,8 @@ module _ (s : Shape) (f : HasFile s.rules) (l : Alike s.rules (map untrailed s.r
   same_step_fault position h value first =
       ap (λ o. option_map_or (λ a. positional_fault s.rules s.args_override_self a h) o (stray_fault s)) (ap (arg_by_index s.rules) first ∙ f.first)
       ∙ ap (λ ks. cond (is_pending f.file h.pending && takes_several f.file) [] ks) (l.fault s.args_override_self h)
-      ∙ sym (ap (λ o. option_map_or (λ a. positional_fault (map untrailed s.rules) s.args_override_self a h) o (stray_fault s)) (ap (arg_by_index (map untrailed s.rules)) first ∙ at_first))
+      ∙ sym (ap (λ o. option_map_or (λ a. positional_fault (map untrailed s.rules) s.args_override_self a h) o (stray_fault s))
+      (ap (arg_by_index (map untrailed s.rules)) first ∙ at_first))
 
   same_turn : (w : Walk) (word : Text) → Clean w → turn_fault s [] w word ≡ turn_fault (bare s) [] w word
   same_turn w word clean =
@@ -181,7 +190,8 @@ high_other c waiting word None h = go (short_of word)
     go (Some flags) = high_after c waiting word (bundle c flags h).0 (bundle c flags h).1
     go None = high_plain c waiting word h
 
-high_word : (c : List Rule) (t : Bool) (waiting : Waiting) (position : ℕ) (word : Text) (h : Held) → 2 ≤ position → High (word_met c [] t waiting position word h).1
+high_word : (c : List Rule) (t : Bool) (waiting : Waiting) (position : ℕ) (word : Text) (h : Held) → 2 ≤ position
+    → High (word_met c [] t waiting position word h).1
 high_word c true waiting position word h le = tt
 high_word c false waiting position word h le = go (subcommand_met [] waiting word)
   where
@@ -213,7 +223,8 @@ high_walked c w word le = go w.stopped
   where
     go : (o : Option (Text × List Text)) → 2 ≤ (walked_from c [] o w word).position
     go (Some p) = le
-    go None = high_step c w word (word_met c [] w.is_trailing w.waiting w.position word w.held).0 (word_met c [] w.is_trailing w.waiting w.position word w.held).1 le
+    go None = high_step c w word (word_met c [] w.is_trailing w.waiting w.position word w.held).0
+        (word_met c [] w.is_trailing w.waiting w.position word w.held).1 le
         (high_word c w.is_trailing w.waiting w.position word w.held le)
 
 high_walk : (c : List Rule) (words : List Text) (w : Walk) → 2 ≤ w.position → 2 ≤ (fold (walked c []) w words).position
@@ -229,7 +240,8 @@ before_one c w word =
     let none : length (word ∷ []) - 1 ≡ 0 = omega arith in
     ap (λ (n : ℕ). (fold (walked c []) w (take n (word ∷ []))).position) none
 
-before_more : (c : List Rule) (w : Walk) (word behind : Text) (words : List Text) → before c w (word ∷ behind ∷ words) ≡ before c (walked c [] w word) (behind ∷ words)
+before_more : (c : List Rule) (w : Walk) (word behind : Text) (words : List Text)
+    → before c w (word ∷ behind ∷ words) ≡ before c (walked c [] w word) (behind ∷ words)
 before_more c w word behind words =
     let here : length (word ∷ behind ∷ words) - 1 ≡ suc (length (behind ∷ words) - 1) = omega arith in
     ap (λ (n : ℕ). (fold (walked c []) w (take n (word ∷ behind ∷ words))).position) here
@@ -279,7 +291,8 @@ module _ (s : Shape) (f : HasFile s.rules) (l : Alike s.rules (map untrailed s.r
   met_file w word (behind ∷ words) clean m = inr (record {
     fails = λ e.
         let rest = (or_else_parts (turn_fault s [] w word) (walk_fault s [] (walked s.rules [] w word) (behind ∷ words)) e).1 in
-        let turn = (or_else_parts (turn_fault s [] (walked s.rules [] w word) behind) (walk_fault s [] (walked s.rules [] (walked s.rules [] w word) behind) words) rest).0 in
+        let turn = (or_else_parts (turn_fault s [] (walked s.rules [] w word) behind)
+        (walk_fault s [] (walked s.rules [] (walked s.rules [] w word) behind) words) rest).0 in
         refuses_strays s f (sym (stray s f (walked s.rules [] w word) word behind m.done) ∙ turn);
     past =
         let two : (walked (map untrailed s.rules) [] w word).position ≡ 2 = sym (ap (λ (v : Walk). v.position) m.same) ∙ m.done.position in
@@ -292,7 +305,8 @@ module _ (s : Shape) (f : HasFile s.rules) (l : Alike s.rules (map untrailed s.r
   classify [] w clean = inl (record { held = refl; faults = refl; last = clean.position })
   classify (word ∷ words) w clean = go (simulate s f l w word clean) (classify words (walked s.rules [] w word))
     where
-      go : Same s f l word (walked s.rules [] w word) (walked (map untrailed s.rules) [] w word) ⊎ Met s f l word (walked s.rules [] w word) (walked (map untrailed s.rules) [] w word)
+      go : Same s f l word (walked s.rules [] w word) (walked (map untrailed s.rules) [] w word)
+          ⊎ Met s f l word (walked s.rules [] w word) (walked (map untrailed s.rules) [] w word)
           → (Clean (walked s.rules [] w word) → Through (walked s.rules [] w word) words ⊎ Stopped (walked s.rules [] w word) words)
           → Through w (word ∷ words) ⊎ Stopped w (word ∷ words)
       go (inl same) later = go_on w word words clean same (later same.clean)
@@ -302,7 +316,8 @@ module _ (s : Shape) (f : HasFile s.rules) (l : Alike s.rules (map untrailed s.r
       → unless_refused (level_fault s [] nothing_held words false []) (rows_after s.rules [] words)
       ≡ cond (before (map untrailed s.rules) (walk_from nothing_held) words == 1)
       (unless_refused (level_fault (bare s) [] nothing_held words false []) (rows_after (map untrailed s.rules) [] words)) None
-  as_plain words = go (classify words (walk_from nothing_held) (record { held = record { rows = refl; pending = refl }; waiting = refl; position = refl; running = refl }))
+  as_plain words = go (classify words (walk_from nothing_held)
+      (record { held = record { rows = refl; pending = refl }; waiting = refl; position = refl; running = refl }))
     where
       go : Through (walk_from nothing_held) words ⊎ Stopped (walk_from nothing_held) words
           → unless_refused (level_fault s [] nothing_held words false []) (rows_after s.rules [] words)
@@ -310,22 +325,27 @@ module _ (s : Shape) (f : HasFile s.rules) (l : Alike s.rules (map untrailed s.r
           (unless_refused (level_fault (bare s) [] nothing_held words false []) (rows_after (map untrailed s.rules) [] words)) None
       go (inl through) =
           let h = (walk s.rules [] nothing_held words).held in
-          let settles : settled s.rules h ≡ settled (map untrailed s.rules) (walk (map untrailed s.rules) [] nothing_held words).held = l.settle h ∙ ap (settled (map untrailed s.rules)) through.held in
+          let settles : settled s.rules h ≡ settled (map untrailed s.rules) (walk (map untrailed s.rules) [] nothing_held words).held = l.settle h
+          ∙ ap (settled (map untrailed s.rules)) through.held in
           let ends : finished s.rules h ≡ finished (map untrailed s.rules) (walk (map untrailed s.rules) [] nothing_held words).held =
           same_finished s.rules (settled s.rules h).rows ∙ ap (λ (t : Held). fold with_default t.rows (map untrailed s.rules)) settles in
           let level : level_fault s [] nothing_held words false [] ≡ level_fault (bare s) [] nothing_held words false [] =
-          (λ i. or_else (through.faults i) (or_else [] (or_else ((l.fault s.args_override_self h ∙ ap (settle_fault (map untrailed s.rules) s.args_override_self) through.held) i)
+          (λ i. or_else (through.faults i)
+          (or_else [] (or_else ((l.fault s.args_override_self h ∙ ap (settle_fault (map untrailed s.rules) s.args_override_self) through.held) i)
           (or_else ((same_defaults s.rules (settled s.rules h).rows ∙ ap (λ (t : Held). defaults_fault t.rows (map untrailed s.rules)) settles) i)
           ((same_checks s (finished s.rules h) ∙ ap (λ rows. check_fault (bare s) rows false) ends) i))))) in
           let one : (before (map untrailed s.rules) (walk_from nothing_held) words == 1) ≡ true = ap (λ n. n == 1) through.last in
-          (λ i. unless_refused (level i) (ends i)) ∙ sym (ap (λ b. cond b (unless_refused (level_fault (bare s) [] nothing_held words false []) (rows_after (map untrailed s.rules) [] words)) None) one)
+          (λ i. unless_refused (level i) (ends i))
+          ∙ sym (ap (λ b. cond b
+          (unless_refused (level_fault (bare s) [] nothing_held words false []) (rows_after (map untrailed s.rules) [] words)) None) one)
       go (inr stopped) =
           let n = before (map untrailed s.rules) (walk_from nothing_held) words in
           let le : 2 ≤ n = stopped.past in
           let other : (n == 1) ≡ false = not_one n le in
           let none : unless_refused (level_fault s [] nothing_held words false []) (rows_after s.rules [] words) ≡ None =
           fails (walk_fault s [] (walk_from nothing_held) words) _ (rows_after s.rules [] words) stopped.fails in
-          none ∙ sym (ap (λ b. cond b (unless_refused (level_fault (bare s) [] nothing_held words false []) (rows_after (map untrailed s.rules) [] words)) None) other)
+          none ∙ sym (ap (λ b. cond b
+          (unless_refused (level_fault (bare s) [] nothing_held words false []) (rows_after (map untrailed s.rules) [] words)) None) other)
         where
           not_one : (n : ℕ) → 2 ≤ n → (n == 1) ≡ false
           not_one n le = grind (arith, nat_tests)

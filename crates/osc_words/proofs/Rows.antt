@@ -16,7 +16,8 @@ run : command_of (codes "run" ∷ []) ≡ Some (Plain (Run output.Text defaults)
 unfolding clap_on_literals command_of found_by
 run = refl
 
-run_bytes : command_of (codes "run" ∷ codes "--nodes" ∷ codes "1" ∷ codes "--bytes" ∷ codes "--units=7" ∷ []) ≡ Some (Plain (Run output.Recording (record defaults { nodes = 1; units = 7 })))
+run_bytes : command_of (codes "run" ∷ codes "--nodes" ∷ codes "1" ∷ codes "--bytes" ∷ codes "--units=7" ∷ [])
+    ≡ Some (Plain (Run output.Recording (record defaults { nodes = 1; units = 7 })))
 unfolding clap_on_literals command_of found_by
 run_bytes = refl
 
@@ -80,7 +81,8 @@ hyphen_file : command_of (codes "lanes" ∷ codes "--" ∷ codes "--units" ∷ [
 unfolding clap_on_literals command_of found_by
 hyphen_file = refl
 
-serve : command_of (codes "serve" ∷ codes "--port" ∷ codes "65528" ∷ codes "--links" ∷ codes "8" ∷ codes "--count" ∷ codes "3" ∷ codes "out.rec" ∷ []) ≡ Some (Live (Serve 65528 8 3 1000000 defaults))
+serve : command_of (codes "serve" ∷ codes "--port" ∷ codes "65528" ∷ codes "--links" ∷ codes "8" ∷ codes "--count" ∷ codes "3" ∷ codes "out.rec" ∷ [])
+    ≡ Some (Live (Serve 65528 8 3 1000000 defaults))
 unfolding clap_on_literals command_of found_by
 serve = refl
 

@@ -19,7 +19,8 @@ unless_refused (kind ∷ kinds) rows = None
 -- what such a command finds in the words, of which the first is the command's name: a row for each option; none where it
 -- refuses the words
 unfoldable pub found_by : Verb → List (List ℕ) → Option (List Row)
-found_by verb words = unless_refused (fault_of (app_for verb) words) (matches_of (app_for verb) words)
+found_by verb words =
+    unless_refused (fault_of (app_for verb) words) (matches_of (app_for verb) words)
 
 -- the plain command, by which options are read behind the file too
 abbrev pub plain_rule_for : Parameter → Rule
@@ -31,9 +32,11 @@ plain_app_for verb = fold with_rule (new_app (codes "osc")) (map plain_rule_for 
 
 -- what it finds
 unfoldable pub plain_found_by : Verb → List (List ℕ) → Option (List Row)
-plain_found_by verb words = unless_refused (fault_of (plain_app_for verb) words) (matches_of (plain_app_for verb) words)
+plain_found_by verb words =
+    unless_refused (fault_of (plain_app_for verb) words) (matches_of (plain_app_for verb) words)
 
 -- no word before the last one is a positional to it
 unfoldable pub file_stands_last : Verb → List (List ℕ) → Bool
 file_stands_last verb words =
-    (walk (built (plain_app_for verb)).top.rules [] nothing_held (take (length (drop 1 words) - 1) (drop 1 words))).position == 1
+    (walk (built (plain_app_for verb)).top.rules [] nothing_held
+    (take (length (drop 1 words) - 1) (drop 1 words))).position == 1

@@ -1,7 +1,7 @@
 // The commands of the programs.
 
-/// How much a server holds, as far as words set it: queued units, blocks of 64 bytes for their messages, methods, nodes of
-/// the methods' addresses, and bytes of recording.
+/// How much a server holds, as far as words set it: queued units, blocks of 64 bytes for their messages, methods, nodes
+/// of the methods' addresses, and bytes of recording.
 #[derive(Clone, Copy, Debug, PartialEq, Eq)]
 pub struct Capacities {
     pub units: u32,
@@ -40,8 +40,8 @@ pub enum LiveCommand {
     Lanes {
         caps: Capacities,
     },
-    /// To serve so many links, whose ports ascend by one from the first, each up to `count` datagrams or `idle` quiets in a
-    /// row.
+    /// To serve so many links, whose ports ascend by one from the first, each up to `count` datagrams or `idle` quiets
+    /// in a row.
     Serve {
         port: u16,
         links: u32,

@@ -14,8 +14,8 @@ use crate::verb::Verb;
 use clap::ArgMatches;
 use std::alloc::{AllocError, Global};
 
-/// The command that the words say, the program's name left out; none where they are refused. An `Err` is want of memory.
-/// The commands, their options, the ranges and the defaults are those of docs/FORMATS.md, "Programs".
+/// The command that the words say, the program's name left out; none where they are refused. An `Err` is want of
+/// memory. The commands, their options, the ranges and the defaults are those of docs/FORMATS.md, "Programs".
 #[tactic(auto, unfolding(crate::specs::Commands::command_of))]
 pub fn command_of(alloc: Global, words: &[String]) -> Result<Option<Command>, AllocError>
     ensures said { IfOk result
@@ -31,8 +31,8 @@ pub fn command_of(alloc: Global, words: &[String]) -> Result<Option<Command>, Al
     }
 }
 
-/// The command of `osc` that the words say; none where they are refused, or say a command of another program. An `Err` is
-/// want of memory.
+/// The command of `osc` that the words say; none where they are refused, or say a command of another program. An `Err`
+/// is want of memory.
 pub fn plain_command_of(alloc: Global, words: &[String]) -> Result<Option<PlainCommand>, AllocError>
     ensures said { IfOk result
         (λ command. command ≡ commands.plain_command_of (map string_bytes words.now)) }
@@ -44,8 +44,8 @@ pub fn plain_command_of(alloc: Global, words: &[String]) -> Result<Option<PlainC
     }
 }
 
-/// The command of `oscd` that the words say; none where they are refused, or say a command of another program. An `Err` is
-/// want of memory.
+/// The command of `oscd` that the words say; none where they are refused, or say a command of another program. An `Err`
+/// is want of memory.
 pub fn live_command_of(alloc: Global, words: &[String]) -> Result<Option<LiveCommand>, AllocError>
     ensures said { IfOk result
         (λ command. command ≡ commands.live_command_of (map string_bytes words.now)) }

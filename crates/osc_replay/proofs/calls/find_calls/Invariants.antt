@@ -12,5 +12,5 @@ invariant-loop-message l = record {
   hits : l.calls.hits.items ++ hits_bytes (calls_from l.tree.methods l.index l.message-iterator) ≡ hits_bytes (calls_from l.tree.methods 0 l.unit.messages);
   lines : l.calls.lines ++ call_lines l.number (calls_from l.tree.methods l.index l.message-iterator)
       ≡ call_lines l.number (calls_from l.tree.methods 0 l.unit.messages);
-  limit : l.room.limit ≡ l.initial.room.limit;
+  limit : l.hits.limit ≡ l.initial.hits.limit;
 }

@@ -1,5 +1,5 @@
 use Rattle.std.proofs.Common.{◌≡◌, ◌+◌, ℕ, List, length, max, subst, sym, ap, ◌∙◌, arith}
-use Rattle.osc_packet.specs.Units.{Timed}
+use Rattle.osc_packet.specs.Units.{TimedUnit}
 use Rattle.osc_queue.specs.Timed.{enter}
 use Rattle.osc_model.specs.State.{Queued, AreNumbered}
 use Rattle.osc_model.specs.Step.{waiting}
@@ -7,7 +7,7 @@ use Rattle.osc_model.proofs.Queues.{one_numbered, one_counted}
 use Rattle.osc_replay.proofs.units.enter.Goals as goal
 
 -- the queue, where its unit is due at the greater of its tag and the clock
-entered : (unit : Timed) (tag clock due number : ℕ) (queue new : List Queued) → tag ≡ unit.tag → due ≡ max tag clock → new ≡ enter (due, number, unit) queue
+entered : (unit : TimedUnit) (tag clock due number : ℕ) (queue new : List Queued) → tag ≡ unit.tag → due ≡ max tag clock → new ≡ enter (due, number, unit) queue
     → new ≡ enter (waiting clock number unit) queue
 entered unit tag clock due number queue new tag_is due_is is = is ∙ ap (λ (n : ℕ). enter (n, number, unit) queue) (due_is ∙ ap (λ (t : ℕ). max t clock) tag_is)
 

@@ -4,4 +4,5 @@ use Rattle.osc_words.specs.Options.{rule_for}
 use Rattle.osc_words.proofs.reading.with_options.Given as goal
 
 abbrev pub invariant-loop-option : goal.invariant-loop-option
-invariant-loop-option l = fold with_rule (app_of l.command) (map rule_for (drop l.option-index l.options)) ≡ fold with_rule (app_of l.fn.command) (map rule_for l.options)
+invariant-loop-option l =
+    fold with_rule (app_of l.command) (map rule_for (drop l.option-index l.options)) ≡ fold with_rule (app_of l.fn.command) (map rule_for l.options)

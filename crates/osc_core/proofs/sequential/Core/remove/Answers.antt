@@ -12,15 +12,15 @@ use Rattle.osc_core.proofs.sequential.Core.remove.Goals as goal
 pub invariant_of-self : goal.invariant_of-self
 invariant_of-self g c =
     let old = c.args.self.now in
-    let id = c.in-Left.id in
+    let id = c.in-Removed.id in
     let event = remove c.args.address.now in
     record {
-      alike = c.hand_out.ensures.ids ∙ ap (without id) old.alike ∙ sym c.in-Left.ensures.others;
+      alike = c.hand_out.ensures.ids ∙ ap (without id) old.alike ∙ sym c.in-Removed.ensures.others;
       ascending = subst (λ (l : List ℕ). is_ascending l ≡ true) (sym c.hand_out.ensures.ids)
           (ascending_without id (map (λ one. one.0) old.boxes.items) old.ascending);
       heard = heard_on c.remove.new.self (onward old.performance c.args.caller event) _ c.remove.ensures.performance (heard_more _ _ _ c.hand_out.ensures.others
           (c.boxes_hear_the_history.ensures.removed old.performance c.args.caller id c.args.address.now _ c.remove.ensures.legal old.heard
-          (sym c.in-Left.ensures.answer)));
+          (sym c.in-Removed.ensures.answer)));
       reserved = still_reserved old.performance c.remove.new.self (onward old.performance c.args.caller event) _ c.remove.ensures.performance
           (c.boxes_stay.ensures.caps old.performance c.args.caller event) (omega (arith, old.reserved, c.hand_out.ensures.capacity));
     }
@@ -41,15 +41,15 @@ invariant_of-self-in-NotThere g c =
           (c.boxes_stay.ensures.caps old.performance c.args.caller event) old.reserved;
     }
 
-pub returns-in-Left-clause-stands : goal.returns-in-Left-clause-stands
-returns-in-Left-clause-stands g c texts stands =
+pub returns-in-Removed-clause-stands : goal.returns-in-Removed-clause-stands
+returns-in-Removed-clause-stands g c texts stands =
     let old = c.args.self.now.performance in
     let event = remove c.args.address.now in
     let lawful : is_address c.args.address.now ≡ true = subst (λ (a : List ℕ). is_address a ≡ true) c.bytes.ensures.value c.bytes.ensures.test in
-    let heard = c.boxes_hear_the_history.ensures.removed old c.args.caller c.in-Left.id c.args.address.now _ c.remove.ensures.legal stands.heard
-    (sym c.in-Left.ensures.answer) in
+    let heard = c.boxes_hear_the_history.ensures.removed old c.args.caller c.in-Removed.id c.args.address.now _ c.remove.ensures.legal stands.heard
+    (sym c.in-Removed.ensures.answer) in
     stood _ _ _ _ _ _ c.remove.ensures.performance c.hand_out.ensures.others
-    (c.a_server_stands_for_more.ensures.fewer old c.args.caller event c.in-Left.id _ texts stands c.requires lawful heard)
+    (c.a_server_stands_for_more.ensures.fewer old c.args.caller event c.in-Removed.id _ texts stands c.requires lawful heard)
 
 pub returns-in-NotThere-clause-stands : goal.returns-in-NotThere-clause-stands
 returns-in-NotThere-clause-stands g c texts stands =

@@ -16,7 +16,15 @@ returns-then-need-free-clause-answer c =
     omega (arith, c.self.invariant.units.kept.counted, c.free-free.ensures) in
     let full = finds_the_pool_full (the_view s) (units_read c.args.packet.now) c.free-places.result c.free-free.result places free (omega arith)
     (omega arith) in
-    rw (← c.self.view_is, full, c.new-then-need-free.ensures.need, c.new-then-need-free.ensures.free, c.from-then-need-free.ensures, c.from-then-need-free-2.ensures, c.blocks-need.ensures)
+    rw (
+      ← c.self.view_is,
+      full,
+      c.new-then-need-free.ensures.need,
+      c.new-then-need-free.ensures.free,
+      c.from-then-need-free.ensures,
+      c.from-then-need-free-2.ensures,
+      c.blocks-need.ensures,
+    )
     refl
 
 pub returns-then-need-free-clause-state : goal.returns-then-need-free-clause-state
@@ -48,5 +56,13 @@ returns-clause-state c =
     let free : c.free-free.result ≡ length s.store - queued_blocks (queue_of s.store s.queue.items) =
     omega (arith, c.self.invariant.units.kept.counted, c.free-free.ensures) in
     let enters = queues_the_units (the_view s) (units_read c.args.packet.now) c.free-places.result c.free-free.result places free (omega arith) (omega arith) in
-    rw (← c.self.view_is, enters, c.enter_all.ensures.queue, c.enter_all.ensures.places, c.enter_all.ensures.limit, c.from-2.ensures, c.count-count.ensures.value)
+    rw (
+      ← c.self.view_is,
+      enters,
+      c.enter_all.ensures.queue,
+      c.enter_all.ensures.places,
+      c.enter_all.ensures.limit,
+      c.from-2.ensures,
+      c.count-count.ensures.value,
+    )
     refl

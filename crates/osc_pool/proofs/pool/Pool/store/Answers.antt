@@ -39,7 +39,8 @@ invariant_of-self c =
     let reached = subst (λ (n : List ℕ). AreReached (path n (blocks_for (length c.args.bytes.now)) c.self.inside.first) (length c.self.inside.blocks.items)
     (length c.write-self-inside.new.blocks.items) (length n)) links c.write-self-inside.ensures.reached in
     record {
-      sound = (stored c.self.inside.blocks.items c.write-self-inside.new.blocks.items c.args.self.now c.args.bytes.now c.self.invariant.sound c.self.view_is (omega arith) c.blocks_for-need.ensures (omega arith)
+      sound = (stored c.self.inside.blocks.items c.write-self-inside.new.blocks.items c.args.self.now c.args.bytes.now c.self.invariant.sound c.self.view_is
+          (omega arith) c.blocks_for-need.ensures (omega arith)
           c.deref.ensures.value c.write-self-inside.ensures.written).sound;
       few = reached.few;
       room = omega (arith, c.self.invariant.room, c.write-self-inside.ensures.capacity);
@@ -59,35 +60,41 @@ returns-clause-full c =
 pub returns-clause-stored : goal.returns-clause-stored
 returns-clause-stored c =
     let some = eqb-false (length c.args.bytes.now) 0 (sym c.is_empty.ensures ∙ c.if-is_empty.false) in
-    (stored c.self.inside.blocks.items c.write-self-inside.new.blocks.items c.args.self.now c.args.bytes.now c.self.invariant.sound c.self.view_is (omega arith) c.blocks_for-need.ensures (omega arith)
+    (stored c.self.inside.blocks.items c.write-self-inside.new.blocks.items c.args.self.now c.args.bytes.now c.self.invariant.sound c.self.view_is
+    (omega arith) c.blocks_for-need.ensures (omega arith)
     c.deref.ensures.value c.write-self-inside.ensures.written).stored
 
 pub returns-clause-new : goal.returns-clause-new
 returns-clause-new c =
     let some = eqb-false (length c.args.bytes.now) 0 (sym c.is_empty.ensures ∙ c.if-is_empty.false) in
-    (stored c.self.inside.blocks.items c.write-self-inside.new.blocks.items c.args.self.now c.args.bytes.now c.self.invariant.sound c.self.view_is (omega arith) c.blocks_for-need.ensures (omega arith)
+    (stored c.self.inside.blocks.items c.write-self-inside.new.blocks.items c.args.self.now c.args.bytes.now c.self.invariant.sound c.self.view_is
+    (omega arith) c.blocks_for-need.ensures (omega arith)
     c.deref.ensures.value c.write-self-inside.ensures.written).new
 
 pub returns-clause-kept : goal.returns-clause-kept
 returns-clause-kept c =
     let some = eqb-false (length c.args.bytes.now) 0 (sym c.is_empty.ensures ∙ c.if-is_empty.false) in
-    (stored c.self.inside.blocks.items c.write-self-inside.new.blocks.items c.args.self.now c.args.bytes.now c.self.invariant.sound c.self.view_is (omega arith) c.blocks_for-need.ensures (omega arith)
+    (stored c.self.inside.blocks.items c.write-self-inside.new.blocks.items c.args.self.now c.args.bytes.now c.self.invariant.sound c.self.view_is
+    (omega arith) c.blocks_for-need.ensures (omega arith)
     c.deref.ensures.value c.write-self-inside.ensures.written).kept
 
 pub returns-clause-ok : goal.returns-clause-ok
 returns-clause-ok c =
     let some = eqb-false (length c.args.bytes.now) 0 (sym c.is_empty.ensures ∙ c.if-is_empty.false) in
-    (stored c.self.inside.blocks.items c.write-self-inside.new.blocks.items c.args.self.now c.args.bytes.now c.self.invariant.sound c.self.view_is (omega arith) c.blocks_for-need.ensures (omega arith)
+    (stored c.self.inside.blocks.items c.write-self-inside.new.blocks.items c.args.self.now c.args.bytes.now c.self.invariant.sound c.self.view_is
+    (omega arith) c.blocks_for-need.ensures (omega arith)
     c.deref.ensures.value c.write-self-inside.ensures.written).ok
 
 pub returns-clause-used : goal.returns-clause-used
 returns-clause-used c =
     let some = eqb-false (length c.args.bytes.now) 0 (sym c.is_empty.ensures ∙ c.if-is_empty.false) in
-    (stored c.self.inside.blocks.items c.write-self-inside.new.blocks.items c.args.self.now c.args.bytes.now c.self.invariant.sound c.self.view_is (omega arith) c.blocks_for-need.ensures (omega arith)
+    (stored c.self.inside.blocks.items c.write-self-inside.new.blocks.items c.args.self.now c.args.bytes.now c.self.invariant.sound c.self.view_is
+    (omega arith) c.blocks_for-need.ensures (omega arith)
     c.deref.ensures.value c.write-self-inside.ensures.written).used
 
 pub returns-clause-limit : goal.returns-clause-limit
 returns-clause-limit c =
     let some = eqb-false (length c.args.bytes.now) 0 (sym c.is_empty.ensures ∙ c.if-is_empty.false) in
-    (stored c.self.inside.blocks.items c.write-self-inside.new.blocks.items c.args.self.now c.args.bytes.now c.self.invariant.sound c.self.view_is (omega arith) c.blocks_for-need.ensures (omega arith)
+    (stored c.self.inside.blocks.items c.write-self-inside.new.blocks.items c.args.self.now c.args.bytes.now c.self.invariant.sound c.self.view_is
+    (omega arith) c.blocks_for-need.ensures (omega arith)
     c.deref.ensures.value c.write-self-inside.ensures.written).limit

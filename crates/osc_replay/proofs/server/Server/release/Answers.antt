@@ -1,6 +1,6 @@
 use Rattle.std.proofs.Common.{◌≡◌, ◌+◌, ℕ, ◌%◌, false, length, ap, sym, subst, ◌∙◌, arith}
-use Rattle.osc_packet.specs.Units.{Timed as Messages}
-use Rattle.osc_queue.specs.Timed.{Timed}
+use Rattle.osc_packet.specs.Units.{TimedUnit}
+use Rattle.osc_queue.specs.Timed.{TimedQueue}
 use Rattle.osc_model.specs.State.{State, Queued}
 use Rattle.osc_model.specs.Events.{release, released, adds_entry}
 use Rattle.osc_model.specs.Recordings.{hits_in}
@@ -26,7 +26,7 @@ returns c =
     let unit : Queued = (c.in-Some.field-0-0, c.in-Some.unit, c.in-Some.taken) in
     let calls = c.find_calls.new.calls in
     let hits = calls.hits.items in
-    let with : Timed Messages → ℕ
+    let with : TimedQueue TimedUnit → ℕ
     → State = λ queue recorded. server_state s.tree queue s.blocks s.clock s.next_id s.next_unit s.callers s.caller_limit recorded s.record_limit in
     let old = with s.queue s.recorded in
     let long : c.len-size.result ≡ length hits = omega (arith, c.len-size.ensures) in

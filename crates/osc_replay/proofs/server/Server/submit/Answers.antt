@@ -1,5 +1,5 @@
 use Rattle.std.proofs.Common.{List, ap, arith}
-use Rattle.osc_packet.specs.Units.{Timed}
+use Rattle.osc_packet.specs.Units.{TimedUnit}
 use Rattle.osc_packet.specs.Reading.{units_read}
 use Rattle.osc_model.specs.Counts.{queued_blocks}
 use Rattle.osc_model.specs.Step.{enter_all, numbered}
@@ -9,7 +9,7 @@ use Rattle.osc_replay.proofs.server.Server.submit.Goals as goal
 pub invariant_of-self : goal.invariant_of-self
 invariant_of-self c =
     let s = c.self.inside in
-    let copies = ap (λ (units : List Timed). queued_blocks (enter_all (numbered s.clock s.next_unit units) s.queue.items)) c.units.ensures.value in
+    let copies = ap (λ (units : List TimedUnit). queued_blocks (enter_all (numbered s.clock s.next_unit units) s.queue.items)) c.units.ensures.value in
     record {
       room = c.self.invariant.room;
       counted = omega (
