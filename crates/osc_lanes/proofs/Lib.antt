@@ -12,6 +12,7 @@ pub mod Staging
 pub mod Staying
 pub mod Telling
 pub mod Ticking
+pub mod Totals
 pub mod Turning
 pub mod Unstopped
 pub mod Weights

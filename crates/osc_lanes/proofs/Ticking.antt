@@ -235,3 +235,9 @@ module _ {M : Type 0} (keep : M → ℕ) (heard : M → Option (List ℕ)) (play
     pub round_over : (end : TickerEnd) → came ≡ round.Over end
         → TicksMeanwhile keep heard player (record { before = start; after = after; faults = first; now = now }) (round.Over end) here there
     round_over end is = rounds_end start here last left after first faults now end place there goes count (round_so (round.Over end) is)
+
+  -- another player of the same number played a round that came to this
+  pub round_as : (other : Player) (last : Option ℕ) (clock : ClockRead) (came to : Round) (here there : List Seen) → other ≡ player → came ≡ to
+      → IsRound keep heard other last clock came here there → IsRound keep heard player last clock to here there
+  round_as other last clock came to here there same is one = subst (λ (p : Player × Round). IsRound keep heard p.0 last clock p.1 here there)
+      (λ i. (same i, is i)) one

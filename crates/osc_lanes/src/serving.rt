@@ -1,17 +1,38 @@
 //! Serves links beside each other, with a ticker beside them.
-ghost use Rattle.std.specs.Prelude.{◌≡◌, ◌<◌, All, IfOk, IsSomeAnd};
+ghost use Rattle.std.specs.Prelude.{
+  ◌≡◌,
+  ℕ,
+  ◌+◌,
+  ◌<◌,
+  ◌≤◌,
+  List,
+  length,
+  map,
+  Option,
+  All,
+  IfOk,
+  IsSomeAnd,
+};
 ghost use Rattle.std.specs.List.{AllZip};
 ghost use Rattle.osc_live.specs.Seen.{IsTokenOf};
 ghost use Rattle.osc_lanes.specs.Ends.{seen_by, player_of};
 ghost use Rattle.osc_lanes.specs.Links.{IsLinkEnd};
+ghost use Rattle.osc_turn.specs.declared.view.Entry.{Entry as Seen};
+ghost use Rattle.osc_turn.specs.History.{StartsWith};
+ghost use Rattle.osc_lanes.specs.declared.ticker.Round.TheVariants.{Played};
 ghost use Rattle.osc_lanes.specs.Rounds.{TicksMeanwhile};
+ghost use Rattle.osc_lanes.specs.Serves.{Serves, seen_in};
+ghost use Rattle.osc_lanes.specs.Shares.{Player, Onward};
+ghost use Rattle.osc_lanes.specs.Taken.{IsSameEnd};
+ghost use Rattle.osc_lanes.specs.Ticks.{Ticks};
 
 use crate::gate::Gate;
+use crate::gathering::{gather, make_link_plans};
 use crate::link_plan::{LinkEnd, LinkPlan};
 use crate::linking::serve_link;
 use crate::playing::all_ended;
-use crate::served::Bounds;
-use crate::ticker::{Round, tick_while};
+use crate::served::{Bounds, ServeEnd, TickerEnd};
+use crate::ticker::{Round, play_round, tick_while};
 use osc_edge::{Clock, Link};
 use osc_live::{Caller, Live};
 use osc_method::Method;
@@ -125,4 +146,173 @@ fn serve_links<M: Method + Send, W: Threads + Wait + Sync, L: Link + Send + Drop
     let ends = thread::map_vec(rt, plans, &worker)?;
     let all = all_ended(alloc, ends)?;
     Ok(all)
+}
+
+/// Serves the links, each by a thread of its own where one can be made: the k-th caller submits for the k-th link, and the
+/// last one is the ticker's. Each link is served until it is over, as `bounds` says or by itself; the gate is called round
+/// each datagram, with the number of the link, from 0, and of the datagram, from 1. The ticker reads the clock and pumps
+/// meanwhile, and once more after all links. An `Err` is want of memory.
+pub fn serve<
+    M: Method + Send,
+    W: Threads + Wait + Sync,
+    L: Link + Send + Drop,
+    C: Clock + Send,
+    G: Gate + Sync,
+>(
+    rt: &W,
+    alloc: Global,
+    live: &Live<M>,
+    callers: Vec<Caller>,
+    links: Vec<L>,
+    clock: &mut C,
+    bounds: Bounds,
+    gate: &G,
+) -> Result<ServeEnd<L>, AllocError>
+    requires ours { All (λ caller. IsTokenOf live.now.turn live.now.caps caller.pass) callers.items }
+    requires many { length callers.items ≡ length links.items + 1 }
+    requires few { length links.items ≤ 16 }
+    requires count { 0 < bounds.count }
+    requires idle { 0 < bounds.idle }
+    ensures ours { IfOk result (λ end. All
+        (λ caller. IsTokenOf live.now.turn live.now.caps caller.pass) end.callers.items) }
+    ensures serves { IfOk result (λ end. Serves M.keep M.heard L.left L.faults live.now.caps bounds
+        callers.items links.items
+        (record {
+          before = C.left clock.old;
+          after = C.left clock.new;
+          faults = C.faults clock.old;
+          now = C.faults clock.new;
+        }) end) }
+{
+    let (plans, ticker) = make_link_plans(alloc, callers, links)?;
+    let (served, first, round) = serve_beside(rt, alloc, live, plans, ticker, clock, bounds, gate)?;
+    let (ends, last, end) = finish(rt, alloc, live, served, first, clock, round)?;
+    let all = gather(alloc, ends, last, end)?;
+    Ok(all)
+}
+
+/// Tells the ticker what the tokens of the links have seen.
+fn meet_links<M: Method, L: Drop>(
+    alloc: Global,
+    live: &Live<M>,
+    ends: Vec<LinkEnd<L>>,
+    mut ticker: Caller,
+) -> Result<(Vec<LinkEnd<L>>, Caller), AllocError>
+    requires ours { All (λ end. IsTokenOf live.now.turn live.now.caps end.caller.pass) ends.items }
+    requires ticker_ours { IsTokenOf live.now.turn live.now.caps ticker.pass }
+    ensures ours { IfOk result
+        (λ r. All (λ end. IsTokenOf live.now.turn live.now.caps end.caller.pass) r.0.items) }
+    ensures ticker_ours { IfOk result (λ r. IsTokenOf live.now.turn live.now.caps r.1.pass) }
+    ensures same { IfOk result (λ r. AllZip IsSameEnd ends.items r.0.items) }
+    ensures player { IfOk result
+        (λ r. player_of live.now.caps r.1 ≡ player_of live.now.caps ticker) }
+    ensures onward { IfOk result (λ r.
+        Onward (player_of live.now.caps ticker).token (seen_by ticker) (seen_by r.1)) }
+    ensures told { IfOk result (λ r. All (λ end. StartsWith (seen_by r.1) (seen_in end)) r.0.items) }
+{
+    let mut met = Vec::with_capacity(alloc, ends.len())?;
+    for end in ends {
+        let LinkEnd {
+            caller,
+            from,
+            faults,
+            over,
+        } = end;
+        let (caller, next) = live.meet(caller, ticker);
+        ticker = next;
+        met.push(LinkEnd {
+            caller,
+            from,
+            faults,
+            over,
+        })?;
+    }
+    Ok((met, ticker))
+}
+
+/// Plays the last round, behind all that the links have done.
+fn last_round<M: Method, W: Wait, L: Drop, C: Clock>(
+    rt: &W,
+    alloc: Global,
+    live: &Live<M>,
+    ends: Vec<LinkEnd<L>>,
+    ticker: Caller,
+    clock: &mut C,
+    last: Option<u64>,
+) -> Result<(Vec<LinkEnd<L>>, Caller, TickerEnd), AllocError>
+    requires ours { All (λ end. IsTokenOf live.now.turn live.now.caps end.caller.pass) ends.items }
+    requires ticker_ours { IsTokenOf live.now.turn live.now.caps ticker.pass }
+    ensures ours { IfOk result
+        (λ r. All (λ end. IsTokenOf live.now.turn live.now.caps end.caller.pass) r.0.items) }
+    ensures ticker_ours { IfOk result (λ r. IsTokenOf live.now.turn live.now.caps r.1.pass) }
+    ensures same { IfOk result (λ r. AllZip IsSameEnd ends.items r.0.items) }
+    ensures player { IfOk result
+        (λ r. player_of live.now.caps r.1 ≡ player_of live.now.caps ticker) }
+    ensures ticks { IfOk result (λ r. (before : Option (List ℕ)) (faults : ℕ) (player : Player)
+        (here : List Seen) → player_of live.now.caps ticker ≡ player
+        → TicksMeanwhile M.keep M.heard player
+        (record {
+          before = before;
+          after = C.left clock.old;
+          faults = faults;
+          now = C.faults clock.old;
+        }) (Played last) here (seen_by ticker)
+        → Ticks M.keep M.heard player (map seen_in r.0.items)
+        (record {
+          before = before;
+          after = C.left clock.new;
+          faults = faults;
+          now = C.faults clock.new;
+        }) r.2 here (seen_by r.1)) }
+{
+    let (ends, ticker) = meet_links(alloc, live, ends, ticker)?;
+    let (ticker, round) = play_round(rt, live, ticker, clock, last);
+    match round {
+        Round::Played(_) => Ok((ends, ticker, TickerEnd::Done)),
+        Round::Over(end) => Ok((ends, ticker, end)),
+    }
+}
+
+/// Ends the ticker: with a last round behind all that the links have done, unless it has ended.
+fn finish<M: Method, W: Wait, L: Drop, C: Clock>(
+    rt: &W,
+    alloc: Global,
+    live: &Live<M>,
+    ends: Vec<LinkEnd<L>>,
+    ticker: Caller,
+    clock: &mut C,
+    round: Round,
+) -> Result<(Vec<LinkEnd<L>>, Caller, TickerEnd), AllocError>
+    requires ours { All (λ end. IsTokenOf live.now.turn live.now.caps end.caller.pass) ends.items }
+    requires ticker_ours { IsTokenOf live.now.turn live.now.caps ticker.pass }
+    ensures ours { IfOk result
+        (λ r. All (λ end. IsTokenOf live.now.turn live.now.caps end.caller.pass) r.0.items) }
+    ensures ticker_ours { IfOk result (λ r. IsTokenOf live.now.turn live.now.caps r.1.pass) }
+    ensures same { IfOk result (λ r. AllZip IsSameEnd ends.items r.0.items) }
+    ensures player { IfOk result
+        (λ r. player_of live.now.caps r.1 ≡ player_of live.now.caps ticker) }
+    ensures ticks { IfOk result (λ r. (before : Option (List ℕ)) (faults : ℕ) (player : Player)
+        (here : List Seen) → player_of live.now.caps ticker ≡ player
+        → TicksMeanwhile M.keep M.heard player
+        (record {
+          before = before;
+          after = C.left clock.old;
+          faults = faults;
+          now = C.faults clock.old;
+        }) round here (seen_by ticker)
+        → Ticks M.keep M.heard player (map seen_in r.0.items)
+        (record {
+          before = before;
+          after = C.left clock.new;
+          faults = faults;
+          now = C.faults clock.new;
+        }) r.2 here (seen_by r.1)) }
+{
+    match round {
+        Round::Over(end) => Ok((ends, ticker, end)),
+        Round::Played(last) => {
+            let done = last_round(rt, alloc, live, ends, ticker, clock, last)?;
+            Ok(done)
+        }
+    }
 }
