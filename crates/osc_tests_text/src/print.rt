@@ -126,16 +126,59 @@ fn calls_faults_and_words_are_printed(rt: HostRuntime) -> Result<(), Fail> {
     };
     call_line(&mut text, &call, 4, &address)?;
     fault_line(&mut text, 2, Fault { kind: 16, at: 12 })?;
+    link_fault_line(&mut text, 0, 2, Fault { kind: 2, at: 30 })?;
     text.word(b"units")?;
     text.space_word(b"full")?;
     text.space_number(0)?;
     text.end_line()?;
     assert_eq!(rt;
         text.bytes(),
-        b"call 12 1 4 /light ,ihssb[T] i:-1 h:7 s:\\x20\\x5ca s:~! b:abcd [ T ]\ncall 13 0 4 /light -\nfault 2 16 12\nunits full 0\n".as_slice()
+        b"call 12 1 4 /light ,ihssb[T] i:-1 h:7 s:\\x20\\x5ca s:~! b:abcd [ T ]\ncall 13 0 4 /light -\nfault 2 16 12\nfault link 0 datagram 2 2 30\nunits full 0\n".as_slice()
     );
     text.clear();
     text.word(b"units")?;
     assert_eq!(rt; text.bytes(), b"units".as_slice());
+    Ok(())
+}
+
+#[test]
+fn dumped_ticks_have_their_dates(rt: HostRuntime) -> Result<(), Fail> {
+    let rows: [(u64, &[u8]); 6] = [
+        (
+            0,
+            b"56 tick 7 0000000000000000 ticked 1900-01-01T00:00:00Z\n",
+        ),
+        (
+            0xffff_ffff,
+            b"56 tick 7 00000000ffffffff ticked 1900-01-01T00:00:00Z\n",
+        ),
+        (
+            0x0309_6280_0000_0000,
+            b"56 tick 7 0309628000000000 ticked 1901-08-13T15:51:28Z\n",
+        ),
+        (
+            0x83aa_7e80_0000_0000,
+            b"56 tick 7 83aa7e8000000000 ticked 1970-01-01T00:00:00Z\n",
+        ),
+        (
+            0xbc66_dbff_8000_0000,
+            b"56 tick 7 bc66dbff80000000 ticked 2000-02-29T23:59:59Z\n",
+        ),
+        (
+            u64::MAX,
+            b"56 tick 7 ffffffffffffffff ticked 2036-02-07T06:28:15Z\n",
+        ),
+    ];
+    for (moment, want) in rows {
+        let mut text = Text::open(rt.alloc());
+        let entry = Entry {
+            at: 56,
+            caller: 7,
+            event: Event::Tick(moment),
+            answer: Answer::Ticked,
+        };
+        dump_line(&mut text, &entry)?;
+        assert_eq!(rt; text.bytes(), want);
+    }
     Ok(())
 }

@@ -146,3 +146,49 @@ fn the_first_entry_that_disagrees_is_told(rt: HostRuntime) -> Result<(), AllocEr
     }
     Ok(())
 }
+
+#[test]
+fn a_recording_is_dumped_as_it_stands(rt: HostRuntime) -> Result<(), AllocError> {
+    // The recording of the one line `tick 83aa7e8000000000`.
+    let row =
+        b"\0\0\0\x34/osc/rec\0\0\0\0,iiiiiii\0\0\0\0\0\0\0\x01\0\0\x10\0\0\0\x40\0\0\0\x04\0\0\0\x10\0\0\0\0\x01\x04\0\0\0\0\0\0\x2c/osc/tick\0\0\0,itit\0\0\0\0\0\0\0\x83\xaa\x7e\x80\0\0\0\0\0\0\0\0\x83\xaa\x7e\x80\0\0\0\0";
+    match dump(rt.alloc(), row) {
+        Ok(text) => assert_eq!(rt;
+            text.bytes(),
+            b"rec 1 4096 16384 1024 4096 1 67108864\n56 tick 0 83aa7e8000000000 ticked 1970-01-01T00:00:00Z\n".as_slice()
+        ),
+        Err(_) => panic!(rt; "refused"),
+    }
+    // No server gives the second entry, and a dump prints no call of the third.
+    let bytes = recording(rt.alloc(), 204, &ADD, &STRANGER, &OTHER)?;
+    assert!(rt; bytes.len() <= 204);
+    match dump(rt.alloc(), &bytes) {
+        Ok(text) => assert_eq!(rt;
+            text.bytes(),
+            b"rec 1 1 1 1 1 1 204\n56 add 0 /a id 0\n100 tick 1 0000000000000005 ticked 1900-01-01T00:00:00Z\n148 release 0 0 1\n".as_slice()
+        ),
+        Err(_) => panic!(rt; "refused"),
+    }
+    let bytes = recording(rt.alloc(), 204, &STRANGER, &TICK[..47], b"")?;
+    assert!(rt; bytes.len() <= 204);
+    match dump(rt.alloc(), &bytes) {
+        Err(DumpFault::Malformed { at }) => assert_eq!(rt; at, 104),
+        _ => panic!(rt; "accepted"),
+    }
+    Ok(())
+}
+
+#[test]
+fn a_history_is_summed_up(rt: HostRuntime) -> Result<(), AllocError> {
+    let bytes = recording(rt.alloc(), 204, &ADD, &SUBMIT, &RELEASE)?;
+    assert!(rt; bytes.len() <= 204);
+    let Ok(_text) = replay(rt.alloc(), &bytes) else {
+        panic!(rt; "refused");
+    };
+    let text = summary(rt.alloc(), &bytes)?;
+    assert_eq!(rt;
+        text.bytes(),
+        b"entries 3\nsubmits 1\nqueued 1\nrefused 0\nadds 1\nremoves 0\nticks 0\nreleases 1\ncalls 1\nrecording 204\n".as_slice()
+    );
+    Ok(())
+}
