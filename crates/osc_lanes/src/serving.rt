@@ -148,10 +148,10 @@ fn serve_links<M: Method + Send, W: Threads + Wait + Sync, L: Link + Send + Drop
     Ok(all)
 }
 
-/// Serves the links, each by a thread of its own where one can be made: the k-th caller submits for the k-th link, and the
-/// last one is the ticker's. Each link is served until it is over, as `bounds` says or by itself; the gate is called round
-/// each datagram, with the number of the link, from 0, and of the datagram, from 1. The ticker reads the clock and pumps
-/// meanwhile, and once more after all links. An `Err` is want of memory.
+/// Serves the links, each by a thread of its own where one can be made: the k-th caller submits for the k-th link, and
+/// the last one is the ticker's. Each link is served until it is over, as `bounds` says or by itself; the gate is
+/// called round each datagram, with the number of the link, from 0, and of the datagram, from 1. The ticker reads the
+/// clock and pumps meanwhile, and once more after all links. An `Err` is want of memory.
 pub fn serve<
     M: Method + Send,
     W: Threads + Wait + Sync,
@@ -168,7 +168,8 @@ pub fn serve<
     bounds: Bounds,
     gate: &G,
 ) -> Result<ServeEnd<L>, AllocError>
-    requires ours { All (λ caller. IsTokenOf live.now.turn live.now.caps caller.pass) callers.items }
+    requires ours { All
+        (λ caller. IsTokenOf live.now.turn live.now.caps caller.pass) callers.items }
     requires many { length callers.items ≡ length links.items + 1 }
     requires few { length links.items ≤ 16 }
     requires count { 0 < bounds.count }
@@ -208,7 +209,8 @@ fn meet_links<M: Method, L: Drop>(
         (λ r. player_of live.now.caps r.1 ≡ player_of live.now.caps ticker) }
     ensures onward { IfOk result (λ r.
         Onward (player_of live.now.caps ticker).token (seen_by ticker) (seen_by r.1)) }
-    ensures told { IfOk result (λ r. All (λ end. StartsWith (seen_by r.1) (seen_in end)) r.0.items) }
+    ensures told { IfOk result
+        (λ r. All (λ end. StartsWith (seen_by r.1) (seen_in end)) r.0.items) }
 {
     let mut met = Vec::with_capacity(alloc, ends.len())?;
     for end in ends {

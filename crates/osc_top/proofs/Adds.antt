@@ -212,7 +212,8 @@ module _ {M : Type 0} (meaning : M → Meaning) (bank : List M) (performance per
         stays : boxes' ≡ boxes → pairs' ≡ pairs ++ [] → IsAt meaning bank performance' boxes' (map tell pairs') left rest
         stays same kept =
             subst (λ (l : List (ℕ × M)). IsAt meaning bank performance' boxes' (map tell l) left rest) (sym (kept ∙ append-nil pairs))
-            (at_quiet meaning bank performance performance' (remove address) next (remove_quiet (state_of performance) address) boxes' (map tell pairs) left rest
+            (at_quiet meaning bank performance performance' (remove address) next (remove_quiet (state_of performance) address) boxes'
+            (map tell pairs) left rest
             (subst (λ (l : List Told). Tally meaning (invoked_in performance) (add_answers performance.history) bank (state_of performance).next_id l
             (map tell pairs) left rest) (sym same) at))
 
@@ -226,7 +227,8 @@ module _ {M : Type 0} (meaning : M → Meaning) (bank : List M) (performance per
             let tally = tally_removed meaning (invoked_in performance) (add_answers performance.history) bank (state_of performance).next_id boxes
             (map tell pairs) left rest (told_at id (meaning method)) there at in
             let all : map tell pairs' ≡ moved = ap (map tell) kept ∙ map-append tell pairs ((id, method) ∷ []) in
-            at_quiet meaning bank performance performance' (remove address) next (remove_quiet (state_of performance) address) boxes' (map tell pairs') left rest
+            at_quiet meaning bank performance performance' (remove address) next (remove_quiet (state_of performance) address) boxes'
+            (map tell pairs') left rest
             (subst (λ (l : List Told). Tally meaning (invoked_in performance) (add_answers performance.history) bank
             (state_of performance).next_id boxes' l left rest) (sym all)
             (subst (λ (l : List Told). Tally meaning (invoked_in performance) (add_answers performance.history) bank

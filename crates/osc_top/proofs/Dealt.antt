@@ -203,7 +203,8 @@ boxes_count lane (line ∷ lines) bank enough =
     one_more line (lines_in lane lines) (filter (λ other. is_add other.act) lines) lane bank (is_add line.act) (line.lane == lane) (same_adds line.act) refl
     enough (λ rest few. boxes_count lane lines rest few)
 
-pub all_whole : {M : Type 0} (lane count : ℕ) (lines : List Line) (bank : List M) → count_adds lines ≤ length bank → All IsWhole (parts_from lane count lines bank)
+pub all_whole : {M : Type 0} (lane count : ℕ) (lines : List Line) (bank : List M) → count_adds lines ≤ length bank
+    → All IsWhole (parts_from lane count lines bank)
 all_whole {M} lane zero lines bank enough = All-nil (IsWhole {M = M})
 all_whole {M} lane (suc count) lines bank enough =
     All-cons (IsWhole {M = M}) (record { lines = lines_in lane lines; boxes = boxes_in lane lines bank }) (parts_from (lane + 1) count lines bank)

@@ -94,7 +94,8 @@ module _ {M : Type 0} (keep : M → ℕ) (heard : M → Option (List ℕ)) (caps
           ok_and (script_of Lanes script) lines AreCut is
           (enough, recording, recorded_text caps staged.history said stop, stop, staged.plays, both.cut_short five)
 
-      pub ends_played : (status : ℕ) (stop : Option Room) (staged : IsStaged keep heard caps lines bank added left recording said stop) → Both status stop staged
+      pub ends_played : (status : ℕ) (stop : Option Room) (staged : IsStaged keep heard caps lines bank added left recording said stop)
+          → Both status stop staged
           → Ends status
       ends_played status None staged both = go both.known where
         go : (status ≡ 0) ⊎ (status ≡ 3) ⊎ (status ≡ 5) → Ends status
@@ -165,7 +166,8 @@ not_short (Ok lines) most Q enough short = omega (arith, enough, short.0)
 not_short (Err fault) most Q enough short = absurd enough
 
 -- a lawful script with enough boxes is played, over edges that don't fail
-pub whole_complete : {M : Type 0} (keep : M → ℕ) (heard : M → Option (List ℕ)) (caps : Limits) (left now : Option (List ℕ)) (bytes : List ℕ) (status : ℕ) (bank : List M)
+pub whole_complete : {M : Type 0} (keep : M → ℕ) (heard : M → Option (List ℕ)) (caps : Limits) (left now : Option (List ℕ)) (bytes : List ℕ) (status : ℕ)
+    (bank : List M)
     (added : List (ℕ × M)) (rest : List M) (rec out : Sunk) (A B C : Type 0) → IfSome left (λ all. (bytes ≡ all) × (now ≡ Some []))
     → EndsLanes keep heard caps status bytes bank added rest rec out → (status ≡ 5 → B ⊎ C)
     → IfSome left (λ script. IsOkAnd (script_of Lanes script) (λ lines. count_adds lines ≤ length bank) → (A → ⊥) → (B → ⊥) → (C → ⊥)

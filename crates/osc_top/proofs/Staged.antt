@@ -110,7 +110,8 @@ module _ {M : Type 0} where
     both_each P Q (x ∷ xs) p q = ((p.0, q.0), both_each P Q xs p.1 q.1)
 
     -- the lanes of lines, put together
-    module _ (caps : Limits) (lines : List Line) (bank : List M) (recording : List ℕ) (kept : List (ℕ × M)) (accounts : List (Account M)) (unenrolled : Option Room)
+    module _ (caps : Limits) (lines : List Line) (bank : List M) (recording : List ℕ) (kept : List (ℕ × M)) (accounts : List (Account M))
+        (unenrolled : Option Room)
         (added : List (ℕ × M)) (performs : Performs keep heard caps (parts_of lines bank) recording kept accounts unenrolled)
         (moved : IsPermutation (kept ++ all_removed accounts) added) (ordered : IsNonDecreasingBy (λ one. one.0) added) where
       ids_are : map (λ one. one.0) added ≡ added_ids (history_in (texts performs.history))

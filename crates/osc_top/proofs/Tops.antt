@@ -17,14 +17,16 @@ pub line_text : (decided status : ℕ) (text text' : List ℕ) (held after : Opt
 line_text decided status text text' held after faults later same ends = subst (λ (t : List ℕ). EndsLine decided status t held after faults later) same ends
 
 -- the same limits, otherwise named
-pub accounted_so : {X : Type 0} (script : List ℕ) (heard : List Told) (left : List X) (meanings : List Meaning) (bank : List X) (caps same : Limits) → caps ≡ same
+pub accounted_so : {X : Type 0} (script : List ℕ) (heard : List Told) (left : List X) (meanings : List Meaning) (bank : List X) (caps same : Limits)
+    → caps ≡ same
     → (lines : List Line) × (script_of Plain script ≡ Ok lines) × IsAccounted caps lines heard left meanings bank
     → (lines : List Line) × (script_of Plain script ≡ Ok lines) × IsAccounted same lines heard left meanings bank
 accounted_so script heard left meanings bank caps same is accounted =
     subst (λ (limits : Limits). (lines : List Line) × (script_of Plain script ≡ Ok lines) × IsAccounted limits lines heard left meanings bank) is accounted
 
 -- too few boxes
-pub short_ends : (output : Output) (caps : Limits) (status status' have have' need : ℕ) (lines : List Line) (held after : Option (List ℕ)) (faults later : ℕ) → status' ≡ status
+pub short_ends : (output : Output) (caps : Limits) (status status' have have' need : ℕ) (lines : List Line) (held after : Option (List ℕ)) (faults later : ℕ)
+    → status' ≡ status
     → have ≡ have' → need ≡ count_adds lines → have < need → EndsLine 8 status (bank_short_text need have) held after faults later
     → EndsLines output caps status' have' lines held after faults later
 short_ends output caps status status' have have' need lines held after faults later same boxes adds few ends = go ends.known where

@@ -9,7 +9,8 @@ module _ {M : Type 0} where
 
   -- a part with one line more, and with these boxes
   abbrev pub part_with : Line → List M → Part M → Part M
-  part_with line boxes part = record { lines = part.lines ++ line ∷ []; boxes = part.boxes ++ boxes }
+  part_with line boxes part =
+      record { lines = part.lines ++ line ∷ []; boxes = part.boxes ++ boxes }
 
   -- the part in this place has one line more, and these boxes
   abbrev pub dealt_at : ℕ → Line → List M → List (Part M) → List (Part M)

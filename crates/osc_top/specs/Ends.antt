@@ -81,7 +81,8 @@ pub record EndsLines (output : Output) (caps : Limits) (status have : ℕ) (line
     (held after : Option (List ℕ)) (faults later : ℕ) : Type 0 where
   pub known : (status ≡ DONE) ⊎ (status ≡ NO_MEMORY) ⊎ (status ≡ SINK_FAILED)
       ⊎ (status ≡ RECORDING_FULL) ⊎ (status ≡ BANK_SHORT)
-  pub done : status ≡ DONE → (count_adds lines ≤ have) × IsLegalRun caps lines × IsUnstopped caps lines
+  pub done : status ≡ DONE → (count_adds lines ≤ have) × IsLegalRun caps lines
+      × IsUnstopped caps lines
       × Gains held after (run_output output caps lines) × (later ≡ faults)
   pub cut_short : status ≡ SINK_FAILED → (count_adds lines ≤ have) × IsLegalRun caps lines
       × GainsFront held after (run_output output caps lines) × Rose faults later
@@ -185,7 +186,8 @@ pub record EndsPlayed (output : Output) (caps : Limits) (status : ℕ) (lines : 
     (held after : Option (List ℕ)) (faults later : ℕ) : Type 0 where
   pub known : (status ≡ DONE) ⊎ (status ≡ NO_MEMORY) ⊎ (status ≡ SINK_FAILED)
       ⊎ (status ≡ RECORDING_FULL)
-  pub done : status ≡ DONE → IsUnstopped caps lines × Gains held after (run_output output caps lines)
+  pub done : status ≡ DONE → IsUnstopped caps lines
+      × Gains held after (run_output output caps lines)
       × (later ≡ faults)
   pub cut_short : status ≡ SINK_FAILED
       → GainsFront held after (run_output output caps lines) × Rose faults later

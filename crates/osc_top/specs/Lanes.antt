@@ -110,8 +110,8 @@ IsUntouched sunk = (sunk.after ≡ sunk.before) × (sunk.now ≡ sunk.faults)
 -- The end of a program that plays the lanes of a script, by its status: done (0) or full (6), where
 -- there is a box for each add and both sinks gained all, and then no lane stopped, or one did; cut
 -- short (5), where the sink of the recording failed, and nothing was written to the other, or this
--- one did, behind a whole recording; refused (1), where the script has a first fault, and bank short
--- (8), where there are fewer boxes than adds, each with its line. Want of memory (3) promises
+-- one did, behind a whole recording; refused (1), where the script has a first fault, and bank
+-- short (8), where there are fewer boxes than adds, each with its line. Want of memory (3) promises
 -- nothing.
 pub record EndsLanes {M : Type 0} (keep : M → ℕ) (heard : M → Option (List ℕ)) (caps : Limits)
     (status : ℕ) (script : List ℕ) (bank : List M) (added : List (ℕ × M)) (left : List M)

@@ -28,7 +28,8 @@ pub fn first_light()
 /// A clock that stands at 1 isn't set back.
 pub fn early_tick()
     ensures { IsOkAnd (script_of Plain (codes "tick 0000000000000000\n"))
-        (λ lines. run_text (plain_limits default_capacities) lines ≡ codes "tick 0 0000000000000000 clock-back 0000000000000001\n") }
+        (λ lines. run_text (plain_limits default_capacities) lines
+        ≡ codes "tick 0 0000000000000000 clock-back 0000000000000001\n") }
 {}
 
 /// Three lines of three lanes, of which one has no line, and a bank of three boxes, of which one is left.

@@ -15,7 +15,8 @@ returns-in-Played-clause-ticks g c before faults player here same ticks =
     here (seen_by c.args.ticker) (seen_by c.in_ok-ends.ticker) (seen_by c.play_round-ticker.result.0) ticks
     (subst (λ (q : Player). Onward q.token (seen_by c.args.ticker) (seen_by c.in_ok-ends.ticker)) same c.in_ok-ends.ensures.onward)
     (All-map (StartsWith (seen_by c.in_ok-ends.ticker)) seen_in c.in_ok-ends.ends.items c.in_ok-ends.ensures.told) c.in-Played.field-0
-    (round_as g.M.Method.keep g.M.Method.heard player _ c.args.last _ c.play_round-ticker.result.1 (round.Played c.in-Played.field-0) _ _ (c.in_ok-ends.ensures.player ∙ same) c.in-Played.is
+    (round_as g.M.Method.keep g.M.Method.heard player _ c.args.last _ c.play_round-ticker.result.1 (round.Played c.in-Played.field-0) _ _
+    (c.in_ok-ends.ensures.player ∙ same) c.in-Played.is
     c.play_round-ticker.ensures.round)
 
 pub returns-in-Over-clause-ticks : goal.returns-in-Over-clause-ticks
@@ -24,5 +25,6 @@ returns-in-Over-clause-ticks g c before faults player here same ticks =
     (g.C.Clock.left c.play_round-ticker.new.clock) faults (g.C.Clock.faults c.args.clock.now) (g.C.Clock.faults c.play_round-ticker.new.clock) c.args.last
     here (seen_by c.args.ticker) (seen_by c.in_ok-ends.ticker) (seen_by c.play_round-ticker.result.0) ticks
     (subst (λ (q : Player). Onward q.token (seen_by c.args.ticker) (seen_by c.in_ok-ends.ticker)) same c.in_ok-ends.ensures.onward) c.in-Over.end
-    (round_as g.M.Method.keep g.M.Method.heard player _ c.args.last _ c.play_round-ticker.result.1 (round.Over c.in-Over.end) _ _ (c.in_ok-ends.ensures.player ∙ same) c.in-Over.is
+    (round_as g.M.Method.keep g.M.Method.heard player _ c.args.last _ c.play_round-ticker.result.1 (round.Over c.in-Over.end) _ _
+    (c.in_ok-ends.ensures.player ∙ same) c.in-Over.is
     c.play_round-ticker.ensures.round)

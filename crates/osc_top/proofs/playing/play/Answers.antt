@@ -11,7 +11,8 @@ returns-clause-accounted g c =
     let is : performance ≡ record { caps = c.args.caps; history = (plain c.args.caps lines).history } = search rules in
     let over = c.in_ok-stop.ensures.boxes c.args.bank.items c.in_ok-player.ensures.boxes in
     let done = c.in_ok-played.ensures in
-    accounted g.M.Method.keep g.M.Method.heard c.args.caps lines performance c.args.bank.items _ _ is c.requires.enough done.legal (done.boxes c.args.bank.items over)
+    accounted g.M.Method.keep g.M.Method.heard c.args.caps lines performance c.args.bank.items _ _ is c.requires.enough done.legal
+    (done.boxes c.args.bank.items over)
 
 pub returns-clause-ascending : goal.returns-clause-ascending
 returns-clause-ascending g c =

@@ -46,8 +46,10 @@ returns-clause-staged g c =
     let done = c.in_ok-played.ensures in
     let stop = option_map room_of played.recorded.stop in
     subst (λ (l : List ℕ). IsStaged keep heard c.args.caps lines bank played.heard.items played.left.items l played.recorded.faults stop) (sym done.bytes)
-    (staged keep heard c.args.caps lines bank performed.bytes.items performed.kept.items (map told_of performed.lanes.items) (option_map room_of performed.unenrolled)
-    played.heard.items (performed_so g (goal.at.returns-clause-staged g c).In_ok-played) done.each done.ascending played.left.items _ played.recorded.faults stop
+    (staged keep heard c.args.caps lines bank performed.bytes.items performed.kept.items (map told_of performed.lanes.items)
+    (option_map room_of performed.unenrolled)
+    played.heard.items (performed_so g
+    (goal.at.returns-clause-staged g c).In_ok-played) done.each done.ascending played.left.items _ played.recorded.faults stop
     done.left c.in_ok-parts.ensures.rest done.faults done.stop)
 
 pub returns-clause-ascending : goal.returns-clause-ascending
