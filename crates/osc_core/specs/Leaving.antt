@@ -11,6 +11,6 @@ leaving_of (RecordFull room) = record_full (room_of room)
 leaving_of NotThere = not_there
 
 -- where a method leaves, this holds of its id
-abbrev pub OnRemoved : Leaving → (ℕ → Type 0) → Type 0
-OnRemoved (Removed id) holds = holds id
-OnRemoved _ holds = Unit {0}
+abbrev pub OnLeaving : Leaving → (ℕ → Type 0) → Type 0
+OnLeaving (Removed id) holds = holds id
+OnLeaving _ holds = Unit {0}

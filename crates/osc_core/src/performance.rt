@@ -8,7 +8,7 @@ ghost use Rattle.osc_model.specs.History.{Legal, state_of, stepped_in, onward};
 ghost use Rattle.osc_core.specs.Answers.{enrolled_of, submitted_of, refusal_of, ticking_of, room_of, TellsRelease};
 ghost use Rattle.osc_core.specs.Ids.{is_ascending, without};
 ghost use Rattle.osc_core.specs.Telling.{told};
-ghost use Rattle.osc_core.specs.Leaving.{leaving_of, OnRemoved};
+ghost use Rattle.osc_core.specs.Leaving.{leaving_of, OnLeaving};
 
 use crate::answers::{AddRefusal, Enrolled, Releasing, Submitted, Ticking};
 use crate::entry_answers::{
@@ -142,9 +142,9 @@ impl Performance {
         requires { caller < (state_of self.old).callers }
         ensures answer { leaving_of result ≡ (stepped_in self.old (remove address.now)).answer }
         ensures performance { self.new ≡ onward self.old caller (remove address.now) }
-        ensures held { OnRemoved result
+        ensures held { OnLeaving result
             (λ id. Contains (map (λ method. method.id) (state_of self.old).methods) id) }
-        ensures others { OnRemoved result
+        ensures others { OnLeaving result
             (λ id. map (λ method. method.id) (state_of self.new).methods
             ≡ without id (map (λ method. method.id) (state_of self.old).methods)) }
         ensures legal { Legal self.old.caps self.old.history }

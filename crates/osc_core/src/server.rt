@@ -11,7 +11,7 @@ ghost use Rattle.osc_core.specs.Answers.{enrolled_of, submitted_of, ticking_of};
 ghost use Rattle.osc_core.specs.Ids.{is_ascending, without};
 ghost use Rattle.osc_core.specs.Telling.{told};
 ghost use Rattle.osc_core.specs.Due.{Releases, made_by};
-ghost use Rattle.osc_core.specs.Leaving.{leaving_of, OnRemoved};
+ghost use Rattle.osc_core.specs.Leaving.{leaving_of, OnLeaving};
 ghost use Rattle.osc_core.specs.Playing.{tables};
 
 use crate::answers::{Enrolled, Releasing, Submitted, Ticking};
@@ -176,9 +176,9 @@ impl Server {
         ensures answer { leaving_of result ≡ (decided self.old (remove address.now)).answer }
         ensures entry { IsTrue (adds_entry (leaving_of result)) }
         ensures state { self.new ≡ (decided self.old (remove address.now)).state }
-        ensures held { OnRemoved result
+        ensures held { OnLeaving result
             (λ id. Contains (map (λ method. method.id) self.old.methods) id) }
-        ensures others { OnRemoved result
+        ensures others { OnLeaving result
             (λ id. map (λ method. method.id) self.new.methods
             ≡ without id (map (λ method. method.id) self.old.methods)) }
     {

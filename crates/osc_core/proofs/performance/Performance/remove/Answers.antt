@@ -7,7 +7,7 @@ use Rattle.osc_record.specs.Writing.{recording_text, appended}
 use Rattle.osc_model.specs.Events.{remove, adds_entry}
 use Rattle.osc_model.specs.History.{state_of}
 use Rattle.osc_core.specs.Ids.{without}
-use Rattle.osc_core.specs.Leaving.{OnRemoved}
+use Rattle.osc_core.specs.Leaving.{OnLeaving}
 use Rattle.osc_core.specs.Playing.{performance_of}
 use Rattle.osc_record.specs.Shown.{answer_of}
 use Rattle.osc_core.proofs.Played.{others_add, refuses, plays, enrolled_in, methods_are}
@@ -106,7 +106,7 @@ returns-clause-others c =
     c.bytes-bytes.ensures.value) in
     let left = c.remove-leaving.result in
     let ids = λ (l : List Method). map (λ method. method.id) l in
-    subst (λ (l : List Method). OnRemoved left (λ id. ids l ≡ without id (ids (state_of c.args.self.now).methods)))
+    subst (λ (l : List Method). OnLeaving left (λ id. ids l ≡ without id (ids (state_of c.args.self.now).methods)))
     (methods_are c.remove-leaving.new.self c.put.new.self (s.entries + 1) (performance_of c.put.new.self) on.playing refl)
-    (subst (λ (l : List Method). OnRemoved left (λ id. ids c.remove-leaving.new.self.methods ≡ without id (ids l)))
+    (subst (λ (l : List Method). OnLeaving left (λ id. ids c.remove-leaving.new.self.methods ≡ without id (ids l)))
     (methods_are s.server s.recorder s.entries c.args.self.now c.self.invariant c.self.view_is) c.remove-leaving.ensures.others)
