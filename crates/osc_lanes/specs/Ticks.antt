@@ -8,7 +8,7 @@ use Rattle.osc_core.specs.Answers.{room_of}
 use Rattle.osc_script.specs.declared.act.Act.TheVariants.{Tick, Pump}
 use Rattle.osc_script.specs.declared.line.Line.{Line}
 use Rattle.osc_turn.specs.declared.view.Entry.{Entry as Seen}
-use Rattle.osc_turn.specs.History.{StartsWith}
+use Rattle.osc_turn.specs.History.{StartsWith, own}
 use Rattle.osc_lanes.specs.declared.served.TickerEnd.{TickerEnd}
 use Rattle.osc_lanes.specs.declared.served.TickerEnd.TheVariants.{Done, ClockFailed, Full}
 use Rattle.osc_lanes.specs.Shares.{Player, Onward, ended, Plays}
@@ -94,3 +94,10 @@ module _ {M : Type 0} (keep : M → ℕ) (heard : M → Option (List ℕ)) where
     pub reads : Reads clock.before moments between
     pub rounds : PlaysRounds player None moments last here place
     pub ends : EndsTicks player last tokens between clock end place there
+
+  -- The ticker's share of a history: its rounds were played from where its token came in, and the
+  -- history has no other entry of it.
+  abbrev pub TickOf : Player → List (List Seen) → ClockRead → TickerEnd → List Seen → Type 0
+  TickOf player tokens clock end history =
+      (here : List Seen) × (there : List Seen) × (own player.token here ≡ [])
+      × Ticks player tokens clock end here there × Onward player.token there history

@@ -1,8 +1,8 @@
-//! What holds of a lane in every history that goes on from what its token has seen, and of a recording with room enough
-//! for all lanes.
+//! What holds of a lane, a link and the ticker in every history that goes on from what its token has seen, and of a
+//! recording with room enough for all lanes.
 ghost use Rattle.std.specs.Prelude.{◌≡◌, ℕ, ◌+◌, ◌*◌, ◌≤◌, List, [], ◌∷◌, All, Option, codes, Some, None};
 ghost use Rattle.std.specs.List.{AllByRecursion};
-ghost use Rattle.osc_turn.specs.History.{StartsWith, texts};
+ghost use Rattle.osc_turn.specs.History.{StartsWith, texts, own};
 ghost use Rattle.osc_turn.specs.declared.view.Entry.{Entry};
 ghost use Rattle.osc_model.specs.Limits.{Limits};
 ghost use Rattle.osc_model.specs.Events.{Room, enrol, add, remove, number, added, removed};
@@ -15,10 +15,16 @@ ghost use Rattle.osc_lanes.specs.Shares.{Account, Onward, LaneOf, IsRemovedAt, P
 ghost use Rattle.osc_lanes.specs.Performs.{enrolments, added_ids, removed_ids, Numbered, Part, Performs};
 ghost use Rattle.osc_lanes.specs.Enough.{enough_for};
 ghost use Rattle.osc_lanes.specs.declared.link_plan.Over.TheVariants.{Idle};
-ghost use Rattle.osc_lanes.specs.Links.{PlaysTurns};
-ghost use Rattle.osc_lanes.specs.Ticks.{Reads, round_lines, tick_line, pump_line};
+ghost use Rattle.osc_lanes.specs.Links.{PlaysTurns, IsLinkEnd, LinkOf, link_account, stop_by};
+ghost use Rattle.osc_lanes.specs.declared.link_plan.LinkPlan.{LinkPlan};
+ghost use Rattle.osc_lanes.specs.declared.link_plan.LinkEnd.{LinkEnd};
+ghost use Rattle.osc_lanes.specs.declared.served.Bounds.{Bounds};
+ghost use Rattle.osc_lanes.specs.declared.served.TickerEnd.{TickerEnd};
+ghost use Rattle.osc_live.specs.declared.caller.Caller.{Caller};
+ghost use Rattle.osc_lanes.specs.Ticks.{ClockRead, Reads, Ticks, TickOf, round_lines, tick_line, pump_line};
 ghost use Rattle.osc_lanes.specs.Ends.{seen_by, player_of, account_of, IsReady, IsEndOf};
 
+use osc_edge::Link;
 use osc_method::Method;
 use osc_model::laws::a_method_is_called_while_it_is_registered;
 
@@ -37,6 +43,30 @@ pub fn a_lane_keeps_its_share<M: Method>()
 {
     a_method_is_called_while_it_is_registered();
 }
+
+/// A link's share is its share of every history that goes on with no further entry of its token, where the token came
+/// in with none.
+pub fn a_link_keeps_its_share<M: Method, L: Link>()
+    ensures { (caps : Limits) (bounds : Bounds) (plan : LinkPlan L) (end : LinkEnd L)
+        (history : List Entry)
+        → (served : IsLinkEnd M.keep M.heard L.left L.faults caps bounds plan end)
+        → own (player_of caps plan.caller).token (seen_by plan.caller) ≡ []
+        → Onward (player_of caps plan.caller).token (seen_by end.caller) history
+        → LinkOf M.keep M.heard (player_of caps plan.caller) bounds served.turns end.over
+        (link_account end.faults.items (stop_by end.over)) history }
+{}
+
+/// The ticker's share is its share of every history that goes on with no further entry of its token, where the token
+/// came in with none.
+pub fn a_ticker_keeps_its_share<M: Method>()
+    ensures { (caps : Limits) (before after : Caller) (tokens : List (List Entry))
+        (clock : ClockRead) (end : TickerEnd) (history : List Entry)
+        → Ticks M.keep M.heard (player_of caps before) tokens clock end (seen_by before)
+        (seen_by after)
+        → own (player_of caps before).token (seen_by before) ≡ []
+        → Onward (player_of caps before).token (seen_by after) history
+        → TickOf M.keep M.heard (player_of caps before) tokens clock end history }
+{}
 
 /// A recording of as many bytes as `enough_for` says stops no lane, and refuses no enrolment.
 pub fn enough_room_never_stops<M: Method>()
