@@ -2,8 +2,14 @@
 #![tactic(auto)]
 
 #[cfg(test)]
+mod callers;
+#[cfg(test)]
+mod hold;
+#[cfg(test)]
 mod parts;
 #[cfg(test)]
 mod performed;
 #[cfg(test)]
 mod two_lanes;
+#[cfg(test)]
+mod two_links;

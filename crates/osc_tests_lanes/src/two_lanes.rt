@@ -1,11 +1,9 @@
 // Two lanes on one server, each held at its first line until the other has played its own.
-ghost use Rattle.std.specs.Prelude.{◌≡◌, ◌≤◌, [], length, IfOk};
-ghost use Rattle.osc_turn.specs.History.{own};
-ghost use Rattle.osc_turn.specs.Rule.{number_of};
-ghost use Rattle.osc_turn.specs.Passes.{view};
-ghost use Rattle.osc_live.specs.Seen.{IsTokenOf};
+ghost use Rattle.std.specs.Prelude.{◌≡◌, ◌≤◌, length, IfOk};
 ghost use Rattle.osc_lanes.specs.Shares.{count_adds};
 
+use crate::callers::enrolled;
+use crate::hold::Hold;
 use crate::parts::{address, empty, push_add, push_line};
 use osc_atoms::Fault;
 use osc_lanes::{Gate, LaneEnd, LanePart, LanePlan, play};
@@ -16,47 +14,8 @@ use osc_record::Caps;
 use osc_script::Act;
 use std::alloc::Global;
 use std::sync::Wait;
-use std::sync::atomic::{AtomicU64, Ordering};
 use std::test::*;
-use std::thread;
 use std::thread::Threads;
-
-/// Holds one lane before its first line until the other has left its own, for a bounded number of turns.
-#[derive(Drop)]
-struct Hold {
-    held: u32,
-    left: AtomicU64,
-    late: AtomicU64,
-}
-
-impl Gate for Hold {
-    fn enter(&self, lane: u32, line: u32) {
-        if lane != self.held || line > 2 {
-            return;
-        }
-        for _ in 0..100_000_000u32 {
-            if self.left.load(Ordering::SeqCst) == 1 {
-                return;
-            }
-            thread::yield_now();
-        }
-        self.late.store(1, Ordering::SeqCst);
-    }
-
-    fn leave(&self, lane: u32, line: u32) {
-        if lane != self.held && line <= 2 {
-            self.left.store(1, Ordering::SeqCst);
-        }
-    }
-}
-
-fn holding(lane: u32) -> Hold {
-    Hold {
-        held: lane,
-        left: AtomicU64::new(0),
-        late: AtomicU64::new(0),
-    }
-}
 
 /// Adds `/a`, sends it a message, releases it and removes the method.
 fn calling(alloc: Global) -> Result<LanePart<Mute>, Fail>
@@ -82,23 +41,6 @@ fn adding(alloc: Global) -> Result<LanePart<Mute>, Fail>
     push_add(&mut part, 6, address(alloc, b"/b")?, Mute)?;
     push_add(&mut part, 8, address(alloc, b"/b")?, Mute)?;
     Ok(part)
-}
-
-/// Enrols a guest, who has no entries.
-fn enrolled<W: Wait>(rt: &W, live: &Live<Mute>, first: Caller) -> Result<(Caller, Caller), Fail>
-    requires ours { IsTokenOf live.now.turn live.now.caps first.pass }
-    requires first { first.number ≡ 0 }
-    ensures ours { IfOk result (λ both. IsTokenOf live.now.turn live.now.caps both.0.pass) }
-    ensures new_ours { IfOk result (λ both. IsTokenOf live.now.turn live.now.caps both.1.pass) }
-    ensures first { IfOk result (λ both. both.0.number ≡ 0) }
-    ensures no_entries { IfOk result
-        (λ both. own (number_of (view both.1.pass)) (view both.1.pass).seen ≡ []) }
-{
-    let (first, guest) = live.guest(first);
-    let guest = guest.ok().ok_or("a guest")?;
-    let (first, new) = live.enrol(rt, first, guest);
-    let new = new.ok().ok_or("a caller")?;
-    Ok((first, new))
 }
 
 /// The plan of a lane.
@@ -136,12 +78,12 @@ fn play_both<R: Threads + Wait + Sync, G: Gate + Sync>(
 #[test]
 fn two_lanes_play_at_once(rt: HostRuntime) -> Result<(), Fail> {
     for held in 1..3u32 {
-        let gate = holding(held);
+        let gate = Hold::of(held);
         let mut ends = play_both(&rt, rt.alloc(), &gate)?;
         let mut two = ends.pop().ok_or("an end")?;
         let one = ends.pop().ok_or("an end")?;
         assert!(rt; ends.is_empty());
-        assert_eq!(rt; gate.late.load(Ordering::SeqCst), 0);
+        assert!(rt; !gate.gave_up());
         assert_eq!(rt; (one.lane, two.lane), (1, 2));
         assert!(rt; one.faults.is_empty() && one.back.is_empty() && two.removed.is_empty());
         assert_eq!(rt; (one.removed.len(), two.back.len()), (1, 1));
