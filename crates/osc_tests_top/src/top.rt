@@ -606,3 +606,67 @@ fn other_recordings_are_refused(rt: HostRuntime) -> Result<(), Fail> {
         (1, lines.as_bytes()),
     )
 }
+
+/// Enough boxes for the adds of a drawn script.
+const MANY_BOXES: Setting = Setting {
+    boxes: 1024,
+    ..SETTING
+};
+
+#[test]
+fn a_drawn_script_is_played_and_summed_up(rt: HostRuntime) -> Result<(), Fail> {
+    let alloc = rt.alloc();
+    // The source would fail at once, but nothing reads it.
+    let adds =
+        "entries 64\nsubmits 0\nqueued 0\nrefused 0\nadds 64\nremoves 0\nticks 0\nreleases 0\ncalls 0\nrecording 3128\n";
+    let expected = (0, adds.as_bytes());
+    writes(
+        &rt,
+        alloc,
+        "gen --seed 1 --lines 64",
+        b"",
+        Setting {
+            source_fails: 1,
+            ..MANY_BOXES
+        },
+        expected,
+    )?;
+    let short = (8, &b"bank-short 64 8\n"[..]);
+    writes(&rt, alloc, "gen --lines 64", b"", SETTING, short)?;
+    for line in [
+        "gen --lines 0",
+        "gen --lines 100001",
+        "gen --seed -1",
+        "gen it",
+    ] {
+        writes(&rt, alloc, line, b"", MANY_BOXES, (2, b"usage\n"))?;
+    }
+    Ok(())
+}
+
+#[test]
+fn the_default_script_is_the_same_twice(rt: HostRuntime) -> Result<(), Fail> {
+    let alloc = rt.alloc();
+    let first = perform(&rt, alloc, "gen", b"", MANY_BOXES)?;
+    let second = perform(&rt, alloc, "gen --seed 1 --lines 20000", b"", MANY_BOXES)?;
+    assert_eq!(rt; first.status, 0);
+    assert_eq!(rt; first.written.as_slice(), second.written.as_slice());
+    Ok(())
+}
+
+#[test]
+fn a_dump_has_what_stands_in_the_recording(rt: HostRuntime) -> Result<(), Fail> {
+    let alloc = rt.alloc();
+    let tick = recording(&rt, alloc, "tick 83aa7e8000000000")?;
+    let dumped =
+        "rec 1 4096 16384 1024 4096 1 67108864\n56 tick 0 83aa7e8000000000 ticked 1970-01-01T00:00:00Z\n";
+    writes(&rt, alloc, "dump", &tick, SETTING, (0, dumped.as_bytes()))?;
+
+    // An entry that the rules don't give.
+    let mut changed = recording(&rt, alloc, "add /a\nsend 2f610000\npump")?;
+    changed.pop();
+    changed.push(1)?;
+    let outcome = perform(&rt, alloc, "dump", &changed, SETTING)?;
+    assert_eq!(rt; outcome.status, 0);
+    writes(&rt, alloc, "dump", b"", SETTING, (1, b"malformed 0\n"))
+}

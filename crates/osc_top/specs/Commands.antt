@@ -6,14 +6,11 @@ use Rattle.std.specs.List.{range_with_len}
 use Rattle.std.specs.Option.{option_map_or}
 use Rattle.std.specs.Str.{bytes_eq}
 use Rattle.osc_words.specs.Commands as said
-use Rattle.osc_words.specs.Ranges.{AreInRange}
 use Rattle.osc_words.specs.declared.command.Capacities.{Capacities}
-use Rattle.osc_words.specs.declared.command.PlainCommand.{PlainCommand}
-use Rattle.osc_words.specs.declared.command.PlainCommand.TheVariants as plain
+use Rattle.osc_words.specs.declared.command.Reading.{Reading}
+use Rattle.osc_words.specs.declared.command.Reading.TheVariants.{Run, Replay, Dump}
 use Rattle.osc_words.specs.declared.command.LiveCommand.{LiveCommand}
 use Rattle.osc_words.specs.declared.command.LiveCommand.TheVariants as live
-use Rattle.osc_top.specs.declared.command.Command.{Command}
-use Rattle.osc_top.specs.declared.command.Command.TheVariants.{Run, Replay}
 
 -- the last word, if there is one
 abbrev pub last_of : List (List ℕ) → Option (List ℕ)
@@ -21,26 +18,11 @@ last_of [] = None
 last_of (word ∷ []) = Some word
 last_of (word ∷ next ∷ words) = last_of (next ∷ words)
 
--- the commands that `plain_top` does
-abbrev pub plain_done : PlainCommand → Option Command
-plain_done (plain.Run output caps) = Some (Run output caps)
-plain_done plain.Replay = Some Replay
-plain_done plain.Dump = None
-plain_done (plain.Gen seed lines) = None
-
--- the command that the words say to `plain_top`
-abbrev pub command_of : List (List ℕ) → Option Command
-command_of words = option_and_then plain_done (said.plain_command_of words)
-
--- its numbers lie in their ranges
-abbrev pub HasRanges : Command → Type 0
-HasRanges (Run output caps) = AreInRange caps
-HasRanges Replay = Unit {0}
-
 -- how many bytes a command's input may have: a script 64 MiB, a recording 1 GiB
-abbrev pub most_bytes : Command → ℕ
+abbrev pub most_bytes : Reading → ℕ
 most_bytes (Run output caps) = MAX_SCRIPT
 most_bytes Replay = max_recording
+most_bytes Dump = max_recording
 
 -- the commands that `live_top` does, by the capacities of its server
 abbrev pub live_done : LiveCommand → Option Capacities

@@ -8,17 +8,21 @@ use Rattle.osc_model.specs.Recordings.{record_text}
 use Rattle.osc_model.specs.History.{Legal}
 use Rattle.osc_laws.specs.Laws.{KeepsTheLaws}
 use Rattle.osc_replay.specs.Printed.{printed}
-use Rattle.osc_replay.specs.Formed.{IsUnformedAt}
+use Rattle.osc_print.specs.Dumps.{dumped}
+use Rattle.osc_replay.specs.Counted.{summary as summary_text}
+use Rattle.osc_replay.specs.Formed.{IsFormed, IsUnformedAt}
 use Rattle.osc_replay.specs.Disagreeing.{DisagreesAt, IsRecordingOf}
 use Rattle.osc_script.specs.declared.line.Line.{Line}
 use Rattle.osc_script.specs.declared.mode.Mode.TheVariants.{Plain}
 use Rattle.osc_script.specs.Scripts.{script_of}
 use Rattle.osc_words.specs.declared.command.Output.{Output}
-use Rattle.osc_words.specs.declared.command.Output.TheVariants.{Text, Recording}
-use Rattle.osc_top.specs.declared.command.Command.{Command}
-use Rattle.osc_top.specs.declared.command.Command.TheVariants.{Run, Replay}
+use Rattle.osc_words.specs.declared.command.Output.TheVariants as output
+use Rattle.osc_top.specs.declared.report.Report.{Report}
+use Rattle.osc_top.specs.declared.report.Report.TheVariants.{Text, Recording, Summary}
+use Rattle.osc_words.specs.declared.command.Reading.{Reading}
+use Rattle.osc_words.specs.declared.command.Reading.TheVariants.{Run, Replay, Dump}
 use Rattle.osc_top.specs.Plain.{plain_limits, plain, count_adds}
-use Rattle.osc_top.specs.Printing.{printed_faults, printed_run, refusal_text, malformed_text, disagrees_text, bank_short_text}
+use Rattle.osc_top.specs.Printing.{stop_text, printed_faults, printed_run, refusal_text, malformed_text, disagrees_text, bank_short_text}
 
 -- a script was played, and recorded
 abbrev pub IsPlayed : ℕ → Type 0
@@ -64,10 +68,17 @@ IsUnstopped caps lines = (plain caps lines).stop ≡ None
 abbrev pub run_text : Limits → List Line → List ℕ
 run_text caps lines = printed_run caps (plain caps lines)
 
--- what a run writes
-abbrev pub run_output : Output → Limits → List Line → List ℕ
+-- what the words say to write of a run
+abbrev pub report_of : Output → Report
+report_of output.Text = Text
+report_of output.Recording = Recording
+
+-- what is written of a run
+abbrev pub run_output : Report → Limits → List Line → List ℕ
 run_output Text caps lines = run_text caps lines
 run_output Recording caps lines = record_text caps (plain caps lines).history
+run_output Summary caps lines =
+    summary_text caps (plain caps lines).history ++ stop_text (plain caps lines).stop
 
 -- The end of a run of lines over so many boxes, by its status: done (0), where there is a box for
 -- each add, no event wanted
@@ -77,17 +88,17 @@ run_output Recording caps lines = record_text caps (plain caps lines).history
 -- wanted more room; bank
 -- short (8), where there are fewer boxes than adds, and the line on that was gained. Want of memory
 -- (3) promises nothing.
-pub record EndsLines (output : Output) (caps : Limits) (status have : ℕ) (lines : List Line)
+pub record EndsLines (report : Report) (caps : Limits) (status have : ℕ) (lines : List Line)
     (held after : Option (List ℕ)) (faults later : ℕ) : Type 0 where
   pub known : (status ≡ DONE) ⊎ (status ≡ NO_MEMORY) ⊎ (status ≡ SINK_FAILED)
       ⊎ (status ≡ RECORDING_FULL) ⊎ (status ≡ BANK_SHORT)
   pub done : status ≡ DONE → (count_adds lines ≤ have) × IsLegalRun caps lines
       × IsUnstopped caps lines
-      × Gains held after (run_output output caps lines) × (later ≡ faults)
+      × Gains held after (run_output report caps lines) × (later ≡ faults)
   pub cut_short : status ≡ SINK_FAILED → (count_adds lines ≤ have) × IsLegalRun caps lines
-      × GainsFront held after (run_output output caps lines) × Rose faults later
+      × GainsFront held after (run_output report caps lines) × Rose faults later
   pub full : status ≡ RECORDING_FULL → (count_adds lines ≤ have) × IsLegalRun caps lines
-      × IsSome (plain caps lines).stop × Gains held after (run_output output caps lines)
+      × IsSome (plain caps lines).stop × Gains held after (run_output report caps lines)
       × (later ≡ faults)
   pub bank_short : status ≡ BANK_SHORT → (have < count_adds lines)
       × GainsUnless held after faults later (bank_short_text (count_adds lines) have)
@@ -95,7 +106,7 @@ pub record EndsLines (output : Output) (caps : Limits) (status have : ℕ) (line
 -- The end of a run of a script, by its status: refused (1), where it has a first fault, and the
 -- line on that fault was
 -- gained; else the script is lawful, and the end is that of a run of its lines.
-pub record EndsRun (output : Output) (caps : Limits) (status have : ℕ) (script : List ℕ)
+pub record EndsRun (report : Report) (caps : Limits) (status have : ℕ) (script : List ℕ)
     (held after : Option (List ℕ)) (faults later : ℕ) : Type 0 where
   pub known : (status ≡ DONE) ⊎ (status ≡ REFUSED) ⊎ (status ≡ NO_MEMORY) ⊎ (status ≡ SINK_FAILED)
       ⊎ (status ≡ RECORDING_FULL)
@@ -103,18 +114,18 @@ pub record EndsRun (output : Output) (caps : Limits) (status have : ℕ) (script
   pub done : status ≡ DONE
       → IsOkAnd (script_of Plain script)
       (λ lines. (count_adds lines ≤ have) × IsLegalRun caps lines × IsUnstopped caps lines
-      × Gains held after (run_output output caps lines)) × (later ≡ faults)
+      × Gains held after (run_output report caps lines)) × (later ≡ faults)
   pub refused : status ≡ REFUSED
       → IsErrAnd (script_of Plain script)
       (λ fault. GainsUnless held after faults later (refusal_text fault))
   pub cut_short : status ≡ SINK_FAILED
       → IsOkAnd (script_of Plain script)
       (λ lines. (count_adds lines ≤ have) × IsLegalRun caps lines
-      × GainsFront held after (run_output output caps lines)) × Rose faults later
+      × GainsFront held after (run_output report caps lines)) × Rose faults later
   pub full : status ≡ RECORDING_FULL
       → IsOkAnd (script_of Plain script)
       (λ lines. (count_adds lines ≤ have) × IsLegalRun caps lines
-      × IsSome (plain caps lines).stop × Gains held after (run_output output caps lines))
+      × IsSome (plain caps lines).stop × Gains held after (run_output report caps lines))
       × (later ≡ faults)
   pub bank_short : status ≡ BANK_SHORT
       → IsOkAnd (script_of Plain script)
@@ -164,13 +175,45 @@ pub record EndsReplay (status : ℕ) (bytes : List ℕ) (held after : Option (Li
       → ((printed_text : List ℕ) × ReplaysTo bytes printed_text
       × GainsFront held after printed_text) × Rose faults later
 
--- the end of a command, of which so many boxes and this input were handed in
-abbrev pub EndsCommand : Command → ℕ → ℕ → List ℕ → Option (List ℕ) → Option (List ℕ) → ℕ → ℕ
+-- The lines on bytes that are no well-formed recording: there are too many, or else the first place
+-- where they are malformed.
+abbrev pub RefusesForm : List ℕ → List ℕ → Type 0
+RefusesForm bytes lines =
+    ((max_recording < length bytes) × (lines ≡ malformed_text max_recording))
+    ⊎ ((at : ℕ) × (length bytes ≤ max_recording) × IsUnformedAt bytes at
+    × (lines ≡ malformed_text at))
+
+-- the bytes are a well-formed recording, whether a server made it or not, and this is its dump
+pub record DumpsTo (bytes text : List ℕ) : Type 0 where
+  pub caps : Limits
+  pub entries : List Entry
+  pub formed : IsFormed caps entries
+  pub recording : bytes ≡ record_text caps entries
+  pub text_is : text ≡ dumped caps entries
+
+-- The end of a dump of a recording, by its status: done (0), where the bytes are a well-formed one,
+-- and its dump was gained; refused (1), where they aren't, and the line on that was gained; cut
+-- short (5), where the sink failed, and a front of the dump was gained. Want of memory (3) promises
+-- nothing.
+pub record EndsDump (status : ℕ) (bytes : List ℕ) (held after : Option (List ℕ))
+    (faults later : ℕ) : Type 0 where
+  pub known : (status ≡ DONE) ⊎ (status ≡ REFUSED) ⊎ (status ≡ NO_MEMORY) ⊎ (status ≡ SINK_FAILED)
+  pub done : status ≡ DONE
+      → ((text : List ℕ) × DumpsTo bytes text × Gains held after text) × (later ≡ faults)
+  pub refused : status ≡ REFUSED → (lines : List ℕ) × RefusesForm bytes lines
+      × GainsUnless held after faults later lines
+  pub cut_short : status ≡ SINK_FAILED
+      → ((text : List ℕ) × DumpsTo bytes text × GainsFront held after text) × Rose faults later
+
+-- the end of a command that reads an input, of which so many boxes and this input were handed in
+abbrev pub EndsReading : Reading → ℕ → ℕ → List ℕ → Option (List ℕ) → Option (List ℕ) → ℕ → ℕ
     → Type 0
-EndsCommand (Run output caps) status have input held after faults later =
-    EndsRun output (plain_limits caps) status have input held after faults later
-EndsCommand Replay status have input held after faults later =
+EndsReading (Run output caps) status have input held after faults later =
+    EndsRun (report_of output) (plain_limits caps) status have input held after faults later
+EndsReading Replay status have input held after faults later =
     EndsReplay status input held after faults later
+EndsReading Dump status have input held after faults later =
+    EndsDump status input held after faults later
 
 -- what was recorded of a run of lines: its recording, the lines of the faults, and the stop
 pub record IsRunOf (bytes faults : List ℕ) (stop : Option Room) (caps : Limits)
@@ -182,17 +225,17 @@ pub record IsRunOf (bytes faults : List ℕ) (stop : Option Room) (caps : Limits
 -- The end of writing what a run of lines came to: done (0) or full (6) where all was gained, cut
 -- short (5) where the sink
 -- failed.
-pub record EndsPlayed (output : Output) (caps : Limits) (status : ℕ) (lines : List Line)
+pub record EndsPlayed (report : Report) (caps : Limits) (status : ℕ) (lines : List Line)
     (held after : Option (List ℕ)) (faults later : ℕ) : Type 0 where
   pub known : (status ≡ DONE) ⊎ (status ≡ NO_MEMORY) ⊎ (status ≡ SINK_FAILED)
       ⊎ (status ≡ RECORDING_FULL)
   pub done : status ≡ DONE → IsUnstopped caps lines
-      × Gains held after (run_output output caps lines)
+      × Gains held after (run_output report caps lines)
       × (later ≡ faults)
   pub cut_short : status ≡ SINK_FAILED
-      → GainsFront held after (run_output output caps lines) × Rose faults later
+      → GainsFront held after (run_output report caps lines) × Rose faults later
   pub full : status ≡ RECORDING_FULL → IsSome (plain caps lines).stop
-      × Gains held after (run_output output caps lines) × (later ≡ faults)
+      × Gains held after (run_output report caps lines) × (later ≡ faults)
 
 -- a text that was made before is written, or a front of it; the status is the decided one where all
 -- of it is

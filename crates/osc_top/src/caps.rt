@@ -5,7 +5,7 @@ ghost use Rattle.osc_words.specs.Ranges.{AreInRange};
 ghost use Rattle.osc_top.specs.Plain as scripts;
 
 use osc_record::Caps;
-use osc_words::Capacities;
+use osc_words::{Capacities, default_capacities};
 
 /// A script is played by caller 0 alone.
 pub(crate) const PLAIN_CALLERS: u32 = 1;
@@ -19,6 +19,13 @@ pub(crate) fn plain_limits(caps: Capacities) -> Caps
     ensures { result ≡ scripts.plain_limits caps }
 {
     limits_for(PLAIN_CALLERS, caps)
+}
+
+/// The limits of the server that plays a script which was drawn.
+pub(crate) fn default_limits() -> Caps
+    ensures { result ≡ scripts.default_limits }
+{
+    plain_limits(default_capacities())
 }
 
 /// The limits of a server of lanes.

@@ -1,37 +1,46 @@
 // The top call.
+ghost use Rattle.osc_script.specs.declared.generating.TheConstants.{MAX_GENERATED_LINES};
 ghost use Rattle.osc_top.specs.declared.status.TheConstants.{BANK_SHORT, DONE, NO_MEMORY, RECORDING_FULL, REFUSED, SINK_FAILED, SOURCE_FAILED, USAGE};
-ghost use Rattle.std.specs.Prelude.{◌≡◌, ◌≢◌, ◌⊎◌, ◌≤◌, ◌<◌, ℕ, IsTrue, List, IsOkAnd, IfSome, Some, Ok, [], None, length, map, string_bytes};
+ghost use Rattle.std.specs.Prelude.{◌≡◌, ◌≢◌, ◌⊎◌, ◌≤◌, ◌<◌, ℕ, IsTrue, List, IsOkAnd, IfSome, IsSome, Some, Ok, [], None, length, map, string_bytes};
 ghost use Rattle.osc_edge.specs.Faults.{Rose};
 ghost use Rattle.osc_model.specs.Limits.{Limits};
 ghost use Rattle.osc_model.specs.Events.{Entry};
 ghost use Rattle.osc_core.specs.Ids.{is_ascending};
+ghost use Rattle.osc_model.specs.Recordings.{record_text};
 ghost use Rattle.osc_replay.specs.Disagreeing.{IsRecordingOf};
+ghost use Rattle.osc_replay.specs.Formed.{IsFormed};
 ghost use Rattle.osc_script.specs.declared.line.Line.{Line};
 ghost use Rattle.osc_script.specs.declared.mode.Mode.TheVariants.{Plain};
 ghost use Rattle.osc_script.specs.Scripts.{script_of};
 ghost use Rattle.osc_words.specs.declared.command.Capacities.{Capacities};
 ghost use Rattle.osc_words.specs.declared.command.Output.{Output};
-ghost use Rattle.osc_top.specs.declared.command.Command.TheVariants.{Run, Replay};
+ghost use Rattle.osc_words.specs.declared.command.Reading.TheVariants.{Run, Replay, Dump};
+ghost use Rattle.osc_words.specs.declared.command.PlainCommand.TheVariants.{Gen};
+ghost use Rattle.osc_words.specs.Commands as said;
+ghost use Rattle.osc_words.specs.Ranges.{IsLawfulReading};
+ghost use Rattle.osc_top.specs.declared.report.Report.TheVariants.{Summary};
 ghost use Rattle.osc_top.specs.Plain as scripts;
 ghost use Rattle.osc_top.specs.Bank.{IsAccounted};
 ghost use Rattle.osc_top.specs.Printing.{usage_text};
 ghost use Rattle.osc_top.specs.Commands as commands;
-ghost use Rattle.osc_top.specs.Commands.{HasRanges};
-ghost use Rattle.osc_top.specs.Ends.{GainsUnless, IsUnstopped, RunsByTheLaws, RecordsTheLaws, EndsRun, EndsLines, EndsReplay, EndsCommand, left_behind, IsPlayed, IsUnplayed};
+ghost use Rattle.osc_top.specs.Ends.{GainsUnless, IsUnstopped, RunsByTheLaws, RecordsTheLaws, EndsRun, EndsLines, EndsReplay, EndsReading, left_behind, IsPlayed, IsUnplayed};
 
-use crate::caps::plain_limits;
-use crate::command::{Command, command_of};
+use crate::caps::{default_limits, plain_limits};
 use crate::counting::count_adds;
+use crate::generating::drawn_lines;
 use crate::playing::{Played, play};
+use crate::report::{Report, report_of};
 use crate::status::{NO_MEMORY, SOURCE_FAILED, USAGE};
 use crate::whole::{Input, read_whole};
-use crate::writing::{bank_short, last_line, malformed, refuse, write_recorded, write_replay};
+use crate::writing::{
+    bank_short, last_line, malformed, refuse, write_dump, write_recorded, write_replay,
+};
 use osc_edge::{Sink, Source};
 use osc_method::Method;
 use osc_model::laws::a_legal_history_is_recordable;
 use osc_record::{Caps, MAX_RECORDING};
 use osc_script::{Line, MAX_SCRIPT, Mode, Script, ScriptFault, ScriptRefusal};
-use osc_words::Output;
+use osc_words::{PlainCommand, Reading, plain_command_of};
 use std::alloc::Global;
 
 /// How a program ends.
@@ -48,7 +57,9 @@ pub struct Ended {
 
 /// Does all that the program does. `run` reads a script from `input` to its end, plays it on a new server, and writes
 /// the printed history and the faults of its packets to `out`, or with `--bytes` the recording. `replay` reads a
-/// recording, and writes the same printed history, each answer of which it computes again.
+/// recording, and writes the same printed history, each answer of which it computes again. `dump` reads a recording,
+/// and writes its entries as they stand. `gen` reads nothing: it draws a script from a seed, plays it, and writes how many
+/// entries of each kind there are.
 ///
 /// `words` are those of the command line, without the program's name. The k-th add of a script gets the k-th box of
 /// `bank`. Scripts, recordings, printed lines and statuses are those of docs/FORMATS.md. What stands in `out`, and what
@@ -64,10 +75,10 @@ pub fn plain_top<S: Source, O: Sink>(
 
     // Words that are no command are answered first, by a line on usage, and nothing is read then.
     ensures usage { result.status ≡ USAGE
-        → commands.command_of (map string_bytes words.now) ≡ None }
-    ensures no_command { commands.command_of (map string_bytes words.now) ≡ None
+        → said.plain_command_of (map string_bytes words.now) ≡ None }
+    ensures no_command { said.plain_command_of (map string_bytes words.now) ≡ None
         → (result.status ≡ USAGE) ⊎ (result.status ≡ NO_MEMORY) }
-    ensures unread { commands.command_of (map string_bytes words.now) ≡ None
+    ensures unread { said.reading_of (map string_bytes words.now) ≡ None
         → input.new ≡ input.old }
     ensures usage_text { result.status ≡ USAGE →
         GainsUnless (O.held out.old) (O.held out.new) (O.faults out.old)
@@ -80,28 +91,48 @@ pub fn plain_top<S: Source, O: Sink>(
     ensures unwritten { result.status ≡ SOURCE_FAILED → out.new ≡ out.old }
     ensures sound { result.status ≢ NO_MEMORY → result.status ≢ SOURCE_FAILED
         → S.faults input.new ≡ S.faults input.old }
-    ensures read { IfSome (commands.command_of (map string_bytes words.now))
-        (λ command. IfSome (S.left input.old)
+    ensures read { IfSome (said.reading_of (map string_bytes words.now))
+        (λ reading. IfSome (S.left input.old)
         (λ all. result.status ≢ NO_MEMORY → result.status ≢ SOURCE_FAILED →
-        S.left input.new ≡ Some (left_behind (commands.most_bytes command) all))) }
+        S.left input.new ≡ Some (left_behind (commands.most_bytes reading) all))) }
 
     // Then a script or a recording that is refused, or a script that adds more methods than there are boxes, or what
     // the command writes, with a sink that took all of it or failed.
-    ensures command { IfSome (commands.command_of (map string_bytes words.now))
-        (λ command. IfSome (S.left input.old) (λ all. result.status ≢ SOURCE_FAILED →
-        EndsCommand command result.status (length bank.items) all (O.held out.old) (O.held out.new)
+    ensures command { IfSome (said.reading_of (map string_bytes words.now))
+        (λ reading. IfSome (S.left input.old) (λ all. result.status ≢ SOURCE_FAILED →
+        EndsReading reading result.status (length bank.items) all (O.held out.old) (O.held out.new)
         (O.faults out.old) (O.faults out.new))) }
     ensures sink { result.status ≡ SINK_FAILED → Rose (O.faults out.old) (O.faults out.new) }
+
+    // A script that is drawn is played and summed up, and its boxes are accounted for as those of a script that is
+    // read.
+    ensures drawn { (seed : ℕ) (lines : ℕ)
+        → said.plain_command_of (map string_bytes words.now) ≡ Some (Gen seed lines) →
+        EndsLines Summary scripts.default_limits result.status (length bank.items)
+        (scripts.drawn_lines seed lines) (O.held out.old) (O.held out.new) (O.faults out.old)
+        (O.faults out.new) }
+    ensures drawn_accounted { (seed : ℕ) (lines : ℕ)
+        → said.plain_command_of (map string_bytes words.now) ≡ Some (Gen seed lines) →
+        IsPlayed result.status
+        → IsAccounted scripts.default_limits (scripts.drawn_lines seed lines)
+        (map (λ one. record { id = one.0; keep = keep one.1; heard = heard one.1 })
+        result.heard.items) result.left.items
+        (map (λ box. record { keep = keep box; heard = heard box }) bank.items) bank.items }
+    ensures drawn_laws { (seed : ℕ) (lines : ℕ)
+        → said.plain_command_of (map string_bytes words.now) ≡ Some (Gen seed lines) →
+        IsPlayed result.status
+        → RunsByTheLaws scripts.default_limits (scripts.drawn_lines seed lines) }
 
     // Done means that nothing failed and that the input was read to its end.
     ensures steady { result.status ≡ DONE → O.faults out.new ≡ O.faults out.old }
     ensures ended { result.status ≡ DONE
+        → IsSome (said.reading_of (map string_bytes words.now))
         → IfSome (S.left input.old) (λ all. S.left input.new ≡ Some []) }
 
     // Each box that was added has heard what the history says, and each other one comes back as it was; where nothing
     // was played, all of them.
     ensures accounted { (output : Output) (caps : Capacities)
-        → commands.command_of (map string_bytes words.now) ≡ Some (Run output caps)
+        → said.reading_of (map string_bytes words.now) ≡ Some (Run output caps)
         → IsPlayed result.status → (lines : List Line) ×
         IfSome (S.left input.old) (λ script. script_of Plain script ≡ Ok lines) ×
         IsAccounted (scripts.plain_limits caps) lines
@@ -111,25 +142,30 @@ pub fn plain_top<S: Source, O: Sink>(
     ensures ascending { IsTrue (is_ascending (map (λ one. one.0) result.heard.items)) }
     ensures none_heard { IsUnplayed result.status → result.heard.items ≡ [] }
     ensures all_left { IsUnplayed result.status → result.left.items ≡ bank.items }
-    ensures replay_hears_none { commands.command_of (map string_bytes words.now) ≡ Some Replay
+    ensures replay_hears_none { said.reading_of (map string_bytes words.now) ≡ Some Replay
         → result.status ≢ NO_MEMORY → result.heard.items ≡ [] }
-    ensures replay_leaves_all { commands.command_of (map string_bytes words.now) ≡ Some Replay
+    ensures replay_leaves_all { said.reading_of (map string_bytes words.now) ≡ Some Replay
+        → result.status ≢ NO_MEMORY → result.left.items ≡ bank.items }
+    ensures dump_hears_none { said.reading_of (map string_bytes words.now) ≡ Some Dump
+        → result.status ≢ NO_MEMORY → result.heard.items ≡ [] }
+    ensures dump_leaves_all { said.reading_of (map string_bytes words.now) ≡ Some Dump
         → result.status ≢ NO_MEMORY → result.left.items ≡ bank.items }
 
     // The history of each run and of each recording that is replayed keeps the four laws.
     ensures laws { (output : Output) (caps : Capacities)
-        → commands.command_of (map string_bytes words.now) ≡ Some (Run output caps)
+        → said.reading_of (map string_bytes words.now) ≡ Some (Run output caps)
         → IsPlayed result.status → (lines : List Line) ×
         IfSome (S.left input.old) (λ script. script_of Plain script ≡ Ok lines)
         × RunsByTheLaws (scripts.plain_limits caps) lines }
-    ensures replay_laws { commands.command_of (map string_bytes words.now) ≡ Some Replay
+    ensures replay_laws { said.reading_of (map string_bytes words.now) ≡ Some Replay
         → result.status ≡ DONE →
         IfSome (S.left input.old) (λ recording. RecordsTheLaws recording) }
 
-    // A lawful script with enough boxes and room for its recording is played, and the recording of each history that
-    // the server's rules give is replayed, over edges that don't fail, unless memory runs out.
+    // A lawful script with enough boxes and room for its recording is played, so is a drawn one, the recording of each
+    // history that the server's rules give is replayed, and each well-formed recording is dumped, over edges that don't
+    // fail, unless memory runs out.
     ensures complete { (output : Output) (caps : Capacities)
-        → commands.command_of (map string_bytes words.now) ≡ Some (Run output caps)
+        → said.reading_of (map string_bytes words.now) ≡ Some (Run output caps)
         → IfSome (S.left input.old) (λ script.
         IsOkAnd (script_of Plain script)
         (λ lines. (scripts.count_adds lines ≤ length bank.items)
@@ -137,33 +173,49 @@ pub fn plain_top<S: Source, O: Sink>(
         ¬ Rose (S.faults input.old) (S.faults input.new)
         → ¬ Rose (O.faults out.old) (O.faults out.new) →
         (result.status ≡ DONE) ⊎ (result.status ≡ NO_MEMORY)) }
-    ensures replayed { commands.command_of (map string_bytes words.now) ≡ Some Replay
+    ensures replayed { said.reading_of (map string_bytes words.now) ≡ Some Replay
         → IfSome (S.left input.old) (λ recording.
         (caps : Limits) (history : List Entry) → IsRecordingOf recording caps history →
         ¬ Rose (S.faults input.old) (S.faults input.new)
         → ¬ Rose (O.faults out.old) (O.faults out.new) →
         (result.status ≡ DONE) ⊎ (result.status ≡ NO_MEMORY)) }
+    ensures dumped { said.reading_of (map string_bytes words.now) ≡ Some Dump
+        → IfSome (S.left input.old) (λ recording.
+        (caps : Limits) (entries : List Entry) → IsFormed caps entries
+        → recording ≡ record_text caps entries →
+        ¬ Rose (S.faults input.old) (S.faults input.new)
+        → ¬ Rose (O.faults out.old) (O.faults out.new) →
+        (result.status ≡ DONE) ⊎ (result.status ≡ NO_MEMORY)) }
+    ensures drawn_complete { (seed : ℕ) (lines : ℕ)
+        → said.plain_command_of (map string_bytes words.now) ≡ Some (Gen seed lines)
+        → (scripts.count_adds (scripts.drawn_lines seed lines) ≤ length bank.items)
+        × IsUnstopped scripts.default_limits (scripts.drawn_lines seed lines)
+        → ¬ Rose (O.faults out.old) (O.faults out.new) →
+        (result.status ≡ DONE) ⊎ (result.status ≡ NO_MEMORY) }
 {
-    let command = match command_of(alloc, words) {
-        Ok(Some(command)) => command,
+    let reading = match plain_command_of(alloc, words) {
+        Ok(Some(PlainCommand::Read(reading))) => reading,
+        Ok(Some(PlainCommand::Gen { seed, lines })) => {
+            return generate(alloc, seed, lines, out, bank);
+        }
         Ok(None) => return unplayed(alloc, last_line(USAGE, b"usage\n", out), bank),
         Err(_) => return unplayed(alloc, NO_MEMORY, bank),
     };
-    match read_whole(alloc, most_bytes(command), input) {
-        Input::Whole(bytes) => perform(alloc, command, bytes, out, bank),
-        Input::TooLong => unplayed(alloc, refuse_long(alloc, command, out), bank),
+    match read_whole(alloc, most_bytes(reading), input) {
+        Input::Whole(bytes) => perform(alloc, reading, bytes, out, bank),
+        Input::TooLong => unplayed(alloc, refuse_long(alloc, reading, out), bank),
         Input::Failed => unplayed(alloc, SOURCE_FAILED, bank),
         Input::NoMemory => unplayed(alloc, NO_MEMORY, bank),
     }
 }
 
 /// How many bytes a command's input may have.
-fn most_bytes(command: Command) -> usize
-    ensures { result ≡ commands.most_bytes command }
+fn most_bytes(reading: Reading) -> usize
+    ensures { result ≡ commands.most_bytes reading }
 {
-    match command {
-        Command::Run { .. } => MAX_SCRIPT,
-        Command::Replay => MAX_RECORDING as usize,
+    match reading {
+        Reading::Run { .. } => MAX_SCRIPT,
+        Reading::Replay | Reading::Dump => MAX_RECORDING as usize,
     }
 }
 
@@ -181,40 +233,43 @@ pub(crate) fn unplayed(alloc: Global, status: u8, bank: Vec<Box<dyn Method + Sen
 }
 
 /// Refuses an input that is too long.
-fn refuse_long<O: Sink>(alloc: Global, command: Command, out: &mut O) -> u8
-    ensures ends { (have : ℕ) (all : List ℕ) → commands.most_bytes command < length all
-        → EndsCommand command result have all (O.held out.old) (O.held out.new) (O.faults out.old)
+fn refuse_long<O: Sink>(alloc: Global, reading: Reading, out: &mut O) -> u8
+    ensures ends { (have : ℕ) (all : List ℕ) → commands.most_bytes reading < length all
+        → EndsReading reading result have all (O.held out.old) (O.held out.new) (O.faults out.old)
         (O.faults out.new) }
     ensures refused { (result ≡ 1) ⊎ (result ≡ 3) }
-    ensures none { command ≡ Replay → (all : List ℕ) (caps : Limits) (history : List Entry)
-        → commands.most_bytes command < length all → ¬ IsRecordingOf all caps history }
+    ensures none { reading ≡ Replay → (all : List ℕ) (caps : Limits) (history : List Entry)
+        → commands.most_bytes reading < length all → ¬ IsRecordingOf all caps history }
+    ensures unformed { reading ≡ Dump → (all : List ℕ) (caps : Limits) (entries : List Entry)
+        → commands.most_bytes reading < length all → IsFormed caps entries
+        → ¬ (all ≡ record_text caps entries) }
 {
     a_legal_history_is_recordable();
-    match command {
-        Command::Run { .. } => {
+    match reading {
+        Reading::Run { .. } => {
             let fault = ScriptFault {
                 line: 0,
                 kind: ScriptFault::TOO_LONG,
             };
             refuse(alloc, fault, out)
         }
-        Command::Replay => malformed(alloc, 1_073_741_824, out),
+        Reading::Replay | Reading::Dump => malformed(alloc, 1_073_741_824, out),
     }
 }
 
 /// Does what the command says with its whole input.
 fn perform<O: Sink>(
     alloc: Global,
-    command: Command,
+    reading: Reading,
     bytes: Vec<u8>,
     out: &mut O,
     bank: Vec<Box<dyn Method + Send>>,
 ) -> Ended
-    requires size { length bytes.items ≤ commands.most_bytes command }
-    requires range { HasRanges command }
-    ensures ends { EndsCommand command result.status (length bank.items) bytes.items
+    requires size { length bytes.items ≤ commands.most_bytes reading }
+    requires range { IsLawfulReading reading }
+    ensures ends { EndsReading reading result.status (length bank.items) bytes.items
         (O.held out.old) (O.held out.new) (O.faults out.old) (O.faults out.new) }
-    ensures accounted { (output : Output) (caps : Capacities) → command ≡ Run output caps
+    ensures accounted { (output : Output) (caps : Capacities) → reading ≡ Run output caps
         → IsPlayed result.status
         → (lines : List Line) × (script_of Plain bytes.items ≡ Ok lines)
         × IsAccounted (scripts.plain_limits caps) lines
@@ -222,38 +277,53 @@ fn perform<O: Sink>(
         result.heard.items) result.left.items
         (map (λ box. record { keep = keep box; heard = heard box }) bank.items) bank.items }
     ensures ascending { IsTrue (is_ascending (map (λ one. one.0) result.heard.items)) }
-    ensures laws { (output : Output) (caps : Capacities) → command ≡ Run output caps
+    ensures laws { (output : Output) (caps : Capacities) → reading ≡ Run output caps
         → IsPlayed result.status →
         (lines : List Line) × (script_of Plain bytes.items ≡ Ok lines)
         × RunsByTheLaws (scripts.plain_limits caps) lines }
-    ensures replay_laws { command ≡ Replay → result.status ≡ DONE → RecordsTheLaws bytes.items }
+    ensures replay_laws { reading ≡ Replay → result.status ≡ DONE → RecordsTheLaws bytes.items }
     ensures none_heard { (result.status ≡ REFUSED) ⊎ (result.status ≡ BANK_SHORT)
         → result.heard.items ≡ [] }
     ensures all_left { (result.status ≡ REFUSED) ⊎ (result.status ≡ BANK_SHORT)
         → result.left.items ≡ bank.items }
-    ensures replay_hears_none { command ≡ Replay → result.heard.items ≡ [] }
-    ensures replay_leaves_all { command ≡ Replay → result.left.items ≡ bank.items }
-    ensures replayed { command ≡ Replay → (caps : Limits) (history : List Entry)
+    ensures replay_hears_none { reading ≡ Replay → result.heard.items ≡ [] }
+    ensures replay_leaves_all { reading ≡ Replay → result.left.items ≡ bank.items }
+    ensures dump_hears_none { reading ≡ Dump → result.heard.items ≡ [] }
+    ensures dump_leaves_all { reading ≡ Dump → result.left.items ≡ bank.items }
+    ensures replayed { reading ≡ Replay → (caps : Limits) (history : List Entry)
         → IsRecordingOf bytes.items caps history
+        → (result.status ≡ DONE) ⊎ (result.status ≡ NO_MEMORY) ⊎ (result.status ≡ SINK_FAILED) }
+    ensures dumped { reading ≡ Dump → (caps : Limits) (entries : List Entry)
+        → IsFormed caps entries → bytes.items ≡ record_text caps entries
         → (result.status ≡ DONE) ⊎ (result.status ≡ NO_MEMORY) ⊎ (result.status ≡ SINK_FAILED) }
     ensures sink { result.status ≡ SINK_FAILED → Rose (O.faults out.old) (O.faults out.new) }
 {
-    match command {
-        Command::Run { output, caps } => run(alloc, output, plain_limits(caps), bytes, out, bank),
-        Command::Replay => unplayed(alloc, write_replay(alloc, &bytes, out), bank),
+    match reading {
+        Reading::Run { output, caps } => {
+            run(
+                alloc,
+                report_of(output),
+                plain_limits(caps),
+                bytes,
+                out,
+                bank,
+            )
+        }
+        Reading::Replay => unplayed(alloc, write_replay(alloc, &bytes, out), bank),
+        Reading::Dump => unplayed(alloc, write_dump(alloc, &bytes, out), bank),
     }
 }
 
 /// Reads and plays the script. The memory of the input is given back before anything is played.
 fn run<O: Sink>(
     alloc: Global,
-    output: Output,
+    report: Report,
     caps: Caps,
     bytes: Vec<u8>,
     out: &mut O,
     bank: Vec<Box<dyn Method + Send>>,
 ) -> Ended
-    ensures ends { EndsRun output caps result.status (length bank.items) bytes.items
+    ensures ends { EndsRun report caps result.status (length bank.items) bytes.items
         (O.held out.old) (O.held out.new) (O.faults out.old) (O.faults out.new) }
     ensures accounted { IsPlayed result.status
         → (lines : List Line) × (script_of Plain bytes.items ≡ Ok lines)
@@ -273,21 +343,50 @@ fn run<O: Sink>(
     let read = Script::read(alloc, &bytes, Mode::Plain);
     drop(bytes);
     match read {
-        Ok(script) => run_lines(alloc, output, caps, script.into_lines(), out, bank),
+        Ok(script) => run_lines(alloc, report, caps, script.into_lines(), out, bank),
         Err(ScriptRefusal::Fault(fault)) => unplayed(alloc, refuse(alloc, fault, out), bank),
         Err(ScriptRefusal::NoMemory) => unplayed(alloc, NO_MEMORY, bank),
     }
 }
 
+/// Draws a script, plays it, and writes its summary.
+fn generate<O: Sink>(
+    alloc: Global,
+    seed: u64,
+    lines: u32,
+    out: &mut O,
+    bank: Vec<Box<dyn Method + Send>>,
+) -> Ended
+    requires { lines ≤ MAX_GENERATED_LINES }
+    ensures ends { EndsLines Summary scripts.default_limits result.status (length bank.items)
+        (scripts.drawn_lines seed lines) (O.held out.old) (O.held out.new) (O.faults out.old)
+        (O.faults out.new) }
+    ensures accounted { IsPlayed result.status
+        → IsAccounted scripts.default_limits (scripts.drawn_lines seed lines)
+        (map (λ one. record { id = one.0; keep = keep one.1; heard = heard one.1 })
+        result.heard.items) result.left.items
+        (map (λ box. record { keep = keep box; heard = heard box }) bank.items) bank.items }
+    ensures ascending { IsTrue (is_ascending (map (λ one. one.0) result.heard.items)) }
+    ensures laws { IsPlayed result.status
+        → RunsByTheLaws scripts.default_limits (scripts.drawn_lines seed lines) }
+    ensures none_heard { result.status ≡ BANK_SHORT → result.heard.items ≡ [] }
+    ensures all_left { result.status ≡ BANK_SHORT → result.left.items ≡ bank.items }
+{
+    match drawn_lines(alloc, seed, lines) {
+        Ok(lines) => run_lines(alloc, Report::Summary, default_limits(), lines, out, bank),
+        Err(_) => unplayed(alloc, NO_MEMORY, bank),
+    }
+}
+
 fn run_lines<O: Sink>(
     alloc: Global,
-    output: Output,
+    report: Report,
     caps: Caps,
     lines: Vec<Line>,
     out: &mut O,
     bank: Vec<Box<dyn Method + Send>>,
 ) -> Ended
-    ensures ends { EndsLines output caps result.status (length bank.items) lines.items
+    ensures ends { EndsLines report caps result.status (length bank.items) lines.items
         (O.held out.old) (O.held out.new) (O.faults out.old) (O.faults out.new) }
     ensures accounted { IsPlayed result.status
         → IsAccounted caps lines.items
@@ -313,7 +412,7 @@ fn run_lines<O: Sink>(
                 left,
             },
         ) => Ended {
-            status: write_recorded(alloc, output, &recorded, out),
+            status: write_recorded(alloc, report, &recorded, out),
             heard,
             left,
         },

@@ -1,18 +1,22 @@
 // Writes what the commands print.
 ghost use Rattle.osc_top.specs.declared.status.TheConstants.{DONE, NO_MEMORY, RECORDING_FULL};
-ghost use Rattle.std.specs.Prelude.{◌≡◌, ◌≢◌, ◌⊎◌, ◌≤◌, List, length, IfOk};
+ghost use Rattle.std.specs.Prelude.{◌≡◌, ◌≢◌, ◌⊎◌, ◌≤◌, ◌++◌, List, length, IfOk};
 ghost use Rattle.std.specs.Option.{option_map};
 ghost use Rattle.osc_model.specs.Limits.{Limits, max_recording};
 ghost use Rattle.osc_model.specs.Events.{Entry};
 ghost use Rattle.osc_record.specs.Shown.{room_of};
+ghost use Rattle.osc_model.specs.Recordings.{record_text};
+ghost use Rattle.osc_replay.specs.Counted as counts;
 ghost use Rattle.osc_replay.specs.Disagreeing.{IsRecordingOf};
+ghost use Rattle.osc_replay.specs.Formed.{IsFormed};
 ghost use Rattle.osc_script.specs.declared.line.Line.{Line};
-ghost use Rattle.osc_top.specs.Printing.{refusal_text, malformed_text, disagrees_text, bank_short_text};
+ghost use Rattle.osc_top.specs.Printing.{refusal_text, malformed_text, disagrees_text, bank_short_text, stop_text};
 ghost use Rattle.osc_top.specs.Recorded.{recorded_text, status_of};
-ghost use Rattle.osc_top.specs.Ends.{IsRunOf, EndsText, EndsLine, EndsPlayed, EndsReplay, RecordsTheLaws};
+ghost use Rattle.osc_top.specs.Ends.{IsRunOf, EndsText, EndsLine, EndsPlayed, EndsReplay, EndsDump, RecordsTheLaws};
 
 use crate::lines::{bank_short_line, disagrees_lines, full_line, malformed_line, refusal_line};
 use crate::recorded::Recorded;
+use crate::report::Report;
 use crate::status::{BANK_SHORT, DONE, NO_MEMORY, RECORDING_FULL, REFUSED, SINK_FAILED};
 use crate::whole::{Written, write_whole};
 use osc_edge::Sink;
@@ -20,15 +24,14 @@ use osc_laws::laws::every_history_keeps_the_laws;
 use osc_message::Bytes;
 use osc_model::laws::a_legal_history_is_recordable;
 use osc_print::Text;
-use osc_replay::{ReplayFault, replay};
+use osc_replay::{DumpFault, ReplayFault, dump, replay, summary};
 use osc_script::ScriptFault;
-use osc_words::Output;
 use std::alloc::{AllocError, Global};
 
 /// Writes what a script came to.
 pub(crate) fn write_recorded<O: Sink>(
     alloc: Global,
-    output: Output,
+    report: Report,
     recorded: &Recorded,
     out: &mut O,
 ) -> u8
@@ -38,12 +41,13 @@ pub(crate) fn write_recorded<O: Sink>(
     ensures { (caps : Limits) (lines : List Line)
         → IsRunOf recorded.now.bytes.items recorded.now.faults
         (option_map room_of recorded.now.stop) caps lines →
-        EndsPlayed output caps result lines (O.held out.old) (O.held out.new) (O.faults out.old)
+        EndsPlayed report caps result lines (O.held out.old) (O.held out.new) (O.faults out.old)
         (O.faults out.new) }
 {
-    match output {
-        Output::Recording => write_text(played_status(recorded), &recorded.bytes, out),
-        Output::Text => write_run_text(alloc, recorded, out),
+    match report {
+        Report::Recording => write_text(played_status(recorded), &recorded.bytes, out),
+        Report::Text => write_run_text(alloc, recorded, out),
+        Report::Summary => write_summary(alloc, recorded, out),
     }
 }
 
@@ -71,6 +75,37 @@ pub(crate) fn write_run_text<O: Sink>(alloc: Global, recorded: &Recorded, out: &
         Ok(text) => write_text(played_status(recorded), text.bytes(), out),
         Err(_) => NO_MEMORY,
     }
+}
+
+/// Writes the summary of what was recorded, and where it was stopped the line on that.
+fn write_summary<O: Sink>(alloc: Global, recorded: &Recorded, out: &mut O) -> u8
+    requires { (caps : Limits) × (history : List Entry)
+        × IsRecordingOf recorded.now.bytes.items caps history }
+    ensures { (caps : Limits) (history : List Entry)
+        → IsRecordingOf recorded.now.bytes.items caps history →
+        EndsText (status_of (option_map room_of recorded.now.stop)) result
+        (counts.summary caps history ++ stop_text (option_map room_of recorded.now.stop))
+        (O.held out.old) (O.held out.new) (O.faults out.old) (O.faults out.new) }
+{
+    match summary_text(alloc, recorded) {
+        Ok(text) => write_text(played_status(recorded), text.bytes(), out),
+        Err(_) => NO_MEMORY,
+    }
+}
+
+fn summary_text(alloc: Global, recorded: &Recorded) -> Result<Text, AllocError>
+    requires { (caps : Limits) × (history : List Entry)
+        × IsRecordingOf recorded.now.bytes.items caps history }
+    ensures { (caps : Limits) (history : List Entry)
+        → IsRecordingOf recorded.now.bytes.items caps history
+        → IfOk result (λ text. text ≡ counts.summary caps history
+        ++ stop_text (option_map room_of recorded.now.stop)) }
+{
+    let mut text = summary(alloc, &recorded.bytes)?;
+    if let Some(room) = recorded.stop {
+        full_line(&mut text, room)?;
+    }
+    Ok(text)
 }
 
 /// The printed history, the lines of the faults, and where it was stopped the line on that. An `Err` is want of memory.
@@ -116,6 +151,21 @@ pub(crate) fn write_replay<O: Sink>(alloc: Global, bytes: &[u8], out: &mut O) ->
             },
         ) => disagrees(alloc, entry, &kept, &computed, out),
         Err(ReplayFault::NoMemory) => NO_MEMORY,
+    }
+}
+
+/// Writes the dump of the recording, or the place where it is malformed.
+pub(crate) fn write_dump<O: Sink>(alloc: Global, bytes: &[u8], out: &mut O) -> u8
+    requires { length bytes.now ≤ max_recording }
+    ensures ends { EndsDump result bytes.now (O.held out.old) (O.held out.new) (O.faults out.old)
+        (O.faults out.new) }
+    ensures complete { (caps : Limits) (entries : List Entry) → IsFormed caps entries
+        → bytes.now ≡ record_text caps entries → (result ≡ 0) ⊎ (result ≡ 3) ⊎ (result ≡ 5) }
+{
+    match dump(alloc, bytes) {
+        Ok(text) => write_text(DONE, text.bytes(), out),
+        Err(DumpFault::Malformed { at }) => malformed(alloc, at, out),
+        Err(DumpFault::NoMemory) => NO_MEMORY,
     }
 }
 

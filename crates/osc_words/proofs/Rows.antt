@@ -1,23 +1,24 @@
 -- What some lines of words say.
 use Rattle.std.proofs.Common.{◌≡◌, refl, [], ◌∷◌, Some, None, codes}
 use Rattle.clap.proofs.OnLiterals.{clap_on_literals}
-use Rattle.osc_words.specs.Commands.{command_of}
+use Rattle.osc_words.specs.Commands.{command_of, to_read}
 use Rattle.osc_words.specs.Reading.{found_by}
 use Rattle.osc_words.specs.declared.command.Capacities.{Capacities}
 use Rattle.osc_words.specs.declared.command.Output.TheVariants as output
-use Rattle.osc_words.specs.declared.command.PlainCommand.TheVariants.{Run, Replay, Gen}
+use Rattle.osc_words.specs.declared.command.Reading.TheVariants.{Run, Replay}
+use Rattle.osc_words.specs.declared.command.PlainCommand.TheVariants.{Gen}
 use Rattle.osc_words.specs.declared.command.LiveCommand.TheVariants.{Lanes, Serve}
 use Rattle.osc_words.specs.declared.command.Command.TheVariants.{Plain, Live}
 
 abbrev defaults : Capacities
 defaults = record { units = 4096; blocks = 16384; methods = 1024; nodes = 4096; recording = 67108864 }
 
-run : command_of (codes "run" ∷ []) ≡ Some (Plain (Run output.Text defaults))
+run : command_of (codes "run" ∷ []) ≡ Some (to_read (Run output.Text defaults))
 unfolding clap_on_literals command_of found_by
 run = refl
 
 run_bytes : command_of (codes "run" ∷ codes "--nodes" ∷ codes "1" ∷ codes "--bytes" ∷ codes "--units=7" ∷ [])
-    ≡ Some (Plain (Run output.Recording (record defaults { nodes = 1; units = 7 })))
+    ≡ Some (to_read (Run output.Recording (record defaults { nodes = 1; units = 7 })))
 unfolding clap_on_literals command_of found_by
 run_bytes = refl
 
@@ -49,7 +50,7 @@ stray : command_of (codes "replay" ∷ codes "it" ∷ []) ≡ None
 unfolding clap_on_literals command_of found_by
 stray = refl
 
-trailing : command_of (codes "replay" ∷ codes "--" ∷ []) ≡ Some (Plain Replay)
+trailing : command_of (codes "replay" ∷ codes "--" ∷ []) ≡ Some (to_read Replay)
 unfolding clap_on_literals command_of found_by
 trailing = refl
 

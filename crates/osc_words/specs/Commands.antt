@@ -16,8 +16,10 @@ use Rattle.osc_words.specs.declared.verb.Verb.TheVariants as verb
 use Rattle.osc_words.specs.declared.command.Capacities.{Capacities}
 use Rattle.osc_words.specs.declared.command.Output.{Output}
 use Rattle.osc_words.specs.declared.command.Output.TheVariants as output
+use Rattle.osc_words.specs.declared.command.Reading.{Reading}
+use Rattle.osc_words.specs.declared.command.Reading.TheVariants.{Run, Replay, Dump}
 use Rattle.osc_words.specs.declared.command.PlainCommand.{PlainCommand}
-use Rattle.osc_words.specs.declared.command.PlainCommand.TheVariants.{Run, Replay, Dump, Gen}
+use Rattle.osc_words.specs.declared.command.PlainCommand.TheVariants.{Read, Gen}
 use Rattle.osc_words.specs.declared.command.LiveCommand.{LiveCommand}
 use Rattle.osc_words.specs.declared.command.LiveCommand.TheVariants.{Lanes, Serve}
 use Rattle.osc_words.specs.declared.command.Command.{Command}
@@ -73,10 +75,13 @@ serve_of rows =
     serve_from (number_of Port rows) (number_of Links rows) (number_of Count rows)
     (number_of Idle rows) (caps_of rows)
 
+abbrev pub to_read : Reading → Command
+to_read reading = Plain (Read reading)
+
 abbrev pub said_by : Verb → List Row → Option Command
-said_by verb.Run rows = option_map (λ caps. Plain (Run (output_of rows) caps)) (caps_of rows)
-said_by verb.Replay rows = Some (Plain Replay)
-said_by verb.Dump rows = Some (Plain Dump)
+said_by verb.Run rows = option_map (λ caps. to_read (Run (output_of rows) caps)) (caps_of rows)
+said_by verb.Replay rows = Some (to_read Replay)
+said_by verb.Dump rows = Some (to_read Dump)
 said_by verb.Gen rows = gen_of rows
 said_by verb.Lanes rows = option_map (λ caps. Live (Lanes caps)) (caps_of rows)
 said_by verb.Serve rows = serve_of rows
@@ -103,6 +108,14 @@ live_in (Live command) = Some command
 -- the command of `osc` that the words say
 abbrev pub plain_command_of : List (List ℕ) → Option PlainCommand
 plain_command_of words = option_and_then plain_in (command_of words)
+
+abbrev pub reading_in : PlainCommand → Option Reading
+reading_in (Read reading) = Some reading
+reading_in (Gen seed lines) = None
+
+-- the command of `osc` that reads an input
+abbrev pub reading_of : List (List ℕ) → Option Reading
+reading_of words = option_and_then reading_in (plain_command_of words)
 
 -- the command of `oscd` that the words say
 abbrev pub live_command_of : List (List ℕ) → Option LiveCommand

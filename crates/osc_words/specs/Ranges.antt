@@ -3,8 +3,10 @@ use Rattle.std.specs.Prelude.{ℕ, ◌+◌, ◌≤◌}
 use Rattle.osc_words.specs.Options.{IsInRange, row_of}
 use Rattle.osc_words.specs.declared.options.Quantity.TheVariants.{Units, Blocks, Methods, Nodes, Recording, Lines, Port, Links, Count, Idle}
 use Rattle.osc_words.specs.declared.command.Capacities.{Capacities}
+use Rattle.osc_words.specs.declared.command.Reading.{Reading}
+use Rattle.osc_words.specs.declared.command.Reading.TheVariants.{Run, Replay, Dump}
 use Rattle.osc_words.specs.declared.command.PlainCommand.{PlainCommand}
-use Rattle.osc_words.specs.declared.command.PlainCommand.TheVariants.{Run, Replay, Dump, Gen}
+use Rattle.osc_words.specs.declared.command.PlainCommand.TheVariants.{Read, Gen}
 use Rattle.osc_words.specs.declared.command.LiveCommand.{LiveCommand}
 use Rattle.osc_words.specs.declared.command.LiveCommand.TheVariants.{Lanes, Serve}
 use Rattle.osc_words.specs.declared.command.Command.{Command}
@@ -26,10 +28,13 @@ pub record IsServable (port links count idle : ℕ) (caps : Capacities) : Type 0
   pub quiets : IsInRange Idle idle
   pub capacities : AreInRange caps
 
+abbrev pub IsLawfulReading : Reading → Type 0
+IsLawfulReading (Run output caps) = AreInRange caps
+IsLawfulReading Replay = Unit {0}
+IsLawfulReading Dump = Unit {0}
+
 abbrev pub IsLawfulPlain : PlainCommand → Type 0
-IsLawfulPlain (Run output caps) = AreInRange caps
-IsLawfulPlain Replay = Unit {0}
-IsLawfulPlain Dump = Unit {0}
+IsLawfulPlain (Read reading) = IsLawfulReading reading
 IsLawfulPlain (Gen seed lines) = IsInRange Lines lines
 
 abbrev pub IsLawfulLive : LiveCommand → Type 0

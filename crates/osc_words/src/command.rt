@@ -1,4 +1,8 @@
 // The commands of the programs.
+ghost use Rattle.std.specs.Prelude.{◌≡◌};
+ghost use Rattle.osc_words.specs.Ranges.{AreInRange, default_capacities};
+
+use crate::options::Quantity;
 
 /// How much a server holds, as far as words set it: queued units, blocks of 64 bytes for their messages, methods, nodes
 /// of the methods' addresses, and bytes of recording.
@@ -11,6 +15,20 @@ pub struct Capacities {
     pub recording: u32,
 }
 
+/// The capacities where no option is given.
+pub fn default_capacities() -> Capacities
+    ensures value { result ≡ default_capacities }
+    ensures range { AreInRange result }
+{
+    Capacities {
+        units: Quantity::Units.row().default as u32,
+        blocks: Quantity::Blocks.row().default as u32,
+        methods: Quantity::Methods.row().default as u32,
+        nodes: Quantity::Nodes.row().default as u32,
+        recording: Quantity::Recording.row().default as u32,
+    }
+}
+
 /// What a run writes.
 #[derive(Clone, Copy, Debug, PartialEq, Eq)]
 pub enum Output {
@@ -20,16 +38,23 @@ pub enum Output {
     Recording,
 }
 
-/// A command of `osc`.
+/// A command of `osc` that reads an input.
 #[derive(Clone, Copy, Debug, PartialEq, Eq)]
-pub enum PlainCommand {
+pub enum Reading {
     /// To play a script.
     Run { output: Output, caps: Capacities },
     /// To print the history of a recording, computed again.
     Replay,
     /// To print the entries of a recording as they stand there.
     Dump,
-    /// To make a script of so many lines from a seed, and to play it.
+}
+
+/// A command of `osc`.
+#[derive(Clone, Copy, Debug, PartialEq, Eq)]
+pub enum PlainCommand {
+    /// To do something with an input.
+    Read(Reading),
+    /// To draw a script of so many lines from a seed, and to play it.
     Gen { seed: u64, lines: u32 },
 }
 

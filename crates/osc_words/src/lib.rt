@@ -9,5 +9,7 @@ mod reading;
 mod said;
 mod verb;
 
-pub use command::{Capacities, Command, LiveCommand, Output, PlainCommand};
+pub use command::{
+    Capacities, Command, LiveCommand, Output, PlainCommand, Reading, default_capacities,
+};
 pub use said::{command_of, live_command_of, plain_command_of};

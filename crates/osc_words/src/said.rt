@@ -6,7 +6,7 @@ ghost use Rattle.osc_words.specs.Commands as commands;
 ghost use Rattle.osc_words.specs.Commands.{caps_of, gen_of, is_given, number_of, said_by, serve_of};
 ghost use Rattle.osc_words.specs.Ranges.{AreInRange, IsLawful, IsLawfulPlain, IsLawfulLive};
 
-use crate::command::{Capacities, Command, LiveCommand, Output, PlainCommand};
+use crate::command::{Capacities, Command, LiveCommand, Output, PlainCommand, Reading};
 use crate::number::number_within;
 use crate::options::{Flag, Quantity};
 use crate::reading::read;
@@ -71,18 +71,24 @@ fn command_from(verb: Verb, found: &ArgMatches<'_>) -> Option<Command>
     ensures lawful { IfSome result IsLawful }
 {
     match verb {
-        Verb::Run => Some(Command::Plain(PlainCommand::Run {
+        Verb::Run => Some(reading(Reading::Run {
             output: output_in(found),
             caps: caps_in(found)?,
         })),
-        Verb::Replay => Some(Command::Plain(PlainCommand::Replay)),
-        Verb::Dump => Some(Command::Plain(PlainCommand::Dump)),
+        Verb::Replay => Some(reading(Reading::Replay)),
+        Verb::Dump => Some(reading(Reading::Dump)),
         Verb::Gen => gen_in(found),
         Verb::Lanes => Some(Command::Live(LiveCommand::Lanes {
             caps: caps_in(found)?,
         })),
         Verb::Serve => serve_in(found),
     }
+}
+
+fn reading(reading: Reading) -> Command
+    ensures { result ≡ commands.to_read reading }
+{
+    Command::Plain(PlainCommand::Read(reading))
 }
 
 fn output_in(found: &ArgMatches<'_>) -> Output
