@@ -1,6 +1,7 @@
 -- Atoms: what stands in the bytes of a packet, written. Every atom has a size that is a multiple of
 -- 4.
-use Rattle.std.specs.Prelude.{ℕ, ◌+◌, ◌-◌, ◌%◌, ◌<◌, Bool, not, ◌==◌, List, ◌++◌, length, slice_index, take, drop, replicate}
+use Rattle.std.specs.Prelude.{ℕ, ◌+◌, ◌-◌, ◌%◌, ◌<◌, Bool, not, ◌==◌, List, ◌++◌, length}
+use Rattle.std.specs.Prelude.{slice_index, take, drop, replicate}
 use Rattle.std.specs.List.{list_all}
 use Rattle.std.specs.Int.{w32, w64, to_be_bytes}
 

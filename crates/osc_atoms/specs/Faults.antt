@@ -1,7 +1,9 @@
 -- The faults of bytes that several crates name, each with its number and its place.
 use Rattle.std.specs.Prelude.{ℕ}
 use Rattle.osc_atoms.specs.declared.fault.Fault.{Fault}
-use Rattle.osc_atoms.specs.declared.fault.TheConstants.Fault.{EMPTY, NOT_FOUR, TOO_LONG, START, UNTERMINATED, PADDING, BLOB_SIZE, SHORT}
+use Rattle.osc_atoms.specs.declared.fault.TheConstants.Fault.{EMPTY, NOT_FOUR, TOO_LONG, START}
+use Rattle.osc_atoms.specs.declared.fault.TheConstants.Fault.{UNTERMINATED, PADDING, BLOB_SIZE}
+use Rattle.osc_atoms.specs.declared.fault.TheConstants.Fault.{SHORT}
 
 -- no byte
 abbrev pub empty : Fault

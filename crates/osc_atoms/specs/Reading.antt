@@ -1,6 +1,8 @@
 -- Atoms, read: the value at a place and the place after the atom, or the first fault. `laws` ties
 -- them to what is written.
-use Rattle.std.specs.Prelude.{ℕ, ◌+◌, ◌-◌, ◌^◌, Bool, not, ◌&&◌, ◌==◌, nat_lt, nat_le, if◌then◌else◌, List, length, take, drop, Option, Some, None, position, Result, Ok, Err}
+use Rattle.std.specs.Prelude.{ℕ, ◌+◌, ◌-◌, ◌^◌, Bool, not, ◌&&◌, ◌==◌, nat_lt, nat_le}
+use Rattle.std.specs.Prelude.{if◌then◌else◌, List, length, take, drop, Option, Some, None, position}
+use Rattle.std.specs.Prelude.{Result, Ok, Err}
 use Rattle.std.specs.Int.{w32, w64, from_be_bytes}
 use Rattle.osc_atoms.specs.declared.fault.Fault.{Fault}
 use Rattle.osc_atoms.specs.Atoms.{string_end, blob_end}

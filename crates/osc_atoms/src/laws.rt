@@ -1,10 +1,14 @@
 //! What the definitions of atoms say of each other. These functions do nothing; their contracts are the laws.
-ghost use Rattle.std.specs.Prelude.{◌≡◌, ◌↔◌, ◌+◌, ◌%◌, ◌<◌, ◌≤◌, ◌^◌, ℕ, IsTrue, List, [], ◌∷◌, ◌++◌, length, drop, codes, Ok, Err};
+ghost use Rattle.std.specs.Prelude.{◌≡◌, ◌↔◌, ◌+◌, ◌%◌, ◌<◌, ◌≤◌, ◌^◌, ℕ, IsTrue, List, [], ◌∷◌};
+ghost use Rattle.std.specs.Prelude.{◌++◌, length, drop, codes, Ok, Err};
 ghost use Rattle.osc_atoms.specs.declared.fault.Fault.{Fault};
-ghost use Rattle.osc_atoms.specs.Atoms.{AreBytes, word, tag, string, string_end, has_no_zero, blob, blob_end};
+ghost use Rattle.osc_atoms.specs.Atoms.{AreBytes, word, tag, string, string_end, has_no_zero, blob};
+ghost use Rattle.osc_atoms.specs.Atoms.{blob_end};
 ghost use Rattle.osc_atoms.specs.Faults.{unterminated, padding, blob_size, short};
 ghost use Rattle.osc_atoms.specs.Reading.{word_read, tag_read, string_read, blob_read};
-ghost use Rattle.osc_atoms.specs.Standing.{StartsWithWord, StartsWithTag, StartsWithString, StartsWithBlob, NamesShort, NamesStringFault, NamesBlobFault};
+ghost use Rattle.osc_atoms.specs.Standing.{StartsWithWord, StartsWithTag, StartsWithString};
+ghost use Rattle.osc_atoms.specs.Standing.{StartsWithBlob, NamesShort, NamesStringFault};
+ghost use Rattle.osc_atoms.specs.Standing.{NamesBlobFault};
 
 /// What is encoded is read again, whatever follows it.
 pub fn encoded_is_read_again()

@@ -1,6 +1,7 @@
 // Strings, read.
 ghost use Rattle.osc_atoms.specs.declared.limits.TheConstants.{MAX_BYTES};
-ghost use Rattle.std.specs.Prelude.{◌≡◌, ◌+◌, ◌%◌, ◌<◌, ◌≤◌, ℕ, List, length, position, IfOk, IfErr, IsOkAnd, IsTrue, is_ok, Ok};
+ghost use Rattle.std.specs.Prelude.{◌≡◌, ◌+◌, ◌%◌, ◌<◌, ◌≤◌, ℕ, List, length, position, IfOk};
+ghost use Rattle.std.specs.Prelude.{IfErr, IsOkAnd, IsTrue, is_ok, Ok};
 ghost use Rattle.std.specs.Result.{result_map_both};
 ghost use Rattle.osc_atoms.specs.declared.fault.Fault.{Fault};
 ghost use Rattle.osc_atoms.specs.Atoms.{string};

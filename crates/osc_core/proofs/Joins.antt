@@ -1,5 +1,6 @@
 -- Units that enter the queue and leave it, with what is stored of them.
-use Rattle.std.proofs.Common.{◌≡◌, ℕ, ◌+◌, ◌<◌, Bool, true, false, cond, List, [], ◌∷◌, ◌++◌, map, insert, take, drop, refl, sym, ap, subst, max, ◌∙◌, not, one-add, arith}
+use Rattle.std.proofs.Common.{◌≡◌, ℕ, ◌+◌, ◌<◌, Bool, true, false, cond, List, [], ◌∷◌, ◌++◌, map, insert, take, drop, refl, sym, ap, subst, max, ◌∙◌, not}
+use Rattle.std.proofs.Common.{one-add, arith}
 use Rattle.std.specs.List.{AllByRecursion, position_or_len}
 use Rattle.std.proofs.lemmas.List.{map-append, take-map, drop-map}
 use Rattle.osc_packet.specs.Units.{TimedUnit, blocks}

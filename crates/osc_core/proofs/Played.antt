@@ -1,5 +1,6 @@
 -- A server that is played and recorded.
-use Rattle.std.proofs.Common.{◌≡◌, ◌≢◌, ℕ, ◌+◌, ◌-◌, ◌<◌, ◌≤◌, ◌==◌, Bool, true, false, cond, nat_le, nat_lt, List, [], ◌∷◌, ◌++◌, ◌*◌, length, length-append, map, Option, Some, None, refl, sym, ap, subst, ◌∙◌, arith}
+use Rattle.std.proofs.Common.{◌≡◌, ◌≢◌, ℕ, ◌+◌, ◌-◌, ◌<◌, ◌≤◌, ◌==◌, Bool, true, false, cond, nat_le, nat_lt, List, [], ◌∷◌, ◌++◌, ◌*◌, length, length-append}
+use Rattle.std.proofs.Common.{map, Option, Some, None, refl, sym, ap, subst, ◌∙◌, arith}
 use Rattle.std.proofs.lemmas.List.{append-nil}
 use Rattle.osc_packet.specs.Reading.{units_read}
 use Rattle.osc_packet.specs.Units.{TimedUnit, blocks_of}
@@ -9,7 +10,8 @@ use Rattle.osc_tree.specs.Adding.{Refusal, add_refusal}
 use Rattle.osc_model.specs.Limits.{Limits}
 use Rattle.osc_model.specs.State.{State, Queued, AreNumbered, opening, registry}
 use Rattle.osc_model.specs.Counts.{free_places, free_blocks, free_bytes}
-use Rattle.osc_model.specs.Events.{Event, enrol, submit, add, remove, tick, release, Answer, Entry, Hit, number, callers_full, queued, units_full, pool_full, ticked, clock_back, released, nothing_due, record_full, adds_entry}
+use Rattle.osc_model.specs.Events.{Event, enrol, submit, add, remove, tick, release, Answer, Entry, Hit, number, callers_full, queued, units_full, pool_full}
+use Rattle.osc_model.specs.Events.{ticked, clock_back, released, nothing_due, record_full, adds_entry}
 use Rattle.osc_model.specs.Recordings.{IsRecordable, FitsRow, row_of, entry_size, entry_text, record_text}
 use Rattle.osc_model.specs.Step.{Stepped, step, decided, leaves, after_submit, add_at, remove_at, releases, release_first}
 use Rattle.osc_model.specs.History.{IsLawful, AddsEntry, LegalFrom, Legal, IsSound, IsCounted, after, Performance, state_of, stepped_in, onward}

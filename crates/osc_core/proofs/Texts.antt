@@ -1,5 +1,6 @@
 -- The texts that a server stands for.
-use Rattle.std.proofs.Common.{◌≡◌, ◌≢◌, ℕ, zero, suc, ◌+◌, ◌≤◌, ◌==◌, Bool, true, false, cond, nat_lt, is_some, List, [], ◌∷◌, ◌++◌, length, length-append, append_assoc, map, Option, Some, None, refl, sym, ap, subst, ◌∙◌, arith}
+use Rattle.std.proofs.Common.{◌≡◌, ◌≢◌, ℕ, zero, suc, ◌+◌, ◌≤◌, ◌==◌, Bool, true, false, cond, nat_lt, is_some, List, [], ◌∷◌, ◌++◌, length, length-append}
+use Rattle.std.proofs.Common.{append_assoc, map, Option, Some, None, refl, sym, ap, subst, ◌∙◌, arith}
 use Rattle.std.specs.List.{cons_option, list_all, AllByRecursion, Contains}
 use Rattle.std.specs.Option.{option_map}
 use Rattle.std.specs.Prelude.{not}
@@ -19,7 +20,8 @@ use Rattle.osc_record.specs.Reading.{entry_in}
 use Rattle.osc_record.proofs.Kept.{record_more}
 use Rattle.osc_turn.specs.Jobs.{StandsNext}
 use Rattle.osc_core.specs.Ids.{is_ascending}
-use Rattle.osc_core.specs.Standing.{mark_of, mark_after, text_with, AreTexts, as_many, history_in, CarriesMark, AreMarked, StandsFor, mark_in, mark_by, texts_of}
+use Rattle.osc_core.specs.Standing.{mark_of, mark_after, text_with, AreTexts, as_many, history_in, CarriesMark, AreMarked, StandsFor, mark_in, mark_by}
+use Rattle.osc_core.specs.Standing.{texts_of}
 use Rattle.osc_core.proofs.Added.{IsAdded, methods_added}
 use Rattle.osc_core.proofs.Ascents.{both, behind}
 use Rattle.osc_core.proofs.Hearing.{ids_stay}

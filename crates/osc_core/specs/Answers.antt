@@ -2,7 +2,9 @@
 use Rattle.std.specs.Prelude.{◌≡◌, ℕ, List, length}
 use Rattle.osc_atoms.specs.declared.room.Room.{Room as CodeRoom}
 use Rattle.osc_tree.specs.Adding.{taken, under_method, is_container, methods_full, nodes_full}
-use Rattle.osc_model.specs.Events.{Answer, Hit, Room, number, callers_full, queued, units_full, pool_full, added, refused, removed, not_there, ticked, clock_back, released, nothing_due, record_full}
+use Rattle.osc_model.specs.Events.{Answer, Hit, Room, number, callers_full, queued, units_full}
+use Rattle.osc_model.specs.Events.{pool_full, added, refused, removed, not_there, ticked}
+use Rattle.osc_model.specs.Events.{clock_back, released, nothing_due, record_full}
 use Rattle.osc_core.specs.declared.answers.Enrolled.{Enrolled}
 use Rattle.osc_core.specs.declared.answers.Enrolled.TheVariants as enrolled
 use Rattle.osc_core.specs.declared.answers.Submitted.{Submitted}

@@ -1,5 +1,6 @@
 -- The ids of the boxes, in the order of adding.
-use Rattle.std.specs.Prelude.{◌≡◌, ◌≢◌, ℕ, ◌<◌, ◌≤◌, Bool, true, ◌&&◌, ◌==◌, nat_lt, not, List, [], ◌∷◌, length, filter, slice_index, Option, Some, None}
+use Rattle.std.specs.Prelude.{◌≡◌, ◌≢◌, ℕ, ◌<◌, ◌≤◌, Bool, true, ◌&&◌, ◌==◌, nat_lt, not, List, []}
+use Rattle.std.specs.Prelude.{◌∷◌, length, filter, slice_index, Option, Some, None}
 use Rattle.std.specs.List.{list_all, AllByRecursion}
 
 -- whether each id is below all those behind it

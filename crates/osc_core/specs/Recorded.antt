@@ -1,5 +1,6 @@
 -- Inside the crate: the hits of a release that is being recorded.
-use Rattle.std.specs.Prelude.{ℕ, ◌+◌, ◌*◌, ◌≤◌, ◌≡◌, List, [], ◌∷◌, length, Option, Some, None, Result, Ok, Err}
+use Rattle.std.specs.Prelude.{ℕ, ◌+◌, ◌*◌, ◌≤◌, ◌≡◌, List, [], ◌∷◌, length, Option, Some, None}
+use Rattle.std.specs.Prelude.{Result, Ok, Err}
 use Rattle.osc_model.specs.Events.{Call, Hit}
 use Rattle.osc_model.specs.Step.{hits_of}
 use Rattle.osc_atoms.specs.declared.room.Room.{Room}

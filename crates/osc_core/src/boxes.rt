@@ -1,5 +1,6 @@
 // The boxes of the registered methods.
-ghost use Rattle.std.specs.Prelude.{◌≡◌, ◌<◌, ◌≤◌, ◌++◌, ◌∷◌, [], List, map, length, Contains, vec_len, vec_capacity, IsTrue};
+ghost use Rattle.std.specs.Prelude.{◌≡◌, ◌<◌, ◌≤◌, ◌++◌, ◌∷◌, [], List, map, length, Contains};
+ghost use Rattle.std.specs.Prelude.{vec_len, vec_capacity, IsTrue};
 ghost use Rattle.osc_pattern.specs.Methods.{Method as MethodAt};
 ghost use Rattle.osc_model.specs.Heard.{Told, hear, reset, without_id};
 ghost use Rattle.osc_core.specs.Calls.{invocation_by};

@@ -1,5 +1,6 @@
 // The calls that a release makes.
-ghost use Rattle.std.specs.Prelude.{◌≡◌, ◌+◌, ◌*◌, ◌<◌, ◌≤◌, ◌^◌, ℕ, List, length, map, take, Some, None, IsTrue, IfOk, IfErr, OnOk, OnErr, vec_capacity};
+ghost use Rattle.std.specs.Prelude.{◌≡◌, ◌+◌, ◌*◌, ◌<◌, ◌≤◌, ◌^◌, ℕ, List, length, map, take, Some};
+ghost use Rattle.std.specs.Prelude.{None, IsTrue, IfOk, IfErr, OnOk, OnErr, vec_capacity};
 ghost use Rattle.osc_pattern.specs.Methods.{Method};
 ghost use Rattle.osc_record.specs.Writing.{recording_text, with_release};
 ghost use Rattle.osc_model.specs.Heard.{all_hear};

@@ -1,11 +1,13 @@
 // The server with its recording, but for its boxes.
-ghost use Rattle.std.specs.Prelude.{◌≡◌, ◌+◌, ◌<◌, ◌≤◌, ◌++◌, ◌∷◌, [], length, map, All, Contains, IsTrue, IfOk, IfErr, OnOk, IfSome, IfNone, vec_capacity};
+ghost use Rattle.std.specs.Prelude.{◌≡◌, ◌+◌, ◌<◌, ◌≤◌, ◌++◌, ◌∷◌, [], length, map, All, Contains};
+ghost use Rattle.std.specs.Prelude.{IsTrue, IfOk, IfErr, OnOk, IfSome, IfNone, vec_capacity};
 ghost use Rattle.osc_tree.specs.Adding.{refusal_of as tree_refusal_of};
 ghost use Rattle.osc_model.specs.Events.{enrol, submit, add, remove, tick, release, added, removed};
 ghost use Rattle.osc_model.specs.Recordings.{record_text};
 ghost use Rattle.osc_model.specs.Heard.{all_hear};
 ghost use Rattle.osc_model.specs.History.{Legal, state_of, stepped_in, onward};
-ghost use Rattle.osc_core.specs.Answers.{enrolled_of, submitted_of, refusal_of, ticking_of, room_of, TellsRelease};
+ghost use Rattle.osc_core.specs.Answers.{enrolled_of, submitted_of, refusal_of, ticking_of};
+ghost use Rattle.osc_core.specs.Answers.{room_of, TellsRelease};
 ghost use Rattle.osc_core.specs.Ids.{is_ascending, without};
 ghost use Rattle.osc_core.specs.Telling.{told};
 ghost use Rattle.osc_core.specs.Leaving.{leaving_of, OnLeaving};

@@ -6,9 +6,11 @@ ghost use Rattle.osc_model.specs.Recordings.{entry_size};
 ghost use Rattle.osc_model.specs.Refusals.{IsRefusal};
 ghost use Rattle.osc_model.specs.Step.{decided};
 ghost use Rattle.osc_model.specs.Heard.{Told};
-ghost use Rattle.osc_model.specs.History.{IsLawful, Performance, state_of, stepped_in, onward, HaveHeard};
+ghost use Rattle.osc_model.specs.History.{IsLawful, Performance, state_of, stepped_in, onward};
+ghost use Rattle.osc_model.specs.History.{HaveHeard};
 ghost use Rattle.osc_record.specs.Writing.{Recording, recording_text};
-ghost use Rattle.osc_core.specs.Playing.{IsPlaying, AreSmall, IsFull, IsPlayed, IsQuiet, performance_of};
+ghost use Rattle.osc_core.specs.Playing.{IsPlaying, AreSmall, IsFull, IsPlayed, IsQuiet};
+ghost use Rattle.osc_core.specs.Playing.{performance_of};
 
 use osc_model::laws;
 use osc_record::laws as recordings;

@@ -1,11 +1,14 @@
 //! The server with its recording and its boxes, one event after another.
-ghost use Rattle.std.specs.Prelude.{◌≡◌, ◌<◌, ◌≤◌, ◌++◌, ◌∷◌, [], length, map, IsTrue, ℕ, List, Contains, vec_capacity, IfOk};
+ghost use Rattle.std.specs.Prelude.{◌≡◌, ◌<◌, ◌≤◌, ◌++◌, ◌∷◌, [], length, map, IsTrue, ℕ, List};
+ghost use Rattle.std.specs.Prelude.{Contains, vec_capacity, IfOk};
 ghost use Rattle.osc_model.specs.Events.{enrol, submit, add, remove, tick, release};
 ghost use Rattle.osc_model.specs.Recordings.{record_text};
 ghost use Rattle.osc_model.specs.Heard.{Told, reset, all_hear, without_id};
 ghost use Rattle.osc_model.specs.History.{Legal, state_of, stepped_in, onward, HaveHeard};
 ghost use Rattle.osc_laws.specs.Laws.{KeepsTheLaws};
-ghost use Rattle.osc_core.specs.Answers.{enrolled_of, submitted_of, adding_of, removing_of, ticking_of, TellsRelease, OnAdded, OnRefused, OnRemoved, OnKept};
+ghost use Rattle.osc_core.specs.Answers.{enrolled_of, submitted_of, adding_of, removing_of};
+ghost use Rattle.osc_core.specs.Answers.{ticking_of, TellsRelease, OnAdded, OnRefused, OnRemoved};
+ghost use Rattle.osc_core.specs.Answers.{OnKept};
 ghost use Rattle.osc_core.specs.Ids.{is_ascending};
 ghost use Rattle.osc_core.specs.Telling.{told};
 ghost use Rattle.osc_core.specs.Standing.{StandsFor, GoesOn};

@@ -1,10 +1,13 @@
 // The tables of the server: all but its boxes and its recording.
-ghost use Rattle.std.specs.Prelude.{◌≡◌, ◌+◌, ◌<◌, ◌≤◌, ◌^◌, ◌++◌, ◌∷◌, [], length, map, All, Contains, IfOk, IfErr, OnOk, OnErr, IsTrue, None, Some, IsSome, vec_capacity};
+ghost use Rattle.std.specs.Prelude.{◌≡◌, ◌+◌, ◌<◌, ◌≤◌, ◌^◌, ◌++◌, ◌∷◌, [], length, map, All};
+ghost use Rattle.std.specs.Prelude.{Contains, IfOk, IfErr, OnOk, OnErr, IsTrue, None, Some, IsSome};
+ghost use Rattle.std.specs.Prelude.{vec_capacity};
 ghost use Rattle.osc_packet.specs.Reading.{units_read};
 ghost use Rattle.osc_tree.specs.Adding.{refusal_of};
 ghost use Rattle.osc_tree.specs.Registry.{address_by_id};
 ghost use Rattle.osc_model.specs.State.{opening};
-ghost use Rattle.osc_model.specs.Events.{enrol, submit, add, remove, tick, release, added, refused, adds_entry};
+ghost use Rattle.osc_model.specs.Events.{enrol, submit, add, remove, tick, release, added, refused};
+ghost use Rattle.osc_model.specs.Events.{adds_entry};
 ghost use Rattle.osc_model.specs.Heard.{all_hear};
 ghost use Rattle.osc_model.specs.Step.{decided};
 ghost use Rattle.osc_core.specs.Answers.{enrolled_of, submitted_of, ticking_of};

@@ -3,7 +3,8 @@ ghost use Rattle.std.specs.Prelude.{◌≡◌, ◌<◌, ℕ, List, [], ◌∷◌
 ghost use Rattle.osc_turn.specs.Jobs.{StandsNext};
 ghost use Rattle.osc_model.specs.Events.{Event, added, adds_entry, Invocation};
 ghost use Rattle.osc_model.specs.Heard.{Told, reset, all_hear, without_id};
-ghost use Rattle.osc_model.specs.History.{IsLawful, Performance, state_of, stepped_in, onward, HaveHeard};
+ghost use Rattle.osc_model.specs.History.{IsLawful, Performance, state_of, stepped_in, onward};
+ghost use Rattle.osc_model.specs.History.{HaveHeard};
 ghost use Rattle.osc_core.specs.Standing.{StandsFor};
 
 use crate::sequential::Core;
@@ -54,12 +55,14 @@ impl<M: Method> Kept for Core<M> {
     ghost use Rattle.osc_core.specs.Standing.{StandsFor, texts_of};
 
     /// The texts of its entries, with the marks of its boxes.
-    ghost stands = { λ core list. StandsFor core.performance (told M.keep M.heard core.boxes.items) list };
+    ghost stands = { λ core list.
+        StandsFor core.performance (told M.keep M.heard core.boxes.items) list };
 
     /// The header of its recording.
     ghost kind = { λ core. header_text core.performance.caps };
 
-    ghost history = { λ core. texts_of (told M.keep M.heard core.boxes.items) core.performance.history };
+    ghost history = { λ core.
+        texts_of (told M.keep M.heard core.boxes.items) core.performance.history };
 
     ghost one_length = { λ core g h one two. standing.one_length core.performance _ g h one two };
 

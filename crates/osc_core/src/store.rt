@@ -1,11 +1,13 @@
 // The messages of the queued units, in blocks that are reserved at opening.
 ghost use Rattle.osc_atoms.specs.declared.limits.TheConstants.{MAX_BYTES};
-ghost use Rattle.std.specs.Prelude.{◌≡◌, ◌+◌, ◌<◌, ◌≤◌, ◌^◌, ◌++◌, [], length, replicate, IsTrue, IfOk, vec_len, vec_capacity};
+ghost use Rattle.std.specs.Prelude.{◌≡◌, ◌+◌, ◌<◌, ◌≤◌, ◌^◌, ◌++◌, [], length, replicate, IsTrue};
+ghost use Rattle.std.specs.Prelude.{IfOk, vec_len, vec_capacity};
 ghost use Rattle.std.specs.List.{list_all};
 ghost use Rattle.osc_message.specs.Reading.{is_message};
 ghost use Rattle.osc_packet.specs.Units.{stored_size, blocks};
 ghost use Rattle.osc_atoms.specs.Atoms.{word};
-ghost use Rattle.osc_pool.specs.Holding.{blocks_for, used_blocks, IsLive, IsNew, KeepsLive, KeepsOthers};
+ghost use Rattle.osc_pool.specs.Holding.{blocks_for, used_blocks, IsLive, IsNew, KeepsLive};
+ghost use Rattle.osc_pool.specs.Holding.{KeepsOthers};
 ghost use Rattle.osc_core.specs.Frames.{framed, messages_in, AreFramed};
 ghost use Rattle.osc_core.specs.Stored.{unit_in, IsStored};
 

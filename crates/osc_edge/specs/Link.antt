@@ -1,5 +1,6 @@
 -- What a call of a link does.
-use Rattle.std.specs.Prelude.{◌≡◌, ℕ, ◌≤◌, List, [], ◌∷◌, length, take, Option, Some, None, IfSome, option_map}
+use Rattle.std.specs.Prelude.{◌≡◌, ℕ, ◌≤◌, List, [], ◌∷◌, length, take, Option, Some, None, IfSome}
+use Rattle.std.specs.Prelude.{option_map}
 use Rattle.std.specs.Option.{ForSome}
 use Rattle.osc_edge.specs.declared.limits.TheConstants.{MAX_DATAGRAM}
 use Rattle.osc_edge.specs.declared.link.Datagram.{Datagram}

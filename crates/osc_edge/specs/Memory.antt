@@ -1,5 +1,6 @@
 -- What the kinds in memory hold, and which of their calls fail.
-use Rattle.std.specs.Prelude.{◌≡◌, ℕ, min, false, IsTrue, if◌then◌else◌, List, [], ◌∷◌, length, drop, get_or, Option, Some, None}
+use Rattle.std.specs.Prelude.{◌≡◌, ℕ, min, false, IsTrue, if◌then◌else◌, List, [], ◌∷◌, length}
+use Rattle.std.specs.Prelude.{drop, get_or, Option, Some, None}
 use Rattle.osc_edge.specs.declared.memory_source.MemorySource.{MemorySource}
 use Rattle.osc_edge.specs.declared.memory_sink.MemorySink.{MemorySink}
 use Rattle.osc_edge.specs.declared.memory_link.MemoryLink.{MemoryLink}
@@ -11,7 +12,8 @@ use Rattle.osc_edge.specs.declared.source.Taken.TheVariants.{Bytes, Failed}
 use Rattle.osc_edge.specs.declared.sink.Put.{Put}
 use Rattle.osc_edge.specs.declared.sink.Put.TheVariants.{Took, NoMemory, Failed as FailedToTake}
 use Rattle.osc_edge.specs.declared.link.Datagram.{Datagram}
-use Rattle.osc_edge.specs.declared.link.Datagram.TheVariants.{Got, Quiet, End, Failed as FailedToGet}
+use Rattle.osc_edge.specs.declared.link.Datagram.TheVariants.{Got, Quiet, End}
+use Rattle.osc_edge.specs.declared.link.Datagram.TheVariants.{Failed as FailedToGet}
 use Rattle.osc_edge.specs.declared.clock.Moment.{Moment}
 use Rattle.osc_edge.specs.declared.clock.Moment.TheVariants.{At, Failed as FailedToTell}
 use Rattle.osc_edge.specs.Calls.{CallsToCome, fails_next}

@@ -3,7 +3,8 @@ use Rattle.std.proofs.Common.{◌≡◌, ℕ, zero, suc, ◌+◌, List, [], ◌�
 use Rattle.osc_packet.specs.Reading.{units_read}
 use Rattle.osc_model.specs.Limits.{Limits}
 use Rattle.osc_model.specs.State.{State, opening}
-use Rattle.osc_model.specs.Events.{Event, enrol, submit, add, remove, tick, release, Answer, callers_full, units_full, pool_full, refused, not_there, clock_back, nothing_due, record_full, Entry}
+use Rattle.osc_model.specs.Events.{Event, enrol, submit, add, remove, tick, release, Answer, callers_full, units_full, pool_full, refused, not_there}
+use Rattle.osc_model.specs.Events.{clock_back, nothing_due, record_full, Entry}
 use Rattle.osc_model.specs.Refusals.{IsRefusal}
 use Rattle.osc_laws.specs.Once.{given_in}
 use Rattle.osc_laws.specs.Facts.{ticked_to, clock_by, clock_from, clock_in}

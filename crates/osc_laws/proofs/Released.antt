@@ -4,7 +4,8 @@ use Rattle.std.specs.List.{AllByRecursion}
 use Rattle.std.proofs.lemmas.Bool.Decides.{nat_tests}
 use Rattle.osc_queue.specs.Timed.{unit_of}
 use Rattle.osc_model.specs.State.{State, Queued}
-use Rattle.osc_model.specs.Events.{Event, Answer, callers_full, units_full, pool_full, refused, not_there, clock_back, nothing_due, record_full, Invocation, Entry}
+use Rattle.osc_model.specs.Events.{Event, Answer, callers_full, units_full, pool_full, refused, not_there, clock_back, nothing_due, record_full, Invocation}
+use Rattle.osc_model.specs.Events.{Entry}
 use Rattle.osc_model.specs.Refusals.{IsRefusal}
 use Rattle.osc_model.specs.Step.{Stepped, step, decided, calls_of_unit, invocations_of}
 use Rattle.osc_model.specs.Passing.{released_in, numbers_from}

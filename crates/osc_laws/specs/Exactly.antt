@@ -1,6 +1,7 @@
 -- The second and the third law: no unit is released before its tag, and it calls exactly the
 -- methods that match then.
-use Rattle.std.specs.Prelude.{◌≡◌, ◌↔◌, ℕ, ◌≤◌, ◌==◌, List, [], ◌∷◌, ◌++◌, map, filter, slice_get, Some, None}
+use Rattle.std.specs.Prelude.{◌≡◌, ◌↔◌, ℕ, ◌≤◌, ◌==◌, List, [], ◌∷◌, ◌++◌, map, filter, slice_get}
+use Rattle.std.specs.Prelude.{Some, None}
 use Rattle.std.specs.List.{AllByRecursion, Contains}
 use Rattle.osc_pattern.specs.Patterns.{Match}
 use Rattle.osc_message.specs.Reading.{pattern_of}

@@ -3,7 +3,8 @@ use Rattle.std.specs.Prelude.{◌≡◌, ◌≢◌, ℕ, ◌+◌, List, [], ◌�
 use Rattle.std.specs.List.{AllByRecursion}
 use Rattle.osc_packet.specs.Units.{TimedUnit}
 use Rattle.osc_packet.specs.Reading.{units_read}
-use Rattle.osc_model.specs.Events.{Event, submit, add, tick, Answer, queued, added, removed, ticked, Entry}
+use Rattle.osc_model.specs.Events.{Event, submit, add, tick, Answer, queued, added, removed, ticked}
+use Rattle.osc_model.specs.Events.{Entry}
 
 -- the clock after a moment was handed in and answered
 abbrev pub ticked_to : ℕ → Answer → ℕ → ℕ

@@ -1,5 +1,6 @@
 -- An enrolment, between two meetings.
-use Rattle.std.proofs.Common.{◌≡◌, ℕ, ◌+◌, ◌<◌, ◌≤◌, Bool, true, false, cond, List, [], ◌∷◌, ◌++◌, length, length-append, MatchBool, sym, ap, subst, ◌∙◌, arith, le-leb}
+use Rattle.std.proofs.Common.{◌≡◌, ℕ, ◌+◌, ◌<◌, ◌≤◌, Bool, true, false, cond, List, [], ◌∷◌, ◌++◌, length, length-append, MatchBool, sym, ap, subst, ◌∙◌, arith}
+use Rattle.std.proofs.Common.{le-leb}
 use Rattle.osc_model.specs.Limits.{Limits}
 use Rattle.osc_model.specs.Enrolled.{callers_in}
 use Rattle.osc_model.specs.Events.{Event, enrol, Answer, number, adds_entry, Entry}

@@ -1,5 +1,6 @@
 //! How a server is closed.
-ghost use Rattle.std.specs.Prelude.{◌≡◌, ◌≢◌, ◌≤◌, ◌+◌, ◌++◌, length, map, All, OnOk, IfOk, IfErr, vec_len, vec_capacity};
+ghost use Rattle.std.specs.Prelude.{◌≡◌, ◌≢◌, ◌≤◌, ◌+◌, ◌++◌, length, map, All, OnOk, IfOk, IfErr};
+ghost use Rattle.std.specs.Prelude.{vec_len, vec_capacity};
 ghost use Rattle.osc_turn.specs.Passes.{view};
 ghost use Rattle.osc_core.specs.Telling.{told};
 ghost use Rattle.osc_live.specs.Seen.{IsTokenOf};

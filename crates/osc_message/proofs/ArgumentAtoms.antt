@@ -1,5 +1,6 @@
 -- One argument: what stands at a place is read, and what doesn't is named.
-use Rattle.std.proofs.Common.{◌≡◌, ◌⊎◌, ℕ, ◌+◌, ◌%◌, ◌^◌, ◌<◌, Bool, true, false, not, ◌||◌, ◌==◌, List, length, drop, replicate, Ok, Err, Result, refl, sym, ◌∙◌, ap, subst, inl, inr, arith, eqb-true, length-append, add-zero, ℤ}
+use Rattle.std.proofs.Common.{◌≡◌, ◌⊎◌, ℕ, ◌+◌, ◌%◌, ◌^◌, ◌<◌, Bool, true, false, not, ◌||◌, ◌==◌, List, length, drop, replicate, Ok, Err, Result, refl, sym}
+use Rattle.std.proofs.Common.{◌∙◌, ap, subst, inl, inr, arith, eqb-true, length-append, add-zero, ℤ}
 use Rattle.std.specs.Int.{w32, w64, cast_signed, cast_unsigned}
 use Rattle.std.proofs.Math.Facts.{Fits-of_z, Fits-lt-pow}
 use Rattle.std.proofs.lemmas.Int.{of_z-to_z, to_z-of_z}
@@ -12,7 +13,8 @@ use Rattle.osc_atoms.specs.Standing.{StartsWith, StartsWithWord, StartsWithTag}
 use Rattle.osc_atoms.proofs.Numbers.{word_again, tag_again, word_seen, tag_seen, word_fault_again, tag_fault_again}
 use Rattle.osc_atoms.proofs.Strings.{string_again, string_seen, string_fault_again}
 use Rattle.osc_atoms.proofs.Blobs.{blob_again, blob_seen, blob_fault_again}
-use Rattle.osc_message.specs.Messages.{Argument, integer, float, text, content, long, time, double, symbol, character, rgba, midi, true_, false_, nil, infinitum, array_start, array_end, tag_of, atom_of}
+use Rattle.osc_message.specs.Messages.{Argument, integer, float, text, content, long, time, double, symbol, character, rgba, midi, true_, false_, nil}
+use Rattle.osc_message.specs.Messages.{infinitum, array_start, array_end, tag_of, atom_of}
 use Rattle.osc_message.specs.Tags.{is_word_tag, is_long_tag, is_text_tag, is_blob_tag, is_bare_tag, is_unknown}
 use Rattle.osc_message.specs.Wants.{StartsWithArgument, NamesArgumentFault, of_word, of_long, of_text, of_blob}
 use Rattle.osc_message.specs.ArgumentReading.{argument_read}

@@ -1,5 +1,6 @@
 -- From a want on there is a fault, or the bytes are those of a message.
-use Rattle.std.proofs.Common.{◌≡◌, ◌⊎◌, ℕ, ◌+◌, ◌%◌, ◌<◌, ◌≤◌, Bool, true, false, ◌==◌, List, [], ◌∷◌, ◌++◌, length, drop, map, Option, Some, None, refl, sym, ◌∙◌, ap, subst, inl, inr, arith, eqb-true}
+use Rattle.std.proofs.Common.{◌≡◌, ◌⊎◌, ℕ, ◌+◌, ◌%◌, ◌<◌, ◌≤◌, Bool, true, false, ◌==◌, List, [], ◌∷◌, ◌++◌, length, drop, map, Option, Some, None, refl, sym}
+use Rattle.std.proofs.Common.{◌∙◌, ap, subst, inl, inr, arith, eqb-true}
 use Rattle.std.specs.List.{list_any, flat_map}
 use Rattle.std.proofs.lemmas.Bool.{cond-false, eqb-false, cases_eq, cases_lt}
 use Rattle.osc_atoms.specs.declared.fault.Fault.{Fault}
@@ -14,10 +15,12 @@ use Rattle.osc_message.specs.Tags.{is_unknown, Balanced}
 use Rattle.osc_message.specs.Messages.{Argument, tag_of, atom_of, AllFit, Form, bare, known, unknown, IsLawful, IsMessage, tag_string, message_text}
 use Rattle.osc_atoms.specs.Faults.{empty, not_four, too_long, start}
 use Rattle.osc_message.specs.Faults.{of_pattern, no_tags, left_over}
-use Rattle.osc_message.specs.Wants.{Want, some_byte, within, fourfold, slash, pattern, lawful, comma, tag_text, brackets_balance, arguments, done, Leads, Names, Reaches, first, later, FaultFrom}
+use Rattle.osc_message.specs.Wants.{Want, some_byte, within, fourfold, slash, pattern, lawful, comma, tag_text, brackets_balance, arguments, done, Leads, Names}
+use Rattle.osc_message.specs.Wants.{Reaches, first, later, FaultFrom}
 use Rattle.osc_message.proofs.ArrayBrackets.{balance_seen}
 use Rattle.osc_message.proofs.ArgumentAtoms.{argument_seen, string_fours}
-use Rattle.osc_message.proofs.Steps.{Placed, placed_on, Ready, fault_at, leads_same, names_told, named_fails, names_within, ready_next, known_head, tags_before, text_before}
+use Rattle.osc_message.proofs.Steps.{Placed, placed_on, Ready, fault_at, leads_same, names_told, named_fails, names_within, ready_next, known_head, tags_before}
+use Rattle.osc_message.proofs.Steps.{text_before}
 
 -- a fault that is reached is the one that is read
 reached : (bytes : List ℕ) (from want : Want) → Ready bytes from → Reaches bytes from want → Ready bytes want × (fault_at bytes from ≡ fault_at bytes want)

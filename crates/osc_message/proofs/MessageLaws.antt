@@ -1,5 +1,6 @@
 -- A message that is written is read again.
-use Rattle.std.proofs.Common.{◌≡◌, ℕ, ◌+◌, ◌%◌, ◌<◌, ◌≤◌, Bool, true, false, ◌||◌, List, [], ◌∷◌, ◌++◌, length, drop, map, Option, Some, None, Result, Ok, Err, refl, sym, ◌∙◌, ap, subst, arith, length-append, eqb-true, eq-eqb, le-leb}
+use Rattle.std.proofs.Common.{◌≡◌, ℕ, ◌+◌, ◌%◌, ◌<◌, ◌≤◌, Bool, true, false, ◌||◌, List, [], ◌∷◌, ◌++◌, length, drop, map, Option, Some, None, Result, Ok, Err}
+use Rattle.std.proofs.Common.{refl, sym, ◌∙◌, ap, subst, arith, length-append, eqb-true, eq-eqb, le-leb}
 use Rattle.std.specs.Prelude.{slice_index}
 use Rattle.std.specs.List.{list_any, flat_map}
 use Rattle.std.specs.Result.{result_ok}
@@ -14,7 +15,9 @@ use Rattle.osc_pattern.specs.declared.faults.PatternFault.{PatternFault}
 use Rattle.osc_pattern.specs.Patterns.{IsPattern}
 use Rattle.osc_pattern.proofs.PatternLaws.{IsPattern-read}
 use Rattle.osc_message.specs.Tags.{is_unknown}
-use Rattle.osc_message.specs.Messages.{Argument, integer, float, text, content, long, time, double, symbol, character, rgba, midi, true_, false_, nil, infinitum, array_start, array_end, tag_of, atom_of, AllFit, Form, bare, known, unknown, IsLawful, tag_string, message_text}
+use Rattle.osc_message.specs.Messages.{Argument, integer, float, text, content, long, time, double, symbol, character, rgba, midi, true_, false_, nil}
+use Rattle.osc_message.specs.Messages.{infinitum, array_start, array_end, tag_of, atom_of, AllFit, Form, bare, known, unknown, IsLawful, tag_string}
+use Rattle.osc_message.specs.Messages.{message_text}
 use Rattle.osc_message.specs.Wants.{StartsWithArgument}
 use Rattle.osc_message.specs.ArgumentReading.{argument_read, arguments_of}
 use Rattle.osc_message.specs.Reading.{Parts, begins, arguments_read, tags_read, comma_read, unless_fault, lawful_read, message_read, limited_read, parts_of}

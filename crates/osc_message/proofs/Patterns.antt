@@ -1,5 +1,6 @@
 -- The pattern of a message is what stands before the first zero byte.
-use Rattle.std.proofs.Common.{◌≡◌, ℕ, ◌+◌, ◌%◌, ◌≤◌, Bool, true, false, cond, ◌==◌, List, length, take, drop, position, Option, Some, None, Result, Ok, Err, is_ok, is_none, refl, sym, ◌∙◌, ap, arith}
+use Rattle.std.proofs.Common.{◌≡◌, ℕ, ◌+◌, ◌%◌, ◌≤◌, Bool, true, false, cond, ◌==◌, List, length, take, drop, position, Option, Some, None, Result, Ok, Err}
+use Rattle.std.proofs.Common.{is_ok, is_none, refl, sym, ◌∙◌, ap, arith}
 use Rattle.std.specs.List.{before_first, position_or_len}
 use Rattle.std.specs.Result.{result_ok}
 use Rattle.std.proofs.lemmas.List.{length-take}

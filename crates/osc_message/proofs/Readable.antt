@@ -1,5 +1,6 @@
 -- What can be read is a message of a size that places can count.
-use Rattle.std.proofs.Common.{◌≡◌, ℕ, ◌%◌, Bool, true, false, cond, ◌==◌, nat_le, IsTrue, List, [], ◌∷◌, length, Some, None, Result, Ok, Err, is_ok, refl, arith}
+use Rattle.std.proofs.Common.{◌≡◌, ℕ, ◌%◌, Bool, true, false, cond, ◌==◌, nat_le, IsTrue, List, [], ◌∷◌, length, Some, None, Result, Ok, Err, is_ok, refl}
+use Rattle.std.proofs.Common.{arith}
 use Rattle.std.specs.Result.{result_ok}
 use Rattle.std.proofs.lemmas.Bool.Decides.{nat_tests}
 use Rattle.osc_atoms.specs.declared.fault.Fault.{Fault}

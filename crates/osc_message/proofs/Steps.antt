@@ -1,5 +1,6 @@
 -- One want: what is read where it stands, and where it doesn't.
-use Rattle.std.proofs.Common.{◌≡◌, ◌⊎◌, ℕ, suc, ◌+◌, ◌-◌, ◌%◌, ◌≤◌, Bool, true, false, cond, ◌==◌, List, [], ◌∷◌, ◌++◌, length, drop, replicate, Option, Some, None, Result, Ok, Err, refl, sym, ◌∙◌, ap, subst, inl, inr, arith, length-append, length-drop, eq-eqb, le-leb}
+use Rattle.std.proofs.Common.{◌≡◌, ◌⊎◌, ℕ, suc, ◌+◌, ◌-◌, ◌%◌, ◌≤◌, Bool, true, false, cond, ◌==◌, List, [], ◌∷◌, ◌++◌, length, drop, replicate, Option, Some}
+use Rattle.std.proofs.Common.{None, Result, Ok, Err, refl, sym, ◌∙◌, ap, subst, inl, inr, arith, length-append, length-drop, eq-eqb, le-leb}
 use Rattle.std.specs.List.{list_any}
 use Rattle.std.specs.Result.{result_err}
 use Rattle.std.proofs.lemmas.Bool.{cond-true, cond-false, ne_eqb, lt-leb, cases_Bool}
@@ -16,9 +17,12 @@ use Rattle.osc_message.specs.Tags.{is_unknown}
 use Rattle.osc_message.specs.Messages.{Argument, tag_of, atom_of, tag_string}
 use Rattle.osc_atoms.specs.Faults.{start}
 use Rattle.osc_message.specs.Faults.{no_tags, brackets, left_over}
-use Rattle.osc_message.specs.Wants.{Want, some_byte, within, fourfold, slash, pattern, lawful, comma, tag_text, brackets_balance, arguments, done, after_tags, Leads, Names, NamesOtherByte, StartsWithArgument, NamesArgumentFault, of_word, of_long, of_text, of_blob, ClosesNothing, NeverCloses}
+use Rattle.osc_message.specs.Wants.{Want, some_byte, within, fourfold, slash, pattern, lawful, comma, tag_text, brackets_balance, arguments, done, after_tags}
+use Rattle.osc_message.specs.Wants.{Leads, Names, NamesOtherByte, StartsWithArgument, NamesArgumentFault, of_word, of_long, of_text, of_blob, ClosesNothing}
+use Rattle.osc_message.specs.Wants.{NeverCloses}
 use Rattle.osc_message.specs.ArgumentReading.{argument_read, arguments_end}
-use Rattle.osc_message.specs.Reading.{Parts, begins, brackets_read, arguments_read, tags_read, tagged_read, comma_read, unless_fault, lawful_read, message_read, fourfold_read, within_read, limited_read}
+use Rattle.osc_message.specs.Reading.{Parts, begins, brackets_read, arguments_read, tags_read, tagged_read, comma_read, unless_fault, lawful_read, message_read}
+use Rattle.osc_message.specs.Reading.{fourfold_read, within_read, limited_read}
 use Rattle.osc_message.proofs.LawfulPatterns.{pattern_fault_within}
 use Rattle.osc_message.proofs.ArrayBrackets.{balance_again, bracket_fault_again}
 use Rattle.osc_message.proofs.ArgumentAtoms.{argument_again, argument_fault_again, atom_fours, string_fours, length-string}

@@ -5,7 +5,8 @@ use Rattle.osc_atoms.specs.Atoms.{string}
 use Rattle.osc_atoms.specs.Standing.{StartsWithString}
 use Rattle.osc_atoms.proofs.Strings.{string_again}
 use Rattle.osc_message.specs.Messages.{Argument, tag_of, atom_of, tag_string}
-use Rattle.osc_message.specs.Wants.{Want, some_byte, within, fourfold, slash, pattern, lawful, comma, tag_text, brackets_balance, arguments, done, after_tags, Leads, StartsWithArgument}
+use Rattle.osc_message.specs.Wants.{Want, some_byte, within, fourfold, slash, pattern, lawful, comma, tag_text, brackets_balance, arguments, done, after_tags}
+use Rattle.osc_message.specs.Wants.{Leads, StartsWithArgument}
 use Rattle.osc_message.specs.ArgumentReading.{argument_read}
 use Rattle.osc_message.proofs.ArgumentAtoms.{argument_again}
 

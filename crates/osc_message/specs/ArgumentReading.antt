@@ -4,7 +4,9 @@ use Rattle.std.specs.Int.{w32, w64, cast_signed}
 use Rattle.osc_atoms.specs.declared.fault.Fault.{Fault}
 use Rattle.osc_atoms.specs.Reading.{and_then, word_read, tag_read, string_read, blob_read}
 use Rattle.osc_message.specs.Tags.{is_word_tag, is_long_tag, is_text_tag, is_blob_tag}
-use Rattle.osc_message.specs.Messages.{Argument, integer, float, text, content, long, time, double, symbol, character, rgba, midi, true_, false_, nil, infinitum, array_start, array_end}
+use Rattle.osc_message.specs.Messages.{Argument, integer, float, text, content, long, time, double}
+use Rattle.osc_message.specs.Messages.{symbol, character, rgba, midi, true_, false_, nil, infinitum}
+use Rattle.osc_message.specs.Messages.{array_start, array_end}
 
 -- the argument of a word under i f c r m; nil under any other tag
 abbrev pub word_argument : ℕ → ℕ → Argument

@@ -1,6 +1,8 @@
 -- Messages in the making.
 use Rattle.osc_message.specs.declared.limits.TheConstants.{MAX_BUILT, MAX_BUILT_PATTERN}
-use Rattle.std.specs.Prelude.{◌≡◌, ℕ, ◌+◌, ◌%◌, ◌^◌, ◌≤◌, false, nat_le, if◌then◌else◌, IsTrue, List, [], ◌∷◌, ◌++◌, length, take, drop, position, Option, Some, None, option_map, is_ok}
+use Rattle.std.specs.Prelude.{◌≡◌, ℕ, ◌+◌, ◌%◌, ◌^◌, ◌≤◌, false, nat_le, if◌then◌else◌, IsTrue}
+use Rattle.std.specs.Prelude.{List, [], ◌∷◌, ◌++◌, length, take, drop, position, Option, Some, None}
+use Rattle.std.specs.Prelude.{option_map, is_ok}
 use Rattle.std.specs.List.{list_any}
 use Rattle.osc_atoms.specs.Atoms.{AreBytes, string}
 use Rattle.osc_atoms.specs.Reading.{is_zero}

@@ -1,7 +1,12 @@
 -- What an argument of the code stands for.
 use Rattle.osc_message.specs.declared.argument.Arg.{Arg}
-use Rattle.osc_message.specs.declared.argument.Arg.TheVariants.{Int, Float, Str, Blob, Long, Time, Double, Symbol, Char, Rgba, Midi, True, False, Nil, Infinitum, ArrayStart, ArrayEnd}
-use Rattle.osc_message.specs.Messages.{Argument, integer, float, text, content, long, time, double, symbol, character, rgba, midi, true_, false_, nil, infinitum, array_start, array_end}
+use Rattle.osc_message.specs.declared.argument.Arg.TheVariants.{Int, Float, Str, Blob, Long, Time}
+use Rattle.osc_message.specs.declared.argument.Arg.TheVariants.{Double, Symbol, Char, Rgba, Midi}
+use Rattle.osc_message.specs.declared.argument.Arg.TheVariants.{True, False, Nil, Infinitum}
+use Rattle.osc_message.specs.declared.argument.Arg.TheVariants.{ArrayStart, ArrayEnd}
+use Rattle.osc_message.specs.Messages.{Argument, integer, float, text, content, long, time, double}
+use Rattle.osc_message.specs.Messages.{symbol, character, rgba, midi, true_, false_, nil, infinitum}
+use Rattle.osc_message.specs.Messages.{array_start, array_end}
 
 -- the argument itself
 abbrev pub shown : Arg → Argument

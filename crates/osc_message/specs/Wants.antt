@@ -1,11 +1,14 @@
 -- The checks of a message in their order, and the first fault.
-use Rattle.std.specs.Prelude.{◌≡◌, ◌≢◌, ◌⊎◌, ℕ, ◌+◌, ◌%◌, ◌<◌, ◌≤◌, IsTrue, if◌then◌else◌, List, [], ◌∷◌, ◌++◌, length, drop}
+use Rattle.std.specs.Prelude.{◌≡◌, ◌≢◌, ◌⊎◌, ℕ, ◌+◌, ◌%◌, ◌<◌, ◌≤◌, IsTrue, if◌then◌else◌, List, []}
+use Rattle.std.specs.Prelude.{◌∷◌, ◌++◌, length, drop}
 use Rattle.std.specs.List.{list_any}
 use Rattle.osc_atoms.specs.declared.fault.Fault.{Fault}
 use Rattle.osc_atoms.specs.Atoms.{string}
-use Rattle.osc_atoms.specs.Standing.{StartsWith, StartsWithString, NamesShort, NamesStringFault, NamesBlobFault}
+use Rattle.osc_atoms.specs.Standing.{StartsWith, StartsWithString, NamesShort, NamesStringFault}
+use Rattle.osc_atoms.specs.Standing.{NamesBlobFault}
 use Rattle.osc_pattern.specs.Patterns.{IsPattern, IsFault}
-use Rattle.osc_message.specs.Tags.{is_word_tag, is_long_tag, is_text_tag, is_blob_tag, is_unknown, ClosesOpenOnes, Balanced}
+use Rattle.osc_message.specs.Tags.{is_word_tag, is_long_tag, is_text_tag, is_blob_tag, is_unknown}
+use Rattle.osc_message.specs.Tags.{ClosesOpenOnes, Balanced}
 use Rattle.osc_message.specs.Messages.{Argument, tag_of, atom_of, Fits, tag_string}
 use Rattle.osc_atoms.specs.Faults.{empty, not_four, too_long, start}
 use Rattle.osc_message.specs.Faults.{of_pattern, no_tags, brackets, left_over}

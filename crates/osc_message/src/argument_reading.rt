@@ -2,7 +2,8 @@
 ghost use Rattle.osc_atoms.specs.declared.limits.TheConstants.{MAX_BYTES};
 ghost use Rattle.std.specs.Prelude.{◌≡◌, ◌%◌, ◌≤◌, length, IfOk, IsTrue, is_ok, Ok};
 ghost use Rattle.osc_atoms.specs.Reading.{and_then};
-ghost use Rattle.osc_message.specs.ArgumentReading.{argument_read, arguments_end, word_argument, long_argument, text_argument, bare_argument};
+ghost use Rattle.osc_message.specs.ArgumentReading.{argument_read, arguments_end, word_argument};
+ghost use Rattle.osc_message.specs.ArgumentReading.{long_argument, text_argument, bare_argument};
 ghost use Rattle.osc_message.specs.Shown.{shown};
 ghost use Rattle.osc_message.specs.Tags.{is_word_tag, is_long_tag, is_text_tag};
 

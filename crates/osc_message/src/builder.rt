@@ -1,6 +1,7 @@
 // Messages that are built argument by argument.
 ghost use Rattle.osc_message.specs.declared.limits.TheConstants.{MAX_BUILT};
-ghost use Rattle.std.specs.Prelude.{◌≡◌, ◌++◌, ◌∷◌, [], ◌<◌, ◌≤◌, ◌+◌, None, IsTrue, is_ok, drop, length, IfOk, OnOk, OnErr};
+ghost use Rattle.std.specs.Prelude.{◌≡◌, ◌++◌, ◌∷◌, [], ◌<◌, ◌≤◌, ◌+◌, None, IsTrue, is_ok, drop};
+ghost use Rattle.std.specs.Prelude.{length, IfOk, OnOk, OnErr};
 ghost use Rattle.osc_atoms.specs.Atoms.{AreBytes, string, has_no_zero};
 ghost use Rattle.osc_message.specs.Messages.{atom_of, tag_of, Fits};
 ghost use Rattle.osc_message.specs.Building.{null_in};
@@ -38,7 +39,8 @@ impl Model for Builder {
 
 impl Builder {
     ghost use Rattle.osc_message.specs.declared.limits.TheConstants.{MAX_BUILT, MAX_BUILT_PATTERN};
-    ghost use Rattle.std.specs.Prelude.{◌≡◌, ◌≤◌, ◌⊎◌, [], Err, Some, None, map, length, IsOk, IfOk, IfErr, OnOk, OnErr};
+    ghost use Rattle.std.specs.Prelude.{◌≡◌, ◌≤◌, ◌⊎◌, [], Err, Some, None, map, length, IsOk};
+    ghost use Rattle.std.specs.Prelude.{IfOk, IfErr, OnOk, OnErr};
     ghost use Rattle.osc_pattern.specs.declared.faults.PatternFault.{PatternFault};
     ghost use Rattle.osc_pattern.specs.Patterns.{IsPattern, IsFault};
     ghost use Rattle.osc_message.specs.Tags.{Balanced};

@@ -1,9 +1,12 @@
 //! What the definitions of messages say of each other. These functions do nothing; their contracts are the laws.
-ghost use Rattle.std.specs.Prelude.{◌≡◌, ◌%◌, ◌<◌, ◌≤◌, ◌↔◌, ℕ, pos, negsuc, IsTrue, List, [], ◌∷◌, ◌++◌, length, map, codes, slice_index, find, Some, None};
+ghost use Rattle.std.specs.Prelude.{◌≡◌, ◌%◌, ◌<◌, ◌≤◌, ◌↔◌, ℕ, pos, negsuc, IsTrue, List, [], ◌∷◌};
+ghost use Rattle.std.specs.Prelude.{◌++◌, length, map, codes, slice_index, find, Some, None};
 ghost use Rattle.osc_atoms.specs.declared.fault.Fault.{Fault};
 ghost use Rattle.osc_atoms.specs.Atoms.{AreBytes};
 ghost use Rattle.osc_message.specs.Tags.{is_unknown};
-ghost use Rattle.osc_message.specs.Messages.{Argument, tag_of, Form, bare, known, unknown, IsLawful, IsMessage, message_text, integer, float, text};
+ghost use Rattle.osc_message.specs.Messages.{Argument, tag_of, Form, bare, known, unknown};
+ghost use Rattle.osc_message.specs.Messages.{IsLawful, IsMessage, message_text, integer, float};
+ghost use Rattle.osc_message.specs.Messages.{text};
 ghost use Rattle.osc_atoms.specs.Faults.{empty};
 ghost use Rattle.osc_message.specs.Faults.{of_pattern, no_tags, brackets, left_over};
 ghost use Rattle.osc_message.specs.Wants.{Want, Leads, FirstFault};

@@ -1,6 +1,7 @@
 // Messages, borrowed from their bytes.
 ghost use Rattle.osc_atoms.specs.declared.limits.TheConstants.{MAX_BYTES};
-ghost use Rattle.std.specs.Prelude.{◌≡◌, ◌↔◌, ◌≤◌, ℕ, length, IsOk, IfOk, IfErr, Option, List, Err, option_map, is_ok};
+ghost use Rattle.std.specs.Prelude.{◌≡◌, ◌↔◌, ◌≤◌, ℕ, length, IsOk, IfOk, IfErr, Option, List, Err};
+ghost use Rattle.std.specs.Prelude.{option_map, is_ok};
 ghost use Rattle.osc_atoms.specs.declared.fault.Fault.{Fault};
 ghost use Rattle.osc_message.specs.Messages.{IsMessage};
 ghost use Rattle.osc_message.specs.Wants.{FirstFault};
@@ -37,7 +38,8 @@ impl<'a> Model for Message<'a> {
 impl<'a> Message<'a> {
     ghost use Rattle.osc_atoms.specs.declared.limits.TheConstants.{MAX_BYTES};
     ghost use Rattle.osc_message.specs.Left.{left};
-    ghost use Rattle.std.specs.Prelude.{◌≡◌, ◌↔◌, ◌≤◌, ℕ, length, IsTrue, IsOk, IfOk, IfErr, Some, Err, IsSome, is_ok, option_map};
+    ghost use Rattle.std.specs.Prelude.{◌≡◌, ◌↔◌, ◌≤◌, ℕ, length, IsTrue, IsOk, IfOk, IfErr, Some};
+    ghost use Rattle.std.specs.Prelude.{Err, IsSome, is_ok, option_map};
     ghost use Rattle.std.specs.Result.{result_err};
     ghost use Rattle.osc_atoms.specs.declared.fault.Fault.{Fault};
     ghost use Rattle.osc_message.specs.Messages.{IsMessage};

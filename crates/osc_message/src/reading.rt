@@ -1,10 +1,13 @@
 // A message: its parts, or its first fault.
 ghost use Rattle.osc_atoms.specs.declared.limits.TheConstants.{MAX_BYTES};
-ghost use Rattle.std.specs.Prelude.{◌≡◌, ◌+◌, ◌%◌, ◌≤◌, IsTrue, IfOk, drop, length, false, is_ok, Ok};
+ghost use Rattle.std.specs.Prelude.{◌≡◌, ◌+◌, ◌%◌, ◌≤◌, IsTrue, IfOk, drop, length, false, is_ok};
+ghost use Rattle.std.specs.Prelude.{Ok};
 ghost use Rattle.std.specs.List.{list_any};
 ghost use Rattle.std.specs.Result.{result_map_both};
 ghost use Rattle.osc_message.specs.Tags.{is_unknown};
-ghost use Rattle.osc_message.specs.Reading.{message_read, lawful_read, comma_read, tagged_read, tags_read, arguments_read, begins, has_arguments, is_message, IsReadable};
+ghost use Rattle.osc_message.specs.Reading.{message_read, lawful_read, comma_read, tagged_read};
+ghost use Rattle.osc_message.specs.Reading.{tags_read, arguments_read, begins, has_arguments};
+ghost use Rattle.osc_message.specs.Reading.{is_message, IsReadable};
 ghost use Rattle.osc_message.specs.Seen.{seen, KeepsUnknown};
 
 use crate::argument_reading::end_of_arguments;

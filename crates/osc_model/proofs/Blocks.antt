@@ -1,11 +1,13 @@
 -- The units of a packet take no more blocks than it has bytes.
-use Rattle.std.proofs.Common.{◌≡◌, ℕ, zero, suc, ◌+◌, ◌-◌, ◌/◌, ◌<◌, ◌≤◌, Bool, true, false, not, cond, List, [], ◌∷◌, ◌++◌, length, length-drop, drop, filter, Option, Some, None, inl, inr, refl, ap, subst, ◌∙◌, arith}
+use Rattle.std.proofs.Common.{◌≡◌, ℕ, zero, suc, ◌+◌, ◌-◌, ◌/◌, ◌<◌, ◌≤◌, Bool, true, false, not, cond, List, [], ◌∷◌, ◌++◌, length, length-drop, drop, filter}
+use Rattle.std.proofs.Common.{Option, Some, None, inl, inr, refl, ap, subst, ◌∙◌, arith}
 use Rattle.std.specs.List.{flat_map}
 use Rattle.std.proofs.lemmas.Bool.{cases_lt}
 use Rattle.std.proofs.lemmas.List.{length-take-le, append-nil}
 use Rattle.osc_packet.specs.Packets.{effective_tag}
 use Rattle.osc_packet.specs.Units.{TimedUnit, stored_size, blocks_of}
-use Rattle.osc_packet.specs.Reading.{is_bundle, bundle_tag, packet_fault, element_fault, body_fault, first_size, first_element, after_first, elements_in, messages_in, bundle_read, enclosed_read, units_read}
+use Rattle.osc_packet.specs.Reading.{is_bundle, bundle_tag, packet_fault, element_fault, body_fault, first_size, first_element, after_first, elements_in}
+use Rattle.osc_packet.specs.Reading.{messages_in, bundle_read, enclosed_read, units_read}
 use Rattle.osc_packet.proofs.Steps.{bundle_step}
 use Rattle.osc_packet.proofs.Bodies.{silent_step, messages_step, messages_end}
 use Rattle.osc_packet.proofs.Walks.{enclosed_step, enclosed_end, one_first}

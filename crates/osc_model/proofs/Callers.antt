@@ -3,7 +3,8 @@ use Rattle.std.proofs.Common.{◌≡◌, ℕ, ◌+◌, ◌≤◌, ◌==◌, Bool
 use Rattle.osc_model.specs.Limits.{Limits}
 use Rattle.osc_model.specs.State.{State, opening}
 use Rattle.osc_model.specs.Enrolled.{enrols, callers_in}
-use Rattle.osc_model.specs.Events.{Event, enrol, Answer, number, callers_full, units_full, pool_full, refused, not_there, clock_back, nothing_due, record_full, Entry}
+use Rattle.osc_model.specs.Events.{Event, enrol, Answer, number, callers_full, units_full, pool_full, refused, not_there, clock_back, nothing_due, record_full}
+use Rattle.osc_model.specs.Events.{Entry}
 use Rattle.osc_model.specs.Refusals.{IsRefusal}
 use Rattle.osc_model.specs.Step.{step, decided, leaves}
 use Rattle.osc_model.specs.History.{LegalFrom, Legal, after}

@@ -8,7 +8,8 @@ use Rattle.osc_tree.specs.Adding.{Refusal, add_refusal}
 use Rattle.osc_model.specs.State.{State, Queued, registry}
 use Rattle.osc_model.specs.Counts.{free_places, free_blocks}
 use Rattle.osc_model.specs.Recordings.{entry_size}
-use Rattle.osc_model.specs.Events.{Event, enrol, submit, add, remove, tick, release, Answer, number, callers_full, queued, units_full, pool_full, added, removed, ticked, clock_back, nothing_due}
+use Rattle.osc_model.specs.Events.{Event, enrol, submit, add, remove, tick, release, Answer, number, callers_full, queued, units_full, pool_full, added}
+use Rattle.osc_model.specs.Events.{removed, ticked, clock_back, nothing_due}
 use Rattle.osc_model.specs.Step.{Stepped, step, decided, leaves, after_submit, add_at, remove_at, releases, release_first}
 use Rattle.osc_model.proofs.Stepping.{noted, step_so}
 

@@ -2,12 +2,14 @@
 use Rattle.std.proofs.Common.{◌≡◌, ℕ, ◌+◌, List, [], ◌∷◌, ◌++◌, length, take, sym, subst, append_assoc, map, refl, ap, ◌∙◌}
 use Rattle.std.specs.List.Sorted.{IsPermutation}
 use Rattle.std.proofs.lemmas.List.{append-nil}
-use Rattle.std.proofs.lemmas.List.Sorted.{IsPermutation-refl, IsPermutation-trans, IsPermutation-append_comm, IsPermutation-append_left, IsPermutation-append_right}
+use Rattle.std.proofs.lemmas.List.Sorted.{IsPermutation-refl, IsPermutation-trans, IsPermutation-append_comm, IsPermutation-append_left}
+use Rattle.std.proofs.lemmas.List.Sorted.{IsPermutation-append_right}
 use Rattle.osc_packet.specs.Units.{TimedUnit}
 use Rattle.osc_packet.specs.Reading.{units_read}
 use Rattle.osc_queue.specs.Timed.{unit_of}
 use Rattle.osc_model.specs.State.{Queued, State}
-use Rattle.osc_model.specs.Events.{Event, Answer, number, callers_full, queued, units_full, pool_full, added, refused, removed, not_there, ticked, clock_back, released, nothing_due, record_full, Entry}
+use Rattle.osc_model.specs.Events.{Event, Answer, number, callers_full, queued, units_full, pool_full, added, refused, removed, not_there, ticked, clock_back}
+use Rattle.osc_model.specs.Events.{released, nothing_due, record_full, Entry}
 use Rattle.osc_model.specs.Refusals.{IsRefusal}
 use Rattle.osc_model.specs.Step.{Stepped, step, decided, leaves, numbered, enter_all}
 use Rattle.osc_model.specs.History.{after}

@@ -1,5 +1,6 @@
 -- Lists of methods that grow and shrink, and stay lawful.
-use Rattle.std.proofs.Common.{◌≡◌, ◌≢◌, ℕ, zero, suc, ◌+◌, ◌≤◌, ◌==◌, Bool, true, false, not, cond, ◌||◌, nat_lt, List, [], ◌∷◌, ◌++◌, length, filter, find, Option, Some, None, All, refl, ap, subst, arith, append_assoc}
+use Rattle.std.proofs.Common.{◌≡◌, ◌≢◌, ℕ, zero, suc, ◌+◌, ◌≤◌, ◌==◌, Bool, true, false, not, cond, ◌||◌, nat_lt, List, [], ◌∷◌, ◌++◌, length, filter, find}
+use Rattle.std.proofs.Common.{Option, Some, None, All, refl, ap, subst, arith, append_assoc}
 use Rattle.std.specs.List.{list_any, AllPairs, Contains}
 use Rattle.std.specs.Option.{option_map, option_or}
 use Rattle.std.specs.Str.{bytes_eq}

@@ -1,5 +1,6 @@
 -- How many bytes the header and each entry of a recording have.
-use Rattle.std.proofs.Common.{◌≡◌, ℕ, ◌+◌, ◌-◌, ◌*◌, ◌%◌, ℤ, List, [], ◌∷◌, ◌++◌, length, replicate, codes, Option, Some, None, refl, arith, ap, ◌∙◌, length-append, append-nil}
+use Rattle.std.proofs.Common.{◌≡◌, ℕ, ◌+◌, ◌-◌, ◌*◌, ◌%◌, ℤ, List, [], ◌∷◌, ◌++◌, length, replicate, codes, Option, Some, None, refl, arith, ap, ◌∙◌}
+use Rattle.std.proofs.Common.{length-append, append-nil}
 use Rattle.std.specs.Prelude.{option_map}
 use Rattle.std.specs.Option.{option_map_or}
 use Rattle.std.proofs.lemmas.List.{length-replicate}
@@ -7,7 +8,8 @@ use Rattle.osc_atoms.specs.Atoms.{word, tag, string, blob, blob_end}
 use Rattle.osc_message.specs.Messages.{tag_string}
 use Rattle.osc_model.specs.Events.{Event, enrol, submit, add, remove, tick, release, Hit, Answer}
 use Rattle.osc_model.specs.Limits.{Limits}
-use Rattle.osc_model.specs.Recordings.{Row, row_of, row_text, sized, header_text, entry_text, entry_size, FitsRow, enrolled, submitted, adding, removing, ticking, releasing, enrol_row, submit_row, add_row, remove_row, tick_row, release_row, hits_text}
+use Rattle.osc_model.specs.Recordings.{Row, row_of, row_text, sized, header_text, entry_text, entry_size, FitsRow, enrolled, submitted, adding, removing}
+use Rattle.osc_model.specs.Recordings.{ticking, releasing, enrol_row, submit_row, add_row, remove_row, tick_row, release_row, hits_text}
 
 pub length-hits_text : (hits : List Hit) → length (hits_text hits) ≡ 8 * length hits
 length-hits_text [] = refl

@@ -1,5 +1,6 @@
 -- What holds of a server at every moment.
-use Rattle.std.proofs.Common.{◌≡◌, ◌≢◌, ◌↔◌, ℕ, ◌+◌, ◌-◌, ◌<◌, ◌≤◌, ◌==◌, Bool, true, false, cond, nat_le, nat_lt, IsTrue, List, [], ◌∷◌, ◌++◌, length, not, Option, Some, None, All, refl, arith}
+use Rattle.std.proofs.Common.{◌≡◌, ◌≢◌, ◌↔◌, ℕ, ◌+◌, ◌-◌, ◌<◌, ◌≤◌, ◌==◌, Bool, true, false, cond, nat_le, nat_lt, IsTrue, List, [], ◌∷◌, ◌++◌, length, not}
+use Rattle.std.proofs.Common.{Option, Some, None, All, refl, arith}
 use Rattle.std.specs.Str.{bytes_eq}
 use Rattle.std.proofs.lemmas.Bool.Decides.{nat_tests}
 use Rattle.std.proofs.lemmas.List.Elements.{All-nil, All-push, All-weaker, All-filter}
@@ -15,7 +16,8 @@ use Rattle.osc_model.specs.Limits.{Limits, AreInRange}
 use Rattle.osc_model.specs.State.{State, Queued, opening, registry}
 use Rattle.osc_model.specs.Counts.{queued_blocks, free_places, free_blocks}
 use Rattle.osc_model.specs.Recordings.{entry_size}
-use Rattle.osc_model.specs.Events.{Event, enrol, submit, add, remove, tick, release, units_full, pool_full, queued, number, callers_full, ticked, clock_back, nothing_due, Entry}
+use Rattle.osc_model.specs.Events.{Event, enrol, submit, add, remove, tick, release, units_full, pool_full, queued, number, callers_full, ticked, clock_back}
+use Rattle.osc_model.specs.Events.{nothing_due, Entry}
 use Rattle.osc_model.specs.Step.{step, decided, leaves, numbered, after_submit, add_at, remove_at, releases, release_first}
 use Rattle.osc_model.specs.History.{IsLawful, LegalFrom, Legal, IsSound, after}
 use Rattle.osc_model.proofs.Stepping.{step_so}

@@ -1,5 +1,6 @@
 -- What boxed methods hear of a server's invocations.
-use Rattle.std.specs.Prelude.{ℕ, ◌≤◌, ◌==◌, if◌then◌else◌, not, List, [], ◌∷◌, length, map, filter, Option, IfSome}
+use Rattle.std.specs.Prelude.{ℕ, ◌≤◌, ◌==◌, if◌then◌else◌, not, List, [], ◌∷◌, length, map, filter}
+use Rattle.std.specs.Prelude.{Option, IfSome}
 use Rattle.std.specs.Option.{option_map}
 use Rattle.std.specs.List.{flat_map}
 use Rattle.osc_method.specs.Calls.{call_text}

@@ -1,6 +1,7 @@
 -- Histories: the entries of a server, in order.
 use Rattle.osc_packet.specs.declared.limits.TheConstants.{MAX_PACKET}
-use Rattle.std.specs.Prelude.{◌≡◌, ℕ, ◌<◌, ◌≤◌, ◌^◌, IsTrue, if◌then◌else◌, List, [], ◌∷◌, ◌++◌, length, map, All}
+use Rattle.std.specs.Prelude.{◌≡◌, ℕ, ◌<◌, ◌≤◌, ◌^◌, IsTrue, if◌then◌else◌, List, [], ◌∷◌, ◌++◌}
+use Rattle.std.specs.Prelude.{length, map, All}
 use Rattle.std.specs.List.{AllByRecursion, Contains}
 use Rattle.std.specs.Option.{option_map}
 use Rattle.osc_pattern.specs.Addresses.{is_address}
@@ -10,7 +11,8 @@ use Rattle.osc_tree.specs.Registry.{IsLawful as IsLawfulRegistry}
 use Rattle.osc_model.specs.State.{State, Queued, AreNumbered, opening, registry}
 use Rattle.osc_model.specs.Limits.{Limits, AreInRange, header_size}
 use Rattle.osc_model.specs.Counts.{queued_blocks}
-use Rattle.osc_model.specs.Events.{Event, enrol, submit, add, remove, tick, release, Answer, nothing_due, record_full, Entry, adds_entry, Invocation}
+use Rattle.osc_model.specs.Events.{Event, enrol, submit, add, remove, tick, release, Answer}
+use Rattle.osc_model.specs.Events.{nothing_due, record_full, Entry, adds_entry, Invocation}
 use Rattle.osc_model.specs.Heard.{Told, heard_of}
 use Rattle.osc_model.specs.Step.{Stepped, step}
 use Rattle.osc_model.specs.Releases.{IsCallIn}

@@ -1,13 +1,18 @@
 -- A recording, written: the messages that stand for its header and its entries, each after its
 -- size.
-use Rattle.std.specs.Prelude.{ℕ, ◌+◌, ◌*◌, ◌<◌, ◌^◌, ℤ, pos, negsuc, List, [], ◌∷◌, ◌++◌, length, codes, Option, Some, None, option_map}
+use Rattle.std.specs.Prelude.{ℕ, ◌+◌, ◌*◌, ◌<◌, ◌^◌, ℤ, pos, negsuc, List, [], ◌∷◌, ◌++◌, length}
+use Rattle.std.specs.Prelude.{codes, Option, Some, None, option_map}
 use Rattle.std.specs.List.{flat_map, AllByRecursion}
 use Rattle.std.specs.Option.{option_map_or}
 use Rattle.std.specs.Int.{w32, from_be_bytes}
 use Rattle.osc_atoms.specs.Atoms.{word, string, blob_end}
-use Rattle.osc_message.specs.Messages.{Argument, integer, text, content, long, time, AllFit, known, message_text}
-use Rattle.osc_model.specs.Events.{Event, Entry, enrol, submit, add, remove, tick, release, Hit, Answer, number, callers_full, queued, units_full, pool_full, added, refused, removed, not_there, ticked, clock_back, released}
-use Rattle.osc_tree.specs.Adding.{Refusal, taken, under_method, is_container, methods_full, nodes_full}
+use Rattle.osc_message.specs.Messages.{Argument, integer, text, content, long, time, AllFit, known}
+use Rattle.osc_message.specs.Messages.{message_text}
+use Rattle.osc_model.specs.Events.{Event, Entry, enrol, submit, add, remove, tick, release, Hit}
+use Rattle.osc_model.specs.Events.{Answer, number, callers_full, queued, units_full, pool_full}
+use Rattle.osc_model.specs.Events.{added, refused, removed, not_there, ticked, clock_back, released}
+use Rattle.osc_tree.specs.Adding.{Refusal, taken, under_method, is_container, methods_full}
+use Rattle.osc_tree.specs.Adding.{nodes_full}
 use Rattle.osc_model.specs.Limits.{Limits}
 
 -- a message of the recording: its address, and its arguments, each under its tag

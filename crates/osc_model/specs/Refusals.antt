@@ -1,5 +1,6 @@
 -- The answers that change nothing but the recording.
-use Rattle.osc_model.specs.Events.{Answer, callers_full, units_full, pool_full, refused, not_there, clock_back, nothing_due, record_full}
+use Rattle.osc_model.specs.Events.{Answer, callers_full, units_full, pool_full, refused, not_there}
+use Rattle.osc_model.specs.Events.{clock_back, nothing_due, record_full}
 
 -- an event that is refused, or a release that finds nothing due
 abbrev pub IsRefusal : Answer → Type 0

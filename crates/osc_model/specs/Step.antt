@@ -1,5 +1,6 @@
 -- The rules of the server: what an event is answered, and what it leaves.
-use Rattle.std.specs.Prelude.{ℕ, ◌+◌, ◌==◌, max, nat_le, nat_lt, if◌then◌else◌, List, [], ◌∷◌, ◌++◌, length, map, Option, Some, None, is_some}
+use Rattle.std.specs.Prelude.{ℕ, ◌+◌, ◌==◌, max, nat_le, nat_lt, if◌then◌else◌, List, [], ◌∷◌, ◌++◌}
+use Rattle.std.specs.Prelude.{length, map, Option, Some, None, is_some}
 use Rattle.osc_pattern.specs.Methods.{Method}
 use Rattle.osc_message.specs.Reading.{pattern_of}
 use Rattle.osc_message.specs.Arguments.{unknown_of}
@@ -12,7 +13,10 @@ use Rattle.osc_queue.specs.Timed.{due_of, unit_of, enter}
 use Rattle.osc_model.specs.State.{State, Queued, registry}
 use Rattle.osc_model.specs.Counts.{free_places, free_blocks, free_bytes}
 use Rattle.osc_model.specs.Recordings.{entry_size}
-use Rattle.osc_model.specs.Events.{Event, enrol, submit, add, remove, tick, release, Answer, number, callers_full, queued, units_full, pool_full, added, refused, removed, not_there, ticked, clock_back, released, nothing_due, record_full, adds_entry, Hit, Call, Invocation}
+use Rattle.osc_model.specs.Events.{Event, enrol, submit, add, remove, tick, release, Answer, number}
+use Rattle.osc_model.specs.Events.{callers_full, queued, units_full, pool_full, added, refused}
+use Rattle.osc_model.specs.Events.{removed, not_there, ticked, clock_back, released, nothing_due}
+use Rattle.osc_model.specs.Events.{record_full, adds_entry, Hit, Call, Invocation}
 
 -- what a step gives: the answer, the state after it, and whom it invoked
 pub record Stepped : Type 0 where

@@ -1,11 +1,13 @@
 -- A packet's text is read as its units.
-use Rattle.std.proofs.Common.{◌≡◌, ℕ, ◌+◌, ◌-◌, ◌<◌, ◌≤◌, ◌^◌, Bool, true, false, cond, not, ◌==◌, List, [], ◌∷◌, ◌++◌, length, Option, Some, None, refl, sym, ◌∙◌, ap, arith, length-append, append-nil}
+use Rattle.std.proofs.Common.{◌≡◌, ℕ, ◌+◌, ◌-◌, ◌<◌, ◌≤◌, ◌^◌, Bool, true, false, cond, not, ◌==◌, List, [], ◌∷◌, ◌++◌, length, Option, Some, None, refl, sym}
+use Rattle.std.proofs.Common.{◌∙◌, ap, arith, length-append, append-nil}
 use Rattle.std.specs.Prelude.{slice_index}
 use Rattle.std.specs.List.{filter, flat_map}
 use Rattle.std.proofs.lemmas.Bool.{cond-true, cond-false}
 use Rattle.osc_atoms.specs.Atoms.{word}
 use Rattle.osc_message.specs.Messages.{Form, message_text, IsLawful}
-use Rattle.osc_packet.specs.Packets.{Packet, Elements, message, bundle, none, more, packet_text, elements_text, depth, elements_depth, effective_tag, IsLawfulIn, AreLawfulIn}
+use Rattle.osc_packet.specs.Packets.{Packet, Elements, message, bundle, none, more, packet_text, elements_text, depth, elements_depth, effective_tag}
+use Rattle.osc_packet.specs.Packets.{IsLawfulIn, AreLawfulIn}
 use Rattle.osc_packet.specs.Units.{TimedUnit, own_messages, bundle_units, enclosed_units, units_of}
 use Rattle.osc_packet.specs.Reading.{is_bundle, bundle_tag, elements_in, messages_in, bundle_read, enclosed_read, units_read}
 use Rattle.osc_packet.specs.Known.{OfMessages}

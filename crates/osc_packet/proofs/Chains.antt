@@ -2,7 +2,8 @@
 use Rattle.std.proofs.Common.{◌≡◌, ◌⊎◌, ℕ, List, Option, Some, None, refl, sym, ◌∙◌, subst, inl, inr}
 use Rattle.osc_atoms.specs.declared.fault.Fault.{Fault}
 use Rattle.osc_packet.specs.Faults.{moved}
-use Rattle.osc_packet.specs.Wants.{Want, some_byte, within, fourfold, begun, is_message, named_bundle, headed, shallow, in_time, sized, Stands, next_of, Names, Reaches, first, later, FirstFault}
+use Rattle.osc_packet.specs.Wants.{Want, some_byte, within, fourfold, begun, is_message, named_bundle, headed, shallow, in_time, sized, Stands, next_of, Names}
+use Rattle.osc_packet.specs.Wants.{Reaches, first, later, FirstFault}
 use Rattle.osc_packet.specs.Known.{OfMessages}
 
 -- the second want is reached from the first

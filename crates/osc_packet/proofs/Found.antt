@@ -1,5 +1,6 @@
 -- Bytes that are read without a fault are the text of a packet.
-use Rattle.std.proofs.Common.{◌≡◌, ℕ, zero, suc, ◌+◌, ◌-◌, ◌%◌, ◌<◌, ◌≤◌, Bool, true, false, cond, nat_lt, ◌==◌, List, ◌++◌, length, take, drop, Option, Some, None, Result, Ok, Err, refl, sym, ◌∙◌, ap, subst, inl, inr, arith, take-append-drop, length-drop}
+use Rattle.std.proofs.Common.{◌≡◌, ℕ, zero, suc, ◌+◌, ◌-◌, ◌%◌, ◌<◌, ◌≤◌, Bool, true, false, cond, nat_lt, ◌==◌, List, ◌++◌, length, take, drop, Option, Some}
+use Rattle.std.proofs.Common.{None, Result, Ok, Err, refl, sym, ◌∙◌, ap, subst, inl, inr, arith, take-append-drop, length-drop}
 use Rattle.std.specs.Prelude.{slice_index, option_map}
 use Rattle.std.specs.Option.{option_or}
 use Rattle.std.proofs.lemmas.Bool.{cases_lt, ltb-false}
@@ -7,11 +8,13 @@ use Rattle.std.proofs.lemmas.List.{drop-drop, length-take-le, nil_from_length}
 use Rattle.osc_atoms.specs.declared.fault.Fault.{Fault}
 use Rattle.osc_atoms.specs.Atoms.{AreBytes, word, tag}
 use Rattle.osc_message.specs.Reading.{message_fault}
-use Rattle.osc_packet.specs.Packets.{Packet, Elements, message, bundle, none, more, packet_text, elements_text, depth, elements_depth, bundle_word, IsLawfulIn, AreLawfulIn, IsPacket}
+use Rattle.osc_packet.specs.Packets.{Packet, Elements, message, bundle, none, more, packet_text, elements_text, depth, elements_depth, bundle_word, IsLawfulIn}
+use Rattle.osc_packet.specs.Packets.{AreLawfulIn, IsPacket}
 use Rattle.osc_atoms.specs.Faults.{empty, not_four, too_long, start}
 use Rattle.osc_packet.specs.Faults.{element_size, moved}
 use Rattle.osc_packet.specs.Wants.{IsSize}
-use Rattle.osc_packet.specs.Reading.{packet_fault, element_fault, body_fault, message_fault_at, fault_or, head_read, bundle_tag, first_size, first_element, after_first, begins_with_size}
+use Rattle.osc_packet.specs.Reading.{packet_fault, element_fault, body_fault, message_fault_at, fault_or, head_read, bundle_tag, first_size, first_element}
+use Rattle.osc_packet.specs.Reading.{after_first, begins_with_size}
 use Rattle.osc_packet.specs.Known.{OfMessages}
 use Rattle.osc_packet.proofs.Known.{front_bytes, rest_bytes}
 use Rattle.osc_packet.proofs.Steps.{joined, body_step, element_fault_is}

@@ -1,5 +1,6 @@
 -- A valid packet's text is read without a fault.
-use Rattle.std.proofs.Common.{◌≡◌, ℕ, ◌+◌, ◌-◌, ◌%◌, ◌<◌, ◌≤◌, ◌^◌, Bool, true, false, cond, not, nat_lt, ◌==◌, List, [], ◌++◌, length, take, drop, Option, Some, None, Result, Ok, Err, refl, sym, ◌∙◌, ap, subst, arith, length-append}
+use Rattle.std.proofs.Common.{◌≡◌, ℕ, ◌+◌, ◌-◌, ◌%◌, ◌<◌, ◌≤◌, ◌^◌, Bool, true, false, cond, not, nat_lt, ◌==◌, List, [], ◌++◌, length, take, drop, Option}
+use Rattle.std.proofs.Common.{Some, None, Result, Ok, Err, refl, sym, ◌∙◌, ap, subst, arith, length-append}
 use Rattle.std.specs.Prelude.{slice_index, option_map}
 use Rattle.std.specs.Option.{option_or}
 use Rattle.std.specs.List.{starts_with}
@@ -10,7 +11,8 @@ use Rattle.std.proofs.lemmas.Nat.{from_be_bytes-to_be_bytes_4, from_be_bytes-to_
 use Rattle.osc_atoms.specs.declared.fault.Fault.{Fault}
 use Rattle.osc_atoms.specs.Atoms.{word}
 use Rattle.osc_message.specs.Messages.{Form, message_text, IsLawful, IsMessage}
-use Rattle.osc_packet.specs.Packets.{Packet, Elements, message, bundle, none, more, packet_text, elements_text, depth, elements_depth, bundle_word, effective_tag, IsInTime, IsLawfulIn, AreLawfulIn, IsPacket}
+use Rattle.osc_packet.specs.Packets.{Packet, Elements, message, bundle, none, more, packet_text, elements_text, depth, elements_depth, bundle_word}
+use Rattle.osc_packet.specs.Packets.{effective_tag, IsInTime, IsLawfulIn, AreLawfulIn, IsPacket}
 use Rattle.osc_packet.specs.Faults.{no_bundle_word, no_bundle_head, too_deep, tag_before, moved}
 use Rattle.osc_packet.specs.Wants.{IsSize}
 use Rattle.osc_packet.specs.Reading.{packet_fault, element_fault, body_fault, head_read, fault_or, is_early, bundle_tag, first_size, first_element, after_first}

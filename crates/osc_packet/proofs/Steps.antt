@@ -1,5 +1,6 @@
 -- The reading of elements, one after another.
-use Rattle.std.proofs.Common.{◌≡◌, ℕ, zero, suc, ◌+◌, ◌-◌, ◌<◌, ◌≤◌, Bool, true, false, cond, ◌==◌, List, [], ◌∷◌, length, take, slice_index, not, nat_lt, Result, drop, Option, Some, None, Ok, Err, refl, sym, ◌∙◌, ap, arith, length-drop}
+use Rattle.std.proofs.Common.{◌≡◌, ℕ, zero, suc, ◌+◌, ◌-◌, ◌<◌, ◌≤◌, Bool, true, false, cond, ◌==◌, List, [], ◌∷◌, length, take, slice_index, not, nat_lt}
+use Rattle.std.proofs.Common.{Result, drop, Option, Some, None, Ok, Err, refl, sym, ◌∙◌, ap, arith, length-drop}
 use Rattle.std.specs.Option.{option_or}
 use Rattle.std.specs.List.{starts_with}
 use Rattle.std.proofs.Math.Numerals.{sub-one}
@@ -9,7 +10,9 @@ use Rattle.osc_atoms.specs.declared.fault.Fault.{Fault}
 use Rattle.osc_packet.specs.Packets.{bundle_word, effective_tag}
 use Rattle.osc_atoms.specs.Faults.{start}
 use Rattle.osc_packet.specs.Faults.{no_bundle_word, no_bundle_head, too_deep, element_size}
-use Rattle.osc_packet.specs.Reading.{first_size, first_element, after_first, begins_with_size, size_read, elements_fault, body_fault, element_fault, fault_with, fault_or, message_fault_at, is_bundle, head_read, elements_of, elements_in, messages_in, bundle_tag, bundle_read, enclosed_read}
+use Rattle.osc_packet.specs.Reading.{first_size, first_element, after_first, begins_with_size, size_read, elements_fault, body_fault, element_fault, fault_with}
+use Rattle.osc_packet.specs.Reading.{fault_or, message_fault_at, is_bundle, head_read, elements_of, elements_in, messages_in, bundle_tag, bundle_read}
+use Rattle.osc_packet.specs.Reading.{enclosed_read}
 
 -- what a reading of elements gives, by that of the first and that of the rest
 abbrev pub joined : (ℕ → List ℕ → Option Fault) → ℕ → List ℕ → Option Fault → Option Fault

@@ -1,5 +1,6 @@
 -- What the reading tells is the first fault.
-use Rattle.std.proofs.Common.{◌≡◌, ℕ, zero, suc, ◌+◌, ◌-◌, ◌%◌, ◌<◌, ◌≤◌, Bool, true, false, cond, not, nat_lt, nat_le, ◌&&◌, ◌==◌, List, [], ◌∷◌, length, take, drop, Option, Some, None, Result, Ok, Err, refl, sym, ◌∙◌, ap, subst, inl, inr, arith}
+use Rattle.std.proofs.Common.{◌≡◌, ℕ, zero, suc, ◌+◌, ◌-◌, ◌%◌, ◌<◌, ◌≤◌, Bool, true, false, cond, not, nat_lt, nat_le, ◌&&◌, ◌==◌, List, [], ◌∷◌, length, take}
+use Rattle.std.proofs.Common.{drop, Option, Some, None, Result, Ok, Err, refl, sym, ◌∙◌, ap, subst, inl, inr, arith}
 use Rattle.std.specs.Prelude.{slice_index, option_map}
 use Rattle.std.specs.Option.{option_or}
 use Rattle.std.specs.List.{starts_with}
@@ -14,8 +15,10 @@ use Rattle.osc_message.specs.Reading.{message_fault}
 use Rattle.osc_packet.specs.Packets.{bundle_word, effective_tag, IsInTime}
 use Rattle.osc_atoms.specs.Faults.{empty, too_long, not_four, start}
 use Rattle.osc_packet.specs.Faults.{no_bundle_word, no_bundle_head, too_deep, tag_before, moved, element_size}
-use Rattle.osc_packet.specs.Wants.{Want, Element, Frame, some_byte, within, fourfold, begun, is_message, named_bundle, headed, shallow, in_time, sized, Stands, next_of, after, announced, opened, own_tag, tag_around, word_of, part, bytes_of, IsSize, Reaches, first, later, FirstFault}
-use Rattle.osc_packet.specs.Reading.{packet_fault, fault_or, message_fault_at, head_read, is_early, bundle_tag, element_fault, body_fault, first_size, first_element, after_first, begins_with_size}
+use Rattle.osc_packet.specs.Wants.{Want, Element, Frame, some_byte, within, fourfold, begun, is_message, named_bundle, headed, shallow, in_time, sized, Stands}
+use Rattle.osc_packet.specs.Wants.{next_of, after, announced, opened, own_tag, tag_around, word_of, part, bytes_of, IsSize, Reaches, first, later, FirstFault}
+use Rattle.osc_packet.specs.Reading.{packet_fault, fault_or, message_fault_at, head_read, is_early, bundle_tag, element_fault, body_fault, first_size}
+use Rattle.osc_packet.specs.Reading.{first_element, after_first, begins_with_size}
 use Rattle.osc_packet.specs.Known.{OfMessages}
 use Rattle.osc_packet.proofs.Known.{front_bytes, rest_bytes}
 use Rattle.osc_packet.proofs.Chains.{Ended}

@@ -2,7 +2,8 @@
 -- place.
 use Rattle.std.specs.Prelude.{ℕ, ◌+◌}
 use Rattle.osc_atoms.specs.declared.fault.Fault.{Fault}
-use Rattle.osc_atoms.specs.declared.fault.TheConstants.Fault.{BUNDLE_WORD, BUNDLE_HEAD, ELEMENT_SIZE, TOO_DEEP, TAG_BEFORE}
+use Rattle.osc_atoms.specs.declared.fault.TheConstants.Fault.{BUNDLE_WORD, BUNDLE_HEAD}
+use Rattle.osc_atoms.specs.declared.fault.TheConstants.Fault.{ELEMENT_SIZE, TOO_DEEP, TAG_BEFORE}
 
 -- an element that begins with `#` and not with the bundle word, at its first byte
 abbrev pub no_bundle_word : ℕ → Fault

@@ -1,5 +1,6 @@
 -- Packets, written: what a packet is, and its bytes.
-use Rattle.std.specs.Prelude.{◌≡◌, ℕ, suc, ◌<◌, ◌≤◌, ◌^◌, ◌⊎◌, ◌==◌, max, List, [], ◌++◌, length, codes, if◌then◌else◌, Option, Some, None}
+use Rattle.std.specs.Prelude.{◌≡◌, ℕ, suc, ◌<◌, ◌≤◌, ◌^◌, ◌⊎◌, ◌==◌, max, List, [], ◌++◌, length}
+use Rattle.std.specs.Prelude.{codes, if◌then◌else◌, Option, Some, None}
 use Rattle.osc_atoms.specs.Atoms.{word, tag, string}
 use Rattle.osc_message.specs.Messages.{Form, message_text, IsLawful}
 

@@ -1,6 +1,8 @@
 -- Packets, read: the first fault, the elements and the units that stand in given bytes. `laws` ties
 -- them to what is written.
-use Rattle.std.specs.Prelude.{ℕ, zero, suc, ◌+◌, ◌-◌, ◌%◌, Bool, false, not, ◌&&◌, ◌==◌, nat_le, nat_lt, if◌then◌else◌, List, [], ◌∷◌, length, take, drop, filter, slice_index, Option, Some, None, option_map, is_none, Result, Ok, Err}
+use Rattle.std.specs.Prelude.{ℕ, zero, suc, ◌+◌, ◌-◌, ◌%◌, Bool, false, not, ◌&&◌, ◌==◌, nat_le}
+use Rattle.std.specs.Prelude.{nat_lt, if◌then◌else◌, List, [], ◌∷◌, length, take, drop, filter}
+use Rattle.std.specs.Prelude.{slice_index, Option, Some, None, option_map, is_none, Result, Ok, Err}
 use Rattle.std.specs.Option.{option_or}
 use Rattle.std.specs.List.{flat_map, starts_with}
 use Rattle.std.specs.Int.{w32, w64, from_be_bytes}
@@ -9,7 +11,8 @@ use Rattle.osc_message.specs.Reading.{message_fault}
 use Rattle.osc_packet.specs.Packets.{bundle_word, effective_tag, deepest}
 use Rattle.osc_packet.specs.Units.{TimedUnit}
 use Rattle.osc_atoms.specs.Faults.{empty, not_four, too_long, start}
-use Rattle.osc_packet.specs.Faults.{no_bundle_word, no_bundle_head, element_size, too_deep, tag_before, moved}
+use Rattle.osc_packet.specs.Faults.{no_bundle_word, no_bundle_head, element_size, too_deep}
+use Rattle.osc_packet.specs.Faults.{tag_before, moved}
 
 -- the size that the bytes begin with
 abbrev pub first_size : List ℕ → ℕ

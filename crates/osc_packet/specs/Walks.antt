@@ -1,11 +1,13 @@
 -- Inside the crate: the bundles that are open where a packet is gone through from front to back.
-use Rattle.std.specs.Prelude.{◌≡◌, ℕ, zero, suc, ◌-◌, ◌<◌, ◌≤◌, IsTrue, List, [], ◌++◌, length, slice_index_or, Some, None}
+use Rattle.std.specs.Prelude.{◌≡◌, ℕ, zero, suc, ◌-◌, ◌<◌, ◌≤◌, IsTrue, List, [], ◌++◌, length}
+use Rattle.std.specs.Prelude.{slice_index_or, Some, None}
 use Rattle.osc_packet.specs.declared.walk.OpenBundle.{OpenBundle}
 use Rattle.osc_packet.specs.declared.walk.Found.{Found}
 use Rattle.osc_packet.specs.Packets.{deepest}
 use Rattle.osc_packet.specs.Units.{TimedUnit}
 use Rattle.osc_packet.specs.Wants.{part}
-use Rattle.osc_packet.specs.Reading.{is_bundle, element_fault, body_fault, bundle_read, enclosed_read}
+use Rattle.osc_packet.specs.Reading.{is_bundle, element_fault, body_fault, bundle_read}
+use Rattle.osc_packet.specs.Reading.{enclosed_read}
 
 -- the open bundle with so many around it
 abbrev pub bundle_at : List OpenBundle → ℕ → OpenBundle

@@ -1,12 +1,14 @@
 -- The checks of a packet in their order, and the first fault.
-use Rattle.std.specs.Prelude.{◌≡◌, ◌⊎◌, ℕ, ◌+◌, ◌-◌, ◌%◌, ◌<◌, ◌≤◌, ◌==◌, nat_lt, if◌then◌else◌, List, [], ◌∷◌, length, take, drop, slice_index, Option, Some, None}
+use Rattle.std.specs.Prelude.{◌≡◌, ◌⊎◌, ℕ, ◌+◌, ◌-◌, ◌%◌, ◌<◌, ◌≤◌, ◌==◌, nat_lt, if◌then◌else◌}
+use Rattle.std.specs.Prelude.{List, [], ◌∷◌, length, take, drop, slice_index, Option, Some, None}
 use Rattle.std.specs.Int.{w32, w64, from_be_bytes}
 use Rattle.osc_atoms.specs.declared.fault.Fault.{Fault}
 use Rattle.osc_message.specs.Messages.{IsMessage}
 use Rattle.osc_message.specs.Wants.{FirstFault as FirstMessageFault}
 use Rattle.osc_packet.specs.Packets.{bundle_word, effective_tag, IsInTime, deepest}
 use Rattle.osc_atoms.specs.Faults.{empty, not_four, too_long, start}
-use Rattle.osc_packet.specs.Faults.{no_bundle_word, no_bundle_head, element_size, too_deep, tag_before, moved}
+use Rattle.osc_packet.specs.Faults.{no_bundle_word, no_bundle_head, element_size, too_deep}
+use Rattle.osc_packet.specs.Faults.{tag_before, moved}
 
 -- an open bundle: the place after its last byte, and its effective tag
 pub record Frame : Type 0 where

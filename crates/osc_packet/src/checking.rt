@@ -4,7 +4,8 @@ ghost use Rattle.std.specs.Prelude.{◌≡◌, ◌+◌, ◌%◌, ◌<◌, ◌≤
 ghost use Rattle.std.specs.Result.{result_err};
 ghost use Rattle.osc_packet.specs.Packets;
 ghost use Rattle.osc_packet.specs.Reading;
-ghost use Rattle.osc_packet.specs.Reading.{head_read, message_fault_at, element_fault, body_fault, packet_fault, size_read};
+ghost use Rattle.osc_packet.specs.Reading.{head_read, message_fault_at, element_fault, body_fault};
+ghost use Rattle.osc_packet.specs.Reading.{packet_fault, size_read};
 
 use osc_atoms::Fault;
 use osc_message::Message;

@@ -1,9 +1,11 @@
 //! What the definitions of packets say of each other. These functions do nothing; their contracts are the laws.
-ghost use Rattle.std.specs.Prelude.{◌≡◌, ◌<◌, ◌^◌, ◌↔◌, ℕ, List, [], ◌∷◌, ◌++◌, replicate, codes, Some, None};
+ghost use Rattle.std.specs.Prelude.{◌≡◌, ◌<◌, ◌^◌, ◌↔◌, ℕ, List, [], ◌∷◌, ◌++◌, replicate, codes};
+ghost use Rattle.std.specs.Prelude.{Some, None};
 ghost use Rattle.osc_atoms.specs.declared.fault.Fault.{Fault};
 ghost use Rattle.osc_atoms.specs.Atoms.{AreBytes};
 ghost use Rattle.osc_message.specs.Messages.{bare};
-ghost use Rattle.osc_packet.specs.Packets.{Packet, message, bundle, none, more, packet_text, IsValid, IsPacket};
+ghost use Rattle.osc_packet.specs.Packets.{Packet, message, bundle, none, more, packet_text};
+ghost use Rattle.osc_packet.specs.Packets.{IsValid, IsPacket};
 ghost use Rattle.osc_packet.specs.Units.{units_of, blocks};
 ghost use Rattle.osc_packet.specs.Wants.{FirstFault};
 ghost use Rattle.osc_packet.specs.Reading.{packet_fault, units_read};

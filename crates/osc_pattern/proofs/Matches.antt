@@ -1,5 +1,6 @@
 -- A part matches by its first item, and then by the rest.
-use Rattle.std.proofs.Common.{◌≡◌, ◌⊎◌, inl, inr, Bor, ℕ, Bool, true, false, ◌||◌, ◌&&◌, ◌==◌, Some, None, Result, Ok, Err, List, [], ◌∷◌, length, refl, arith, sym, ap, ◌∙◌}
+use Rattle.std.proofs.Common.{◌≡◌, ◌⊎◌, inl, inr, Bor, ℕ, Bool, true, false, ◌||◌, ◌&&◌, ◌==◌, Some, None, Result, Ok, Err, List, [], ◌∷◌, length, refl, arith}
+use Rattle.std.proofs.Common.{sym, ap, ◌∙◌}
 use Rattle.std.specs.List.{list_any}
 use Rattle.std.proofs.lemmas.Bool.Decides.{nat_tests}
 use Rattle.osc_pattern.specs.Items.{Item}

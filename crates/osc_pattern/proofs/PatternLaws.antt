@@ -1,5 +1,6 @@
 -- Patterns are lawful exactly where they have no fault, and a fault is the first.
-use Rattle.std.proofs.Common.{◌≡◌, inl, inr, ℕ, suc, ◌+◌, ◌≤◌, Bool, true, false, cond, ◌&&◌, nat_lt, Option, Some, None, Result, Ok, Err, List, [], ◌∷◌, ◌++◌, length, refl, arith, sym, ap, subst, ◌∙◌}
+use Rattle.std.proofs.Common.{◌≡◌, inl, inr, ℕ, suc, ◌+◌, ◌≤◌, Bool, true, false, cond, ◌&&◌, nat_lt, Option, Some, None, Result, Ok, Err, List, [], ◌∷◌, ◌++◌}
+use Rattle.std.proofs.Common.{length, refl, arith, sym, ap, subst, ◌∙◌}
 use Rattle.std.proofs.lemmas.List.Splits.{length-slice_split}
 use Rattle.std.specs.Prelude.{All, ◌↔◌, count_by, IsTrue, option_map, position, is_none, if◌then◌else◌}
 use Rattle.std.specs.List.{list_any, list_all, flat_map, slice_split, onto_first, position_or_len}
@@ -12,10 +13,12 @@ use Rattle.std.proofs.lemmas.Bool.{ltb-true, ltb-false}
 use Rattle.osc_pattern.specs.Items.{Item, set, choice, item_text, is_item, is_slash, is_list_end, is_choice_end}
 use Rattle.osc_pattern.specs.Parts.{IsLawfulPart, MatchesName}
 use Rattle.osc_pattern.specs.Reading.{cut_at, first_item, read_part, match_part, match_read, with_first}
-use Rattle.osc_pattern.specs.Patterns.{IsPattern, IsUnclosed, IsOpenAt, IsFault, start, byte, unclosed, begins_with_slash, parts_of, is_outside, open_in, open_place, fault_after, pattern_fault, is_pattern, MatchParts, match_parts, Match, matches}
+use Rattle.osc_pattern.specs.Patterns.{IsPattern, IsUnclosed, IsOpenAt, IsFault, start, byte, unclosed, begins_with_slash, parts_of, is_outside, open_in}
+use Rattle.osc_pattern.specs.Patterns.{open_place, fault_after, pattern_fault, is_pattern, MatchParts, match_parts, Match, matches}
 use Rattle.osc_pattern.specs.declared.faults.PatternFault.{PatternFault}
 use Rattle.osc_pattern.proofs.Cutting.{CutAt, cut_at-cuts, neither, none_past}
-use Rattle.osc_pattern.proofs.Readings.{FirstItem, IsStuck, first_item-found, first_item-written, read_part-item, read_part-stuck, IsPart-read, IsRead, read_part-read}
+use Rattle.osc_pattern.proofs.Readings.{FirstItem, IsStuck, first_item-found, first_item-written, read_part-item, read_part-stuck, IsPart-read, IsRead}
+use Rattle.osc_pattern.proofs.Readings.{read_part-read}
 use Rattle.osc_pattern.proofs.Cuts.{match_items-sound, match_items-complete}
 
 pub All-head : (P : List ℕ → Type 0) (x : List ℕ) (xs : List (List ℕ)) → All P (x ∷ xs) → P x

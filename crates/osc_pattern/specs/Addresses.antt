@@ -1,9 +1,13 @@
 -- Addresses of methods: a slash before each name.
 use Rattle.osc_pattern.specs.declared.limits.TheConstants.{MAX_ADDRESS, MAX_NAME, MAX_NAMES}
-use Rattle.std.specs.Prelude.{◌≡◌, ℕ, ◌≤◌, Bool, false, not, ◌&&◌, ◌||◌, ◌==◌, nat_le, nat_lt, nat_eq, IsTrue, List, [], ◌∷◌, ◌++◌, length, All, find, codes, Option, is_none}
+use Rattle.std.specs.Prelude.{◌≡◌, ℕ, ◌≤◌, Bool, false, not, ◌&&◌, ◌||◌, ◌==◌, nat_le, nat_lt}
+use Rattle.std.specs.Prelude.{nat_eq, IsTrue, List, [], ◌∷◌, ◌++◌, length, All, find, codes, Option}
+use Rattle.std.specs.Prelude.{is_none}
 use Rattle.std.specs.List.{list_any, starts_with}
 use Rattle.osc_pattern.specs.declared.faults.AddressFault.{AddressFault}
-use Rattle.osc_pattern.specs.declared.faults.AddressFault.TheVariants.{NoSlash, EmptyName, BadByte, NameLong, AddressLong, TooManyParts, NoMemory}
+use Rattle.osc_pattern.specs.declared.faults.AddressFault.TheVariants.{NoSlash, EmptyName, BadByte}
+use Rattle.osc_pattern.specs.declared.faults.AddressFault.TheVariants.{NameLong, AddressLong}
+use Rattle.osc_pattern.specs.declared.faults.AddressFault.TheVariants.{TooManyParts, NoMemory}
 use Rattle.osc_pattern.specs.Patterns.{begins_with_slash, parts_of}
 
 -- a byte that no name has: outside 0x21 to 0x7e, or one of `#*,?[]{}`

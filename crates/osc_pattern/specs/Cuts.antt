@@ -1,5 +1,6 @@
 -- The plain matcher, which tries each way to cut a name.
-use Rattle.std.specs.Prelude.{ℕ, ◌+◌, Bool, true, false, ◌&&◌, ◌||◌, ◌==◌, if◌then◌else◌, List, [], ◌∷◌, drop, take, length}
+use Rattle.std.specs.Prelude.{ℕ, ◌+◌, Bool, true, false, ◌&&◌, ◌||◌, ◌==◌, if◌then◌else◌, List, []}
+use Rattle.std.specs.Prelude.{◌∷◌, drop, take, length}
 use Rattle.std.specs.List.{list_any, slice_split, flat_map}
 use Rattle.std.specs.Str.{bytes_eq}
 use Rattle.osc_pattern.specs.Items.{Item, any, star, set, choice, plain, is_comma, is_in_set}

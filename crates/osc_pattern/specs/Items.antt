@@ -1,7 +1,8 @@
 -- Items of a pattern: how each is written, and which texts it matches.
 -- The bytes are `!` 33, `*` 42, `,` 44, `-` 45, `/` 47, `?` 63, `[` 91, `]` 93, `{` 123 and `}`
 -- 125.
-use Rattle.std.specs.Prelude.{◌≡◌, ℕ, min, max, Bool, true, false, ◌&&◌, ◌||◌, not, ◌==◌, nat_le, IsTrue, if◌then◌else◌, List, [], ◌∷◌, ◌++◌, length, Contains}
+use Rattle.std.specs.Prelude.{◌≡◌, ℕ, min, max, Bool, true, false, ◌&&◌, ◌||◌, not, ◌==◌, nat_le}
+use Rattle.std.specs.Prelude.{IsTrue, if◌then◌else◌, List, [], ◌∷◌, ◌++◌, length, Contains}
 use Rattle.std.specs.List.{list_any, slice_split}
 
 -- an item of a part: `?`, `*`, a list in brackets, choices in braces, or one plain byte

@@ -1,5 +1,8 @@
 -- Patterns: a slash before each part.
-use Rattle.std.specs.Prelude.{◌≡◌, ℕ, ◌+◌, Bool, true, false, ◌&&◌, ◌||◌, ◌==◌, not, nat_le, IsTrue, if◌then◌else◌, List, [], ◌∷◌, ◌++◌, length, slice_get, unwrap_or, position, All, Option, Some, None, is_none, option_map, Result, Ok, Err, ◌⊎◌}
+use Rattle.std.specs.Prelude.{◌≡◌, ℕ, ◌+◌, Bool, true, false, ◌&&◌, ◌||◌, ◌==◌, not, nat_le, IsTrue}
+use Rattle.std.specs.Prelude.{if◌then◌else◌, List, [], ◌∷◌, ◌++◌, length, slice_get, unwrap_or}
+use Rattle.std.specs.Prelude.{position, All, Option, Some, None, is_none, option_map, Result, Ok}
+use Rattle.std.specs.Prelude.{Err, ◌⊎◌}
 use Rattle.std.specs.List.{flat_map, list_all, list_any, slice_split}
 use Rattle.osc_pattern.specs.declared.faults.PatternFault.{PatternFault}
 use Rattle.osc_pattern.specs.Items.{Item, item_text, is_item, is_slash, is_list_end, is_choice_end}

@@ -1,6 +1,9 @@
 -- A part read from left to right: its items, or the place of the first bracket that isn't closed.
-use Rattle.std.specs.Prelude.{ℕ, ◌+◌, zero, suc, Bool, false, ◌==◌, if◌then◌else◌, List, [], ◌∷◌, length, take, drop, position, Option, Some, None, option_map, Result, Ok, Err}
-use Rattle.osc_pattern.specs.Items.{Item, any, star, set, choice, plain, item_text, begins_range, is_slash, is_list_end, is_choice_end}
+use Rattle.std.specs.Prelude.{ℕ, ◌+◌, zero, suc, Bool, false, ◌==◌, if◌then◌else◌, List, [], ◌∷◌}
+use Rattle.std.specs.Prelude.{length, take, drop, position, Option, Some, None, option_map, Result}
+use Rattle.std.specs.Prelude.{Ok, Err}
+use Rattle.osc_pattern.specs.Items.{Item, any, star, set, choice, plain, item_text, begins_range}
+use Rattle.osc_pattern.specs.Items.{is_slash, is_list_end, is_choice_end}
 use Rattle.osc_pattern.specs.Cuts.{match_items}
 
 -- the ends of the first range of a list, and what follows it; a byte that begins no range stands

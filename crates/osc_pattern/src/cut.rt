@@ -1,5 +1,6 @@
 //! Cuts of texts at one byte.
-ghost use Rattle.std.specs.Prelude.{◌≡◌, ◌==◌, option_map, count_by, position, ◌∷◌, length, MatchOption, IfSome, [], ◌+◌};
+ghost use Rattle.std.specs.Prelude.{◌≡◌, ◌==◌, option_map, count_by, position, ◌∷◌, length};
+ghost use Rattle.std.specs.Prelude.{MatchOption, IfSome, [], ◌+◌};
 ghost use Rattle.std.specs.List.{slice_split};
 ghost use Rattle.osc_pattern.specs.Reading.{cut_at};
 

@@ -1,12 +1,16 @@
 //! Patterns.
 ghost use Rattle.osc_pattern.specs.declared.limits.TheConstants.{MAX_NAME, MAX_PATTERN};
-ghost use Rattle.std.specs.Prelude.{◌≡◌, ◌≤◌, ◌<◌, ◌+◌, ◌*◌, ◌↔◌, ℕ, length, count_by, nat_lt, false, IsTrue, IsOk, IfOk, IfErr, Err, slice_get, unwrap_or, is_ok, []};
+ghost use Rattle.std.specs.Prelude.{◌≡◌, ◌≤◌, ◌<◌, ◌+◌, ◌*◌, ◌↔◌, ℕ, length, count_by, nat_lt};
+ghost use Rattle.std.specs.Prelude.{false, IsTrue, IsOk, IfOk, IfErr, Err, slice_get, unwrap_or};
+ghost use Rattle.std.specs.Prelude.{is_ok, []};
 ghost use Rattle.std.specs.List.{list_any, slice_split};
 ghost use Rattle.std.specs.Result.{result_err};
 ghost use Rattle.osc_pattern.specs.Items.{is_slash};
 ghost use Rattle.osc_pattern.specs.Parts.{MatchesName};
 ghost use Rattle.osc_pattern.specs.Reading.{match_part};
-ghost use Rattle.osc_pattern.specs.Patterns.{IsPattern, IsFault, Match, begins_with_slash, parts_of, part_at, is_pattern, pattern_fault, matches, match_parts};
+ghost use Rattle.osc_pattern.specs.Patterns.{IsPattern, IsFault, Match, begins_with_slash};
+ghost use Rattle.osc_pattern.specs.Patterns.{parts_of, part_at, is_pattern, pattern_fault, matches};
+ghost use Rattle.osc_pattern.specs.Patterns.{match_parts};
 
 use crate::address::Address;
 use crate::check::first_fault;

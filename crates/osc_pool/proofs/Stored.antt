@@ -1,5 +1,6 @@
 -- A pool before and after bytes are stored and given back.
-use Rattle.std.proofs.Common.{◌≡◌, ◌≢◌, ℕ, ◌+◌, ◌-◌, ◌<◌, ◌≤◌, inl, inr, List, [], ◌∷◌, ◌++◌, length, get_or, set, sum_by, refl, sym, ap, ◌∙◌, subst, arith, zero-add}
+use Rattle.std.proofs.Common.{◌≡◌, ◌≢◌, ℕ, ◌+◌, ◌-◌, ◌<◌, ◌≤◌, inl, inr, List, [], ◌∷◌, ◌++◌, length, get_or, set, sum_by, refl, sym, ap, ◌∙◌, subst, arith}
+use Rattle.std.proofs.Common.{zero-add}
 use Rattle.std.proofs.lemmas.Bool.{cases_eq, cases_lt}
 use Rattle.std.proofs.lemmas.List.{length-set, get_or-set_same, get_or-set_other, get_or_past, ext_get_or}
 use Rattle.std.proofs.lemmas.List.Sums.{sum_by-set}
@@ -8,7 +9,8 @@ use Rattle.osc_pool.specs.Holding.{blocks_for, used_blocks, held_by, with_chain,
 use Rattle.osc_pool.specs.Paths.{path, behind, filled_up, text, paths_from, texts_from, times, uses, IsPath, AreWhole, IsWritten, IsSound}
 use Rattle.osc_pool.proofs.Counts.{times-append, times_head, times_part, times_parts}
 use Rattle.osc_pool.proofs.Live.{held_none, held_some, with_some, is_new, keeps_live, keeps_others, holds}
-use Rattle.osc_pool.proofs.Walks.{path-add, behind-add, path_kept, behind_kept, text_relinked, text_same, length-text, length-paths, length-texts, path_at, text_at, times_first, paths_set, paths_same, used-texts}
+use Rattle.osc_pool.proofs.Walks.{path-add, behind-add, path_kept, behind_kept, text_relinked, text_same, length-text, length-paths, length-texts, path_at}
+use Rattle.osc_pool.proofs.Walks.{text_at, times_first, paths_set, paths_same, used-texts}
 
 module _ {blocks : List (List ℕ)} {next sizes : List ℕ} {first free : ℕ} (is : IsSound blocks next sizes first free) where
   -- the blocks of the chain that begins at a block, found among all chains

@@ -1,5 +1,6 @@
 -- Blocks that follow one another by their links, and the bytes in them.
-use Rattle.std.proofs.Common.{◌≡◌, ℕ, zero, suc, ◌+◌, ◌-◌, ◌*◌, ◌<◌, ◌≤◌, min, inl, inr, List, [], ◌∷◌, ◌++◌, length, get_or, set, take, sum_by, refl, sym, ap, ◌∙◌, arith, length-append, zero-add}
+use Rattle.std.proofs.Common.{◌≡◌, ℕ, zero, suc, ◌+◌, ◌-◌, ◌*◌, ◌<◌, ◌≤◌, min, inl, inr, List, [], ◌∷◌, ◌++◌, length, get_or, set, take, sum_by, refl, sym, ap}
+use Rattle.std.proofs.Common.{◌∙◌, arith, length-append, zero-add}
 use Rattle.std.proofs.lemmas.Bool.{cases_lt}
 use Rattle.std.proofs.lemmas.List.{length-take, get_or-set_other, ext_get_or}
 use Rattle.std.proofs.lemmas.List.Sums.{sum_by-cons}

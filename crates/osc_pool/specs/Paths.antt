@@ -1,5 +1,6 @@
 -- Inside the crate: how chains and the free blocks lie in the blocks of a pool.
-use Rattle.std.specs.Prelude.{◌≡◌, ℕ, zero, suc, ◌+◌, ◌-◌, ◌<◌, ◌≤◌, ◌==◌, min, if◌then◌else◌, List, [], ◌∷◌, ◌++◌, length, replicate, take, slice_index_or, slice_set}
+use Rattle.std.specs.Prelude.{◌≡◌, ℕ, zero, suc, ◌+◌, ◌-◌, ◌<◌, ◌≤◌, ◌==◌, min, if◌then◌else◌, List}
+use Rattle.std.specs.Prelude.{[], ◌∷◌, ◌++◌, length, replicate, take, slice_index_or, slice_set}
 use Rattle.std.specs.List.{sum_by}
 use Rattle.osc_pool.specs.Holding.{blocks_for}
 

@@ -1,8 +1,10 @@
 // Blocks that follow one another by their links.
-ghost use Rattle.std.specs.Prelude.{◌≡◌, ◌-◌, ◌<◌, ◌≤◌, ◌^◌, ℕ, IfOk, length, max, replicate, take, vec_capacity};
+ghost use Rattle.std.specs.Prelude.{◌≡◌, ◌-◌, ◌<◌, ◌≤◌, ◌^◌, ℕ, IfOk, length, max, replicate, take};
+ghost use Rattle.std.specs.Prelude.{vec_capacity};
 ghost use Rattle.std.specs.List.{range_with_len};
 ghost use Rattle.osc_pool.specs.Holding.{blocks_for};
-ghost use Rattle.osc_pool.specs.Paths.{behind, filled_up, path, text, IsPath, IsPut, IsWritten, AreReached, AreWhole};
+ghost use Rattle.osc_pool.specs.Paths.{behind, filled_up, path, text, IsPath, IsPut, IsWritten};
+ghost use Rattle.osc_pool.specs.Paths.{AreReached, AreWhole};
 
 use crate::limits::BLOCK_SIZE;
 use std::alloc::{AllocError, Global};

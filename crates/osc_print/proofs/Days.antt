@@ -1,5 +1,6 @@
 -- The date of a day and of a second is the one that the calendar gives.
-use Rattle.std.proofs.Common.{◌≡◌, ◌∙◌, ℕ, zero, suc, ◌+◌, ◌-◌, ◌*◌, ◌/◌, ◌%◌, ◌<◌, ◌≤◌, ◌^◌, Bool, true, false, cond, nat_lt, [], ◌∷◌, ◌++◌, refl, ap, arith, pos, ◌-ℤ◌, ◌*ℤ◌, None}
+use Rattle.std.proofs.Common.{◌≡◌, ◌∙◌, ℕ, zero, suc, ◌+◌, ◌-◌, ◌*◌, ◌/◌, ◌%◌, ◌<◌, ◌≤◌, ◌^◌, Bool, true, false, cond, nat_lt, [], ◌∷◌, ◌++◌, refl, ap, arith}
+use Rattle.std.proofs.Common.{pos, ◌-ℤ◌, ◌*ℤ◌, None}
 use Rattle.std.proofs.lemmas.Bool.{ltb-false, ltb-true}
 use Rattle.jiff_core.specs.Calendar.{days_in_year, days_in_month, day_count}
 use Rattle.jiff_core.specs.Date.{epoch_day}

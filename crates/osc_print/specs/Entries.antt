@@ -3,8 +3,12 @@ use Rattle.std.specs.Prelude.{ℕ, List, [], ◌++◌, length, codes}
 use Rattle.std.specs.Fmt.{decimal}
 use Rattle.hex.specs.Hex.{encode_lower}
 use Rattle.osc_atoms.specs.Atoms.{tag}
-use Rattle.osc_tree.specs.Adding.{Refusal, taken, under_method, is_container, methods_full, nodes_full}
-use Rattle.osc_model.specs.Events.{Event, enrol, add, remove, submit, tick, release, Answer, number, callers_full, queued, units_full, pool_full, added, refused, removed, not_there, ticked, clock_back, released, Entry, Invocation}
+use Rattle.osc_tree.specs.Adding.{Refusal, taken, under_method, is_container, methods_full}
+use Rattle.osc_tree.specs.Adding.{nodes_full}
+use Rattle.osc_model.specs.Events.{Event, enrol, add, remove, submit, tick, release, Answer, number}
+use Rattle.osc_model.specs.Events.{callers_full, queued, units_full, pool_full, added, refused}
+use Rattle.osc_model.specs.Events.{removed, not_there, ticked, clock_back, released, Entry}
+use Rattle.osc_model.specs.Events.{Invocation}
 use Rattle.osc_print.specs.Words.{spaced}
 use Rattle.osc_print.specs.Lines.{line, call_text}
 

@@ -1,5 +1,6 @@
 // The date of a moment.
-ghost use Rattle.std.specs.Prelude.{◌≡◌, ◌-ℤ◌, ◌*ℤ◌, ◌/◌, ◌^◌, ◌++◌, ◌∷◌, [], pos, IfOk, string_bytes};
+ghost use Rattle.std.specs.Prelude.{◌≡◌, ◌-ℤ◌, ◌*ℤ◌, ◌/◌, ◌^◌, ◌++◌, ◌∷◌, [], pos, IfOk};
+ghost use Rattle.std.specs.Prelude.{string_bytes};
 ghost use Rattle.jiff_core.specs.DateTime.{civil_nanos};
 ghost use Rattle.jiff.specs.Names.{iso_datetime_text};
 ghost use Rattle.osc_print.specs.Dates;

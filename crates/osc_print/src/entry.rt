@@ -5,7 +5,8 @@ ghost use Rattle.osc_model.specs.Recordings.{hits_in};
 ghost use Rattle.osc_record.specs.Shown.{event_of, answer_of};
 ghost use Rattle.osc_record.specs.Left.{placed_of};
 ghost use Rattle.osc_print.specs.Words.{spaced, BeginsWith};
-ghost use Rattle.osc_print.specs.Entries.{named, named_room, moment_word, event_words, answer_words, entry_words, event_line};
+ghost use Rattle.osc_print.specs.Entries.{named, named_room, moment_word, event_words};
+ghost use Rattle.osc_print.specs.Entries.{answer_words, entry_words, event_line};
 
 use crate::Text;
 use osc_atoms::Room;

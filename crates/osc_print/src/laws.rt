@@ -1,7 +1,10 @@
 //! What the definitions say of examples. This function does nothing; its contract is the laws.
 ghost use Rattle.std.specs.Prelude.{◌≡◌, [], ◌∷◌, codes};
-ghost use Rattle.osc_tree.specs.Adding.{taken, under_method, is_container, methods_full, nodes_full};
-ghost use Rattle.osc_model.specs.Events.{enrol, add, remove, submit, tick, release, number, callers_full, queued, units_full, pool_full, added, refused, removed, not_there, ticked, clock_back, released};
+ghost use Rattle.osc_tree.specs.Adding.{taken, under_method, is_container, methods_full};
+ghost use Rattle.osc_tree.specs.Adding.{nodes_full};
+ghost use Rattle.osc_model.specs.Events.{enrol, add, remove, submit, tick, release, number};
+ghost use Rattle.osc_model.specs.Events.{callers_full, queued, units_full, pool_full, added};
+ghost use Rattle.osc_model.specs.Events.{refused, removed, not_there, ticked, clock_back, released};
 ghost use Rattle.osc_model.specs.Limits.{limits_of};
 ghost use Rattle.osc_print.specs.Entries.{event_line, invocation_text};
 ghost use Rattle.osc_print.specs.Lines.{fault_text, link_fault_text};

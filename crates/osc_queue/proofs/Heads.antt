@@ -1,5 +1,6 @@
 -- A heap's entries, in order.
-use Rattle.std.proofs.Common.{◌≡◌, ℕ, ◌+◌, ◌*◌, ◌^◌, ◌<◌, ◌≤◌, false, true, List, [], ◌∷◌, ◌++◌, length, take, drop, get_or, All, Contains, Some, refl, sym, ap, subst, ◌∙◌, arith}
+use Rattle.std.proofs.Common.{◌≡◌, ℕ, ◌+◌, ◌*◌, ◌^◌, ◌<◌, ◌≤◌, false, true, List, [], ◌∷◌, ◌++◌, length, take, drop, get_or, All, Contains, Some, refl, sym, ap}
+use Rattle.std.proofs.Common.{subst, ◌∙◌, arith}
 use Rattle.std.specs.Prelude.{slice_get}
 use Rattle.std.specs.List.{IsDistinct}
 use Rattle.std.specs.List.Sorted.{IsPermutation}
@@ -32,7 +33,8 @@ module _ {T : Type 0} where
   back_whole n xs ys same = ap (λ (k : ℕ). take k (xs ++ ys)) (sym same) ∙ take-append_seam xs ys
 
   -- no item is taken before the first of a heap
-  pub first_ahead : (xs : List (Entry T)) (x : Entry T) → IsHeap xs → 0 < length xs → x ≡ get_or xs 0 x → All (λ y. is_before y (item_of x) ≡ false) (items_of xs)
+  pub first_ahead : (xs : List (Entry T)) (x : Entry T) → IsHeap xs → 0 < length xs → x ≡ get_or xs 0 x
+      → All (λ y. is_before y (item_of x) ≡ false) (items_of xs)
   first_ahead xs x heap some is =
       All-map (λ (y : Item T). is_before y (item_of x) ≡ false) item_of xs
       (λ k d within. ap (is_before (item_at xs k d)) (read_at xs 0 x d some is) ∙ heap_first xs heap k k d (omega arith) within)

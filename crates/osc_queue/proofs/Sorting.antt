@@ -4,7 +4,8 @@ use Rattle.std.specs.List.{AllByRecursion}
 use Rattle.std.specs.List.Sorted.{IsPermutation}
 use Rattle.std.proofs.lemmas.Bool.{eqb-true}
 use Rattle.std.proofs.lemmas.List.Elements.{recursion_from_All, All-from_recursion}
-use Rattle.std.proofs.lemmas.List.Sorted.{IsPermutation-refl, IsPermutation-trans, IsPermutation-sym, IsPermutation-cons, IsPermutation-map, All-permutation, Contains-permutation, length_permutation}
+use Rattle.std.proofs.lemmas.List.Sorted.{IsPermutation-refl, IsPermutation-trans, IsPermutation-sym, IsPermutation-cons, IsPermutation-map, All-permutation}
+use Rattle.std.proofs.lemmas.List.Sorted.{Contains-permutation, length_permutation}
 use Rattle.std.proofs.lemmas.Map.Keys.{IsDistinct-IsPermutation, IsDistinct-head, IsDistinct-tail, IsDistinct-cons}
 use Rattle.osc_queue.specs.Timed.{Item, unit_of, is_before, enter, IsInOrder, IsNewUnit}
 use Rattle.osc_queue.specs.Views.{in_order, AreApart}
@@ -36,7 +37,8 @@ module _ {T : Type 0} where
   new_by_test : (x : Item T) (xs : List (Item T)) → AllByRecursion (λ u. (unit_of x == u) ≡ false) (map unit_of xs) → IsNewUnit (unit_of x) xs
   new_by_test x [] all = tt
   new_by_test x (y ∷ ys) all = (
-    λ same. let e : (unit_of x == unit_of y) ≡ true = eq-eqb (unit_of x) (unit_of y) (sym same) in let f : (unit_of x == unit_of y) ≡ false = all.0 in absurd (cc),
+    λ same. let e : (unit_of x == unit_of y) ≡ true = eq-eqb (unit_of x) (unit_of y) (sym same) in
+        let f : (unit_of x == unit_of y) ≡ false = all.0 in absurd (cc),
     new_by_test x ys all.1,
   )
 

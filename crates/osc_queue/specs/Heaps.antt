@@ -1,5 +1,6 @@
 -- Inside the crate: entries as a heap.
-use Rattle.std.specs.Prelude.{◌≡◌, ◌≢◌, ℕ, ◌+◌, ◌*◌, ◌<◌, ◌≤◌, false, List, length, Option, Some, None}
+use Rattle.std.specs.Prelude.{◌≡◌, ◌≢◌, ℕ, ◌+◌, ◌*◌, ◌<◌, ◌≤◌, false, List, length, Option, Some}
+use Rattle.std.specs.Prelude.{None}
 use Rattle.osc_queue.specs.declared.entry.Entry.{Entry}
 use Rattle.osc_queue.specs.Views.{before_at, above}
 

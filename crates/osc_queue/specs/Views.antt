@@ -1,5 +1,6 @@
 -- What the entries of a queue stand for.
-use Rattle.std.specs.Prelude.{◌≡◌, ℕ, ◌-◌, ◌/◌, ◌<◌, ◌≤◌, ◌==◌, Bool, false, List, [], ◌∷◌, map, length, slice_index_or}
+use Rattle.std.specs.Prelude.{◌≡◌, ℕ, ◌-◌, ◌/◌, ◌<◌, ◌≤◌, ◌==◌, Bool, false, List, [], ◌∷◌, map}
+use Rattle.std.specs.Prelude.{length, slice_index_or}
 use Rattle.std.specs.List.{IsDistinct}
 use Rattle.osc_queue.specs.declared.entry.Entry.{Entry}
 use Rattle.osc_queue.specs.Timed.{Item, unit_of, is_before, enter}

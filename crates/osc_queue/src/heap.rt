@@ -1,5 +1,6 @@
 // Entries as a binary heap: the one that is taken first stands first, and none is taken before the one above it.
-ghost use Rattle.std.specs.Prelude.{◌≡◌, ◌+◌, ◌*◌, ◌^◌, ◌-◌, ◌<◌, ◌≤◌, length, IsTrue, false, IfSome, IfNone};
+ghost use Rattle.std.specs.Prelude.{◌≡◌, ◌+◌, ◌*◌, ◌^◌, ◌-◌, ◌<◌, ◌≤◌, length, IsTrue, false};
+ghost use Rattle.std.specs.Prelude.{IfSome, IfNone};
 ghost use Rattle.std.specs.List.Sorted.{IsPermutation};
 ghost use Rattle.osc_queue.specs.Views.{before_at, above, IsHeap};
 ghost use Rattle.osc_queue.specs.Heaps.{Rises, Sinks, IsFirstBelow};
@@ -47,7 +48,8 @@ pub(crate) fn sink<T, L: Ledger>(entries: &mut [Entry<T>], steps: &mut Steps<L>)
     ensures heap { IsHeap entries.new }
     ensures same { IsPermutation entries.old entries.new }
     ensures counted { steps.old ≤ steps.new }
-    ensures bounded { 2 ^ (steps.new - steps.old) ≤ (length entries.old + 1) * (length entries.old + 1) }
+    ensures bounded { 2 ^ (steps.new - steps.old)
+        ≤ (length entries.old + 1) * (length entries.old + 1) }
 {
     let mut place = 0;
     while let Some(next) = sink_once(entries, place, steps) {

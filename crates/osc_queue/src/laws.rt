@@ -2,7 +2,8 @@
 ghost use Rattle.std.specs.Prelude.{◌≡◌, ◌≢◌, ◌<◌, ◌↔◌, ◌⊎◌, true, List, ◌∷◌};
 ghost use Rattle.std.specs.List.{Contains};
 ghost use Rattle.std.specs.List.Sorted.{IsPermutation};
-ghost use Rattle.osc_queue.specs.Timed.{Item, due_of, unit_of, is_before, enter, IsInOrder, IsLeast, IsNewUnit};
+ghost use Rattle.osc_queue.specs.Timed.{Item, due_of, unit_of, is_before, enter, IsInOrder};
+ghost use Rattle.osc_queue.specs.Timed.{IsLeast, IsNewUnit};
 
 /// An item is taken before another if it is due earlier, or at the same moment with the lower unit number. Of two
 /// items with different unit numbers, one is taken before the other, and never both.

@@ -1,5 +1,7 @@
 //! The timed queue: items in the order of due moment and unit number, in a heap whose room is reserved at opening.
-ghost use Rattle.std.specs.Prelude.{◌≡◌, ◌+◌, ◌-◌, ◌*◌, ◌^◌, ◌<◌, ◌≤◌, ◌↔◌, List, [], ◌∷◌, length, Some, slice_get, IsNone, IsErr, IfOk, IfErr, IfSome, IfNone, OnOk, OnErr, slice_index_or, vec_len, vec_capacity};
+ghost use Rattle.std.specs.Prelude.{◌≡◌, ◌+◌, ◌-◌, ◌*◌, ◌^◌, ◌<◌, ◌≤◌, ◌↔◌, List, [], ◌∷◌, length};
+ghost use Rattle.std.specs.Prelude.{Some, slice_get, IsNone, IsErr, IfOk, IfErr, IfSome, IfNone};
+ghost use Rattle.std.specs.Prelude.{OnOk, OnErr, slice_index_or, vec_len, vec_capacity};
 ghost use Rattle.std.specs.List.{Contains};
 ghost use Rattle.std.specs.List.Sorted.{IsPermutation};
 ghost use Rattle.osc_queue.specs.Timed.{due_of, enter, IsInOrder, IsLeast, IsNewUnit, NoneIsDue};
@@ -33,7 +35,8 @@ impl<T> Model for Queue<T> {
 
     ghost use Rattle.osc_queue.specs.Views.{items_of, in_order, IsReserved};
 
-    ghost view = { λ queue. record { limit = queue.limit; items = in_order (items_of queue.entries.items) } };
+    ghost view = { λ queue.
+        record { limit = queue.limit; items = in_order (items_of queue.entries.items) } };
 
     ghost invariant = { λ queue. IsReserved queue.entries.items queue.limit
         (vec_capacity queue.entries) };

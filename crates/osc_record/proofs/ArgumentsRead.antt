@@ -1,6 +1,7 @@
 -- The arguments that are read were there.
 use Rattle.std.proofs.Common.{◌≡◌, ℕ, ℤ, pos, negsuc, List, [], ◌∷◌, Option, Some, refl, ap}
-use Rattle.osc_message.specs.Messages.{Argument, integer, float, text, content, long, time, double, symbol, character, rgba, midi, true_, false_, nil, infinitum, array_start, array_end}
+use Rattle.osc_message.specs.Messages.{Argument, integer, float, text, content, long, time, double, symbol, character, rgba, midi, true_, false_, nil}
+use Rattle.osc_message.specs.Messages.{infinitum, array_start, array_end}
 use Rattle.osc_model.specs.Recordings.{int}
 use Rattle.osc_record.specs.Reading.{int_first, signed_first, long_first, time_first, text_first, content_first, at_end}
 

@@ -1,5 +1,7 @@
 -- Bytes that are read as a recording are its text.
-use Rattle.std.proofs.Common.{◌≡◌, ◌⊎◌, ℕ, ◌+◌, ◌%◌, ◌&&◌, ◌≤◌, zero, suc, Bool, true, false, cond, ◌==◌, List, [], ◌∷◌, ◌++◌, length, take, drop, map, Option, Some, None, Ok, Err, Result, refl, sym, ap, ◌∙◌, subst, inl, inr, arith, codes, leb-true, length-append, length-drop, take-append-drop, append_assoc}
+use Rattle.std.proofs.Common.{◌≡◌, ◌⊎◌, ℕ, ◌+◌, ◌%◌, ◌&&◌, ◌≤◌, zero, suc, Bool, true, false, cond, ◌==◌, List, [], ◌∷◌, ◌++◌, length, take, drop, map, Option}
+use Rattle.std.proofs.Common.{Some, None, Ok, Err, Result, refl, sym, ap, ◌∙◌, subst, inl, inr, arith, codes, leb-true, length-append, length-drop}
+use Rattle.std.proofs.Common.{take-append-drop, append_assoc}
 use Rattle.std.specs.Prelude.{option_and_then, option_map, nat_lt, nat_le, if◌then◌else◌, is_ok, IsTrue}
 use Rattle.std.specs.Int.{w32, to_be_bytes, from_be_bytes}
 use Rattle.std.specs.List.{flat_map, AllByRecursion}
@@ -14,7 +16,8 @@ use Rattle.osc_message.specs.Arguments.{message_arguments}
 use Rattle.osc_model.specs.Limits.{Limits, IsWithin, AreInRange, is_within, limit_fault}
 use Rattle.osc_model.specs.Events.{Entry as Recorded}
 use Rattle.osc_model.specs.Recordings.{Row, row_text, sized, entry_text, header_text, record_text, FitsRow, IsRecordable}
-use Rattle.osc_record.specs.Reading.{row_read, entry_of, bytes_of_size, message_first, entry_first, Placed, onto_read, before_read, entries_read, entries_after, header_of, header_read, placed_in, IsRecord}
+use Rattle.osc_record.specs.Reading.{row_read, entry_of, bytes_of_size, message_first, entry_first, Placed, onto_read, before_read, entries_read, entries_after}
+use Rattle.osc_record.specs.Reading.{header_of, header_read, placed_in, IsRecord}
 use Rattle.osc_record.proofs.Again.{cond_gives, each_of_three, first_more}
 use Rattle.osc_record.proofs.ArgumentsRead.{some_is}
 use Rattle.osc_record.proofs.Spelled.{Spelled, spelled, front_bytes, rest_bytes, message_bytes, header_was, none_some, both_true}

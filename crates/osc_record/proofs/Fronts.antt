@@ -1,5 +1,6 @@
 -- Messages of a recording, by the address and the tags that they begin with.
-use Rattle.std.proofs.Common.{◌≡◌, ℕ, ◌+◌, ◌%◌, ◌<◌, ◌≤◌, Bool, true, false, cond, ◌==◌, ℤ, List, [], ◌∷◌, ◌++◌, length, drop, Option, Some, None, Ok, Err, Result, refl, sym, ap, ◌∙◌, subst, arith, codes, length-append, eqb-true, eq-eqb, le-leb}
+use Rattle.std.proofs.Common.{◌≡◌, ℕ, ◌+◌, ◌%◌, ◌<◌, ◌≤◌, Bool, true, false, cond, ◌==◌, ℤ, List, [], ◌∷◌, ◌++◌, length, drop, Option, Some, None, Ok, Err}
+use Rattle.std.proofs.Common.{Result, refl, sym, ap, ◌∙◌, subst, arith, codes, length-append, eqb-true, eq-eqb, le-leb}
 use Rattle.std.specs.Prelude.{⊤, option_map, is_ok, if◌then◌else◌}
 use Rattle.std.specs.List.{list_any, starts_with}
 use Rattle.std.specs.Option.{option_map_or}
@@ -17,11 +18,13 @@ use Rattle.osc_pattern.specs.Patterns.{IsPattern}
 use Rattle.osc_pattern.proofs.PatternLaws.{IsPattern-read}
 use Rattle.osc_message.specs.Tags.{is_unknown}
 use Rattle.osc_message.specs.ArgumentReading.{arguments_of}
-use Rattle.osc_message.specs.Reading.{Parts, begins, brackets_read, tags_read, unless_fault, comma_read, lawful_read, message_read, arguments_read, limited_read, parts_of, pattern_of}
+use Rattle.osc_message.specs.Reading.{Parts, begins, brackets_read, tags_read, unless_fault, comma_read, lawful_read, message_read, arguments_read}
+use Rattle.osc_message.specs.Reading.{limited_read, parts_of, pattern_of}
 use Rattle.osc_message.specs.Arguments.{arguments_in, message_arguments}
 use Rattle.osc_model.specs.Events.{Event, enrol, submit, add, remove, tick, release, Answer, Hit}
 use Rattle.osc_model.specs.Events.{Entry as Recorded}
-use Rattle.osc_model.specs.Recordings.{row_of, row_text, sized, entry_text, FitsRow, enrolled, submitted, adding, removing, ticking, releasing, hits_text, enrol_row, submit_row, add_row, remove_row, tick_row, release_row}
+use Rattle.osc_model.specs.Recordings.{row_of, row_text, sized, entry_text, FitsRow, enrolled, submitted, adding, removing, ticking, releasing, hits_text}
+use Rattle.osc_model.specs.Recordings.{enrol_row, submit_row, add_row, remove_row, tick_row, release_row}
 use Rattle.osc_record.specs.Reading.{row_read, entry_of}
 use Rattle.osc_record.proofs.Lawful.{enrol_address, submit_address, add_address, remove_address, tick_address, release_address}
 use Rattle.osc_record.proofs.EntriesRead.{entry_was}

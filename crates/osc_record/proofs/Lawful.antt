@@ -1,5 +1,6 @@
 -- The messages of a recording are lawful, and are read as the entries that they stand for.
-use Rattle.std.proofs.Common.{◌≡◌, ℕ, ◌%◌, ◌≤◌, true, ◌==◌, ℤ, List, [], ◌∷◌, length, Option, Some, None, Ok, Err, Result, refl, ap, ◌∙◌, inl, inr, arith, codes, eq-eqb, lt-ltb}
+use Rattle.std.proofs.Common.{◌≡◌, ℕ, ◌%◌, ◌≤◌, true, ◌==◌, ℤ, List, [], ◌∷◌, length, Option, Some, None, Ok, Err, Result, refl, ap, ◌∙◌, inl, inr, arith}
+use Rattle.std.proofs.Common.{codes, eq-eqb, lt-ltb}
 use Rattle.std.specs.Prelude.{⊤, option_map, is_ok}
 use Rattle.std.specs.Int.{w32, to_be_bytes, from_be_bytes}
 use Rattle.std.specs.List.{AllByRecursion}
@@ -16,9 +17,11 @@ use Rattle.osc_message.proofs.ArrayBrackets.{balance_seen, bracket_fault_again}
 use Rattle.osc_message.proofs.MessageLaws.{limited_again}
 use Rattle.osc_message.proofs.TextLaws.{pattern_again, known_arguments_again}
 use Rattle.osc_tree.specs.Adding.{taken, under_method, is_container, methods_full, nodes_full}
-use Rattle.osc_model.specs.Events.{Event, enrol, submit, add, remove, tick, release, Hit, Answer, number, callers_full, queued, units_full, pool_full, added, refused, removed, not_there, ticked, clock_back, released, nothing_due, record_full}
+use Rattle.osc_model.specs.Events.{Event, enrol, submit, add, remove, tick, release, Hit, Answer, number, callers_full, queued, units_full, pool_full, added}
+use Rattle.osc_model.specs.Events.{refused, removed, not_there, ticked, clock_back, released, nothing_due, record_full}
 use Rattle.osc_model.specs.Events.{Entry as Recorded}
-use Rattle.osc_model.specs.Recordings.{Row, row_of, row_text, FitsRow, IsHit, IsSound, enrolled, submitted, adding, removing, ticking, releasing, hits_text, hits_in, enrol_row, submit_row, add_row, remove_row, tick_row, release_row}
+use Rattle.osc_model.specs.Recordings.{Row, row_of, row_text, FitsRow, IsHit, IsSound, enrolled, submitted, adding, removing, ticking, releasing, hits_text}
+use Rattle.osc_model.specs.Recordings.{hits_in, enrol_row, submit_row, add_row, remove_row, tick_row, release_row}
 use Rattle.osc_model.proofs.Sizes.{length-hits_text}
 use Rattle.osc_record.specs.Reading.{row_read, entry_of}
 

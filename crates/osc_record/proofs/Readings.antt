@@ -1,5 +1,6 @@
 -- A recording that is written is read again, so no two have one text.
-use Rattle.std.proofs.Common.{◌≡◌, ℕ, ◌+◌, ◌<◌, ◌≤◌, true, ◌&&◌, zero, suc, List, [], ◌∷◌, ◌++◌, length, drop, map, Option, Some, None, Ok, Err, Result, refl, sym, ap, ◌∙◌, arith, length-append, codes, le-leb}
+use Rattle.std.proofs.Common.{◌≡◌, ℕ, ◌+◌, ◌<◌, ◌≤◌, true, ◌&&◌, zero, suc, List, [], ◌∷◌, ◌++◌, length, drop, map, Option, Some, None, Ok, Err, Result, refl}
+use Rattle.std.proofs.Common.{sym, ap, ◌∙◌, arith, length-append, codes, le-leb}
 use Rattle.std.specs.Prelude.{option_and_then, is_ok, is_none, if◌then◌else◌}
 use Rattle.std.specs.List.{flat_map, AllByRecursion}
 use Rattle.std.specs.Str.{bytes_eq}
@@ -10,7 +11,8 @@ use Rattle.osc_message.proofs.TextLaws.{pattern_again, known_arguments_again}
 use Rattle.osc_model.specs.Limits.{Limits, IsWithin, AreInRange, is_within, limit_fault}
 use Rattle.osc_model.specs.Events.{Entry as Recorded}
 use Rattle.osc_model.specs.Recordings.{row_text, header_row, header_text, entry_text, record_text, IsRecordable}
-use Rattle.osc_record.specs.Reading.{entry_first, Placed, onto_read, before_read, entries_read, limits_read, header_of, header_read, with_entries, record_read, placed_from, IsRecord}
+use Rattle.osc_record.specs.Reading.{entry_first, Placed, onto_read, before_read, entries_read, limits_read, header_of, header_read, with_entries, record_read}
+use Rattle.osc_record.specs.Reading.{placed_from, IsRecord}
 use Rattle.osc_record.proofs.Lawful.{rec_address, balanced}
 use Rattle.osc_record.proofs.Again.{drop_front, message_again, entry_first_again}
 use Rattle.osc_record.proofs.Kept.{entry_some}

@@ -1,5 +1,6 @@
 -- What is read as an entry was written as one.
-use Rattle.std.proofs.Common.{◌≡◌, ℕ, ◌%◌, ◌&&◌, ◌<◌, ◌^◌, zero, suc, Bool, true, false, cond, ◌==◌, ℤ, pos, negsuc, List, [], ◌∷◌, ◌++◌, length, Option, Some, None, refl, sym, ap, ◌∙◌, subst, arith, codes, eqb-true, ltb-true, lit<}
+use Rattle.std.proofs.Common.{◌≡◌, ℕ, ◌%◌, ◌&&◌, ◌<◌, ◌^◌, zero, suc, Bool, true, false, cond, ◌==◌, ℤ, pos, negsuc, List, [], ◌∷◌, ◌++◌, length, Option, Some}
+use Rattle.std.proofs.Common.{None, refl, sym, ap, ◌∙◌, subst, arith, codes, eqb-true, ltb-true, lit<}
 use Rattle.std.specs.Prelude.{option_map, nat_lt}
 use Rattle.std.specs.Int.{w32, to_be_bytes, from_be_bytes}
 use Rattle.std.specs.List.{flat_map, AllByRecursion}
@@ -8,11 +9,15 @@ use Rattle.std.proofs.lemmas.Nat.{be_bytes_4}
 use Rattle.std.proofs.lemmas.Slice.Eq.{bytes_eq-Decides}
 use Rattle.osc_atoms.specs.Atoms.{AreBytes, blob}
 use Rattle.osc_message.specs.Messages.{Argument, integer, text, content, long, time, atom_of}
-use Rattle.osc_model.specs.Events.{enrol, submit, add, remove, tick, release, Answer, number, callers_full, queued, units_full, pool_full, added, refused, removed, not_there, ticked, clock_back, released}
+use Rattle.osc_model.specs.Events.{enrol, submit, add, remove, tick, release, Answer, number, callers_full, queued, units_full, pool_full, added, refused}
+use Rattle.osc_model.specs.Events.{removed, not_there, ticked, clock_back, released}
 use Rattle.osc_tree.specs.Adding.{taken, under_method, is_container, methods_full, nodes_full}
 use Rattle.osc_model.specs.Events.{Entry as Recorded}
-use Rattle.osc_model.specs.Recordings.{int, enrolled, submitted, adding, removing, ticking, hits_text, hits_in, IsHit, IsSound, row_of, enrol_row, submit_row, add_row, remove_row, tick_row, release_row}
-use Rattle.osc_record.specs.Reading.{int_first, signed_first, long_first, time_first, text_first, content_first, answer_if, enrol_answer, submit_answer, add_answer, remove_answer, tick_answer, release_answer, enrol_read, submit_read, add_read, remove_read, tick_read, release_read, row_read}
+use Rattle.osc_model.specs.Recordings.{int, enrolled, submitted, adding, removing, ticking, hits_text, hits_in, IsHit, IsSound, row_of, enrol_row, submit_row}
+use Rattle.osc_model.specs.Recordings.{add_row, remove_row, tick_row, release_row}
+use Rattle.osc_record.specs.Reading.{int_first, signed_first, long_first, time_first, text_first, content_first, answer_if, enrol_answer, submit_answer}
+use Rattle.osc_record.specs.Reading.{add_answer, remove_answer, tick_answer, release_answer, enrol_read, submit_read, add_read, remove_read, tick_read}
+use Rattle.osc_record.specs.Reading.{release_read, row_read}
 use Rattle.osc_record.proofs.Again.{take_front, drop_front}
 use Rattle.osc_record.proofs.ArgumentsRead.{some_is, int_was, signed_was, long_was, time_was, text_was, content_was, end_was}
 use Rattle.osc_record.proofs.Spelled.{read_then, none_some, both_true, front_bytes, rest_bytes}

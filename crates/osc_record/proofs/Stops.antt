@@ -1,5 +1,6 @@
 -- The first malformed place, by the recording that is read.
-use Rattle.std.proofs.Common.{◌≡◌, ℕ, ◌+◌, ◌<◌, ◌≤◌, zero, suc, List, [], ◌∷◌, ◌++◌, length, drop, Option, Some, None, Ok, Err, Result, refl, sym, ap, ◌∙◌, subst, arith, length-append, length-drop, append_assoc}
+use Rattle.std.proofs.Common.{◌≡◌, ℕ, ◌+◌, ◌<◌, ◌≤◌, zero, suc, List, [], ◌∷◌, ◌++◌, length, drop, Option, Some, None, Ok, Err, Result, refl, sym, ap, ◌∙◌}
+use Rattle.std.proofs.Common.{subst, arith, length-append, length-drop, append_assoc}
 use Rattle.std.specs.List.{flat_map, AllByRecursion}
 use Rattle.osc_atoms.specs.Atoms.{AreBytes}
 use Rattle.osc_model.specs.Limits.{Limits}

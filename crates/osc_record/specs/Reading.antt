@@ -1,14 +1,19 @@
 -- A recording, read: its limits and its entries, or the first malformed place. `laws` ties them to
 -- what is written.
 use Rattle.osc_atoms.specs.declared.limits.TheConstants.{MAX_BYTES}
-use Rattle.std.specs.Prelude.{◌≡◌, ◌⊎◌, ◌<◌, ◌++◌, ℕ, ⊤, IsTrue, is_ok, zero, suc, ◌+◌, ◌%◌, Bool, ◌&&◌, ◌==◌, nat_lt, nat_le, ◌≤◌, if◌then◌else◌, ℤ, pos, negsuc, List, [], ◌∷◌, length, take, drop, map, codes, Option, Some, None, option_and_then, option_map, is_none, Result, Ok, Err}
+use Rattle.std.specs.Prelude.{◌≡◌, ◌⊎◌, ◌<◌, ◌++◌, ℕ, ⊤, IsTrue, is_ok, zero, suc, ◌+◌, ◌%◌, Bool}
+use Rattle.std.specs.Prelude.{◌&&◌, ◌==◌, nat_lt, nat_le, ◌≤◌, if◌then◌else◌, ℤ, pos, negsuc, List}
+use Rattle.std.specs.Prelude.{[], ◌∷◌, length, take, drop, map, codes, Option, Some, None}
+use Rattle.std.specs.Prelude.{option_and_then, option_map, is_none, Result, Ok, Err}
 use Rattle.std.specs.List.{AllByRecursion}
 use Rattle.std.specs.Int.{w32, from_be_bytes}
 use Rattle.std.specs.Str.{bytes_eq}
 use Rattle.osc_message.specs.Messages.{Argument, integer, text, content, long, time}
 use Rattle.osc_message.specs.Reading.{is_message, pattern_of}
 use Rattle.osc_message.specs.Arguments.{message_arguments}
-use Rattle.osc_model.specs.Events.{enrol, submit, add, remove, tick, release, Answer, number, callers_full, queued, units_full, pool_full, added, refused, removed, not_there, ticked, clock_back, released}
+use Rattle.osc_model.specs.Events.{enrol, submit, add, remove, tick, release, Answer, number}
+use Rattle.osc_model.specs.Events.{callers_full, queued, units_full, pool_full, added, refused}
+use Rattle.osc_model.specs.Events.{removed, not_there, ticked, clock_back, released}
 use Rattle.osc_tree.specs.Adding.{taken, under_method, is_container, methods_full, nodes_full}
 use Rattle.osc_model.specs.Limits.{AreInRange, Limits, header_size, limit_fault, max_recording}
 use Rattle.osc_model.specs.Events.{Entry as Recorded}

@@ -6,11 +6,19 @@ use Rattle.osc_message.specs.Messages.{Argument}
 use Rattle.osc_message.specs.Shown.{shown}
 use Rattle.osc_tree.specs.Adding.{taken, under_method, is_container, methods_full, nodes_full}
 use Rattle.osc_model.specs.Events as model
-use Rattle.osc_model.specs.Events.{enrol, submit, add, remove, tick, release, number, callers_full, queued, units_full, pool_full, added, refused, removed, not_there, ticked, clock_back, released}
+use Rattle.osc_model.specs.Events.{enrol, submit, add, remove, tick, release, number, callers_full}
+use Rattle.osc_model.specs.Events.{queued, units_full, pool_full, added, refused, removed}
+use Rattle.osc_model.specs.Events.{not_there, ticked, clock_back, released}
 use Rattle.osc_record.specs.declared.event.Event.{Event}
-use Rattle.osc_record.specs.declared.event.Event.TheVariants.{Enrol, Submit, Add, Remove, Tick, Release}
+use Rattle.osc_record.specs.declared.event.Event.TheVariants.{Enrol, Submit, Add, Remove, Tick}
+use Rattle.osc_record.specs.declared.event.Event.TheVariants.{Release}
 use Rattle.osc_record.specs.declared.event.Answer.{Answer}
-use Rattle.osc_record.specs.declared.event.Answer.TheVariants.{Number, CallersFull, Queued, UnitsFull, PoolFull, Added, Taken, UnderMethod, IsContainer, MethodsFull, NodesFull, Removed, NotThere, Ticked, ClockBack, Released}
+use Rattle.osc_record.specs.declared.event.Answer.TheVariants.{Number, CallersFull, Queued}
+use Rattle.osc_record.specs.declared.event.Answer.TheVariants.{UnitsFull, PoolFull, Added, Taken}
+use Rattle.osc_record.specs.declared.event.Answer.TheVariants.{UnderMethod, IsContainer}
+use Rattle.osc_record.specs.declared.event.Answer.TheVariants.{MethodsFull, NodesFull, Removed}
+use Rattle.osc_record.specs.declared.event.Answer.TheVariants.{NotThere, Ticked, ClockBack}
+use Rattle.osc_record.specs.declared.event.Answer.TheVariants.{Released}
 use Rattle.osc_record.specs.declared.parts.Parts.{Parts}
 use Rattle.osc_model.specs.Events.{Entry as Recorded}
 use Rattle.osc_model.specs.Recordings.{hits_in}

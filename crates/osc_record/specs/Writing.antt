@@ -1,6 +1,8 @@
 -- A recording in the making: its limits, the entries that it has, and a release that still lacks
 -- hits.
-use Rattle.std.specs.Prelude.{◌≡◌, ℕ, ◌+◌, ◌-◌, ◌*◌, ◌<◌, ◌≤◌, ◌^◌, ◌==◌, if◌then◌else◌, IsTrue, List, [], ◌∷◌, ◌++◌, length, take, drop, map, codes, Option, Some, None, Result, Ok, Err, is_ok}
+use Rattle.std.specs.Prelude.{◌≡◌, ℕ, ◌+◌, ◌-◌, ◌*◌, ◌<◌, ◌≤◌, ◌^◌, ◌==◌, if◌then◌else◌, IsTrue}
+use Rattle.std.specs.Prelude.{List, [], ◌∷◌, ◌++◌, length, take, drop, map, codes, Option, Some}
+use Rattle.std.specs.Prelude.{None, Result, Ok, Err, is_ok}
 use Rattle.std.specs.List.{AllByRecursion}
 use Rattle.osc_atoms.specs.Atoms.{word, tag, string}
 use Rattle.osc_message.specs.Messages.{tag_string}

@@ -1,7 +1,8 @@
 // The arguments of a recording's messages, one after another.
 ghost use Rattle.std.specs.Prelude.{◌≡◌, ℤ, ℕ, option_map, Some};
 ghost use Rattle.osc_message.specs.Left.{left};
-ghost use Rattle.osc_record.specs.Reading.{natural_of, int_first, signed_first, long_first, time_first, text_first, content_first, at_end};
+ghost use Rattle.osc_record.specs.Reading.{natural_of, int_first, signed_first, long_first};
+ghost use Rattle.osc_record.specs.Reading.{time_first, text_first, content_first, at_end};
 
 use osc_message::{Arg, Args};
 

@@ -2,7 +2,8 @@
 ghost use Rattle.osc_model.specs.Limits.{max_recording};
 ghost use Rattle.std.specs.Prelude.{◌≡◌, ◌≤◌, ◌%◌, length, option_map, IfSome};
 ghost use Rattle.osc_message.specs.Left.{left};
-ghost use Rattle.osc_record.specs.Reading.{enrol_read, submit_read, add_read, remove_read, tick_read, release_read, entry_of};
+ghost use Rattle.osc_record.specs.Reading.{enrol_read, submit_read, add_read, remove_read};
+ghost use Rattle.osc_record.specs.Reading.{tick_read, release_read, entry_of};
 ghost use Rattle.osc_record.specs.Shown.{parts_of, HasWholeHits};
 
 use crate::answers::{

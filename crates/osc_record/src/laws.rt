@@ -4,7 +4,8 @@ ghost use Rattle.osc_atoms.specs.Atoms.{AreBytes};
 ghost use Rattle.osc_model.specs.Events.{Event, Answer, tick, ticked};
 ghost use Rattle.osc_model.specs.Limits.{AreInRange, Limits, header_size, max_recording};
 ghost use Rattle.osc_model.specs.Events.{Entry as Recorded};
-ghost use Rattle.osc_model.specs.Recordings.{IsRecordable, FitsRow, row_of, entry_size, entry_text, hits_text, hits_in, header_text, record_text};
+ghost use Rattle.osc_model.specs.Recordings.{IsRecordable, FitsRow, row_of, entry_size, entry_text};
+ghost use Rattle.osc_model.specs.Recordings.{hits_text, hits_in, header_text, record_text};
 ghost use Rattle.osc_record.specs.Reading.{entry_in, record_read, placed_from, IsRecord};
 
 /// A recording that is written is read again: its limits, and its entries, each at its place.

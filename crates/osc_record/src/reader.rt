@@ -38,7 +38,8 @@ impl<'a> Reader<'a> {
     ghost use Rattle.osc_model.specs.Limits.{Limits, header_size, max_recording};
     ghost use Rattle.osc_model.specs.Events.{Entry as Recorded};
     ghost use Rattle.osc_model.specs.Recordings.{record_text};
-    ghost use Rattle.osc_record.specs.Reading.{record_read, placed_from, unplaced, IsRecord, IsMalformedAt};
+    ghost use Rattle.osc_record.specs.Reading.{record_read, placed_from, unplaced, IsRecord};
+    ghost use Rattle.osc_record.specs.Reading.{IsMalformedAt};
     ghost use Rattle.osc_record.specs.Left.{entries_left};
 
     /// Accepts exactly a recording, and borrows it. Else tells the first malformed place. Packets and addresses may be

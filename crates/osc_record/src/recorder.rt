@@ -1,5 +1,6 @@
 // A recording in the making.
-ghost use Rattle.std.specs.Prelude.{◌≡◌, ◌+◌, ◌*◌, ◌<◌, ◌≤◌, ◌^◌, ◌==◌, ◌++◌, length, if◌then◌else◌};
+ghost use Rattle.std.specs.Prelude.{◌≡◌, ◌+◌, ◌*◌, ◌<◌, ◌≤◌, ◌^◌, ◌==◌, ◌++◌, length};
+ghost use Rattle.std.specs.Prelude.{if◌then◌else◌};
 ghost use Rattle.std.specs.Vec.{vec_len, vec_capacity};
 ghost use Rattle.osc_model.specs.Recordings.{hit_text};
 ghost use Rattle.osc_record.specs.Writing.{release_head};
@@ -40,7 +41,8 @@ impl Model for Recorder {
 }
 
 impl Recorder {
-    ghost use Rattle.std.specs.Prelude.{◌≡◌, ◌≢◌, ◌↔◌, ◌+◌, ◌*◌, ◌<◌, ◌≤◌, ◌^◌, [], length, IsTrue, IfOk, None};
+    ghost use Rattle.std.specs.Prelude.{◌≡◌, ◌≢◌, ◌↔◌, ◌+◌, ◌*◌, ◌<◌, ◌≤◌, ◌^◌, [], length, IsTrue};
+    ghost use Rattle.std.specs.Prelude.{IfOk, None};
     ghost use Rattle.osc_model.specs.Events.{release};
     ghost use Rattle.osc_model.specs.Recordings.{IsRecordable, entry_text, record_text};
     ghost use Rattle.osc_record.specs.Shown.{event_of, answer_of};

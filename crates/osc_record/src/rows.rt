@@ -3,7 +3,8 @@ ghost use Rattle.osc_model.specs.Limits.{max_recording};
 ghost use Rattle.std.specs.Prelude.{◌≡◌, ◌+◌, ◌≤◌, ◌++◌, ℤ, length};
 ghost use Rattle.std.specs.Vec.{vec_len, vec_capacity};
 ghost use Rattle.osc_message.specs.Messages.{AllFit};
-ghost use Rattle.osc_model.specs.Recordings.{sized, row_text, enrol_row, submit_row, add_row, remove_row, tick_row, header_text};
+ghost use Rattle.osc_model.specs.Recordings.{sized, row_text, enrol_row, submit_row, add_row};
+ghost use Rattle.osc_model.specs.Recordings.{remove_row, tick_row, header_text};
 
 use crate::caps::Caps;
 use crate::message::append_message;

@@ -5,7 +5,9 @@ ghost use Rattle.std.specs.Option.{option_map_or};
 ghost use Rattle.std.specs.Vec.{vec_len, vec_capacity};
 ghost use Rattle.osc_message.specs.Messages.{AllFit};
 ghost use Rattle.osc_model.specs.Events.{release, released};
-ghost use Rattle.osc_model.specs.Recordings.{IsRecordable, FitsRow, row_of, row_text, sized, release_row, entry_text, entry_size, releasing, hits_in};
+ghost use Rattle.osc_model.specs.Recordings.{IsRecordable, FitsRow, row_of, row_text, sized};
+ghost use Rattle.osc_model.specs.Recordings.{release_row, entry_text, entry_size, releasing};
+ghost use Rattle.osc_model.specs.Recordings.{hits_in};
 ghost use Rattle.osc_record.specs.Shown.{event_of, answer_of, HasWholeHits};
 
 use crate::entries::append_entry;

@@ -1,9 +1,11 @@
 // Messages after their size, read from borrowed bytes.
 ghost use Rattle.osc_model.specs.Limits.{header_size, max_recording};
-ghost use Rattle.std.specs.Prelude.{◌≡◌, ◌+◌, ◌-◌, ◌%◌, ◌<◌, ◌≤◌, length, drop, option_map, IfSome, None, codes, if◌then◌else◌};
+ghost use Rattle.std.specs.Prelude.{◌≡◌, ◌+◌, ◌-◌, ◌%◌, ◌<◌, ◌≤◌, length, drop, option_map, IfSome};
+ghost use Rattle.std.specs.Prelude.{None, codes, if◌then◌else◌};
 ghost use Rattle.std.specs.Str.{bytes_eq};
 ghost use Rattle.osc_message.specs.Left.{left};
-ghost use Rattle.osc_record.specs.Reading.{message_first, entry_first, entries_at, outcome, limits_read, lawful_limits, header_of, header_read};
+ghost use Rattle.osc_record.specs.Reading.{message_first, entry_first, entries_at, outcome};
+ghost use Rattle.osc_record.specs.Reading.{limits_read, lawful_limits, header_of, header_read};
 ghost use Rattle.osc_record.specs.Shown.{parts_of, HasWholeHits};
 
 use crate::arguments::next_int;

@@ -1,5 +1,6 @@
 -- Counts of entries, and the calls of a legal history.
-use Rattle.std.proofs.Common.{◌≡◌, ◌∙◌, ℕ, ◌+◌, ◌*◌, ◌≤◌, ◌^◌, Bool, true, false, cond, List, [], ◌∷◌, ◌++◌, length, map, refl, sym, ap, ap₂, subst, arith, length-append}
+use Rattle.std.proofs.Common.{◌≡◌, ◌∙◌, ℕ, ◌+◌, ◌*◌, ◌≤◌, ◌^◌, Bool, true, false, cond, List, [], ◌∷◌, ◌++◌, length, map, refl, sym, ap, ap₂, subst, arith}
+use Rattle.std.proofs.Common.{length-append}
 use Rattle.std.proofs.lemmas.List.{length-map}
 use Rattle.std.specs.Prelude.{fold, sum_by, count_by, not, ◌&&◌}
 use Rattle.std.specs.List.{AllByRecursion}
@@ -16,7 +17,8 @@ use Rattle.osc_model.proofs.Sizes.{sizes_are}
 use Rattle.osc_record.specs.Reading.{Placed, placed_from, unplaced}
 use Rattle.osc_replay.specs.declared.counts.Counts.{Counts}
 use Rattle.osc_replay.specs.Disagreeing.{IsRecordingOf}
-use Rattle.osc_replay.specs.Counted.{is_submit, is_queued, is_added, is_removed, is_ticked, is_released, hit_count, counts_of, counts_text, summary, one_more, more_counted, no_counts, weight, IsAtMost}
+use Rattle.osc_replay.specs.Counted.{is_submit, is_queued, is_added, is_removed, is_ticked, is_released, hit_count, counts_of, counts_text, summary, one_more}
+use Rattle.osc_replay.specs.Counted.{more_counted, no_counts, weight, IsAtMost}
 use Rattle.osc_replay.proofs.Formed.{texts, Recordable, record_length}
 use Rattle.osc_replay.proofs.Reached.{StaysWithin}
 use Rattle.osc_replay.proofs.Replayed.{AllFit}

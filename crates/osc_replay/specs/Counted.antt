@@ -1,11 +1,13 @@
 -- The summary of a history: how often it has each kind of entry.
-use Rattle.std.specs.Prelude.{ℕ, ◌+◌, ◌≤◌, Bool, true, false, not, ◌&&◌, cond, List, ◌++◌, length, fold, sum_by, count_by, codes}
+use Rattle.std.specs.Prelude.{ℕ, ◌+◌, ◌≤◌, Bool, true, false, not, ◌&&◌, cond, List, ◌++◌, length}
+use Rattle.std.specs.Prelude.{fold, sum_by, count_by, codes}
 use Rattle.std.specs.Fmt.{decimal}
 use Rattle.osc_print.specs.Lines.{line}
 use Rattle.osc_print.specs.Entries.{named}
 use Rattle.osc_model.specs.Limits.{Limits}
 use Rattle.osc_model.specs.State.{opening}
-use Rattle.osc_model.specs.Events.{Event, submit, Answer, queued, added, removed, ticked, released, Entry}
+use Rattle.osc_model.specs.Events.{Event, submit, Answer, queued, added, removed, ticked, released}
+use Rattle.osc_model.specs.Events.{Entry}
 use Rattle.osc_model.specs.History.{invocations}
 use Rattle.osc_model.specs.Recordings.{record_text}
 use Rattle.osc_replay.specs.declared.counts.Counts.{Counts}

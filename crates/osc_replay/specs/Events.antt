@@ -1,7 +1,8 @@
 -- What the events of the code that can be played stand for.
 use Rattle.osc_model.specs.Events.{Event, enrol, submit, add, remove, tick, release}
 use Rattle.osc_replay.specs.declared.event.LawfulEvent.{LawfulEvent}
-use Rattle.osc_replay.specs.declared.event.LawfulEvent.TheVariants.{Enrol, Submit, Add, Remove, Tick, Release}
+use Rattle.osc_replay.specs.declared.event.LawfulEvent.TheVariants.{Enrol, Submit, Add, Remove}
+use Rattle.osc_replay.specs.declared.event.LawfulEvent.TheVariants.{Tick, Release}
 
 -- the event
 abbrev pub event_in : LawfulEvent → Event

@@ -1,6 +1,7 @@
 // Why a recording isn't replayed.
 ghost use Rattle.std.specs.Prelude.{◌≡◌};
-ghost use Rattle.osc_replay.specs.declared.fault.ReplayFault.TheVariants.{Malformed as MalformedAt, NoMemory};
+ghost use Rattle.osc_replay.specs.declared.fault.ReplayFault.TheVariants.{Malformed as MalformedAt};
+ghost use Rattle.osc_replay.specs.declared.fault.ReplayFault.TheVariants.{NoMemory};
 
 use osc_message::Bytes;
 use osc_record::Malformed;

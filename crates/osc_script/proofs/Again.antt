@@ -1,6 +1,7 @@
 -- Each line that is written is read as its act.
 use Rattle.osc_script.specs.declared.script.TheConstants.{MAX_SCRIPT}
-use Rattle.std.proofs.Common.{◌≡◌, ◌∙◌, ℕ, ◌+◌, ◌<◌, ◌≤◌, true, false, cond, nat_lt, List, [], ◌∷◌, ◌++◌, map, length, Some, refl, ap, ap₂, arith, append_assoc, codes, Option, Result, Ok, Err}
+use Rattle.std.proofs.Common.{◌≡◌, ◌∙◌, ℕ, ◌+◌, ◌<◌, ◌≤◌, true, false, cond, nat_lt, List, [], ◌∷◌, ◌++◌, map, length, Some, refl, ap, ap₂, arith, append_assoc}
+use Rattle.std.proofs.Common.{codes, Option, Result, Ok, Err}
 use Rattle.std.specs.Prelude.{◌&&◌}
 use Rattle.std.specs.List.{AllByRecursion, list_all}
 use Rattle.std.proofs.lemmas.Bool.{le-ltb}

@@ -1,5 +1,6 @@
 -- How the first line and the first word are cut off.
-use Rattle.std.proofs.Common.{◌≡◌, ℕ, suc, ◌+◌, ◌-◌, ◌<◌, ◌≤◌, Bool, true, false, cond, not, eqb, nat_le, List, [], ◌∷◌, length, take, drop, filter, position, Some, None, refl, sym, ap, ◌∙◌, arith, one-add, subst, length-take, length-drop, ◌++◌, length-append, All}
+use Rattle.std.proofs.Common.{◌≡◌, ℕ, suc, ◌+◌, ◌-◌, ◌<◌, ◌≤◌, Bool, true, false, cond, not, eqb, nat_le, List, [], ◌∷◌, length, take, drop, filter, position}
+use Rattle.std.proofs.Common.{Some, None, refl, sym, ap, ◌∙◌, arith, one-add, subst, length-take, length-drop, ◌++◌, length-append, All}
 use Rattle.std.specs.List.{slice_split, position_or_len, onto_first}
 use Rattle.std.proofs.lemmas.List.{take_all, drop_all}
 use Rattle.std.proofs.Math.Seq.{take-append_seam, drop-append_seam}

@@ -1,5 +1,6 @@
 -- The first line at fault decides.
-use Rattle.std.proofs.Common.{◌≡◌, ℕ, ◌+◌, ◌<◌, Bool, true, false, cond, List, [], ◌∷◌, ◌++◌, length, Option, Some, None, Result, Ok, Err, IsOk, refl, ap, subst, ◌∙◌, arith, nat_lt}
+use Rattle.std.proofs.Common.{◌≡◌, ℕ, ◌+◌, ◌<◌, Bool, true, false, cond, List, [], ◌∷◌, ◌++◌, length, Option, Some, None, Result, Ok, Err, IsOk, refl, ap}
+use Rattle.std.proofs.Common.{subst, ◌∙◌, arith, nat_lt}
 use Rattle.std.specs.List.{AllByRecursion}
 use Rattle.osc_script.specs.declared.said.Said.{Said}
 use Rattle.osc_script.specs.declared.line.Line.{Line}

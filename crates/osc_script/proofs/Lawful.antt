@@ -1,5 +1,6 @@
 -- What a script that isn't refused holds.
-use Rattle.std.proofs.Common.{◌≡◌, ℕ, ◌+◌, ◌*◌, ◌<◌, ◌≤◌, ◌^◌, Bool, true, false, cond, eqb, IsTrue, List, [], ◌∷◌, length, Option, Some, None, ok_or, Result, Ok, Err, IfOk, codes, refl, sym, ap, subst, ◌∙◌, arith, nat_lt}
+use Rattle.std.proofs.Common.{◌≡◌, ℕ, ◌+◌, ◌*◌, ◌<◌, ◌≤◌, ◌^◌, Bool, true, false, cond, eqb, IsTrue, List, [], ◌∷◌, length, Option, Some, None, ok_or, Result}
+use Rattle.std.proofs.Common.{Ok, Err, IfOk, codes, refl, sym, ap, subst, ◌∙◌, arith, nat_lt}
 use Rattle.std.proofs.lemmas.Bool.{ltb-false, ltb-true}
 use Rattle.std.proofs.lemmas.List.{append-nil}
 use Rattle.std.specs.List.{slice_split, onto_first, starts_with}

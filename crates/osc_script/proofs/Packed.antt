@@ -1,5 +1,6 @@
 -- Patterns have no zero byte, and packets are small.
-use Rattle.std.proofs.Common.{◌≡◌, ◌∙◌, ℕ, ◌+◌, ◌<◌, ◌≤◌, ◌^◌, ◌%◌, ◌==◌, true, List, [], ◌∷◌, ◌++◌, length, refl, ap, ap₂, arith, codes, replicate, length-append}
+use Rattle.std.proofs.Common.{◌≡◌, ◌∙◌, ℕ, ◌+◌, ◌<◌, ◌≤◌, ◌^◌, ◌%◌, ◌==◌, true, List, [], ◌∷◌, ◌++◌, length, refl, ap, ap₂, arith, codes, replicate}
+use Rattle.std.proofs.Common.{length-append}
 use Rattle.std.specs.Prelude.{not, ◌&&◌}
 use Rattle.std.specs.Fmt.{decimal}
 use Rattle.std.proofs.lemmas.Bool.Decides.{nat_tests}

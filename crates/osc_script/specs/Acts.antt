@@ -1,5 +1,6 @@
 -- What a line says, by its words, or the kind of its fault.
-use Rattle.std.specs.Prelude.{ℕ, ◌^◌, ◌<◌, ◌==◌, Bool, true, IsTrue, if◌then◌else◌, List, [], ◌∷◌, length, Option, Some, None, ok_or, Result, Ok, Err, codes}
+use Rattle.std.specs.Prelude.{ℕ, ◌^◌, ◌<◌, ◌==◌, Bool, true, IsTrue, if◌then◌else◌, List, [], ◌∷◌}
+use Rattle.std.specs.Prelude.{length, Option, Some, None, ok_or, Result, Ok, Err, codes}
 use Rattle.std.specs.List.{concat, list_any}
 use Rattle.std.specs.Int.{w64, from_be_bytes}
 use Rattle.std.specs.Str.{bytes_eq}
@@ -8,7 +9,8 @@ use Rattle.hex.specs.declared.error.FromHexError.{FromHexError}
 use Rattle.osc_pattern.specs.Addresses.{is_address}
 use Rattle.osc_script.specs.declared.act.Act.{Act}
 use Rattle.osc_script.specs.declared.act.Act.TheVariants.{Add, Remove, Send, Tick, Pump}
-use Rattle.osc_script.specs.Kinds.{word_kind, count_kind, address_kind, hex_kind, tag_kind, not_here_kind}
+use Rattle.osc_script.specs.Kinds.{word_kind, count_kind, address_kind, hex_kind, tag_kind}
+use Rattle.osc_script.specs.Kinds.{not_here_kind}
 
 -- a step on what was read, where there is no fault yet
 abbrev pub and_then : {X Y : Type 0} → Result X ℕ → (X → Result Y ℕ) → Result Y ℕ

@@ -1,5 +1,6 @@
 -- The lines of a script, and the words of a line.
-use Rattle.std.specs.Prelude.{ℕ, ◌-◌, ◌==◌, Bool, not, nat_le, nat_eq, if◌then◌else◌, List, [], ◌∷◌, length, take, filter}
+use Rattle.std.specs.Prelude.{ℕ, ◌-◌, ◌==◌, Bool, not, nat_le, nat_eq, if◌then◌else◌, List, [], ◌∷◌}
+use Rattle.std.specs.Prelude.{length, take, filter}
 use Rattle.std.specs.List.{slice_split, ends_with}
 
 abbrev pub is_space : ℕ → Bool

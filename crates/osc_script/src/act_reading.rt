@@ -6,7 +6,8 @@ ghost use Rattle.osc_script.specs.Words.{words_of};
 ghost use Rattle.hex.specs.Hex.{decode_of};
 ghost use Rattle.osc_script.specs.Kinds.{hex_kind};
 ghost use Rattle.osc_script.specs.Acts;
-ghost use Rattle.osc_script.specs.Acts.{act_of, served_of, only_one, address_of, decoded, packet_of, moment_of, pump_of};
+ghost use Rattle.osc_script.specs.Acts.{act_of, served_of, only_one, address_of, decoded};
+ghost use Rattle.osc_script.specs.Acts.{packet_of, moment_of, pump_of};
 ghost use Rattle.osc_script.specs.Answers.{Says};
 
 use crate::act::Act;

@@ -1,5 +1,6 @@
 // Packets that are drawn.
-ghost use Rattle.std.specs.Prelude.{◌≡◌, ◌+◌, ◌<◌, ◌≤◌, ◌^◌, IfOk, IsTrue, OnOk, length, string_bytes};
+ghost use Rattle.std.specs.Prelude.{◌≡◌, ◌+◌, ◌<◌, ◌≤◌, ◌^◌, IfOk, IsTrue, OnOk, length};
+ghost use Rattle.std.specs.Prelude.{string_bytes};
 ghost use Rattle.osc_atoms.specs.Atoms.{has_no_zero};
 ghost use Rattle.osc_script.specs.Generated;
 ghost use Rattle.osc_script.specs.Draws.{after};

@@ -3,7 +3,8 @@ ghost use Rattle.osc_script.specs.declared.generating.TheConstants.{MAX_GENERATE
 ghost use Rattle.std.specs.Prelude.{◌≡◌, ◌≤◌, ◌++◌, ◌<◌, ◌+◌, ◌^◌, IfOk, OnOk};
 ghost use Rattle.osc_script.specs.Draws.{after, drawn};
 ghost use Rattle.osc_script.specs.Written.{act_line, written};
-ghost use Rattle.osc_script.specs.Generated.{act_of_kind, draws_of, drawn_acts, first_acts, generated_script, kind_of, moment_after};
+ghost use Rattle.osc_script.specs.Generated.{act_of_kind, draws_of, drawn_acts, first_acts};
+ghost use Rattle.osc_script.specs.Generated.{generated_script, kind_of, moment_after};
 
 use crate::draws::Draws;
 use crate::line_kind::LineKind;

@@ -1,5 +1,6 @@
 -- Methods of a lawful list stay apart in the order of their addresses.
-use Rattle.std.proofs.Common.{◌≡◌, ◌≢◌, ◌<◌, ◌≤◌, ℕ, zero, suc, Bool, true, false, List, [], ◌∷◌, length, fold, filter, get_or, refl, sym, ap, subst, ◌∙◌, arith}
+use Rattle.std.proofs.Common.{◌≡◌, ◌≢◌, ◌<◌, ◌≤◌, ℕ, zero, suc, Bool, true, false, List, [], ◌∷◌, length, fold, filter, get_or, refl, sym, ap, subst, ◌∙◌}
+use Rattle.std.proofs.Common.{arith}
 use Rattle.std.specs.List.{AllByRecursion}
 use Rattle.osc_pattern.specs.Addresses.{IsAddress, is_proper_prefix}
 use Rattle.osc_pattern.specs.Methods.{Method, IsMethodList}

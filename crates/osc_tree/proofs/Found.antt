@@ -1,5 +1,6 @@
 -- Methods by their ids: those that match have their addresses, and are few.
-use Rattle.std.proofs.Common.{◌≡◌, ◌≢◌, ℕ, suc, ◌≤◌, ◌==◌, Bool, true, false, cond, List, [], ◌∷◌, length, find, get_or, Option, Some, None, All, Contains, inl, inr, refl, sym, ap, ◌∙◌, arith}
+use Rattle.std.proofs.Common.{◌≡◌, ◌≢◌, ℕ, suc, ◌≤◌, ◌==◌, Bool, true, false, cond, List, [], ◌∷◌, length, find, get_or, Option, Some, None, All, Contains, inl}
+use Rattle.std.proofs.Common.{inr, refl, sym, ap, ◌∙◌, arith}
 use Rattle.std.specs.List.{AllPairs}
 use Rattle.std.specs.Option.{option_map}
 use Rattle.std.specs.List.Sorted.{IsPermutation}

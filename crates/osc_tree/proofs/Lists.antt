@@ -1,5 +1,6 @@
 -- Lists of the code, and what they stand for.
-use Rattle.std.proofs.Common.{◌≡◌, ℕ, suc, ◌+◌, ◌<◌, ◌≤◌, Bool, true, false, not, cond, ◌||◌, List, [], ◌∷◌, ◌++◌, map, find, filter, length, take, drop, insert, get_or, Some, None, position, All, nat_lt, refl, sym, ap, ◌∙◌, one-add, arith}
+use Rattle.std.proofs.Common.{◌≡◌, ℕ, suc, ◌+◌, ◌<◌, ◌≤◌, Bool, true, false, not, cond, ◌||◌, List, [], ◌∷◌, ◌++◌, map, find, filter, length, take, drop}
+use Rattle.std.proofs.Common.{insert, get_or, Some, None, position, All, nat_lt, refl, sym, ap, ◌∙◌, one-add, arith}
 use Rattle.std.specs.List.{list_any, position_or_len, AllPairs, Contains, remove}
 use Rattle.std.specs.Option.{option_map}
 use Rattle.std.proofs.lemmas.Bool.{ltb-true, ltb-false}

@@ -1,5 +1,6 @@
 -- An address that a pattern matches begins with what the pattern has before its first special byte.
-use Rattle.std.proofs.Common.{◌≡◌, ℕ, ◌+◌, Bool, true, false, cond, ◌&&◌, ◌||◌, ◌==◌, not, length, List, [], ◌∷◌, ◌++◌, take, position, Some, None, Option, refl, arith, sym, ap, subst, ◌∙◌, one-add, nat_eq}
+use Rattle.std.proofs.Common.{◌≡◌, ℕ, ◌+◌, Bool, true, false, cond, ◌&&◌, ◌||◌, ◌==◌, not, length, List, [], ◌∷◌, ◌++◌, take, position, Some, None, Option}
+use Rattle.std.proofs.Common.{refl, arith, sym, ap, subst, ◌∙◌, one-add, nat_eq}
 use Rattle.std.specs.Prelude.{Result, Ok, Err}
 use Rattle.std.specs.List.{list_any, slice_split, onto_first, before_first, position_or_len, starts_with}
 use Rattle.std.specs.Option.{option_map}

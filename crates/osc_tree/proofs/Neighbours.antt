@@ -1,5 +1,6 @@
 -- The nodes that an address adds, by what it has in common with the two methods beside its place in the order.
-use Rattle.std.proofs.Common.{◌≡◌, ◌≢◌, ◌≤◌, ◌<◌, ℕ, zero, suc, ◌-◌, max, Bool, true, false, not, cond, ◌||◌, nat_lt, List, [], ◌∷◌, ◌++◌, length, fold, take, drop, get_or, count_by, refl, sym, ap, ◌∙◌, arith}
+use Rattle.std.proofs.Common.{◌≡◌, ◌≢◌, ◌≤◌, ◌<◌, ℕ, zero, suc, ◌-◌, max, Bool, true, false, not, cond, ◌||◌, nat_lt, List, [], ◌∷◌, ◌++◌, length, fold, take}
+use Rattle.std.proofs.Common.{drop, get_or, count_by, refl, sym, ap, ◌∙◌, arith}
 use Rattle.std.specs.List.{list_any, position_or_len}
 use Rattle.std.specs.Str.{bytes_eq}
 use Rattle.std.proofs.lemmas.Bool.Decides.{nat_tests}
@@ -121,7 +122,8 @@ beside methods address at i d sorted aside so within = go (nat_lt i at) refl whe
       let two = shared_turn (parts_of address) (parts_of (get_or methods b d).address) in
       let same = there b (omega arith) in
       let more = shared_between (get_or methods i d).address (get_or methods b d).address address
-      (shared (parts_of (get_or methods i d).address) (parts_of address)) (at_slash methods i d sorted within) (at_slash methods b d sorted (omega arith)) aside.slash
+      (shared (parts_of (get_or methods i d).address) (parts_of address)) (at_slash methods i d sorted within) (at_slash methods b d sorted (omega arith))
+      aside.slash
       (ascend_far methods i b d sorted.ascending (omega arith) (omega arith))
       (lower_order.one_way (get_or methods b d).address address (below b (omega arith))) (aside.apart i d within) (omega arith) in
       omega arith
@@ -211,7 +213,10 @@ new_nodes_beside methods address at list slash apart so =
       go : (t : Bool) → nat_lt k (shared_at all (parts_of address) at) ≡ t → has_node all (get_or (prefixes_of address) k []) ≡ true
       go true is = has k at (let h : nat_lt k (shared_at all (parts_of address) at) ≡ true = is in grind (arith, nat_tests))
       go false is =
-          let past : shared_at all (parts_of address) at ≤ k = (let h : nat_lt k (shared_at all (parts_of address) at) ≡ false = is in grind (arith, nat_tests)) in
+          let past : shared_at all (parts_of address) at ≤ k = (let h : nat_lt k (shared_at all (parts_of address) at) ≡ false = is in grind (
+            arith,
+            nat_tests,
+          )) in
           has_before k at (omega arith)
 
     not_past : (k : ℕ) → k < length (parts_of address) → has_node all (get_or (prefixes_of address) k []) ≡ true → k < near

@@ -1,5 +1,6 @@
 -- A pattern goes from method to method, and passes over those below a node that doesn't match.
-use Rattle.std.proofs.Common.{◌≡◌, ◌≤◌, ◌<◌, ℕ, zero, suc, ◌+◌, ◌-◌, Bool, true, false, not, cond, ◌&&◌, ◌||◌, ◌==◌, nat_eq, nat_lt, nat_le, List, [], ◌∷◌, ◌++◌, length, map, filter, take, drop, get_or, refl, sym, ap, subst, ◌∙◌, All, arith, add-zero, add-suc, add-one}
+use Rattle.std.proofs.Common.{◌≡◌, ◌≤◌, ◌<◌, ℕ, zero, suc, ◌+◌, ◌-◌, Bool, true, false, not, cond, ◌&&◌, ◌||◌, ◌==◌, nat_eq, nat_lt, nat_le, List, [], ◌∷◌}
+use Rattle.std.proofs.Common.{◌++◌, length, map, filter, take, drop, get_or, refl, sym, ap, subst, ◌∙◌, All, arith, add-zero, add-suc, add-one}
 use Rattle.std.specs.List.{position_or_len, slice_split}
 use Rattle.std.specs.Str.{bytes_eq}
 use Rattle.std.proofs.Math.Seq.{take-suc}
@@ -19,7 +20,8 @@ use Rattle.osc_tree.specs.Views.{method_of, method_at, methods_at}
 use Rattle.osc_tree.proofs.Lists.{position_or_len-bound, position-map}
 use Rattle.osc_tree.proofs.InOrder.{methods_at-get, methods_at-length}
 use Rattle.osc_tree.proofs.Places.{any_default, method_at-get}
-use Rattle.osc_tree.proofs.Alike.{shared_first, shared_turn, all_agree, matched_agree, agree_too, shared_through, prefix_names, prefix_slash, same_parts, shares_node}
+use Rattle.osc_tree.proofs.Alike.{shared_first, shared_turn, all_agree, matched_agree, agree_too, shared_through, prefix_names, prefix_slash, same_parts}
+use Rattle.osc_tree.proofs.Alike.{shares_node}
 use Rattle.std.specs.List.Sorted.{IsPartitionedBy}
 use Rattle.osc_tree.proofs.Charges.{AreApart, at_slash, at_apart, shared_between}
 use Rattle.osc_tree.proofs.Ranges.{ascend_far}
@@ -306,7 +308,8 @@ pub sharing_parted : (registered : List Registered) (places : List ℕ) (at leas
     → IsPartitionedBy (λ place. nat_le least (shared names (parts_of (method_at registered place).address)))
     (take (length places - (at + 1)) (drop (at + 1) places))
 sharing_parted registered places at least d names sorted within is i j e le lt more =
-    rw (here i (let end = bound in omega arith)) (to (shared names (parts_of (get_or ms (at + 1 + i) d).address)) (alike (from (shared names (parts_of (get_or ms (at + 1 + j) d).address))
+    rw (here i (let end = bound in omega arith)) (to (shared names (parts_of (get_or ms (at + 1 + i) d).address)) (alike (from (shared names (parts_of (get_or
+    ms (at + 1 + j) d).address))
     (ap (λ (m : Method). nat_le least (shared names (parts_of m.address))) (sym (here j bound)) ∙ more))))
   where
     ms : List Method

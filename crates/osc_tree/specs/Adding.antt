@@ -1,12 +1,16 @@
 -- Which addresses can be added, and why others can't.
-use Rattle.std.specs.Prelude.{◌≡◌, ℕ, ◌<◌, ◌≤◌, ◌==◌, nat_lt, if◌then◌else◌, List, length, Option, Some, None}
+use Rattle.std.specs.Prelude.{◌≡◌, ℕ, ◌<◌, ◌≤◌, ◌==◌, nat_lt, if◌then◌else◌, List, length, Option}
+use Rattle.std.specs.Prelude.{Some, None}
 use Rattle.std.specs.Option.{option_map, option_or}
 use Rattle.std.specs.List.{list_any}
 use Rattle.osc_pattern.specs.Addresses.{is_proper_prefix}
 use Rattle.osc_pattern.specs.Methods.{Method}
 use Rattle.osc_tree.specs.declared.refusals.TreeRefusal.{TreeRefusal}
-use Rattle.osc_tree.specs.declared.refusals.TreeRefusal.TheVariants.{Taken, UnderMethod, IsContainer, MethodsFull, NodesFull}
-use Rattle.osc_tree.specs.Registry.{Registry, IsAt, IsAbove, HasBelow, NoneAt, NoneAbove, NoneBelow, id_at, id_above}
+use Rattle.osc_tree.specs.declared.refusals.TreeRefusal.TheVariants.{Taken, UnderMethod}
+use Rattle.osc_tree.specs.declared.refusals.TreeRefusal.TheVariants.{IsContainer, MethodsFull}
+use Rattle.osc_tree.specs.declared.refusals.TreeRefusal.TheVariants.{NodesFull}
+use Rattle.osc_tree.specs.Registry.{Registry, IsAt, IsAbove, HasBelow, NoneAt, NoneAbove, NoneBelow}
+use Rattle.osc_tree.specs.Registry.{id_at, id_above}
 use Rattle.osc_tree.specs.Nodes.{new_nodes, free_nodes}
 
 -- no method is at the address, above it or below it

@@ -1,6 +1,7 @@
 -- The methods in ascending order of their addresses, and the places where they stand in the order
 -- of adding.
-use Rattle.std.specs.Prelude.{◌≡◌, ℕ, ◌≤◌, ◌<◌, Bool, true, false, nat_eq, nat_lt, get_or, ◌-◌, if◌then◌else◌, List, [], length, fold, All}
+use Rattle.std.specs.Prelude.{◌≡◌, ℕ, ◌≤◌, ◌<◌, Bool, true, false, nat_eq, nat_lt, get_or, ◌-◌}
+use Rattle.std.specs.Prelude.{if◌then◌else◌, List, [], length, fold, All}
 use Rattle.std.specs.List.{starts_with}
 use Rattle.std.specs.Ordering.{is_lt, nat_cmp}
 use Rattle.std.specs.Cmp.Lexicographic.{slice_cmp}

@@ -1,5 +1,6 @@
 -- What a tree holds, and which methods stand at, above and below an address.
-use Rattle.std.specs.Prelude.{◌≡◌, ◌≢◌, ℕ, ◌≤◌, ◌==◌, false, not, IsTrue, List, length, filter, find, All, Contains, Option}
+use Rattle.std.specs.Prelude.{◌≡◌, ◌≢◌, ℕ, ◌≤◌, ◌==◌, false, not, IsTrue, List, length, filter}
+use Rattle.std.specs.Prelude.{find, All, Contains, Option}
 use Rattle.std.specs.Option.{option_map}
 use Rattle.std.specs.Str.{bytes_eq}
 use Rattle.osc_pattern.specs.Addresses.{is_proper_prefix}

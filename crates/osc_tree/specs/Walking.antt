@@ -1,5 +1,6 @@
 -- How a pattern is matched along the methods in the order of their addresses, and what it costs.
-use Rattle.std.specs.Prelude.{◌≡◌, ℕ, zero, suc, ◌+◌, ◌-◌, ◌*◌, ◌<◌, ◌≤◌, nat_lt, if◌then◌else◌, List, [], ◌∷◌, length, take, filter, map, get_or, flat_map, sum_by}
+use Rattle.std.specs.Prelude.{◌≡◌, ℕ, zero, suc, ◌+◌, ◌-◌, ◌*◌, ◌<◌, ◌≤◌, nat_lt, if◌then◌else◌}
+use Rattle.std.specs.Prelude.{List, [], ◌∷◌, length, take, filter, map, get_or, flat_map, sum_by}
 use Rattle.std.specs.Str.{bytes_eq}
 use Rattle.osc_pattern.specs.Patterns.{parts_of, part_at, matches}
 use Rattle.osc_pattern.specs.Reading.{match_part}
@@ -52,7 +53,8 @@ abbrev pub part_steps : ℕ → List ℕ → ℕ
 part_steps zero part = 64 * (length part + 1)
 part_steps (suc known) part = 0
 
--- the steps that parts may cost which stand against names, but for the first that are known to match
+-- the steps that parts may cost which stand against names, but for the first that are known to
+-- match
 abbrev pub spent : ℕ → List (List ℕ) → List (List ℕ) → ℕ
 spent known [] names = 0
 spent known (part ∷ parts) [] = 0
@@ -67,12 +69,13 @@ known_at methods (suc at) d =
 
 -- the methods before a place were tried, and what the next has in common with the one before it
 -- is known to match
-pub record IsWalked (pattern : List ℕ) (methods : List Method) (at : ℕ) (ids : List ℕ) : Type 0 where
-  pub bound : at ≤ length methods
-  pub found : ids ≡ map (λ method. method.id)
-      (filter (λ method. matches pattern method.address) (take at methods))
-  pub known : (d : Method) → at < length methods
-      → known_at methods at d ≤ agreeing (parts_of pattern) (parts_of (get_or methods at d).address)
+pub record IsWalked (pattern : List ℕ) (methods : List Method) (at : ℕ) (ids : List ℕ) : Type 0
+  where
+    pub bound : at ≤ length methods
+    pub found : ids ≡ map (λ method. method.id)
+        (filter (λ method. matches pattern method.address) (take at methods))
+    pub known : (d : Method) → at < length methods
+        → known_at methods at d ≤ agreeing (parts_of pattern) (parts_of (get_or methods at d).address)
 
 -- a lawful list of methods in ascending order of the address
 pub record IsSorted (methods : List Method) : Type 0 where

@@ -19,7 +19,8 @@ impl Model for Hits {
 
     ghost view = { λ hits. record { limit = hits.limit; ids = hits.ids.items } };
 
-    ghost invariant = { λ hits. (vec_len hits.ids ≤ hits.limit) × (hits.limit ≤ vec_capacity hits.ids) };
+    ghost invariant = { λ hits. (vec_len hits.ids ≤ hits.limit)
+        × (hits.limit ≤ vec_capacity hits.ids) };
 }
 
 impl Hits {

@@ -1,11 +1,13 @@
 //! What the definitions say, apart from any code.
-ghost use Rattle.std.specs.Prelude.{◌≡◌, ◌↔◌, ◌+◌, ◌≤◌, ℕ, List, [], ◌∷◌, ◌++◌, length, None, Some, codes};
+ghost use Rattle.std.specs.Prelude.{◌≡◌, ◌↔◌, ◌+◌, ◌≤◌, ℕ, List, [], ◌∷◌, ◌++◌, length, None, Some};
+ghost use Rattle.std.specs.Prelude.{codes};
 ghost use Rattle.std.specs.List.Sorted.{IsPermutation};
 ghost use Rattle.osc_pattern.specs.Addresses.{IsAddress};
 ghost use Rattle.osc_pattern.specs.Methods.{Method, nodes};
 ghost use Rattle.osc_tree.specs.Registry.{Registry, IsLawful, IsNewId};
 ghost use Rattle.osc_tree.specs.Nodes.{new_nodes};
-ghost use Rattle.osc_tree.specs.Adding.{IsAddable, Refusal, Refuses, is_container, nodes_full, add_refusal};
+ghost use Rattle.osc_tree.specs.Adding.{IsAddable, Refusal, Refuses, is_container, nodes_full};
+ghost use Rattle.osc_tree.specs.Adding.{add_refusal};
 ghost use Rattle.osc_tree.specs.Matching.{matched, matching, matching_ids, IsAscending};
 
 /// The methods that a pattern matches stand in ascending order of their addresses, and are those that match, each

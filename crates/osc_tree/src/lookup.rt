@@ -1,5 +1,6 @@
 // Which methods stand at, above and below an address.
-ghost use Rattle.std.specs.Prelude.{◌≡◌, ◌<◌, if◌then◌else◌, find, length, nat_eq, slice_index, take, All, None, MatchBool};
+ghost use Rattle.std.specs.Prelude.{◌≡◌, ◌<◌, if◌then◌else◌, find, length, nat_eq, slice_index};
+ghost use Rattle.std.specs.Prelude.{take, All, None, MatchBool};
 ghost use Rattle.std.specs.Option.{option_copied};
 ghost use Rattle.std.specs.List.{list_any};
 ghost use Rattle.osc_pattern.specs.Addresses.{is_proper_prefix};

@@ -1,6 +1,8 @@
 // The methods that a pattern matches.
 ghost use Rattle.osc_pattern.specs.declared.limits.TheConstants.{MAX_NAME};
-ghost use Rattle.std.specs.Prelude.{◌≡◌, ◌≤◌, ◌<◌, ◌+◌, ◌++◌, ◌∷◌, ◌==◌, ◌&&◌, [], not, nat_le, nat_lt, if◌then◌else◌, true, None, length, take, filter, map, position, All, vec_len, vec_capacity};
+ghost use Rattle.std.specs.Prelude.{◌≡◌, ◌≤◌, ◌<◌, ◌+◌, ◌++◌, ◌∷◌, ◌==◌, ◌&&◌, [], not, nat_le};
+ghost use Rattle.std.specs.Prelude.{nat_lt, if◌then◌else◌, true, None, length, take, filter, map};
+ghost use Rattle.std.specs.Prelude.{position, All, vec_len, vec_capacity};
 ghost use Rattle.std.specs.List.{slice_split, position_or_len};
 ghost use Rattle.std.specs.List.Sorted.{IsPartitionedBy};
 ghost use Rattle.osc_pattern.specs.Items.{is_slash};
@@ -10,7 +12,8 @@ ghost use Rattle.osc_pattern.specs.Reading.{match_part};
 ghost use Rattle.osc_tree.specs.Matching.{matching_ids};
 ghost use Rattle.osc_tree.specs.Order.{IsOrder};
 ghost use Rattle.osc_tree.specs.Views.{method_at, methods_of, methods_at};
-ghost use Rattle.osc_tree.specs.Walking.{most_steps, shared, agreeing, part_steps, spent, known_at, IsWalked, IsSorted};
+ghost use Rattle.osc_tree.specs.Walking.{most_steps, shared, agreeing, part_steps, spent, known_at};
+ghost use Rattle.osc_tree.specs.Walking.{IsWalked, IsSorted};
 
 use crate::beginning::beginning_with;
 use crate::literal::first_special;

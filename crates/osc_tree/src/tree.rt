@@ -1,9 +1,11 @@
 //! The tree of methods: a list in the order of adding, and their places in the order of their addresses, in room that
 //! is reserved at opening.
-ghost use Rattle.std.specs.Prelude.{◌≡◌, ◌≤◌, ◌+◌, ◌↔◌, ℕ, List, [], ◌∷◌, ◌++◌, Some, None, IsOk, IsErr, IfOk, IfErr, IfSome, IsNone, OnOk, OnErr};
+ghost use Rattle.std.specs.Prelude.{◌≡◌, ◌≤◌, ◌+◌, ◌↔◌, ℕ, List, [], ◌∷◌, ◌++◌, Some, None, IsOk};
+ghost use Rattle.std.specs.Prelude.{IsErr, IfOk, IfErr, IfSome, IsNone, OnOk, OnErr};
 ghost use Rattle.std.specs.Option.{option_map, option_copied};
 ghost use Rattle.std.specs.Result.{result_ok};
-ghost use Rattle.osc_tree.specs.Registry.{Registry, IsLawful, IsAt, IsNewId, NoneAt, id_at, address_by_id, without};
+ghost use Rattle.osc_tree.specs.Registry.{Registry, IsLawful, IsAt, IsNewId, NoneAt, id_at};
+ghost use Rattle.osc_tree.specs.Registry.{address_by_id, without};
 ghost use Rattle.osc_tree.specs.Adding.{IsAddable, IsRefused, refusal_of, add_refusal};
 ghost use Rattle.osc_tree.specs.Matching.{AreHits, matching_ids};
 ghost use Rattle.osc_tree.specs.Views.{methods_of};

@@ -1,5 +1,6 @@
 -- Several steps in a row, as one call makes them.
-use Rattle.std.proofs.Common.{MatchBool, ◌≡◌, ◌≢◌, ℕ, ◌+◌, ◌/◌, ◌%◌, ◌<◌, Bool, true, false, List, [], ◌∷◌, ◌++◌, length, sym, refl, ap, ◌∙◌, subst, inr, arith, append_assoc, append-nil, length-append}
+use Rattle.std.proofs.Common.{MatchBool, ◌≡◌, ◌≢◌, ℕ, ◌+◌, ◌/◌, ◌%◌, ◌<◌, Bool, true, false, List, [], ◌∷◌, ◌++◌, length, sym, refl, ap, ◌∙◌, subst, inr, arith}
+use Rattle.std.proofs.Common.{append_assoc, append-nil, length-append}
 use Rattle.osc_turn.specs.declared.view.Entry.{Entry}
 use Rattle.osc_turn.specs.declared.view.View.{View}
 use Rattle.osc_turn.specs.History.{StartsWith, entry, texts, own}

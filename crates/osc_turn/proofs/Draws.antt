@@ -1,5 +1,6 @@
 -- How another pass is made: the number of passes is read, a number is drawn, and the view is split.
-use Rattle.std.proofs.Common.{le_refl, ◌≡◌, ℕ, ◌+◌, ◌%◌, ◌^◌, ◌<◌, ◌≤◌, true, false, List, [], ◌∷◌, ◌++◌, length, get_or, set, sym, refl, ap, ◌∙◌, subst, inr, ⊎_elim, arith, length-set, get_or-set_other, get_or-set_same, Option}
+use Rattle.std.proofs.Common.{le_refl, ◌≡◌, ℕ, ◌+◌, ◌%◌, ◌^◌, ◌<◌, ◌≤◌, true, false, List, [], ◌∷◌, ◌++◌, length, get_or, set, sym, refl, ap, ◌∙◌, subst, inr}
+use Rattle.std.proofs.Common.{⊎_elim, arith, length-set, get_or-set_other, get_or-set_same, Option}
 use mathlib.Core.Option.{some, none, some-injective, some-ne-none}
 use mathlib.Core.Option as maybe
 use mathlib.Core.Logic.{dite}
@@ -12,7 +13,8 @@ use Rattle.osc_turn.specs.declared.view.View.{View}
 use Rattle.osc_turn.specs.Numbers.{weigh, only, times, numbers_of}
 use Rattle.osc_turn.specs.Rule.{Fits}
 use Rattle.osc_turn.specs.Steps.{drew, kept_of, split_off, Counts, Draws}
-use Rattle.osc_turn.proofs.Histories.{weigh_append, total_set, total_at, total_snoc, one_below, only_other, times_some, times_none, none_begun, below_more, views_stay}
+use Rattle.osc_turn.proofs.Histories.{weigh_append, total_set, total_at, total_snoc, one_below, only_other, times_some, times_none, none_begun, below_more}
+use Rattle.osc_turn.proofs.Histories.{views_stay}
 use Rattle.osc_turn.proofs.Keeps.{lives, still_held, Rule, Stands, apart, view_changes, stays}
 
 module _ {S : Type 0} (stands : S → List (List ℕ) → Type 0) (kind_of : S → List ℕ) where

@@ -1,5 +1,6 @@
 -- How one view is joined into another.
-use Rattle.std.proofs.Common.{◌≡◌, ◌≢◌, ℕ, zero, suc, ◌+◌, ◌<◌, ◌≤◌, cond, true, false, List, [], ◌∷◌, ◌++◌, length, get_or, set, sym, refl, ap, ◌∙◌, subst, inl, inr, ◌⊎◌, ⊎_elim, arith, Option}
+use Rattle.std.proofs.Common.{◌≡◌, ◌≢◌, ℕ, zero, suc, ◌+◌, ◌<◌, ◌≤◌, cond, true, false, List, [], ◌∷◌, ◌++◌, length, get_or, set, sym, refl, ap, ◌∙◌, subst}
+use Rattle.std.proofs.Common.{inl, inr, ◌⊎◌, ⊎_elim, arith, Option}
 use mathlib.Core.Option.{some, none, some-injective, some-ne-none}
 use mathlib.Core.Option as maybe
 use mathlib.Core.Logic.{dite}
@@ -16,7 +17,8 @@ use Rattle.osc_turn.specs.History.{StartsWith, own}
 use Rattle.osc_turn.specs.Numbers.{weigh, only, times, numbers_of}
 use Rattle.osc_turn.specs.Rule.{spent, Covers, Fits}
 use Rattle.osc_turn.specs.Steps.{longer, past, joined, Remembers, Grows}
-use Rattle.osc_turn.proofs.Histories.{starts_here, starts_own, starts_order, same_between, same_both, weigh_append, total_set, total_two, one_below, times_none, views_stay}
+use Rattle.osc_turn.proofs.Histories.{starts_here, starts_own, starts_order, same_between, same_both, weigh_append, total_set, total_two, one_below, times_none}
+use Rattle.osc_turn.proofs.Histories.{views_stay}
 use Rattle.osc_turn.proofs.Keeps.{lives, still_held, Rule, Stands}
 
 pub longer_cases : (P : List Entry → Type 0) (a b : List Entry) → (length a ≤ length b → P b) → (length b ≤ length a → P a) → P (longer a b)

@@ -1,5 +1,6 @@
 -- Each step of the turn keeps its rule.
-use Rattle.std.proofs.Common.{◌≡◌, ◌≢◌, ℕ, zero, suc, ◌+◌, ◌*◌, ◌/◌, ◌%◌, ◌<◌, ◌≤◌, eqb, true, List, [], ◌∷◌, ◌++◌, length, get_or, set, sym, refl, ap, ◌∙◌, subst, inr, ⊎_elim, arith, append-nil, length-append, length-set, get_or-set_other, get_or-set_same, Option, Some, None}
+use Rattle.std.proofs.Common.{◌≡◌, ◌≢◌, ℕ, zero, suc, ◌+◌, ◌*◌, ◌/◌, ◌%◌, ◌<◌, ◌≤◌, eqb, true, List, [], ◌∷◌, ◌++◌, length, get_or, set, sym, refl, ap, ◌∙◌}
+use Rattle.std.proofs.Common.{subst, inr, ⊎_elim, arith, append-nil, length-append, length-set, get_or-set_other, get_or-set_same, Option, Some, None}
 use mathlib.Core.Option.{some, none, some-injective, some-ne-none}
 use mathlib.Core.Option as maybe
 use mathlib.Core.Logic.{dite}
@@ -15,7 +16,8 @@ use Rattle.osc_turn.specs.History.{StartsWith, entry, texts, own}
 use Rattle.osc_turn.specs.Numbers.{weigh, only, times, numbers_of}
 use Rattle.osc_turn.specs.Rule.{number_of, Rests, Fits, Standing, Turns}
 use Rattle.osc_turn.specs.Steps.{found_at, Finds, holding, given, Looks, Tries, GivesEntry, GivesBack, Has}
-use Rattle.osc_turn.proofs.Histories.{starts_here, starts_on, texts_append, own_append, own_of_other, weigh_append, total_set, total_at, total_two, none_below, one_below, times_one, views_stay}
+use Rattle.osc_turn.proofs.Histories.{starts_here, starts_on, texts_append, own_append, own_of_other, weigh_append, total_set, total_at, total_two, none_below}
+use Rattle.osc_turn.proofs.Histories.{one_below, times_one, views_stay}
 
 abbrev pub IsOne : View → Type 0
 IsOne v = v.numbers ≡ number_of v ∷ []

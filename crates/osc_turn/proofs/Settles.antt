@@ -1,5 +1,6 @@
 -- The turn as it is closed with a view that has every number that was drawn.
-use Rattle.std.proofs.Common.{zero, suc, All, ◌≡◌, ◌≢◌, ℕ, ◌%◌, ◌<◌, false, List, [], ◌∷◌, ◌++◌, length, get_or, sym, refl, ap, ◌∙◌, subst, arith, append-nil, length-append, Option, Some}
+use Rattle.std.proofs.Common.{zero, suc, All, ◌≡◌, ◌≢◌, ℕ, ◌%◌, ◌<◌, false, List, [], ◌∷◌, ◌++◌, length, get_or, sym, refl, ap, ◌∙◌, subst, arith, append-nil}
+use Rattle.std.proofs.Common.{length-append, Option, Some}
 use mathlib.Core.Option.{some, none, some-injective}
 use mathlib.Core.Option as maybe
 use mathlib.Core.Logic.{dite}
@@ -10,7 +11,8 @@ use Rattle.osc_turn.specs.declared.view.Entry.{Entry}
 use Rattle.osc_turn.specs.declared.view.View.{View}
 use Rattle.osc_turn.specs.History.{texts, own}
 use Rattle.osc_turn.specs.Numbers.{weigh, only, times, numbers_of}
-use Rattle.osc_turn.proofs.Histories.{no_append, own_append, own_of_mine, weigh_append, weigh_ones, ones_below, some_below, total_two, total_alone, times_some, none_long}
+use Rattle.osc_turn.proofs.Histories.{no_append, own_append, own_of_mine, weigh_append, weigh_ones, ones_below, some_below, total_two, total_alone, times_some}
+use Rattle.osc_turn.proofs.Histories.{none_long}
 use Rattle.osc_turn.proofs.Keeps.{lives, Rule, Stands}
 
 -- where a list has no entry of a number, what follows its first entry has none

@@ -1,5 +1,6 @@
 -- What a call says of its pass, where `v` is what the pass knew before and `w` what it knows then.
-use Rattle.std.specs.Prelude.{◌≡◌, ◌⊎◌, ℕ, ◌+◌, ◌/◌, ◌%◌, ◌<◌, Bool, if◌then◌else◌, List, [], ◌∷◌, ◌++◌, length, MatchBool, ⊤}
+use Rattle.std.specs.Prelude.{◌≡◌, ◌⊎◌, ℕ, ◌+◌, ◌/◌, ◌%◌, ◌<◌, Bool, if◌then◌else◌, List, [], ◌∷◌}
+use Rattle.std.specs.Prelude.{◌++◌, length, MatchBool, ⊤}
 use Rattle.osc_turn.specs.declared.tried.Tried.{Tried}
 use Rattle.osc_turn.specs.declared.tried.Tried.TheVariants.{Done, Busy}
 use Rattle.osc_turn.specs.declared.view.Entry.{Entry}

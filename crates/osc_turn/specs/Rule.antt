@@ -3,7 +3,8 @@
 -- pass holds the turn.
 -- Word 1 is the number of passes that were made. The one slot has the value, and is empty while the
 -- turn is held.
-use Rattle.std.specs.Prelude.{◌≡◌, ◌≢◌, ℕ, ◌/◌, ◌%◌, ◌<◌, ◌≤◌, ◌⊎◌, true, false, List, [], ◌∷◌, length, slice_index, Option, Some}
+use Rattle.std.specs.Prelude.{◌≡◌, ◌≢◌, ℕ, ◌/◌, ◌%◌, ◌<◌, ◌≤◌, ◌⊎◌, true, false, List, [], ◌∷◌}
+use Rattle.std.specs.Prelude.{length, slice_index, Option, Some}
 use mathlib.Core.Option.{some, none}
 use mathlib.Core.Option as maybe
 use lib.ListN.{get_elem?}

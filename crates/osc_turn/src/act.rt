@@ -2,7 +2,8 @@
 ghost use Rattle.std.specs.Prelude.{◌≡◌, ℕ, ◌/◌, List, [], ◌∷◌, ◌++◌, length};
 ghost use Rattle.osc_turn.specs.History.{StartsWith, texts};
 ghost use Rattle.osc_turn.specs.Passes.{view, IsPassOf};
-ghost use Rattle.osc_turn.specs.Answers.{IfDone, IfBusy, TakesOnce, TakesNone, FindsFree, FindsTwice, FindsTaken, AddsOwn, KeepsOwn, Ran};
+ghost use Rattle.osc_turn.specs.Answers.{IfDone, IfBusy, TakesOnce, TakesNone, FindsFree};
+ghost use Rattle.osc_turn.specs.Answers.{FindsTwice, FindsTaken, AddsOwn, KeepsOwn, Ran};
 
 use crate::job::{Job, Kept};
 use crate::pass::Pass;

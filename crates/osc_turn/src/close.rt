@@ -1,5 +1,6 @@
 //! How a turn is closed.
-ghost use Rattle.std.specs.Prelude.{◌≡◌, ◌≢◌, ℕ, ◌<◌, ◌≤◌, List, [], ◌∷◌, false, length, map, All, IfOk, OnOk, IfErr};
+ghost use Rattle.std.specs.Prelude.{◌≡◌, ◌≢◌, ℕ, ◌<◌, ◌≤◌, List, [], ◌∷◌, false, length, map, All};
+ghost use Rattle.std.specs.Prelude.{IfOk, OnOk, IfErr};
 ghost use Rattle.osc_turn.specs.History.{texts};
 ghost use Rattle.osc_turn.specs.Numbers.{times};
 ghost use Rattle.osc_turn.specs.Rule.{number_of, Rests};

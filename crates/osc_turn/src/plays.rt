@@ -1,6 +1,7 @@
 //! The rule of the turn, and what each step tells. These types are for the proofs alone.
 ghost use Rattle.osc_turn.specs.Rule.{Turns, reopening, spent};
-ghost use Rattle.osc_turn.specs.Steps.{Looks, Tries, GivesEntry, GivesBack, Counts, Draws, kept_of, split_off, joined};
+ghost use Rattle.osc_turn.specs.Steps.{Looks, Tries, GivesEntry, GivesBack, Counts, Draws, kept_of};
+ghost use Rattle.osc_turn.specs.Steps.{split_off, joined};
 
 use crate::job::Kept;
 use crate::view::View;

@@ -7,7 +7,8 @@ ghost use Rattle.osc_core.specs.Telling.{told};
 ghost use Rattle.osc_live.specs.Seen.{IsTokenOf};
 ghost use Rattle.osc_live.specs.Outs.{AreOurs, live_back};
 ghost use Rattle.osc_live.specs.Closing.{Closes};
-ghost use Rattle.osc_uses.specs.Live.{ComesAndGoes, Sends, Ticks, AreOneHistory, AreTokensOf, OnOpen, IsShort};
+ghost use Rattle.osc_uses.specs.Live.{ComesAndGoes, Sends, Ticks, AreOneHistory, AreTokensOf};
+ghost use Rattle.osc_uses.specs.Live.{OnOpen, IsShort};
 
 use osc_atoms::Fault;
 use osc_core::{Adding, Closed, Removing, Submitted, Ticking};

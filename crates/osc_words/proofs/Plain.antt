@@ -1,5 +1,6 @@
 -- What is found is what clap finds by the plain command, where no positional stands before the last word.
-use Rattle.std.proofs.Common.{◌≡◌, ◌∙◌, ◌⊎◌, inl, inr, ℕ, suc, ◌+◌, ◌-◌, ◌≤◌, ◌==◌, min, Bool, true, false, cond, List, [], ◌∷◌, Option, Some, None, map, take, length, refl, sym, ap, arith, subst}
+use Rattle.std.proofs.Common.{◌≡◌, ◌∙◌, ◌⊎◌, inl, inr, ℕ, suc, ◌+◌, ◌-◌, ◌≤◌, ◌==◌, min, Bool, true, false, cond, List, [], ◌∷◌, Option, Some, None, map, take}
+use Rattle.std.proofs.Common.{length, refl, sym, ap, arith, subst}
 use Rattle.std.specs.Prelude.{not, ◌&&◌, fold, is_some, option_map}
 use Rattle.std.specs.List.{list_any}
 use Rattle.std.specs.Option.{option_map_or}
@@ -7,13 +8,17 @@ use Rattle.std.specs.Str.{bytes_eq}
 use Rattle.std.proofs.lemmas.Bool.Decides.{nat_tests}
 use Rattle.clap.specs.Lexer.{long_of, short_of}
 use Rattle.osc_words.specs.Reading.{unless_refused}
-use Rattle.clap.specs.Walk.{Outcome, after_flag, bundle, done, idle, long_met, long_or_other, option, plain, plain_word, positional, refused, short_or_plain, subcommand_or_other, waits}
-use Rattle.clap.specs.Walk.{Held, Row, Rule, Step, Text, Waiting, Walk, action_of, after_step, arg_by_id, arg_by_index, arg_by_long, arg_by_short, finished, is_multiple, is_pending, next, nothing_held, option_word, pushed, rows_after, settled, settled_rows, subcommand, subcommand_met, takes_several, to_positional, trailing, used_by_id, value, walk, walk_from, walked, walked_from, with_default, word_met}
+use Rattle.clap.specs.Walk.{Outcome, after_flag, bundle, done, idle, long_met, long_or_other, option, plain, plain_word, positional, refused, short_or_plain}
+use Rattle.clap.specs.Walk.{subcommand_or_other, waits}
+use Rattle.clap.specs.Walk.{Held, Row, Rule, Step, Text, Waiting, Walk, action_of, after_step, arg_by_id, arg_by_index, arg_by_long, arg_by_short, finished}
+use Rattle.clap.specs.Walk.{is_multiple, is_pending, next, nothing_held, option_word, pushed, rows_after, settled, settled_rows, subcommand, subcommand_met}
+use Rattle.clap.specs.Walk.{takes_several, to_positional, trailing, used_by_id, value, walk, walk_from, walked, walked_from, with_default, word_met}
 use Rattle.clap.specs.Words.{Kinds}
 use Rattle.clap.specs.Kinds.{or_else, check_kinds}
 use Rattle.clap.specs.Takes.{is_given}
 use Rattle.clap.specs.Facts.{explicit_source}
-use Rattle.clap.specs.Faults.{action_fault, check_fault, default_fault, defaults_fault, level_fault, positional_fault, settle_fault, step_fault, stray_fault, turn_fault, use_fault, walk_fault}
+use Rattle.clap.specs.Faults.{action_fault, check_fault, default_fault, defaults_fault, level_fault, positional_fault, settle_fault, step_fault, stray_fault}
+use Rattle.clap.specs.Faults.{turn_fault, use_fault, walk_fault}
 use Rattle.clap.specs.Simple.{Shape}
 use Rattle.clap.specs.declared.builder.action.ArgAction.{ArgAction}
 use Rattle.clap.specs.declared.builder.action.ArgAction.TheVariants as action

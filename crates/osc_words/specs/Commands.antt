@@ -1,5 +1,6 @@
 -- What the words of the command line say.
-use Rattle.std.specs.Prelude.{ℕ, ◌+◌, Bool, false, nat_le, if◌then◌else◌, List, [], ◌∷◌, Option, Some, None, option_map, option_and_then, codes}
+use Rattle.std.specs.Prelude.{ℕ, ◌+◌, Bool, false, nat_le, if◌then◌else◌, List, [], ◌∷◌, Option}
+use Rattle.std.specs.Prelude.{Some, None, option_map, option_and_then, codes}
 use Rattle.std.specs.Option.{option_map_or}
 use Rattle.std.specs.Str.{bytes_eq}
 use Rattle.clap.specs.Words.{Row, first_of}
@@ -10,7 +11,9 @@ use Rattle.osc_words.specs.Verbs as verbs
 use Rattle.osc_words.specs.declared.options.Flag.{Flag}
 use Rattle.osc_words.specs.declared.options.Flag.TheVariants.{Bytes}
 use Rattle.osc_words.specs.declared.options.Quantity.{Quantity}
-use Rattle.osc_words.specs.declared.options.Quantity.TheVariants.{Units, Blocks, Methods, Nodes, Recording, Seed, Lines, Port, Links, Count, Idle}
+use Rattle.osc_words.specs.declared.options.Quantity.TheVariants.{Units, Blocks, Methods, Nodes}
+use Rattle.osc_words.specs.declared.options.Quantity.TheVariants.{Recording, Seed, Lines, Port}
+use Rattle.osc_words.specs.declared.options.Quantity.TheVariants.{Links, Count, Idle}
 use Rattle.osc_words.specs.declared.verb.Verb.{Verb}
 use Rattle.osc_words.specs.declared.verb.Verb.TheVariants as verb
 use Rattle.osc_words.specs.declared.command.Capacities.{Capacities}

@@ -5,7 +5,9 @@ use Rattle.clap.specs.declared.builder.action.ArgAction.TheVariants.{SetTrue}
 use Rattle.osc_words.specs.declared.options.Flag.{Flag}
 use Rattle.osc_words.specs.declared.options.Flag.TheVariants.{Bytes}
 use Rattle.osc_words.specs.declared.options.Quantity.{Quantity}
-use Rattle.osc_words.specs.declared.options.Quantity.TheVariants.{Units, Blocks, Methods, Nodes, Recording, Seed, Lines, Port, Links, Count, Idle}
+use Rattle.osc_words.specs.declared.options.Quantity.TheVariants.{Units, Blocks, Methods, Nodes}
+use Rattle.osc_words.specs.declared.options.Quantity.TheVariants.{Recording, Seed, Lines, Port}
+use Rattle.osc_words.specs.declared.options.Quantity.TheVariants.{Links, Count, Idle}
 use Rattle.osc_words.specs.declared.options.Parameter.{Parameter}
 use Rattle.osc_words.specs.declared.options.Parameter.TheVariants as parameter
 

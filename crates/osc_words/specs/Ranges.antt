@@ -1,7 +1,9 @@
 -- The numbers of a command lie in the ranges of their options.
 use Rattle.std.specs.Prelude.{ℕ, ◌+◌, ◌≤◌}
 use Rattle.osc_words.specs.Options.{IsInRange, row_of}
-use Rattle.osc_words.specs.declared.options.Quantity.TheVariants.{Units, Blocks, Methods, Nodes, Recording, Lines, Port, Links, Count, Idle}
+use Rattle.osc_words.specs.declared.options.Quantity.TheVariants.{Units, Blocks, Methods, Nodes}
+use Rattle.osc_words.specs.declared.options.Quantity.TheVariants.{Recording, Lines, Port, Links}
+use Rattle.osc_words.specs.declared.options.Quantity.TheVariants.{Count, Idle}
 use Rattle.osc_words.specs.declared.command.Capacities.{Capacities}
 use Rattle.osc_words.specs.declared.command.Reading.{Reading}
 use Rattle.osc_words.specs.declared.command.Reading.TheVariants.{Run, Replay, Dump}

@@ -1,6 +1,8 @@
 -- What clap finds in the words.
-use Rattle.std.specs.Prelude.{ℕ, ◌-◌, ◌==◌, Bool, true, take, drop, length, List, [], ◌∷◌, map, fold, Option, Some, None, codes}
-use Rattle.clap.specs.Words.{App, Kinds, Row, Rule, built, fault_of, matches_of, new_app, new_rule, with_rule}
+use Rattle.std.specs.Prelude.{ℕ, ◌-◌, ◌==◌, Bool, true, take, drop, length, List, [], ◌∷◌, map}
+use Rattle.std.specs.Prelude.{fold, Option, Some, None, codes}
+use Rattle.clap.specs.Words.{App, Kinds, Row, Rule, built, fault_of, matches_of, new_app, new_rule}
+use Rattle.clap.specs.Words.{with_rule}
 use Rattle.clap.specs.Walk.{nothing_held, walk}
 use Rattle.osc_words.specs.Options.{rule_for}
 use Rattle.osc_words.specs.Verbs.{options_of}
@@ -16,7 +18,8 @@ abbrev pub unless_refused : Kinds → List Row → Option (List Row)
 unless_refused [] rows = Some rows
 unless_refused (kind ∷ kinds) rows = None
 
--- what such a command finds in the words, of which the first is the command's name: a row for each option; none where it
+-- what such a command finds in the words, of which the first is the command's name: a row for each
+-- option; none where it
 -- refuses the words
 unfoldable pub found_by : Verb → List (List ℕ) → Option (List Row)
 found_by verb words =

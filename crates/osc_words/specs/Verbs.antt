@@ -2,7 +2,9 @@
 use Rattle.std.specs.Prelude.{ℕ, if◌then◌else◌, List, [], ◌∷◌, ◌++◌, map, Option, Some, None, codes}
 use Rattle.std.specs.Str.{bytes_eq}
 use Rattle.osc_words.specs.declared.options.Flag.TheVariants.{Bytes}
-use Rattle.osc_words.specs.declared.options.Quantity.TheVariants.{Units, Blocks, Methods, Nodes, Recording, Seed, Lines, Port, Links, Count, Idle}
+use Rattle.osc_words.specs.declared.options.Quantity.TheVariants.{Units, Blocks, Methods, Nodes}
+use Rattle.osc_words.specs.declared.options.Quantity.TheVariants.{Recording, Seed, Lines, Port}
+use Rattle.osc_words.specs.declared.options.Quantity.TheVariants.{Links, Count, Idle}
 use Rattle.osc_words.specs.declared.options.Parameter.{Parameter}
 use Rattle.osc_words.specs.declared.options.Parameter.TheVariants.{Flag, Number, File}
 use Rattle.osc_words.specs.declared.verb.Verb.{Verb}

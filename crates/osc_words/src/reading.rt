@@ -1,6 +1,7 @@
 // Has clap read the words.
 ghost use Rattle.std.specs.Prelude.{◌≡◌, IfOk, fold, map, option_map, string_bytes, true};
-ghost use Rattle.clap.specs.Words.{app_of, found_of, is_simple_and_free, new_app, rows_of, with_rule};
+ghost use Rattle.clap.specs.Words.{app_of, found_of, is_simple_and_free, new_app, rows_of};
+ghost use Rattle.clap.specs.Words.{with_rule};
 ghost use Rattle.osc_words.specs.Options.{rule_for};
 ghost use Rattle.osc_words.specs.Reading.{app_for, found_by};
 

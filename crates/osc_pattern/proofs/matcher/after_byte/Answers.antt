@@ -4,7 +4,8 @@ use Rattle.std.specs.List.{list_any}
 use Rattle.osc_pattern.specs.Items.{item_text}
 use Rattle.osc_pattern.specs.Cuts.{after_byte}
 use Rattle.osc_pattern.specs.Views.{item_of, is_place_of, passes}
-use Rattle.osc_pattern.proofs.Reaches.{any_rest-none, any_rest-next, any_rest-byte, not_reached, other_byte, item_text-some, next_row, first_and_rest, drop-next}
+use Rattle.osc_pattern.proofs.Reaches.{any_rest-none, any_rest-next, any_rest-byte, not_reached, other_byte, item_text-some, next_row, first_and_rest}
+use Rattle.osc_pattern.proofs.Reaches.{drop-next}
 use Rattle.osc_pattern.proofs.matcher.after_byte.Goals.{then-has+then-has_byte, else-has, else-has-via-then-has+else-has_byte, else-has-via-else-has}
 use Rattle.osc_pattern.proofs.matcher.after_byte.Goals as goal
 

@@ -2,7 +2,8 @@ use Rattle.std.proofs.Common.{◌≡◌, None, codes, sym, ap, ◌∙◌, arith,
 use Rattle.std.specs.Prelude.{option_map}
 use Rattle.osc_record.specs.Reading.{enrol_read, submit_read, add_read, remove_read, tick_read, release_read}
 use Rattle.osc_record.specs.Shown.{parts_of}
-use Rattle.osc_record.proofs.Fronts.{front_some, front_none, other_none, enrol_bytes, submit_bytes, add_bytes, remove_bytes, tick_bytes, release_bytes, enrol_front, submit_front, add_front, remove_front, tick_front, release_front}
+use Rattle.osc_record.proofs.Fronts.{front_some, front_none, other_none, enrol_bytes, submit_bytes, add_bytes, remove_bytes, tick_bytes, release_bytes}
+use Rattle.osc_record.proofs.Fronts.{enrol_front, submit_front, add_front, remove_front, tick_front, release_front}
 use Rattle.osc_record.proofs.entry_reading.read_message.Goals as goal
 
 pub returns-in_err-read-clause-value : goal.returns-in_err-read-clause-value

@@ -23,7 +23,8 @@ index_mut-requires-2 c =
 
 pub invariant_of-self : goal.invariant_of-self
 invariant_of-self c = record {
-  sound = (given c.self.inside.blocks.items c.args.chain c.args.self.now c.self.invariant.sound c.self.view_is c.requires c.if-chain-eq0.false c.blocks_for-count.ensures
+  sound = (given c.self.inside.blocks.items c.args.chain c.args.self.now c.self.invariant.sound c.self.view_is c.requires c.if-chain-eq0.false
+      c.blocks_for-count.ensures
       c.deref.ensures.value c.last_of-last.ensures).sound;
   few = omega (arith, c.self.invariant.few, length-set c.self.inside.next.items c.last_of-last.result c.self.inside.first);
   room = omega (arith, c.self.invariant.room, length-set c.self.inside.next.items c.last_of-last.result c.self.inside.first);
@@ -37,20 +38,24 @@ invariant_of-self c = record {
 
 pub returns-clause-given : goal.returns-clause-given
 returns-clause-given c =
-    (given c.self.inside.blocks.items c.args.chain c.args.self.now c.self.invariant.sound c.self.view_is c.requires c.if-chain-eq0.false c.blocks_for-count.ensures
+    (given c.self.inside.blocks.items c.args.chain c.args.self.now c.self.invariant.sound c.self.view_is c.requires c.if-chain-eq0.false
+    c.blocks_for-count.ensures
     c.deref.ensures.value c.last_of-last.ensures).given
 
 pub returns-clause-kept : goal.returns-clause-kept
 returns-clause-kept c =
-    (given c.self.inside.blocks.items c.args.chain c.args.self.now c.self.invariant.sound c.self.view_is c.requires c.if-chain-eq0.false c.blocks_for-count.ensures
+    (given c.self.inside.blocks.items c.args.chain c.args.self.now c.self.invariant.sound c.self.view_is c.requires c.if-chain-eq0.false
+    c.blocks_for-count.ensures
     c.deref.ensures.value c.last_of-last.ensures).kept
 
 pub returns-clause-used : goal.returns-clause-used
 returns-clause-used c =
-    (given c.self.inside.blocks.items c.args.chain c.args.self.now c.self.invariant.sound c.self.view_is c.requires c.if-chain-eq0.false c.blocks_for-count.ensures
+    (given c.self.inside.blocks.items c.args.chain c.args.self.now c.self.invariant.sound c.self.view_is c.requires c.if-chain-eq0.false
+    c.blocks_for-count.ensures
     c.deref.ensures.value c.last_of-last.ensures).used
 
 pub returns-clause-limit : goal.returns-clause-limit
 returns-clause-limit c =
-    (given c.self.inside.blocks.items c.args.chain c.args.self.now c.self.invariant.sound c.self.view_is c.requires c.if-chain-eq0.false c.blocks_for-count.ensures
+    (given c.self.inside.blocks.items c.args.chain c.args.self.now c.self.invariant.sound c.self.view_is c.requires c.if-chain-eq0.false
+    c.blocks_for-count.ensures
     c.deref.ensures.value c.last_of-last.ensures).limit

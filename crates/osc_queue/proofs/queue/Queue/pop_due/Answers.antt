@@ -4,7 +4,8 @@ use Rattle.osc_queue.specs.declared.entry.Entry.{Entry}
 use Rattle.osc_queue.specs.Timed.{due_of}
 use Rattle.osc_queue.specs.Views.{item_of, items_of, in_order}
 use Rattle.osc_queue.proofs.Sorting.{sorted_ordered}
-use Rattle.osc_queue.proofs.Heads.{heap_order, order_head, order_long, read_first, none_due, not_due, same_first, taken_out, still_apart, head_is_least, pop_bound}
+use Rattle.osc_queue.proofs.Heads.{heap_order, order_head, order_long, read_first, none_due, not_due, same_first, taken_out, still_apart, head_is_least}
+use Rattle.osc_queue.proofs.Heads.{pop_bound}
 use Rattle.osc_queue.proofs.queue.Queue.pop_due.Goals as goal
 use Rattle.osc_queue.proofs.queue.Queue.pop_due.Goals.{In_ok-first}
 

@@ -25,7 +25,15 @@ invariant_of-self g c =
       heap = c.enter_entry.ensures.heap;
       apart = apart_moved (item ∷ items_of xs) (items_of c.enter_entry.new.entries.items) c.enter_entry.ensures.joined
           (more_apart c.args.self.now.items xs item (ap (λ queue. queue.items) c.self.view_is) c.self.invariant.apart c.requires);
-      within = omega (arith, c.enter_entry.ensures.len, c.self.invariant.within, c.len.ensures, c.if-len-self.false, c.self.inside.entries.ok.0, c.enter_entry.new.entries.ok.0);
+      within = omega (
+        arith,
+        c.enter_entry.ensures.len,
+        c.self.invariant.within,
+        c.len.ensures,
+        c.if-len-self.false,
+        c.self.inside.entries.ok.0,
+        c.enter_entry.new.entries.ok.0,
+      );
       reserved = omega (arith, c.self.invariant.reserved, c.enter_entry.ensures.capacity);
     }
 
