@@ -1,5 +1,6 @@
 -- A call of a token, as the answer at one place of the history.
-use Rattle.std.proofs.Common.{◌≡◌, ℕ, zero, suc, ◌≤◌, Bool, true, false, List, [], ◌∷◌, ◌++◌, length, length-append, MatchBool, refl, sym, ap, subst, ◌∙◌, arith, append-nil}
+use Rattle.std.proofs.Common.{◌≡◌, ℕ, zero, suc, ◌≤◌, Bool, true, false, List, [], ◌∷◌, ◌++◌, length, length-append, MatchBool, refl, sym, ap, subst, ◌∙◌}
+use Rattle.std.proofs.Common.{arith, append-nil}
 use Rattle.std.proofs.lemmas.List.{append_cancel_right}
 use Rattle.osc_model.specs.Limits.{Limits}
 use Rattle.osc_model.specs.Events.{Event, Answer, release, released, adds_entry, Entry}
@@ -102,3 +103,15 @@ pub pumped_player : (caps : Limits) (start next : Caller) (pumped : Pumped) → 
 pumped_player caps start next pumped same pumps i =
     let first = released_in caps start.number pumped.released pumped.calls (view start.pass) pumps.between pumps.releases in
     record { caps = caps; token = (ap number_of pumps.last.once ∙ first.0) i; caller = same i }
+
+-- it has made no tokens
+released_made : (caps : Limits) (caller count made : ℕ) (v w : View) → Released caps caller count made v w → w.made ≡ v.made
+released_made caps caller zero made v w (is, none) = ap (λ (u : View). u.made) is
+released_made caps caller (suc count) made v w (between, before, last, is, earlier, one) =
+    ap (λ (u : View). u.made) one.3.once ∙ released_made caps caller count before v between earlier
+
+pub pumped_made : (caps : Limits) (start next : Caller) (pumped : Pumped) → Pumps caps start.number pumped (view start.pass) (view next.pass)
+    → (view next.pass).made ≡ (view start.pass).made
+pumped_made caps start next pumped pumps =
+    ap (λ (u : View). u.made) pumps.last.once
+    ∙ released_made caps start.number pumped.released pumped.calls (view start.pass) pumps.between pumps.releases

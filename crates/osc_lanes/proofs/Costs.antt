@@ -1,5 +1,6 @@
 -- What events take of a recording, with the releases of the units that they queue.
-use Rattle.std.proofs.Common.{◌≡◌, ℕ, ◌+◌, ◌*◌, ◌<◌, ◌≤◌, ◌==◌, Bool, true, false, not, cond, nat_le, nat_lt, List, [], ◌∷◌, ◌++◌, length, length-append, Option, Some, None, is_some, sum_by, refl, sym, ap, ◌∙◌, arith}
+use Rattle.std.proofs.Common.{◌≡◌, ℕ, ◌+◌, ◌*◌, ◌<◌, ◌≤◌, ◌==◌, Bool, true, false, not, cond, nat_le, nat_lt, List, [], ◌∷◌, ◌++◌, length, length-append}
+use Rattle.std.proofs.Common.{Option, Some, None, is_some, sum_by, refl, sym, ap, ◌∙◌, arith}
 use Rattle.std.specs.List.{filter}
 use Rattle.std.specs.Str.{bytes_eq}
 use Rattle.std.proofs.Math.Nat.{mul-le-mul_left}
@@ -21,8 +22,10 @@ use Rattle.osc_model.specs.Limits.{Limits, header_size}
 use Rattle.osc_model.specs.State.{State, Queued, opening, registry}
 use Rattle.osc_model.specs.Counts.{free_places, free_blocks}
 use Rattle.osc_model.specs.Recordings.{entry_size}
-use Rattle.osc_model.specs.Events.{Event, enrol, submit, add, remove, tick, release, Answer, number, callers_full, queued, units_full, pool_full, refused, not_there, ticked, clock_back, nothing_due, record_full, adds_entry, Room, Hit, Call, Entry}
-use Rattle.osc_model.specs.Step.{Stepped, step, decided, leaves, waiting, numbered, enter_all, after_submit, add_at, remove_at, matching_calls, calls_of, calls_from, calls_of_unit, hits_of, releases, release_first}
+use Rattle.osc_model.specs.Events.{Event, enrol, submit, add, remove, tick, release, Answer, number, callers_full, queued, units_full, pool_full, refused}
+use Rattle.osc_model.specs.Events.{not_there, ticked, clock_back, nothing_due, record_full, adds_entry, Room, Hit, Call, Entry}
+use Rattle.osc_model.specs.Step.{Stepped, step, decided, leaves, waiting, numbered, enter_all, after_submit, add_at, remove_at, matching_calls, calls_of}
+use Rattle.osc_model.specs.Step.{calls_from, calls_of_unit, hits_of, releases, release_first}
 use Rattle.osc_model.specs.History.{after}
 use Rattle.osc_model.proofs.Queues.{all_joined}
 use Rattle.osc_model.proofs.Refusals.{decided_none}
@@ -204,10 +207,10 @@ decided_pays most state release few = go state.queue refl where
 -- What a step takes of what is recorded and of what waits; and where it finds no room, the recording is less than both.
 
 -- the bytes that are recorded, and those of the releases of the units that wait
-abbrev held : ℕ → State → ℕ
+abbrev pub held : ℕ → State → ℕ
 held most state = state.recorded + queue_cost most state.queue
 
-record Takes (most : ℕ) (state : State) (event : Event) (stepped : Stepped) : Type 0 where
+pub record Takes (most : ℕ) (state : State) (event : Event) (stepped : Stepped) : Type 0 where
   pub caps : stepped.state.caps ≡ state.caps
   pub methods : length stepped.state.methods ≤ more_methods event + length state.methods
   pub bytes : held most stepped.state ≤ event_cost most event + held most state
@@ -216,7 +219,7 @@ record Takes (most : ℕ) (state : State) (event : Event) (stepped : Stepped) : 
 goes_not : (answer : Answer) (room : Room) → stop_of answer ≡ None → record_full room ≡ answer → ⊥
 goes_not answer room goes is = let clash : Some room ≡ None = ap stop_of is ∙ goes in absurd (cc)
 
-step_takes : (most : ℕ) (state : State) (event : Event) → length state.methods ≤ most → Takes most state event (step state event)
+pub step_takes : (most : ℕ) (state : State) (event : Event) → length state.methods ≤ most → Takes most state event (step state event)
 step_takes most state event few =
     let pays = decided_pays most state event few in
     step_so (Takes most state event) state event

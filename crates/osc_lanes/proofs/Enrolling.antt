@@ -1,12 +1,13 @@
 -- Caller 0 enrols callers, one after another.
-use Rattle.std.proofs.Common.{◌≡◌, ℕ, zero, suc, ◌+◌, ◌<◌, ◌≤◌, ◌==◌, Bool, true, false, cond, eqb, List, [], ◌∷◌, ◌++◌, length, Option, None, Some, refl, sym, ap, subst, ◌∙◌, arith, eqb-true, length-append, append-nil}
+use Rattle.std.proofs.Common.{◌≡◌, ℕ, zero, suc, ◌+◌, ◌<◌, ◌≤◌, ◌==◌, Bool, true, false, cond, eqb, List, [], ◌∷◌, ◌++◌, length, Option, None, Some, refl, sym}
+use Rattle.std.proofs.Common.{ap, subst, ◌∙◌, arith, eqb-true, length-append, append-nil, append_assoc}
 use Rattle.std.specs.List.{AllByRecursion}
 use Rattle.std.proofs.lemmas.List.{map-append}
 use Rattle.std.proofs.lemmas.List.Elements.{All-nil, All-push}
 use Rattle.osc_model.specs.Limits.{Limits}
 use Rattle.osc_model.specs.State.{State, opening}
 use Rattle.osc_model.specs.Events.{enrol, Answer, number, callers_full, record_full, Entry, Room}
-use Rattle.osc_model.specs.Enrolled.{callers_in}
+use Rattle.osc_model.specs.Enrolled.{callers_in, enrols}
 use Rattle.osc_tree.specs.Adding.{Refusal}
 use Rattle.osc_model.specs.Step.{step, decided, leaves, add_at, remove_at}
 use Rattle.osc_model.specs.History.{Legal, after, stepped_in}
@@ -30,7 +31,7 @@ use Rattle.osc_live.proofs.Asks.{read_more}
 use Rattle.osc_core.specs.Answers.{room_of}
 use Rattle.osc_core.specs.Standing.{history_in}
 use Rattle.osc_lanes.specs.Performs.{enrolments}
-use Rattle.osc_lanes.specs.Crews.{names_of, same_names, IsSilent, IsCrew, FindsNoRoom}
+use Rattle.osc_lanes.specs.Crews.{names_of, same_names, IsSilent, IsCrew, HasNotEnrolled, FindsNoRoom}
 use Rattle.osc_lanes.proofs.Staging.{all_own, all_before}
 
 -- What is seen is all a token's own.
@@ -88,6 +89,17 @@ counted : (first count : ℕ) (more : List Entry) → callers_in (enrolments fir
 counted first zero more = omega arith
 counted first (suc count) more = omega (arith, counted (first + 1) count more)
 
+-- what stands before enrolments counts as it did
+counted_from : (start : List Entry) (first count : ℕ) (more : List Entry)
+    → callers_in (start ++ (enrolments first count ++ more)) + 1 ≡ callers_in start + (count + callers_in more)
+counted_from [] first count more = omega (arith, counted first count more)
+counted_from (entry ∷ start) first count more = go (enrols entry.answer) (counted_from start first count more) where
+  go : (t : Bool) → callers_in (start ++ (enrolments first count ++ more)) + 1 ≡ callers_in start + (count + callers_in more)
+      → cond t (callers_in (start ++ (enrolments first count ++ more)) + 1) (callers_in (start ++ (enrolments first count ++ more))) + 1
+      ≡ cond t (callers_in start + 1) (callers_in start) + (count + callers_in more)
+  go true so = omega (arith, so)
+  go false so = so
+
 -- An enrolment that is answered that there are as many callers as there may be.
 
 added_caps : (caps : Limits) (state : State) (address : List ℕ) (refusal : Option Refusal) → state.caps ≡ caps
@@ -135,7 +147,11 @@ pub record CountsCallers : Type 0 where
 
 -- One enrolment more.
 
-module _ (caps : Limits) (made : ℕ) (v w : View) (callers : List Caller) (crew : IsCrew made v callers) where
+module _ (caps : Limits) (start : List Entry) (made : ℕ) (v w : View) (callers : List Caller) (crew : IsCrew start made v callers) where
+  -- what stands behind so many enrolments
+  abbrev Enrolled : ℕ → List Entry
+  Enrolled count = start ++ enrolments 1 count
+
   abbrev Enrols : Answer → Type 0
   Enrols answer = Calls caps 0 enrol answer (one_more v) w
 
@@ -148,9 +164,9 @@ module _ (caps : Limits) (made : ℕ) (v w : View) (callers : List Caller) (crew
   -- what stands before the entry, where all that is seen then is caller 0's
   record Adds (answer : Answer) : Type 0 where
     was : own 0 v.seen ≡ v.seen
-    before : (history_of v ≡ enrolments 1 (length callers)) × (names_of callers ≡ same_names 1 (length callers))
-    history : history_of w ≡ enrolments 1 (length callers) ++ record { caller = 0; event = enrol; answer = answer } ∷ []
-    answered : answer ≡ (stepped_in (record { caps = caps; history = enrolments 1 (length callers) }) enrol).answer
+    before : (history_of v ≡ Enrolled (length callers)) × (names_of callers ≡ same_names 1 (length callers))
+    history : history_of w ≡ Enrolled (length callers) ++ record { caller = 0; event = enrol; answer = answer } ∷ []
+    answered : answer ≡ (stepped_in (record { caps = caps; history = Enrolled (length callers) }) enrol).answer
 
   adds : (answer : Answer) → Enrols answer → EndsWith caps 0 enrol answer (one_more v) w → own 0 w.seen ≡ w.seen → Adds answer
   adds answer calls ends alone =
@@ -173,28 +189,32 @@ module _ (caps : Limits) (made : ℕ) (v w : View) (callers : List Caller) (crew
       }
 
   -- a caller more
-  pub crew_more : CountsCallers → (new : Caller) → Enrols (number new.number) → made ≡ 1 + length callers → number_of (view new.pass) ≡ v.made
-      → IsSilent new → IsCrew (made + 1) w (callers ++ new ∷ [])
-  crew_more counts new calls many token silent = record {
+  pub crew_more : (own 0 v.seen ≡ v.seen → callers_in start ≡ 1) → CountsCallers → (new : Caller) → Enrols (number new.number) → made ≡ 1 + length callers →
+      number_of (view new.pass) ≡ v.made
+      → IsSilent new → IsCrew start (made + 1) w (callers ++ new ∷ [])
+  crew_more none counts new calls many token silent = record {
     token = token_then calls;
     made_is = made_then calls;
     silent = All-push IsSilent callers new crew.silent silent;
     alone = λ alone.
         let a = adds (number new.number) calls calls.answered alone in
-        let legal = counts.enrolled caps (enrolments 1 (length callers)) 0 new.number (subst (Legal caps) a.history calls.legal) in
-        let next : new.number ≡ 1 + length callers = omega (arith, legal.1, counted 1 (length callers) (enrolled_as new.number ∷ [])) in
+        let legal = counts.enrolled caps (Enrolled (length callers)) 0 new.number (subst (Legal caps) a.history calls.legal) in
+        let all = ap callers_in (append_assoc start (enrolments 1 (length callers)) (enrolled_as new.number ∷ [])) in
+        let next : new.number ≡ 1 + length callers =
+        omega (arith, legal.1, all, counted_from start 1 (length callers) (enrolled_as new.number ∷ []), none a.was) in
         let longer : length (callers ++ new ∷ []) ≡ suc (length callers) = omega (arith, length-append callers (new ∷ [])) in
         let name : (new.number, number_of (view new.pass)) ≡ (1 + length callers, 1 + length callers) =
         λ i. (next i, (token ∙ crew.made_is ∙ many) i) in (
-          a.history ∙ ap (λ (n : ℕ). enrolments 1 (length callers) ++ enrolled_as n ∷ []) next ∙ enrolments_push 1 (length callers)
-              ∙ ap (enrolments 1) (sym longer),
+          a.history ∙ ap (λ (n : ℕ). Enrolled (length callers) ++ enrolled_as n ∷ []) next
+              ∙ append_assoc start (enrolments 1 (length callers)) (enrolled_as (1 + length callers) ∷ [])
+              ∙ ap (λ (l : List Entry). start ++ l) (enrolments_push 1 (length callers)) ∙ ap Enrolled (sym longer),
           map-append (λ (caller : Caller). (caller.number, number_of (view caller.pass))) callers (new ∷ [])
               ∙ (λ i. a.before.1 i ++ name i ∷ []) ∙ names_push 1 (length callers) ∙ ap (same_names 1) (sym longer),
         );
   }
 
   -- no caller more, where there is no room
-  crew_full : (room : Room) → Enrols (record_full room) → IsCrew (made + 1) w callers
+  crew_full : (room : Room) → Enrols (record_full room) → IsCrew start (made + 1) w callers
   crew_full room calls = record {
     token = token_then calls;
     made_is = made_then calls;
@@ -208,33 +228,47 @@ module _ (caps : Limits) (made : ℕ) (v w : View) (callers : List Caller) (crew
   }
 
   -- there are fewer callers than there may be
-  never_full : CountsCallers → Enrols callers_full → 1 + length callers < caps.callers → own 0 w.seen ≡ w.seen → ⊥
-  never_full counts calls few alone =
+  never_full : (own 0 v.seen ≡ v.seen → callers_in start ≡ 1) → CountsCallers → Enrols callers_full → 1 + length callers < caps.callers → own 0 w.seen ≡ w.seen
+      → ⊥
+  never_full none counts calls few alone =
       let a = adds callers_full calls calls.answered alone in
-      let before = enrolments 1 (length callers) in
+      let before = Enrolled (length callers) in
       let legal = subst (Legal caps) a.history calls.legal in
       let split = legal_split (opening caps) before (record { caller = 0; event = enrol; answer = callers_full } ∷ []) legal.1 in
       let state = after (opening caps) before in
       let full = full_at state a.answered in
-      let none : List Entry = [] in
       let many : callers_in before ≡ length callers + 1 =
-      ap callers_in (sym (append-nil before)) ∙ counted 1 (length callers) none in
+      omega (
+        arith,
+        ap (λ (l : List Entry). callers_in (start ++ l)) (append-nil (enrolments 1 (length callers))),
+        counted_from start 1 (length callers) [],
+        none a.was,
+      ) in
       omega (arith, full, ap (λ (l : Limits). l.callers) (caps_kept caps before), counts.after caps before (legal.0, split.0), many)
 
-  pub crew_refused : CountsCallers → (why : EnrolRefusal) → Enrols (refusal_of why) → 1 + length callers < caps.callers
-      → IsCrew (made + 1) w callers × FindsNoRoom caps w why
-  crew_refused counts (refusal.RecordFull room) calls few = (crew_full (room_of room) calls, λ alone. (room_of room, refl, calls.answered.answered))
-  crew_refused counts refusal.CallersFull calls few = (
+  pub crew_refused : (own 0 v.seen ≡ v.seen → callers_in start ≡ 1) → CountsCallers → (why : EnrolRefusal) → Enrols (refusal_of why) → 1 + length callers <
+      caps.callers
+      → IsCrew start (made + 1) w callers × FindsNoRoom caps w why
+  crew_refused none counts (refusal.RecordFull room) calls few = (crew_full (room_of room) calls, λ alone. (room_of room, refl, calls.answered.answered))
+  crew_refused none counts refusal.CallersFull calls few = (
     record {
       token = token_then calls;
       made_is = made_then calls;
       silent = crew.silent;
-      alone = λ alone. absurd (never_full counts calls few alone);
+      alone = λ alone. absurd (never_full none counts calls few alone);
     },
-    λ alone. absurd (never_full counts calls few alone),
+    λ alone. absurd (never_full none counts calls few alone),
   )
 
-pub crew_opened : (kind : List ℕ) (v : View) → v ≡ rule.opening kind → IsCrew 1 v []
-crew_opened kind v is =
-    subst (λ (u : View). IsCrew 1 u []) (sym is)
-    (record { token = refl; made_is = refl; silent = All-nil IsSilent; alone = λ alone. (refl, refl) })
+-- none is enrolled yet
+pub crew_opened : (v : View) → HasNotEnrolled v → IsCrew (history_of v) 1 v []
+crew_opened v opened = record {
+  token = opened.token;
+  made_is = opened.made_is;
+  silent = All-nil IsSilent;
+  alone = λ alone. (sym (append-nil (history_of v)), refl);
+}
+
+-- a new server's caller 0
+pub new_opened : (kind : List ℕ) (v : View) → v ≡ rule.opening kind → HasNotEnrolled v
+new_opened kind v is = subst HasNotEnrolled (sym is) (record { token = refl; made_is = refl; counted = λ alone. refl })

@@ -1,10 +1,11 @@
 -- From the close of a server to what a performance says.
 use Rattle.std.proofs.Common.{◌≡◌, ℕ, ◌+◌, ◌<◌, List, [], ◌∷◌, ◌++◌, length, map, None, Some, Option, refl, sym, ap, subst, ◌∙◌}
 use Rattle.std.specs.List.{AllByRecursion, AllZip}
+use Rattle.std.proofs.lemmas.List.{length-map}
 use Rattle.std.proofs.lemmas.List.Elements.{recursion_from_All}
 use Rattle.osc_model.specs.Limits.{Limits, AreInRange}
 use Rattle.osc_model.specs.State.{opening}
-use Rattle.osc_model.specs.Events.{Room, enrol, record_full}
+use Rattle.osc_model.specs.Events.{Entry, Room, enrol, record_full}
 use Rattle.osc_model.specs.History.{IsSound, stepped_in}
 use Rattle.osc_core.specs.Telling.{told}
 use Rattle.osc_model.specs.Heard.{Told}
@@ -17,6 +18,7 @@ use Rattle.osc_turn.proofs.Histories.{none_begun}
 use Rattle.osc_live.specs.declared.caller.Caller.{Caller}
 use Rattle.osc_live.specs.declared.guest.Guest.{Guest}
 use Rattle.osc_live.specs.declared.refusal.EnrolRefusal.{EnrolRefusal}
+use Rattle.osc_live.specs.declared.refusal.EnrolRefusal.TheVariants.{CallersFull}
 use Rattle.osc_live.specs.Enrolments.{refusal_of}
 use Rattle.osc_live.specs.Seen.{performance_in}
 use Rattle.osc_live.specs.Closing.{known, views_of, IsOfCaller, Closes}
@@ -28,7 +30,11 @@ use Rattle.osc_lanes.specs.Performs.{Part, IsWhole, IsStage, Performs, told_of}
 use Rattle.osc_lanes.specs.Crews.{names_of, same_names, caller_of, part_in, caller_in, without_caller, IsSilent, HasSeen, IsCrew, FindsNoRoom}
 use Rattle.osc_lanes.proofs.Balance.{StaysSound}
 use Rattle.osc_lanes.proofs.Staging.{only_first, alone_from, staged}
-use Rattle.osc_lanes.proofs.Sharing.{Carried, KeepsRemoved, performs_all, performs_none}
+use Rattle.osc_lanes.proofs.Sharing.{Carried, KeepsRemoved, shares, closed_all, closed_none}
+
+-- an enrolment isn't refused for both causes
+pub never_both : (room : Room) (why : EnrolRefusal) → why ≡ CallersFull → refusal_of why ≡ record_full room → ⊥
+never_both room why is full = let same = sym (ap refusal_of is) ∙ full in cc
 
 -- each server opens sound
 abbrev pub OpensSound : Type 0
@@ -44,7 +50,7 @@ module _ (history : List Seen) where
   carried_each (caller ∷ callers) more starts owned = ((starts.0, owned.0), carried_each callers more starts.1 owned.1)
 
 -- the history of a close begins with what each caller has seen, and has no further entry of it
-all_carried : {caps : Limits} {knows : List (ℕ × View)} {bytes : List ℕ} {kept : List Told} (callers : List Caller) (guests : List Guest)
+pub all_carried : {caps : Limits} {knows : List (ℕ × View)} {bytes : List ℕ} {kept : List Told} (callers : List Caller) (guests : List Guest)
     (closes : Closes caps knows (views_of callers guests) bytes kept) → AllByRecursion (Carried closes.history) callers
 all_carried callers guests closes =
     carried_each closes.history callers (map (λ (guest : Guest). view guest.pass) guests)
@@ -66,6 +72,75 @@ module _ {M : Type 0} where
   told_ends [] = refl
   told_ends (end ∷ ends) = ap (λ (l : List (Account M)). account_of end ∷ l) (told_ends ends)
 
+-- What a close says where caller 0 and these others hand their tokens in, who had no entries in what caller 0 has seen.
+pub record StandsOn (caps : Limits) (start : List Entry) (count : ℕ) (v : View) (history : List Seen) : Type 0 where
+  pub starts : StartsWith history v.seen
+  pub owned : own 0 history ≡ own 0 v.seen
+  pub alone : own 0 v.seen ≡ v.seen
+  pub stage : IsStage caps start count history
+
+module _ (caps : Limits) (start : List Entry) (made : ℕ) (first : Caller) (v : View) (enrolled : List Caller) (is : view first.pass ≡ v)
+    (zero_is : first.number ≡ 0) (crew : IsCrew start made v enrolled) where
+  pub stands_on : {bytes : List ℕ} {kept : List Told} (others : List Caller) (guests : List Guest) → names_of others ≡ names_of enrolled
+      → AllByRecursion (λ other. own (number_of other.1) v.seen ≡ []) (known others)
+      → (closes : Closes caps (known (first ∷ others)) (views_of (first ∷ others) guests) bytes kept)
+      → StandsOn caps start (length enrolled) v closes.history
+  stands_on others guests named none closes =
+      let history = closes.history in
+      let carried = all_carried (first ∷ others) guests closes in
+      let starts : StartsWith history v.seen = subst (λ (u : View). StartsWith history u.seen) is carried.0.0 in
+      let owned : own 0 history ≡ own 0 v.seen =
+      subst (λ (n : ℕ). own n history ≡ own n v.seen) crew.token
+      (subst (λ (u : View). own (number_of u) history ≡ own (number_of u) u.seen) is carried.0.1) in
+      let alone : own 0 v.seen ≡ v.seen =
+      alone_from caps start v enrolled made crew history (first.number, view first.pass) others is none starts closes.named in
+      record {
+        starts = starts;
+        owned = owned;
+        alone = alone;
+        stage = staged caps start v enrolled made crew history first others closes refl zero_is is named alone starts owned;
+      }
+
+  silent_then : (history : List Seen) (callers : List Caller) → AllByRecursion IsSilent callers → AllByRecursion (Carried history) callers
+      → AllByRecursion (λ other. own (number_of other.1) history ≡ []) (known callers)
+  silent_then history [] silent carried = tt
+  silent_then history (caller ∷ callers) silent carried = (carried.0.1 ∙ silent.0, silent_then history callers silent.1 carried.1)
+
+  silent_before : (history seen : List Seen) → StartsWith history seen → (knows : List (ℕ × View))
+      → AllByRecursion (λ other. own (number_of other.1) history ≡ []) knows → AllByRecursion (λ other. own (number_of other.1) seen ≡ []) knows
+  silent_before history seen starts [] none = tt
+  silent_before history seen starts (one ∷ knows) none =
+      (none_begun (number_of one.1) history seen starts none.0, silent_before history seen starts knows none.1)
+
+  -- where no other has played, all entries are caller 0's, and it has seen them
+  pub stands_alone : {bytes : List ℕ} {kept : List Told} (guests : List Guest)
+      → (closes : Closes caps (known (first ∷ enrolled)) (views_of (first ∷ enrolled) guests) bytes kept)
+      → StandsOn caps start (length enrolled) v closes.history × (own 0 closes.history ≡ closes.history) × (closes.history ≡ v.seen)
+  stands_alone guests closes =
+      let history = closes.history in
+      let carried = all_carried (first ∷ enrolled) guests closes in
+      let none = silent_then history enrolled (recursion_from_All IsSilent enrolled crew.silent) carried.1 in
+      let whole : own 0 history ≡ history =
+      only_first (first.number, view first.pass) (known enrolled) history (ap number_of is ∙ crew.token) none
+      (recursion_from_All (IsOfCaller (known (first ∷ enrolled))) history closes.named) in
+      let starts : StartsWith history v.seen = subst (λ (u : View). StartsWith history u.seen) is carried.0.0 in
+      let stands = stands_on enrolled guests refl (silent_before history v.seen starts (known enrolled) none) closes in
+      (stands, whole, sym whole ∙ stands.owned ∙ stands.alone)
+
+-- callers that had no entries have none in what all of them had seen
+pub none_seen : (seen : List Seen) (before after : List Caller) → names_of after ≡ names_of before → AllByRecursion IsSilent before
+    → AllByRecursion (HasSeen seen) before → AllByRecursion (λ other. own (number_of other.1) seen ≡ []) (known after)
+none_seen seen [] [] named silent has = tt
+none_seen seen [] (caller ∷ after) named silent has = absurd (cc)
+none_seen seen (caller ∷ before) [] named silent has = absurd (cc)
+none_seen seen (caller ∷ before) (other ∷ after) named silent has =
+    let head : ◌≡◌ {A = ℕ × ℕ} (other.number, number_of (view other.pass)) (caller.number, number_of (view caller.pass)) = cc in
+    let rest : names_of after ≡ names_of before = cc in (
+      subst (λ (n : ℕ). own n seen ≡ []) (sym (ap (λ (p : ℕ × ℕ). p.1) head))
+          (none_begun (number_of (view caller.pass)) (seen_by caller) seen has.0 silent.0),
+      none_seen seen before after rest silent.1 has.1,
+    )
+
 module _ {M : Type 0} (keep : M → ℕ) (heard : M → Option (List ℕ)) (caps : Limits) where
   -- the callers that come back have the names of the plans'
   names_back : (plans : List (LanePlan M)) (ends : List (LaneEnd M)) → AllZip (IsEndOf keep heard caps) plans ends
@@ -76,23 +151,10 @@ module _ {M : Type 0} (keep : M → ℕ) (heard : M → Option (List ℕ)) (caps
   names_back (plan ∷ plans) (end ∷ ends) all =
       λ i. ((ap (λ (p : Player). p.caller) all.0.player) i, (ap (λ (p : Player). p.token) all.0.player) i) ∷ names_back plans ends all.1 i
 
-  -- no lane's token has entries in what all of them had seen
-  none_before : (seen : List Seen) (plans : List (LanePlan M)) (ends : List (LaneEnd M)) → AllZip (IsEndOf keep heard caps) plans ends
-      → AllByRecursion IsSilent (map caller_of plans) → AllByRecursion (HasSeen seen) (map caller_of plans)
-      → AllByRecursion (λ other. own (number_of other.1) seen ≡ []) (known (map caller_in ends))
-  none_before seen [] [] all silent has = tt
-  none_before seen [] (end ∷ ends) all silent has = absurd all
-  none_before seen (plan ∷ plans) [] all silent has = absurd all
-  none_before seen (plan ∷ plans) (end ∷ ends) all silent has = (
-    subst (λ (n : ℕ). own n seen ≡ []) (sym (ap (λ (p : Player). p.token) all.0.player))
-        (none_begun (number_of (view plan.caller.pass)) (seen_by plan.caller) seen has.0 silent.0),
-    none_before seen plans ends all.1 silent.1 has.1,
-  )
-
   module _ (stays : StaysSound) (opens : OpensSound) (bytes : List ℕ) (kept : List (ℕ × M)) (first : Caller) (v : View)
       (enrolled : List Caller) (is : view first.pass ≡ v) (zero_is : first.number ≡ 0) where
     -- all lanes were played
-    pub finish_played : KeepsRemoved keep heard caps → IsCrew (1 + length enrolled) v enrolled → (plans : List (LanePlan M)) (ends : List (LaneEnd M))
+    pub finish_played : KeepsRemoved keep heard caps → IsCrew [] (1 + length enrolled) v enrolled → (plans : List (LanePlan M)) (ends : List (LaneEnd M))
         → names_of (map caller_of plans) ≡ names_of enrolled → length plans ≡ length enrolled → AllByRecursion IsSilent (map caller_of plans)
         → AllByRecursion (HasSeen v.seen) (map caller_of plans) → AllByRecursion IsReady plans → AllZip (IsEndOf keep heard caps) plans ends
         → Closes caps (known (first ∷ map caller_in ends)) (views_of (first ∷ map caller_in ends) []) bytes (told keep heard kept)
@@ -101,60 +163,44 @@ module _ {M : Type 0} (keep : M → ℕ) (heard : M → Option (List ℕ)) (caps
         let others = map caller_in ends in
         let history = closes.history in
         let carried = all_carried (first ∷ others) [] closes in
-        let starts : StartsWith history v.seen = subst (λ (u : View). StartsWith history u.seen) is carried.0.0 in
-        let owned : own 0 history ≡ own 0 v.seen =
-        subst (λ (n : ℕ). own n history ≡ own n v.seen) crew.token
-        (subst (λ (u : View). own (number_of u) history ≡ own (number_of u) u.seen) is carried.0.1) in
-        let alone : own 0 v.seen ≡ v.seen =
-        alone_from caps v enrolled (1 + length enrolled) crew history (first.number, view first.pass) others is
-        (none_before v.seen plans ends all silent has) starts closes.named in
-        let stage =
-        staged caps v enrolled (1 + length enrolled) crew history first others closes refl zero_is is (names_back plans ends all ∙ named) alone starts owned in
-        let here : names_of (map caller_of plans) ≡ same_names 1 (length plans) = named ∙ (crew.alone alone).1 ∙ ap (same_names 1) (sym many) in
-        performs_all keep heard caps history stays (opens caps closes.legal.0) law bytes kept
-        (record { recorded = closes.recorded; kept_heard = closes.heard; kept_marked = closes.marked })
-        plans ends (subst (λ (n : ℕ). IsStage caps n history) (sym many) stage) here all_ready all carried.1
-
-    silent_then : (history : List Seen) (callers : List Caller) → AllByRecursion IsSilent callers → AllByRecursion (Carried history) callers
-        → AllByRecursion (λ other. own (number_of other.1) history ≡ []) (known callers)
-    silent_then history [] silent carried = tt
-    silent_then history (caller ∷ callers) silent carried = (carried.0.1 ∙ silent.0, silent_then history callers silent.1 carried.1)
-
-    silent_before : (history seen : List Seen) → StartsWith history seen → (knows : List (ℕ × View))
-        → AllByRecursion (λ other. own (number_of other.1) history ≡ []) knows → AllByRecursion (λ other. own (number_of other.1) seen ≡ []) knows
-    silent_before history seen starts [] none = tt
-    silent_before history seen starts (one ∷ knows) none =
-        (none_begun (number_of one.1) history seen starts none.0, silent_before history seen starts knows none.1)
+        let back = names_back plans ends all in
+        let stands =
+        stands_on caps [] (1 + length enrolled) first v enrolled is zero_is crew others [] (back ∙ named)
+        (none_seen v.seen (map caller_of plans) others back silent has) closes in
+        let here : names_of (map caller_of plans) ≡ same_names 1 (length plans) = named ∙ (crew.alone stands.alone).1 ∙ ap (same_names 1) (sym many) in
+        let all_staged : IsStage caps [] (length plans) history = subst (λ (n : ℕ). IsStage caps [] n history) (sym many) stands.stage in
+        let shared = shares keep heard caps history 1 plans ends here all_ready all carried.1 in
+        record {
+          history = history;
+          callers = length plans;
+          stage = all_staged;
+          closed = closed_all keep heard caps history stays (opens caps closes.legal.0) law bytes kept (known (first ∷ others))
+              (views_of (first ∷ others) []) closes refl plans ends all_staged shared all carried.1;
+          shares = (sym (length-map plans part_in), shared);
+        }
 
     -- there was no room for an enrolment
-    pub finish_none : IsCrew (2 + length enrolled) v enrolled → (why : EnrolRefusal) → FindsNoRoom caps v why → (guests : List Guest)
+    pub finish_none : IsCrew [] (2 + length enrolled) v enrolled → (why : EnrolRefusal) → FindsNoRoom caps v why → (guests : List Guest)
         → (parts : List (Part M)) → length enrolled < length parts
         → Closes caps (known (first ∷ enrolled)) (views_of (first ∷ enrolled) guests) bytes (told keep heard kept)
         → (room : Room) × (refusal_of why ≡ record_full room)
         × Performs keep heard caps parts bytes kept (map (λ part. ended part.boxes None) parts) (Some room)
     finish_none crew why refused guests parts few closes =
         let history = closes.history in
-        let carried = all_carried (first ∷ enrolled) guests closes in
-        let starts : StartsWith history v.seen = subst (λ (u : View). StartsWith history u.seen) is carried.0.0 in
-        let owned : own 0 history ≡ own 0 v.seen =
-        subst (λ (n : ℕ). own n history ≡ own n v.seen) crew.token
-        (subst (λ (u : View). own (number_of u) history ≡ own (number_of u) u.seen) is carried.0.1) in
-        let none = silent_then history enrolled (recursion_from_All IsSilent enrolled crew.silent) carried.1 in
-        let knows : List (ℕ × View) = known enrolled in
-        let whole : own 0 history ≡ history =
-        only_first (first.number, view first.pass) knows history (ap number_of is ∙ crew.token) none
-        (recursion_from_All (IsOfCaller (known (first ∷ enrolled))) history closes.named) in
-        let alone : own 0 v.seen ≡ v.seen =
-        alone_from caps v enrolled (2 + length enrolled) crew history (first.number, view first.pass) enrolled is
-        (silent_before history v.seen starts knows none) starts closes.named in
-        let same : history ≡ v.seen = sym whole ∙ owned ∙ alone in
-        let stage =
-        staged caps v enrolled (2 + length enrolled) crew history first enrolled closes refl zero_is is refl alone starts owned in
-        let full = refused alone in (
+        let stands = stands_alone caps [] (2 + length enrolled) first v enrolled is zero_is crew guests closes in
+        let full = refused stands.0.alone in (
           full.0,
           full.1,
-          performs_none keep heard caps history stays (opens caps closes.legal.0) bytes kept
-              (record { recorded = closes.recorded; kept_heard = closes.heard; kept_marked = closes.marked })
-              parts (length enrolled) full.0 stage whole few
-              (full.2 ∙ ap (λ (l : List Seen). (stepped_in (performance_in caps (texts l)) enrol).answer) (sym same)),
+          record {
+            history = history;
+            callers = length enrolled;
+            stage = stands.0.stage;
+            closed = closed_none keep heard caps history stays (opens caps closes.legal.0) bytes kept (known (first ∷ enrolled))
+                (views_of (first ∷ enrolled) guests) closes refl parts (length enrolled) stands.0.stage stands.1;
+            shares = (
+              few,
+              (full.2 ∙ ap (λ (l : List Seen). (stepped_in (performance_in caps (texts l)) enrol).answer) (sym stands.2), stands.1),
+              refl,
+            );
+          },
         )

@@ -4,8 +4,13 @@ pub mod Costs
 pub mod Enrolling
 pub mod Finishing
 pub mod Going
+pub mod HostEnds
+pub mod Hosts
+pub mod Keeping
+pub mod Opening
 pub mod Parting
 pub mod Removals
+pub mod Settling
 pub mod Sharing
 pub mod Spending
 pub mod Staging

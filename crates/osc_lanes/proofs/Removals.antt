@@ -1,5 +1,6 @@
 -- The ids that a lane's own entries remove are those of the boxes that it tells.
-use Rattle.std.proofs.Common.{◌≡◌, inl, inr, ℕ, zero, suc, ◌+◌, Bool, true, false, List, [], ◌∷◌, ◌++◌, map, length, flat_map, Option, Some, None, MatchBool, refl, sym, ap, ◌∙◌, append_assoc, append-nil}
+use Rattle.std.proofs.Common.{◌≡◌, inl, inr, ℕ, zero, suc, ◌+◌, Bool, true, false, List, [], ◌∷◌, ◌++◌, map, length, flat_map, Option, Some, None, MatchBool}
+use Rattle.std.proofs.Common.{refl, sym, ap, ◌∙◌, append_assoc, append-nil}
 use Rattle.std.specs.Prelude.{MatchOption}
 use Rattle.std.specs.Option.{option_map_or}
 use Rattle.std.proofs.lemmas.List.{map-append}
@@ -99,12 +100,12 @@ module _ (player : Player) where
     ids_told account = map (λ one. one.0) account.removed
 
     -- what is played and removes nothing
-    nothing_told : (account : Account M) (here there : List Seen) → account.removed ≡ [] → own_gone there ≡ own_gone here
+    pub nothing_told : (account : Account M) (here there : List Seen) → account.removed ≡ [] → own_gone there ≡ own_gone here
         → own_gone there ≡ own_gone here ++ ids_told account
     nothing_told account here there none same =
         same ∙ sym (append-nil (own_gone here)) ∙ ap (λ (l : List (ℕ × M)). own_gone here ++ map (λ one. one.0) l) (sym none)
 
-    act_gone : (number : ℕ) (act : Act) (boxes left : List M) (account : Account M) (here there : List Seen)
+    pub act_gone : (number : ℕ) (act : Act) (boxes left : List M) (account : Account M) (here there : List Seen)
         → PlaysAct keep heard player number act boxes left account here there → own_gone there ≡ own_gone here ++ ids_told account
     act_gone number (Add address) boxes left account here there (box, answer, first, a, marked, is) =
         nothing_told account here there (ap (λ (one : Account M). one.removed) is) (kept_gone (add address) answer here there refl a)
@@ -126,7 +127,7 @@ module _ (player : Player) where
         (kept_gone release answer place there refl a ∙ releases_gone count here place releases)
 
     -- a part that is played, and then the rest
-    gone_on : (account first rest : Account M) (here place there : List Seen) → account.removed ≡ first.removed ++ rest.removed
+    pub gone_on : (account first rest : Account M) (here place there : List Seen) → account.removed ≡ first.removed ++ rest.removed
         → own_gone place ≡ own_gone here ++ ids_told first → own_gone there ≡ own_gone place ++ ids_told rest
         → own_gone there ≡ own_gone here ++ ids_told account
     gone_on account first rest here place there is one more =
@@ -134,7 +135,7 @@ module _ (player : Player) where
         ∙ ap (λ (l : List ℕ). own_gone here ++ l)
         (sym (map-append (λ (one : ℕ × M). one.0) first.removed rest.removed) ∙ ap (map (λ (one : ℕ × M). one.0)) (sym is))
 
-    plays_gone : (lines : List Line) (boxes : List M) (account : Account M) (here there : List Seen)
+    pub plays_gone : (lines : List Line) (boxes : List M) (account : Account M) (here there : List Seen)
         → Plays keep heard player lines boxes account here there → own_gone there ≡ own_gone here ++ ids_told account
     plays_gone [] boxes account here there (is, same) =
         nothing_told account here there (ap (λ (one : Account M). one.removed) is) (ap own_gone same)

@@ -7,23 +7,25 @@ use Rattle.std.proofs.lemmas.List.Elements.{All-from_recursion, recursion_from_A
 use Rattle.std.proofs.lemmas.List.Sorted.{IsPermutation-refl, IsPermutation-trans, IsPermutation-append_right}
 use Rattle.osc_model.specs.Limits.{Limits}
 use Rattle.osc_model.specs.State.{opening}
-use Rattle.osc_model.specs.Events.{Room, enrol, record_full}
+use Rattle.osc_model.specs.Events.{Room}
 use Rattle.osc_model.specs.Heard.{Told}
 use Rattle.osc_model.specs.Recordings.{record_text}
-use Rattle.osc_model.specs.History.{Legal, IsSound, HaveHeard, after, stepped_in}
+use Rattle.osc_model.specs.History.{Legal, IsSound, HaveHeard, after}
 use Rattle.osc_core.specs.Standing.{history_in, AreMarked}
 use Rattle.osc_core.specs.Telling.{told}
 use Rattle.osc_turn.specs.declared.view.Entry.{Entry as Seen}
+use Rattle.osc_turn.specs.declared.view.View.{View}
 use Rattle.osc_turn.specs.History.{StartsWith, texts, own}
 use Rattle.osc_turn.specs.Rule.{number_of}
 use Rattle.osc_turn.specs.Passes.{view}
 use Rattle.osc_live.specs.declared.caller.Caller.{Caller}
 use Rattle.osc_live.specs.Seen.{performance_in}
+use Rattle.osc_live.specs.Closing.{Closes}
 use Rattle.osc_lanes.specs.declared.plan.LanePlan.{LanePlan}
 use Rattle.osc_lanes.specs.declared.plan.LaneEnd.{LaneEnd}
 use Rattle.osc_lanes.specs.Ends.{seen_by, player_of, account_of, IsReady, IsEndOf}
 use Rattle.osc_lanes.specs.Shares.{Player, Account, LaneOf, IsRemovedAt, ended}
-use Rattle.osc_lanes.specs.Performs.{Part, Numbered, IsStage, Performs, player_at, added_ids, removed_ids, enrolments}
+use Rattle.osc_lanes.specs.Performs.{Part, Numbered, IsStage, IsClosedWith, player_at, added_ids, removed_ids, enrolments}
 use Rattle.osc_lanes.specs.Crews.{names_of, same_names, caller_of, part_in, caller_in}
 use Rattle.osc_lanes.proofs.Balance.{StaysSound, gone_ids, ids_of, balance, ascends}
 use Rattle.osc_lanes.proofs.Parting.{given_by, given_in, parted}
@@ -35,7 +37,7 @@ Carried history caller = StartsWith history (seen_by caller)
     × (own (number_of (view caller.pass)) history ≡ own (number_of (view caller.pass)) (seen_by caller))
 
 -- enrolments remove nothing
-enrolments_keep : (first count : ℕ) → gone_ids (enrolments first count) ≡ []
+pub enrolments_keep : (first count : ℕ) → gone_ids (enrolments first count) ≡ []
 enrolments_keep first zero = refl
 enrolments_keep first (suc count) = enrolments_keep (first + 1) count
 
@@ -96,7 +98,7 @@ module _ {M : Type 0} (keep : M → ℕ) (heard : M → Option (List ℕ)) (caps
       gone_of (number + 1) parts accounts all.1,
     )
 
-    pub gone_told : (parts : List (Part M)) (accounts : List (Account M)) → IsStage caps (length parts) history → Numbered IsShare 1 parts accounts
+    pub gone_told : (parts : List (Part M)) (accounts : List (Account M)) → IsStage caps [] (length parts) history → Numbered IsShare 1 parts accounts
         → IsPermutation (gone_ids (history_in (texts history))) (removed_ids accounts)
     gone_told parts accounts stage all =
         let none : given_by gone history 0 ≡ [] = gone_in (own 0 history) ∙ ap gone_ids stage.enrolled ∙ enrolments_keep 1 (length parts) in
@@ -122,34 +124,36 @@ module _ {M : Type 0} (keep : M → ℕ) (heard : M → Option (List ℕ)) (caps
         (subst (λ (l : List ℕ). IsPermutation (added_ids entries) (l ++ gone_ids entries)) ids (balance stays caps entries legal sound))
         (IsPermutation-append_right (map (λ one. one.0) kept) (gone_ids entries) gone_by same)
 
-    -- what is known of a history that was closed
-    pub record IsClosed (bytes : List ℕ) (kept : List (ℕ × M)) : Type 0 where
-      pub recorded : bytes ≡ record_text caps (history_in (texts history))
-      pub kept_heard : HaveHeard (performance_in caps (texts history)) (told keep heard kept)
-      pub kept_marked : AreMarked (texts history) (told keep heard kept)
-
-    -- all lanes were played
-    pub performs_all : StaysSound → IsSound (opening caps) → KeepsRemoved → (bytes : List ℕ) (kept : List (ℕ × M)) → IsClosed bytes kept
-        → (plans : List (LanePlan M)) (ends : List (LaneEnd M)) → IsStage caps (length plans) history
-        → names_of (map caller_of plans) ≡ same_names 1 (length plans) → AllByRecursion IsReady plans → AllZip (IsEndOf keep heard caps) plans ends
-        → AllByRecursion (Carried history) (map caller_in ends) → Performs keep heard caps (map part_in plans) bytes kept (map account_of ends) None
-    performs_all stays sound law bytes kept closed plans ends stage named ready all carried =
-        let many : length plans ≡ length (map part_in plans) = sym (length-map plans part_in) in
-        let here = shares 1 plans ends named ready all carried in
+    -- what is known of a history that was closed, of whose ids these were removed
+    pub closed_with : StaysSound → IsSound (opening caps) → (bytes : List ℕ) (kept : List (ℕ × M)) (knows : List (ℕ × View)) (views : List View)
+        → (closes : Closes caps knows views bytes (told keep heard kept)) → closes.history ≡ history → (accounts : List (Account M))
+        → IsPermutation (gone_ids (history_in (texts history))) (removed_ids accounts)
+        → AllByRecursion (λ account. AllByRecursion (IsRemovedAt keep heard caps history) account.removed) accounts
+        → IsClosedWith keep heard caps history bytes kept accounts
+    closed_with stays sound bytes kept knows views closes is accounts gone_is removed =
+        let heard_it : HaveHeard (performance_in caps (texts history)) (told keep heard kept) =
+        subst (λ (h : List Seen). HaveHeard (performance_in caps (texts h)) (told keep heard kept)) is closes.heard in
+        let legal : Legal caps (history_in (texts history)) = subst (λ (h : List Seen). Legal caps (history_in (texts h))) is closes.legal in
         record {
-          history = history;
-          callers = length plans;
-          stage = stage;
-          recorded = closed.recorded;
-          ids = ids_added stays sound kept (removed_ids (map account_of ends)) stage.legal closed.kept_heard
-              (gone_told (map part_in plans) (map account_of ends) (subst (λ (n : ℕ). IsStage caps n history) many stage) here);
-          ascending = ascends caps (history_in (texts history)) stage.legal;
-          kept_heard = closed.kept_heard;
-          kept_marked = closed.kept_marked;
-          removed = All-from_recursion (λ account. AllByRecursion (IsRemovedAt keep heard caps history) account.removed) (map account_of ends)
-              (removed_all law stage.legal plans ends all carried);
-          shares = (many, here);
+          recorded = closes.recorded ∙ ap (λ (h : List Seen). record_text caps (history_in (texts h))) is;
+          ids = ids_added stays sound kept (removed_ids accounts) legal heard_it gone_is;
+          ascending = ascends caps (history_in (texts history)) legal;
+          kept_heard = heard_it;
+          kept_marked = subst (λ (h : List Seen). AreMarked (texts h) (told keep heard kept)) is closes.marked;
+          removed = All-from_recursion (λ account. AllByRecursion (IsRemovedAt keep heard caps history) account.removed) accounts removed;
         }
+
+    -- what all lanes removed
+    pub closed_all : StaysSound → IsSound (opening caps) → KeepsRemoved → (bytes : List ℕ) (kept : List (ℕ × M)) (knows : List (ℕ × View))
+        (views : List View) → (closes : Closes caps knows views bytes (told keep heard kept)) → closes.history ≡ history
+        → (plans : List (LanePlan M)) (ends : List (LaneEnd M)) → IsStage caps [] (length plans) history
+        → Numbered IsShare 1 (map part_in plans) (map account_of ends) → AllZip (IsEndOf keep heard caps) plans ends
+        → AllByRecursion (Carried history) (map caller_in ends) → IsClosedWith keep heard caps history bytes kept (map account_of ends)
+    closed_all stays sound law bytes kept knows views closes is plans ends stage here all carried =
+        let many : length plans ≡ length (map part_in plans) = sym (length-map plans part_in) in
+        closed_with stays sound bytes kept knows views closes is (map account_of ends)
+        (gone_told (map part_in plans) (map account_of ends) (subst (λ (n : ℕ). IsStage caps [] n history) many stage) here)
+        (removed_all law stage.legal plans ends all carried)
 
     nothing_removed : (parts : List (Part M)) → removed_ids (map (λ part. ended part.boxes None) parts) ≡ []
     nothing_removed [] = refl
@@ -160,26 +164,16 @@ module _ {M : Type 0} (keep : M → ℕ) (heard : M → Option (List ℕ)) (caps
     none_removed [] = tt
     none_removed (part ∷ parts) = (tt, none_removed parts)
 
-    -- there was no room for an enrolment
-    pub performs_none : StaysSound → IsSound (opening caps) → (bytes : List ℕ) (kept : List (ℕ × M)) → IsClosed bytes kept
-        → (parts : List (Part M)) (callers : ℕ) (room : Room) → IsStage caps callers history → own 0 history ≡ history → callers < length parts
-        → record_full room ≡ (stepped_in (performance_in caps (texts history)) enrol).answer
-        → Performs keep heard caps parts bytes kept (map (λ part. ended part.boxes None) parts) (Some room)
-    performs_none stays sound bytes kept closed parts callers room stage alone few full =
+    -- where all entries are caller 0's, and it has only enrolled
+    pub closed_none : StaysSound → IsSound (opening caps) → (bytes : List ℕ) (kept : List (ℕ × M)) (knows : List (ℕ × View)) (views : List View)
+        → (closes : Closes caps knows views bytes (told keep heard kept)) → closes.history ≡ history → (parts : List (Part M)) (callers : ℕ)
+        → IsStage caps [] callers history → own 0 history ≡ history
+        → IsClosedWith keep heard caps history bytes kept (map (λ part. ended part.boxes None) parts)
+    closed_none stays sound bytes kept knows views closes is parts callers stage alone =
         let accounts : List (Account M) = map (λ part. ended part.boxes None) parts in
         let none : gone_ids (history_in (texts history)) ≡ removed_ids accounts =
         ap (λ (l : List Seen). gone_ids (history_in (texts l))) (sym alone) ∙ ap gone_ids stage.enrolled ∙ enrolments_keep 1 callers
         ∙ sym (nothing_removed parts) in
-        record {
-          history = history;
-          callers = callers;
-          stage = stage;
-          recorded = closed.recorded;
-          ids = ids_added stays sound kept (removed_ids accounts) stage.legal closed.kept_heard
-              (subst (IsPermutation (gone_ids (history_in (texts history)))) none (IsPermutation-refl (gone_ids (history_in (texts history)))));
-          ascending = ascends caps (history_in (texts history)) stage.legal;
-          kept_heard = closed.kept_heard;
-          kept_marked = closed.kept_marked;
-          removed = All-from_recursion (λ account. AllByRecursion (IsRemovedAt keep heard caps history) account.removed) accounts (none_removed parts);
-          shares = (few, full, refl, alone);
-        }
+        closed_with stays sound bytes kept knows views closes is accounts
+        (subst (IsPermutation (gone_ids (history_in (texts history)))) none (IsPermutation-refl (gone_ids (history_in (texts history)))))
+        (none_removed parts)

@@ -1,8 +1,10 @@
 -- What stands before all lanes: the enrolments, and nothing else.
-use Rattle.std.proofs.Common.{◌≡◌, ◌≢◌, ◌⊎◌, inl, inr, ℕ, zero, suc, ◌+◌, ◌≤◌, Bool, true, false, cond, eqb, List, [], ◌∷◌, ◌++◌, length, get_or, All, Contains, refl, sym, ap, subst, ◌∙◌, arith, eq-eqb}
+use Rattle.std.proofs.Common.{◌≡◌, ◌≢◌, ◌⊎◌, inl, inr, ℕ, zero, suc, ◌+◌, ◌≤◌, Bool, true, false, cond, eqb, List, [], ◌∷◌, ◌++◌, length, get_or, All, Contains}
+use Rattle.std.proofs.Common.{refl, sym, ap, subst, ◌∙◌, arith, eq-eqb}
 use Rattle.std.specs.List.{AllByRecursion}
 use Rattle.std.proofs.lemmas.List.Elements.{All-nil, All-cons, All-contains, All-from_recursion, recursion_from_All}
 use Rattle.osc_model.specs.Limits.{Limits}
+use Rattle.osc_model.specs.Events.{Entry}
 use Rattle.osc_model.specs.Heard.{Told}
 use Rattle.osc_core.specs.Standing.{history_in}
 use Rattle.osc_turn.specs.declared.view.Entry.{Entry as Seen}
@@ -78,7 +80,7 @@ all_named first (suc count) most (caller ∷ callers) are few =
     let token : number_of (view caller.pass) ≡ first = ap (λ (p : ℕ × ℕ). p.1) head in
     ((number ∙ sym token, omega (arith, token)), all_named (first + 1) count most callers rest (omega arith))
 
-module _ (caps : Limits) (v : View) (callers : List Caller) (made : ℕ) (crew : IsCrew made v callers) (history : List Seen) where
+module _ (caps : Limits) (start : List Entry) (v : View) (callers : List Caller) (made : ℕ) (crew : IsCrew start made v callers) (history : List Seen) where
   -- all that caller 0 has seen is its own
   pub alone_from : (first : ℕ × View) (others : List Caller) → first.1 ≡ v
       → AllByRecursion (λ other. own (number_of other.1) v.seen ≡ []) (known others)
@@ -99,7 +101,7 @@ module _ (caps : Limits) (v : View) (callers : List Caller) (made : ℕ) (crew :
   pub staged : {bytes : List ℕ} {kept : List Told} {views : List View} (first : Caller) (others : List Caller)
       (closes : Closes caps (known (first ∷ others)) views bytes kept) → closes.history ≡ history → first.number ≡ 0 → view first.pass ≡ v
       → names_of others ≡ names_of callers → own 0 v.seen ≡ v.seen → StartsWith history v.seen → own 0 history ≡ own 0 v.seen
-      → IsStage caps (length callers) history
+      → IsStage caps start (length callers) history
   staged first others closes same number_is is names_are alone starts owned =
       let here = crew.alone alone in
       let named : AllByRecursion (IsNamed (length callers)) (known (first ∷ others)) = (
@@ -108,7 +110,7 @@ module _ (caps : Limits) (v : View) (callers : List Caller) (made : ℕ) (crew :
       ) in
       let each : (one : Seen) → IsOfCaller (known (first ∷ others)) one → (names one.number one ≡ true) × (one.number ≤ length callers) =
       each_named (length callers) (known (first ∷ others)) named in
-      subst (IsStage caps (length callers)) same
+      subst (IsStage caps start (length callers)) same
       (record {
         legal = closes.legal;
         laws = closes.laws;

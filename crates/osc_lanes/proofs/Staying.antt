@@ -1,5 +1,6 @@
 -- What a removed box has heard stays what the history says.
-use Rattle.std.proofs.Common.{◌≡◌, ◌≢◌, ◌⊎◌, inl, inr, ℕ, zero, suc, ◌==◌, Bool, true, false, cond, List, [], ◌∷◌, ◌++◌, All, Option, Some, None, MatchBool, refl, sym, ap, subst, ◌∙◌, append_assoc}
+use Rattle.std.proofs.Common.{◌≡◌, ◌≢◌, ◌⊎◌, inl, inr, ℕ, zero, suc, ◌==◌, Bool, true, false, cond, List, [], ◌∷◌, ◌++◌, All, Option, Some, None, MatchBool}
+use Rattle.std.proofs.Common.{refl, sym, ap, subst, ◌∙◌, append_assoc}
 use Rattle.std.specs.Prelude.{MatchOption, map}
 use Rattle.std.specs.Option.{option_map}
 use Rattle.std.specs.List.{AllByRecursion, Contains, flat_map, filter}
@@ -10,7 +11,8 @@ use Rattle.osc_packet.specs.declared.limits.TheConstants.{MAX_PACKET}
 use Rattle.osc_packet.specs.Reading.{packet_fault}
 use Rattle.osc_model.specs.Limits.{Limits}
 use Rattle.osc_model.specs.State.{opening}
-use Rattle.osc_model.specs.Events.{Event, add, remove, submit, tick, release, Answer, number, callers_full, queued, units_full, pool_full, added, refused, removed, not_there, ticked, clock_back, released, nothing_due, record_full, adds_entry, Entry, Invocation, Room}
+use Rattle.osc_model.specs.Events.{Event, add, remove, submit, tick, release, Answer, number, callers_full, queued, units_full, pool_full, added, refused}
+use Rattle.osc_model.specs.Events.{removed, not_there, ticked, clock_back, released, nothing_due, record_full, adds_entry, Entry, Invocation, Room}
 use Rattle.osc_model.specs.Heard.{Told, bytes_of, calls_bytes}
 use Rattle.osc_model.specs.History.{Legal, after, invocations, HasHeard}
 use Rattle.osc_model.proofs.Calls.{all_append}

@@ -18,7 +18,8 @@ use Rattle.osc_lanes.specs.declared.ticker.Round.{Round}
 use Rattle.osc_lanes.specs.declared.ticker.Round.TheVariants as round
 use Rattle.osc_lanes.specs.Shares.{Player, Onward, Account, then_told, ended, Plays}
 use Rattle.osc_lanes.specs.Tallies.{Played}
-use Rattle.osc_lanes.specs.Ticks.{is_later, last_after, tick_line, pump_line, round_lines, Reads, ClockRead, PlaysRound, PlaysRounds, PlaysLast, EndsTicks, Ticks}
+use Rattle.osc_lanes.specs.Ticks.{is_later, last_after, tick_line, pump_line, round_lines, Reads, ClockRead, PlaysRound, PlaysRounds, PlaysLast, EndsTicks}
+use Rattle.osc_lanes.specs.Ticks.{Ticks}
 use Rattle.osc_lanes.specs.Rounds.{IsRound, TicksMeanwhile}
 
 pub onward_same : (token : ℕ) (here : List Seen) → Onward token here here

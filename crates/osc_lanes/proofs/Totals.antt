@@ -1,5 +1,6 @@
 -- What links come to together, link by link.
-use Rattle.std.proofs.Common.{◌≡◌, ℕ, ◌+◌, Bool, true, false, List, [], ◌∷◌, ◌++◌, map, Option, Some, None, All, length, refl, sym, ap, ◌∙◌, subst, arith, append_assoc}
+use Rattle.std.proofs.Common.{◌≡◌, ℕ, ◌+◌, Bool, true, false, List, [], ◌∷◌, ◌++◌, map, Option, Some, None, All, length, refl, sym, ap, ◌∙◌, subst, arith}
+use Rattle.std.proofs.Common.{append_assoc}
 use Rattle.std.specs.Prelude.{if◌then◌else◌}
 use Rattle.std.specs.List.{AllZip}
 use Rattle.std.specs.Option.{option_map, option_or}

@@ -1,5 +1,6 @@
 -- A recording with room enough for all lanes stops none of them.
-use Rattle.std.proofs.Common.{◌≡◌, ℕ, suc, ◌+◌, ◌*◌, ◌<◌, ◌≤◌, Bool, true, false, cond, List, [], ◌∷◌, length, All, Option, Some, None, is_none, sum_by, refl, sym, ap, ◌∙◌, arith}
+use Rattle.std.proofs.Common.{◌≡◌, ℕ, suc, ◌+◌, ◌*◌, ◌<◌, ◌≤◌, Bool, true, false, cond, List, [], ◌∷◌, length, All, Option, Some, None, is_none, sum_by, refl}
+use Rattle.std.proofs.Common.{sym, ap, ◌∙◌, arith}
 use Rattle.std.specs.Prelude.{MatchOption}
 use Rattle.std.specs.List.{AllByRecursion}
 use Rattle.std.proofs.lemmas.List.Sums.{sum_by-cons, sum_by-append}
@@ -123,7 +124,7 @@ module _ {M : Type 0} (keep : M → ℕ) (heard : M → Option (List ℕ)) (caps
 
   -- What caller 0 and the lanes come to.
 
-  whole_weighs : (weight : Event → ℕ) (callers : ℕ) → IsStage caps callers history
+  whole_weighs : (weight : Event → ℕ) (callers : ℕ) → IsStage caps [] callers history
       → weighed weight history ≡ callers * weight enrol + weighed_in weight history 1 callers
   whole_weighs weight callers stage =
       all_weigh weight (suc callers) history
@@ -144,7 +145,7 @@ module _ {M : Type 0} (keep : M → ℕ) (heard : M → Option (List ℕ)) (caps
         weighed_starts (event_cost most) history there starts,
       )
 
-  module _ (parts : List (Part M)) (callers : ℕ) (stage : IsStage caps callers history) (enough : enough_for parts ≤ caps.recording) where
+  module _ (parts : List (Part M)) (callers : ℕ) (stage : IsStage caps [] callers history) (enough : enough_for parts ≤ caps.recording) where
     pub stops_none : (accounts : List (Account M)) → callers ≡ length parts → Numbered IsShare 1 parts accounts → All (λ account. account.stop ≡ None) accounts
     stops_none accounts many shares =
         let most = count_adds (all_lines parts) in
@@ -184,5 +185,5 @@ pub never_stops : {M : Type 0} (keep : M → ℕ) (heard : M → Option (List �
 never_stops keep heard caps parts recording kept accounts None performs enough =
     (refl, stops_none keep heard caps performs.history parts performs.callers performs.stage enough accounts performs.shares.0 performs.shares.1)
 never_stops keep heard caps parts recording kept accounts (Some room) performs enough =
-    absurd (enrols_all keep heard caps performs.history parts performs.callers performs.stage enough room performs.shares.0 performs.shares.3
-    performs.shares.1)
+    absurd (enrols_all keep heard caps performs.history parts performs.callers performs.stage enough room performs.shares.0 performs.shares.1.1
+    performs.shares.1.0)

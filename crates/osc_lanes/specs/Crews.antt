@@ -1,7 +1,9 @@
 -- Inside the crate: the callers that caller 0 enrols for lanes.
-use Rattle.std.specs.Prelude.{◌≡◌, ℕ, zero, suc, ◌+◌, ◌<◌, List, [], ◌∷◌, length, map, All, Option, None, Some}
+use Rattle.std.specs.Prelude.{◌≡◌, ℕ, zero, suc, ◌+◌, ◌<◌, List, [], ◌∷◌, ◌++◌, length, map, All}
+use Rattle.std.specs.Prelude.{Option, None, Some}
 use Rattle.osc_model.specs.Limits.{Limits}
-use Rattle.osc_model.specs.Events.{Room, enrol, record_full}
+use Rattle.osc_model.specs.Enrolled.{callers_in}
+use Rattle.osc_model.specs.Events.{Entry, Room, enrol, record_full}
 use Rattle.osc_model.specs.History.{stepped_in}
 use Rattle.osc_turn.specs.declared.view.Entry.{Entry as Seen}
 use Rattle.osc_turn.specs.declared.view.View.{View}
@@ -17,7 +19,8 @@ use Rattle.osc_lanes.specs.declared.part.LaneTold.{LaneTold}
 use Rattle.osc_lanes.specs.declared.plan.LanePlan.{LanePlan}
 use Rattle.osc_lanes.specs.declared.plan.LaneEnd.{LaneEnd}
 use Rattle.osc_lanes.specs.Ends.{seen_by}
-use Rattle.osc_lanes.specs.Performs.{Part, enrolments}
+use Rattle.osc_lanes.specs.Performs.{Part, enrolments, player_at}
+use Rattle.osc_lanes.specs.Shares.{Account, Plays}
 
 -- a caller's number, and that of its token
 abbrev pub names_of : List Caller → List (ℕ × ℕ)
@@ -36,16 +39,23 @@ IsSilent caller = own (number_of (view caller.pass)) (seen_by caller) ≡ []
 abbrev pub HasSeen : List Seen → Caller → Type 0
 HasSeen seen caller = StartsWith (seen_by caller) seen
 
--- Caller 0 enrolled these callers, which have no entries of their own, and so many tokens were
--- made. If it has seen no entries but its own, these are the enrolments, and the callers are
--- numbered as their tokens are.
-pub record IsCrew (made : ℕ) (first : View) (callers : List Caller) : Type 0 where
+-- Caller 0 enrolled these callers behind these entries, and they have no entries of their own, and
+-- so many tokens were made. If it has seen no entries but its own, these are the first ones and the
+-- enrolments, and the callers are numbered as their tokens are.
+pub record IsCrew (first_entries : List Entry) (made : ℕ) (first : View)
+    (callers : List Caller) : Type 0 where
   pub token : number_of first ≡ 0
   pub made_is : first.made ≡ made
   pub silent : All IsSilent callers
   pub alone : own 0 first.seen ≡ first.seen
-      → (history_of first ≡ enrolments 1 (length callers))
+      → (history_of first ≡ first_entries ++ enrolments 1 (length callers))
       × (names_of callers ≡ same_names 1 (length callers))
+
+-- caller 0 is the only one, and if it has seen no entries but its own, it has enrolled none
+pub record HasNotEnrolled (first : View) : Type 0 where
+  pub token : number_of first ≡ 0
+  pub made_is : first.made ≡ 1
+  pub counted : own 0 first.seen ≡ first.seen → callers_in (history_of first) ≡ 1
 
 -- if caller 0 has seen no entries but its own, there was no room for this enrolment
 abbrev pub FindsNoRoom : Limits → View → EnrolRefusal → Type 0
@@ -53,15 +63,23 @@ FindsNoRoom caps first why = own 0 first.seen ≡ first.seen
     → (room : Room) × (refusal_of why ≡ record_full room)
     × (record_full room ≡ (stepped_in (performance_in caps (texts first.seen)) enrol).answer)
 
--- all callers were enrolled, or there was no room for the next one
-abbrev pub HasEnrolled : Limits → ℕ → View → List Caller → Option (EnrolRefusal × Guest) → Type 0
-HasEnrolled caps count first callers None =
-    IsCrew (1 + length callers) first callers × (length callers ≡ count)
-HasEnrolled caps count first callers (Some refused) =
-    IsCrew (2 + length callers) first callers × (length callers < count)
+-- all callers were enrolled behind these entries, or there was no room for the next one
+abbrev pub HasEnrolled : Limits → List Entry → ℕ → View → List Caller
+    → Option (EnrolRefusal × Guest) → Type 0
+HasEnrolled caps first_entries count first callers None =
+    IsCrew first_entries (1 + length callers) first callers × (length callers ≡ count)
+HasEnrolled caps first_entries count first callers (Some refused) =
+    IsCrew first_entries (2 + length callers) first callers × (length callers < count)
     × FindsNoRoom caps first refused.0
 
 module _ {M : Type 0} where
+  -- Caller 0 has played these lines on a new server, and this was told of them.
+  pub record HasOpened (keep : M → ℕ) (heard : M → Option (List ℕ)) (caps : Limits)
+      (part : Part M) (account : Account M) (first : View) : Type 0 where
+    pub token : number_of first ≡ 0
+    pub made_is : first.made ≡ 1
+    pub plays : Plays keep heard (player_at caps 0) part.lines part.boxes account [] first.seen
+
   abbrev pub caller_of : LanePlan M → Caller
   caller_of plan = plan.caller
 

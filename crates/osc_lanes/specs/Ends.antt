@@ -37,11 +37,12 @@ module _ {M : Type 0} where
   IsReady plan = (count_adds plan.lines.items ≤ length plan.boxes.items)
       × (own (number_of (view plan.caller.pass)) (seen_by plan.caller) ≡ [])
 
-  -- The plan's caller comes back with its token, and the lines were played between what it had seen
-  -- and what it has seen then.
+  -- The plan's caller comes back with its token, which made none, and the lines were played between
+  -- what it had seen and what it has seen then.
   pub record IsEndOf (keep : M → ℕ) (heard : M → Option (List ℕ)) (caps : Limits)
       (plan : LanePlan M) (end : LaneEnd M) : Type 0 where
     pub lane : end.lane ≡ plan.lane
     pub player : player_of caps end.caller ≡ player_of caps plan.caller
+    pub made : (view end.caller.pass).made ≡ (view plan.caller.pass).made
     pub plays : Plays keep heard (player_of caps plan.caller) plan.lines.items plan.boxes.items
         (account_of end) (seen_by plan.caller) (seen_by end.caller)

@@ -1,6 +1,7 @@
 -- What public contracts cite.
 pub mod Ends
 pub mod Enough
+pub mod Hosts
 pub mod Links
 pub mod Performs
 pub mod Serves

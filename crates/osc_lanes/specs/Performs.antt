@@ -1,5 +1,6 @@
 -- What a performance of lanes comes to: one history, and each lane's share of it.
-use Rattle.std.specs.Prelude.{◌≡◌, ℕ, zero, suc, ◌+◌, ◌<◌, ◌≤◌, true, IsTrue, List, [], ◌∷◌, ◌++◌, length, map, All, Option, None, MatchOption}
+use Rattle.std.specs.Prelude.{◌≡◌, ℕ, zero, suc, ◌+◌, ◌<◌, ◌≤◌, true, IsTrue, List, [], ◌∷◌, ◌++◌}
+use Rattle.std.specs.Prelude.{length, map, All, Option, None, MatchOption}
 use Rattle.std.specs.List.{AllByRecursion, flat_map}
 use Rattle.std.specs.List.Sorted.{IsPermutation}
 use Rattle.std.specs.Option.{option_map}
@@ -39,16 +40,23 @@ enrolments first (suc count) =
 abbrev pub player_at : Limits → ℕ → Player
 player_at caps caller = record { caps = caps; token = caller; caller = caller }
 
--- The history of a server with these limits, on which caller 0 enrolled so many callers and did
--- nothing else. It is legal, keeps the four laws, and begins with the enrolments; and each entry is
--- of the caller whose number its token has.
-pub record IsStage (caps : Limits) (callers : ℕ) (history : List Seen) : Type 0 where
+-- The history of a server with these limits, on which caller 0 has these first entries, then
+-- enrolled so many callers, and did nothing else. It is legal, keeps the four laws, and begins with
+-- the entries of caller 0; and each entry is of the caller whose number its token has.
+pub record IsStage (caps : Limits) (first : List Entry) (callers : ℕ)
+    (history : List Seen) : Type 0 where
   pub legal : Legal caps (history_in (texts history))
   pub laws : KeepsTheLaws caps (history_in (texts history))
   pub begins : StartsWith history (own 0 history)
-  pub enrolled : history_in (texts (own 0 history)) ≡ enrolments 1 callers
+  pub enrolled : history_in (texts (own 0 history)) ≡ first ++ enrolments 1 callers
   pub named : All (λ one. names one.number one ≡ true) history
   pub within : All (λ one. one.number ≤ callers) history
+
+-- there was no room for an enrolment behind this history, which is caller 0's alone
+abbrev pub HasNoRoomToEnrol : Limits → List Seen → Room → Type 0
+HasNoRoomToEnrol caps history room =
+    (record_full room ≡ (stepped_in (performance_in caps (texts history)) enrol).answer)
+    × (own 0 history ≡ history)
 
 -- Each item of one list has this relation to the item in its place of the other, where the first
 -- items have this number.
@@ -92,17 +100,12 @@ module _ {M : Type 0} where
       (λ number part account. LaneOf keep heard (player_at caps number) part.lines part.boxes
       account history) 1 parts accounts
 
-  -- The parts were played on one new server, each as a lane beside the others, unless the recording
-  -- had no room for an enrolment: then no lane was started, so that all entries are caller 0's, and
-  -- all boxes come back. There is one history, which is recorded, and each lane has its share of
-  -- it. The ids that it adds are those of the boxes that are kept and of those that lanes removed,
-  -- each once; and these boxes have heard the history, each with the mark of its id's entry.
-  pub record Performs (keep : M → ℕ) (heard : M → Option (List ℕ)) (caps : Limits)
-      (parts : List (Part M)) (recording : List ℕ) (kept : List (ℕ × M))
-      (accounts : List (Account M)) (unenrolled : Option Room) : Type 0 where
-    pub history : List Seen
-    pub callers : ℕ
-    pub stage : IsStage caps callers history
+  -- The history is recorded. The ids that it adds are those of the boxes that are kept and of those
+  -- that were removed, each once; and these boxes have heard the history, each with the mark of its
+  -- id's entry.
+  pub record IsClosedWith (keep : M → ℕ) (heard : M → Option (List ℕ)) (caps : Limits)
+      (history : List Seen) (recording : List ℕ) (kept : List (ℕ × M))
+      (accounts : List (Account M)) : Type 0 where
     pub recorded : recording ≡ record_text caps (history_in (texts history))
     pub ids : IsPermutation (added_ids (history_in (texts history)))
         (map (λ one. one.0) kept ++ removed_ids accounts)
@@ -111,8 +114,19 @@ module _ {M : Type 0} where
     pub kept_marked : AreMarked (texts history) (told keep heard kept)
     pub removed : All (λ account. AllByRecursion (IsRemovedAt keep heard caps history)
         account.removed) accounts
+
+  -- The parts were played on one new server, each as a lane beside the others, unless the recording
+  -- had no room for an enrolment: then no lane was started, so that all entries are caller 0's, and
+  -- all boxes come back. There is one history, with which the server was closed, and each lane has
+  -- its share of it.
+  pub record Performs (keep : M → ℕ) (heard : M → Option (List ℕ)) (caps : Limits)
+      (parts : List (Part M)) (recording : List ℕ) (kept : List (ℕ × M))
+      (accounts : List (Account M)) (unenrolled : Option Room) : Type 0 where
+    pub history : List Seen
+    pub callers : ℕ
+    pub stage : IsStage caps [] callers history
+    pub closed : IsClosedWith keep heard caps history recording kept accounts
     pub shares : MatchOption unenrolled
         ((callers ≡ length parts) × AreShares keep heard caps history parts accounts)
-        (λ room. (callers < length parts)
-        × (record_full room ≡ (stepped_in (performance_in caps (texts history)) enrol).answer)
-        × (accounts ≡ map (λ part. ended part.boxes None) parts) × (own 0 history ≡ history))
+        (λ room. (callers < length parts) × HasNoRoomToEnrol caps history room
+        × (accounts ≡ map (λ part. ended part.boxes None) parts))

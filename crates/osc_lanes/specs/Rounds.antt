@@ -7,7 +7,8 @@ use Rattle.osc_lanes.specs.declared.served.TickerEnd.TheVariants.{Done}
 use Rattle.osc_lanes.specs.declared.ticker.Round.{Round}
 use Rattle.osc_lanes.specs.declared.ticker.Round.TheVariants.{Played, Over}
 use Rattle.osc_lanes.specs.Shares.{Player}
-use Rattle.osc_lanes.specs.Ticks.{last_after, Reads, ClockRead, PlaysRound, PlaysRounds, EndsTicks, Ticks}
+use Rattle.osc_lanes.specs.Ticks.{last_after, Reads, ClockRead, PlaysRound, PlaysRounds, EndsTicks}
+use Rattle.osc_lanes.specs.Ticks.{Ticks}
 
 module _ {M : Type 0} (keep : M → ℕ) (heard : M → Option (List ℕ)) where
   -- one round was played, or the ticker has ended in it

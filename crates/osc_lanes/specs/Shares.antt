@@ -1,11 +1,14 @@
 -- A lane's share of a history.
-use Rattle.std.specs.Prelude.{◌≡◌, ℕ, zero, suc, ◌+◌, List, [], ◌∷◌, ◌++◌, map, Option, Some, None, MatchOption, MatchBool}
+use Rattle.std.specs.Prelude.{◌≡◌, ℕ, zero, suc, ◌+◌, List, [], ◌∷◌, ◌++◌, map, Option, Some, None}
+use Rattle.std.specs.Prelude.{MatchOption, MatchBool}
 use Rattle.std.specs.List.{AllByRecursion}
 use Rattle.osc_atoms.specs.declared.fault.Fault.{Fault}
 use Rattle.osc_packet.specs.declared.limits.TheConstants.{MAX_PACKET}
 use Rattle.osc_packet.specs.Reading.{packet_fault}
 use Rattle.osc_model.specs.Limits.{Limits}
-use Rattle.osc_model.specs.Events.{Event, Answer, Entry, Hit, Room, adds_entry, add, remove, submit, tick, release, added, removed, released, nothing_due, record_full}
+use Rattle.osc_model.specs.Events.{Event, Answer, Entry, Hit, Room, adds_entry, add, remove, submit}
+use Rattle.osc_model.specs.Events.{tick, release, added, removed, released, nothing_due}
+use Rattle.osc_model.specs.Events.{record_full}
 use Rattle.osc_model.specs.Heard.{Told}
 use Rattle.osc_model.specs.History.{Legal, stepped_in, invoked_in, HasHeard}
 use Rattle.osc_record.specs.Reading.{entry_in}

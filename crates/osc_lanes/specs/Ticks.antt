@@ -1,5 +1,6 @@
 -- The ticker's share of a history.
-use Rattle.std.specs.Prelude.{◌≡◌, ℕ, Bool, true, nat_lt, if◌then◌else◌, List, [], ◌∷◌, All, Option, Some, None}
+use Rattle.std.specs.Prelude.{◌≡◌, ℕ, Bool, true, nat_lt, if◌then◌else◌, List, [], ◌∷◌, All, Option}
+use Rattle.std.specs.Prelude.{Some, None}
 use Rattle.osc_edge.specs.declared.clock.Moment.TheVariants.{At, Failed}
 use Rattle.osc_edge.specs.Clock.{GivesMoment}
 use Rattle.osc_edge.specs.Faults.{Rose}
@@ -46,6 +47,16 @@ pub record ClockRead : Type 0 where
   pub after : Option (List ℕ)
   pub faults : ℕ
   pub now : ℕ
+
+-- what a clock is read of, by what it has left and how often it has failed
+abbrev pub clock_read : {C : Type 0} → (C → Option (List ℕ)) → (C → ℕ) → C → C → ClockRead
+clock_read left faults before after =
+    record {
+      before = left before;
+      after = left after;
+      faults = faults before;
+      now = faults after;
+    }
 
 module _ {M : Type 0} (keep : M → ℕ) (heard : M → Option (List ℕ)) where
   -- one round is played between two places, up to the first event that finds no room

@@ -3,6 +3,7 @@ ghost use Rattle.std.specs.Prelude.{◌≡◌, ◌+◌, ◌<◌, ◌≤◌, ◌+
 ghost use Rattle.std.specs.Vec.Iter.{into_iter_items};
 ghost use Rattle.osc_core.specs.Answers.{adding_of, removing_of, room_of};
 ghost use Rattle.std.specs.Option.{option_map};
+ghost use Rattle.osc_turn.specs.Passes.{view};
 ghost use Rattle.osc_live.specs.Seen.{IsTokenOf};
 ghost use Rattle.osc_lanes.specs.Shares.{stop_of, adds_of};
 ghost use Rattle.osc_lanes.specs.Ends.{seen_by, player_of};
@@ -14,16 +15,14 @@ use crate::tally::Tally;
 use osc_atoms::Room;
 use osc_core::{Adding, Removing};
 use osc_live::{Caller, Live};
-use osc_message::Bytes;
 use osc_method::Method;
-use osc_pattern::Address;
 use osc_script::Act;
 use std::alloc::AllocError;
 use std::sync::Wait;
 use std::vec::IntoIter;
 
-/// Plays an act of the line with this number. The `Some` is the room where the recording was full; an `Err` is want of
-/// memory.
+/// Plays an act of the line with this number; an add takes the next box. The `Some` is the room where the recording was
+/// full; an `Err` is want of memory.
 pub(crate) fn play_act<M: Method, W: Wait>(
     rt: &W,
     live: &Live<M>,
@@ -38,6 +37,8 @@ pub(crate) fn play_act<M: Method, W: Wait>(
     ensures ours { IfOk result (λ r. IsTokenOf live.now.turn live.now.caps r.0.pass) }
     ensures player { IfOk result
         (λ r. player_of live.now.caps r.0 ≡ player_of live.now.caps caller) }
+    ensures made { IfOk result
+        (λ r. (view r.0.pass).made ≡ (view caller.pass).made) }
     ensures handed { OnOk result (length (into_iter_items boxes.old)
         ≤ adds_of act + length (into_iter_items boxes.new)) }
     ensures played { IfOk result (λ r. Played M.keep M.heard (player_of live.now.caps caller)
@@ -45,40 +46,35 @@ pub(crate) fn play_act<M: Method, W: Wait>(
         (gathered tally.old None) (gathered tally.new r.1) r.1 (seen_by caller) (seen_by r.0)) }
 {
     match act {
-        Act::Add(address) => play_add(rt, live, caller, number, address, boxes, tally),
-        Act::Remove(address) => play_remove(rt, live, caller, number, address, boxes, tally),
-        Act::Send(bytes) => play_send(rt, live, caller, number, bytes, boxes, tally),
-        Act::Tick(moment) => play_tick(rt, live, caller, number, moment, boxes, tally),
-        Act::Pump => play_pump(rt, live, caller, number, boxes, tally),
+        Act::Add(address) => {
+            let Some(method) = boxes.next() else {
+                unreachable!()
+            };
+            let (caller, adding) = live.add(rt, caller, address, method);
+            let stop = keep_refused(&mut tally.back, adding)?;
+            Ok((caller, stop))
+        }
+        Act::Remove(address) => {
+            let (caller, removing) = live.remove(rt, caller, &address);
+            let stop = keep_removed(&mut tally.removed, removing)?;
+            Ok((caller, stop))
+        }
+        Act::Send(bytes) => {
+            let bytes = bytes.as_slice();
+            let (caller, stop) = send(rt, live, caller, number, bytes, &mut tally.faults)?;
+            Ok((caller, stop))
+        }
+        Act::Tick(moment) => {
+            let (caller, answer) = live.tick(rt, caller, moment);
+            let stop = ticked_stop(answer);
+            Ok((caller, stop))
+        }
+        Act::Pump => {
+            let (caller, pumped) = live.pump(rt, caller);
+            let stop = pumped_stop(pumped.end);
+            Ok((caller, stop))
+        }
     }
-}
-
-fn play_add<M: Method, W: Wait>(
-    rt: &W,
-    live: &Live<M>,
-    caller: Caller,
-    number: u32,
-    address: Address,
-    boxes: &mut IntoIter<M>,
-    tally: &mut Tally<M>,
-) -> Result<(Caller, Option<Room>), AllocError>
-    requires ours { IsTokenOf live.now.turn live.now.caps caller.pass }
-    requires handed { 0 < length (into_iter_items boxes.old) }
-    ensures ours { IfOk result (λ r. IsTokenOf live.now.turn live.now.caps r.0.pass) }
-    ensures player { IfOk result
-        (λ r. player_of live.now.caps r.0 ≡ player_of live.now.caps caller) }
-    ensures handed { OnOk result (length (into_iter_items boxes.old)
-        ≤ adds_of (Act.Add address) + length (into_iter_items boxes.new)) }
-    ensures played { IfOk result (λ r. Played M.keep M.heard (player_of live.now.caps caller)
-        number (Act.Add address) (into_iter_items boxes.old) (into_iter_items boxes.new)
-        (gathered tally.old None) (gathered tally.new r.1) r.1 (seen_by caller) (seen_by r.0)) }
-{
-    let Some(method) = boxes.next() else {
-        unreachable!()
-    };
-    let (caller, adding) = live.add(rt, caller, address, method);
-    let stop = keep_refused(&mut tally.back, adding)?;
-    Ok((caller, stop))
 }
 
 /// Keeps the box that is handed back, if one is.
@@ -93,30 +89,6 @@ fn keep_refused<M: Drop>(back: &mut Vec<M>, adding: Adding<M>) -> Result<Option<
             Ok(refused_stop(why))
         }
     }
-}
-
-fn play_remove<M: Method, W: Wait>(
-    rt: &W,
-    live: &Live<M>,
-    caller: Caller,
-    number: u32,
-    address: Address,
-    boxes: &mut IntoIter<M>,
-    tally: &mut Tally<M>,
-) -> Result<(Caller, Option<Room>), AllocError>
-    requires ours { IsTokenOf live.now.turn live.now.caps caller.pass }
-    ensures ours { IfOk result (λ r. IsTokenOf live.now.turn live.now.caps r.0.pass) }
-    ensures player { IfOk result
-        (λ r. player_of live.now.caps r.0 ≡ player_of live.now.caps caller) }
-    ensures handed { OnOk result (length (into_iter_items boxes.old)
-        ≤ adds_of (Act.Remove address) + length (into_iter_items boxes.new)) }
-    ensures played { IfOk result (λ r. Played M.keep M.heard (player_of live.now.caps caller)
-        number (Act.Remove address) (into_iter_items boxes.old) (into_iter_items boxes.new)
-        (gathered tally.old None) (gathered tally.new r.1) r.1 (seen_by caller) (seen_by r.0)) }
-{
-    let (caller, removing) = live.remove(rt, caller, &address);
-    let stop = keep_removed(&mut tally.removed, removing)?;
-    Ok((caller, stop))
 }
 
 /// Keeps the box that is removed, if one is, under its id.
@@ -135,75 +107,4 @@ fn keep_removed<M: Drop>(
         Removing::RecordFull(room) => Ok(Some(room)),
         Removing::NotThere => Ok(None),
     }
-}
-
-fn play_send<M: Method, W: Wait>(
-    rt: &W,
-    live: &Live<M>,
-    caller: Caller,
-    number: u32,
-    bytes: Bytes,
-    boxes: &mut IntoIter<M>,
-    tally: &mut Tally<M>,
-) -> Result<(Caller, Option<Room>), AllocError>
-    requires ours { IsTokenOf live.now.turn live.now.caps caller.pass }
-    ensures ours { IfOk result (λ r. IsTokenOf live.now.turn live.now.caps r.0.pass) }
-    ensures player { IfOk result
-        (λ r. player_of live.now.caps r.0 ≡ player_of live.now.caps caller) }
-    ensures handed { OnOk result (length (into_iter_items boxes.old)
-        ≤ adds_of (Act.Send bytes) + length (into_iter_items boxes.new)) }
-    ensures played { IfOk result (λ r. Played M.keep M.heard (player_of live.now.caps caller)
-        number (Act.Send bytes) (into_iter_items boxes.old) (into_iter_items boxes.new)
-        (gathered tally.old None) (gathered tally.new r.1) r.1 (seen_by caller) (seen_by r.0)) }
-{
-    let bytes = bytes.as_slice();
-    let (caller, stop) = send(rt, live, caller, number, bytes, &mut tally.faults)?;
-    Ok((caller, stop))
-}
-
-fn play_tick<M: Method, W: Wait>(
-    rt: &W,
-    live: &Live<M>,
-    caller: Caller,
-    number: u32,
-    moment: u64,
-    boxes: &mut IntoIter<M>,
-    tally: &mut Tally<M>,
-) -> Result<(Caller, Option<Room>), AllocError>
-    requires ours { IsTokenOf live.now.turn live.now.caps caller.pass }
-    ensures ours { IfOk result (λ r. IsTokenOf live.now.turn live.now.caps r.0.pass) }
-    ensures player { IfOk result
-        (λ r. player_of live.now.caps r.0 ≡ player_of live.now.caps caller) }
-    ensures handed { OnOk result (length (into_iter_items boxes.old)
-        ≤ adds_of (Act.Tick moment) + length (into_iter_items boxes.new)) }
-    ensures played { IfOk result (λ r. Played M.keep M.heard (player_of live.now.caps caller)
-        number (Act.Tick moment) (into_iter_items boxes.old) (into_iter_items boxes.new)
-        (gathered tally.old None) (gathered tally.new r.1) r.1 (seen_by caller) (seen_by r.0)) }
-{
-    let (caller, answer) = live.tick(rt, caller, moment);
-    let stop = ticked_stop(answer);
-    Ok((caller, stop))
-}
-
-fn play_pump<M: Method, W: Wait>(
-    rt: &W,
-    live: &Live<M>,
-    caller: Caller,
-    number: u32,
-    boxes: &mut IntoIter<M>,
-    tally: &mut Tally<M>,
-) -> Result<(Caller, Option<Room>), AllocError>
-    requires ours { IsTokenOf live.now.turn live.now.caps caller.pass }
-    ensures ours { IfOk result (λ r. IsTokenOf live.now.turn live.now.caps r.0.pass) }
-    ensures player { IfOk result
-        (λ r. player_of live.now.caps r.0 ≡ player_of live.now.caps caller) }
-    ensures handed { OnOk result (length (into_iter_items boxes.old)
-        ≤ adds_of Act.Pump + length (into_iter_items boxes.new)) }
-    ensures played { IfOk result (λ r. Played M.keep M.heard (player_of live.now.caps caller)
-        number Act.Pump (into_iter_items boxes.old) (into_iter_items boxes.new)
-        (gathered tally.old None) (gathered tally.new r.1) r.1 (seen_by caller) (seen_by r.0)) }
-{
-    let (caller, pumped) = live.pump(rt, caller);
-    let stop = pumped_stop(pumped.end);
-    Ok((caller, stop))
 }

@@ -1,13 +1,13 @@
 // Enrols the callers of lanes.
 ghost use Rattle.std.specs.Prelude.{◌≡◌, ◌<◌, All, IfOk, IfErr, IfSome};
 ghost use Rattle.osc_model.specs.Events.{enrol};
-ghost use Rattle.osc_model.specs.Recordings.{header_text};
-ghost use Rattle.osc_turn.specs.Rule.{opening, number_of};
+ghost use Rattle.osc_turn.specs.History.{StartsWith};
+ghost use Rattle.osc_turn.specs.Rule.{number_of};
 ghost use Rattle.osc_turn.specs.Passes.{view, one_more};
-ghost use Rattle.osc_live.specs.Seen.{IsTokenOf};
+ghost use Rattle.osc_live.specs.Seen.{IsTokenOf, history_of};
 ghost use Rattle.osc_live.specs.Calls.{Calls};
 ghost use Rattle.osc_live.specs.Enrolments.{enrolment_of};
-ghost use Rattle.osc_lanes.specs.Crews.{IsSilent, HasEnrolled};
+ghost use Rattle.osc_lanes.specs.Crews.{IsSilent, HasNotEnrolled, HasEnrolled};
 
 use osc_live::{Caller, EnrolRefusal, Guest, Live};
 use osc_method::Method;
@@ -34,18 +34,21 @@ pub(crate) fn enrol_all<M: Method, W: Wait>(
 ) -> Result<Crew, AllocError>
     requires ours { IsTokenOf live.now.turn live.now.caps first.pass }
     requires number { first.number ≡ 0 }
-    requires opened { view first.pass ≡ opening (header_text live.now.caps) }
+    requires opened { HasNotEnrolled (view first.pass) }
     requires few { count < live.now.caps.callers }
     requires tokens { count < 1024 }
     ensures ours { IfOk result
         (λ crew. IsTokenOf live.now.turn live.now.caps crew.first.pass) }
+    ensures seen { IfOk result
+        (λ crew. StartsWith (view crew.first.pass).seen (view first.pass).seen) }
     ensures number { IfOk result (λ crew. crew.first.number ≡ 0) }
     ensures callers_ours { IfOk result (λ crew. All
         (λ caller. IsTokenOf live.now.turn live.now.caps caller.pass) crew.callers.items) }
     ensures guest_ours { IfOk result (λ crew. IfSome crew.refused
         (λ refused. IsTokenOf live.now.turn live.now.caps refused.1.pass)) }
-    ensures enrolled { IfOk result (λ crew. HasEnrolled live.now.caps count
-        (view crew.first.pass) crew.callers.items crew.refused) }
+    ensures enrolled { IfOk result (λ crew. HasEnrolled live.now.caps
+        (history_of (view first.pass)) count (view crew.first.pass) crew.callers.items
+        crew.refused) }
 {
     callers_are_counted();
     let mut callers = Vec::with_capacity(alloc, count)?;

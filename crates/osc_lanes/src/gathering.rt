@@ -1,5 +1,6 @@
 // What comes of links, put together.
-ghost use Rattle.std.specs.Prelude.{◌≡◌, ◌+◌, ◌≤◌, ◌∷◌, [], ◌++◌, length, map, IfOk, OnOk, Some, None, if◌then◌else◌};
+ghost use Rattle.std.specs.Prelude.{◌≡◌, ◌+◌, ◌≤◌, ◌∷◌, [], ◌++◌, length, map, IfOk, OnOk, Some};
+ghost use Rattle.std.specs.Prelude.{None, if◌then◌else◌};
 ghost use Rattle.std.specs.Option.{option_map};
 ghost use Rattle.osc_core.specs.Answers.{room_of};
 ghost use Rattle.osc_lanes.specs.Links.{stop_by};

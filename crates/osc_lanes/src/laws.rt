@@ -1,6 +1,7 @@
 //! What holds of a lane, a link and the ticker in every history that goes on from what its token has seen, and of a
 //! recording with room enough for all lanes.
-ghost use Rattle.std.specs.Prelude.{◌≡◌, ℕ, ◌+◌, ◌*◌, ◌≤◌, List, [], ◌∷◌, All, Option, codes, Some, None};
+ghost use Rattle.std.specs.Prelude.{◌≡◌, ℕ, ◌+◌, ◌*◌, ◌≤◌, List, [], ◌∷◌, All, Option, codes, Some};
+ghost use Rattle.std.specs.Prelude.{None};
 ghost use Rattle.std.specs.List.{AllByRecursion};
 ghost use Rattle.osc_turn.specs.History.{StartsWith, texts, own};
 ghost use Rattle.osc_turn.specs.declared.view.Entry.{Entry};
@@ -12,7 +13,8 @@ ghost use Rattle.osc_lanes.specs.declared.plan.LanePlan.{LanePlan};
 ghost use Rattle.osc_lanes.specs.declared.plan.LaneEnd.{LaneEnd};
 ghost use Rattle.osc_script.specs.declared.act.Act.TheVariants.{Add, Send};
 ghost use Rattle.osc_lanes.specs.Shares.{Account, Onward, LaneOf, IsRemovedAt, Player, ended};
-ghost use Rattle.osc_lanes.specs.Performs.{enrolments, added_ids, removed_ids, Numbered, Part, Performs};
+ghost use Rattle.osc_lanes.specs.Performs.{enrolments, added_ids, removed_ids, Numbered, Part};
+ghost use Rattle.osc_lanes.specs.Performs.{Performs};
 ghost use Rattle.osc_lanes.specs.Enough.{enough_for};
 ghost use Rattle.osc_lanes.specs.declared.link_plan.Over.TheVariants.{Idle};
 ghost use Rattle.osc_lanes.specs.Links.{PlaysTurns, IsLinkEnd, LinkOf, link_account, stop_by};
@@ -21,7 +23,8 @@ ghost use Rattle.osc_lanes.specs.declared.link_plan.LinkEnd.{LinkEnd};
 ghost use Rattle.osc_lanes.specs.declared.served.Bounds.{Bounds};
 ghost use Rattle.osc_lanes.specs.declared.served.TickerEnd.{TickerEnd};
 ghost use Rattle.osc_live.specs.declared.caller.Caller.{Caller};
-ghost use Rattle.osc_lanes.specs.Ticks.{ClockRead, Reads, Ticks, TickOf, round_lines, tick_line, pump_line};
+ghost use Rattle.osc_lanes.specs.Ticks.{ClockRead, Reads, Ticks, TickOf, round_lines, tick_line};
+ghost use Rattle.osc_lanes.specs.Ticks.{pump_line};
 ghost use Rattle.osc_lanes.specs.Ends.{seen_by, player_of, account_of, IsReady, IsEndOf};
 
 use osc_edge::Link;

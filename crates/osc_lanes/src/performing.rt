@@ -1,5 +1,5 @@
 //! Plays many lanes on a new server, and closes it.
-ghost use Rattle.std.specs.Prelude.{◌≡◌, ◌<◌, ◌+◌, length, map, All, IfOk};
+ghost use Rattle.std.specs.Prelude.{◌≡◌, ◌<◌, ◌+◌, [], length, map, All, IfOk};
 ghost use Rattle.std.specs.Option.{option_map};
 ghost use Rattle.osc_core.specs.Answers.{room_of};
 ghost use Rattle.osc_turn.specs.Passes.{view};
@@ -81,7 +81,7 @@ fn play_all<M: Method + Send, W: Threads + Wait + Sync, G: Gate + Sync>(
     requires number { first.number ≡ 0 }
     requires callers_ours { All (λ caller. IsTokenOf live.turn live.caps caller.pass)
         callers.items }
-    requires crew { IsCrew (1 + length callers.items) (view first.pass) callers.items }
+    requires crew { IsCrew [] (1 + length callers.items) (view first.pass) callers.items }
     requires many { length callers.items ≡ length parts.items }
     requires few { length parts.items < 1024 }
     requires whole { All (λ part. IsWhole (part_of part)) parts.items }
@@ -119,7 +119,7 @@ fn play_none<M: Method>(
     requires callers_ours { All (λ caller. IsTokenOf live.turn live.caps caller.pass)
         callers.items }
     requires guest_ours { IsTokenOf live.turn live.caps guest.pass }
-    requires crew { IsCrew (2 + length callers.items) (view first.pass) callers.items }
+    requires crew { IsCrew [] (2 + length callers.items) (view first.pass) callers.items }
     requires fewer { length callers.items < length parts.items }
     requires few { length parts.items < 1024 }
     requires refused { FindsNoRoom live.caps (view first.pass) why }

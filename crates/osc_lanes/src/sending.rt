@@ -2,6 +2,7 @@
 ghost use Rattle.std.specs.Prelude.{◌≡◌, ℕ, List, IfOk, None};
 ghost use Rattle.std.specs.Option.{option_map};
 ghost use Rattle.osc_core.specs.Answers.{room_of};
+ghost use Rattle.osc_turn.specs.Passes.{view};
 ghost use Rattle.osc_live.specs.Seen.{IsTokenOf};
 ghost use Rattle.osc_script.specs.declared.act.Act.TheVariants.{Send};
 ghost use Rattle.osc_lanes.specs.Ends.{seen_by, player_of};
@@ -29,6 +30,8 @@ pub(crate) fn send<M: Method, W: Wait>(
     ensures ours { IfOk result (λ r. IsTokenOf live.now.turn live.now.caps r.0.pass) }
     ensures player { IfOk result
         (λ r. player_of live.now.caps r.0 ≡ player_of live.now.caps caller) }
+    ensures made { IfOk result
+        (λ r. (view r.0.pass).made ≡ (view caller.pass).made) }
     ensures played { IfOk result (λ r. (boxes back : List M) (removed : List (ℕ × M))
         → Played M.keep M.heard (player_of live.now.caps caller) number (Send bytes.now) boxes boxes
         (record { faults = faults.old.items; removed = removed; back = back; stop = None })

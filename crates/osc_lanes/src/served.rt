@@ -22,6 +22,21 @@ pub enum TickerEnd {
     Full(Room),
 }
 
+/// What links and the ticker told, where the server is closed.
+#[derive(Drop)]
+pub struct LinksTold<L> {
+    /// The links that were handed in, in their order.
+    pub links: Vec<L>,
+    /// Link, number of the datagram and fault of each datagram that was refused, as in [`ServeEnd`].
+    pub faults: Vec<(u32, u32, Fault)>,
+    /// The least link that failed.
+    pub failed: Option<u32>,
+    /// Whether the clock failed.
+    pub clock_failed: bool,
+    /// The room where the recording was full: of the least link that found it so, or else of the ticker.
+    pub stop: Option<Room>,
+}
+
 /// What came of links that were served.
 #[derive(Drop)]
 pub struct ServeEnd<L> {

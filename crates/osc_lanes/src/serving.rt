@@ -19,12 +19,11 @@ ghost use Rattle.osc_lanes.specs.Ends.{seen_by, player_of};
 ghost use Rattle.osc_lanes.specs.Links.{IsLinkEnd};
 ghost use Rattle.osc_turn.specs.declared.view.Entry.{Entry as Seen};
 ghost use Rattle.osc_turn.specs.History.{StartsWith};
-ghost use Rattle.osc_lanes.specs.declared.ticker.Round.TheVariants.{Played};
 ghost use Rattle.osc_lanes.specs.Rounds.{TicksMeanwhile};
 ghost use Rattle.osc_lanes.specs.Serves.{Serves, seen_in};
 ghost use Rattle.osc_lanes.specs.Shares.{Player, Onward};
 ghost use Rattle.osc_lanes.specs.Taken.{IsSameEnd};
-ghost use Rattle.osc_lanes.specs.Ticks.{Ticks};
+ghost use Rattle.osc_lanes.specs.Ticks.{Ticks, clock_read};
 
 use crate::gate::Gate;
 use crate::gathering::{gather, make_link_plans};
@@ -73,12 +72,7 @@ fn serve_beside<
         (λ r. player_of live.now.caps r.1 ≡ player_of live.now.caps ticker) }
     ensures ticks { IfOk result (λ r. TicksMeanwhile M.keep M.heard
         (player_of live.now.caps ticker)
-        (record {
-          before = C.left clock.old;
-          after = C.left clock.new;
-          faults = C.faults clock.old;
-          now = C.faults clock.new;
-        }) r.2 (seen_by ticker) (seen_by r.1)) }
+        (clock_read C.left C.faults clock.old clock.new) r.2 (seen_by ticker) (seen_by r.1)) }
 {
     let over = AtomicU64::new(0);
     let mut token = Some(ticker);
@@ -92,12 +86,8 @@ fn serve_beside<
                 IsTokenOf live.entry.now.turn live.entry.now.caps result.0.pass
                 × (player_of live.entry.now.caps result.0 ≡ player_of live.entry.now.caps c)
                 × TicksMeanwhile M.keep M.heard (player_of live.entry.now.caps c)
-                (record {
-                  before = C.left clock.entry.now;
-                  after = C.left clock.exit.now;
-                  faults = C.faults clock.entry.now;
-                  now = C.faults clock.exit.now;
-                }) result.1 (seen_by c) (seen_by result.0)) }
+                (clock_read C.left C.faults clock.entry.now clock.exit.now)
+                result.1 (seen_by c) (seen_by result.0)) }
         { tick_while(rt, live, token.take().unwrap(), clock, &over) },
         &mut || -> Result<Vec<LinkEnd<L>>, AllocError>
             requires { IsSomeAnd given (λ plans. All
@@ -178,12 +168,7 @@ pub fn serve<
         (λ caller. IsTokenOf live.now.turn live.now.caps caller.pass) end.callers.items) }
     ensures serves { IfOk result (λ end. Serves M.keep M.heard L.left L.faults live.now.caps bounds
         callers.items links.items
-        (record {
-          before = C.left clock.old;
-          after = C.left clock.new;
-          faults = C.faults clock.old;
-          now = C.faults clock.new;
-        }) end) }
+        (clock_read C.left C.faults clock.old clock.new) end) }
 {
     let (plans, ticker) = make_link_plans(alloc, callers, links)?;
     let (served, first, round) = serve_beside(rt, alloc, live, plans, ticker, clock, bounds, gate)?;
@@ -232,49 +217,6 @@ fn meet_links<M: Method, L: Drop>(
     Ok((met, ticker))
 }
 
-/// Plays the last round, behind all that the links have done.
-fn last_round<M: Method, W: Wait, L: Drop, C: Clock>(
-    rt: &W,
-    alloc: Global,
-    live: &Live<M>,
-    ends: Vec<LinkEnd<L>>,
-    ticker: Caller,
-    clock: &mut C,
-    last: Option<u64>,
-) -> Result<(Vec<LinkEnd<L>>, Caller, TickerEnd), AllocError>
-    requires ours { All (λ end. IsTokenOf live.now.turn live.now.caps end.caller.pass) ends.items }
-    requires ticker_ours { IsTokenOf live.now.turn live.now.caps ticker.pass }
-    ensures ours { IfOk result
-        (λ r. All (λ end. IsTokenOf live.now.turn live.now.caps end.caller.pass) r.0.items) }
-    ensures ticker_ours { IfOk result (λ r. IsTokenOf live.now.turn live.now.caps r.1.pass) }
-    ensures same { IfOk result (λ r. AllZip IsSameEnd ends.items r.0.items) }
-    ensures player { IfOk result
-        (λ r. player_of live.now.caps r.1 ≡ player_of live.now.caps ticker) }
-    ensures ticks { IfOk result (λ r. (before : Option (List ℕ)) (faults : ℕ) (player : Player)
-        (here : List Seen) → player_of live.now.caps ticker ≡ player
-        → TicksMeanwhile M.keep M.heard player
-        (record {
-          before = before;
-          after = C.left clock.old;
-          faults = faults;
-          now = C.faults clock.old;
-        }) (Played last) here (seen_by ticker)
-        → Ticks M.keep M.heard player (map seen_in r.0.items)
-        (record {
-          before = before;
-          after = C.left clock.new;
-          faults = faults;
-          now = C.faults clock.new;
-        }) r.2 here (seen_by r.1)) }
-{
-    let (ends, ticker) = meet_links(alloc, live, ends, ticker)?;
-    let (ticker, round) = play_round(rt, live, ticker, clock, last);
-    match round {
-        Round::Played(_) => Ok((ends, ticker, TickerEnd::Done)),
-        Round::Over(end) => Ok((ends, ticker, end)),
-    }
-}
-
 /// Ends the ticker: with a last round behind all that the links have done, unless it has ended.
 fn finish<M: Method, W: Wait, L: Drop, C: Clock>(
     rt: &W,
@@ -310,11 +252,14 @@ fn finish<M: Method, W: Wait, L: Drop, C: Clock>(
           now = C.faults clock.new;
         }) r.2 here (seen_by r.1)) }
 {
+    let last = match round {
+        Round::Played(last) => last,
+        Round::Over(end) => return Ok((ends, ticker, end)),
+    };
+    let (ends, ticker) = meet_links(alloc, live, ends, ticker)?;
+    let (ticker, round) = play_round(rt, live, ticker, clock, last);
     match round {
+        Round::Played(_) => Ok((ends, ticker, TickerEnd::Done)),
         Round::Over(end) => Ok((ends, ticker, end)),
-        Round::Played(last) => {
-            let done = last_round(rt, alloc, live, ends, ticker, clock, last)?;
-            Ok(done)
-        }
     }
 }

@@ -7,7 +7,7 @@ ghost use Rattle.osc_script.specs.declared.act.Act.TheVariants.{Tick, Pump};
 ghost use Rattle.osc_lanes.specs.Shares.{ended};
 ghost use Rattle.osc_lanes.specs.Ends.{seen_by, player_of};
 ghost use Rattle.osc_lanes.specs.Tallies.{Played};
-ghost use Rattle.osc_lanes.specs.Ticks.{is_later, last_after, PlaysRound};
+ghost use Rattle.osc_lanes.specs.Ticks.{is_later, last_after, clock_read, PlaysRound};
 ghost use Rattle.osc_lanes.specs.Rounds.{IsRound, TicksMeanwhile};
 
 use crate::served::TickerEnd;
@@ -40,12 +40,8 @@ pub(crate) fn tick_while<M: Method, W: Wait, C: Clock>(
     ensures ours { IsTokenOf live.now.turn live.now.caps result.0.pass }
     ensures player { player_of live.now.caps result.0 ≡ player_of live.now.caps caller }
     ensures ticks { TicksMeanwhile M.keep M.heard (player_of live.now.caps caller)
-        (record {
-          before = C.left clock.old;
-          after = C.left clock.new;
-          faults = C.faults clock.old;
-          now = C.faults clock.new;
-        }) result.1 (seen_by caller) (seen_by result.0) }
+        (clock_read C.left C.faults clock.old clock.new)
+        result.1 (seen_by caller) (seen_by result.0) }
 {
     let mut last = None;
     for _ in rt.forever() {
@@ -75,12 +71,8 @@ pub(crate) fn play_round<M: Method, W: Wait, C: Clock>(
     ensures ours { IsTokenOf live.now.turn live.now.caps result.0.pass }
     ensures player { player_of live.now.caps result.0 ≡ player_of live.now.caps caller }
     ensures round { IsRound M.keep M.heard (player_of live.now.caps caller) last
-        (record {
-          before = C.left clock.old;
-          after = C.left clock.new;
-          faults = C.faults clock.old;
-          now = C.faults clock.new;
-        }) result.1 (seen_by caller) (seen_by result.0) }
+        (clock_read C.left C.faults clock.old clock.new)
+        result.1 (seen_by caller) (seen_by result.0) }
 {
     match clock.now() {
         Moment::At(moment) => {

@@ -3,6 +3,7 @@ ghost use Rattle.std.specs.Prelude.{◌≡◌, ◌≤◌, ◌++◌, length, IfOk
 ghost use Rattle.std.specs.Vec.Iter.{into_iter_items};
 ghost use Rattle.std.specs.Option.{option_map};
 ghost use Rattle.osc_core.specs.Answers.{room_of};
+ghost use Rattle.osc_turn.specs.Passes.{view};
 ghost use Rattle.osc_live.specs.Seen.{IsTokenOf};
 ghost use Rattle.osc_lanes.specs.Shares.{Account, then_told, ended, Plays, count_adds};
 ghost use Rattle.osc_lanes.specs.Ends.{seen_by, player_of, IsEndOf};
@@ -77,6 +78,8 @@ fn play_lines<M: Method, W: Wait, G: Gate>(
     ensures ours { IfOk result (λ r. IsTokenOf live.now.turn live.now.caps r.0.pass) }
     ensures player { IfOk result
         (λ r. player_of live.now.caps r.0 ≡ player_of live.now.caps caller) }
+    ensures made { IfOk result
+        (λ r. (view r.0.pass).made ≡ (view caller.pass).made) }
     ensures plays { IfOk result (λ r. PlaysTo M.keep M.heard (player_of live.now.caps caller)
         lines.items (into_iter_items boxes.old) (gathered tally.old None)
         (then_told (gathered tally.new None)

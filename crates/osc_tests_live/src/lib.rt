@@ -5,3 +5,9 @@
 mod hold;
 #[cfg(test)]
 mod live;
+#[cfg(test)]
+mod loopback;
+#[cfg(test)]
+mod program;
+#[cfg(test)]
+mod serve;

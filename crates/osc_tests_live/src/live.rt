@@ -1,9 +1,10 @@
 // Scripts of lanes, run over sources and sinks in memory.
 use crate::hold::Hold;
-use osc_edge::{MemorySink, MemorySource, SteadySink, SteadySource};
+use crate::program::{replayed, words};
+use osc_edge::{MemoryClock, MemoryLink, MemorySink, MemorySource};
 use osc_lanes::{Gate, OpenGate};
 use osc_method::{Method, Trace};
-use osc_top::{live_top, plain_top, ports, recording_name};
+use osc_top::{live_top, ports, recording_name};
 use std::alloc::{AllocError, Global};
 use std::process::Abort;
 use std::sync::Wait;
@@ -15,7 +16,7 @@ const TWO_LANES: &str = "0 add /a\n1 send 2f610000\n0 pump\n1 send 2f620000\n";
 /// What the program is given beside its words and its script.
 #[derive(Clone, Copy)]
 struct Setting {
-    boxes: u32,
+    boxes: usize,
     /// Which call of the source and of each sink fails, counted from 1; 0 where none does.
     source_fails: u32,
     sink_fails: u32,
@@ -39,14 +40,6 @@ struct Outcome {
     left: usize,
 }
 
-fn words(alloc: Global, line: &str) -> Result<Vec<String>, AllocError> {
-    let mut words = Vec::new(alloc);
-    for word in line.split_whitespace() {
-        words.push(String::from_str(alloc, word)?)?;
-    }
-    Ok(words)
-}
-
 /// Does what the words say with the script.
 fn perform<R: Threads + Wait + Sync, G: Gate + Sync>(
     rt: &R,
@@ -65,13 +58,17 @@ fn perform<R: Threads + Wait + Sync, G: Gate + Sync>(
     let mut out = MemorySink::open(alloc, Vec::from_array(alloc, [setting.sink_fails])?);
     let mut rec = MemorySink::open(alloc, Vec::from_array(alloc, [setting.recording_fails])?);
     let words = words(alloc, line)?;
-    let ended = live_top(
+    let links: Vec<MemoryLink> = Vec::new(alloc);
+    let mut clock = MemoryClock::open(Vec::from_array(alloc, [7])?, Vec::new(alloc));
+    let (ended, _links) = live_top(
         rt,
         alloc,
         &words,
         &mut source,
         &mut out,
         &mut rec,
+        links,
+        &mut clock,
         bank,
         gate,
     );
@@ -82,15 +79,6 @@ fn perform<R: Threads + Wait + Sync, G: Gate + Sync>(
         heard: ended.heard.len(),
         left: ended.left.len(),
     })
-}
-
-/// What a recording prints as, replayed by the plain program.
-fn replayed(alloc: Global, recording: &[u8]) -> Result<(u8, Vec<u8>), Fail> {
-    let words = words(alloc, "replay")?;
-    let mut source = SteadySource::open(Vec::from_slice(alloc, recording)?);
-    let mut sink = SteadySink::open(alloc);
-    let ended = plain_top(alloc, &words, &mut source, &mut sink, Vec::new(alloc));
-    Ok((ended.status, Vec::from_slice(alloc, sink.bytes())?))
 }
 
 /// The first words of a caller's entries in a printed history, with a space behind each.
@@ -189,7 +177,7 @@ fn each_status_has_its_last_line(rt: HostRuntime) -> Result<(), Fail> {
             "enrol 0 1\nrecording-full 28 16\n",
             84,
         ),
-        ("serve f", TWO_LANES, SETTING, 2, "usage\n", 0),
+        ("serve f", "pump\n", SETTING, 1, "script 1 8\n", 0),
         ("lanes f", "add /a\n", SETTING, 1, "script 1 7\n", 0),
         ("lanes f", TWO_LANES, source, 4, "", 0),
         ("lanes f", TWO_LANES, bank, 8, "bank-short 1 0\n", 0),
@@ -211,7 +199,7 @@ fn each_status_has_its_last_line(rt: HostRuntime) -> Result<(), Fail> {
         assert_eq!(rt; outcome.written.as_slice(), printed.as_bytes(), "{line}");
         assert_eq!(rt; outcome.recorded.len(), recorded, "{line}");
         assert_eq!(rt; outcome.heard, 0, "{line}");
-        assert_eq!(rt; outcome.left, setting.boxes as usize, "{line}");
+        assert_eq!(rt; outcome.left, setting.boxes, "{line}");
     }
     Ok(())
 }

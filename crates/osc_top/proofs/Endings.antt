@@ -1,18 +1,20 @@
 -- What has become of the boxes when a server ends.
-use Rattle.std.proofs.Common.{◌≡◌, ℕ, ◌<◌, ◌≤◌, Bool, true, false, ◌&&◌, nat_lt, Option, arith, List, [], ◌∷◌, ◌++◌, map, length, drop, refl, sym, ap, subst, ◌∙◌, append_assoc}
+use Rattle.std.proofs.Common.{◌≡◌, ℕ, ◌<◌, ◌≤◌, Bool, true, false, ◌&&◌, nat_lt, Option, arith, List, [], ◌∷◌, ◌++◌, map, length, drop, refl, sym, ap, subst}
+use Rattle.std.proofs.Common.{◌∙◌, append_assoc}
 use Rattle.std.specs.List.{list_all, AllByRecursion}
 use Rattle.std.specs.List.Sorted.{IsPermutation, IsNonDecreasingBy}
 use Rattle.std.proofs.lemmas.Bool.Decides.{nat_tests}
 use Rattle.std.proofs.lemmas.List.{map-append}
 use Rattle.std.proofs.lemmas.List.Sorted.{IsPermutation-map, IsPermutation-sym, IsPermutation-trans, Contains-permutation, sum_by-IsPermutation}
 use Rattle.osc_model.specs.Limits.{Limits}
-use Rattle.osc_model.specs.Events.{Answer}
+use Rattle.osc_model.specs.Events.{Answer, Entry}
 use Rattle.osc_model.specs.Heard.{Told}
 use Rattle.osc_model.specs.History.{Performance, Legal, invoked_in}
 use Rattle.osc_core.specs.Ids.{is_ascending}
 use Rattle.osc_core.specs.Telling.{told}
 use Rattle.osc_script.specs.declared.line.Line.{Line}
-use Rattle.osc_top.specs.Bank.{Meaning, IsAccounted, add_answers, box_left, boxes_left, boxes_heard}
+use Rattle.osc_laws.specs.Laws.{KeepsTheLaws}
+use Rattle.osc_top.specs.Bank.{meaning, IsAccounted, add_answers, box_left, boxes_left, boxes_heard}
 use Rattle.osc_top.specs.Plain.{plain, count_adds}
 use Rattle.osc_top.specs.Tally.{IsOver, IsRising, refused_boxes}
 use Rattle.osc_top.specs.Tallied.{AreParted}
@@ -61,15 +63,12 @@ module _ {M : Type 0} (keep : M → ℕ) (heard : M → Option (List ℕ)) where
   abbrev tell : ℕ × M → Told
   tell one = record { id = one.0; keep = keep one.1; heard = heard one.1 }
 
-  abbrev pub meaning : M → Meaning
-  meaning box = record { keep = keep box; heard = heard box }
-
   pub ended : (bank : List M) (performance : Performance) (boxes : List Told) (removed kept joined sorted : List (ℕ × M)) (left rest left' : List M)
       → told keep heard kept ≡ boxes → joined ≡ kept ++ removed → IsPermutation joined sorted → IsNonDecreasingBy (λ one. one.0) sorted → left' ≡ left ++ rest
-      → IsOver meaning bank performance boxes (told keep heard removed) left rest
+      → IsOver (meaning keep heard) bank performance boxes (told keep heard removed) left rest
       → AreParted keep heard performance bank sorted left'
   ended bank performance boxes removed kept joined sorted left rest left' heard_so all moved ascending behind over =
-      let calls = boxes_heard (invoked_in performance) (add_answers performance.history) (map meaning bank) in
+      let calls = boxes_heard (invoked_in performance) (add_answers performance.history) (map (meaning keep heard) bank) in
       let same : IsPermutation calls (map tell sorted) =
       IsPermutation-trans calls (boxes ++ map tell removed) (map tell sorted) over.told
       (gathered tell boxes kept removed joined sorted heard_so all moved) in
@@ -86,8 +85,15 @@ module _ {M : Type 0} (keep : M → ℕ) (heard : M → Option (List ℕ)) where
   -- so each box of the bank is accounted for
   pub accounted : (caps : Limits) (lines : List Line) (performance : Performance) (bank : List M) (added : List (ℕ × M)) (left : List M)
       → performance ≡ record { caps = caps; history = (plain caps lines).history } → count_adds lines ≤ length bank
+      → ((limits : Limits) (history : List Entry) → Legal limits history → KeepsTheLaws limits history)
       → Legal performance.caps performance.history → AreParted keep heard performance bank added left
-      → IsAccounted caps lines (told keep heard added) left (map meaning bank) bank
-  accounted caps lines performance bank added left is enough legal parted =
+      → IsAccounted keep heard caps lines bank added left
+  accounted caps lines performance bank added left is enough keeps legal parted =
       let there = subst (λ (p : Performance). Legal p.caps p.history × AreParted keep heard p bank added left) is (legal, parted) in
-      record { enough = enough; legal = there.0; boxes = there.1.boxes; others = there.1.others }
+      record {
+        enough = enough;
+        legal = there.0;
+        laws = keeps caps (plain caps lines).history there.0;
+        boxes = there.1.boxes;
+        others = there.1.others;
+      }

@@ -14,4 +14,4 @@ mod Enough
 mod Dealt
 mod Staged
 mod Unstopped
-mod LaneEnds
+mod LiveEnds

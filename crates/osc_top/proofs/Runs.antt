@@ -1,5 +1,6 @@
 -- The run of a script, one line on.
-use Rattle.std.proofs.Common.{◌≡◌, ℕ, ◌+◌, ◌<◌, ◌≤◌, Bool, true, false, cond, List, [], ◌∷◌, ◌++◌, length, filter, Option, Some, None, is_some, refl, sym, ap, subst, ◌∙◌, arith, append_assoc}
+use Rattle.std.proofs.Common.{◌≡◌, ℕ, ◌+◌, ◌<◌, ◌≤◌, Bool, true, false, cond, List, [], ◌∷◌, ◌++◌, length, filter, Option, Some, None, is_some, refl, sym, ap}
+use Rattle.std.proofs.Common.{subst, ◌∙◌, arith, append_assoc}
 use Rattle.std.specs.Option.{option_map}
 use Rattle.std.proofs.lemmas.List.{append-nil}
 use Rattle.std.proofs.lemmas.Grind.{flat_map-append}
@@ -8,7 +9,7 @@ use Rattle.osc_model.specs.State.{State}
 use Rattle.osc_model.specs.Events.{Entry, Room}
 use Rattle.osc_model.specs.History.{Performance, after, state_of}
 use Rattle.osc_print.specs.Lines.{fault_text}
-use Rattle.osc_record.specs.Shown.{room_of}
+use Rattle.osc_core.specs.Answers.{room_of}
 use Rattle.osc_script.specs.declared.line.Line.{Line}
 use Rattle.osc_top.specs.Plain.{LineFault, Played, followed, plain_from, entries_of, act_faults, stop_of, is_add, count_adds}
 use Rattle.osc_top.specs.Printing.{printed_faults}
@@ -54,6 +55,30 @@ pub record RunsOn (initial : Performance) (said : List ℕ) (lines rest : List L
   pub whole : before entries faults (plain_from (state_of performance) rest) ≡ plain_from (state_of initial) lines
   pub caller : 0 < (state_of performance).callers
   pub handed : count_adds rest ≤ waiting
+
+-- the lines were played, to their end or up to a stop
+pub record HasRun (initial : Performance) (said : List ℕ) (lines : List Line) (performance : Performance) (text : List ℕ) (stop : Option Room) : Type 0 where
+  pub on : performance ≡ played_on initial (plain_from (state_of initial) lines).history
+  pub listed : text ≡ said ++ printed_faults (plain_from (state_of initial) lines).faults
+  pub stopped : stop ≡ (plain_from (state_of initial) lines).stop
+
+has_run : (initial : Performance) (said : List ℕ) (lines : List Line) (performance : Performance) (text : List ℕ) (played : Played)
+    → played ≡ plain_from (state_of initial) lines → performance ≡ played_on initial played.history → text ≡ said ++ printed_faults played.faults
+    → HasRun initial said lines performance text played.stop
+has_run initial said lines performance text played is on listed = record {
+  on = on ∙ ap (λ (p : Played). played_on initial p.history) is;
+  listed = listed ∙ ap (λ (p : Played). said ++ printed_faults p.faults) is;
+  stopped = ap (λ (p : Played). p.stop) is;
+}
+
+-- no line is left
+pub run_ends : (initial : Performance) (said : List ℕ) (lines rest : List Line) (performance : Performance) (text : List ℕ) (waiting : ℕ) → rest ≡ []
+    → RunsOn initial said lines rest performance text waiting → HasRun initial said lines performance text None
+run_ends initial said lines rest performance text waiting none run =
+    has_run initial said lines performance text (before run.entries run.faults (plain_from (state_of performance) []))
+    (ap (λ (l : List Line). before run.entries run.faults (plain_from (state_of performance) l)) (sym none) ∙ run.whole)
+    (run.on ∙ ap (λ (l : List Entry). played_on initial l) (sym (append-nil run.entries)))
+    (run.listed ∙ ap (λ (l : List LineFault). said ++ printed_faults l) (sym (append-nil run.faults)))
 
 pub run_begins : (initial : Performance) (said : List ℕ) (lines rest : List Line) (waiting : ℕ) → rest ≡ lines → 0 < (state_of initial).callers
     → count_adds lines ≤ waiting → RunsOn initial said lines rest initial said waiting
@@ -115,3 +140,14 @@ module _ (initial : Performance) (said : List ℕ) (lines rest : List Line) (lin
           caller = caller';
           handed = omega (arith, ap (λ (l : List Line). count_adds l) is, count_cons line rest, run.handed, fewer);
         }
+
+    -- a line that stops the script
+    pub run_stops : (stop : Option CodeRoom) → is_some stop ≡ true → option_map room_of stop ≡ stop_of (state_of performance) line.act
+        → HasRun initial said lines performance' text' (option_map room_of stop)
+    run_stops None some stops = absurd (cc)
+    run_stops (Some room) some stops =
+        let entries = entries_of (state_of performance) line.act in
+        let faults = act_faults line.number line.act in
+        let later = plain_from (after (state_of performance) entries) rest in
+        has_run initial said lines performance' text' (before run.entries run.faults (followed entries faults (Some (room_of room)) later))
+        (ap (λ (s : Option Room). before run.entries run.faults (followed entries faults s later)) stops ∙ next_whole) joined told

@@ -1,17 +1,25 @@
--- What became of the boxes of lanes, put together.
-use Rattle.std.proofs.Common.{◌≡◌, ℕ, ◌<◌, Bool, true, false, ◌&&◌, nat_lt, List, [], ◌∷◌, ◌++◌, map, drop, All, Option, None, refl, sym, ap, subst, ◌∙◌, arith}
+-- What became of lanes, or of links, and of their boxes, put together.
+use Rattle.std.proofs.Common.{◌≡◌, ℕ, ◌<◌, ◌≤◌, Bool, true, false, ◌&&◌, nat_lt, List, [], ◌∷◌, ◌++◌, map, length, take, drop, All, Option, None, refl, sym, ap}
+use Rattle.std.proofs.Common.{subst, ◌∙◌, arith}
 use Rattle.std.specs.List.{list_all, AllByRecursion, flat_map}
 use Rattle.std.specs.List.Sorted.{IsPermutation, IsNonDecreasingBy}
-use Rattle.std.specs.Option.{option_or}
+use Rattle.std.specs.Option.{option_map, option_or}
 use Rattle.std.proofs.lemmas.Bool.Decides.{nat_tests}
-use Rattle.std.proofs.lemmas.List.{map-append}
+use Rattle.std.proofs.lemmas.List.{append-nil, length-take-le, map-append}
 use Rattle.std.proofs.lemmas.List.Elements.{All-from_recursion, recursion_from_All, All-head, All-tail}
-use Rattle.std.proofs.lemmas.List.Sorted.{IsPermutation-map, IsPermutation-trans, IsPermutation-sym, All-permutation, Contains-permutation, sum_by-IsPermutation}
+use Rattle.std.proofs.lemmas.List.Sorted.{IsPermutation-map, IsPermutation-trans, IsPermutation-sym, All-permutation, Contains-permutation}
+use Rattle.std.proofs.lemmas.List.Sorted.{sum_by-IsPermutation}
+use Rattle.osc_core.specs.Answers.{room_of}
 use Rattle.osc_core.specs.Ids.{is_ascending}
 use Rattle.osc_core.specs.Standing.{history_in, CarriesMark, mark_of}
 use Rattle.osc_core.specs.Telling.{told}
-use Rattle.osc_lanes.specs.Performs.{Performs, added_ids, removed_ids}
+use Rattle.osc_lanes.specs.declared.hosting.Hosted.{Hosted}
+use Rattle.osc_lanes.specs.declared.served.Bounds.{Bounds}
+use Rattle.osc_lanes.specs.Hosts.{Hosts}
+use Rattle.osc_lanes.specs.Links.{Turn}
+use Rattle.osc_lanes.specs.Performs.{Performs, IsClosedWith, added_ids, removed_ids, told_of, IsWhole}
 use Rattle.osc_lanes.specs.Shares.{Account, IsRemovedAt, known_of}
+use Rattle.osc_lanes.specs.Ticks.{ClockRead}
 use Rattle.osc_live.specs.Seen.{performance_in}
 use Rattle.osc_model.specs.Events.{Room}
 use Rattle.osc_model.specs.Limits.{Limits}
@@ -19,12 +27,17 @@ use Rattle.osc_model.specs.Heard.{Told}
 use Rattle.osc_model.specs.History.{HasHeard, invoked_in}
 use Rattle.osc_replay.specs.Printed.{printed}
 use Rattle.osc_script.specs.declared.line.Line.{Line}
-use Rattle.osc_top.specs.Lanes.{parts_of, first_stop, lane_faults}
+use Rattle.osc_top.specs.declared.outcome.Outcome.{Outcome}
+use Rattle.osc_top.specs.Lanes.{HaveHeardAll, PlaysLanes, parts_of, first_stop, lane_faults}
+use Rattle.osc_top.specs.Outcomes.{served, stopped}
 use Rattle.osc_top.specs.Plain.{count_adds}
-use Rattle.osc_top.specs.Printing.{stop_text}
+use Rattle.osc_top.specs.Printing.{last_text}
+use Rattle.osc_top.specs.Served.{PlaysLinks, adds_part, link_faults}
 use Rattle.osc_top.specs.Staged.{IsStaged}
 use Rattle.osc_top.specs.Tally.{IsRising}
+use Rattle.osc_turn.specs.declared.view.Entry.{Entry as Seen}
 use Rattle.osc_turn.specs.History.{texts}
+use Rattle.osc_top.proofs.Unstopped.{counted_adds}
 use Rattle.osc_top.proofs.Rising.{all_append, all_weaker, ascending_told, same_rising, times}
 
 -- Ids, ascending.
@@ -109,63 +122,122 @@ module _ {M : Type 0} where
     both_each P Q [] p q = tt
     both_each P Q (x ∷ xs) p q = ((p.0, q.0), both_each P Q xs p.1 q.1)
 
-    -- the lanes of lines, put together
-    module _ (caps : Limits) (lines : List Line) (bank : List M) (recording : List ℕ) (kept : List (ℕ × M)) (accounts : List (Account M))
-        (unenrolled : Option Room)
-        (added : List (ℕ × M)) (performs : Performs keep heard caps (parts_of lines bank) recording kept accounts unenrolled)
-        (moved : IsPermutation (kept ++ all_removed accounts) added) (ordered : IsNonDecreasingBy (λ one. one.0) added) where
-      ids_are : map (λ one. one.0) added ≡ added_ids (history_in (texts performs.history))
+    -- the boxes of a server that was closed, put together
+    module _ (caps : Limits) (history : List Seen) (recording : List ℕ) (kept : List (ℕ × M)) (accounts : List (Account M)) (added : List (ℕ × M))
+        (closed : IsClosedWith keep heard caps history recording kept accounts) (moved : IsPermutation (kept ++ all_removed accounts) added)
+        (ordered : IsNonDecreasingBy (λ one. one.0) added) where
+      ids_are : map (λ one. one.0) added ≡ added_ids (history_in (texts history))
       ids_are =
-          let ids = added_ids (history_in (texts performs.history)) in
+          let ids = added_ids (history_in (texts history)) in
           let parts : map (λ one. one.0) (kept ++ all_removed accounts) ≡ map (λ one. one.0) kept ++ removed_ids accounts =
           map-append (λ (one : ℕ × M). one.0) kept (all_removed accounts)
           ∙ ap (λ (l : List ℕ). map (λ one. one.0) kept ++ l) (ids_removed accounts) in
-          let here : IsPermutation ids (map (λ one. one.0) (kept ++ all_removed accounts)) = subst (IsPermutation ids) (sym parts) performs.ids in
-          same_ids (λ (one : ℕ × M). one.0) ids added performs.ascending
+          let here : IsPermutation ids (map (λ one. one.0) (kept ++ all_removed accounts)) = subst (IsPermutation ids) (sym parts) closed.ids in
+          same_ids (λ (one : ℕ × M). one.0) ids added closed.ascending
           (IsPermutation-trans ids (map (λ one. one.0) (kept ++ all_removed accounts)) (map (λ one. one.0) added) here
           (IsPermutation-map (λ (one : ℕ × M). one.0) (kept ++ all_removed accounts) added moved)) ordered
 
-      pub ascending_ids : is_ascending (map (λ one. one.0) added) ≡ true
-      ascending_ids = subst (λ (l : List ℕ). is_ascending l ≡ true) (sym ids_are) performs.ascending
+      abbrev heard_so : Told → Type 0
+      heard_so box = HasHeard (invoked_in (performance_in caps (texts history))) box
 
-      kept_are : AllByRecursion (IsRemovedAt keep heard caps performs.history) kept
+      abbrev marked_so : Told → Type 0
+      marked_so box = CarriesMark (texts history) box.id (mark_of box)
+
+      kept_are : AllByRecursion (IsRemovedAt keep heard caps history) kept
       kept_are =
-          let heard_so = λ (box : Told). HasHeard (invoked_in (performance_in caps (texts performs.history))) box in
-          let marked_so = λ (box : Told). CarriesMark (texts performs.history) box.id (mark_of box) in
           both_each (λ one. marked_so (known_of keep heard one.0 one.1)) (λ one. heard_so (known_of keep heard one.0 one.1)) kept
-          (told_each marked_so kept performs.kept_marked) (told_each heard_so kept performs.kept_heard.heard)
+          (told_each marked_so kept closed.kept_marked) (told_each heard_so kept closed.kept_heard.heard)
 
-      added_are : AllByRecursion (IsRemovedAt keep heard caps performs.history) added
+      added_are : AllByRecursion (IsRemovedAt keep heard caps history) added
       added_are =
-          let is = IsRemovedAt keep heard caps performs.history in
+          let is = IsRemovedAt keep heard caps history in
           each_moved is (kept ++ all_removed accounts) added moved
-          (all_append is kept (all_removed accounts) kept_are (each_removed is accounts performs.removed))
+          (all_append is kept (all_removed accounts) kept_are (each_removed is accounts closed.removed))
 
-      pub staged : (left rest : List M) (said : List ℕ) (stop : Option Room) → left ≡ flat_map (λ account. account.back) accounts ++ rest
-          → rest ≡ drop (count_adds lines) bank → said ≡ lane_faults accounts → stop ≡ option_or unenrolled (first_stop accounts)
-          → IsStaged keep heard caps lines bank added left recording said stop
-      staged left rest said stop left_so rest_so said_so stop_so =
-          let heard_so = λ (box : Told). HasHeard (invoked_in (performance_in caps (texts performs.history))) box in
-          let marked_so = λ (box : Told). CarriesMark (texts performs.history) box.id (mark_of box) in
+      pub all_heard : HaveHeardAll keep heard caps history added
+      all_heard = record {
+        ids = ids_are;
+        have_heard =
+            all_weaker (IsRemovedAt keep heard caps history) (λ one. heard_so (known_of keep heard one.0 one.1)) added (λ one is. is.1) added_are;
+        marked =
+            each_told marked_so added
+            (all_weaker (IsRemovedAt keep heard caps history) (λ one. marked_so (known_of keep heard one.0 one.1)) added (λ one is. is.0) added_are);
+      }
+
+    -- the boxes that were added stand by their ids
+    ascending_ids : (caps : Limits) (history : List Seen) (recording : List ℕ) (kept added : List (ℕ × M)) (accounts : List (Account M))
+        → IsClosedWith keep heard caps history recording kept accounts → HaveHeardAll keep heard caps history added
+        → is_ascending (map (λ one. one.0) added) ≡ true
+    ascending_ids caps history recording kept added accounts closed boxes = subst (λ (l : List ℕ). is_ascending l ≡ true) (sym boxes.ids) closed.ascending
+
+    pub lanes_ascending : (caps : Limits) (bank : List M) (added : List (ℕ × M)) (left : List M) (lines : List Line) (recording text : List ℕ)
+        (outcome : Outcome) → PlaysLanes keep heard caps bank added left lines recording text outcome → is_ascending (map (λ one. one.0) added) ≡ true
+    lanes_ascending caps bank added left lines recording text outcome plays =
+        ascending_ids caps plays.performs.history recording plays.kept added plays.accounts plays.performs.closed plays.boxes
+
+    -- lanes were played
+    pub lanes_staged : (caps : Limits) (lines : List Line) (bank : List M) (recording : List ℕ) (kept : List (ℕ × M)) (accounts : List (Account M))
+        (unenrolled : Option Room) (added : List (ℕ × M)) → Performs keep heard caps (parts_of lines bank) recording kept accounts unenrolled
+        → IsPermutation (kept ++ all_removed accounts) added → IsNonDecreasingBy (λ one. one.0) added → (left rest : List M) (said : List ℕ)
+        (outcome : Outcome) → left ≡ flat_map (λ account. account.back) accounts ++ rest → rest ≡ drop (count_adds lines) bank
+        → said ≡ lane_faults accounts → outcome ≡ stopped (option_or unenrolled (first_stop accounts))
+        → IsStaged (PlaysLanes keep heard caps bank added left lines) caps recording said outcome
+    lanes_staged caps lines bank recording kept accounts unenrolled added performs moved ordered left rest said outcome left_so rest_so said_so outcome_so =
+        record {
+          history = history_in (texts performs.history);
+          recording_of = record { legal = performs.stage.legal; text = performs.closed.recorded };
+          played = record {
+            kept = kept;
+            accounts = accounts;
+            unenrolled = unenrolled;
+            performs = performs;
+            boxes = all_heard caps performs.history recording kept accounts added performs.closed moved ordered;
+            left_is = left_so ∙ ap (λ (l : List M). flat_map (λ account. account.back) accounts ++ l) rest_so;
+            outcome_is = outcome_so;
+            text_is = ap (λ (l : List ℕ). printed caps (history_in (texts performs.history)) ++ (l ++ last_text outcome)) said_so;
+          };
+        }
+
+    -- links were served
+    module _ {L : Type 0} (turns : L → Option (List Turn)) (faults : L → ℕ) where
+      pub links_ascending : (caps : Limits) (bounds : Bounds) (bank : List M) (links : List L) (clock : ClockRead) (added : List (ℕ × M)) (rest : List M)
+          (links_after : List L) (lines : List Line) (recording text : List ℕ) (outcome : Outcome)
+          → PlaysLinks keep heard turns faults caps bounds bank links clock added rest links_after lines recording text outcome
+          → is_ascending (map (λ one. one.0) added) ≡ true
+      links_ascending caps bounds bank links clock added rest links_after lines recording text outcome plays =
+          ascending_ids caps plays.hosts.history plays.hosted.bytes.items plays.hosted.kept.items added (told_of plays.hosted.opening ∷ [])
+          plays.hosts.closed plays.boxes
+
+      pub links_staged : (caps : Limits) (bounds : Bounds) (lines : List Line) (bank : List M) (links : List L) (clock : ClockRead) (hosted : Hosted M L)
+          (added : List (ℕ × M)) → Hosts turns faults keep heard caps bounds (adds_part lines bank) links clock hosted
+          → IsPermutation (hosted.kept.items ++ hosted.opening.removed.items) added → IsNonDecreasingBy (λ one. one.0) added → (left rest : List M)
+          (links_after : List L) (recording said : List ℕ) (outcome : Outcome) → recording ≡ hosted.bytes.items → left ≡ hosted.opening.back.items ++ rest
+          → rest ≡ drop (count_adds lines) bank → links_after ≡ hosted.links.links.items → said ≡ link_faults hosted.links.faults.items
+          → outcome ≡ served hosted.links.failed hosted.links.clock_failed
+          (option_map room_of (option_or hosted.opening.stop (option_or hosted.unenrolled hosted.links.stop)))
+          → IsStaged (PlaysLinks keep heard turns faults caps bounds bank links clock added left links_after lines) caps recording said outcome
+      links_staged caps bounds lines bank links clock hosted added hosts moved ordered left rest links_after recording said outcome bytes_so left_so rest_so
+          links_so said_so outcome_so =
+          let accounts = told_of hosted.opening ∷ [] in
+          let here : IsPermutation (hosted.kept.items ++ all_removed accounts) added =
+          subst (λ (l : List (ℕ × M)). IsPermutation (hosted.kept.items ++ l) added) (sym (append-nil hosted.opening.removed.items)) moved in
           record {
-            history = history_in (texts performs.history);
-            recording_of = record { legal = performs.stage.legal; text = performs.recorded };
-            plays = record {
-              kept = kept;
-              accounts = accounts;
-              unenrolled = unenrolled;
-              performs = performs;
-              ids = ids_are;
-              have_heard =
-                  all_weaker (IsRemovedAt keep heard caps performs.history) (λ one. heard_so (known_of keep heard one.0 one.1)) added
-                  (λ one is. is.1) added_are;
-              marked =
-                  each_told marked_so added
-                  (all_weaker (IsRemovedAt keep heard caps performs.history) (λ one. marked_so (known_of keep heard one.0 one.1)) added
-                  (λ one is. is.0) added_are);
-              left_is = left_so ∙ ap (λ (l : List M). flat_map (λ account. account.back) accounts ++ l) rest_so;
-              stop_is = stop_so;
-              text_is =
-                  ap (λ (l : List ℕ). printed caps (history_in (texts performs.history)) ++ (l ++ stop_text stop)) said_so;
+            history = history_in (texts hosts.history);
+            recording_of = record { legal = hosts.stage.legal; text = bytes_so ∙ hosts.closed.recorded };
+            played = record {
+              hosted = hosted;
+              hosts = hosts;
+              recorded = bytes_so;
+              boxes = all_heard caps hosts.history hosted.bytes.items hosted.kept.items accounts added hosts.closed here ordered;
+              links_are = links_so;
+              rest_is = left_so ∙ ap (λ (l : List M). hosted.opening.back.items ++ l) rest_so;
+              outcome_is = outcome_so;
+              text_is = ap (λ (l : List ℕ). printed caps (history_in (texts hosts.history)) ++ (l ++ last_text outcome)) said_so;
             };
           }
+
+-- the front of a bank has a box for each add
+pub adds_whole : {M : Type 0} (lines : List Line) (bank boxes : List M) → count_adds lines ≤ length bank → boxes ≡ take (count_adds lines) bank
+    → IsWhole (record { lines = lines; boxes = boxes })
+adds_whole {M} lines bank boxes enough are =
+    omega (arith, counted_adds lines, ap (λ (l : List M). length l) are, length-take-le (count_adds lines) bank enough)

@@ -5,14 +5,16 @@ use Rattle.std.specs.List.Sorted.{IsPermutation}
 use Rattle.std.proofs.lemmas.List.{append-nil, map-append}
 use Rattle.std.proofs.lemmas.List.Sums.{sum_by-append}
 use Rattle.std.proofs.lemmas.List.Elements.{All-from_recursion, recursion_from_All}
-use Rattle.std.proofs.lemmas.List.Sorted.{IsPermutation-sym, IsPermutation-trans, IsPermutation-map, IsPermutation-append_left, IsPermutation-to_front, IsPermutation-middle, All-permutation, sum_by-IsPermutation}
+use Rattle.std.proofs.lemmas.List.Sorted.{IsPermutation-sym, IsPermutation-trans, IsPermutation-map, IsPermutation-append_left, IsPermutation-to_front}
+use Rattle.std.proofs.lemmas.List.Sorted.{IsPermutation-middle, All-permutation, sum_by-IsPermutation}
 use Rattle.osc_model.specs.Events.{Answer, added, Invocation}
 use Rattle.osc_model.specs.Heard.{Told, reset, hear_all}
 use Rattle.osc_model.specs.Heard.{all_hear, without_id}
 use Rattle.osc_top.specs.Bank.{Meaning, box_left, box_heard, boxes_heard}
 use Rattle.osc_top.specs.Tally.{IsRising, refused_boxes, Tally}
 use Rattle.osc_top.proofs.Rising.{all_weaker, all_append, all_front, count, times, once, id_counted, id_below, one_moved, rising_push}
-use Rattle.osc_top.proofs.Hearing.{HearsCalls, told_at, heard_push, refused_push, waiting_push, drop_map, fresh_box, heard_more, below_map, rising_map, none_hear}
+use Rattle.osc_top.proofs.Hearing.{HearsCalls, told_at, heard_push, refused_push, waiting_push, drop_map, fresh_box, heard_more, below_map, rising_map}
+use Rattle.osc_top.proofs.Hearing.{none_hear}
 
 module _ {X : Type 0} (meaning : X → Meaning) where
   -- the next answer is given the first box that waits

@@ -1,20 +1,28 @@
 -- One more call of a sink or a source.
-use Rattle.std.proofs.Common.{◌≡◌, ℕ, ◌+◌, ◌<◌, ◌≤◌, List, [], ◌++◌, length, take, drop, Option, Some, None, IfSome, refl, sym, ap, subst, ◌∙◌, arith, append_assoc, length-append, length-drop}
+use Rattle.std.proofs.Common.{◌≡◌, ℕ, ◌+◌, ◌<◌, ◌≤◌, List, [], ◌++◌, length, take, drop, Option, Some, None, IfSome, refl, sym, ap, subst, ◌∙◌, arith}
+use Rattle.std.proofs.Common.{append_assoc, length-append, length-drop}
 use Rattle.std.proofs.Math.Seq.{take-add}
 use Rattle.std.proofs.lemmas.List.{append-nil, drop-drop, drop_all, length-take-le}
 use Rattle.osc_edge.specs.declared.sink.Put.TheVariants.{Took, Failed}
 use Rattle.osc_edge.specs.declared.source.Taken.TheVariants.{Bytes}
 use Rattle.osc_edge.specs.Sink.{AddsToEnd}
 use Rattle.osc_edge.specs.Source.{TakesFront}
-use Rattle.osc_top.specs.Ends.{Gains, GainsFront, left_behind}
+use Rattle.osc_top.specs.Ends.{left_behind}
 use Rattle.osc_top.specs.Whole.{ReadSoFar}
 
-pub gains_none : (held : Option (List ℕ)) → Gains held held []
+-- what a sink holds has gained this text, or some front of it
+abbrev Gained : Option (List ℕ) → Option (List ℕ) → List ℕ → Type 0
+Gained held after text = IfSome held (λ before. after ≡ Some (before ++ text))
+
+abbrev Front : Option (List ℕ) → Option (List ℕ) → List ℕ → Type 0
+Front held after text = IfSome held (λ before. (count : ℕ) × (after ≡ Some (before ++ take count text)))
+
+pub gains_none : (held : Option (List ℕ)) → Gained held held []
 gains_none None = tt
 gains_none (Some before) = ap Some (sym (append-nil before))
 
-pub gains_more : (held mid after : Option (List ℕ)) (bytes : List ℕ) (at count : ℕ) → Gains held mid (take at bytes)
-    → AddsToEnd mid after (Took count) (drop at bytes) → Gains held after (take (at + count) bytes)
+pub gains_more : (held mid after : Option (List ℕ)) (bytes : List ℕ) (at count : ℕ) → Gained held mid (take at bytes)
+    → AddsToEnd mid after (Took count) (drop at bytes) → Gained held after (take (at + count) bytes)
 gains_more None mid after bytes at count so adds = tt
 gains_more (Some before) mid after bytes at count so adds =
     let added : AddsToEnd (Some (before ++ take at bytes)) after (Took count) (drop at bytes) =
@@ -22,8 +30,8 @@ gains_more (Some before) mid after bytes at count so adds =
     added ∙ ap Some (append_assoc before (take at bytes) (take count (drop at bytes)) ∙ ap (λ l. before ++ l) (sym (take-add at count bytes)))
 
 -- a call that takes nothing leaves a front
-pub front_same : (held mid after : Option (List ℕ)) (bytes : List ℕ) (at : ℕ) → Gains held mid (take at bytes) → AddsToEnd mid after Failed (drop at bytes)
-    → GainsFront held after bytes
+pub front_same : (held mid after : Option (List ℕ)) (bytes : List ℕ) (at : ℕ) → Gained held mid (take at bytes) → AddsToEnd mid after Failed (drop at bytes)
+    → Front held after bytes
 front_same None mid after bytes at so adds = tt
 front_same (Some before) mid after bytes at so adds =
     let same : AddsToEnd (Some (before ++ take at bytes)) after Failed (drop at bytes) = subst (λ m. AddsToEnd m after Failed (drop at bytes)) so adds in

@@ -1,5 +1,6 @@
 -- A recording of as many bytes as `enough_lanes` says stops no lane of a script.
-use Rattle.std.proofs.Common.{◌≡◌, ℕ, zero, suc, ◌+◌, ◌*◌, ◌<◌, ◌≤◌, ◌==◌, true, false, List, [], ◌∷◌, length, All, Option, None, sum_by, refl, sym, ap, subst, ◌∙◌, arith}
+use Rattle.std.proofs.Common.{◌≡◌, ℕ, zero, suc, ◌+◌, ◌*◌, ◌<◌, ◌≤◌, ◌==◌, true, false, List, [], ◌∷◌, length, All, Option, None, sum_by, refl, sym, ap, subst}
+use Rattle.std.proofs.Common.{◌∙◌, arith}
 use Rattle.std.specs.Option.{option_or}
 use Rattle.std.proofs.lemmas.Bool.Decides.{nat_tests}
 use Rattle.std.proofs.lemmas.List.Elements.{All-head, All-tail}
@@ -11,8 +12,11 @@ use Rattle.osc_lanes.specs.Enough.{act_size, act_units, act_messages, all_lines,
 use Rattle.osc_lanes.specs.Performs.{Part, Performs}
 use Rattle.osc_lanes.specs.Shares.{Account}
 use Rattle.osc_lanes.specs.Shares as shares
+use Rattle.osc_top.specs.declared.outcome.Outcome.{Outcome}
+use Rattle.osc_top.specs.declared.outcome.Outcome.TheVariants.{Done}
 use Rattle.osc_top.specs.Enough.{enough_lanes}
 use Rattle.osc_top.specs.Lanes.{lane_count, lines_in, parts_from, parts_of, first_stop, PlaysLanes}
+use Rattle.osc_top.specs.Outcomes.{stopped}
 use Rattle.osc_top.specs.Plain.{count_adds}
 use Rattle.osc_top.proofs.Dealt.{lines_here, lines_other, parts_length, same_adds}
 use Rattle.osc_top.proofs.Runs.{count_cons}
@@ -85,7 +89,7 @@ summed_adds [] = refl
 summed_adds (line ∷ lines) =
     ap (λ (n : ℕ). shares.adds_of line.act + n) (summed_adds lines) ∙ sym (sum_by-cons (λ (line : Line). shares.adds_of line.act) line lines)
 
-counted_adds : (lines : List Line) → count_adds lines ≡ shares.count_adds lines
+pub counted_adds : (lines : List Line) → count_adds lines ≡ shares.count_adds lines
 counted_adds [] = refl
 counted_adds (line ∷ lines) = omega (arith, count_cons line lines, same_adds line.act, counted_adds lines)
 
@@ -115,9 +119,10 @@ module _ {M : Type 0} where
       → ((caps : Limits) (parts : List (Part M)) (recording : List ℕ) (kept : List (ℕ × M)) (accounts : List (Account M)) (unenrolled : Option Room)
       → Performs keep heard caps parts recording kept accounts unenrolled → enough_for parts ≤ caps.recording
       → (unenrolled ≡ None) × All (λ account. account.stop ≡ None) accounts)
-      → (caps : Limits) (lines : List Line) (bank : List M) (added : List (ℕ × M)) (left : List M) (recording text : List ℕ) (stop : Option Room)
-      → PlaysLanes keep heard caps lines bank added left recording text stop → enough_lanes lines ≤ caps.recording → stop ≡ None
-  none_stopped keep heard never caps lines bank added left recording text stop plays enough =
+      → (caps : Limits) (lines : List Line) (bank : List M) (added : List (ℕ × M)) (left : List M) (recording text : List ℕ) (outcome : Outcome)
+      → PlaysLanes keep heard caps bank added left lines recording text outcome → enough_lanes lines ≤ caps.recording → outcome ≡ Done
+  none_stopped keep heard never caps lines bank added left recording text outcome plays enough =
       let none = never caps (parts_of lines bank) recording plays.kept plays.accounts plays.unenrolled plays.performs
       (subst (λ (n : ℕ). n ≤ caps.recording) (sym (enough_parts lines bank)) enough) in
-      plays.stop_is ∙ ap (λ (first : Option Room). option_or first (first_stop plays.accounts)) none.0 ∙ none_first plays.accounts none.1
+      plays.outcome_is
+      ∙ ap stopped (ap (λ (first : Option Room). option_or first (first_stop plays.accounts)) none.0 ∙ none_first plays.accounts none.1)

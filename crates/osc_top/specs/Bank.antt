@@ -1,12 +1,14 @@
 -- What becomes of the boxes that a program is handed: which were added and what they heard, and
 -- which are left.
-use Rattle.std.specs.Prelude.{◌≡◌, ℕ, ◌≤◌, List, [], ◌∷◌, ◌++◌, length, Option}
+use Rattle.std.specs.Prelude.{◌≡◌, ℕ, ◌≤◌, List, [], ◌∷◌, ◌++◌, map, length, Option}
 use Rattle.std.specs.Option.{option_map}
 use Rattle.osc_model.specs.Limits.{Limits}
 use Rattle.osc_model.specs.State.{opening}
 use Rattle.osc_model.specs.Events.{Event, add, Answer, added, Entry, Invocation}
 use Rattle.osc_model.specs.Heard.{Told, heard_of}
 use Rattle.osc_model.specs.History.{Legal, invocations}
+use Rattle.osc_core.specs.Telling.{told}
+use Rattle.osc_laws.specs.Laws.{KeepsTheLaws}
 use Rattle.osc_script.specs.declared.line.Line.{Line}
 use Rattle.osc_top.specs.Plain.{plain, count_adds}
 
@@ -14,6 +16,10 @@ use Rattle.osc_top.specs.Plain.{plain, count_adds}
 pub record Meaning : Type 0 where
   pub keep : ℕ
   pub heard : Option (List ℕ)
+
+-- what a box keeps and tells
+abbrev pub meaning : {M : Type 0} → (M → ℕ) → (M → Option (List ℕ)) → M → Meaning
+meaning keep heard box = record { keep = keep box; heard = heard box }
 
 abbrev pub answer_to_add : Event → Answer → List Answer
 answer_to_add (add address) answer = answer ∷ []
@@ -59,12 +65,14 @@ abbrev pub heard_after : Limits → List Entry → List Meaning → List Told
 heard_after caps history bank =
     boxes_heard (invocations (opening caps) history) (add_answers history) bank
 
--- What came of a bank: there was a box for each add of the lines, and their history is a legal one;
--- the boxes that were
--- added have heard what it says; and the others are left, as they were.
-pub record IsAccounted {X : Type 0} (caps : Limits) (lines : List Line) (heard : List Told)
-    (left : List X) (meanings : List Meaning) (bank : List X) : Type 0 where
+-- What came of a bank: there was a box for each add of the lines; their history is a legal one, and
+-- keeps the four laws; the boxes that were added have heard what it says; and the others are left,
+-- as they were.
+pub record IsAccounted {M : Type 0} (keep : M → ℕ) (heard : M → Option (List ℕ)) (caps : Limits)
+    (lines : List Line) (bank : List M) (added : List (ℕ × M)) (left : List M) : Type 0 where
   pub enough : count_adds lines ≤ length bank
   pub legal : Legal caps (plain caps lines).history
-  pub boxes : heard ≡ heard_after caps (plain caps lines).history meanings
+  pub laws : KeepsTheLaws caps (plain caps lines).history
+  pub boxes : told keep heard added
+      ≡ heard_after caps (plain caps lines).history (map (meaning keep heard) bank)
   pub others : left ≡ boxes_left (add_answers (plain caps lines).history) bank

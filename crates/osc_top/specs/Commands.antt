@@ -1,7 +1,10 @@
 -- What the words of the command line say to each top call.
 use Rattle.osc_model.specs.Limits.{max_recording}
+use Rattle.osc_script.specs.declared.mode.Mode.{Mode}
+use Rattle.osc_script.specs.declared.mode.Mode.TheVariants.{Lanes, Serve}
 use Rattle.osc_script.specs.declared.script.TheConstants.{MAX_SCRIPT}
-use Rattle.std.specs.Prelude.{ℕ, ◌+◌, ◌||◌, List, [], ◌∷◌, map, if◌then◌else◌, Option, Some, None, option_and_then, codes}
+use Rattle.std.specs.Prelude.{ℕ, ◌+◌, ◌||◌, List, [], ◌∷◌, map, if◌then◌else◌, Option, Some, None}
+use Rattle.std.specs.Prelude.{codes}
 use Rattle.std.specs.List.{range_with_len}
 use Rattle.std.specs.Option.{option_map_or}
 use Rattle.std.specs.Str.{bytes_eq}
@@ -24,14 +27,15 @@ most_bytes (Run output caps) = MAX_SCRIPT
 most_bytes Replay = max_recording
 most_bytes Dump = max_recording
 
--- the commands that `live_top` does, by the capacities of its server
-abbrev pub live_done : LiveCommand → Option Capacities
-live_done (live.Lanes caps) = Some caps
-live_done (live.Serve port links count idle caps) = None
+-- the mode of the script that a command of many threads reads
+abbrev pub mode_of : LiveCommand → Mode
+mode_of (live.Lanes caps) = Lanes
+mode_of (live.Serve port links count idle caps) = Serve
 
--- the capacities of the server whose lanes the words say to play; none where they say no lanes
-abbrev pub lanes_of : List (List ℕ) → Option Capacities
-lanes_of words = option_and_then live_done (said.live_command_of words)
+-- the capacities of the server on which a command of many threads plays
+abbrev pub capacities_of : LiveCommand → Capacities
+capacities_of (live.Lanes caps) = caps
+capacities_of (live.Serve port links count idle caps) = caps
 
 -- the ports of a `serve`, one for each link, ascending by one
 abbrev pub ports_in : LiveCommand → List ℕ

@@ -4,7 +4,13 @@ pub mod Printing
 pub mod Bank
 pub mod Commands
 pub mod Ends
+pub mod EndsCommand
+pub mod EndsPlain
 pub mod Lanes
+pub mod Live
+pub mod Outcomes
+pub mod Served
+pub mod Sinks
 pub mod Enough
 -- Inside the crate.
 pub mod Tally

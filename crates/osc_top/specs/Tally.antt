@@ -1,5 +1,6 @@
 -- Inside the crate: what a server that plays a script has come to, some entries on.
-use Rattle.std.specs.Prelude.{◌≡◌, ℕ, ◌<◌, if◌then◌else◌, List, [], ◌∷◌, ◌++◌, length, map, drop, Option, Some, None}
+use Rattle.std.specs.Prelude.{◌≡◌, ℕ, ◌<◌, if◌then◌else◌, List, [], ◌∷◌, ◌++◌, length, map, drop}
+use Rattle.std.specs.Prelude.{Option, Some, None}
 use Rattle.std.specs.List.{AllByRecursion}
 use Rattle.std.specs.List.Sorted.{IsPermutation}
 use Rattle.osc_atoms.specs.declared.room.Room.{Room}
@@ -45,10 +46,8 @@ IsRising [] = Unit {0}
 IsRising (box ∷ boxes) = AllByRecursion (λ other. box.id < other.id) boxes × IsRising boxes
 
 -- After calls, and answers to adds that were given a bank: the boxes that were refused, and those
--- that no add has taken;
--- and the boxes that the server has and those that were removed, which have heard the calls. Ids
--- rise, and each that was
--- given or called is below the next one.
+-- that no add has taken; and the boxes that the server has and those that were removed, which have
+-- heard the calls. Ids rise, and each that was given or called is below the next one.
 pub record Tally {X : Type 0} (meaning : X → Meaning) (calls : List Invocation)
     (answers : List Answer) (bank : List X) (next : ℕ) (boxes removed : List Told)
     (left rest : List X) : Type 0 where

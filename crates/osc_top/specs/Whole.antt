@@ -1,13 +1,16 @@
 -- Inside the crate: what reading a source to its end and writing bytes to a sink come to.
-use Rattle.std.specs.Prelude.{◌≡◌, ℕ, ◌+◌, ◌<◌, ◌≤◌, List, [], length, take, drop, Option, Some, IfSome}
+use Rattle.std.specs.Prelude.{◌≡◌, ℕ, ◌+◌, ◌<◌, ◌≤◌, List, [], length, take, drop, Option, Some}
+use Rattle.std.specs.Prelude.{IfSome}
 use Rattle.osc_edge.specs.Faults.{Rose}
 use Rattle.osc_top.specs.declared.whole.Input.{Input}
 use Rattle.osc_top.specs.declared.whole.Input.TheVariants.{Whole, TooLong, Failed, NoMemory}
 use Rattle.osc_top.specs.declared.whole.Written.{Written}
 use Rattle.osc_top.specs.declared.whole.Written.TheVariants.{Wrote, Refused, Short}
 use Rattle.osc_top.specs.declared.whole.Piece.{Piece}
-use Rattle.osc_top.specs.declared.whole.Piece.TheVariants.{More, End, Failed as PieceFailed, NoMemory as PieceNoMemory}
-use Rattle.osc_top.specs.Ends.{Gains, GainsFront, left_behind}
+use Rattle.osc_top.specs.declared.whole.Piece.TheVariants.{More, End, Failed as PieceFailed}
+use Rattle.osc_top.specs.declared.whole.Piece.TheVariants.{NoMemory as PieceNoMemory}
+use Rattle.osc_top.specs.Ends.{left_behind}
+use Rattle.osc_top.specs.Sinks.{SinkChange, GainsAll, GainsPart}
 
 -- What was read, if what was left is told: all of it, or up to the first byte past the limit, where
 -- more was left.
@@ -41,7 +44,8 @@ HasReadPiece End most left after faults later old new =
 HasReadPiece PieceFailed most left after faults later old new = Rose faults later
 HasReadPiece PieceNoMemory most left after faults later old new = Unit {0}
 
-abbrev pub HasWritten : Written → Option (List ℕ) → Option (List ℕ) → ℕ → ℕ → List ℕ → Type 0
-HasWritten Wrote held after faults later bytes = Gains held after bytes × (later ≡ faults)
-HasWritten Refused held after faults later bytes = GainsFront held after bytes × Rose faults later
-HasWritten Short held after faults later bytes = Unit {0}
+-- what writing bytes to a sink came to
+abbrev pub HasWritten : Written → SinkChange → List ℕ → Type 0
+HasWritten Wrote out bytes = GainsAll out bytes
+HasWritten Refused out bytes = GainsPart out bytes
+HasWritten Short out bytes = Unit {0}

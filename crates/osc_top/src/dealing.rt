@@ -1,5 +1,19 @@
 // Deals a script's lines and a bank to lanes.
-ghost use Rattle.std.specs.Prelude.{◌≡◌, ◌++◌, ◌∷◌, [], ◌<◌, ◌≤◌, length, map, take, drop, replicate, IfOk, OnOk};
+ghost use Rattle.std.specs.Prelude.{
+  ◌≡◌,
+  ◌++◌,
+  ◌∷◌,
+  [],
+  ◌<◌,
+  ◌≤◌,
+  length,
+  map,
+  take,
+  drop,
+  replicate,
+  IfOk,
+  OnOk,
+};
 ghost use Rattle.std.specs.Vec.Iter.{into_iter_items};
 ghost use Rattle.osc_lanes.specs.Performs.{part_of};
 ghost use Rattle.osc_top.specs.Plain.{count_adds};

@@ -1,14 +1,31 @@
 //! What the definitions say of examples, of a recording with room enough, and of a pump.
-ghost use Rattle.std.specs.Prelude.{◌≡◌, ◌≤◌, ◌+◌, ◌*◌, ◌∷◌, [], ℕ, false, List, IsOkAnd, Option, None, codes, map};
+ghost use Rattle.std.specs.Prelude.{
+  ◌≡◌,
+  ◌≤◌,
+  ◌+◌,
+  ◌*◌,
+  ◌∷◌,
+  ◌++◌,
+  [],
+  ℕ,
+  false,
+  List,
+  IsOkAnd,
+  None,
+  codes,
+  map,
+};
 ghost use Rattle.osc_model.specs.Limits.{Limits};
 ghost use Rattle.osc_model.specs.State.{State};
-ghost use Rattle.osc_model.specs.Events.{Room, release};
+ghost use Rattle.osc_model.specs.Events.{release};
 ghost use Rattle.osc_model.specs.Step.{step};
 ghost use Rattle.osc_model.specs.History.{after};
 ghost use Rattle.osc_words.specs.Ranges.{default_capacities};
 ghost use Rattle.osc_script.specs.declared.line.Line.{Line};
 ghost use Rattle.osc_script.specs.declared.mode.Mode.TheVariants.{Plain, Lanes};
 ghost use Rattle.osc_script.specs.Scripts.{script_of};
+ghost use Rattle.osc_top.specs.declared.outcome.Outcome.{Outcome};
+ghost use Rattle.osc_top.specs.declared.outcome.Outcome.TheVariants.{Done};
 ghost use Rattle.osc_top.specs.Plain.{is_released, pump, plain, plain_limits};
 ghost use Rattle.osc_top.specs.Enough.{enough, enough_lanes};
 ghost use Rattle.osc_top.specs.Lanes.{parts_of, PlaysLanes};
@@ -22,7 +39,8 @@ pub fn first_light()
         (script_of Plain
         (codes "add /light/dim\nsend 2f6c696768742f64696d0000 2c690000 00000007\npump\n"))
         (λ lines. run_text (plain_limits default_capacities) lines
-        ≡ codes "add 0 /light/dim id 0\nsubmit 0 queued 0 1\nrelease 0 0 1\ncall 0 0 0 /light/dim ,i i:7\n") }
+        ≡ codes "add 0 /light/dim id 0\nsubmit 0 queued 0 1\nrelease 0 0 1\n"
+        ++ codes "call 0 0 0 /light/dim ,i i:7\n") }
 {}
 
 /// A clock that stands at 1 isn't set back.
@@ -56,9 +74,9 @@ pub fn enough_room_never_stops()
 /// A recording of as many bytes as `enough_lanes` says stops no lane of a script.
 pub fn enough_room_stops_no_lane<M: Method>()
     ensures { (caps : Limits) (lines : List Line) (bank : List M) (added : List (ℕ × M))
-        (left : List M) (recording : List ℕ) (text : List ℕ) (stop : Option Room)
-        → PlaysLanes M.keep M.heard caps lines bank added left recording text stop
-        → enough_lanes lines ≤ caps.recording → stop ≡ None }
+        (left : List M) (recording : List ℕ) (text : List ℕ) (outcome : Outcome)
+        → PlaysLanes M.keep M.heard caps bank added left lines recording text outcome
+        → enough_lanes lines ≤ caps.recording → outcome ≡ Done }
 {
     osc_lanes::laws::enough_room_never_stops::<M>();
 }

@@ -3,7 +3,6 @@
 
 mod boxes;
 mod caps;
-mod command;
 mod counting;
 mod dealing;
 mod generating;
@@ -13,10 +12,12 @@ mod link_ports;
 mod live;
 mod live_writing;
 mod name;
+mod outcome;
 mod player;
 mod playing;
 mod recorded;
 mod report;
+mod serving;
 mod staging;
 mod status;
 mod top;

@@ -2,10 +2,16 @@
 ghost use Rattle.std.specs.Prelude.{◌≡◌, ◌++◌, OnOk};
 ghost use Rattle.osc_print.specs.Lines.{line};
 ghost use Rattle.osc_print.specs.Entries.{named, named_room};
-ghost use Rattle.osc_record.specs.Shown.{room_of};
-ghost use Rattle.osc_top.specs.Printing.{refusal_text, malformed_text, named_bytes, disagrees_text, full_text, bank_short_text};
+ghost use Rattle.osc_top.specs.Printing.{
+  refusal_text,
+  malformed_text,
+  named_bytes,
+  disagrees_text,
+  bank_short_text,
+  last_text,
+};
 
-use osc_atoms::Room;
+use crate::outcome::Outcome;
 use osc_print::Text;
 use osc_script::ScriptFault;
 use std::alloc::{AllocError, Global};
@@ -44,11 +50,16 @@ pub(crate) fn disagrees_lines(
     bytes_line(alloc, text, b"computed", computed)
 }
 
-/// Adds the line of an entry for which the recording has no room.
-pub(crate) fn full_line(text: &mut Text, room: Room) -> Result<(), AllocError>
-    ensures { OnOk result (text.new ≡ text.old ++ full_text (room_of room)) }
+/// Adds the last line of what was played, where there is one.
+pub(crate) fn outcome_line(text: &mut Text, outcome: Outcome) -> Result<(), AllocError>
+    ensures { OnOk result (text.new ≡ text.old ++ last_text outcome) }
 {
-    pair_line(text, b"recording-full", room.need, room.free)
+    match outcome {
+        Outcome::Done => Ok(()),
+        Outcome::Full { need, free } => pair_line(text, b"recording-full", need, free),
+        Outcome::LinkFailed(link) => number_line(text, b"link-fault", link),
+        Outcome::ClockFailed => word_line(text, b"clock-fault"),
+    }
 }
 
 /// Adds the line of a script that adds more methods than there are boxes.
@@ -56,6 +67,14 @@ pub(crate) fn bank_short_line(text: &mut Text, need: usize, have: usize) -> Resu
     ensures { OnOk result (text.new ≡ text.old ++ bank_short_text need have) }
 {
     pair_line(text, b"bank-short", need as u64, have as u64)
+}
+
+/// Adds a line of a word.
+fn word_line(text: &mut Text, word: &[u8]) -> Result<(), AllocError>
+    ensures { OnOk result (text.new ≡ text.old ++ line word.now) }
+{
+    text.word(word)?;
+    text.end_line()
 }
 
 /// Adds a line of a word and a number.

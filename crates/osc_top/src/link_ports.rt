@@ -1,5 +1,5 @@
 //! The ports of the links that the words tell to serve.
-ghost use Rattle.std.specs.Prelude.{◌≡◌, ◌+◌, ◌≤◌, IfOk, map, string_bytes};
+ghost use Rattle.std.specs.Prelude.{◌≡◌, ◌+◌, ◌≤◌, IfOk, length, map, string_bytes};
 ghost use Rattle.std.specs.List.{range_with_len};
 ghost use Rattle.osc_top.specs.Commands.{ports_of};
 
@@ -9,7 +9,8 @@ use std::alloc::{AllocError, Global};
 /// The ports of the links that `serve` is told to serve, one for each link, ascending by one from the first; none where
 /// the words are refused or say another command. An `Err` is want of memory.
 pub fn ports(alloc: Global, words: &[String]) -> Result<Vec<u16>, AllocError>
-    ensures { IfOk result (λ ports. ports.items ≡ ports_of (map string_bytes words.now)) }
+    ensures said { IfOk result (λ ports. ports.items ≡ ports_of (map string_bytes words.now)) }
+    ensures few { IfOk result (λ ports. length ports.items ≤ 16) }
 {
     match live_command_of(alloc, words)? {
         Some(LiveCommand::Serve { port, links, .. }) => ports_from(alloc, port, links),

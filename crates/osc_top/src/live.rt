@@ -1,154 +1,212 @@
 //! The top call of many threads.
-ghost use Rattle.osc_top.specs.declared.caps.TheConstants.{LIVE_CALLERS};
-ghost use Rattle.osc_top.specs.declared.status.TheConstants.{BANK_SHORT, DONE, NO_MEMORY, RECORDING_FULL, REFUSED, SINK_FAILED, SOURCE_FAILED, USAGE};
-ghost use Rattle.std.specs.Prelude.{◌≡◌, ◌≢◌, ◌⊎◌, ◌≤◌, ◌<◌, ℕ, IsTrue, IsOkAnd, IsErrAnd, IfSome, Some, None, Ok, List, [], length, map, string_bytes};
+ghost use Rattle.osc_top.specs.declared.status.TheConstants.{
+  BANK_SHORT,
+  DONE,
+  NO_MEMORY,
+  REFUSED,
+  SINK_FAILED,
+  SOURCE_FAILED,
+  USAGE,
+};
+ghost use Rattle.std.specs.Prelude.{
+  ◌≡◌,
+  ◌≢◌,
+  ◌⊎◌,
+  ◌≤◌,
+  ◌<◌,
+  ℕ,
+  IsTrue,
+  IsOkAnd,
+  IsErrAnd,
+  IfSome,
+  Some,
+  None,
+  Ok,
+  List,
+  [],
+  length,
+  map,
+  string_bytes,
+};
 ghost use Rattle.osc_edge.specs.Faults.{Rose};
 ghost use Rattle.osc_core.specs.Ids.{is_ascending};
+ghost use Rattle.osc_lanes.specs.Ticks.{clock_read};
+ghost use Rattle.osc_model.specs.Limits.{Limits};
+ghost use Rattle.osc_model.specs.Events.{Entry};
+ghost use Rattle.osc_replay.specs.Disagreeing.{IsRecordingOf};
 ghost use Rattle.osc_script.specs.declared.script.TheConstants.{MAX_SCRIPT};
 ghost use Rattle.osc_script.specs.declared.mode.Mode.TheVariants.{Lanes};
 ghost use Rattle.osc_script.specs.Scripts.{script_of, AreOf};
+ghost use Rattle.osc_words.specs.Commands as said;
+ghost use Rattle.osc_words.specs.Ranges.{IsLawfulLive};
+ghost use Rattle.osc_words.specs.declared.command.Capacities.{Capacities};
+ghost use Rattle.osc_words.specs.declared.command.LiveCommand.TheVariants as live;
 ghost use Rattle.osc_top.specs.Commands as commands;
-ghost use Rattle.osc_top.specs.Plain.{live_limits, count_adds};
+ghost use Rattle.osc_top.specs.Commands.{mode_of};
+ghost use Rattle.osc_top.specs.EndsCommand.{EndsCommand, LeavesAlone, MayEnd};
+ghost use Rattle.osc_top.specs.EndsPlain.{HandsBack};
+ghost use Rattle.osc_top.specs.Plain.{count_adds};
 ghost use Rattle.osc_top.specs.Printing.{usage_text, refusal_text};
-ghost use Rattle.osc_top.specs.Ends.{GainsUnless, left_behind, IsUnplayed};
-ghost use Rattle.osc_top.specs.Lanes.{EndsLanes};
+ghost use Rattle.osc_top.specs.Ends.{left_behind, IsUnplayed};
 ghost use Rattle.osc_top.specs.Enough.{enough_lanes};
+ghost use Rattle.osc_top.specs.Outcomes.{status_of};
+ghost use Rattle.osc_top.specs.Recorded.{EndsBoth, recorded_text};
+ghost use Rattle.osc_top.specs.Sinks.{sink_change, Fails, IsSteady, GainsUnless};
 
 use crate::caps::live_limits;
-use crate::command::lanes_of;
 use crate::counting::count_adds;
 use crate::laws::enough_room_stops_no_lane;
 use crate::live_writing::write_both;
 use crate::playing::Played;
+use crate::serving::stage_links;
 use crate::staging::stage;
 use crate::status::{NO_MEMORY, SOURCE_FAILED, USAGE};
 use crate::top::{Ended, unplayed};
 use crate::whole::{Input, read_whole};
 use crate::writing::{bank_short, last_line, refuse};
-use osc_edge::{Sink, Source};
-use osc_lanes::Gate;
+use osc_edge::{Clock, Link, Sink, Source};
+use osc_lanes::{Bounds, Gate};
 use osc_method::Method;
-use osc_record::Caps;
 use osc_script::{Line, MAX_SCRIPT, Mode, Script, ScriptFault, ScriptRefusal};
+use osc_words::{LiveCommand, live_command_of};
 use std::alloc::Global;
 use std::sync::Wait;
 use std::thread::Threads;
 
 /// Does all that the program of many threads does. `lanes FILE` reads a script from `input` to its end, plays each of
 /// its lanes by a thread of its own on one new server, and writes the recording to `rec`, and then the printed history
-/// and the faults of the lanes' packets to `out`. `osc replay` prints the same history from the recording.
+/// and the faults of the lanes' packets to `out`. `serve FILE` reads a script of adds, plays it as caller 0, serves
+/// each of `links` by a thread of its own and the ticker, who reads `clock`, by another, and writes the same of them.
+/// `osc replay` prints the same history from the recording.
 ///
 /// `words` are those of the command line, without the program's name. The k-th add of the script, whatever its lane,
-/// gets the k-th box of `bank`. `gate` is called round each line. What stands in the sinks, and what becomes of the
-/// boxes, at want of memory isn't said.
-pub fn live_top<S: Source, O: Sink, R: Sink, W: Threads + Wait + Sync, G: Gate + Sync>(
+/// gets the k-th box of `bank`. `gate` is called round each line, or each datagram. The links come back in their order,
+/// as they were left. What stands in the sinks, and what becomes of the boxes, the links and the clock, at want of
+/// memory isn't said.
+pub fn live_top<
+    S: Source,
+    O: Sink,
+    R: Sink,
+    L: Link + Send + Drop,
+    C: Clock + Send,
+    W: Threads + Wait + Sync,
+    G: Gate + Sync,
+>(
     rt: &W,
     alloc: Global,
     words: &[String],
     input: &mut S,
     out: &mut O,
     rec: &mut R,
+    links: Vec<L>,
+    clock: &mut C,
     bank: Vec<Box<dyn Method + Send>>,
     gate: &G,
-) -> Ended
-    ensures known { (result.status ≤ RECORDING_FULL) ⊎ (result.status ≡ BANK_SHORT) }
+) -> (Ended, Vec<L>)
+    requires few { length links.items ≤ 16 }
+    ensures known { result.0.status ≤ BANK_SHORT }
 
     // Words that are no command are answered first, by a line on usage, and nothing is read then.
-    ensures usage { result.status ≡ USAGE
-        → commands.lanes_of (map string_bytes words.now) ≡ None }
-    ensures no_command { commands.lanes_of (map string_bytes words.now) ≡ None
-        → (result.status ≡ USAGE) ⊎ (result.status ≡ NO_MEMORY) }
-    ensures unread { commands.lanes_of (map string_bytes words.now) ≡ None
+    ensures usage { result.0.status ≡ USAGE
+        → said.live_command_of (map string_bytes words.now) ≡ None }
+    ensures no_command { said.live_command_of (map string_bytes words.now) ≡ None
+        → (result.0.status ≡ USAGE) ⊎ (result.0.status ≡ NO_MEMORY) }
+    ensures unread { said.live_command_of (map string_bytes words.now) ≡ None
         → input.new ≡ input.old }
-    ensures usage_text { result.status ≡ USAGE → GainsUnless (O.held out.old) (O.held out.new)
-        (O.faults out.old) (O.faults out.new) usage_text }
+    ensures usage_text { result.0.status ≡ USAGE
+        → GainsUnless (sink_change O.held O.faults out.old out.new) usage_text }
 
     // Then a source that failed, of which nothing is written. Any other answer but want of memory means that the
     // source didn't fail, and that it was read to its end, or to the first byte that is too many.
-    ensures source { result.status ≡ SOURCE_FAILED
+    ensures source { result.0.status ≡ SOURCE_FAILED
         → Rose (S.faults input.old) (S.faults input.new) }
-    ensures unwritten { result.status ≡ SOURCE_FAILED → out.new ≡ out.old }
-    ensures sound { result.status ≢ NO_MEMORY → result.status ≢ SOURCE_FAILED
+    ensures unwritten { result.0.status ≡ SOURCE_FAILED → out.new ≡ out.old }
+    ensures sound { result.0.status ≢ NO_MEMORY → result.0.status ≢ SOURCE_FAILED
         → S.faults input.new ≡ S.faults input.old }
-    ensures read { IfSome (commands.lanes_of (map string_bytes words.now))
-        (λ caps. IfSome (S.left input.old)
-        (λ all. result.status ≢ NO_MEMORY → result.status ≢ SOURCE_FAILED →
+    ensures read { IfSome (said.live_command_of (map string_bytes words.now))
+        (λ command. IfSome (S.left input.old)
+        (λ all. result.0.status ≢ NO_MEMORY → result.0.status ≢ SOURCE_FAILED →
         S.left input.new ≡ Some (left_behind MAX_SCRIPT all))) }
 
-    // Then a script that is refused, or that adds more methods than there are boxes, or what its lanes came to, with
-    // sinks that took all of it or failed.
-    ensures lanes { IfSome (commands.lanes_of (map string_bytes words.now))
-        (λ caps. IfSome (S.left input.old) (λ script. result.status ≢ SOURCE_FAILED →
-        EndsLanes (λ box. keep box) (λ box. heard box) (live_limits caps) result.status script
-        bank.items result.heard.items result.left.items
-        (record {
-          before = R.held rec.old;
-          after = R.held rec.new;
-          faults = R.faults rec.old;
-          now = R.faults rec.new;
-        })
-        (record {
-          before = O.held out.old;
-          after = O.held out.new;
-          faults = O.faults out.old;
-          now = O.faults out.new;
-        }))) }
-    ensures sink { result.status ≡ SINK_FAILED
-        → Rose (O.faults out.old) (O.faults out.new) ⊎ Rose (R.faults rec.old) (R.faults rec.new) }
-    ensures unrecorded { IsUnplayed result.status → rec.new ≡ rec.old }
+    // Then a script that is refused, or that adds more methods than there are boxes, or what its lanes or the links
+    // came to, with sinks that took all of it or failed.
+    ensures ends { IfSome (said.live_command_of (map string_bytes words.now))
+        (λ command. IfSome (S.left input.old) (λ script. result.0.status ≢ SOURCE_FAILED →
+        EndsCommand (λ box. keep box) (λ box. heard box) L.left L.faults command
+        result.0.status script bank.items result.0.heard.items result.0.left.items links.items
+        result.1.items (clock_read C.left C.faults clock.old clock.new)
+        (sink_change R.held R.faults rec.old rec.new)
+        (sink_change O.held O.faults out.old out.new))) }
+    ensures sink { result.0.status ≡ SINK_FAILED
+        → Fails (sink_change O.held O.faults out.old out.new)
+        ⊎ Fails (sink_change R.held R.faults rec.old rec.new) }
+    ensures unrecorded { IsUnplayed result.0.status → rec.new ≡ rec.old }
+    ensures unserved { IsUnplayed result.0.status
+        → (result.1.items ≡ links.items) × (clock.new ≡ clock.old) }
+    ensures lanes_serve_none { (caps : Capacities)
+        → said.live_command_of (map string_bytes words.now) ≡ Some (live.Lanes caps)
+        → (result.1.items ≡ links.items) × (clock.new ≡ clock.old) }
 
     // Done means that nothing failed and that the input was read to its end.
-    ensures steady { result.status ≡ DONE → (O.faults out.new ≡ O.faults out.old)
-        × (R.faults rec.new ≡ R.faults rec.old) }
-    ensures ended { result.status ≡ DONE
+    ensures steady { result.0.status ≡ DONE
+        → IsSteady (sink_change O.held O.faults out.old out.new)
+        × IsSteady (sink_change R.held R.faults rec.old rec.new) }
+    ensures ended { result.0.status ≡ DONE
         → IfSome (S.left input.old) (λ all. S.left input.new ≡ Some []) }
 
     // The boxes that were added stand by their ids. Where nothing was played, all of them come back.
-    ensures ascending { IsTrue (is_ascending (map (λ one. one.0) result.heard.items)) }
-    ensures none_heard { IsUnplayed result.status → result.heard.items ≡ [] }
-    ensures all_left { IsUnplayed result.status → result.left.items ≡ bank.items }
+    ensures ascending { IsTrue (is_ascending (map (λ one. one.0) result.0.heard.items)) }
+    ensures none_heard { IsUnplayed result.0.status → result.0.heard.items ≡ [] }
+    ensures all_left { IsUnplayed result.0.status → result.0.left.items ≡ bank.items }
 
     // A lawful script with enough boxes is played, over edges that don't fail, unless memory runs out.
-    ensures complete { IfSome (commands.lanes_of (map string_bytes words.now))
-        (λ caps. IfSome (S.left input.old)
-        (λ script. IsOkAnd (script_of Lanes script) (λ lines. count_adds lines ≤ length bank.items)
+    ensures complete { IfSome (said.live_command_of (map string_bytes words.now))
+        (λ command. IfSome (S.left input.old)
+        (λ script. IsOkAnd (script_of (mode_of command) script)
+        (λ lines. count_adds lines ≤ length bank.items)
         → ¬ Rose (S.faults input.old) (S.faults input.new)
-        → ¬ Rose (O.faults out.old) (O.faults out.new)
-        → ¬ Rose (R.faults rec.old) (R.faults rec.new) →
-        (result.status ≡ DONE) ⊎ (result.status ≡ NO_MEMORY)
-        ⊎ (result.status ≡ RECORDING_FULL))) }
+        → ¬ Fails (sink_change O.held O.faults out.old out.new)
+        → ¬ Fails (sink_change R.held R.faults rec.old rec.new)
+        → MayEnd command result.0.status)) }
 
     // No lane stops where the recording may have as many bytes as `enough_lanes` says.
-    ensures enough { IfSome (commands.lanes_of (map string_bytes words.now))
-        (λ caps. IfSome (S.left input.old) (λ script. IsOkAnd (script_of Lanes script)
+    ensures enough { (caps : Capacities)
+        → said.live_command_of (map string_bytes words.now) ≡ Some (live.Lanes caps)
+        → IfSome (S.left input.old) (λ script. IsOkAnd (script_of Lanes script)
         (λ lines. (count_adds lines ≤ length bank.items) × (enough_lanes lines ≤ caps.recording))
         → ¬ Rose (S.faults input.old) (S.faults input.new)
-        → ¬ Rose (O.faults out.old) (O.faults out.new)
-        → ¬ Rose (R.faults rec.old) (R.faults rec.new) →
-        (result.status ≡ DONE) ⊎ (result.status ≡ NO_MEMORY))) }
+        → ¬ Fails (sink_change O.held O.faults out.old out.new)
+        → ¬ Fails (sink_change R.held R.faults rec.old rec.new) →
+        (result.0.status ≡ DONE) ⊎ (result.0.status ≡ NO_MEMORY)) }
 {
     enough_room_stops_no_lane::<Box<dyn Method + Send>>();
-    let caps = match lanes_of(alloc, words) {
-        Ok(Some(caps)) => caps,
-        Ok(None) => return unplayed(alloc, last_line(USAGE, b"usage\n", out), bank),
-        Err(_) => return unplayed(alloc, NO_MEMORY, bank),
+    let command = match live_command_of(alloc, words) {
+        Ok(Some(command)) => command,
+        Ok(None) => {
+            let status = last_line(USAGE, b"usage\n", out);
+            return (unplayed(alloc, status, bank), links);
+        }
+        Err(_) => return (unplayed(alloc, NO_MEMORY, bank), links),
     };
-    let limits = live_limits(caps);
     match read_whole(alloc, MAX_SCRIPT, input) {
-        Input::Whole(bytes) => play_script(rt, alloc, limits, bytes, out, rec, bank, gate),
-        Input::TooLong => unplayed(alloc, refuse_long(alloc, out), bank),
-        Input::Failed => unplayed(alloc, SOURCE_FAILED, bank),
-        Input::NoMemory => unplayed(alloc, NO_MEMORY, bank),
+        Input::Whole(bytes) => {
+            play_script(
+                rt, alloc, command, bytes, out, rec, links, clock, bank, gate,
+            )
+        }
+        Input::TooLong => (unplayed(alloc, refuse_long(alloc, out), bank), links),
+        Input::Failed => (unplayed(alloc, SOURCE_FAILED, bank), links),
+        Input::NoMemory => (unplayed(alloc, NO_MEMORY, bank), links),
     }
 }
 
 /// Refuses a script that is too long.
 fn refuse_long<O: Sink>(alloc: Global, out: &mut O) -> u8
-    ensures known { (result ≡ 1) ⊎ (result ≡ 3) }
-    ensures refused { (script : List ℕ) → MAX_SCRIPT < length script → result ≡ 1
-        → IsErrAnd (script_of Lanes script)
-        (λ fault. GainsUnless (O.held out.old) (O.held out.new) (O.faults out.old)
-        (O.faults out.new) (refusal_text fault)) }
+    ensures known { (result ≡ REFUSED) ⊎ (result ≡ NO_MEMORY) }
+    ensures refused { (mode : Mode) (script : List ℕ) → MAX_SCRIPT < length script
+        → result ≡ REFUSED → IsErrAnd (script_of mode script)
+        (λ fault. GainsUnless (sink_change O.held O.faults out.old out.new)
+        (refusal_text fault)) }
 {
     let fault = ScriptFault {
         line: 0,
@@ -157,107 +215,152 @@ fn refuse_long<O: Sink>(alloc: Global, out: &mut O) -> u8
     refuse(alloc, fault, out)
 }
 
-/// Reads the script and plays its lanes. The memory of the input is given back before anything is played.
-fn play_script<O: Sink, R: Sink, W: Threads + Wait + Sync, G: Gate + Sync>(
+/// Reads the script and plays it. The memory of the input is given back before anything is played.
+fn play_script<
+    O: Sink,
+    R: Sink,
+    L: Link + Send + Drop,
+    C: Clock + Send,
+    W: Threads + Wait + Sync,
+    G: Gate + Sync,
+>(
     rt: &W,
     alloc: Global,
-    caps: Caps,
+    command: LiveCommand,
     bytes: Vec<u8>,
     out: &mut O,
     rec: &mut R,
+    links: Vec<L>,
+    clock: &mut C,
     bank: Vec<Box<dyn Method + Send>>,
     gate: &G,
-) -> Ended
-    requires callers { caps.callers ≡ LIVE_CALLERS }
-    ensures ends { EndsLanes (λ box. keep box) (λ box. heard box) caps result.status
-        bytes.items bank.items result.heard.items result.left.items
-        (record {
-          before = R.held rec.old;
-          after = R.held rec.new;
-          faults = R.faults rec.old;
-          now = R.faults rec.new;
-        })
-        (record {
-          before = O.held out.old;
-          after = O.held out.new;
-          faults = O.faults out.old;
-          now = O.faults out.new;
-        }) }
-    ensures sink { result.status ≡ SINK_FAILED
-        → Rose (O.faults out.old) (O.faults out.new) ⊎ Rose (R.faults rec.old) (R.faults rec.new) }
-    ensures steady { result.status ≡ DONE → (O.faults out.new ≡ O.faults out.old)
-        × (R.faults rec.new ≡ R.faults rec.old) }
-    ensures unrecorded { (result.status ≡ REFUSED) ⊎ (result.status ≡ BANK_SHORT)
-        → rec.new ≡ rec.old }
-    ensures ascending { IsTrue (is_ascending (map (λ one. one.0) result.heard.items)) }
-    ensures none_heard { (result.status ≡ REFUSED) ⊎ (result.status ≡ BANK_SHORT)
-        → result.heard.items ≡ [] }
-    ensures all_left { (result.status ≡ REFUSED) ⊎ (result.status ≡ BANK_SHORT)
-        → result.left.items ≡ bank.items }
+) -> (Ended, Vec<L>)
+    requires lawful { IsLawfulLive command }
+    requires few { length links.items ≤ 16 }
+    ensures ends { EndsCommand (λ box. keep box) (λ box. heard box) L.left L.faults command
+        result.0.status bytes.items bank.items result.0.heard.items result.0.left.items
+        links.items result.1.items (clock_read C.left C.faults clock.old clock.new)
+        (sink_change R.held R.faults rec.old rec.new)
+        (sink_change O.held O.faults out.old out.new) }
+    ensures back { HandsBack result.0.status bank.items result.0.heard.items
+        result.0.left.items }
+    ensures alone { LeavesAlone command result.0.status links.items result.1.items clock.old
+        clock.new rec.old rec.new }
 {
-    let read = Script::read(alloc, &bytes, Mode::Lanes);
+    let read = Script::read(alloc, &bytes, mode_of(command));
     drop(bytes);
     match read {
-        Ok(script) => play_lanes(rt, alloc, caps, script.into_lines(), out, rec, bank, gate),
-        Err(ScriptRefusal::Fault(fault)) => unplayed(alloc, refuse(alloc, fault, out), bank),
-        Err(ScriptRefusal::NoMemory) => unplayed(alloc, NO_MEMORY, bank),
+        Ok(script) => {
+            let lines = script.into_lines();
+            play_lines(
+                rt, alloc, command, lines, out, rec, links, clock, bank, gate,
+            )
+        }
+        Err(ScriptRefusal::Fault(fault)) => {
+            (unplayed(alloc, refuse(alloc, fault, out), bank), links)
+        }
+        Err(ScriptRefusal::NoMemory) => (unplayed(alloc, NO_MEMORY, bank), links),
     }
 }
 
-fn play_lanes<O: Sink, R: Sink, W: Threads + Wait + Sync, G: Gate + Sync>(
+/// The mode of the script that the command reads.
+fn mode_of(command: LiveCommand) -> Mode
+    ensures { result ≡ commands.mode_of command }
+{
+    match command {
+        LiveCommand::Lanes { .. } => Mode::Lanes,
+        LiveCommand::Serve { .. } => Mode::Serve,
+    }
+}
+
+/// Plays the lines, if there is a box for each add.
+fn play_lines<
+    O: Sink,
+    R: Sink,
+    L: Link + Send + Drop,
+    C: Clock + Send,
+    W: Threads + Wait + Sync,
+    G: Gate + Sync,
+>(
     rt: &W,
     alloc: Global,
-    caps: Caps,
+    command: LiveCommand,
     lines: Vec<Line>,
     out: &mut O,
     rec: &mut R,
+    links: Vec<L>,
+    clock: &mut C,
     bank: Vec<Box<dyn Method + Send>>,
     gate: &G,
-) -> Ended
-    requires callers { caps.callers ≡ LIVE_CALLERS }
-    requires lanes { AreOf Lanes lines.items }
-    ensures ends { (script : List ℕ) → script_of Lanes script ≡ Ok lines.items →
-        EndsLanes (λ box. keep box) (λ box. heard box) caps result.status
-        script bank.items result.heard.items result.left.items
-        (record {
-          before = R.held rec.old;
-          after = R.held rec.new;
-          faults = R.faults rec.old;
-          now = R.faults rec.new;
-        })
-        (record {
-          before = O.held out.old;
-          after = O.held out.new;
-          faults = O.faults out.old;
-          now = O.faults out.new;
-        }) }
-    ensures known { result.status ≢ REFUSED }
-    ensures sink { result.status ≡ SINK_FAILED
-        → Rose (O.faults out.old) (O.faults out.new) ⊎ Rose (R.faults rec.old) (R.faults rec.new) }
-    ensures steady { result.status ≡ DONE → (O.faults out.new ≡ O.faults out.old)
-        × (R.faults rec.new ≡ R.faults rec.old) }
-    ensures unrecorded { result.status ≡ BANK_SHORT → rec.new ≡ rec.old }
-    ensures ascending { IsTrue (is_ascending (map (λ one. one.0) result.heard.items)) }
-    ensures none_heard { result.status ≡ BANK_SHORT → result.heard.items ≡ [] }
-    ensures all_left { result.status ≡ BANK_SHORT → result.left.items ≡ bank.items }
+) -> (Ended, Vec<L>)
+    requires lawful { IsLawfulLive command }
+    requires few { length links.items ≤ 16 }
+    requires lines { AreOf (commands.mode_of command) lines.items }
+    ensures ends { (script : List ℕ) → script_of (commands.mode_of command) script ≡ Ok lines.items
+        → EndsCommand (λ box. keep box) (λ box. heard box) L.left L.faults command
+        result.0.status script bank.items result.0.heard.items result.0.left.items
+        links.items result.1.items (clock_read C.left C.faults clock.old clock.new)
+        (sink_change R.held R.faults rec.old rec.new)
+        (sink_change O.held O.faults out.old out.new) }
+    ensures back { HandsBack result.0.status bank.items result.0.heard.items
+        result.0.left.items }
+    ensures alone { LeavesAlone command result.0.status links.items result.1.items clock.old
+        clock.new rec.old rec.new }
 {
     let need = count_adds(&lines);
     if bank.len() < need {
         let status = bank_short(alloc, need, bank.len(), out);
-        return unplayed(alloc, status, bank);
+        return (unplayed(alloc, status, bank), links);
     }
-    match stage(rt, alloc, caps, lines, bank, gate) {
-        Ok(
-            Played {
-                recorded,
-                heard,
-                left,
-            },
-        ) => Ended {
-            status: write_both(alloc, &recorded, out, rec),
-            heard,
-            left,
-        },
-        Err(_) => unplayed(alloc, NO_MEMORY, Vec::new(alloc)),
+    match command {
+        LiveCommand::Lanes { caps } => {
+            match stage(rt, alloc, live_limits(caps), lines, bank, gate) {
+                Ok(played) => (end(alloc, played, out, rec), links),
+                Err(_) => (unplayed(alloc, NO_MEMORY, Vec::new(alloc)), links),
+            }
+        }
+        LiveCommand::Serve {
+            count,
+            idle,
+            caps,
+            ..
+        } => {
+            let bounds = Bounds { count, idle };
+            let caps = live_limits(caps);
+            match stage_links(rt, alloc, caps, lines, bank, links, clock, bounds, gate) {
+                Ok((played, links)) => (end(alloc, played, out, rec), links),
+                Err(_) => (unplayed(alloc, NO_MEMORY, Vec::new(alloc)), Vec::new(alloc)),
+            }
+        }
+    }
+}
+
+/// Writes what was played.
+fn end<O: Sink, R: Sink>(
+    alloc: Global,
+    played: Played<Box<dyn Method + Send>>,
+    out: &mut O,
+    rec: &mut R,
+) -> Ended
+    requires { (caps : Limits) × (history : List Entry)
+        × IsRecordingOf played.recorded.bytes.items caps history }
+    ensures ends { (caps : Limits) (history : List Entry)
+        → IsRecordingOf played.recorded.bytes.items caps history →
+        EndsBoth (status_of played.recorded.outcome) result.status played.recorded.bytes.items
+        (recorded_text caps history played.recorded.faults played.recorded.outcome)
+        (sink_change R.held R.faults rec.old rec.new)
+        (sink_change O.held O.faults out.old out.new) }
+    ensures heard { result.heard.items ≡ played.heard.items }
+    ensures left { result.left.items ≡ played.left.items }
+{
+    let Played {
+        recorded,
+        heard,
+        left,
+    } = played;
+    Ended {
+        status: write_both(alloc, &recorded, out, rec),
+        heard,
+        left,
     }
 }

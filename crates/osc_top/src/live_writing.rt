@@ -1,11 +1,11 @@
-// Writes what the lanes of a script came to.
+// Writes what a script came to on many threads.
 ghost use Rattle.std.specs.Prelude.{List};
-ghost use Rattle.std.specs.Option.{option_map};
 ghost use Rattle.osc_model.specs.Limits.{Limits};
 ghost use Rattle.osc_model.specs.Events.{Entry};
-ghost use Rattle.osc_record.specs.Shown.{room_of};
 ghost use Rattle.osc_replay.specs.Disagreeing.{IsRecordingOf};
-ghost use Rattle.osc_top.specs.Recorded.{EndsBoth, recorded_text, status_of};
+ghost use Rattle.osc_top.specs.Outcomes.{status_of};
+ghost use Rattle.osc_top.specs.Recorded.{EndsBoth, recorded_text};
+ghost use Rattle.osc_top.specs.Sinks.{sink_change};
 
 use crate::recorded::Recorded;
 use crate::status::{NO_MEMORY, SINK_FAILED};
@@ -25,21 +25,10 @@ pub(crate) fn write_both<O: Sink, R: Sink>(
         × IsRecordingOf recorded.now.bytes.items caps history }
     ensures { (caps : Limits) (history : List Entry)
         → IsRecordingOf recorded.now.bytes.items caps history →
-        EndsBoth (status_of (option_map room_of recorded.now.stop)) result
-        recorded.now.bytes.items
-        (recorded_text caps history recorded.now.faults (option_map room_of recorded.now.stop))
-        (record {
-          before = R.held rec.old;
-          after = R.held rec.new;
-          faults = R.faults rec.old;
-          now = R.faults rec.new;
-        })
-        (record {
-          before = O.held out.old;
-          after = O.held out.new;
-          faults = O.faults out.old;
-          now = O.faults out.new;
-        }) }
+        EndsBoth (status_of recorded.now.outcome) result recorded.now.bytes.items
+        (recorded_text caps history recorded.now.faults recorded.now.outcome)
+        (sink_change R.held R.faults rec.old rec.new)
+        (sink_change O.held O.faults out.old out.new) }
 {
     match write_whole(rec, &recorded.bytes) {
         Written::Wrote => write_run_text(alloc, recorded, out),

@@ -1,17 +1,21 @@
 // Plays lines on a server, event by event.
 ghost use Rattle.osc_packet.specs.declared.limits.TheConstants.{MAX_PACKET};
-ghost use Rattle.std.specs.Prelude.{◌≡◌, ◌++◌, ◌+◌, ◌<◌, ◌≤◌, List, map, length, IfOk, OnOk};
+ghost use Rattle.std.specs.Prelude.{◌≡◌, ◌++◌, ◌<◌, ◌≤◌, [], length, IfOk, OnOk};
 ghost use Rattle.std.specs.Option.{option_map};
 ghost use Rattle.std.specs.Vec.Iter.{into_iter_items};
-ghost use Rattle.osc_packet.specs.Reading.{is_packet, packet_fault};
-ghost use Rattle.osc_model.specs.Events.{add, remove, submit, tick, release};
-ghost use Rattle.osc_model.specs.History.{state_of, after};
-ghost use Rattle.osc_record.specs.Shown.{room_of};
-ghost use Rattle.osc_core.specs.Answers.{adding_of, removing_of, submitted_of, ticking_of};
-ghost use Rattle.osc_top.specs.Plain.{entry_if, stop_at, room_in, entries_of, stop_of, sent, stop_sent, pump, act_faults, fault_at, plain_from, count_adds};
-ghost use Rattle.osc_top.specs.Printing.{printed_faults};
-ghost use Rattle.osc_top.specs.Tally.{adds_of, played_on, handed_back, handed_out};
-ghost use Rattle.osc_top.specs.Tallied.{HasTallied, IsDone, TalliesOn};
+ghost use Rattle.osc_packet.specs.Reading.{packet_fault};
+ghost use Rattle.osc_model.specs.History.{state_of};
+ghost use Rattle.osc_core.specs.Answers.{
+  room_of,
+  adding_of,
+  removing_of,
+  submitted_of,
+  ticking_of,
+};
+ghost use Rattle.osc_script.specs.declared.act.Act.TheVariants.{Add, Remove, Send, Tick, Pump};
+ghost use Rattle.osc_top.specs.Plain.{room_in, act_faults, fault_at, count_adds};
+ghost use Rattle.osc_top.specs.Tally.{adds_of, handed_back, handed_out};
+ghost use Rattle.osc_top.specs.Tallied.{PlaysAct, PlaysLines};
 
 use osc_atoms::Room;
 use osc_core::{AddRefusal, Adding, Core, Releasing, Removing, Submitted, Ticking};
@@ -42,20 +46,8 @@ impl<M: Method> Player<M> {
     pub(crate) fn play_lines(&mut self, lines: Vec<Line>) -> Result<Option<Room>, AllocError>
         requires handed { count_adds lines.items ≤ length (into_iter_items self.old.bank) }
         requires caller { 0 < (state_of self.old.core.performance).callers }
-        ensures performance { OnOk result
-            (self.new.core.performance
-            ≡ played_on self.old.core.performance
-            (plain_from (state_of self.old.core.performance) lines.items).history) }
-        ensures faults { OnOk result
-            (self.new.faults ≡ self.old.faults
-            ++ printed_faults
-            (plain_from (state_of self.old.core.performance) lines.items).faults) }
-        ensures stop { IfOk result
-            (λ stop. option_map room_of stop
-            ≡ (plain_from (state_of self.old.core.performance) lines.items).stop) }
-        ensures boxes { OnOk result
-            ((bank : List M) → HasTallied M.keep M.heard bank self.old
-            → IsDone M.keep M.heard bank self.new) }
+        ensures { IfOk result
+            (λ stop. PlaysLines M.keep M.heard lines.items stop self.old self.new) }
     {
         for line in lines {
             let stop = self.play_act(line.number, line.act)?;
@@ -70,18 +62,8 @@ impl<M: Method> Player<M> {
     fn play_act(&mut self, number: u32, act: Act) -> Result<Option<Room>, AllocError>
         requires handed { adds_of act ≤ length (into_iter_items self.old.bank) }
         requires caller { 0 < (state_of self.old.core.performance).callers }
-        ensures performance { OnOk result
-            (self.new.core.performance
-            ≡ played_on self.old.core.performance
-            (entries_of (state_of self.old.core.performance) act)) }
-        ensures faults { OnOk result
-            (self.new.faults ≡ self.old.faults ++ printed_faults (act_faults number act)) }
-        ensures stop { IfOk result
-            (λ stop. option_map room_of stop ≡ stop_of (state_of self.old.core.performance) act) }
-        ensures waiting { OnOk result
-            (length (into_iter_items self.old.bank)
-            ≤ adds_of act + length (into_iter_items self.new.bank)) }
-        ensures boxes { IfOk result (λ stop. TalliesOn M.keep M.heard stop self.old self.new) }
+        ensures { IfOk result
+            (λ stop. PlaysAct M.keep M.heard act (act_faults number act) stop self.old self.new) }
     {
         match act {
             Act::Add(address) => self.play_add(address),
@@ -95,17 +77,8 @@ impl<M: Method> Player<M> {
     fn play_add(&mut self, address: Address) -> Result<Option<Room>, AllocError>
         requires handed { 0 < length (into_iter_items self.old.bank) }
         requires caller { 0 < (state_of self.old.core.performance).callers }
-        ensures performance { OnOk result
-            (self.new.core.performance
-            ≡ played_on self.old.core.performance
-            (entry_if (state_of self.old.core.performance) (add address))) }
-        ensures faults { OnOk result (self.new.faults ≡ self.old.faults) }
-        ensures stop { IfOk result
-            (λ stop. option_map room_of stop
-            ≡ stop_at (state_of self.old.core.performance) (add address)) }
-        ensures waiting { OnOk result
-            (length (into_iter_items self.old.bank) ≤ 1 + length (into_iter_items self.new.bank)) }
-        ensures boxes { IfOk result (λ stop. TalliesOn M.keep M.heard stop self.old self.new) }
+        ensures { IfOk result
+            (λ stop. PlaysAct M.keep M.heard (Add address) [] stop self.old self.new) }
     {
         let Some(method) = self.bank.next() else {
             unreachable!()
@@ -118,17 +91,8 @@ impl<M: Method> Player<M> {
 
     fn play_remove(&mut self, address: &Address) -> Result<Option<Room>, AllocError>
         requires caller { 0 < (state_of self.old.core.performance).callers }
-        ensures performance { OnOk result
-            (self.new.core.performance
-            ≡ played_on self.old.core.performance
-            (entry_if (state_of self.old.core.performance) (remove address.now))) }
-        ensures faults { OnOk result (self.new.faults ≡ self.old.faults) }
-        ensures stop { IfOk result
-            (λ stop. option_map room_of stop
-            ≡ stop_at (state_of self.old.core.performance) (remove address.now)) }
-        ensures waiting { OnOk result
-            (into_iter_items self.new.bank ≡ into_iter_items self.old.bank) }
-        ensures boxes { IfOk result (λ stop. TalliesOn M.keep M.heard stop self.old self.new) }
+        ensures { IfOk result
+            (λ stop. PlaysAct M.keep M.heard (Remove address.now) [] stop self.old self.new) }
     {
         let removing = self.core.remove(0, address);
         let stop = stop_of_removing(&removing);
@@ -138,24 +102,12 @@ impl<M: Method> Player<M> {
 
     fn play_send(&mut self, number: u32, bytes: &Bytes) -> Result<Option<Room>, AllocError>
         requires caller { 0 < (state_of self.old.core.performance).callers }
-        ensures performance { OnOk result
-            (self.new.core.performance
-            ≡ played_on self.old.core.performance
-            (sent (state_of self.old.core.performance) bytes.now
-            (is_packet MAX_PACKET bytes.now))) }
-        ensures faults { OnOk result
-            (self.new.faults ≡ self.old.faults
-            ++ printed_faults (fault_at number (packet_fault MAX_PACKET bytes.now))) }
-        ensures stop { IfOk result
-            (λ stop. option_map room_of stop
-            ≡ stop_sent (state_of self.old.core.performance) bytes.now
-            (is_packet MAX_PACKET bytes.now)) }
-        ensures waiting { OnOk result
-            (into_iter_items self.new.bank ≡ into_iter_items self.old.bank) }
-        ensures boxes { IfOk result (λ stop. TalliesOn M.keep M.heard stop self.old self.new) }
+        ensures { IfOk result
+            (λ stop. PlaysAct M.keep M.heard (Send bytes.now)
+            (fault_at number (packet_fault MAX_PACKET bytes.now)) stop self.old self.new) }
     {
         match Packet::check(bytes.as_slice(), MAX_PACKET) {
-            Ok(packet) => Ok(self.play_packet(&packet)),
+            Ok(packet) => Ok(stop_of_submitted(self.core.submit(0, &packet))),
             Err(fault) => {
                 fault_line(&mut self.faults, number, fault)?;
                 Ok(None)
@@ -163,30 +115,9 @@ impl<M: Method> Player<M> {
         }
     }
 
-    fn play_packet(&mut self, packet: &Packet<'_>) -> Option<Room>
-        requires caller { 0 < (state_of self.old.core.performance).callers }
-        ensures performance { self.new.core.performance
-            ≡ played_on self.old.core.performance
-            (entry_if (state_of self.old.core.performance) (submit packet.now)) }
-        ensures faults { self.new.faults ≡ self.old.faults }
-        ensures stop { option_map room_of result
-            ≡ stop_at (state_of self.old.core.performance) (submit packet.now) }
-        ensures waiting { into_iter_items self.new.bank ≡ into_iter_items self.old.bank }
-        ensures boxes { TalliesOn M.keep M.heard result self.old self.new }
-    {
-        stop_of_submitted(self.core.submit(0, packet))
-    }
-
     fn play_tick(&mut self, moment: u64) -> Option<Room>
         requires caller { 0 < (state_of self.old.core.performance).callers }
-        ensures performance { self.new.core.performance
-            ≡ played_on self.old.core.performance
-            (entry_if (state_of self.old.core.performance) (tick moment)) }
-        ensures faults { self.new.faults ≡ self.old.faults }
-        ensures stop { option_map room_of result
-            ≡ stop_at (state_of self.old.core.performance) (tick moment) }
-        ensures waiting { into_iter_items self.new.bank ≡ into_iter_items self.old.bank }
-        ensures boxes { TalliesOn M.keep M.heard result self.old self.new }
+        ensures { PlaysAct M.keep M.heard (Tick moment) [] result self.old self.new }
     {
         stop_of_ticking(self.core.tick(0, moment))
     }
@@ -194,14 +125,7 @@ impl<M: Method> Player<M> {
     /// Releases until nothing is due.
     fn play_pump(&mut self) -> Option<Room>
         requires caller { 0 < (state_of self.old.core.performance).callers }
-        ensures performance { self.new.core.performance
-            ≡ played_on self.old.core.performance (pump (state_of self.old.core.performance)) }
-        ensures faults { self.new.faults ≡ self.old.faults }
-        ensures stop { option_map room_of result
-            ≡ stop_at (after (state_of self.old.core.performance)
-            (pump (state_of self.old.core.performance))) release }
-        ensures waiting { into_iter_items self.new.bank ≡ into_iter_items self.old.bank }
-        ensures boxes { TalliesOn M.keep M.heard result self.old self.new }
+        ensures { PlaysAct M.keep M.heard Pump [] result self.old self.new }
     {
         a_box_hears_its_calls();
         invocations_are_of_registered_methods();

@@ -1,18 +1,31 @@
 // Plays a script on a server, which records it.
-ghost use Rattle.std.specs.Prelude.{◌≡◌, ◌++◌, [], ◌<◌, ◌≤◌, IsTrue, List, map, length, IfOk, OnOk};
+ghost use Rattle.std.specs.Prelude.{
+  ◌≡◌,
+  ◌++◌,
+  [],
+  ◌<◌,
+  ◌≤◌,
+  IsTrue,
+  List,
+  map,
+  length,
+  IfOk,
+  OnOk,
+};
 ghost use Rattle.std.specs.Option.{option_map};
 ghost use Rattle.std.specs.List.Sorted.{IsPermutation, IsNonDecreasingBy};
 ghost use Rattle.std.specs.Vec.Iter.{into_iter_items};
 ghost use Rattle.osc_model.specs.Recordings.{record_text};
 ghost use Rattle.osc_model.specs.History.{Legal};
-ghost use Rattle.osc_record.specs.Shown.{room_of};
+ghost use Rattle.osc_core.specs.Answers.{room_of};
 ghost use Rattle.osc_core.specs.Ids.{is_ascending};
-ghost use Rattle.osc_core.specs.Telling.{told};
 ghost use Rattle.osc_top.specs.Plain.{count_adds};
-ghost use Rattle.osc_top.specs.Ends.{IsRunOf, RunsByTheLaws};
+ghost use Rattle.osc_top.specs.Ends.{IsRunOf};
 ghost use Rattle.osc_top.specs.Bank.{IsAccounted};
+ghost use Rattle.osc_top.specs.Outcomes as outcomes;
 ghost use Rattle.osc_top.specs.Tallied.{HasTallied, IsDone, AreParted};
 
+use crate::outcome::stopped;
 use crate::player::Player;
 use crate::recorded::Recorded;
 use osc_atoms::Room;
@@ -46,14 +59,12 @@ pub(crate) fn play<M: Method>(
     requires enough { count_adds lines.items ≤ length bank.items }
     ensures run { IfOk result
         (λ played. IsRunOf played.recorded.bytes.items played.recorded.faults
-        (option_map room_of played.recorded.stop) caps lines.items) }
+        played.recorded.outcome caps lines.items) }
     ensures accounted { IfOk result
-        (λ played. IsAccounted caps lines.items
-        (told M.keep M.heard played.heard.items) played.left.items
-        (map (λ box. record { keep = M.keep box; heard = M.heard box }) bank.items) bank.items) }
+        (λ played. IsAccounted M.keep M.heard caps lines.items bank.items played.heard.items
+        played.left.items) }
     ensures ascending { IfOk result
         (λ played. IsTrue (is_ascending (map (λ one. one.0) played.heard.items))) }
-    ensures laws { OnOk result (RunsByTheLaws caps lines.items) }
 {
     every_history_keeps_the_laws();
     let mut player = Player::open(alloc, caps, bank)?;
@@ -87,7 +98,8 @@ impl<M: Method> Player<M> {
         ensures legal { OnOk result
             (Legal self.core.performance.caps self.core.performance.history) }
         ensures faults { IfOk result (λ played. played.recorded.faults ≡ self.faults) }
-        ensures stop { IfOk result (λ played. played.recorded.stop ≡ stop) }
+        ensures outcome { IfOk result
+            (λ played. played.recorded.outcome ≡ outcomes.stopped (option_map room_of stop)) }
         ensures boxes { IfOk result (λ played. (bank : List M) → IsDone M.keep M.heard bank self →
             AreParted M.keep M.heard self.core.performance bank played.heard.items
             played.left.items) }
@@ -105,7 +117,7 @@ impl<M: Method> Player<M> {
         let recorded = Recorded {
             bytes,
             faults,
-            stop,
+            outcome: stopped(stop),
         };
         Ok(Played {
             recorded,

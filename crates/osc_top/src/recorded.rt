@@ -1,6 +1,6 @@
 // What a script came to.
 
-use osc_atoms::Room;
+use crate::outcome::Outcome;
 use osc_print::Text;
 
 /// What a script came to.
@@ -10,6 +10,6 @@ pub(crate) struct Recorded {
     pub(crate) bytes: Vec<u8>,
     /// The lines of the faults.
     pub(crate) faults: Text,
-    /// Where there was no room for an entry.
-    pub(crate) stop: Option<Room>,
+    /// How it ended.
+    pub(crate) outcome: Outcome,
 }

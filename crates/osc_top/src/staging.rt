@@ -1,21 +1,22 @@
 // Plays the lanes of a script on a server, which records them.
 ghost use Rattle.osc_top.specs.declared.caps.TheConstants.{LIVE_CALLERS};
-ghost use Rattle.std.specs.Prelude.{◌≡◌, ◌++◌, ◌≤◌, IsTrue, map, length, IfOk, OnOk};
+ghost use Rattle.std.specs.Prelude.{◌≡◌, ◌++◌, ◌≤◌, map, length, IfOk, OnOk};
 ghost use Rattle.std.specs.Option.{option_map, option_or};
 ghost use Rattle.std.specs.List.{flat_map};
 ghost use Rattle.std.specs.List.Sorted.{IsPermutation, IsNonDecreasingBy};
 ghost use Rattle.std.specs.Vec.Iter.{into_iter_items};
 ghost use Rattle.osc_core.specs.Answers.{room_of};
-ghost use Rattle.osc_core.specs.Ids.{is_ascending};
 ghost use Rattle.osc_lanes.specs.Performs.{told_of};
 ghost use Rattle.osc_print.specs.Lines.{fault_text};
 ghost use Rattle.osc_script.specs.declared.mode.Mode.TheVariants.{Lanes};
 ghost use Rattle.osc_script.specs.Scripts.{AreOf};
 ghost use Rattle.osc_top.specs.Plain.{count_adds};
-ghost use Rattle.osc_top.specs.Lanes.{first_stop, lane_faults};
+ghost use Rattle.osc_top.specs.Lanes.{PlaysLanes, first_stop, lane_faults};
+ghost use Rattle.osc_top.specs.Outcomes as outcomes;
 ghost use Rattle.osc_top.specs.Staged.{IsStaged};
 
 use crate::dealing::deal;
+use crate::outcome::stopped;
 use crate::playing::{Played, gather, keep_rest};
 use crate::recorded::Recorded;
 use osc_atoms::{Fault, Room};
@@ -42,12 +43,11 @@ pub(crate) fn stage<M: Method + Send, W: Threads + Wait + Sync, G: Gate + Sync>(
     requires callers { caps.callers ≡ LIVE_CALLERS }
     requires enough { count_adds lines.items ≤ length bank.items }
     requires lanes { AreOf Lanes lines.items }
-    ensures staged { IfOk result
-        (λ played. IsStaged M.keep M.heard caps lines.items bank.items played.heard.items
-        played.left.items played.recorded.bytes.items played.recorded.faults
-        (option_map room_of played.recorded.stop)) }
-    ensures ascending { IfOk result
-        (λ played. IsTrue (is_ascending (map (λ one. one.0) played.heard.items))) }
+    ensures { IfOk result
+        (λ played. IsStaged
+        (PlaysLanes M.keep M.heard caps bank.items played.heard.items played.left.items
+        lines.items)
+        caps played.recorded.bytes.items played.recorded.faults played.recorded.outcome) }
 {
     let (parts, rest) = deal(alloc, lines, bank)?;
     let performed = perform(rt, alloc, caps, parts, gate)?;
@@ -65,9 +65,9 @@ fn settle<M: Method>(
         (λ played. played.recorded.bytes.items ≡ performed.bytes.items) }
     ensures faults { IfOk result (λ played. played.recorded.faults
         ≡ lane_faults (map told_of performed.lanes.items)) }
-    ensures stop { IfOk result (λ played. option_map room_of played.recorded.stop
-        ≡ option_or (option_map room_of performed.unenrolled)
-        (first_stop (map told_of performed.lanes.items))) }
+    ensures outcome { IfOk result (λ played. played.recorded.outcome
+        ≡ outcomes.stopped (option_or (option_map room_of performed.unenrolled)
+        (first_stop (map told_of performed.lanes.items)))) }
     ensures each { IfOk result (λ played. IsPermutation (performed.kept.items
         ++ flat_map (λ account. account.removed) (map told_of performed.lanes.items))
         played.heard.items) }
@@ -91,11 +91,10 @@ fn settle<M: Method>(
     } = gather_lanes(alloc, lanes)?;
     let heard = gather(kept, removed)?;
     keep_rest(&mut left, rest)?;
-    let stop = unenrolled.or(stop);
     let recorded = Recorded {
         bytes,
         faults,
-        stop,
+        outcome: stopped(unenrolled.or(stop)),
     };
     Ok(Played {
         recorded,

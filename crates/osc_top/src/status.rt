@@ -21,5 +21,8 @@ pub const SINK_FAILED: u8 = 5;
 /// There was no room for an entry in the recording.
 pub const RECORDING_FULL: u8 = 6;
 
+/// A link or the clock failed.
+pub const EDGE_FAILED: u8 = 7;
+
 /// The script has more adds than there are boxes.
 pub const BANK_SHORT: u8 = 8;

@@ -1,21 +1,41 @@
 // The top call.
 ghost use Rattle.osc_script.specs.declared.generating.TheConstants.{MAX_GENERATED_LINES};
-ghost use Rattle.osc_top.specs.declared.status.TheConstants.{BANK_SHORT, DONE, NO_MEMORY, RECORDING_FULL, REFUSED, SINK_FAILED, SOURCE_FAILED, USAGE};
-ghost use Rattle.std.specs.Prelude.{◌≡◌, ◌≢◌, ◌⊎◌, ◌≤◌, ◌<◌, ℕ, IsTrue, List, IsOkAnd, IfSome, IsSome, Some, Ok, [], None, length, map, string_bytes};
+ghost use Rattle.osc_top.specs.declared.status.TheConstants.{
+  BANK_SHORT,
+  DONE,
+  NO_MEMORY,
+  RECORDING_FULL,
+  REFUSED,
+  SINK_FAILED,
+  SOURCE_FAILED,
+  USAGE,
+};
+ghost use Rattle.std.specs.Prelude.{
+  ◌≡◌,
+  ◌≢◌,
+  ◌⊎◌,
+  ◌≤◌,
+  ◌<◌,
+  ℕ,
+  IsTrue,
+  List,
+  IfSome,
+  IsSome,
+  Some,
+  Ok,
+  [],
+  None,
+  length,
+  map,
+  string_bytes,
+};
 ghost use Rattle.osc_edge.specs.Faults.{Rose};
-ghost use Rattle.osc_model.specs.Limits.{Limits};
-ghost use Rattle.osc_model.specs.Events.{Entry};
 ghost use Rattle.osc_core.specs.Ids.{is_ascending};
-ghost use Rattle.osc_model.specs.Recordings.{record_text};
-ghost use Rattle.osc_replay.specs.Disagreeing.{IsRecordingOf};
-ghost use Rattle.osc_replay.specs.Formed.{IsFormed};
 ghost use Rattle.osc_script.specs.declared.line.Line.{Line};
 ghost use Rattle.osc_script.specs.declared.mode.Mode.TheVariants.{Plain};
 ghost use Rattle.osc_script.specs.Scripts.{script_of};
-ghost use Rattle.osc_words.specs.declared.command.Capacities.{Capacities};
-ghost use Rattle.osc_words.specs.declared.command.Output.{Output};
-ghost use Rattle.osc_words.specs.declared.command.Reading.TheVariants.{Run, Replay, Dump};
-ghost use Rattle.osc_words.specs.declared.command.PlainCommand.TheVariants.{Gen};
+ghost use Rattle.osc_words.specs.declared.command.PlainCommand.TheVariants.{Read};
+ghost use Rattle.osc_words.specs.declared.command.Reading.TheVariants.{Replay};
 ghost use Rattle.osc_words.specs.Commands as said;
 ghost use Rattle.osc_words.specs.Ranges.{IsLawfulReading};
 ghost use Rattle.osc_top.specs.declared.report.Report.TheVariants.{Summary};
@@ -23,7 +43,17 @@ ghost use Rattle.osc_top.specs.Plain as scripts;
 ghost use Rattle.osc_top.specs.Bank.{IsAccounted};
 ghost use Rattle.osc_top.specs.Printing.{usage_text};
 ghost use Rattle.osc_top.specs.Commands as commands;
-ghost use Rattle.osc_top.specs.Ends.{GainsUnless, IsUnstopped, RunsByTheLaws, RecordsTheLaws, EndsRun, EndsLines, EndsReplay, EndsReading, left_behind, IsPlayed, IsUnplayed};
+ghost use Rattle.osc_top.specs.Sinks.{sink_change, Fails, IsSteady, GainsUnless};
+ghost use Rattle.osc_top.specs.Ends.{
+  RecordsTheLaws,
+  EndsRun,
+  EndsLines,
+  EndsReading,
+  left_behind,
+  IsPlayed,
+  IsUnplayed,
+};
+ghost use Rattle.osc_top.specs.EndsPlain.{EndsPlain, CanBeDone, HandsBack, AccountsPlain};
 
 use crate::caps::{default_limits, plain_limits};
 use crate::counting::count_adds;
@@ -47,7 +77,8 @@ use std::alloc::Global;
 #[derive(Drop)]
 pub struct Ended {
     /// The exit status: 0 done, 1 script or recording refused, 2 words refused, 3 want of memory, 4 the source failed,
-    /// 5 the sink failed, 6 the recording was full, 8 more adds than boxes (docs/FORMATS.md, "Programs").
+    /// 5 a sink failed, 6 the recording was full, 7 a link or the clock failed, 8 more adds than boxes
+    /// (docs/FORMATS.md, "Programs").
     pub status: u8,
     /// The id of each method that was added with its box, ascending, the removed ones among them.
     pub heard: Vec<(u32, Box<dyn Method + Send>)>,
@@ -58,8 +89,8 @@ pub struct Ended {
 /// Does all that the program does. `run` reads a script from `input` to its end, plays it on a new server, and writes
 /// the printed history and the faults of its packets to `out`, or with `--bytes` the recording. `replay` reads a
 /// recording, and writes the same printed history, each answer of which it computes again. `dump` reads a recording,
-/// and writes its entries as they stand. `gen` reads nothing: it draws a script from a seed, plays it, and writes how many
-/// entries of each kind there are.
+/// and writes its entries as they stand. `gen` reads nothing: it draws a script from a seed, plays it, and writes how
+/// many entries of each kind there are.
 ///
 /// `words` are those of the command line, without the program's name. The k-th add of a script gets the k-th box of
 /// `bank`. Scripts, recordings, printed lines and statuses are those of docs/FORMATS.md. What stands in `out`, and what
@@ -80,9 +111,8 @@ pub fn plain_top<S: Source, O: Sink>(
         → (result.status ≡ USAGE) ⊎ (result.status ≡ NO_MEMORY) }
     ensures unread { said.reading_of (map string_bytes words.now) ≡ None
         → input.new ≡ input.old }
-    ensures usage_text { result.status ≡ USAGE →
-        GainsUnless (O.held out.old) (O.held out.new) (O.faults out.old)
-        (O.faults out.new) usage_text }
+    ensures usage_text { result.status ≡ USAGE
+        → GainsUnless (sink_change O.held O.faults out.old out.new) usage_text }
 
     // Then a source that failed, of which nothing is written. Any other answer but want of memory means that the
     // source didn't fail, and that it was read to its end, or to the first byte that is too many.
@@ -98,100 +128,38 @@ pub fn plain_top<S: Source, O: Sink>(
 
     // Then a script or a recording that is refused, or a script that adds more methods than there are boxes, or what
     // the command writes, with a sink that took all of it or failed.
-    ensures command { IfSome (said.reading_of (map string_bytes words.now))
-        (λ reading. IfSome (S.left input.old) (λ all. result.status ≢ SOURCE_FAILED →
-        EndsReading reading result.status (length bank.items) all (O.held out.old) (O.held out.new)
-        (O.faults out.old) (O.faults out.new))) }
-    ensures sink { result.status ≡ SINK_FAILED → Rose (O.faults out.old) (O.faults out.new) }
-
-    // A script that is drawn is played and summed up, and its boxes are accounted for as those of a script that is
-    // read.
-    ensures drawn { (seed : ℕ) (lines : ℕ)
-        → said.plain_command_of (map string_bytes words.now) ≡ Some (Gen seed lines) →
-        EndsLines Summary scripts.default_limits result.status (length bank.items)
-        (scripts.drawn_lines seed lines) (O.held out.old) (O.held out.new) (O.faults out.old)
-        (O.faults out.new) }
-    ensures drawn_accounted { (seed : ℕ) (lines : ℕ)
-        → said.plain_command_of (map string_bytes words.now) ≡ Some (Gen seed lines) →
-        IsPlayed result.status
-        → IsAccounted scripts.default_limits (scripts.drawn_lines seed lines)
-        (map (λ one. record { id = one.0; keep = keep one.1; heard = heard one.1 })
-        result.heard.items) result.left.items
-        (map (λ box. record { keep = keep box; heard = heard box }) bank.items) bank.items }
-    ensures drawn_laws { (seed : ℕ) (lines : ℕ)
-        → said.plain_command_of (map string_bytes words.now) ≡ Some (Gen seed lines) →
-        IsPlayed result.status
-        → RunsByTheLaws scripts.default_limits (scripts.drawn_lines seed lines) }
+    ensures command { IfSome (said.plain_command_of (map string_bytes words.now))
+        (λ command. EndsPlain command result.status (length bank.items) (S.left input.old)
+        (sink_change O.held O.faults out.old out.new)) }
+    ensures sink { result.status ≡ SINK_FAILED
+        → Fails (sink_change O.held O.faults out.old out.new) }
 
     // Done means that nothing failed and that the input was read to its end.
-    ensures steady { result.status ≡ DONE → O.faults out.new ≡ O.faults out.old }
+    ensures steady { result.status ≡ DONE
+        → IsSteady (sink_change O.held O.faults out.old out.new) }
     ensures ended { result.status ≡ DONE
         → IsSome (said.reading_of (map string_bytes words.now))
         → IfSome (S.left input.old) (λ all. S.left input.new ≡ Some []) }
 
-    // Each box that was added has heard what the history says, and each other one comes back as it was; where nothing
-    // was played, all of them.
-    ensures accounted { (output : Output) (caps : Capacities)
-        → said.reading_of (map string_bytes words.now) ≡ Some (Run output caps)
-        → IsPlayed result.status → (lines : List Line) ×
-        IfSome (S.left input.old) (λ script. script_of Plain script ≡ Ok lines) ×
-        IsAccounted (scripts.plain_limits caps) lines
-        (map (λ one. record { id = one.0; keep = keep one.1; heard = heard one.1 })
-        result.heard.items) result.left.items
-        (map (λ box. record { keep = keep box; heard = heard box }) bank.items) bank.items }
+    // Each box that was added has heard what the history says, which keeps the four laws, and each other one comes
+    // back as it was; where nothing was played, all of them.
+    ensures accounted { IfSome (said.plain_command_of (map string_bytes words.now))
+        (λ command. AccountsPlain (λ box. keep box) (λ box. heard box) command result.status
+        (S.left input.old) bank.items result.heard.items result.left.items) }
     ensures ascending { IsTrue (is_ascending (map (λ one. one.0) result.heard.items)) }
     ensures none_heard { IsUnplayed result.status → result.heard.items ≡ [] }
     ensures all_left { IsUnplayed result.status → result.left.items ≡ bank.items }
-    ensures replay_hears_none { said.reading_of (map string_bytes words.now) ≡ Some Replay
-        → result.status ≢ NO_MEMORY → result.heard.items ≡ [] }
-    ensures replay_leaves_all { said.reading_of (map string_bytes words.now) ≡ Some Replay
-        → result.status ≢ NO_MEMORY → result.left.items ≡ bank.items }
-    ensures dump_hears_none { said.reading_of (map string_bytes words.now) ≡ Some Dump
-        → result.status ≢ NO_MEMORY → result.heard.items ≡ [] }
-    ensures dump_leaves_all { said.reading_of (map string_bytes words.now) ≡ Some Dump
-        → result.status ≢ NO_MEMORY → result.left.items ≡ bank.items }
 
-    // The history of each run and of each recording that is replayed keeps the four laws.
-    ensures laws { (output : Output) (caps : Capacities)
-        → said.reading_of (map string_bytes words.now) ≡ Some (Run output caps)
-        → IsPlayed result.status → (lines : List Line) ×
-        IfSome (S.left input.old) (λ script. script_of Plain script ≡ Ok lines)
-        × RunsByTheLaws (scripts.plain_limits caps) lines }
+    // The history of each recording that is replayed keeps the four laws.
     ensures replay_laws { said.reading_of (map string_bytes words.now) ≡ Some Replay
-        → result.status ≡ DONE →
-        IfSome (S.left input.old) (λ recording. RecordsTheLaws recording) }
+        → result.status ≡ DONE → IfSome (S.left input.old) RecordsTheLaws }
 
-    // A lawful script with enough boxes and room for its recording is played, so is a drawn one, the recording of each
-    // history that the server's rules give is replayed, and each well-formed recording is dumped, over edges that don't
-    // fail, unless memory runs out.
-    ensures complete { (output : Output) (caps : Capacities)
-        → said.reading_of (map string_bytes words.now) ≡ Some (Run output caps)
-        → IfSome (S.left input.old) (λ script.
-        IsOkAnd (script_of Plain script)
-        (λ lines. (scripts.count_adds lines ≤ length bank.items)
-        × IsUnstopped (scripts.plain_limits caps) lines) →
-        ¬ Rose (S.faults input.old) (S.faults input.new)
-        → ¬ Rose (O.faults out.old) (O.faults out.new) →
+    // What can be done is done over edges that don't fail, unless memory runs out.
+    ensures complete { IfSome (said.plain_command_of (map string_bytes words.now))
+        (λ command. CanBeDone command (length bank.items) (S.left input.old)
+        → (IsSome (said.reading_in command) → ¬ Rose (S.faults input.old) (S.faults input.new))
+        → ¬ Fails (sink_change O.held O.faults out.old out.new) →
         (result.status ≡ DONE) ⊎ (result.status ≡ NO_MEMORY)) }
-    ensures replayed { said.reading_of (map string_bytes words.now) ≡ Some Replay
-        → IfSome (S.left input.old) (λ recording.
-        (caps : Limits) (history : List Entry) → IsRecordingOf recording caps history →
-        ¬ Rose (S.faults input.old) (S.faults input.new)
-        → ¬ Rose (O.faults out.old) (O.faults out.new) →
-        (result.status ≡ DONE) ⊎ (result.status ≡ NO_MEMORY)) }
-    ensures dumped { said.reading_of (map string_bytes words.now) ≡ Some Dump
-        → IfSome (S.left input.old) (λ recording.
-        (caps : Limits) (entries : List Entry) → IsFormed caps entries
-        → recording ≡ record_text caps entries →
-        ¬ Rose (S.faults input.old) (S.faults input.new)
-        → ¬ Rose (O.faults out.old) (O.faults out.new) →
-        (result.status ≡ DONE) ⊎ (result.status ≡ NO_MEMORY)) }
-    ensures drawn_complete { (seed : ℕ) (lines : ℕ)
-        → said.plain_command_of (map string_bytes words.now) ≡ Some (Gen seed lines)
-        → (scripts.count_adds (scripts.drawn_lines seed lines) ≤ length bank.items)
-        × IsUnstopped scripts.default_limits (scripts.drawn_lines seed lines)
-        → ¬ Rose (O.faults out.old) (O.faults out.new) →
-        (result.status ≡ DONE) ⊎ (result.status ≡ NO_MEMORY) }
 {
     let reading = match plain_command_of(alloc, words) {
         Ok(Some(PlainCommand::Read(reading))) => reading,
@@ -235,14 +203,10 @@ pub(crate) fn unplayed(alloc: Global, status: u8, bank: Vec<Box<dyn Method + Sen
 /// Refuses an input that is too long.
 fn refuse_long<O: Sink>(alloc: Global, reading: Reading, out: &mut O) -> u8
     ensures ends { (have : ℕ) (all : List ℕ) → commands.most_bytes reading < length all
-        → EndsReading reading result have all (O.held out.old) (O.held out.new) (O.faults out.old)
-        (O.faults out.new) }
-    ensures refused { (result ≡ 1) ⊎ (result ≡ 3) }
-    ensures none { reading ≡ Replay → (all : List ℕ) (caps : Limits) (history : List Entry)
-        → commands.most_bytes reading < length all → ¬ IsRecordingOf all caps history }
-    ensures unformed { reading ≡ Dump → (all : List ℕ) (caps : Limits) (entries : List Entry)
-        → commands.most_bytes reading < length all → IsFormed caps entries
-        → ¬ (all ≡ record_text caps entries) }
+        → EndsReading reading result have all (sink_change O.held O.faults out.old out.new) }
+    ensures refused { (result ≡ REFUSED) ⊎ (result ≡ NO_MEMORY) }
+    ensures hopeless { (have : ℕ) (all : List ℕ) → commands.most_bytes reading < length all
+        → ¬ CanBeDone (Read reading) have (Some all) }
 {
     a_legal_history_is_recordable();
     match reading {
@@ -268,35 +232,15 @@ fn perform<O: Sink>(
     requires size { length bytes.items ≤ commands.most_bytes reading }
     requires range { IsLawfulReading reading }
     ensures ends { EndsReading reading result.status (length bank.items) bytes.items
-        (O.held out.old) (O.held out.new) (O.faults out.old) (O.faults out.new) }
-    ensures accounted { (output : Output) (caps : Capacities) → reading ≡ Run output caps
-        → IsPlayed result.status
-        → (lines : List Line) × (script_of Plain bytes.items ≡ Ok lines)
-        × IsAccounted (scripts.plain_limits caps) lines
-        (map (λ one. record { id = one.0; keep = keep one.1; heard = heard one.1 })
-        result.heard.items) result.left.items
-        (map (λ box. record { keep = keep box; heard = heard box }) bank.items) bank.items }
-    ensures ascending { IsTrue (is_ascending (map (λ one. one.0) result.heard.items)) }
-    ensures laws { (output : Output) (caps : Capacities) → reading ≡ Run output caps
-        → IsPlayed result.status →
-        (lines : List Line) × (script_of Plain bytes.items ≡ Ok lines)
-        × RunsByTheLaws (scripts.plain_limits caps) lines }
+        (sink_change O.held O.faults out.old out.new) }
+    ensures accounted { AccountsPlain (λ box. keep box) (λ box. heard box) (Read reading)
+        result.status (Some bytes.items) bank.items result.heard.items result.left.items }
+    ensures back { HandsBack result.status bank.items result.heard.items result.left.items }
     ensures replay_laws { reading ≡ Replay → result.status ≡ DONE → RecordsTheLaws bytes.items }
-    ensures none_heard { (result.status ≡ REFUSED) ⊎ (result.status ≡ BANK_SHORT)
-        → result.heard.items ≡ [] }
-    ensures all_left { (result.status ≡ REFUSED) ⊎ (result.status ≡ BANK_SHORT)
-        → result.left.items ≡ bank.items }
-    ensures replay_hears_none { reading ≡ Replay → result.heard.items ≡ [] }
-    ensures replay_leaves_all { reading ≡ Replay → result.left.items ≡ bank.items }
-    ensures dump_hears_none { reading ≡ Dump → result.heard.items ≡ [] }
-    ensures dump_leaves_all { reading ≡ Dump → result.left.items ≡ bank.items }
-    ensures replayed { reading ≡ Replay → (caps : Limits) (history : List Entry)
-        → IsRecordingOf bytes.items caps history
+    ensures complete { CanBeDone (Read reading) (length bank.items) (Some bytes.items)
         → (result.status ≡ DONE) ⊎ (result.status ≡ NO_MEMORY) ⊎ (result.status ≡ SINK_FAILED) }
-    ensures dumped { reading ≡ Dump → (caps : Limits) (entries : List Entry)
-        → IsFormed caps entries → bytes.items ≡ record_text caps entries
-        → (result.status ≡ DONE) ⊎ (result.status ≡ NO_MEMORY) ⊎ (result.status ≡ SINK_FAILED) }
-    ensures sink { result.status ≡ SINK_FAILED → Rose (O.faults out.old) (O.faults out.new) }
+    ensures sink { result.status ≡ SINK_FAILED
+        → Fails (sink_change O.held O.faults out.old out.new) }
 {
     match reading {
         Reading::Run { output, caps } => {
@@ -324,21 +268,12 @@ fn run<O: Sink>(
     bank: Vec<Box<dyn Method + Send>>,
 ) -> Ended
     ensures ends { EndsRun report caps result.status (length bank.items) bytes.items
-        (O.held out.old) (O.held out.new) (O.faults out.old) (O.faults out.new) }
+        (sink_change O.held O.faults out.old out.new) }
     ensures accounted { IsPlayed result.status
         → (lines : List Line) × (script_of Plain bytes.items ≡ Ok lines)
-        × IsAccounted caps lines
-        (map (λ one. record { id = one.0; keep = keep one.1; heard = heard one.1 })
-        result.heard.items) result.left.items
-        (map (λ box. record { keep = keep box; heard = heard box }) bank.items) bank.items }
-    ensures ascending { IsTrue (is_ascending (map (λ one. one.0) result.heard.items)) }
-    ensures laws { IsPlayed result.status →
-        (lines : List Line) × (script_of Plain bytes.items ≡ Ok lines)
-        × RunsByTheLaws caps lines }
-    ensures none_heard { (result.status ≡ REFUSED) ⊎ (result.status ≡ BANK_SHORT)
-        → result.heard.items ≡ [] }
-    ensures all_left { (result.status ≡ REFUSED) ⊎ (result.status ≡ BANK_SHORT)
-        → result.left.items ≡ bank.items }
+        × IsAccounted (λ box. keep box) (λ box. heard box) caps lines bank.items
+        result.heard.items result.left.items }
+    ensures back { HandsBack result.status bank.items result.heard.items result.left.items }
 {
     let read = Script::read(alloc, &bytes, Mode::Plain);
     drop(bytes);
@@ -359,18 +294,11 @@ fn generate<O: Sink>(
 ) -> Ended
     requires { lines ≤ MAX_GENERATED_LINES }
     ensures ends { EndsLines Summary scripts.default_limits result.status (length bank.items)
-        (scripts.drawn_lines seed lines) (O.held out.old) (O.held out.new) (O.faults out.old)
-        (O.faults out.new) }
+        (scripts.drawn_lines seed lines) (sink_change O.held O.faults out.old out.new) }
     ensures accounted { IsPlayed result.status
-        → IsAccounted scripts.default_limits (scripts.drawn_lines seed lines)
-        (map (λ one. record { id = one.0; keep = keep one.1; heard = heard one.1 })
-        result.heard.items) result.left.items
-        (map (λ box. record { keep = keep box; heard = heard box }) bank.items) bank.items }
-    ensures ascending { IsTrue (is_ascending (map (λ one. one.0) result.heard.items)) }
-    ensures laws { IsPlayed result.status
-        → RunsByTheLaws scripts.default_limits (scripts.drawn_lines seed lines) }
-    ensures none_heard { result.status ≡ BANK_SHORT → result.heard.items ≡ [] }
-    ensures all_left { result.status ≡ BANK_SHORT → result.left.items ≡ bank.items }
+        → IsAccounted (λ box. keep box) (λ box. heard box) scripts.default_limits
+        (scripts.drawn_lines seed lines) bank.items result.heard.items result.left.items }
+    ensures back { HandsBack result.status bank.items result.heard.items result.left.items }
 {
     match drawn_lines(alloc, seed, lines) {
         Ok(lines) => run_lines(alloc, Report::Summary, default_limits(), lines, out, bank),
@@ -387,17 +315,11 @@ fn run_lines<O: Sink>(
     bank: Vec<Box<dyn Method + Send>>,
 ) -> Ended
     ensures ends { EndsLines report caps result.status (length bank.items) lines.items
-        (O.held out.old) (O.held out.new) (O.faults out.old) (O.faults out.new) }
+        (sink_change O.held O.faults out.old out.new) }
     ensures accounted { IsPlayed result.status
-        → IsAccounted caps lines.items
-        (map (λ one. record { id = one.0; keep = keep one.1; heard = heard one.1 })
-        result.heard.items) result.left.items
-        (map (λ box. record { keep = keep box; heard = heard box }) bank.items) bank.items }
-    ensures ascending { IsTrue (is_ascending (map (λ one. one.0) result.heard.items)) }
-    ensures laws { IsPlayed result.status
-        → RunsByTheLaws caps lines.items }
-    ensures none_heard { result.status ≡ BANK_SHORT → result.heard.items ≡ [] }
-    ensures all_left { result.status ≡ BANK_SHORT → result.left.items ≡ bank.items }
+        → IsAccounted (λ box. keep box) (λ box. heard box) caps lines.items bank.items
+        result.heard.items result.left.items }
+    ensures back { HandsBack result.status bank.items result.heard.items result.left.items }
 {
     let need = count_adds(&lines);
     if bank.len() < need {

@@ -1,23 +1,39 @@
 // Writes what the commands print.
-ghost use Rattle.osc_top.specs.declared.status.TheConstants.{DONE, NO_MEMORY, RECORDING_FULL};
+ghost use Rattle.osc_top.specs.declared.status.TheConstants.{NO_MEMORY};
 ghost use Rattle.std.specs.Prelude.{◌≡◌, ◌≢◌, ◌⊎◌, ◌≤◌, ◌++◌, List, length, IfOk};
-ghost use Rattle.std.specs.Option.{option_map};
 ghost use Rattle.osc_model.specs.Limits.{Limits, max_recording};
 ghost use Rattle.osc_model.specs.Events.{Entry};
-ghost use Rattle.osc_record.specs.Shown.{room_of};
 ghost use Rattle.osc_model.specs.Recordings.{record_text};
 ghost use Rattle.osc_replay.specs.Counted as counts;
 ghost use Rattle.osc_replay.specs.Disagreeing.{IsRecordingOf};
 ghost use Rattle.osc_replay.specs.Formed.{IsFormed};
 ghost use Rattle.osc_script.specs.declared.line.Line.{Line};
-ghost use Rattle.osc_top.specs.Printing.{refusal_text, malformed_text, disagrees_text, bank_short_text, stop_text};
-ghost use Rattle.osc_top.specs.Recorded.{recorded_text, status_of};
-ghost use Rattle.osc_top.specs.Ends.{IsRunOf, EndsText, EndsLine, EndsPlayed, EndsReplay, EndsDump, RecordsTheLaws};
+ghost use Rattle.osc_top.specs.Printing.{
+  refusal_text,
+  malformed_text,
+  disagrees_text,
+  bank_short_text,
+  last_text,
+};
+ghost use Rattle.osc_top.specs.Live.{IsWritten};
+ghost use Rattle.osc_top.specs.Outcomes as outcomes;
+ghost use Rattle.osc_top.specs.Recorded.{recorded_text};
+ghost use Rattle.osc_top.specs.Ends.{
+  IsRunOf,
+  EndsText,
+  EndsLine,
+  EndsPlayed,
+  EndsReplay,
+  EndsDump,
+  RecordsTheLaws,
+};
+ghost use Rattle.osc_top.specs.Sinks.{sink_change};
 
-use crate::lines::{bank_short_line, disagrees_lines, full_line, malformed_line, refusal_line};
+use crate::lines::{bank_short_line, disagrees_lines, malformed_line, outcome_line, refusal_line};
+use crate::outcome::status_of;
 use crate::recorded::Recorded;
 use crate::report::Report;
-use crate::status::{BANK_SHORT, DONE, NO_MEMORY, RECORDING_FULL, REFUSED, SINK_FAILED};
+use crate::status::{BANK_SHORT, DONE, NO_MEMORY, REFUSED, SINK_FAILED};
 use crate::whole::{Written, write_whole};
 use osc_edge::Sink;
 use osc_laws::laws::every_history_keeps_the_laws;
@@ -37,27 +53,16 @@ pub(crate) fn write_recorded<O: Sink>(
 ) -> u8
     requires { (caps : Limits) × (lines : List Line)
         × IsRunOf recorded.now.bytes.items recorded.now.faults
-        (option_map room_of recorded.now.stop) caps lines }
+        recorded.now.outcome caps lines }
     ensures { (caps : Limits) (lines : List Line)
         → IsRunOf recorded.now.bytes.items recorded.now.faults
-        (option_map room_of recorded.now.stop) caps lines →
-        EndsPlayed report caps result lines (O.held out.old) (O.held out.new) (O.faults out.old)
-        (O.faults out.new) }
+        recorded.now.outcome caps lines →
+        EndsPlayed report caps result lines (sink_change O.held O.faults out.old out.new) }
 {
     match report {
-        Report::Recording => write_text(played_status(recorded), &recorded.bytes, out),
+        Report::Recording => write_text(status_of(recorded.outcome), &recorded.bytes, out),
         Report::Text => write_run_text(alloc, recorded, out),
         Report::Summary => write_summary(alloc, recorded, out),
-    }
-}
-
-/// The status of what was played and written.
-fn played_status(recorded: &Recorded) -> u8
-    ensures { result ≡ status_of (option_map room_of recorded.now.stop) }
-{
-    match recorded.stop {
-        Some(_) => RECORDING_FULL,
-        None => DONE,
     }
 }
 
@@ -67,12 +72,12 @@ pub(crate) fn write_run_text<O: Sink>(alloc: Global, recorded: &Recorded, out: &
         × IsRecordingOf recorded.now.bytes.items caps history }
     ensures { (caps : Limits) (history : List Entry)
         → IsRecordingOf recorded.now.bytes.items caps history →
-        EndsText (status_of (option_map room_of recorded.now.stop)) result
-        (recorded_text caps history recorded.now.faults (option_map room_of recorded.now.stop))
-        (O.held out.old) (O.held out.new) (O.faults out.old) (O.faults out.new) }
+        EndsText (outcomes.status_of recorded.now.outcome) result
+        (recorded_text caps history recorded.now.faults recorded.now.outcome)
+        (sink_change O.held O.faults out.old out.new) }
 {
     match run_text(alloc, recorded) {
-        Ok(text) => write_text(played_status(recorded), text.bytes(), out),
+        Ok(text) => write_text(status_of(recorded.outcome), text.bytes(), out),
         Err(_) => NO_MEMORY,
     }
 }
@@ -83,12 +88,12 @@ fn write_summary<O: Sink>(alloc: Global, recorded: &Recorded, out: &mut O) -> u8
         × IsRecordingOf recorded.now.bytes.items caps history }
     ensures { (caps : Limits) (history : List Entry)
         → IsRecordingOf recorded.now.bytes.items caps history →
-        EndsText (status_of (option_map room_of recorded.now.stop)) result
-        (counts.summary caps history ++ stop_text (option_map room_of recorded.now.stop))
-        (O.held out.old) (O.held out.new) (O.faults out.old) (O.faults out.new) }
+        EndsText (outcomes.status_of recorded.now.outcome) result
+        (counts.summary caps history ++ last_text recorded.now.outcome)
+        (sink_change O.held O.faults out.old out.new) }
 {
     match summary_text(alloc, recorded) {
-        Ok(text) => write_text(played_status(recorded), text.bytes(), out),
+        Ok(text) => write_text(status_of(recorded.outcome), text.bytes(), out),
         Err(_) => NO_MEMORY,
     }
 }
@@ -99,12 +104,10 @@ fn summary_text(alloc: Global, recorded: &Recorded) -> Result<Text, AllocError>
     ensures { (caps : Limits) (history : List Entry)
         → IsRecordingOf recorded.now.bytes.items caps history
         → IfOk result (λ text. text ≡ counts.summary caps history
-        ++ stop_text (option_map room_of recorded.now.stop)) }
+        ++ last_text recorded.now.outcome) }
 {
     let mut text = summary(alloc, &recorded.bytes)?;
-    if let Some(room) = recorded.stop {
-        full_line(&mut text, room)?;
-    }
+    outcome_line(&mut text, recorded.outcome)?;
     Ok(text)
 }
 
@@ -115,7 +118,7 @@ fn run_text(alloc: Global, recorded: &Recorded) -> Result<Text, AllocError>
     ensures { (caps : Limits) (history : List Entry)
         → IsRecordingOf recorded.now.bytes.items caps history
         → IfOk result (λ text. text ≡ recorded_text caps history recorded.now.faults
-        (option_map room_of recorded.now.stop)) }
+        recorded.now.outcome) }
 {
     a_legal_history_is_recordable();
     let mut text = match replay(alloc, &recorded.bytes) {
@@ -124,17 +127,14 @@ fn run_text(alloc: Global, recorded: &Recorded) -> Result<Text, AllocError>
         Err(_) => unreachable!(),
     };
     text.word(recorded.faults.bytes())?;
-    if let Some(room) = recorded.stop {
-        full_line(&mut text, room)?;
-    }
+    outcome_line(&mut text, recorded.outcome)?;
     Ok(text)
 }
 
 /// Replays the recording, and writes its printed text, or why it is refused.
 pub(crate) fn write_replay<O: Sink>(alloc: Global, bytes: &[u8], out: &mut O) -> u8
     requires { length bytes.now ≤ max_recording }
-    ensures ends { EndsReplay result bytes.now (O.held out.old) (O.held out.new) (O.faults out.old)
-        (O.faults out.new) }
+    ensures ends { EndsReplay result bytes.now (sink_change O.held O.faults out.old out.new) }
     ensures replayed { (caps : Limits) (history : List Entry) → IsRecordingOf bytes.now caps history
         → (result ≡ 0) ⊎ (result ≡ 3) ⊎ (result ≡ 5) }
     ensures laws { result ≡ 0 → RecordsTheLaws bytes.now }
@@ -157,8 +157,7 @@ pub(crate) fn write_replay<O: Sink>(alloc: Global, bytes: &[u8], out: &mut O) ->
 /// Writes the dump of the recording, or the place where it is malformed.
 pub(crate) fn write_dump<O: Sink>(alloc: Global, bytes: &[u8], out: &mut O) -> u8
     requires { length bytes.now ≤ max_recording }
-    ensures ends { EndsDump result bytes.now (O.held out.old) (O.held out.new) (O.faults out.old)
-        (O.faults out.new) }
+    ensures ends { EndsDump result bytes.now (sink_change O.held O.faults out.old out.new) }
     ensures complete { (caps : Limits) (entries : List Entry) → IsFormed caps entries
         → bytes.now ≡ record_text caps entries → (result ≡ 0) ⊎ (result ≡ 3) ⊎ (result ≡ 5) }
 {
@@ -171,9 +170,8 @@ pub(crate) fn write_dump<O: Sink>(alloc: Global, bytes: &[u8], out: &mut O) -> u
 
 /// Writes a text that is done.
 fn write_text<O: Sink>(status: u8, text: &[u8], out: &mut O) -> u8
-    requires { (status ≡ DONE) ⊎ (status ≡ RECORDING_FULL) }
-    ensures { EndsText status result text.now (O.held out.old) (O.held out.new) (O.faults out.old)
-        (O.faults out.new) }
+    requires { IsWritten status }
+    ensures { EndsText status result text.now (sink_change O.held O.faults out.old out.new) }
 {
     match write_whole(out, text) {
         Written::Wrote => status,
@@ -184,8 +182,7 @@ fn write_text<O: Sink>(status: u8, text: &[u8], out: &mut O) -> u8
 
 /// Writes the line of a script that is refused.
 pub(crate) fn refuse<O: Sink>(alloc: Global, fault: ScriptFault, out: &mut O) -> u8
-    ensures { EndsLine 1 result (refusal_text fault) (O.held out.old) (O.held out.new)
-        (O.faults out.old) (O.faults out.new) }
+    ensures { EndsLine 1 result (refusal_text fault) (sink_change O.held O.faults out.old out.new) }
 {
     let mut text = Text::open(alloc);
     match refusal_line(&mut text, fault) {
@@ -196,8 +193,7 @@ pub(crate) fn refuse<O: Sink>(alloc: Global, fault: ScriptFault, out: &mut O) ->
 
 /// Writes the line of a recording that is malformed at a place.
 pub(crate) fn malformed<O: Sink>(alloc: Global, at: u32, out: &mut O) -> u8
-    ensures { EndsLine 1 result (malformed_text at) (O.held out.old) (O.held out.new)
-        (O.faults out.old) (O.faults out.new) }
+    ensures { EndsLine 1 result (malformed_text at) (sink_change O.held O.faults out.old out.new) }
 {
     let mut text = Text::open(alloc);
     match malformed_line(&mut text, at) {
@@ -208,8 +204,8 @@ pub(crate) fn malformed<O: Sink>(alloc: Global, at: u32, out: &mut O) -> u8
 
 /// Writes the lines of an entry whose bytes aren't those that the server computes.
 fn disagrees<O: Sink>(alloc: Global, entry: u32, kept: &Bytes, computed: &Bytes, out: &mut O) -> u8
-    ensures { EndsLine 1 result (disagrees_text entry kept.now computed.now) (O.held out.old)
-        (O.held out.new) (O.faults out.old) (O.faults out.new) }
+    ensures { EndsLine 1 result (disagrees_text entry kept.now computed.now)
+        (sink_change O.held O.faults out.old out.new) }
 {
     let mut text = Text::open(alloc);
     match disagrees_lines(
@@ -226,8 +222,8 @@ fn disagrees<O: Sink>(alloc: Global, entry: u32, kept: &Bytes, computed: &Bytes,
 
 /// Writes the line of a script that adds more methods than there are boxes.
 pub(crate) fn bank_short<O: Sink>(alloc: Global, need: usize, have: usize, out: &mut O) -> u8
-    ensures { EndsLine 8 result (bank_short_text need have) (O.held out.old) (O.held out.new)
-        (O.faults out.old) (O.faults out.new) }
+    ensures { EndsLine 8 result (bank_short_text need have)
+        (sink_change O.held O.faults out.old out.new) }
 {
     let mut text = Text::open(alloc);
     match bank_short_line(&mut text, need, have) {
@@ -239,8 +235,7 @@ pub(crate) fn bank_short<O: Sink>(alloc: Global, need: usize, have: usize, out: 
 /// A last line that can't be written changes no status, but for want of memory.
 pub(crate) fn last_line<O: Sink>(status: u8, line: &[u8], out: &mut O) -> u8
     requires { status ≢ NO_MEMORY }
-    ensures { EndsLine status result line.now (O.held out.old) (O.held out.new) (O.faults out.old)
-        (O.faults out.new) }
+    ensures { EndsLine status result line.now (sink_change O.held O.faults out.old out.new) }
 {
     match write_whole(out, line) {
         Written::Short => NO_MEMORY,

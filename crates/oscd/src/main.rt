@@ -1,10 +1,12 @@
-// An Open Sound Control server that plays the lanes of a script beside each other.
+// An Open Sound Control server that plays the lanes of a script, or serves links, beside each other.
 #![tactic(auto)]
 
-use osc_edge::{FileSink, StdSink, StdSource};
+ghost use Rattle.std.specs.Prelude.{◌≤◌, length, IfOk};
+
+use osc_edge::{FileSink, StdSink, StdSource, SystemClock, UdpLink};
 use osc_lanes::OpenGate;
 use osc_method::Method;
-use osc_top::{live_top, recording_name, traces};
+use osc_top::{live_top, ports, recording_name, traces};
 use std::alloc::AllocError;
 use std::process::ExitCode;
 use std::sync::Wait;
@@ -32,10 +34,24 @@ fn run<W: Threads + Wait + Sync>(rt: &HostRuntime, threads: &W) -> Result<u8, Al
     let mut rec = FileSink::at(rt, String::from_str(alloc, name)?);
     let mut input = StdSource::open(rt);
     let mut out = StdSink::open(rt);
-    let ended = live_top(
-        threads, alloc, &words, &mut input, &mut out, &mut rec, bank, &OpenGate,
+    let mut clock = SystemClock::open(rt);
+    let links = links(rt, &words)?;
+    let (ended, _links) = live_top(
+        threads, alloc, &words, &mut input, &mut out, &mut rec, links, &mut clock, bank, &OpenGate,
     );
     Ok(ended.status)
+}
+
+/// A link for each port that the words say to serve.
+fn links(rt: &HostRuntime, words: &[String]) -> Result<Vec<UdpLink>, AllocError>
+    ensures { IfOk result (λ links. length links.items ≤ 16) }
+{
+    let ports = ports(rt.alloc(), words)?;
+    let mut links = Vec::with_capacity(rt.alloc(), ports.len())?;
+    for port in ports {
+        links.push(UdpLink::at(rt, port))?;
+    }
+    Ok(links)
 }
 
 /// The words of the command line, without the program's name; none where one of them isn't UTF-8, which is no

@@ -1,6 +1,7 @@
 use Rattle.std.proofs.Common.{◌≡◌, ◌+◌, All, length}
 use Rattle.osc_turn.specs.Passes.{view}
-use Rattle.osc_live.specs.Seen.{IsTokenOf}
+use Rattle.osc_turn.specs.History.{StartsWith}
+use Rattle.osc_live.specs.Seen.{IsTokenOf, history_of}
 use Rattle.osc_lanes.specs.Crews.{IsCrew}
 use Rattle.osc_lanes.proofs.crew.enrol_all.Given as goal
 
@@ -9,6 +10,7 @@ invariant-loop g l = record {
   ours : IsTokenOf l.live.turn l.live.caps l.first.pass;
   number : l.first.number ≡ 0;
   callers_ours : All (λ caller. IsTokenOf l.live.turn l.live.caps caller.pass) l.callers.items;
-  crew : IsCrew (1 + length l.callers.items) (view l.first.pass) l.callers.items;
+  seen : StartsWith (view l.first.pass).seen (view l.fn.first.pass).seen;
+  crew : IsCrew (history_of (view l.fn.first.pass)) (1 + length l.callers.items) (view l.first.pass) l.callers.items;
   so_many : length l.callers.items ≡ l.counter;
 }

@@ -1,5 +1,4 @@
 use Rattle.std.proofs.Common.{◌≡◌, List, [], ◌∷◌, map, None, Some, refl, sym, ap, subst, ◌∙◌, arith}
-use Rattle.std.specs.List.{insert}
 use Rattle.std.proofs.lemmas.List.{length-map}
 use Rattle.osc_model.specs.Events.{Room, record_full}
 use Rattle.osc_core.specs.Answers.{room_of}
@@ -8,17 +7,12 @@ use Rattle.osc_turn.specs.Passes.{view}
 use Rattle.osc_live.specs.declared.caller.Caller.{Caller}
 use Rattle.osc_live.specs.Closing.{known, views_of, Closes}
 use Rattle.osc_live.specs.Enrolments.{refusal_of}
-use Rattle.osc_live.specs.declared.refusal.EnrolRefusal.{EnrolRefusal}
-use Rattle.osc_live.specs.declared.refusal.EnrolRefusal.TheVariants.{CallersFull}
 use Rattle.osc_lanes.specs.Shares.{Account, ended}
 use Rattle.osc_lanes.specs.Performs.{Performs, part_of}
-use Rattle.osc_lanes.proofs.Finishing.{finish_none}
+use Rattle.osc_lanes.proofs.Finishing.{never_both, finish_none}
+use Rattle.osc_lanes.proofs.Hosts.{inserted_first}
 use Rattle.osc_lanes.proofs.performing.play_none.Goals as goal
 use Rattle.osc_lanes.proofs.performing.play_none.Goals.{In_ok-bytes}
-
-inserted_first : {X : Type 0} (xs : List X) (x : X) → insert xs 0 x ≡ x ∷ xs
-inserted_first [] x = refl
-inserted_first (y ∷ xs) x = refl
 
 -- what the close comes to
 finished : (g : _) (c : In_ok-bytes g)
@@ -35,13 +29,10 @@ finished g c =
     (subst (λ (l : List Caller). Closes c.args.live.caps (known l) (views_of l c.push.new.self.items) c.in_ok-bytes.field-0.bytes.items
     (told g.M.Method.keep g.M.Method.heard c.in_ok-bytes.field-0.kept.items)) callers c.in_ok-bytes.ensures)
 
-never : (room : Room) (why : EnrolRefusal) → why ≡ CallersFull → refusal_of why ≡ record_full room → ⊥
-never room why is full = let same = sym (ap refusal_of is) ∙ full in cc
-
 pub unreachable-requires : goal.unreachable-requires
 unreachable-requires g c =
     let done = finished g (goal.at.unreachable-requires g c).In_ok-bytes in
-    absurd (never done.0 c.args.why c.in-CallersFull.is done.1)
+    absurd (never_both done.0 c.args.why c.in-CallersFull.is done.1)
 
 pub returns : goal.returns
 returns g c =

@@ -1,16 +1,42 @@
-use Rattle.std.proofs.Common.{subst}
+use Rattle.std.proofs.Common.{map, subst, ◌∙◌}
+use Rattle.std.proofs.lemmas.List.Elements.{All-map}
+use Rattle.osc_turn.specs.History.{StartsWith}
 use Rattle.osc_lanes.specs.declared.ticker.Round.{Round}
+use Rattle.osc_lanes.specs.declared.ticker.Round.TheVariants as round
 use Rattle.osc_lanes.specs.Ends.{seen_by}
 use Rattle.osc_lanes.specs.Rounds.{TicksMeanwhile}
+use Rattle.osc_lanes.specs.Serves.{seen_in}
+use Rattle.osc_lanes.specs.Shares.{Player, Onward}
+use Rattle.osc_lanes.proofs.Ticking.{ended_last, ended_in_last, round_as}
 use Rattle.osc_lanes.proofs.Totals.{all_same}
 use Rattle.osc_lanes.proofs.serving.finish.Goals as goal
 
 pub returns-in-Over-clause-same : goal.returns-in-Over-clause-same
 returns-in-Over-clause-same g c = all_same c.args.ends.items
 
-pub returns-in_ok-done-in-Played-clause-ticks : goal.returns-in_ok-done-in-Played-clause-ticks
-returns-in_ok-done-in-Played-clause-ticks g c before faults player here same ticks =
-    c.in_ok-done-in-Played.ensures.ticks before faults player here same
+pub returns-in-Played-round-clause-ticks : goal.returns-in-Played-round-clause-ticks
+returns-in-Played-round-clause-ticks g c before faults player here same ticks =
+    ended_last g.M.Method.keep g.M.Method.heard player (map seen_in c.in_ok-ends.ends.items) before (g.C.Clock.left c.args.clock.now)
+    (g.C.Clock.left c.play_round-ticker.new.clock) faults (g.C.Clock.faults c.args.clock.now) (g.C.Clock.faults c.play_round-ticker.new.clock)
+    c.in-Played.last here (seen_by c.args.ticker) (seen_by c.in_ok-ends.ticker) (seen_by c.play_round-ticker.result.0)
     (subst (λ (r : Round). TicksMeanwhile g.M.Method.keep g.M.Method.heard player
     (record { before = before; after = g.C.Clock.left c.args.clock.now; faults = faults; now = g.C.Clock.faults c.args.clock.now }) r here
     (seen_by c.args.ticker)) c.in-Played.is ticks)
+    (subst (λ (q : Player). Onward q.token (seen_by c.args.ticker) (seen_by c.in_ok-ends.ticker)) same c.in_ok-ends.ensures.onward)
+    (All-map (StartsWith (seen_by c.in_ok-ends.ticker)) seen_in c.in_ok-ends.ends.items c.in_ok-ends.ensures.told) c.in-Played-round.field-0
+    (round_as g.M.Method.keep g.M.Method.heard player _ c.in-Played.last _ c.play_round-ticker.result.1 (round.Played c.in-Played-round.field-0) _ _
+    (c.in_ok-ends.ensures.player ∙ same) c.in-Played-round.is
+    c.play_round-ticker.ensures.round)
+
+pub returns-in-Over-round-clause-ticks : goal.returns-in-Over-round-clause-ticks
+returns-in-Over-round-clause-ticks g c before faults player here same ticks =
+    ended_in_last g.M.Method.keep g.M.Method.heard player (map seen_in c.in_ok-ends.ends.items) before (g.C.Clock.left c.args.clock.now)
+    (g.C.Clock.left c.play_round-ticker.new.clock) faults (g.C.Clock.faults c.args.clock.now) (g.C.Clock.faults c.play_round-ticker.new.clock)
+    c.in-Played.last here (seen_by c.args.ticker) (seen_by c.in_ok-ends.ticker) (seen_by c.play_round-ticker.result.0)
+    (subst (λ (r : Round). TicksMeanwhile g.M.Method.keep g.M.Method.heard player
+    (record { before = before; after = g.C.Clock.left c.args.clock.now; faults = faults; now = g.C.Clock.faults c.args.clock.now }) r here
+    (seen_by c.args.ticker)) c.in-Played.is ticks)
+    (subst (λ (q : Player). Onward q.token (seen_by c.args.ticker) (seen_by c.in_ok-ends.ticker)) same c.in_ok-ends.ensures.onward) c.in-Over-round.end
+    (round_as g.M.Method.keep g.M.Method.heard player _ c.in-Played.last _ c.play_round-ticker.result.1 (round.Over c.in-Over-round.end) _ _
+    (c.in_ok-ends.ensures.player ∙ same) c.in-Over-round.is
+    c.play_round-ticker.ensures.round)

@@ -27,6 +27,7 @@ loop-line-preserved g c =
     record {
       ours = c.in_ok-next.ensures.ours;
       player = c.in_ok-next.ensures.player ∙ inv.player;
+      made = c.in_ok-next.ensures.made ∙ inv.made;
       handed = omega (arith, inv.handed, ap count_adds c.in-Some.ensures.steps.0, c.in_ok-next.ensures.handed);
       so_far = goes_on g.M.Method.keep g.M.Method.heard _ _ _ (gathered c.args.tally.now None) _ c.in-Some.line _ _ _ _ before now stop _ _ inv.so_far
           c.in-Some.ensures.steps.0 played none;
@@ -36,3 +37,9 @@ pub returns-clause-plays : goal.returns-clause-plays
 returns-clause-plays g c =
     goes_over g.M.Method.keep g.M.Method.heard _ _ _ (gathered c.args.tally.now None) _ _ _ (gathered c.loop-line.tally None) _ c.loop-line.invariant.so_far
     (none_long _ (omega (arith, c.in-None.ensures.steps.0, c.loop-line.line-iterator.rest.ok.0)))
+
+pub returns-then-is_some-clause-made : goal.returns-then-is_some-clause-made
+returns-then-is_some-clause-made g c = c.in_ok-next.ensures.made ∙ c.loop-line.invariant.made
+
+pub returns-clause-made : goal.returns-clause-made
+returns-clause-made g c = c.loop-line.invariant.made

@@ -1,4 +1,5 @@
-use Rattle.std.proofs.Common.{◌≡◌, ℕ, zero, suc, ◌+◌, ◌≤◌, ◌||◌, Bool, true, cond, List, [], ◌∷◌, map, length, get_or, Option, Some, None, codes, string_bytes, sym, ap, ◌∙◌, arith}
+use Rattle.std.proofs.Common.{◌≡◌, ℕ, zero, suc, ◌+◌, ◌≤◌, ◌||◌, Bool, true, cond, List, [], ◌∷◌, map, length, get_or, Option, Some, None, codes, string_bytes}
+use Rattle.std.proofs.Common.{sym, ap, ◌∙◌, arith}
 use Rattle.std.specs.Str.{bytes_eq}
 use Rattle.osc_top.specs.Commands.{last_of, name_in}
 use Rattle.osc_top.proofs.name.recording_name.Goals as goal

@@ -1,5 +1,4 @@
-use Rattle.std.proofs.Common.{◌≡◌, rules, subst}
-use Rattle.osc_model.specs.History.{Performance, Legal}
+use Rattle.std.proofs.Common.{◌≡◌, rules}
 use Rattle.osc_top.specs.Plain.{plain}
 use Rattle.osc_top.proofs.Endings.{accounted}
 use Rattle.osc_top.proofs.playing.play.Goals as goal
@@ -11,18 +10,10 @@ returns-clause-accounted g c =
     let is : performance ≡ record { caps = c.args.caps; history = (plain c.args.caps lines).history } = search rules in
     let over = c.in_ok-stop.ensures.boxes c.args.bank.items c.in_ok-player.ensures.boxes in
     let done = c.in_ok-played.ensures in
-    accounted g.M.Method.keep g.M.Method.heard c.args.caps lines performance c.args.bank.items _ _ is c.requires.enough done.legal
-    (done.boxes c.args.bank.items over)
+    accounted g.M.Method.keep g.M.Method.heard c.args.caps lines performance c.args.bank.items _ _ is c.requires.enough
+    c.every_history_keeps_the_laws.ensures done.legal (done.boxes c.args.bank.items over)
 
 pub returns-clause-ascending : goal.returns-clause-ascending
 returns-clause-ascending g c =
     let over = c.in_ok-stop.ensures.boxes c.args.bank.items c.in_ok-player.ensures.boxes in
     (c.in_ok-played.ensures.boxes c.args.bank.items over).ascending
-
-pub returns-clause-laws : goal.returns-clause-laws
-returns-clause-laws g c =
-    let performance = c.play_lines.new.self.core.performance in
-    let lines = c.args.lines.items in
-    let is : performance ≡ record { caps = c.args.caps; history = (plain c.args.caps lines).history } = search rules in
-    let legal = subst (λ (p : Performance). Legal p.caps p.history) is c.in_ok-played.ensures.legal in
-    c.every_history_keeps_the_laws.ensures c.args.caps (plain c.args.caps lines).history legal

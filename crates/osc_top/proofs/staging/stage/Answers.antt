@@ -1,11 +1,11 @@
-use Rattle.std.proofs.Common.{ℕ, List, map, sym, ap, subst, arith}
+use Rattle.std.proofs.Common.{ℕ, List, map, sym, subst, arith}
 use Rattle.std.specs.Option.{option_map}
 use Rattle.osc_core.specs.Answers.{room_of}
 use Rattle.osc_lanes.specs.Performs.{Part, Performs, told_of}
-use Rattle.osc_top.specs.Lanes.{parts_of}
+use Rattle.osc_top.specs.Lanes.{PlaysLanes, parts_of}
 use Rattle.osc_top.specs.Staged.{IsStaged}
 use Rattle.osc_top.proofs.Dealt.{parts_whole, few_parts}
-use Rattle.osc_top.proofs.Staged.{staged, ascending_ids}
+use Rattle.osc_top.proofs.Staged.{lanes_staged}
 use Rattle.osc_top.proofs.staging.stage.Goals as goal
 use Rattle.osc_top.proofs.staging.stage.Goals.{In_ok-played}
 
@@ -35,8 +35,8 @@ performed_so g c =
     subst (λ (parts : List (Part g.row.M.Denot)). Performs keep heard c.args.caps parts performed.bytes.items performed.kept.items accounts unenrolled)
     c.in_ok-parts.ensures.parts c.in_ok-performed.ensures
 
-pub returns-clause-staged : goal.returns-clause-staged
-returns-clause-staged g c =
+pub returns : goal.returns
+returns g c =
     let keep = g.M.Method.keep in
     let heard = g.M.Method.heard in
     let lines = c.args.lines.items in
@@ -44,18 +44,10 @@ returns-clause-staged g c =
     let performed = c.in_ok-performed.performed in
     let played = c.in_ok-played.played in
     let done = c.in_ok-played.ensures in
-    let stop = option_map room_of played.recorded.stop in
-    subst (λ (l : List ℕ). IsStaged keep heard c.args.caps lines bank played.heard.items played.left.items l played.recorded.faults stop) (sym done.bytes)
-    (staged keep heard c.args.caps lines bank performed.bytes.items performed.kept.items (map told_of performed.lanes.items)
-    (option_map room_of performed.unenrolled)
-    played.heard.items (performed_so g
-    (goal.at.returns-clause-staged g c).In_ok-played) done.each done.ascending played.left.items _ played.recorded.faults stop
-    done.left c.in_ok-parts.ensures.rest done.faults done.stop)
-
-pub returns-clause-ascending : goal.returns-clause-ascending
-returns-clause-ascending g c =
-    let performed = c.in_ok-performed.performed in
-    let done = c.in_ok-played.ensures in
-    ascending_ids g.M.Method.keep g.M.Method.heard c.args.caps c.args.lines.items c.args.bank.items performed.bytes.items performed.kept.items
-    (map told_of performed.lanes.items) (option_map room_of performed.unenrolled) c.in_ok-played.played.heard.items
-    (performed_so g (goal.at.returns-clause-ascending g c).In_ok-played) done.each done.ascending
+    let said = played.recorded.faults in
+    let outcome = played.recorded.outcome in
+    subst (λ (l : List ℕ). IsStaged (PlaysLanes keep heard c.args.caps bank played.heard.items played.left.items lines) c.args.caps l said outcome)
+    (sym done.bytes)
+    (lanes_staged keep heard c.args.caps lines bank performed.bytes.items performed.kept.items (map told_of performed.lanes.items)
+    (option_map room_of performed.unenrolled) played.heard.items (performed_so g (goal.at.returns g c).In_ok-played)
+    done.each done.ascending played.left.items _ said outcome done.left c.in_ok-parts.ensures.rest done.faults done.outcome)

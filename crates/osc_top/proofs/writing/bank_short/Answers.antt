@@ -5,5 +5,5 @@ use Rattle.osc_top.proofs.writing.bank_short.Goals as goal
 
 pub returns-in-Ok : goal.returns-in-Ok
 returns-in-Ok g c =
-    line_text _ _ _ _ _ _ _ _ (c.bytes.ensures ∙ c.in-Ok.ensures ∙ ap (λ (l : List ℕ). l ++ bank_short_text c.args.need c.args.have) c.open-text.ensures)
+    line_text _ _ _ _ _ (c.bytes.ensures ∙ c.in-Ok.ensures ∙ ap (λ (l : List ℕ). l ++ bank_short_text c.args.need c.args.have) c.open-text.ensures)
     c.last_line.ensures

@@ -1,4 +1,5 @@
-use Rattle.std.proofs.Common.{◌<◌, sym, ap, subst, ◌∙◌}
+use Rattle.std.proofs.Common.{◌<◌, length, sym, ap, subst, ◌∙◌, arith}
+use Rattle.std.proofs.lemmas.List.{append-nil}
 use Rattle.osc_model.specs.State.{State}
 use Rattle.osc_model.specs.Events.{release}
 use Rattle.osc_model.specs.History.{Performance, state_of}
@@ -7,7 +8,7 @@ use Rattle.osc_top.specs.Plain.{pump, room_in, stop_at}
 use Rattle.osc_top.proofs.Hearing.{HearsCalls}
 use Rattle.osc_top.proofs.Onward.{one_caller}
 use Rattle.osc_top.proofs.Places.{at_over}
-use Rattle.osc_top.proofs.Pumps.{pump_on, state_over, not_due, no_room, is_taken, turn_at}
+use Rattle.osc_top.proofs.Pumps.{pump_on, pump_over, state_over, not_due, no_room, is_taken, turn_at}
 use Rattle.osc_top.proofs.player.Player.play_pump.Goals as goal
 
 pub loop-room-smaller : goal.loop-room-smaller
@@ -34,36 +35,39 @@ loop-room-preserved g c =
           c.loop-room.self.core.heard (before.boxes bank at);
     }
 
-pub returns-in-NothingDue-clause-stop : goal.returns-in-NothingDue-clause-stop
-returns-in-NothingDue-clause-stop g c =
-    let performance = c.loop-room.self.core.performance in
-    let initial = c.args.self.now.core.performance in
-    sym (ap room_in c.in-NothingDue.ensures.answer)
-    ∙ ap (λ (s : State). stop_at s release)
-    (state_over performance initial (pump (state_of initial))
-    (not_due performance c.in-NothingDue.next c.in-NothingDue.ensures.answer) c.loop-room.invariant.end)
-
-pub returns-in-NothingDue-clause-boxes : goal.returns-in-NothingDue-clause-boxes
-returns-in-NothingDue-clause-boxes g c =
+pub returns-in-NothingDue : goal.returns-in-NothingDue
+returns-in-NothingDue g c =
     let done = c.release.ensures in
     let performance = c.loop-room.self.core.performance in
-    let law : HearsCalls = record { fresh = c.a_box_hears_its_calls.ensures.fresh; on = c.a_box_hears_its_calls.ensures.on } in
-    λ bank at. turn_at _ bank performance _ law (c.invocations_are_of_registered_methods.ensures.step (state_of performance) release) done.performance _ _ _ _ _
-    done.boxes c.loop-room.self.core.heard (c.loop-room.invariant.boxes bank at)
-
-pub returns-in-RecordFull-clause-stop : goal.returns-in-RecordFull-clause-stop
-returns-in-RecordFull-clause-stop g c =
-    let performance = c.loop-room.self.core.performance in
     let initial = c.args.self.now.core.performance in
-    sym (ap room_in c.in-RecordFull.ensures.answer)
-    ∙ ap (λ (s : State). stop_at s release)
-    (state_over performance initial (pump (state_of initial)) (no_room performance _ c.in-RecordFull.ensures.answer) c.loop-room.invariant.end)
+    let law : HearsCalls = record { fresh = c.a_box_hears_its_calls.ensures.fresh; on = c.a_box_hears_its_calls.ensures.on } in
+    record {
+      performance = pump_over performance _ done.performance (not_due performance c.in-NothingDue.next c.in-NothingDue.ensures.answer)
+          ∙ c.loop-room.invariant.end;
+      faults = c.loop-room.invariant.faults ∙ sym (append-nil c.args.self.now.faults);
+      stop = sym (ap room_in c.in-NothingDue.ensures.answer)
+          ∙ ap (λ (s : State). stop_at s release)
+          (state_over performance initial (pump (state_of initial))
+          (not_due performance c.in-NothingDue.next c.in-NothingDue.ensures.answer) c.loop-room.invariant.end);
+      waiting = omega (arith, ap length c.loop-room.invariant.waiting);
+      boxes = λ bank at. turn_at _ bank performance _ law (c.invocations_are_of_registered_methods.ensures.step (state_of performance) release)
+          done.performance _ _ _ _ _ done.boxes c.loop-room.self.core.heard (c.loop-room.invariant.boxes bank at);
+    }
 
-pub returns-in-RecordFull-clause-boxes : goal.returns-in-RecordFull-clause-boxes
-returns-in-RecordFull-clause-boxes g c =
+pub returns-in-RecordFull : goal.returns-in-RecordFull
+returns-in-RecordFull g c =
     let done = c.release.ensures in
     let performance = c.loop-room.self.core.performance in
+    let initial = c.args.self.now.core.performance in
     let law : HearsCalls = record { fresh = c.a_box_hears_its_calls.ensures.fresh; on = c.a_box_hears_its_calls.ensures.on } in
-    λ bank at. at_over _ bank _ _ _ _ _
-    (turn_at _ bank performance _ law (c.invocations_are_of_registered_methods.ensures.step (state_of performance) release) done.performance _ _ _ _ _
-    done.boxes c.loop-room.self.core.heard (c.loop-room.invariant.boxes bank at))
+    record {
+      performance = pump_over performance _ done.performance (no_room performance _ c.in-RecordFull.ensures.answer) ∙ c.loop-room.invariant.end;
+      faults = c.loop-room.invariant.faults ∙ sym (append-nil c.args.self.now.faults);
+      stop = sym (ap room_in c.in-RecordFull.ensures.answer)
+          ∙ ap (λ (s : State). stop_at s release)
+          (state_over performance initial (pump (state_of initial)) (no_room performance _ c.in-RecordFull.ensures.answer) c.loop-room.invariant.end);
+      waiting = omega (arith, ap length c.loop-room.invariant.waiting);
+      boxes = λ bank at. at_over _ bank _ _ _ _ _
+          (turn_at _ bank performance _ law (c.invocations_are_of_registered_methods.ensures.step (state_of performance) release) done.performance
+          _ _ _ _ _ done.boxes c.loop-room.self.core.heard (c.loop-room.invariant.boxes bank at));
+    }

@@ -1,0 +1,40 @@
+use Rattle.osc_lanes.proofs.Answering.{answered_by, pumped_by, pumped_player, pumped_made}
+use Rattle.osc_lanes.proofs.Telling.{played_add, played_remove, played_tick, played_pump}
+use Rattle.osc_lanes.proofs.acts.play_act.Goals as goal
+
+pub returns-in_ok-stop-in-Add-clause-played : goal.returns-in_ok-stop-in-Add-clause-played
+returns-in_ok-stop-in-Add-clause-played g c =
+    let add = c.add-caller.ensures in
+    rw c.in-Add.is
+    (played_add g.M.Method.keep g.M.Method.heard _ _ _ _ _ _ _ _ c.in-Add.address c.in-Some.method _ _ c.add-caller.result.1 c.in_ok-stop-in-Add.stop
+    c.in-Some.ensures.cases.0 (answered_by c.args.live.now.caps c.args.caller c.add-caller.result.0 _ _ add.call) add.marked add.handed_back
+    c.in_ok-stop-in-Add.ensures.stop c.in_ok-stop-in-Add.ensures.back)
+
+pub returns-in_ok-stop-in-Remove-clause-played : goal.returns-in_ok-stop-in-Remove-clause-played
+returns-in_ok-stop-in-Remove-clause-played g c =
+    let remove = c.remove-caller.ensures in
+    rw c.in-Remove.is
+    (played_remove g.M.Method.keep g.M.Method.heard _ _ _ _ _ _ _ _ c.in-Remove.address _ c.remove-caller.result.1 c.in_ok-stop-in-Remove.stop
+    (answered_by c.args.live.now.caps c.args.caller c.remove-caller.result.0 _ _ remove.call) remove.marked remove.heard
+    c.in_ok-stop-in-Remove.ensures.stop c.in_ok-stop-in-Remove.ensures.removed)
+
+pub returns-in-Tick-clause-played : goal.returns-in-Tick-clause-played
+returns-in-Tick-clause-played g c =
+    rw c.in-Tick.is
+    (played_tick g.M.Method.keep g.M.Method.heard _ _ _ _ _ _ _ _ c.in-Tick.moment _ c.ticked_stop-stop.result
+    (answered_by c.args.live.now.caps c.args.caller c.tick-caller.result.0 _ _ c.tick-caller.ensures.call) c.ticked_stop-stop.ensures)
+
+pub returns-in-Pump-clause-player : goal.returns-in-Pump-clause-player
+returns-in-Pump-clause-player g c =
+    pumped_player c.args.live.now.caps c.args.caller c.pump-caller.result.0 c.pump-caller.result.1 c.pump-caller.ensures.number c.pump-caller.ensures.calls
+
+pub returns-in-Pump-clause-made : goal.returns-in-Pump-clause-made
+returns-in-Pump-clause-made g c =
+    pumped_made c.args.live.now.caps c.args.caller c.pump-caller.result.0 c.pump-caller.result.1 c.pump-caller.ensures.calls
+
+pub returns-in-Pump-clause-played : goal.returns-in-Pump-clause-played
+returns-in-Pump-clause-played g c =
+    let pumped = pumped_by c.args.live.now.caps c.args.caller c.pump-caller.result.0 c.pump-caller.result.1 c.pump-caller.ensures.calls in
+    rw c.in-Pump.is
+    (played_pump g.M.Method.keep g.M.Method.heard _ _ _ _ _ _ _ _ c.pump-caller.result.1.released pumped.0 c.pump-caller.result.1.end c.pumped_stop-stop.result
+    pumped.1 pumped.2 c.pumped_stop-stop.ensures)

@@ -1,0 +1,57 @@
+-- How each command of many threads ends.
+use Rattle.std.specs.Prelude.{◌≡◌, ◌⊎◌, ℕ, List, length, Option}
+use Rattle.osc_lanes.specs.Links.{Turn}
+use Rattle.osc_lanes.specs.Ticks.{ClockRead}
+use Rattle.osc_script.specs.declared.line.Line.{Line}
+use Rattle.osc_words.specs.declared.command.Capacities.{Capacities}
+use Rattle.osc_words.specs.declared.command.LiveCommand.{LiveCommand}
+use Rattle.osc_words.specs.declared.command.LiveCommand.TheVariants as live
+use Rattle.osc_top.specs.declared.status.TheConstants.{DONE, EDGE_FAILED, NO_MEMORY, RECORDING_FULL}
+use Rattle.osc_top.specs.declared.outcome.Outcome.{Outcome}
+use Rattle.osc_top.specs.Commands.{mode_of}
+use Rattle.osc_top.specs.Ends.{IsUnplayed}
+use Rattle.osc_top.specs.Lanes.{PlaysLanes}
+use Rattle.osc_top.specs.Live.{EndsLive}
+use Rattle.osc_top.specs.Plain.{live_limits}
+use Rattle.osc_top.specs.Served.{PlaysLinks}
+use Rattle.osc_top.specs.Sinks.{SinkChange}
+
+-- what playing lines comes to: lanes are played, or links are served, on the server that the words
+-- say, of which these boxes, links and inputs were handed in, and this came back
+abbrev pub plays_of : {M L : Type 0} → (M → ℕ) → (M → Option (List ℕ)) → (L → Option (List Turn))
+    → (L → ℕ) → LiveCommand → List M → List (ℕ × M) → List M → List L → List L → ClockRead
+    → List Line → List ℕ → List ℕ → Outcome → Type 0
+plays_of keep heard left faults (live.Lanes caps) bank added rest links links_after clock lines
+    recording text outcome =
+    PlaysLanes keep heard (live_limits caps) bank added rest lines recording text outcome
+plays_of keep heard left faults (live.Serve port ports count idle caps) bank added rest links
+    links_after clock lines recording text outcome =
+    PlaysLinks keep heard left faults (live_limits caps) (record { count = count; idle = idle })
+    bank links clock added rest links_after lines recording text outcome
+
+-- how a command ends, by its status and its script
+abbrev pub EndsCommand : {M L : Type 0} → (M → ℕ) → (M → Option (List ℕ))
+    → (L → Option (List Turn)) → (L → ℕ) → LiveCommand → ℕ → List ℕ → List M → List (ℕ × M)
+    → List M → List L → List L → ClockRead → SinkChange → SinkChange → Type 0
+EndsCommand keep heard left faults command status script bank added rest links links_after clock
+    rec out =
+    EndsLive (mode_of command)
+    (plays_of keep heard left faults command bank added rest links links_after clock)
+    status script (length bank) rec out
+
+-- how a command may end that has enough boxes, and whose input and sinks don't fail
+abbrev pub MayEnd : LiveCommand → ℕ → Type 0
+MayEnd (live.Lanes caps) status =
+    (status ≡ DONE) ⊎ (status ≡ NO_MEMORY) ⊎ (status ≡ RECORDING_FULL)
+MayEnd (live.Serve port links count idle caps) status =
+    (status ≡ DONE) ⊎ (status ≡ NO_MEMORY) ⊎ (status ≡ RECORDING_FULL)
+    ⊎ (status ≡ EDGE_FAILED)
+
+-- Where nothing was played, the links, the clock and the sink of the recording are as they were.
+-- Lanes leave links and clock as they were.
+pub record LeavesAlone {L C R : Type 0} (command : LiveCommand) (status : ℕ)
+    (links links_after : List L) (clock clock_after : C) (rec rec_after : R) : Type 0 where
+  pub unrecorded : IsUnplayed status → rec_after ≡ rec
+  pub unserved : IsUnplayed status → (links_after ≡ links) × (clock_after ≡ clock)
+  pub lanes_serve_none : (caps : Capacities) → command ≡ live.Lanes caps
+      → (links_after ≡ links) × (clock_after ≡ clock)

@@ -1,0 +1,53 @@
+-- What serving links comes to.
+use Rattle.std.specs.Prelude.{◌≡◌, ℕ, List, ◌++◌, take, drop, Option}
+use Rattle.std.specs.List.{flat_map}
+use Rattle.std.specs.Option.{option_map, option_or}
+use Rattle.osc_atoms.specs.declared.fault.Fault.{Fault}
+use Rattle.osc_model.specs.Limits.{Limits}
+use Rattle.osc_core.specs.Answers.{room_of}
+use Rattle.osc_core.specs.Standing.{history_in}
+use Rattle.osc_turn.specs.History.{texts}
+use Rattle.osc_lanes.specs.declared.hosting.Hosted.{Hosted}
+use Rattle.osc_lanes.specs.declared.served.Bounds.{Bounds}
+use Rattle.osc_lanes.specs.Hosts.{Hosts}
+use Rattle.osc_lanes.specs.Links.{Turn}
+use Rattle.osc_lanes.specs.Performs.{Part}
+use Rattle.osc_lanes.specs.Ticks.{ClockRead}
+use Rattle.osc_print.specs.Lines.{link_fault_text}
+use Rattle.osc_replay.specs.Printed.{printed}
+use Rattle.osc_script.specs.declared.line.Line.{Line}
+use Rattle.osc_top.specs.declared.outcome.Outcome.{Outcome}
+use Rattle.osc_top.specs.Lanes.{HaveHeardAll}
+use Rattle.osc_top.specs.Outcomes.{served}
+use Rattle.osc_top.specs.Plain.{count_adds}
+use Rattle.osc_top.specs.Printing.{last_text}
+
+-- the lines of the faults of links' datagrams, in order
+abbrev pub link_faults : List (ℕ × ℕ × Fault) → List ℕ
+link_faults faults = flat_map (λ one. link_fault_text one.0 one.1 one.2) faults
+
+-- the lines of a script that adds methods, and a box for each
+abbrev pub adds_part : {M : Type 0} → List Line → List M → Part M
+adds_part lines bank = record { lines = lines; boxes = take (count_adds lines) bank }
+
+module _ {M : Type 0} {L : Type 0} where
+  -- The script's lines were played on one new server, and the links were served. The boxes that
+  -- were added have heard its one history; the others come back, those of adds that were refused
+  -- and then those that no line took. The text is that of the history, then the faults of the
+  -- links, and last the line on what went wrong, where something did.
+  pub record PlaysLinks (keep : M → ℕ) (heard : M → Option (List ℕ))
+      (left : L → Option (List Turn)) (faults : L → ℕ) (caps : Limits) (bounds : Bounds)
+      (bank : List M) (links : List L) (clock : ClockRead) (added : List (ℕ × M))
+      (rest : List M) (links_after : List L) (lines : List Line) (recording text : List ℕ)
+      (outcome : Outcome) : Type 0 where
+    pub hosted : Hosted M L
+    pub hosts : Hosts left faults keep heard caps bounds (adds_part lines bank) links clock hosted
+    pub recorded : recording ≡ hosted.bytes.items
+    pub boxes : HaveHeardAll keep heard caps hosts.history added
+    pub links_are : links_after ≡ hosted.links.links.items
+    pub rest_is : rest ≡ hosted.opening.back.items ++ drop (count_adds lines) bank
+    pub outcome_is : outcome ≡ served hosted.links.failed hosted.links.clock_failed
+        (option_map room_of (option_or hosted.opening.stop
+        (option_or hosted.unenrolled hosted.links.stop)))
+    pub text_is : text ≡ printed caps (history_in (texts hosts.history))
+        ++ (link_faults hosted.links.faults.items ++ last_text outcome)

@@ -1,0 +1,127 @@
+// Serves links on a server, which records them.
+ghost use Rattle.osc_top.specs.declared.caps.TheConstants.{LIVE_CALLERS};
+ghost use Rattle.std.specs.Prelude.{◌≡◌, ◌++◌, ◌≤◌, ◌<◌, length, IfOk};
+ghost use Rattle.std.specs.Option.{option_map, option_or};
+ghost use Rattle.std.specs.List.Sorted.{IsPermutation, IsNonDecreasingBy};
+ghost use Rattle.osc_core.specs.Answers.{room_of};
+ghost use Rattle.osc_lanes.specs.Ticks.{clock_read};
+ghost use Rattle.osc_top.specs.Plain.{count_adds};
+ghost use Rattle.osc_top.specs.Outcomes as outcomes;
+ghost use Rattle.osc_top.specs.Served.{PlaysLinks, link_faults};
+ghost use Rattle.osc_top.specs.Staged.{IsStaged};
+
+use crate::counting::count_adds;
+use crate::outcome::served;
+use crate::playing::{Played, gather};
+use crate::recorded::Recorded;
+use osc_atoms::Fault;
+use osc_edge::{Clock, Link};
+use osc_lanes::{Bounds, Gate, Hosted, LanePart, LaneTold, LinksTold, host};
+use osc_method::Method;
+use osc_print::{Text, link_fault_line};
+use osc_record::Caps;
+use osc_script::Line;
+use std::alloc::{AllocError, Global};
+use std::sync::Wait;
+use std::thread::Threads;
+
+/// Plays the lines on a new server as caller 0, the k-th add with the k-th box, and serves the links beside each other.
+/// The links come back in their order. An `Err` is want of memory.
+pub(crate) fn stage_links<
+    M: Method + Send,
+    L: Link + Send + Drop,
+    C: Clock + Send,
+    W: Threads + Wait + Sync,
+    G: Gate + Sync,
+>(
+    rt: &W,
+    alloc: Global,
+    caps: Caps,
+    lines: Vec<Line>,
+    mut bank: Vec<M>,
+    links: Vec<L>,
+    clock: &mut C,
+    bounds: Bounds,
+    gate: &G,
+) -> Result<(Played<M>, Vec<L>), AllocError>
+    requires callers { caps.callers ≡ LIVE_CALLERS }
+    requires enough { count_adds lines.items ≤ length bank.items }
+    requires few { length links.items ≤ 16 }
+    requires count { 0 < bounds.count }
+    requires idle { 0 < bounds.idle }
+    ensures { IfOk result (λ staged. IsStaged
+        (PlaysLinks M.keep M.heard L.left L.faults caps bounds bank.items links.items
+        (clock_read C.left C.faults clock.old clock.new) staged.0.heard.items
+        staged.0.left.items staged.1.items lines.items)
+        caps staged.0.recorded.bytes.items staged.0.recorded.faults
+        staged.0.recorded.outcome) }
+{
+    let rest = bank.split_off(count_adds(&lines))?;
+    let part = LanePart { lines, boxes: bank };
+    let hosted = host(rt, alloc, caps, part, links, clock, bounds, gate)?;
+    let settled = settle_links(alloc, hosted, rest)?;
+    Ok(settled)
+}
+
+/// Puts together what caller 0 and the links tell. The boxes that no line took are among those that are left.
+fn settle_links<M: Method, L: Drop>(
+    alloc: Global,
+    hosted: Hosted<M, L>,
+    mut rest: Vec<M>,
+) -> Result<(Played<M>, Vec<L>), AllocError>
+    ensures bytes { IfOk result
+        (λ settled. settled.0.recorded.bytes.items ≡ hosted.bytes.items) }
+    ensures faults { IfOk result
+        (λ settled. settled.0.recorded.faults ≡ link_faults hosted.links.faults.items) }
+    ensures outcome { IfOk result (λ settled. settled.0.recorded.outcome
+        ≡ outcomes.served hosted.links.failed hosted.links.clock_failed
+        (option_map room_of (option_or hosted.opening.stop
+        (option_or hosted.unenrolled hosted.links.stop)))) }
+    ensures each { IfOk result (λ settled. IsPermutation
+        (hosted.kept.items ++ hosted.opening.removed.items) settled.0.heard.items) }
+    ensures ascending { IfOk result
+        (λ settled. IsNonDecreasingBy (λ one. one.0) settled.0.heard.items) }
+    ensures left { IfOk result
+        (λ settled. settled.0.left.items ≡ hosted.opening.back.items ++ rest.items) }
+    ensures links { IfOk result (λ settled. settled.1.items ≡ hosted.links.links.items) }
+{
+    let Hosted {
+        bytes,
+        kept,
+        opening,
+        unenrolled,
+        links: told,
+    } = hosted;
+    let LaneTold {
+        removed,
+        back: mut left,
+        stop,
+        ..
+    } = opening;
+    left.append(&mut rest)?;
+    let heard = gather(kept, removed)?;
+    let faults = fault_text(alloc, &told.faults)?;
+    let stop = stop.or(unenrolled.or(told.stop));
+    let recorded = Recorded {
+        bytes,
+        faults,
+        outcome: served(told.failed, told.clock_failed, stop),
+    };
+    let played = Played {
+        recorded,
+        heard,
+        left,
+    };
+    Ok((played, told.links))
+}
+
+/// The lines of the faults of the links' datagrams.
+fn fault_text(alloc: Global, faults: &[(u32, u32, Fault)]) -> Result<Text, AllocError>
+    ensures { IfOk result (λ text. text ≡ link_faults faults.now) }
+{
+    let mut text = Text::open(alloc);
+    for (link, number, fault) in faults {
+        link_fault_line(&mut text, *link, *number, *fault)?;
+    }
+    Ok(text)
+}
