@@ -2,9 +2,14 @@
 # Plays the same scripts on osc and on a program over liblo, one after another, and prints the tables of README.md.
 #
 #     bench/run.sh [KINDS [LENGTHS]]        as bench/run.sh "0 2" "10 100"; all of them by default
+#     bench/run.sh datagrams [..]           datagrams over loopback: datagrams.sh
 #
 # It needs cc, liblo-dev, valgrind and time, and what bin/osc needs.
 set -eu
+if [ "${1:-}" = datagrams ]; then
+    shift
+    exec "$(dirname "$0")/datagrams.sh" "$@"
+fi
 kinds=${1:-0 1 2 3 4}
 lengths=${2:-10 100 1000 10000}
 here=$(cd "$(dirname "$0")" && pwd)

@@ -1,0 +1,82 @@
+#!/bin/sh
+# Sends datagrams over loopback to `oscd serve` and to a liblo server, one after another, and prints the table of README.md.
+#
+#     bench/datagrams.sh [RATES [SECONDS [PORT]]]        as bench/datagrams.sh "10000 50000" 5 9000
+#
+# It needs cc, liblo-dev and time, and what bin/oscd and bin/osc need, and at least three processors that are idle.
+set -eu
+rates=${1:-10000 50000 100000}
+seconds=${2:-5}
+port=${3:-9000}
+here=$(cd "$(dirname "$0")" && pwd)
+top=$(dirname "$here")
+work=$(mktemp -d)
+trap 'rm -rf "$work"' EXIT
+
+cc -O2 "$here/send_datagrams.c" -o "$work/send_datagrams"
+cc -O2 "$here/lo_server.c" -o "$work/lo_server" -llo
+"$top/bin/osc" run < /dev/null > /dev/null # builds it
+"$top/bin/oscd" lanes /dev/null < /dev/null > /dev/null
+osc="$top/crates/osc/out/osc"
+oscd="$top/crates/oscd/out/oscd"
+
+awk 'BEGIN { for (k = 0; k < 1000; k++) printf "add /g%d/n%d\n", k / 100, k % 100 }' > "$work/adds"
+
+# Ends once a program has bound the port.
+await_port() {
+    digits=$(printf ':%04X ' "$port")
+    until grep -q "$digits" /proc/net/udp /proc/net/udp6; do sleep 0.01; done
+}
+
+# A server of the port, which ends after so many datagrams or two seconds without one; its time goes to $work/time.
+serve() { # NAME COUNT
+    case $1 in
+    liblo) /usr/bin/time -f '%U %S' -o "$work/time" "$work/lo_server" "$port" "$2" > "$work/out" ;;
+    osc) /usr/bin/time -f '%U %S' -o "$work/time" "$oscd" serve --port "$port" --count "$2" --idle 40 \
+        --recording 1073741824 "$work/recording" < "$work/adds" > "$work/out" ;;
+    esac
+}
+
+calls() { # NAME
+    case $1 in
+    liblo) cat "$work/out" ;;
+    osc) grep -c '^call ' "$work/out" ;;
+    esac
+}
+
+# The microseconds of processor time that the last run of a server took.
+processor_time() {
+    awk '{ printf "%d\n", ($1 + $2) * 1000000 }' "$work/time"
+}
+
+# The microseconds that printing the history from the recording takes, which oscd does at its end.
+printing() { # NAME
+    [ "$1" = liblo ] && echo 0 && return
+    /usr/bin/time -f '%U %S' -o "$work/time" "$osc" replay < "$work/recording" > "$work/out"
+    processor_time
+}
+
+echo "Calls of datagrams that were sent at so many a second, for $seconds seconds, in three runs, and microseconds of processor"
+echo "time for each call, the least of the three:"
+echo
+echo "| a second | program | sent | called | microseconds | with printing |"
+echo "|---|---|---|---|---|---|"
+for rate in $rates; do
+    count=$((rate * seconds))
+    for name in liblo osc; do
+        called= least= whole=
+        for try in 1 2 3; do
+            serve "$name" "$count" &
+            await_port
+            "$work/send_datagrams" "$port" 0 "$count" "$rate" > "$work/sent"
+            wait
+            got=$(calls "$name")
+            took=$(processor_time)
+            served=$((took - $(printing "$name")))
+            called="$called $got"
+            least=$(awk -v a="$least" -v b="$served" -v n="$got" 'BEGIN { b /= n; print a == "" || b < a ? b : a }')
+            whole=$(awk -v a="$whole" -v b="$took" -v n="$got" 'BEGIN { b /= n; print a == "" || b < a ? b : a }')
+        done
+        echo "| $rate | $name | $count |$called | $(printf %.2f "$least") | $(printf %.2f "$whole") |"
+    done
+done
