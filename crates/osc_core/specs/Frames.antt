@@ -1,4 +1,4 @@
--- How messages are kept in a list of bytes: each after its length in 4 bytes.
+-- Inside the crate: how messages are kept in a list of bytes: each after its length in 4 bytes.
 use Rattle.osc_atoms.specs.declared.limits.TheConstants.{MAX_BYTES}
 use Rattle.std.specs.Prelude.{◌≡◌, ℕ, zero, suc, ◌+◌, ◌<◌, ◌≤◌, ◌^◌, IsTrue, List, [], ◌∷◌, ◌++◌}
 use Rattle.std.specs.Prelude.{length, take, drop}

@@ -79,8 +79,8 @@ impl Model for Server {
       recorded = 0;
     } };
 
-    ghost invariant = { λ s. IsRunning s.tree s.hits s.store s.queue s.next_id s.next_unit s.callers s.caller_limit
-        (vec_capacity s.bytes) };
+    ghost invariant = { λ s. IsRunning s.tree s.hits s.store s.queue s.next_id s.next_unit s.callers
+        s.caller_limit (vec_capacity s.bytes) };
 }
 
 impl Server {

@@ -12,6 +12,7 @@ ghost use Rattle.osc_message.specs.Faults.{of_pattern, no_tags, brackets, left_o
 ghost use Rattle.osc_message.specs.Wants.{Want, Leads, FirstFault};
 ghost use Rattle.osc_message.specs.Reading.{is_message, pattern_of, message_fault};
 ghost use Rattle.osc_message.specs.Arguments.{tags_of, unknown_of, message_arguments};
+ghost use Rattle.osc_message.specs.declared.limits.TheConstants.{MAX_BUILT};
 
 /// What is written as a message is read again: it is accepted, and its pattern, tags and arguments are those written
 /// (OSC 1.0, "OSC Messages").
@@ -76,20 +77,21 @@ pub fn examples()
         ≡ codes "/foo" ++ 0 ∷ 0 ∷ 0 ∷ 0 ∷ codes ",iisff"
         ++ 0 ∷ 0 ∷ 0 ∷ 0 ∷ 3 ∷ 232 ∷ 255 ∷ 255 ∷ 255 ∷ 255 ∷ codes "hello"
         ++ 0 ∷ 0 ∷ 0 ∷ 63 ∷ 157 ∷ 243 ∷ 182 ∷ 64 ∷ 181 ∷ 178 ∷ 45 ∷ [] }
-    ensures no_bytes { message_fault 65504 [] ≡ Some empty }
-    ensures no_pattern_byte { message_fault 65504 (codes "/a" ++ 255 ∷ 0 ∷ [])
+    ensures no_bytes { message_fault MAX_BUILT [] ≡ Some empty }
+    ensures no_pattern_byte { message_fault MAX_BUILT (codes "/a" ++ 255 ∷ 0 ∷ [])
         ≡ Some (of_pattern 0 10 2) }
-    ensures open_pattern { message_fault 65504 (codes "/[a" ++ 0 ∷ []) ≡ Some (of_pattern 0 11 1) }
-    ensures lawful_pattern { message_fault 65504 (codes "/*/x" ++ 0 ∷ 0 ∷ 0 ∷ 0 ∷ []) ≡ None }
-    ensures no_comma { message_fault 65504 (codes "/a" ++ 0 ∷ 0 ∷ 0 ∷ 0 ∷ 0 ∷ 1 ∷ [])
+    ensures open_pattern { message_fault MAX_BUILT (codes "/[a" ++ 0 ∷ [])
+        ≡ Some (of_pattern 0 11 1) }
+    ensures lawful_pattern { message_fault MAX_BUILT (codes "/*/x" ++ 0 ∷ 0 ∷ 0 ∷ 0 ∷ []) ≡ None }
+    ensures no_comma { message_fault MAX_BUILT (codes "/a" ++ 0 ∷ 0 ∷ 0 ∷ 0 ∷ 0 ∷ 1 ∷ [])
         ≡ Some (no_tags 4) }
-    ensures stray_bracket { message_fault 65504 (codes "/a" ++ 0 ∷ 0 ∷ codes ",]" ++ 0 ∷ 0 ∷ [])
+    ensures stray_bracket { message_fault MAX_BUILT (codes "/a" ++ 0 ∷ 0 ∷ codes ",]" ++ 0 ∷ 0 ∷ [])
         ≡ Some (brackets 5) }
-    ensures open_bracket { message_fault 65504 (codes "/a" ++ 0 ∷ 0 ∷ codes ",[" ++ 0 ∷ 0 ∷ [])
+    ensures open_bracket { message_fault MAX_BUILT (codes "/a" ++ 0 ∷ 0 ∷ codes ",[" ++ 0 ∷ 0 ∷ [])
         ≡ Some (brackets 5) }
-    ensures more_bytes { message_fault 65504
+    ensures more_bytes { message_fault MAX_BUILT
         (codes "/a" ++ 0 ∷ 0 ∷ codes ",i" ++ 0 ∷ 0 ∷ 0 ∷ 0 ∷ 0 ∷ 1 ∷ 0 ∷ 0 ∷ 0 ∷ 2 ∷ [])
         ≡ Some (left_over 12) }
-    ensures unknown_tag { message_fault 65504
+    ensures unknown_tag { message_fault MAX_BUILT
         (codes "/a" ++ 0 ∷ 0 ∷ codes ",x]" ++ 0 ∷ codes "abcd") ≡ None }
 {}

@@ -1,4 +1,4 @@
--- Calls of methods that are named by their ids.
+-- Inside the servers (osc_core, osc_replay): calls of methods that are named by their ids.
 use Rattle.std.specs.Prelude.{ℕ, List, [], unwrap_or}
 use Rattle.osc_pattern.specs.Methods.{Method}
 use Rattle.osc_tree.specs.Registry.{address_by_id}

@@ -1,4 +1,4 @@
--- What the events of the code that can be played stand for.
+-- Inside the crate: what the events of the code that can be played stand for.
 use Rattle.osc_model.specs.Events.{Event, enrol, submit, add, remove, tick, release}
 use Rattle.osc_replay.specs.declared.event.LawfulEvent.{LawfulEvent}
 use Rattle.osc_replay.specs.declared.event.LawfulEvent.TheVariants.{Enrol, Submit, Add, Remove}

@@ -1,4 +1,4 @@
--- What is kept of a queued unit.
+-- Inside the crate: what is kept of a queued unit.
 use Rattle.std.specs.Prelude.{◌≡◌, ℕ, ◌≤◌}
 use Rattle.osc_packet.specs.Units.{TimedUnit, stored_size, blocks}
 

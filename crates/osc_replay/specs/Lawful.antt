@@ -1,4 +1,4 @@
--- Events whose packets and addresses are lawful.
+-- Inside the crate: events whose packets and addresses are lawful.
 use Rattle.osc_packet.specs.declared.limits.TheConstants.{MAX_PACKET}
 use Rattle.std.specs.Prelude.{Bool, true, nat_lt, ◌^◌}
 use Rattle.osc_pattern.specs.Addresses.{is_address}

@@ -1,11 +1,13 @@
-pub mod Printed
-pub mod Formed
-pub mod Lawful
-pub mod Events
-pub mod Kept
-pub mod Calls
-pub mod Disagreeing
-pub mod Playing
+-- What public contracts cite.
 pub mod Answers
 pub mod Counted
+pub mod Disagreeing
 pub mod Dumping
+pub mod Formed
+pub mod Printed
+-- Inside the crate.
+pub mod Calls
+pub mod Events
+pub mod Kept
+pub mod Lawful
+pub mod Playing

@@ -1,4 +1,4 @@
--- What an event comes to in a plain server.
+-- Inside the crate: what an event comes to in a plain server.
 use Rattle.std.specs.Prelude.{◌≡◌, ◌≢◌, ℕ, ◌<◌, ◌≤◌, ◌%◌, true, false, List, [], ◌++◌, length}
 use Rattle.std.specs.List.{flat_map}
 use Rattle.osc_print.specs.Entries.{event_line, invocation_text}

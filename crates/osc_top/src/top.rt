@@ -217,7 +217,7 @@ fn refuse_long<O: Sink>(alloc: Global, reading: Reading, out: &mut O) -> u8
             };
             refuse(alloc, fault, out)
         }
-        Reading::Replay | Reading::Dump => malformed(alloc, 1_073_741_824, out),
+        Reading::Replay | Reading::Dump => malformed(alloc, MAX_RECORDING, out),
     }
 }
 

@@ -1,7 +1,9 @@
+-- What public contracts cite.
 pub mod Registry
 pub mod Nodes
 pub mod Adding
 pub mod Matching
 pub mod Views
-pub mod Order
 pub mod Walking
+-- Inside the crate.
+pub mod Order

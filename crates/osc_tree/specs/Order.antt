@@ -1,5 +1,5 @@
--- The methods in ascending order of their addresses, and the places where they stand in the order
--- of adding.
+-- Inside the crate: the methods in ascending order of their addresses, and the places where they
+-- stand in the order of adding.
 use Rattle.std.specs.Prelude.{◌≡◌, ℕ, ◌≤◌, ◌<◌, Bool, true, false, nat_eq, nat_lt, get_or, ◌-◌}
 use Rattle.std.specs.Prelude.{if◌then◌else◌, List, [], length, fold, All}
 use Rattle.std.specs.List.{starts_with}

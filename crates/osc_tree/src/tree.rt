@@ -54,8 +54,8 @@ impl Model for Tree {
       node_limit = tree.node_limit;
     } };
 
-    ghost invariant = { λ tree. IsIndexed tree.methods.items tree.places.items tree.method_limit tree.node_limit tree.node_count
-        (vec_capacity tree.methods) (vec_capacity tree.places) };
+    ghost invariant = { λ tree. IsIndexed tree.methods.items tree.places.items tree.method_limit
+        tree.node_limit tree.node_count (vec_capacity tree.methods) (vec_capacity tree.places) };
 }
 
 impl Tree {

@@ -20,7 +20,8 @@ impl Tree {
         requires { self.now.method_limit ≤ hits.old.limit }
         ensures ids { hits.new.ids ≡ matching_ids pattern.now self.now.methods }
         ensures few { length hits.new.ids ≤ self.now.method_limit }
-        ensures named { All (λ method. address_by_id self.now.methods method.id ≡ Some method.address)
+        ensures named { All
+            (λ method. address_by_id self.now.methods method.id ≡ Some method.address)
             (matching pattern.now self.now.methods) }
         ensures limit { hits.new.limit ≡ hits.old.limit }
     {

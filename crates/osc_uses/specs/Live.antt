@@ -2,6 +2,7 @@
 -- it knows then.
 use Rattle.std.specs.Prelude.{◌≡◌, ℕ, List, [], ◌∷◌, Result, Ok, Err}
 use Rattle.osc_atoms.specs.declared.fault.Fault.{Fault}
+use Rattle.osc_packet.specs.declared.limits.TheConstants.{MAX_PACKET}
 use Rattle.osc_packet.specs.Wants.{FirstFault}
 use Rattle.osc_turn.specs.declared.view.View.{View}
 use Rattle.osc_model.specs.Limits.{Limits}
@@ -39,7 +40,7 @@ pub record ComesAndGoes (caps : Limits) (caller : ℕ) (address : List ℕ) (add
 abbrev pub Sends : Limits → ℕ → List ℕ → Result Submitted Fault → View → View → Type 0
 Sends caps caller bytes (Ok submitted) v w =
     Calls caps caller (submit bytes) (submitted_of submitted) v w
-Sends caps caller bytes (Err fault) v w = FirstFault bytes 65504 fault × (w ≡ v)
+Sends caps caller bytes (Err fault) v w = FirstFault bytes MAX_PACKET fault × (w ≡ v)
 
 -- a caller sets the clock to the moment, and then releases until nothing is due
 pub record Ticks (caps : Limits) (caller moment : ℕ) (ticked : Answer) (pumped : Pumped)
