@@ -55,18 +55,6 @@ pub(crate) fn tick_answer(ticking: Ticking) -> Answer<'static>
     }
 }
 
-pub(crate) fn refusal_answer(refusal: TreeRefusal) -> Answer<'static>
-    ensures { answer_of result ≡ refused (tree_refusal_of refusal) }
-{
-    match refusal {
-        TreeRefusal::Taken(id) => Answer::Taken(id),
-        TreeRefusal::UnderMethod(id) => Answer::UnderMethod(id),
-        TreeRefusal::IsContainer => Answer::IsContainer,
-        TreeRefusal::MethodsFull(limit) => Answer::MethodsFull(limit),
-        TreeRefusal::NodesFull(room) => Answer::NodesFull(room),
-    }
-}
-
 pub(crate) fn refusal_in_words(refusal: TreeRefusal) -> AddRefusal
     ensures { refusal_of result ≡ refused (tree_refusal_of refusal) }
 {

@@ -13,7 +13,7 @@ ghost use Rattle.osc_core.specs.Telling.{told};
 
 use crate::answers::{AddRefusal, Enrolled, Releasing, Removing, Submitted, Ticking};
 use crate::entry_answers::{
-    enrol_answer, refusal_answer, refusal_in_words, remove_answer, submit_answer, tick_answer,
+    enrol_answer, refusal_in_words, remove_answer, submit_answer, tick_answer,
 };
 use crate::playing::a_performance_is_played;
 use crate::server::Server;
@@ -128,7 +128,7 @@ impl Performance {
                 Ok(id)
             }
             Err((refusal, address)) => {
-                let answer = refusal_answer(refusal);
+                let answer = Answer::from(refusal);
                 self.recorder
                     .put(caller, Event::Add(address.bytes()), answer);
                 self.entries += 1;
