@@ -1,10 +1,10 @@
 -- What the calls' answers stand for.
 use Rattle.std.specs.Prelude.{◌≡◌, ℕ, List, length}
-use Rattle.osc_atoms.specs.declared.room.Room.{Room as CodeRoom}
 use Rattle.osc_tree.specs.Adding.{taken, under_method, is_container, methods_full, nodes_full}
-use Rattle.osc_model.specs.Events.{Answer, Hit, Room, number, callers_full, queued, units_full}
+use Rattle.osc_model.specs.Events.{Answer, Hit, number, callers_full, queued, units_full}
 use Rattle.osc_model.specs.Events.{pool_full, added, refused, removed, not_there, ticked}
 use Rattle.osc_model.specs.Events.{clock_back, released, nothing_due, record_full}
+use Rattle.osc_record.specs.Shown.{room_of}
 use Rattle.osc_core.specs.declared.answers.Enrolled.{Enrolled}
 use Rattle.osc_core.specs.declared.answers.Enrolled.TheVariants as enrolled
 use Rattle.osc_core.specs.declared.answers.Submitted.{Submitted}
@@ -19,10 +19,6 @@ use Rattle.osc_core.specs.declared.answers.Ticking.{Ticking}
 use Rattle.osc_core.specs.declared.answers.Ticking.TheVariants as ticking
 use Rattle.osc_core.specs.declared.answers.Releasing.{Releasing}
 use Rattle.osc_core.specs.declared.answers.Releasing.TheVariants as releasing
-
--- how much is needed, and how much is free
-abbrev pub room_of : CodeRoom → Room
-room_of room = record { need = room.need; free = room.free }
 
 -- the answer to an enrolment
 abbrev pub enrolled_of : Enrolled → Answer

@@ -9,7 +9,6 @@ pub mod Calls
 pub mod Due
 pub mod Frames
 pub mod Hearing
-pub mod Leaving
 pub mod Recorded
 pub mod Stored
 pub mod Views

@@ -51,7 +51,11 @@ pub(crate) fn release_unit<M: Called>(
     ensures limit { hits.new.limit ≡ hits.old.limit }
 {
     let Some(message) = messages.only() else {
-        return release_all(tree, hits, caller, unit, messages, recorder, boxes);
+        // The methods of several messages are found once to be counted, and once to be called.
+        let count = count_calls(tree, hits, messages.again());
+        let calls = start_release(recorder, caller, unit, count)?;
+        invoke_unit(tree, hits, unit, messages, recorder, boxes);
+        return Ok(calls);
     };
     let count = count_hits(tree, hits, &message);
     let calls = start_release(recorder, caller, unit, count as u64)?;
@@ -61,41 +65,6 @@ pub(crate) fn release_unit<M: Called>(
         message,
     };
     invoke_ids(&hits.ids()[..count], &call, recorder, boxes);
-    Ok(calls)
-}
-
-/// The same, for any number of messages: their methods are found once to be counted, and once to be called.
-fn release_all<M: Called>(
-    tree: &Tree,
-    hits: &mut Hits,
-    caller: u32,
-    unit: u64,
-    messages: Messages<'_>,
-    recorder: &mut Recorder,
-    boxes: &mut Vec<(u32, M)>,
-) -> Result<u32, Room>
-    requires limit { tree.now.method_limit ≤ hits.old.limit }
-    requires few { length messages < 2 ^ 32 }
-    requires few_methods { tree.now.method_limit ≤ 65536 }
-    requires caller { caller < 2 ^ 31 }
-    requires unit { unit < 2 ^ 63 }
-    requires whole { recorder.old.begun ≡ None }
-    requires small { recorder.old.caps.recording < 2 ^ 32 }
-    requires ascending { IsTrue (is_ascending (map (λ one. one.0) boxes.old.items)) }
-    ensures recorder { RecordsCalls result caller unit
-        (calls_from tree.now.methods 0 messages.entry)
-        recorder.old recorder.new }
-    ensures boxes { OnOk result (told M.keep M.heard boxes.new.items
-        ≡ all_hear (invocations_of unit (calls_from tree.now.methods 0 messages.entry))
-        (told M.keep M.heard boxes.old.items)) }
-    ensures silent { OnErr result (boxes.new.items ≡ boxes.old.items) }
-    ensures ids { map (λ one. one.0) boxes.new.items ≡ map (λ one. one.0) boxes.old.items }
-    ensures capacity { vec_capacity boxes.old ≤ vec_capacity boxes.new }
-    ensures limit { hits.new.limit ≡ hits.old.limit }
-{
-    let count = count_calls(tree, hits, messages.again());
-    let calls = start_release(recorder, caller, unit, count)?;
-    invoke_unit(tree, hits, unit, messages, recorder, boxes);
     Ok(calls)
 }
 

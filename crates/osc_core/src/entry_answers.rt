@@ -3,22 +3,12 @@ ghost use Rattle.std.specs.Prelude.{◌≡◌, IsTrue};
 ghost use Rattle.osc_tree.specs.Adding.{refusal_of as tree_refusal_of};
 ghost use Rattle.osc_model.specs.Events.{adds_entry, refused};
 ghost use Rattle.osc_record.specs.Shown.{answer_of};
-ghost use Rattle.osc_core.specs.Answers.{enrolled_of, submitted_of, refusal_of, ticking_of};
-ghost use Rattle.osc_core.specs.Leaving.{leaving_of};
+ghost use Rattle.osc_core.specs.Answers.{enrolled_of, submitted_of, refusal_of, removing_of};
+ghost use Rattle.osc_core.specs.Answers.{ticking_of};
 
-use crate::answers::{AddRefusal, Enrolled, Submitted, Ticking};
-use osc_atoms::Room;
+use crate::answers::{AddRefusal, Enrolled, Removing, Submitted, Ticking};
 use osc_record::Answer;
 use osc_tree::TreeRefusal;
-
-/// What a removal is answered, without a box.
-#[derive(Clone, Copy)]
-pub(crate) enum Leaving {
-    /// The method with this id left.
-    Removed(u32),
-    RecordFull(Room),
-    NotThere,
-}
 
 pub(crate) fn enrol_answer(enrolled: Enrolled) -> Answer<'static>
     requires { IsTrue (adds_entry (enrolled_of enrolled)) }
@@ -31,14 +21,14 @@ pub(crate) fn enrol_answer(enrolled: Enrolled) -> Answer<'static>
     }
 }
 
-pub(crate) fn remove_answer(leaving: Leaving) -> Answer<'static>
-    requires { IsTrue (adds_entry (leaving_of leaving)) }
-    ensures { answer_of result ≡ leaving_of leaving }
+pub(crate) fn remove_answer(removing: &Removing<()>) -> Answer<'static>
+    requires { IsTrue (adds_entry (removing_of removing.now)) }
+    ensures { answer_of result ≡ removing_of removing.now }
 {
-    match leaving {
-        Leaving::Removed(id) => Answer::Removed(id),
-        Leaving::NotThere => Answer::NotThere,
-        Leaving::RecordFull(_) => unreachable!(),
+    match removing {
+        Removing::Removed { id, .. } => Answer::Removed(*id),
+        Removing::NotThere => Answer::NotThere,
+        Removing::RecordFull(_) => unreachable!(),
     }
 }
 
@@ -62,18 +52,6 @@ pub(crate) fn tick_answer(ticking: Ticking) -> Answer<'static>
         Ticking::Ticked => Answer::Ticked,
         Ticking::ClockBack(clock) => Answer::ClockBack(clock),
         Ticking::RecordFull(_) => unreachable!(),
-    }
-}
-
-pub(crate) fn refusal_answer(refusal: TreeRefusal) -> Answer<'static>
-    ensures { answer_of result ≡ refused (tree_refusal_of refusal) }
-{
-    match refusal {
-        TreeRefusal::Taken(id) => Answer::Taken(id),
-        TreeRefusal::UnderMethod(id) => Answer::UnderMethod(id),
-        TreeRefusal::IsContainer => Answer::IsContainer,
-        TreeRefusal::MethodsFull(limit) => Answer::MethodsFull(limit),
-        TreeRefusal::NodesFull(room) => Answer::NodesFull(room),
     }
 }
 

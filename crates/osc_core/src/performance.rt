@@ -6,16 +6,14 @@ ghost use Rattle.osc_model.specs.Events.{enrol, submit, add, remove, tick, relea
 ghost use Rattle.osc_model.specs.Recordings.{record_text};
 ghost use Rattle.osc_model.specs.Heard.{all_hear};
 ghost use Rattle.osc_model.specs.History.{Legal, state_of, stepped_in, onward};
-ghost use Rattle.osc_core.specs.Answers.{enrolled_of, submitted_of, refusal_of, ticking_of};
-ghost use Rattle.osc_core.specs.Answers.{room_of, TellsRelease};
+ghost use Rattle.osc_core.specs.Answers.{enrolled_of, submitted_of, refusal_of, removing_of};
+ghost use Rattle.osc_core.specs.Answers.{ticking_of, OnRemoved, TellsRelease};
 ghost use Rattle.osc_core.specs.Ids.{is_ascending, without};
 ghost use Rattle.osc_core.specs.Telling.{told};
-ghost use Rattle.osc_core.specs.Leaving.{leaving_of, OnLeaving};
 
-use crate::answers::{AddRefusal, Enrolled, Releasing, Submitted, Ticking};
+use crate::answers::{AddRefusal, Enrolled, Releasing, Removing, Submitted, Ticking};
 use crate::entry_answers::{
-    Leaving, enrol_answer, refusal_answer, refusal_in_words, remove_answer, submit_answer,
-    tick_answer,
+    enrol_answer, refusal_in_words, remove_answer, submit_answer, tick_answer,
 };
 use crate::playing::a_performance_is_played;
 use crate::server::Server;
@@ -130,7 +128,7 @@ impl Performance {
                 Ok(id)
             }
             Err((refusal, address)) => {
-                let answer = refusal_answer(refusal);
+                let answer = Answer::from(refusal);
                 self.recorder
                     .put(caller, Event::Add(address.bytes()), answer);
                 self.entries += 1;
@@ -140,27 +138,27 @@ impl Performance {
     }
 
     /// Removes the method at the address, and tells its id.
-    pub(crate) fn remove(&mut self, caller: u32, address: &Address) -> Leaving
+    pub(crate) fn remove(&mut self, caller: u32, address: &Address) -> Removing<()>
         requires { caller < (state_of self.old).callers }
-        ensures answer { leaving_of result ≡ (stepped_in self.old (remove address.now)).answer }
+        ensures answer { removing_of result ≡ (stepped_in self.old (remove address.now)).answer }
         ensures performance { self.new ≡ onward self.old caller (remove address.now) }
-        ensures held { OnLeaving result
-            (λ id. Contains (map (λ method. method.id) (state_of self.old).methods) id) }
-        ensures others { OnLeaving result
-            (λ id. map (λ method. method.id) (state_of self.new).methods
+        ensures held { OnRemoved result
+            (λ id _. Contains (map (λ method. method.id) (state_of self.old).methods) id) }
+        ensures others { OnRemoved result
+            (λ id _. map (λ method. method.id) (state_of self.new).methods
             ≡ without id (map (λ method. method.id) (state_of self.old).methods)) }
         ensures legal { Legal self.old.caps self.old.history }
     {
         a_performance_is_played();
         let bytes = address.bytes();
         if let Some(room) = shortage(&self.recorder, remove_size(bytes)) {
-            return Leaving::RecordFull(room);
+            return Removing::RecordFull(room);
         }
-        let leaving = self.server.remove(address);
+        let removing = self.server.remove(address);
         self.recorder
-            .put(caller, Event::Remove(bytes), remove_answer(leaving));
+            .put(caller, Event::Remove(bytes), remove_answer(&removing));
         self.entries += 1;
-        leaving
+        removing
     }
 
     pub(crate) fn tick(&mut self, caller: u32, now: u64) -> Ticking

@@ -16,7 +16,6 @@ ghost use Rattle.osc_core.specs.Hearing.{HaveHeard-prop};
 
 use crate::answers::{Adding, Closed, Enrolled, Releasing, Removing, Submitted, Ticking};
 use crate::boxes::{hand_out, keep_box};
-use crate::entry_answers::Leaving;
 use crate::performance::Performance;
 use crate::playing::boxes_stay;
 use crate::standing::a_server_stands_for_more;
@@ -162,12 +161,12 @@ impl<M: Method> Core<M> {
         let _ = address.bytes();
         boxes_hear_the_history();
         match self.performance.remove(caller, address) {
-            Leaving::Removed(id) => Removing::Removed {
+            Removing::Removed { id, .. } => Removing::Removed {
                 id,
                 method: hand_out(&mut self.boxes, id),
             },
-            Leaving::RecordFull(room) => Removing::RecordFull(room),
-            Leaving::NotThere => Removing::NotThere,
+            Removing::RecordFull(room) => Removing::RecordFull(room),
+            Removing::NotThere => Removing::NotThere,
         }
     }
 

@@ -10,16 +10,15 @@ ghost use Rattle.osc_model.specs.Events.{enrol, submit, add, remove, tick, relea
 ghost use Rattle.osc_model.specs.Events.{adds_entry};
 ghost use Rattle.osc_model.specs.Heard.{all_hear};
 ghost use Rattle.osc_model.specs.Step.{decided};
-ghost use Rattle.osc_core.specs.Answers.{enrolled_of, submitted_of, ticking_of};
+ghost use Rattle.osc_core.specs.Answers.{enrolled_of, submitted_of, removing_of, ticking_of};
+ghost use Rattle.osc_core.specs.Answers.{OnRemoved};
 ghost use Rattle.osc_core.specs.Ids.{is_ascending, without};
 ghost use Rattle.osc_core.specs.Telling.{told};
 ghost use Rattle.osc_core.specs.Due.{Releases, made_by};
-ghost use Rattle.osc_core.specs.Leaving.{leaving_of, OnLeaving};
 ghost use Rattle.osc_core.specs.Playing.{tables};
 
-use crate::answers::{Enrolled, Releasing, Submitted, Ticking};
+use crate::answers::{Enrolled, Releasing, Removing, Submitted, Ticking};
 use crate::calls::release_unit;
-use crate::entry_answers::Leaving;
 use crate::messages::Messages;
 use crate::store::{MAX_STORED, Store, Stored};
 use crate::units::{enter_all, take_first};
@@ -175,20 +174,20 @@ impl Server {
     }
 
     /// Removes the method at the address, and tells its id.
-    pub(crate) fn remove(&mut self, address: &Address) -> Leaving
-        ensures answer { leaving_of result ≡ (decided self.old (remove address.now)).answer }
-        ensures entry { IsTrue (adds_entry (leaving_of result)) }
+    pub(crate) fn remove(&mut self, address: &Address) -> Removing<()>
+        ensures answer { removing_of result ≡ (decided self.old (remove address.now)).answer }
+        ensures entry { IsTrue (adds_entry (removing_of result)) }
         ensures state { self.new ≡ (decided self.old (remove address.now)).state }
-        ensures held { OnLeaving result
-            (λ id. Contains (map (λ method. method.id) self.old.methods) id) }
-        ensures others { OnLeaving result
-            (λ id. map (λ method. method.id) self.new.methods
+        ensures held { OnRemoved result
+            (λ id _. Contains (map (λ method. method.id) self.old.methods) id) }
+        ensures others { OnRemoved result
+            (λ id _. map (λ method. method.id) self.new.methods
             ≡ without id (map (λ method. method.id) self.old.methods)) }
     {
         let Ok(id) = self.tree.remove(address) else {
-            return Leaving::NotThere;
+            return Removing::NotThere;
         };
-        Leaving::Removed(id)
+        Removing::Removed { id, method: () }
     }
 
     /// Sets the clock, unless the moment is before it.

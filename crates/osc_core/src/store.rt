@@ -22,6 +22,7 @@ pub(crate) const MAX_STORED: usize = 65_508;
 /// A unit whose messages are in a store.
 #[derive(Drop)]
 pub(crate) struct Stored {
+    /// Contracts see the unit with it: no code reads it.
     tag: u64,
     /// The messages in order, each after its length in 4 bytes.
     chain: Chain,

@@ -28,7 +28,7 @@ use Rattle.osc_live.specs.Seen.{history_of, performance_in}
 use Rattle.osc_live.specs.Calls.{Calls, EndsWith}
 use Rattle.osc_live.proofs.Answered.{texts_more}
 use Rattle.osc_live.proofs.Asks.{read_more}
-use Rattle.osc_core.specs.Answers.{room_of}
+use Rattle.osc_record.specs.Shown.{room_of}
 use Rattle.osc_core.specs.Standing.{history_in}
 use Rattle.osc_lanes.specs.Performs.{enrolments}
 use Rattle.osc_lanes.specs.Crews.{names_of, same_names, IsSilent, IsCrew, HasNotEnrolled, FindsNoRoom}

@@ -11,7 +11,7 @@ use Rattle.osc_model.specs.Limits.{Limits}
 use Rattle.osc_model.specs.State.{opening}
 use Rattle.osc_model.specs.Events.{enrol, record_full}
 use Rattle.osc_model.specs.History.{stepped_in}
-use Rattle.osc_core.specs.Answers.{room_of}
+use Rattle.osc_record.specs.Shown.{room_of}
 use Rattle.osc_core.specs.Standing.{history_in}
 use Rattle.osc_core.specs.Telling.{told}
 use Rattle.osc_turn.specs.declared.view.Entry.{Entry as Seen}

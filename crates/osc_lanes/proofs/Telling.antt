@@ -8,12 +8,13 @@ use Rattle.osc_packet.specs.declared.limits.TheConstants.{MAX_PACKET}
 use Rattle.osc_packet.specs.Reading.{packet_fault}
 use Rattle.osc_model.specs.Events.{Answer, Room, add, remove, submit, tick, release}
 use Rattle.osc_model.specs.History.{invoked_in, HasHeard}
+use Rattle.osc_record.specs.Shown.{room_of}
 use Rattle.osc_core.specs.declared.answers.AddRefusal.TheVariants as adding
 use Rattle.osc_core.specs.declared.answers.Adding.{Adding}
 use Rattle.osc_core.specs.declared.answers.Adding.TheVariants.{Added, Refused}
 use Rattle.osc_core.specs.declared.answers.Removing.{Removing}
 use Rattle.osc_core.specs.declared.answers.Removing.TheVariants as removing
-use Rattle.osc_core.specs.Answers.{room_of, adding_of, removing_of, OnAdded, OnRefused, OnRemoved}
+use Rattle.osc_core.specs.Answers.{adding_of, removing_of, OnAdded, OnRefused, OnRemoved}
 use Rattle.osc_core.specs.Standing.{CarriesMark, mark_of}
 use Rattle.osc_script.specs.declared.act.Act.TheVariants.{Add, Remove, Send, Tick, Pump}
 use Rattle.osc_turn.specs.declared.view.Entry.{Entry as Seen}

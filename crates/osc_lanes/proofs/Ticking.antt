@@ -7,7 +7,7 @@ use Rattle.osc_atoms.specs.declared.room.Room.{Room as CodeRoom}
 use Rattle.osc_edge.specs.declared.clock.Moment.TheVariants.{At}
 use Rattle.osc_edge.specs.Clock.{GivesMoment}
 use Rattle.osc_edge.specs.Faults.{Rose}
-use Rattle.osc_core.specs.Answers.{room_of}
+use Rattle.osc_record.specs.Shown.{room_of}
 use Rattle.osc_script.specs.declared.act.Act.TheVariants.{Tick, Pump}
 use Rattle.osc_turn.specs.declared.view.Entry.{Entry as Seen}
 use Rattle.osc_turn.specs.History.{StartsWith}

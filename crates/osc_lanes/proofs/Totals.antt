@@ -11,7 +11,7 @@ use Rattle.osc_model.specs.Events.{Room}
 use Rattle.osc_model.specs.Limits.{Limits}
 use Rattle.osc_turn.specs.declared.view.View.{View}
 use Rattle.osc_turn.specs.Rule.{number_of}
-use Rattle.osc_core.specs.Answers.{room_of}
+use Rattle.osc_record.specs.Shown.{room_of}
 use Rattle.osc_live.specs.declared.caller.Caller.{Caller}
 use Rattle.osc_lanes.specs.declared.link_plan.LinkPlan.{LinkPlan}
 use Rattle.osc_lanes.specs.declared.link_plan.LinkEnd.{LinkEnd}

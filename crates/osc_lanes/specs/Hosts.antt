@@ -5,7 +5,7 @@ use Rattle.std.specs.Option.{option_map}
 use Rattle.osc_model.specs.Limits.{Limits}
 use Rattle.osc_model.specs.Events.{Room, release, nothing_due}
 use Rattle.osc_model.specs.History.{stepped_in}
-use Rattle.osc_core.specs.Answers.{room_of}
+use Rattle.osc_record.specs.Shown.{room_of}
 use Rattle.osc_core.specs.Standing.{history_in}
 use Rattle.osc_turn.specs.declared.view.Entry.{Entry as Seen}
 use Rattle.osc_turn.specs.History.{StartsWith, texts, own}

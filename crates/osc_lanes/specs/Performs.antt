@@ -9,7 +9,7 @@ use Rattle.osc_model.specs.Events.{Answer, Entry, Room, enrol, number, added, re
 use Rattle.osc_model.specs.Recordings.{record_text}
 use Rattle.osc_model.specs.History.{Legal, HaveHeard, stepped_in}
 use Rattle.osc_laws.specs.Laws.{KeepsTheLaws}
-use Rattle.osc_core.specs.Answers.{room_of}
+use Rattle.osc_record.specs.Shown.{room_of}
 use Rattle.osc_core.specs.Ids.{is_ascending}
 use Rattle.osc_core.specs.Telling.{told}
 use Rattle.osc_core.specs.Standing.{history_in, AreMarked}

@@ -6,7 +6,7 @@ use Rattle.std.specs.Option.{option_map, option_or}
 use Rattle.osc_atoms.specs.declared.fault.Fault.{Fault}
 use Rattle.osc_model.specs.Limits.{Limits}
 use Rattle.osc_model.specs.Events.{Room}
-use Rattle.osc_core.specs.Answers.{room_of}
+use Rattle.osc_record.specs.Shown.{room_of}
 use Rattle.osc_turn.specs.declared.view.Entry.{Entry as Seen}
 use Rattle.osc_live.specs.declared.caller.Caller.{Caller}
 use Rattle.osc_lanes.specs.declared.link_plan.LinkPlan.{LinkPlan}

@@ -2,7 +2,7 @@
 use Rattle.std.specs.Prelude.{◌≡◌, ℕ, List, [], ◌∷◌, Option}
 use Rattle.osc_atoms.specs.declared.room.Room.{Room}
 use Rattle.std.specs.Option.{option_map}
-use Rattle.osc_core.specs.Answers.{room_of}
+use Rattle.osc_record.specs.Shown.{room_of}
 use Rattle.osc_core.specs.declared.answers.Adding.{Adding}
 use Rattle.osc_core.specs.declared.answers.Adding.TheVariants.{Added, Refused}
 use Rattle.osc_core.specs.declared.answers.Removing.{Removing}

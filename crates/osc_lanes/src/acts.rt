@@ -1,7 +1,8 @@
 // Plays one line.
 ghost use Rattle.std.specs.Prelude.{◌≡◌, ◌+◌, ◌<◌, ◌≤◌, ◌++◌, length, IfOk, OnOk, None};
 ghost use Rattle.std.specs.Vec.Iter.{into_iter_items};
-ghost use Rattle.osc_core.specs.Answers.{adding_of, removing_of, room_of};
+ghost use Rattle.osc_record.specs.Shown.{room_of};
+ghost use Rattle.osc_core.specs.Answers.{adding_of, removing_of};
 ghost use Rattle.std.specs.Option.{option_map};
 ghost use Rattle.osc_turn.specs.Passes.{view};
 ghost use Rattle.osc_live.specs.Seen.{IsTokenOf};

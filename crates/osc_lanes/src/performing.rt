@@ -1,7 +1,7 @@
 //! Plays many lanes on a new server, and closes it.
 ghost use Rattle.std.specs.Prelude.{◌≡◌, ◌<◌, ◌+◌, [], length, map, All, IfOk};
 ghost use Rattle.std.specs.Option.{option_map};
-ghost use Rattle.osc_core.specs.Answers.{room_of};
+ghost use Rattle.osc_record.specs.Shown.{room_of};
 ghost use Rattle.osc_turn.specs.Passes.{view};
 ghost use Rattle.osc_live.specs.Seen.{IsTokenOf};
 ghost use Rattle.osc_lanes.specs.Performs.{part_of, told_of, IsWhole, Performs};

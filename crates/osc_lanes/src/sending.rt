@@ -1,7 +1,7 @@
 // Sends bytes that may be a packet.
 ghost use Rattle.std.specs.Prelude.{◌≡◌, ℕ, List, IfOk, None};
 ghost use Rattle.std.specs.Option.{option_map};
-ghost use Rattle.osc_core.specs.Answers.{room_of};
+ghost use Rattle.osc_record.specs.Shown.{room_of};
 ghost use Rattle.osc_turn.specs.Passes.{view};
 ghost use Rattle.osc_live.specs.Seen.{IsTokenOf};
 ghost use Rattle.osc_script.specs.declared.act.Act.TheVariants.{Send};

@@ -1,7 +1,8 @@
 // Where an answer says that the recording is full.
 ghost use Rattle.std.specs.Prelude.{◌≡◌};
 ghost use Rattle.std.specs.Option.{option_map};
-ghost use Rattle.osc_core.specs.Answers.{refusal_of, room_of, submitted_of, ticking_of};
+ghost use Rattle.osc_record.specs.Shown.{room_of};
+ghost use Rattle.osc_core.specs.Answers.{refusal_of, submitted_of, ticking_of};
 ghost use Rattle.osc_live.specs.Pumps.{end_of};
 ghost use Rattle.osc_lanes.specs.Shares.{stop_of};
 

@@ -1,7 +1,7 @@
 // The ticker's rounds.
 ghost use Rattle.std.specs.Prelude.{◌≡◌, [], None};
 ghost use Rattle.std.specs.Option.{option_map};
-ghost use Rattle.osc_core.specs.Answers.{room_of};
+ghost use Rattle.osc_record.specs.Shown.{room_of};
 ghost use Rattle.osc_live.specs.Seen.{IsTokenOf};
 ghost use Rattle.osc_script.specs.declared.act.Act.TheVariants.{Tick, Pump};
 ghost use Rattle.osc_lanes.specs.Shares.{ended};

@@ -1,7 +1,7 @@
 -- What an enrolment is answered.
 use Rattle.std.specs.Prelude.{Result, Ok, Err}
 use Rattle.osc_model.specs.Events.{Answer, number, callers_full, record_full}
-use Rattle.osc_core.specs.Answers.{room_of}
+use Rattle.osc_record.specs.Shown.{room_of}
 use Rattle.osc_live.specs.declared.caller.Caller.{Caller}
 use Rattle.osc_live.specs.declared.guest.Guest.{Guest}
 use Rattle.osc_live.specs.declared.refusal.EnrolRefusal.{EnrolRefusal}

@@ -2,7 +2,7 @@
 use Rattle.std.specs.Prelude.{◌≡◌, ℕ, zero, suc, ◌+◌, length, List}
 use Rattle.osc_model.specs.Limits.{Limits}
 use Rattle.osc_model.specs.Events.{Answer, Hit, release, released, nothing_due, record_full}
-use Rattle.osc_core.specs.Answers.{room_of}
+use Rattle.osc_record.specs.Shown.{room_of}
 use Rattle.osc_turn.specs.declared.view.View.{View}
 use Rattle.osc_live.specs.declared.pumped.PumpEnd.{PumpEnd}
 use Rattle.osc_live.specs.declared.pumped.PumpEnd.TheVariants.{NothingDue, RecordFull}

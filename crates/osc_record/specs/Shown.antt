@@ -32,7 +32,7 @@ event_of (Remove address) = remove address.now
 event_of (Tick moment) = tick moment
 event_of Release = release
 
--- the room
+-- how much is needed, and how much is free
 abbrev pub room_of : RoomOf → model.Room
 room_of room = record { need = room.need; free = room.free }
 

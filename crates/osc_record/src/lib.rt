@@ -14,6 +14,7 @@ mod message;
 mod parts;
 mod reader;
 mod recorder;
+mod refusal;
 mod rows;
 mod sized_entry;
 mod sized_reading;

@@ -3,9 +3,7 @@ ghost use Rattle.std.specs.Prelude.{◌≡◌, ◌<◌, ◌++◌, ◌∷◌, [],
 ghost use Rattle.osc_tree.specs.Adding.{refusal_of, add_refusal};
 ghost use Rattle.osc_tree.specs.Registry.{IsNewId};
 ghost use Rattle.osc_model.specs.Events.{release, ticked};
-ghost use Rattle.osc_model.specs.Events as events;
 ghost use Rattle.osc_model.specs.Recordings.{entry_size};
-ghost use Rattle.osc_record.specs.Shown.{answer_of, HasWholeHits};
 ghost use Rattle.osc_replay.specs.Events.{event_in};
 
 use crate::calls::{Calls, find_calls};
@@ -205,7 +203,7 @@ impl<'a> Server<'a> {
         let address = Address::known(self.alloc, address)?;
         let id = self.next_id;
         if let Some(refusal) = add_to(&mut self.tree, address, id) {
-            return Ok(refused(refusal));
+            return Ok(Answer::from(refusal));
         }
         self.next_id += 1;
         Ok(Answer::Added(id))
@@ -281,18 +279,5 @@ fn add_to(tree: &mut Tree, address: Address, id: u32) -> Option<TreeRefusal>
     match tree.add(address, id) {
         Ok(()) => None,
         Err((refusal, _)) => Some(refusal),
-    }
-}
-
-fn refused(refusal: TreeRefusal) -> Answer<'static>
-    ensures value { answer_of result ≡ events.refused (refusal_of refusal) }
-    ensures whole { HasWholeHits result }
-{
-    match refusal {
-        TreeRefusal::Taken(id) => Answer::Taken(id),
-        TreeRefusal::UnderMethod(id) => Answer::UnderMethod(id),
-        TreeRefusal::IsContainer => Answer::IsContainer,
-        TreeRefusal::MethodsFull(limit) => Answer::MethodsFull(limit),
-        TreeRefusal::NodesFull(room) => Answer::NodesFull(room),
     }
 }

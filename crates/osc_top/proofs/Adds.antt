@@ -13,7 +13,8 @@ use Rattle.osc_model.specs.Step.{Stepped, step, decided, add_at}
 use Rattle.osc_model.specs.Heard.{Told, reset, without_id}
 use Rattle.osc_model.specs.History.{Performance, state_of, invoked_in, stepped_in, onward}
 use Rattle.osc_model.proofs.Stepping.{step_so}
-use Rattle.osc_core.specs.Answers.{room_of, adding_of, refusal_of, OnAdded, OnRefused, OnRemoved, OnKept}
+use Rattle.osc_record.specs.Shown.{room_of}
+use Rattle.osc_core.specs.Answers.{adding_of, refusal_of, OnAdded, OnRefused, OnRemoved, OnKept}
 use Rattle.osc_core.specs.declared.answers.AddRefusal.{AddRefusal}
 use Rattle.osc_core.specs.declared.answers.AddRefusal.TheVariants as why
 use Rattle.osc_core.specs.declared.answers.Adding.{Adding}

@@ -9,7 +9,7 @@ use Rattle.osc_model.specs.State.{State}
 use Rattle.osc_model.specs.Events.{Entry, Room}
 use Rattle.osc_model.specs.History.{Performance, after, state_of}
 use Rattle.osc_print.specs.Lines.{fault_text}
-use Rattle.osc_core.specs.Answers.{room_of}
+use Rattle.osc_record.specs.Shown.{room_of}
 use Rattle.osc_script.specs.declared.line.Line.{Line}
 use Rattle.osc_top.specs.Plain.{LineFault, Played, followed, plain_from, entries_of, act_faults, stop_of, is_add, count_adds}
 use Rattle.osc_top.specs.Printing.{printed_faults}

@@ -4,7 +4,7 @@ use Rattle.std.specs.List.{flat_map}
 use Rattle.std.specs.Option.{option_map, option_or}
 use Rattle.osc_atoms.specs.declared.fault.Fault.{Fault}
 use Rattle.osc_model.specs.Limits.{Limits}
-use Rattle.osc_core.specs.Answers.{room_of}
+use Rattle.osc_record.specs.Shown.{room_of}
 use Rattle.osc_core.specs.Standing.{history_in}
 use Rattle.osc_turn.specs.History.{texts}
 use Rattle.osc_lanes.specs.declared.hosting.Hosted.{Hosted}

@@ -5,7 +5,7 @@ use Rattle.std.specs.Vec.Iter.{into_iter_items}
 use Rattle.osc_atoms.specs.declared.room.Room.{Room}
 use Rattle.osc_method.specs.declared.method.Method.{Ghosts}
 use Rattle.osc_model.specs.History.{Performance, state_of, invoked_in}
-use Rattle.osc_core.specs.Answers.{room_of}
+use Rattle.osc_record.specs.Shown.{room_of}
 use Rattle.osc_core.specs.Ids.{is_ascending}
 use Rattle.osc_core.specs.Telling.{told}
 use Rattle.osc_script.specs.declared.act.Act.{Act}

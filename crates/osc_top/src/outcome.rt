@@ -1,7 +1,7 @@
 // How what was played ended.
 ghost use Rattle.std.specs.Prelude.{◌≡◌};
 ghost use Rattle.std.specs.Option.{option_map};
-ghost use Rattle.osc_core.specs.Answers.{room_of};
+ghost use Rattle.osc_record.specs.Shown.{room_of};
 ghost use Rattle.osc_top.specs.Outcomes as outcomes;
 
 use crate::status::{DONE, EDGE_FAILED, RECORDING_FULL};

@@ -5,13 +5,8 @@ ghost use Rattle.std.specs.Option.{option_map};
 ghost use Rattle.std.specs.Vec.Iter.{into_iter_items};
 ghost use Rattle.osc_packet.specs.Reading.{packet_fault};
 ghost use Rattle.osc_model.specs.History.{state_of};
-ghost use Rattle.osc_core.specs.Answers.{
-  room_of,
-  adding_of,
-  removing_of,
-  submitted_of,
-  ticking_of,
-};
+ghost use Rattle.osc_record.specs.Shown.{room_of};
+ghost use Rattle.osc_core.specs.Answers.{adding_of, removing_of, submitted_of, ticking_of};
 ghost use Rattle.osc_script.specs.declared.act.Act.TheVariants.{Add, Remove, Send, Tick, Pump};
 ghost use Rattle.osc_top.specs.Plain.{room_in, act_faults, fault_at, count_adds};
 ghost use Rattle.osc_top.specs.Tally.{adds_of, handed_back, handed_out};

@@ -3,7 +3,7 @@ ghost use Rattle.osc_top.specs.declared.caps.TheConstants.{LIVE_CALLERS};
 ghost use Rattle.std.specs.Prelude.{◌≡◌, ◌++◌, ◌≤◌, ◌<◌, length, IfOk};
 ghost use Rattle.std.specs.Option.{option_map, option_or};
 ghost use Rattle.std.specs.List.Sorted.{IsPermutation, IsNonDecreasingBy};
-ghost use Rattle.osc_core.specs.Answers.{room_of};
+ghost use Rattle.osc_record.specs.Shown.{room_of};
 ghost use Rattle.osc_lanes.specs.Ticks.{clock_read};
 ghost use Rattle.osc_top.specs.Plain.{count_adds};
 ghost use Rattle.osc_top.specs.Outcomes as outcomes;

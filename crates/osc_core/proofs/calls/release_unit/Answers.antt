@@ -17,15 +17,15 @@ returns-clause-recorder g c =
     let call : CodeCall = record { unit = c.args.unit; index = 0; message = message } in
     let ids = take count c.ids.result.now in
     let only = only_calls methods message c.args.messages c.in-Some.ensures in
-    let same : c.in_ok-calls.calls ≡ count = c.in_ok-calls.ensures.count in
+    let same : c.in_ok-calls-2.calls ≡ count = c.in_ok-calls-2.ensures.count in
     let calls : map (call_by methods 0 message) ids ≡ calls_of methods 0 message =
     ap (λ (l : List ℕ). map (call_by methods 0 message) (take count l)) c.ids.ensures ∙ c.count_hits-count.ensures.calls 0 in (
       same ∙ c.count_hits-count.ensures.count ∙ sym (as_many_calls methods 0 message) ∙ sym (ap length only),
-      subst (λ (n : ℕ). length (recording_text old) + (44 + 8 * n) ≤ old.caps.recording) (sym same) c.in_ok-calls.ensures.fits,
+      subst (λ (n : ℕ). length (recording_text old) + (44 + 8 * n) ≤ old.caps.recording) (sym same) c.in_ok-calls-2.ensures.fits,
       c.invoke_ids.ensures.recorder
-          ∙ ap (λ (r : Recording). with_hits r (map (λ id. record { index = 0; id = id }) ids)) c.in_ok-calls.ensures.begun
+          ∙ ap (λ (r : Recording). with_hits r (map (λ id. record { index = 0; id = id }) ids)) c.in_ok-calls-2.ensures.begun
           ∙ ap (λ (n : ℕ). with_hits (with_release old c.args.caller c.args.unit n) (map (λ id. record { index = 0; id = id }) ids)) (sym same)
-          ∙ ap (with_hits (with_release old c.args.caller c.args.unit c.in_ok-calls.calls)) (hit methods call ids ∙ ap hits_of (calls ∙ sym only)),
+          ∙ ap (with_hits (with_release old c.args.caller c.args.unit c.in_ok-calls-2.calls)) (hit methods call ids ∙ ap hits_of (calls ∙ sym only)),
     )
 
 pub returns-clause-boxes : goal.returns-clause-boxes

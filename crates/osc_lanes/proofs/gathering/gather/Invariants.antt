@@ -1,7 +1,7 @@
 use Rattle.std.proofs.Common.{◌≡◌, ◌+◌, ◌++◌, length, map}
 use Rattle.std.specs.Option.{option_map, option_or}
 use Rattle.std.specs.Vec.Iter.{into_iter_items}
-use Rattle.osc_core.specs.Answers.{room_of}
+use Rattle.osc_record.specs.Shown.{room_of}
 use Rattle.osc_lanes.specs.Serves.{caller_in, link_in, faults_from, failed_from, stop_of_all}
 use Rattle.osc_lanes.proofs.gathering.gather.Given as goal
 

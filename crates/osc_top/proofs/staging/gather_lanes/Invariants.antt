@@ -2,7 +2,7 @@ use Rattle.std.proofs.Common.{◌≡◌, ◌++◌, map}
 use Rattle.std.specs.List.{flat_map}
 use Rattle.std.specs.Option.{option_map, option_or}
 use Rattle.std.specs.Vec.Iter.{into_iter_items}
-use Rattle.osc_core.specs.Answers.{room_of}
+use Rattle.osc_record.specs.Shown.{room_of}
 use Rattle.osc_lanes.specs.Performs.{told_of}
 use Rattle.osc_top.specs.Lanes.{first_stop, lane_faults}
 use Rattle.osc_top.proofs.staging.gather_lanes.Given as goal

@@ -1,6 +1,6 @@
 use Rattle.std.proofs.Common.{ℕ, List, map, sym, subst, arith}
 use Rattle.std.specs.Option.{option_map}
-use Rattle.osc_core.specs.Answers.{room_of}
+use Rattle.osc_record.specs.Shown.{room_of}
 use Rattle.osc_lanes.specs.Performs.{Part, Performs, told_of}
 use Rattle.osc_top.specs.Lanes.{PlaysLanes, parts_of}
 use Rattle.osc_top.specs.Staged.{IsStaged}

@@ -127,12 +127,12 @@ pub put-requires-in-Err-clause-lawful : goal.put-requires-in-Err-clause-lawful
 put-requires-in-Err-clause-lawful c =
     let s = c.self.inside in
     let event = add c.args.address in
-    let answer = answer_of c.refusal_answer-answer.result in
+    let answer = answer_of c.from-answer.result in
     let sized : entry_size event answer ≡ c.add_size.result = sym (c.add_size.ensures ∙ ap (λ (b : List ℕ). 40 + length (string b)) c.bytes.ensures.value) in
     let played = c.a_performance_is_played.ensures.played s.server s.recorder s.entries c.args.caller event answer c.self.invariant
     (enrolled_in s.recorder c.args.self.now c.args.caller c.self.view_is c.requires)
-    (subst (λ (b : List ℕ). IsTrue (is_address b)) c.bytes.ensures.value c.bytes.ensures.test) (c.refusal_answer-answer.ensures ∙ sym c.in-Err.ensures.refused)
-    (ap adds_entry c.refusal_answer-answer.ensures)
+    (subst (λ (b : List ℕ). IsTrue (is_address b)) c.bytes.ensures.value c.bytes.ensures.test) (c.from-answer.ensures.value ∙ sym c.in-Err.ensures.refused)
+    (ap adds_entry c.from-answer.ensures.value)
     (subst (λ (n : ℕ). length (recording_text s.recorder) + n ≤ s.recorder.caps.recording) (sym sized) c.in_default.ensures) in
     let found : c.bytes-in-Err.result.now ≡ c.args.address = c.bytes-in-Err.ensures.value ∙ c.in-Err.ensures.handed_back in
     subst (λ (b : List ℕ). IsRecordable c.args.caller (add b) answer) (sym found) played.recordable
@@ -141,12 +141,12 @@ pub invariant_of-self-in-Err : goal.invariant_of-self-in-Err
 invariant_of-self-in-Err c =
     let s = c.self.inside in
     let event = add c.args.address in
-    let answer = answer_of c.refusal_answer-answer.result in
+    let answer = answer_of c.from-answer.result in
     let sized : entry_size event answer ≡ c.add_size.result = sym (c.add_size.ensures ∙ ap (λ (b : List ℕ). 40 + length (string b)) c.bytes.ensures.value) in
     let played = c.a_performance_is_played.ensures.played s.server s.recorder s.entries c.args.caller event answer c.self.invariant
     (enrolled_in s.recorder c.args.self.now c.args.caller c.self.view_is c.requires)
-    (subst (λ (b : List ℕ). IsTrue (is_address b)) c.bytes.ensures.value c.bytes.ensures.test) (c.refusal_answer-answer.ensures ∙ sym c.in-Err.ensures.refused)
-    (ap adds_entry c.refusal_answer-answer.ensures)
+    (subst (λ (b : List ℕ). IsTrue (is_address b)) c.bytes.ensures.value c.bytes.ensures.test) (c.from-answer.ensures.value ∙ sym c.in-Err.ensures.refused)
+    (ap adds_entry c.from-answer.ensures.value)
     (subst (λ (n : ℕ). length (recording_text s.recorder) + n ≤ s.recorder.caps.recording) (sym sized) c.in_default.ensures) in
     let found : c.bytes-in-Err.result.now ≡ c.args.address = c.bytes-in-Err.ensures.value ∙ c.in-Err.ensures.handed_back in
     let on = plays s.server s.recorder s.entries c.args.caller event answer c.add.new.self c.put-in-Err.new.self c.args.self.now played c.self.view_is
@@ -158,29 +158,29 @@ pub returns-in-Err-clause-refused : goal.returns-in-Err-clause-refused
 returns-in-Err-clause-refused c =
     let s = c.self.inside in
     let event = add c.args.address in
-    let answer = answer_of c.refusal_answer-answer.result in
+    let answer = answer_of c.from-answer.result in
     let sized : entry_size event answer ≡ c.add_size.result = sym (c.add_size.ensures ∙ ap (λ (b : List ℕ). 40 + length (string b)) c.bytes.ensures.value) in
     let played = c.a_performance_is_played.ensures.played s.server s.recorder s.entries c.args.caller event answer c.self.invariant
     (enrolled_in s.recorder c.args.self.now c.args.caller c.self.view_is c.requires)
-    (subst (λ (b : List ℕ). IsTrue (is_address b)) c.bytes.ensures.value c.bytes.ensures.test) (c.refusal_answer-answer.ensures ∙ sym c.in-Err.ensures.refused)
-    (ap adds_entry c.refusal_answer-answer.ensures)
+    (subst (λ (b : List ℕ). IsTrue (is_address b)) c.bytes.ensures.value c.bytes.ensures.test) (c.from-answer.ensures.value ∙ sym c.in-Err.ensures.refused)
+    (ap adds_entry c.from-answer.ensures.value)
     (subst (λ (n : ℕ). length (recording_text s.recorder) + n ≤ s.recorder.caps.recording) (sym sized) c.in_default.ensures) in
     let found : c.bytes-in-Err.result.now ≡ c.args.address = c.bytes-in-Err.ensures.value ∙ c.in-Err.ensures.handed_back in
     let on = plays s.server s.recorder s.entries c.args.caller event answer c.add.new.self c.put-in-Err.new.self c.args.self.now played c.self.view_is
     c.add.ensures.state
     (c.put-in-Err.ensures ∙ ap (λ (b : List ℕ). appended s.recorder (record { caller = c.args.caller; event = add b; answer = answer })) found) in
-    on.answer_is ∙ c.refusal_answer-answer.ensures ∙ sym c.refusal_in_words.ensures
+    on.answer_is ∙ c.from-answer.ensures.value ∙ sym c.refusal_in_words.ensures
 
 pub returns-in-Err-clause-performance : goal.returns-in-Err-clause-performance
 returns-in-Err-clause-performance c =
     let s = c.self.inside in
     let event = add c.args.address in
-    let answer = answer_of c.refusal_answer-answer.result in
+    let answer = answer_of c.from-answer.result in
     let sized : entry_size event answer ≡ c.add_size.result = sym (c.add_size.ensures ∙ ap (λ (b : List ℕ). 40 + length (string b)) c.bytes.ensures.value) in
     let played = c.a_performance_is_played.ensures.played s.server s.recorder s.entries c.args.caller event answer c.self.invariant
     (enrolled_in s.recorder c.args.self.now c.args.caller c.self.view_is c.requires)
-    (subst (λ (b : List ℕ). IsTrue (is_address b)) c.bytes.ensures.value c.bytes.ensures.test) (c.refusal_answer-answer.ensures ∙ sym c.in-Err.ensures.refused)
-    (ap adds_entry c.refusal_answer-answer.ensures)
+    (subst (λ (b : List ℕ). IsTrue (is_address b)) c.bytes.ensures.value c.bytes.ensures.test) (c.from-answer.ensures.value ∙ sym c.in-Err.ensures.refused)
+    (ap adds_entry c.from-answer.ensures.value)
     (subst (λ (n : ℕ). length (recording_text s.recorder) + n ≤ s.recorder.caps.recording) (sym sized) c.in_default.ensures) in
     let found : c.bytes-in-Err.result.now ≡ c.args.address = c.bytes-in-Err.ensures.value ∙ c.in-Err.ensures.handed_back in
     let on = plays s.server s.recorder s.entries c.args.caller event answer c.add.new.self c.put-in-Err.new.self c.args.self.now played c.self.view_is

@@ -7,7 +7,7 @@ use Rattle.osc_record.specs.Writing.{recording_text, appended}
 use Rattle.osc_model.specs.Events.{remove, adds_entry}
 use Rattle.osc_model.specs.History.{state_of}
 use Rattle.osc_core.specs.Ids.{without}
-use Rattle.osc_core.specs.Leaving.{OnLeaving}
+use Rattle.osc_core.specs.Answers.{OnRemoved}
 use Rattle.osc_core.specs.Playing.{performance_of}
 use Rattle.osc_record.specs.Shown.{answer_of}
 use Rattle.osc_core.proofs.Played.{others_add, refuses, plays, enrolled_in, methods_are}
@@ -37,11 +37,11 @@ invariant_of-self c =
     let played = c.a_performance_is_played.ensures.played s.server s.recorder s.entries c.args.caller (remove c.args.address.now)
     (answer_of c.remove_answer.result) c.self.invariant (enrolled_in s.recorder c.args.self.now c.args.caller c.self.view_is c.requires)
     (subst (λ (b : List ℕ). IsTrue (is_address b)) c.bytes-bytes.ensures.value c.bytes-bytes.ensures.test)
-    (c.remove_answer.ensures ∙ c.remove-leaving.ensures.answer) (ap adds_entry c.remove_answer.ensures ∙ c.remove-leaving.ensures.entry)
+    (c.remove_answer.ensures ∙ c.remove-removing.ensures.answer) (ap adds_entry c.remove_answer.ensures ∙ c.remove-removing.ensures.entry)
     (subst (λ (n : ℕ). length (recording_text s.recorder) + n ≤ s.recorder.caps.recording)
     (c.remove_size.ensures ∙ ap (λ (b : List ℕ). 36 + length (string b)) c.bytes-bytes.ensures.value) c.in_default.ensures) in
     let on = plays s.server s.recorder s.entries c.args.caller (remove c.args.address.now)
-    (answer_of c.remove_answer.result) c.remove-leaving.new.self c.put.new.self c.args.self.now played c.self.view_is c.remove-leaving.ensures.state
+    (answer_of c.remove_answer.result) c.remove-removing.new.self c.put.new.self c.args.self.now played c.self.view_is c.remove-removing.ensures.state
     (c.put.ensures
     ∙ ap (λ (b : List ℕ). appended s.recorder (record { caller = c.args.caller; event = remove b; answer = answer_of c.remove_answer.result }))
     c.bytes-bytes.ensures.value) in
@@ -53,11 +53,11 @@ returns-clause-answer c =
     let played = c.a_performance_is_played.ensures.played s.server s.recorder s.entries c.args.caller (remove c.args.address.now)
     (answer_of c.remove_answer.result) c.self.invariant (enrolled_in s.recorder c.args.self.now c.args.caller c.self.view_is c.requires)
     (subst (λ (b : List ℕ). IsTrue (is_address b)) c.bytes-bytes.ensures.value c.bytes-bytes.ensures.test)
-    (c.remove_answer.ensures ∙ c.remove-leaving.ensures.answer) (ap adds_entry c.remove_answer.ensures ∙ c.remove-leaving.ensures.entry)
+    (c.remove_answer.ensures ∙ c.remove-removing.ensures.answer) (ap adds_entry c.remove_answer.ensures ∙ c.remove-removing.ensures.entry)
     (subst (λ (n : ℕ). length (recording_text s.recorder) + n ≤ s.recorder.caps.recording)
     (c.remove_size.ensures ∙ ap (λ (b : List ℕ). 36 + length (string b)) c.bytes-bytes.ensures.value) c.in_default.ensures) in
     let on = plays s.server s.recorder s.entries c.args.caller (remove c.args.address.now)
-    (answer_of c.remove_answer.result) c.remove-leaving.new.self c.put.new.self c.args.self.now played c.self.view_is c.remove-leaving.ensures.state
+    (answer_of c.remove_answer.result) c.remove-removing.new.self c.put.new.self c.args.self.now played c.self.view_is c.remove-removing.ensures.state
     (c.put.ensures
     ∙ ap (λ (b : List ℕ). appended s.recorder (record { caller = c.args.caller; event = remove b; answer = answer_of c.remove_answer.result }))
     c.bytes-bytes.ensures.value) in
@@ -69,11 +69,11 @@ returns-clause-performance c =
     let played = c.a_performance_is_played.ensures.played s.server s.recorder s.entries c.args.caller (remove c.args.address.now)
     (answer_of c.remove_answer.result) c.self.invariant (enrolled_in s.recorder c.args.self.now c.args.caller c.self.view_is c.requires)
     (subst (λ (b : List ℕ). IsTrue (is_address b)) c.bytes-bytes.ensures.value c.bytes-bytes.ensures.test)
-    (c.remove_answer.ensures ∙ c.remove-leaving.ensures.answer) (ap adds_entry c.remove_answer.ensures ∙ c.remove-leaving.ensures.entry)
+    (c.remove_answer.ensures ∙ c.remove-removing.ensures.answer) (ap adds_entry c.remove_answer.ensures ∙ c.remove-removing.ensures.entry)
     (subst (λ (n : ℕ). length (recording_text s.recorder) + n ≤ s.recorder.caps.recording)
     (c.remove_size.ensures ∙ ap (λ (b : List ℕ). 36 + length (string b)) c.bytes-bytes.ensures.value) c.in_default.ensures) in
     let on = plays s.server s.recorder s.entries c.args.caller (remove c.args.address.now)
-    (answer_of c.remove_answer.result) c.remove-leaving.new.self c.put.new.self c.args.self.now played c.self.view_is c.remove-leaving.ensures.state
+    (answer_of c.remove_answer.result) c.remove-removing.new.self c.put.new.self c.args.self.now played c.self.view_is c.remove-removing.ensures.state
     (c.put.ensures
     ∙ ap (λ (b : List ℕ). appended s.recorder (record { caller = c.args.caller; event = remove b; answer = answer_of c.remove_answer.result }))
     c.bytes-bytes.ensures.value) in
@@ -85,7 +85,7 @@ put-requires-clause-lawful c =
     let played = c.a_performance_is_played.ensures.played s.server s.recorder s.entries c.args.caller (remove c.args.address.now)
     (answer_of c.remove_answer.result) c.self.invariant (enrolled_in s.recorder c.args.self.now c.args.caller c.self.view_is c.requires)
     (subst (λ (b : List ℕ). IsTrue (is_address b)) c.bytes-bytes.ensures.value c.bytes-bytes.ensures.test)
-    (c.remove_answer.ensures ∙ c.remove-leaving.ensures.answer) (ap adds_entry c.remove_answer.ensures ∙ c.remove-leaving.ensures.entry)
+    (c.remove_answer.ensures ∙ c.remove-removing.ensures.answer) (ap adds_entry c.remove_answer.ensures ∙ c.remove-removing.ensures.entry)
     (subst (λ (n : ℕ). length (recording_text s.recorder) + n ≤ s.recorder.caps.recording)
     (c.remove_size.ensures ∙ ap (λ (b : List ℕ). 36 + length (string b)) c.bytes-bytes.ensures.value) c.in_default.ensures) in
     subst (λ (b : List ℕ). IsRecordable c.args.caller (remove b) (answer_of c.remove_answer.result)) (sym c.bytes-bytes.ensures.value) played.recordable
@@ -96,17 +96,17 @@ returns-clause-others c =
     let played = c.a_performance_is_played.ensures.played s.server s.recorder s.entries c.args.caller (remove c.args.address.now)
     (answer_of c.remove_answer.result) c.self.invariant (enrolled_in s.recorder c.args.self.now c.args.caller c.self.view_is c.requires)
     (subst (λ (b : List ℕ). IsTrue (is_address b)) c.bytes-bytes.ensures.value c.bytes-bytes.ensures.test)
-    (c.remove_answer.ensures ∙ c.remove-leaving.ensures.answer) (ap adds_entry c.remove_answer.ensures ∙ c.remove-leaving.ensures.entry)
+    (c.remove_answer.ensures ∙ c.remove-removing.ensures.answer) (ap adds_entry c.remove_answer.ensures ∙ c.remove-removing.ensures.entry)
     (subst (λ (n : ℕ). length (recording_text s.recorder) + n ≤ s.recorder.caps.recording)
     (c.remove_size.ensures ∙ ap (λ (b : List ℕ). 36 + length (string b)) c.bytes-bytes.ensures.value) c.in_default.ensures) in
     let on = plays s.server s.recorder s.entries c.args.caller (remove c.args.address.now)
-    (answer_of c.remove_answer.result) c.remove-leaving.new.self c.put.new.self c.args.self.now played c.self.view_is c.remove-leaving.ensures.state
+    (answer_of c.remove_answer.result) c.remove-removing.new.self c.put.new.self c.args.self.now played c.self.view_is c.remove-removing.ensures.state
     (c.put.ensures
     ∙ ap (λ (b : List ℕ). appended s.recorder (record { caller = c.args.caller; event = remove b; answer = answer_of c.remove_answer.result }))
     c.bytes-bytes.ensures.value) in
-    let left = c.remove-leaving.result in
+    let left = c.remove-removing.result in
     let ids = λ (l : List Method). map (λ method. method.id) l in
-    subst (λ (l : List Method). OnLeaving left (λ id. ids l ≡ without id (ids (state_of c.args.self.now).methods)))
-    (methods_are c.remove-leaving.new.self c.put.new.self (s.entries + 1) (performance_of c.put.new.self) on.playing refl)
-    (subst (λ (l : List Method). OnLeaving left (λ id. ids c.remove-leaving.new.self.methods ≡ without id (ids l)))
-    (methods_are s.server s.recorder s.entries c.args.self.now c.self.invariant c.self.view_is) c.remove-leaving.ensures.others)
+    subst (λ (l : List Method). OnRemoved left (λ id _. ids l ≡ without id (ids (state_of c.args.self.now).methods)))
+    (methods_are c.remove-removing.new.self c.put.new.self (s.entries + 1) (performance_of c.put.new.self) on.playing refl)
+    (subst (λ (l : List Method). OnRemoved left (λ id _. ids c.remove-removing.new.self.methods ≡ without id (ids l)))
+    (methods_are s.server s.recorder s.entries c.args.self.now c.self.invariant c.self.view_is) c.remove-removing.ensures.others)
