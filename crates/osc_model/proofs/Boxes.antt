@@ -64,14 +64,12 @@ adds state address id is = go (changes state (add address)) where
   go (inr (inl more)) = more
   go (inr (inr fewer)) = let other = fewer.event_is in absurd (cc)
 
-other_id : (a b : ℕ) → a < b → (a == b) ≡ false
-other_id a b below = grind (arith, nat_tests)
-
-none_called : (id : ℕ) (calls : List Invocation) → AllByRecursion (λ call. call.call.id < id) calls → filter (λ call. call.call.id == id) calls ≡ []
+pub none_called : (id : ℕ) (calls : List Invocation) → AllByRecursion (λ call. call.call.id < id) calls → filter (λ call. call.call.id == id) calls ≡ []
 none_called id [] below = refl
 none_called id (call ∷ calls) below =
-    ap (λ (t : Bool). cond t (call ∷ filter (λ other. other.call.id == id) calls) (filter (λ other. other.call.id == id) calls))
-    (other_id call.call.id id below.0)
+    let less = below.0 in
+    let other : (call.call.id == id) ≡ false = grind (arith, nat_tests) in
+    ap (λ (t : Bool). cond t (call ∷ filter (λ other. other.call.id == id) calls) (filter (λ other. other.call.id == id) calls)) other
     ∙ none_called id calls below.1
 
 -- a box of an id that no call has yet has heard nothing
@@ -150,7 +148,7 @@ others_left performance caller id address boxes sound have is =
 -- A release.
 
 -- a box that hears a call
-abbrev hearing : Told → Invocation → Told
+abbrev pub hearing : Told → Invocation → Told
 hearing box call = record box { heard = after_call box.keep (bytes_of call) box.heard }
 
 hear_id : (box : Told) (call : Invocation) → (hear box call).id ≡ box.id
@@ -159,7 +157,7 @@ hear_id box call = go (call.call.id == box.id) where
   go true = refl
   go false = refl
 
-same_id : (calls : List Invocation) (box : Told) → (hear_all calls box).id ≡ box.id
+pub same_id : (calls : List Invocation) (box : Told) → (hear_all calls box).id ≡ box.id
 same_id [] box = refl
 same_id (call ∷ calls) box = same_id calls (hear box call) ∙ hear_id box call
 
@@ -187,7 +185,7 @@ each_hears : (calls more : List Invocation) (boxes : List Told) → AllByRecursi
 each_hears calls more [] heard = tt
 each_hears calls more (box ∷ boxes) heard = (one_hears calls more box heard.0, each_hears calls more boxes heard.1)
 
-release_keeps : (state : State) → (step state release).state.methods ≡ state.methods
+pub release_keeps : (state : State) → (step state release).state.methods ≡ state.methods
 release_keeps state = go (changes state release) where
   go : Changes state release (step state release) → (step state release).state.methods ≡ state.methods
   go (inl kept) = kept.methods
