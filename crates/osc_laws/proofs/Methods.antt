@@ -84,7 +84,8 @@ registered_before history entry id address is = go (last_or_earlier history entr
 abbrev AreRead : List Entry → List Method → Type 0
 AreRead history methods = (method : Method) → Contains methods method ↔ IsRegistered history method.id method.address
 
-kept_read : (history : List Entry) (state : State) (entry : Entry) → entry.answer ≡ (step state entry.event).answer → KeepsMethods state (step state entry.event)
+kept_read : (history : List Entry) (state : State) (entry : Entry) → entry.answer ≡ (step state entry.event).answer
+    → KeepsMethods state (step state entry.event)
     → AreRead history state.methods → AreRead (history ++ entry ∷ []) (step state entry.event).state.methods
 kept_read history state entry answered keeps read method = (there, λ is. back (registered_before history entry method.id method.address is)) where
   there : Contains (step state entry.event).state.methods method → IsRegistered (history ++ entry ∷ []) method.id method.address
@@ -97,7 +98,8 @@ kept_read history state entry answered keeps read method = (there, λ is. back (
   back (inr (was, stays)) = subst (λ (l : List Method). Contains l method) (sym keeps.methods) ((read method).1 was)
 
 added_read : (history : List Entry) (state : State) (entry : Entry) → entry.answer ≡ (step state entry.event).answer
-    → AddsMethod state entry.event (step state entry.event) → AreRead history state.methods → AreRead (history ++ entry ∷ []) (step state entry.event).state.methods
+    → AddsMethod state entry.event (step state entry.event) → AreRead history state.methods
+    → AreRead (history ++ entry ∷ []) (step state entry.event).state.methods
 added_read history state entry answered adds read method = (
   λ held. there (Contains-push_cases state.methods one method (subst (λ (l : List Method). Contains l method) adds.methods held)),
   λ is.

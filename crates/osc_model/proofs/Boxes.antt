@@ -19,6 +19,7 @@ use Rattle.osc_model.proofs.Hearing.{fresh_heard, heard_on}
 use Rattle.osc_model.proofs.Onward.{onward_state, onward_invoked}
 use Rattle.osc_model.proofs.Changes.{Changes, AddsMethod, tells_change, changes}
 use Rattle.osc_model.proofs.Silence.{left}
+use Rattle.osc_model.proofs.Leaving.{filter_ids}
 
 abbrev id_of : Method → ℕ
 id_of method = method.id
@@ -113,16 +114,6 @@ added_hears given performance caller address told boxes legal have is =
     })
 
 -- A method that leaves.
-
--- two lists with the same ids have the same ids left, where one id is taken out
-filter_ids : {X : Type 0} (of : X → ℕ) (id : ℕ) (xs : List X) → map of (filter (λ x. not (of x == id)) xs) ≡ filter (λ n. not (n == id)) (map of xs)
-filter_ids of id [] = refl
-filter_ids {X} of id (x ∷ xs) = go (not (of x == id)) (filter_ids of id xs) where
-  go : (t : Bool) → map of (filter (λ y. not (of y == id)) xs) ≡ filter (λ n. not (n == id)) (map of xs)
-      → map of (cond t (x ∷ filter (λ y. not (of y == id)) xs) (filter (λ y. not (of y == id)) xs))
-      ≡ cond t (of x ∷ filter (λ n. not (n == id)) (map of xs)) (filter (λ n. not (n == id)) (map of xs))
-  go true more = ap (λ (l : List ℕ). of x ∷ l) more
-  go false more = more
 
 all_filter : {X : Type 0} (P : X → Type 0) (test : X → Bool) (xs : List X) → AllByRecursion P xs → AllByRecursion P (filter test xs)
 all_filter P test [] all = tt

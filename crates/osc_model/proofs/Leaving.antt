@@ -1,5 +1,5 @@
 -- The ids of the methods, where one leaves.
-use Rattle.std.proofs.Common.{◌≡◌, ◌≢◌, ℕ, suc, Bool, true, false, ◌==◌, not, cond, List, [], ◌∷◌, filter, All, Some, refl, sym, subst, ◌∙◌, arith}
+use Rattle.std.proofs.Common.{◌≡◌, ◌≢◌, ℕ, suc, Bool, true, false, ◌==◌, not, cond, List, [], ◌∷◌, filter, All, Some, refl, sym, subst, ◌∙◌, arith, map, ap}
 use Rattle.std.specs.List.{AllByRecursion, AllPairs}
 use Rattle.std.specs.Str.{bytes_eq}
 use Rattle.std.proofs.lemmas.Bool.Decides.{nat_tests}
@@ -72,6 +72,21 @@ others_stay methods address id list at = go methods (all_agree methods address i
   go : (some : List Method) → AllByRecursion (Agrees address id) some → without some address ≡ filter (λ method. not (method.id == id)) some
   go [] agree = refl
   go (method ∷ more) agree = λ i. cond (not (agree.0 i)) (method ∷ go more agree.1 i) (go more agree.1 i)
+
+-- two lists with the same ids have the same ids left, where one id is taken out
+pub filter_ids : {X : Type 0} (of : X → ℕ) (id : ℕ) (xs : List X) → map of (filter (λ x. not (of x == id)) xs) ≡ filter (λ n. not (n == id)) (map of xs)
+filter_ids of id [] = refl
+filter_ids {X} of id (x ∷ xs) = go (not (of x == id)) (filter_ids of id xs) where
+  go : (t : Bool) → map of (filter (λ y. not (of y == id)) xs) ≡ filter (λ n. not (n == id)) (map of xs)
+      → map of (cond t (x ∷ filter (λ y. not (of y == id)) xs) (filter (λ y. not (of y == id)) xs))
+      ≡ cond t (of x ∷ filter (λ n. not (n == id)) (map of xs)) (filter (λ n. not (n == id)) (map of xs))
+  go true more = ap (λ (l : List ℕ). of x ∷ l) more
+  go false more = more
+
+pub ids_left : (methods : List Method) (address : List ℕ) (id : ℕ) → IsMethodList methods → id_at methods address ≡ Some id
+    → map (λ method. method.id) (without methods address) ≡ filter (λ n. not (n == id)) (map (λ method. method.id) methods)
+ids_left methods address id list at =
+    ap (map (λ (method : Method). method.id)) (others_stay methods address id list at) ∙ filter_ids (λ (method : Method). method.id) id methods
 
 -- none of those with another id has the id
 pub none_has : (methods : List Method) (id : ℕ) → All (λ method. method.id ≢ id) (filter (λ method. not (method.id == id)) methods)

@@ -261,7 +261,8 @@ row_begins bytes caller release answer none fit same = go (releasing answer) fit
       → sized bytes ≡ option_map_or (λ row. sized (row_text row)) (option_map (λ r. release_row caller r.0 (hits_text r.1)) o) [] → ⊥
   go None f is = f
   go (Some told) f is =
-      both_ways (starts_with ◌==◌ bytes release_bytes) none.release_none (begun bytes (row_text (release_row caller told.0 (hits_text told.1))) release_bytes is refl)
+      both_ways (starts_with ◌==◌ bytes release_bytes) none.release_none
+      (begun bytes (row_text (release_row caller told.0 (hits_text told.1))) release_bytes is refl)
 
 pub other_none : (bytes : List ℕ) → AreBytes bytes → BeginsNone bytes → None ≡ entry_of bytes
 other_none bytes all none = go (entry_of bytes) refl where
