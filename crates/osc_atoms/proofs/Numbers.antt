@@ -3,7 +3,7 @@ use Rattle.std.proofs.Common.{◌≡◌, ℕ, ◌+◌, ◌<◌, ◌≤◌, true,
 use Rattle.std.proofs.Common.{take-append-drop}
 use Rattle.std.specs.Int.{w32, w64, from_be_bytes}
 use Rattle.std.proofs.lemmas.Bool.{le-leb, lt-leb, cond-true, cond-false, cases_lt}
-use Rattle.std.proofs.lemmas.List.{length-take-le, get_or-take, get_or-drop, get_or_past}
+use Rattle.std.proofs.lemmas.List.{length-take-le}
 use Rattle.std.proofs.lemmas.Nat.{be_bytes_4, be_bytes_8, from_be_bytes-to_be_bytes_4, from_be_bytes-to_be_bytes_8}
 use Rattle.osc_atoms.specs.declared.fault.Fault.{Fault}
 use Rattle.osc_atoms.specs.Atoms.{AreBytes, word, tag}
@@ -11,19 +11,14 @@ use Rattle.osc_atoms.specs.Faults.{short}
 use Rattle.osc_atoms.specs.Reading.{word_read, tag_read}
 use Rattle.osc_atoms.specs.Standing.{StartsWithWord, StartsWithTag, NamesShort}
 use Rattle.osc_atoms.proofs.Outcomes.{Outcome}
-
-are_bytes_of : (n at : ℕ) (bytes : List ℕ) → AreBytes bytes → length (take n (drop at bytes)) ≡ n → AreBytes (take n (drop at bytes))
-are_bytes_of n at bytes small size i = elim (cases_lt i n) [
-  | inl below ↦ let here = small (at + i) in rw (get_or-take n (drop at bytes) i 0 below, get_or-drop at bytes i 0) here
-  | inr above ↦ rw (get_or_past (take n (drop at bytes)) i 0 (omega (arith, size))) (omega arith)
-]
+use Rattle.osc_atoms.proofs.Bytes.{front_bytes, rest_bytes}
 
 pub word_stands : (bytes : List ℕ) (at number : ℕ) → AreBytes bytes → at + 4 ≤ length bytes → number ≡ from_be_bytes w32 (take 4 (drop at bytes))
     → StartsWithWord bytes at number
 word_stands bytes at number small inside is =
     let four = take 4 (drop at bytes) in
     let size : length four ≡ 4 = length-take-le 4 (drop at bytes) (omega (arith, length-drop at bytes)) in
-    let each : AreBytes four = are_bytes_of 4 at bytes small size in
+    let each : AreBytes four = front_bytes 4 (drop at bytes) (rest_bytes at bytes small) in
     let written : word number ≡ four = be_bytes_4 four number size each is in
     record {
       fits = omega (arith, is, each 0, each 1, each 2, each 3);
@@ -38,7 +33,7 @@ pub tag_stands : (bytes : List ℕ) (at number : ℕ) → AreBytes bytes → at 
 tag_stands bytes at number small inside is =
     let eight = take 8 (drop at bytes) in
     let size : length eight ≡ 8 = length-take-le 8 (drop at bytes) (omega (arith, length-drop at bytes)) in
-    let each : AreBytes eight = are_bytes_of 8 at bytes small size in
+    let each : AreBytes eight = front_bytes 8 (drop at bytes) (rest_bytes at bytes small) in
     let written : tag number ≡ eight = be_bytes_8 eight number size each is in
     record {
       fits = omega (arith, is, each 0, each 1, each 2, each 3, each 4, each 5, each 6, each 7);

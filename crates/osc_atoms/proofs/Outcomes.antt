@@ -19,7 +19,7 @@ pub record Refused {X : Type 0} (Names : Fault → Type 0) (read : Result (X × 
 abbrev pub Outcome : {X : Type 0} → (X → Type 0) → (X → ℕ) → (Fault → Type 0) → Result (X × ℕ) Fault → Type 0
 Outcome Stands next Names read = Given Stands next read ⊎ Refused Names read
 
-ok_is : {X : Type 0} (x y : X) → ◌≡◌ {A = Result X Fault} (Ok x) (Ok y) → x ≡ y
+pub ok_is : {X : Type 0} (x y : X) → ◌≡◌ {A = Result X Fault} (Ok x) (Ok y) → x ≡ y
 ok_is x y e = cc
 
 err_is : {X : Type 0} (f g : Fault) → ◌≡◌ {A = Result X Fault} (Err f) (Err g) → f ≡ g

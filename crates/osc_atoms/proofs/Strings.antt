@@ -15,7 +15,7 @@ use Rattle.osc_atoms.proofs.Paddings.{before_place, after_place, padding_again, 
 end_is : (n : ℕ) → string_end n ≡ suc (3 - n % 4)
 end_is n = omega arith
 
-length-string : (text : List ℕ) → length (string text) ≡ length text + string_end (length text)
+pub length-string : (text : List ℕ) → length (string text) ≡ length text + string_end (length text)
 length-string text = length-append text _ ∙ ap (λ (n : ℕ). length text + n) (length-replicate {A = ℕ} (string_end (length text)) 0)
 
 -- a text and a zero byte after it, whatever comes then

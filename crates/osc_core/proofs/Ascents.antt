@@ -1,27 +1,24 @@
 -- Ids that ascend.
-use Rattle.std.proofs.Common.{◌≡◌, ◌≢◌, ℕ, zero, suc, ◌+◌, ◌<◌, ◌≤◌, Bool, true, false, ◌&&◌, ◌==◌, nat_lt, not, cond, List, [], ◌∷◌, ◌++◌, length, map, filter}
+use Rattle.std.proofs.Common.{◌≡◌, ◌≢◌, ℕ, zero, suc, ◌+◌, ◌<◌, ◌≤◌, Bool, true, false, ◌==◌, nat_lt, not, cond, List, [], ◌∷◌, ◌++◌, length, map, filter}
 use Rattle.std.proofs.Common.{get_or, refl, sym, ap, subst, ◌∙◌, arith}
 use Rattle.std.specs.List.{list_all, All, AllByRecursion, Contains, remove}
 use Rattle.std.proofs.lemmas.Bool.Decides.{nat_tests}
+use Rattle.std.proofs.lemmas.Bool.{and_parts}
 use Rattle.std.proofs.lemmas.List.{length-map, get_or-map}
 use Rattle.osc_pattern.specs.Methods.{Method}
 use Rattle.osc_core.specs.Ids.{is_ascending, IsFirstFrom, without}
 
-pub both : (a b : Bool) → (a && b) ≡ true → (a ≡ true) × (b ≡ true)
-both true b e = (refl, e)
-both false b e = absurd (cc)
-
 all_above : (id : ℕ) (ids : List ℕ) (k : ℕ) → list_all (nat_lt id) ids ≡ true → k < length ids → id < get_or ids k 0
 all_above id [] k all within = absurd (omega arith)
-all_above id (other ∷ ids) zero all within = let p = both (nat_lt id other) (list_all (nat_lt id) ids) all in grind (arith, nat_tests, p.0)
-all_above id (other ∷ ids) (suc k) all within = let p = both (nat_lt id other) (list_all (nat_lt id) ids) all in all_above id ids k p.1 (omega arith)
+all_above id (other ∷ ids) zero all within = let p = and_parts (nat_lt id other) (list_all (nat_lt id) ids) all in grind (arith, nat_tests, p.0)
+all_above id (other ∷ ids) (suc k) all within = let p = and_parts (nat_lt id other) (list_all (nat_lt id) ids) all in all_above id ids k p.1 (omega arith)
 
 pub rising : (ids : List ℕ) (k m : ℕ) → is_ascending ids ≡ true → k < m → m < length ids → get_or ids k 0 < get_or ids m 0
 rising [] k m ascending lt within = absurd (omega arith)
 rising (id ∷ ids) k zero ascending lt within = absurd (omega arith)
-rising (id ∷ ids) zero (suc m) ascending lt within = all_above id ids m (both (list_all (nat_lt id) ids) (is_ascending ids) ascending).0 (omega arith)
+rising (id ∷ ids) zero (suc m) ascending lt within = all_above id ids m (and_parts (list_all (nat_lt id) ids) (is_ascending ids) ascending).0 (omega arith)
 rising (id ∷ ids) (suc k) (suc m) ascending lt within =
-    rising ids k m (both (list_all (nat_lt id) ids) (is_ascending ids) ascending).1 (omega arith) (omega arith)
+    rising ids k m (and_parts (list_all (nat_lt id) ids) (is_ascending ids) ascending).1 (omega arith) (omega arith)
 
 pub still_below : (ids : List ℕ) (middle id : ℕ) → is_ascending ids ≡ true → middle < length ids → get_or ids middle 0 < id → (k : ℕ) → k < middle + 1
     → get_or ids k 0 < id
@@ -63,7 +60,7 @@ not_there (other ∷ ids) id none (suc k, lt, at) = not_there ids id none.1 (k, 
 pub behind : (id : ℕ) (ids : List ℕ) → list_all (nat_lt id) ids ≡ true → AllByRecursion (λ other. other ≢ id) ids
 behind id [] all = tt
 behind id (other ∷ ids) all =
-    let p = both (nat_lt id other) (list_all (nat_lt id) ids) all in
+    let p = and_parts (nat_lt id other) (list_all (nat_lt id) ids) all in
     (λ (same : other ≡ id). grind (arith, nat_tests, p.0), behind id ids p.1)
 
 -- an id that is above all enters behind them
@@ -71,26 +68,26 @@ pub ascending_pushed : (ids : List ℕ) (id : ℕ) → is_ascending ids ≡ true
     → is_ascending (ids ++ id ∷ []) ≡ true
 ascending_pushed [] id ascending below = refl
 ascending_pushed (first ∷ ids) id ascending below =
-    let p = both (list_all (nat_lt first) ids) (is_ascending ids) ascending in
+    let p = and_parts (list_all (nat_lt first) ids) (is_ascending ids) ascending in
     let q = ascending_pushed ids id p.1 (λ k lt. below (suc k) (omega arith)) in
     rw (pushed ids p.0, q) refl
   where
     pushed : (others : List ℕ) → list_all (nat_lt first) others ≡ true → list_all (nat_lt first) (others ++ id ∷ []) ≡ true
     pushed [] all = let l : first < id = below 0 (omega arith) in grind (arith, nat_tests)
     pushed (other ∷ others) all =
-        let p = both (nat_lt first other) (list_all (nat_lt first) others) all in
+        let p = and_parts (nat_lt first other) (list_all (nat_lt first) others) all in
         rw (p.0, pushed others p.1) refl
 
 -- ids of which some are left out ascend
 pub ascending_without : (id : ℕ) (ids : List ℕ) → is_ascending ids ≡ true → is_ascending (without id ids) ≡ true
 ascending_without id [] ascending = refl
 ascending_without id (first ∷ ids) ascending =
-    let p = both (list_all (nat_lt first) ids) (is_ascending ids) ascending in
+    let p = and_parts (list_all (nat_lt first) ids) (is_ascending ids) ascending in
     go (not (first == id)) p.0 (ascending_without id ids p.1)
   where
     left : (others : List ℕ) → list_all (nat_lt first) others ≡ true → list_all (nat_lt first) (without id others) ≡ true
     left [] all = refl
-    left (other ∷ others) all = let p = both (nat_lt first other) (list_all (nat_lt first) others) all in step (not (other == id)) p.0 (left others p.1) where
+    left (other ∷ others) all = let p = and_parts (nat_lt first other) (list_all (nat_lt first) others) all in step (not (other == id)) p.0 (left others p.1) where
       step : (t : Bool) → nat_lt first other ≡ true → list_all (nat_lt first) (without id others) ≡ true
           → list_all (nat_lt first) (cond t (other ∷ without id others) (without id others)) ≡ true
       step true e more = rw (e, more) refl
@@ -115,7 +112,7 @@ module _ {X : Type 0} (key : X → ℕ) where
       → remove xs place ≡ filter (λ x. not (key x == id)) xs
   left_out [] place id ascending within at = absurd (omega arith)
   left_out (x ∷ xs) zero id ascending within at =
-      let p = both (list_all (nat_lt (key x)) (map key xs)) (is_ascending (map key xs)) ascending in
+      let p = and_parts (list_all (nat_lt (key x)) (map key xs)) (is_ascending (map key xs)) ascending in
       let e : not (key x == id) ≡ false = same (key x) id at in
       let none = subst (λ (n : ℕ). AllByRecursion (λ other. other ≢ n) (map key xs)) at (behind (key x) (map key xs) p.0) in
       rw e (sym (none_left_out id xs none))
@@ -123,7 +120,7 @@ module _ {X : Type 0} (key : X → ℕ) where
       same : (a b : ℕ) → a ≡ b → not (a == b) ≡ false
       same a b e = grind (arith, nat_tests)
   left_out (x ∷ xs) (suc place) id ascending within at =
-      let p = both (list_all (nat_lt (key x)) (map key xs)) (is_ascending (map key xs)) ascending in
+      let p = and_parts (list_all (nat_lt (key x)) (map key xs)) (is_ascending (map key xs)) ascending in
       let lt : key x < get_or (map key xs) place 0 = all_above (key x) (map key xs) place p.0 (omega (arith, length-map xs key)) in
       let e : not (key x == id) ≡ true = lower (key x) id (omega arith) in
       rw e (ap (λ (l : List X). x ∷ l) (left_out xs place id p.1 (omega arith) at))

@@ -1,5 +1,5 @@
 -- Methods by their ids, and the calls of the methods that match.
-use Rattle.std.proofs.Common.{◌≡◌, ℕ, suc, ◌+◌, Bool, true, false, cond, List, [], ◌∷◌, ◌++◌, length, length-append, map, is_some, Some, All, Contains, refl}
+use Rattle.std.proofs.Common.{◌≡◌, ℕ, suc, ◌+◌, Bool, true, false, cond, List, [], ◌∷◌, ◌++◌, length, length-append, map, is_some, Some, All, refl}
 use Rattle.std.proofs.Common.{sym, ap, ◌∙◌, arith}
 use Rattle.std.proofs.lemmas.Bool.{cond-false}
 use Rattle.std.proofs.lemmas.List.{append-nil, length-map}
@@ -68,14 +68,6 @@ same_many methods i j (message ∷ messages) =
       as_many_calls methods j message,
       same_many methods (i + 1) (j + 1) messages,
     )
-
-later : (x y : Method) (ys : List Method) → Contains ys x → Contains (y ∷ ys) x
-later x y ys (k, within, is) = (suc k, omega arith, is)
-
--- what is last is there
-pub last_there : (methods : List Method) (method : Method) → Contains (methods ++ method ∷ []) method
-last_there [] method = (0, omega arith, refl)
-last_there (first ∷ methods) method = later method first (methods ++ method ∷ []) (last_there methods method)
 
 -- a message with an unknown tag makes no call
 pub no_calls : (methods : List Method) (index : ℕ) (message : List ℕ) → is_some (unknown_of message) ≡ true → calls_of methods index message ≡ []

@@ -1,8 +1,9 @@
 -- What boxes hear of calls.
-use Rattle.std.proofs.Common.{◌≡◌, ◌≢◌, ℕ, zero, suc, ◌+◌, ◌<◌, ◌≤◌, Bool, true, false, ◌==◌, nat_lt, cond, List, [], ◌∷◌, ◌++◌, length, map, drop, get_or}
+use Rattle.std.proofs.Common.{◌≡◌, ◌≢◌, ℕ, zero, suc, ◌+◌, ◌<◌, ◌≤◌, true, false, ◌==◌, nat_lt, List, [], ◌∷◌, ◌++◌, length, map, drop, get_or}
 use Rattle.std.proofs.Common.{Option, refl, sym, ap, subst, ◌∙◌, arith}
 use Rattle.std.specs.List.{list_all, AllByRecursion, slice_set}
 use Rattle.std.proofs.lemmas.Bool.Decides.{nat_tests}
+use Rattle.std.proofs.lemmas.Bool.{and_parts}
 use Rattle.std.proofs.lemmas.List.{length-map, map-set, get_or-map, set-get_or, drop_more}
 use Rattle.std.proofs.lemmas.Simd.{map-map}
 use Rattle.osc_method.specs.Heard.{after_call}
@@ -12,7 +13,7 @@ use Rattle.osc_pattern.specs.Methods.{Method}
 use Rattle.osc_method.specs.declared.call.Call.{Call as CodeCall}
 use Rattle.osc_core.specs.Calls.{invocation_by}
 use Rattle.osc_core.specs.Ids.{is_ascending}
-use Rattle.osc_core.proofs.Ascents.{both, behind, rising}
+use Rattle.osc_core.proofs.Ascents.{behind, rising}
 
 pub heard_one : (told : Told) (invocation : Invocation) (keep : ℕ) (heard : Option (List ℕ)) → told.id ≡ invocation.call.id → keep ≡ told.keep
     → heard ≡ after_call told.keep (bytes_of invocation) told.heard → record { id = told.id; keep = keep; heard = heard } ≡ hear told invocation
@@ -35,12 +36,12 @@ one_hears : (boxes : List Told) (place : ℕ) (one : Told) (invocation : Invocat
     → slice_set boxes place one ≡ map (λ told. hear told invocation) boxes
 one_hears [] place one invocation ascending within at is = absurd (omega arith)
 one_hears (told ∷ boxes) zero one invocation ascending within at is =
-    let p = both (list_all (nat_lt told.id) (map (λ told. told.id) boxes)) (is_ascending (map (λ told. told.id) boxes)) ascending in
+    let p = and_parts (list_all (nat_lt told.id) (map (λ told. told.id) boxes)) (is_ascending (map (λ told. told.id) boxes)) ascending in
     let none = subst (λ (n : ℕ). AllByRecursion (λ other. other ≢ n) (map (λ (one : Told). one.id) boxes)) at
     (behind told.id (map (λ told. told.id) boxes) p.0) in
     ap (λ (t : Told). t ∷ boxes) is ∙ ap (λ (l : List Told). hear told invocation ∷ l) (sym (none_hears boxes invocation none))
 one_hears (told ∷ boxes) (suc place) one invocation ascending within at is =
-    let p = both (list_all (nat_lt told.id) (map (λ told. told.id) boxes)) (is_ascending (map (λ told. told.id) boxes)) ascending in
+    let p = and_parts (list_all (nat_lt told.id) (map (λ told. told.id) boxes)) (is_ascending (map (λ told. told.id) boxes)) ascending in
     let lt : told.id < get_or (map (λ (one : Told). one.id) boxes) place 0 =
     rising (told.id ∷ map (λ told. told.id) boxes) 0 (suc place) ascending (omega arith) (omega (arith, length-map boxes (λ (one : Told). one.id))) in
     let other : told.id ≢ invocation.call.id = λ (same : told.id ≡ invocation.call.id). omega arith in
@@ -56,13 +57,6 @@ all_hear_more invocation invocations (told ∷ boxes) =
 pub none_to_hear : (boxes : List Told) → all_hear [] boxes ≡ boxes
 none_to_hear [] = refl
 none_to_hear (told ∷ boxes) = ap (λ (l : List Told). told ∷ l) (none_to_hear boxes)
-
-pub ids_stay : (invocations : List Invocation) (told : Told) → (hear_all invocations told).id ≡ told.id
-ids_stay [] told = refl
-ids_stay (invocation ∷ invocations) told = ids_stay invocations (hear told invocation) ∙ go (invocation.call.id == told.id) where
-  go : (t : Bool) → (cond t (record told { heard = after_call told.keep (bytes_of invocation) told.heard }) told).id ≡ told.id
-  go true = refl
-  go false = refl
 
 module _ {X : Type 0} (view : X → Told) where
   -- the same, of boxes by what is seen of them

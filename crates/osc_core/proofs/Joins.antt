@@ -1,9 +1,9 @@
 -- Units that enter the queue and leave it, with what is stored of them.
-use Rattle.std.proofs.Common.{◌≡◌, ℕ, ◌+◌, ◌<◌, Bool, true, false, cond, List, [], ◌∷◌, ◌++◌, map, insert, take, drop, refl, sym, ap, subst, max, ◌∙◌, not}
+use Rattle.std.proofs.Common.{◌≡◌, ℕ, ◌+◌, ◌<◌, Bool, true, false, cond, List, [], ◌∷◌, insert, drop, refl, sym, ap, subst, max, ◌∙◌, not}
 use Rattle.std.proofs.Common.{one-add, arith}
 use Rattle.std.specs.List.{AllByRecursion, position_or_len}
-use Rattle.std.proofs.lemmas.List.{map-append, take-map, drop-map}
 use Rattle.osc_packet.specs.Units.{TimedUnit, blocks}
+use Rattle.osc_tree.proofs.Lists.{insert-map}
 use Rattle.osc_pool.specs.Holding.{blocks_for, used_blocks, AreApart, IsNew, KeepsLive, KeepsOthers}
 use Rattle.osc_queue.specs.Timed.{Item, due_of, unit_of, is_before, enter, IsNewUnit}
 use Rattle.osc_queue.proofs.Orders.{all_entered}
@@ -15,10 +15,6 @@ use Rattle.osc_core.specs.declared.store.Stored.{Stored}
 use Rattle.osc_core.specs.Stored.{unit_in, IsStored, AreStored}
 use Rattle.osc_core.specs.Views.{queued_of, queue_of, AreKept, AreQueued}
 use Rattle.osc_core.proofs.Stocks.{stored_blocks, all_still, live_still, others_still, apart_new}
-
-insert-map : {X Y : Type 0} (view : X → Y) (n : ℕ) (x : X) (xs : List X) → map view (insert xs n x) ≡ insert (map view xs) n (view x)
-insert-map view n x xs = map-append view (take n xs) (x ∷ drop n xs) ∙ ap (λ l. l ++ view x ∷ map view (drop n xs)) (sym (take-map view n xs))
-    ∙ ap (λ l. take n (map view xs) ++ view x ∷ l) (sym (drop-map view n xs))
 
 -- which comes first doesn't hang on what is stored
 place_viewed : (held : List (List ℕ)) (item : Item Stored) (unit : TimedUnit) (items : List (Item Stored))

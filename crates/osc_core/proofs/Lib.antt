@@ -5,7 +5,6 @@ pub mod Firsts
 pub mod Hearing
 pub mod Invoking
 pub mod Joins
-pub mod Leaving
 pub mod Played
 pub mod Released
 pub mod Recorded

@@ -15,10 +15,11 @@ use Rattle.osc_model.specs.Events.{ticked, clock_back, released, nothing_due, re
 use Rattle.osc_model.specs.Recordings.{IsRecordable, FitsRow, row_of, entry_size, entry_text, record_text}
 use Rattle.osc_model.specs.Step.{Stepped, step, decided, leaves, after_submit, add_at, remove_at, releases, release_first}
 use Rattle.osc_model.specs.History.{IsLawful, AddsEntry, LegalFrom, Legal, IsSound, IsCounted, after, Performance, state_of, stepped_in, onward}
-use Rattle.osc_model.proofs.Stepping.{no_room, noted, step_so, decided_so}
+use Rattle.osc_model.proofs.Stepping.{no_room, noted}
 use Rattle.osc_model.specs.Refusals.{IsRefusal}
 use Rattle.osc_model.proofs.Refusals.{none_decided, refusal_silent}
 use Rattle.osc_model.proofs.Onward.{entered, is_adds}
+use Rattle.osc_model.proofs.Recordable.{after_caps}
 use Rattle.osc_atoms.specs.declared.room.Room.{Room}
 use Rattle.osc_record.specs.Writing.{Begun, Recording, recording_text, begun_text, appended, with_release}
 use Rattle.osc_core.specs.Calls.{hit_by}
@@ -72,29 +73,7 @@ decided_tables state release = go state.queue where
     cases true = refl
     cases false = refl
 
--- Limits stay, and each entry has bytes.
-
-step_caps : (state : State) (event : Event) → (step state event).state.caps ≡ state.caps
-step_caps state event =
-    step_so (λ stepped. stepped.state.caps ≡ state.caps) state event
-    (record { silent = λ none. caps; full = λ some full. refl; room = λ some fits. caps })
-  where
-    caps : (decided state event).state.caps ≡ state.caps
-    caps =
-        decided_so (λ event stepped. stepped.state.caps ≡ state.caps) state event
-        (record {
-          refused = λ event answer is. refl;
-          enrolled = refl;
-          queued = λ packet. refl;
-          added = λ address. refl;
-          removed = λ address id. refl;
-          ticked = λ now later. refl;
-          released = λ unit units first. refl;
-        })
-
-pub after_caps : (state : State) (history : List Entry) → (after state history).caps ≡ state.caps
-after_caps state [] = refl
-after_caps state (entry ∷ entries) = after_caps (step state entry.event).state entries ∙ step_caps state entry.event
+-- Each entry has bytes.
 
 some_bytes : (event : Event) (answer : Answer) → 1 ≤ entry_size event answer
 some_bytes enrol answer = omega arith

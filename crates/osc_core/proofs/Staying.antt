@@ -1,14 +1,13 @@
 -- What leaves the methods, and what their boxes have heard.
-use Rattle.std.proofs.Common.{◌≡◌, ℕ, ◌≤◌, Bool, true, false, cond, nat_le, List, [], ◌∷◌, map, Some, refl, sym, ap, subst, ◌∙◌}
+use Rattle.std.proofs.Common.{◌≡◌, ℕ, ◌≤◌, List, [], map, refl, sym, ap, subst, ◌∙◌}
 use Rattle.osc_pattern.specs.Methods.{Method}
-use Rattle.osc_queue.specs.Timed.{due_of}
 use Rattle.osc_model.specs.Limits.{Limits}
 use Rattle.osc_model.specs.Refusals.{IsRefusal}
 use Rattle.osc_model.specs.History.{Performance, state_of, HaveHeard}
 use Rattle.osc_model.specs.Heard.{Told}
-use Rattle.osc_model.specs.State.{State, Queued}
-use Rattle.osc_model.specs.Events.{Event, release, nothing_due}
-use Rattle.osc_model.specs.Step.{Stepped, step, leaves, releases, release_first}
+use Rattle.osc_model.specs.State.{State}
+use Rattle.osc_model.specs.Events.{Event}
+use Rattle.osc_model.specs.Step.{Stepped, step, leaves}
 use Rattle.osc_model.proofs.Stepping.{step_so, decided_so}
 use Rattle.osc_core.specs.declared.answers.AddRefusal.{AddRefusal}
 use Rattle.osc_core.specs.declared.answers.AddRefusal.TheVariants as adding
@@ -38,18 +37,6 @@ quiet_silent state event quiet =
       full = λ some full. record { methods = refl; none = refl };
       room = λ some fits. record { methods = here.methods; none = here.none };
     })
-
-pub release_keeps : (state : State) → (step state release).state.methods ≡ state.methods
-release_keeps state =
-    step_so (λ stepped. stepped.state.methods ≡ state.methods) state release
-    (record { silent = λ none. here state.queue; full = λ some full. refl; room = λ some fits. here state.queue })
-  where
-    here : (queue : List Queued) → (release_first state queue).state.methods ≡ state.methods
-    here [] = refl
-    here (unit ∷ units) = go (nat_le (due_of unit) state.clock) where
-      go : (t : Bool) → (cond t (releases state unit units) (leaves state (nothing_due (Some (due_of unit))))).state.methods ≡ state.methods
-      go true = refl
-      go false = refl
 
 -- the ids of the boxes stay those of the methods
 pub still_alike : (now next onwards : Performance) (ids : List ℕ) → next ≡ onwards → (state_of onwards).methods ≡ (state_of now).methods

@@ -11,6 +11,7 @@ use Rattle.osc_atoms.specs.declared.fault.Fault.{Fault}
 use Rattle.osc_atoms.specs.Faults.{empty, too_long}
 use Rattle.osc_message.specs.Reading.{Parts, is_message, fourfold_read}
 use Rattle.osc_packet.specs.Units.{stored_size}
+use Rattle.osc_packet.proofs.Bodies.{count_stored}
 use Rattle.osc_core.specs.Frames.{framed, first_length, first_framed, after_framed, messages_from, messages_in, BeginsFramed, AreFramed}
 
 -- a message that can be read is small
@@ -61,15 +62,10 @@ read_again (suc most) (message ∷ messages) few read =
 pub messages-framed : (messages : List (List ℕ)) → IsTrue (list_all (is_message 1073741824) messages) → messages_in (framed messages) ≡ messages
 messages-framed messages read = read_again (length (framed messages)) messages (omega arith) read
 
--- there are fewer messages than bytes
-fewer : (messages : List (List ℕ)) → length messages ≤ stored_size messages
-fewer [] = omega arith
-fewer (message ∷ messages) = omega (arith, fewer messages)
-
 pub framed_few : {bytes : List ℕ} → AreFramed bytes → length (messages_in bytes) < 2 ^ 32
 framed_few {bytes} is =
     let same : messages_in bytes ≡ is.messages = ap messages_in is.is ∙ messages-framed is.messages is.read in
-    omega (arith, is.few, ap length same, ap length is.is, length-framed is.messages, fewer is.messages)
+    omega (arith, is.few, ap length same, ap length is.is, length-framed is.messages, count_stored is.messages)
 
 -- bytes that are messages, split behind the first
 pub record IsSplit (bytes message rest : List ℕ) : Type 0 where

@@ -1,10 +1,10 @@
 -- The texts that a server stands for.
-use Rattle.std.proofs.Common.{◌≡◌, ◌≢◌, ℕ, zero, suc, ◌+◌, ◌≤◌, ◌==◌, Bool, true, false, cond, nat_lt, is_some, List, [], ◌∷◌, ◌++◌, length, length-append}
+use Rattle.std.proofs.Common.{◌≡◌, ◌≢◌, ℕ, ◌+◌, ◌≤◌, ◌==◌, Bool, true, false, cond, nat_lt, is_some, List, [], ◌∷◌, ◌++◌, length, length-append}
 use Rattle.std.proofs.Common.{append_assoc, map, Option, Some, None, refl, sym, ap, subst, ◌∙◌, arith}
 use Rattle.std.specs.List.{cons_option, list_all, AllByRecursion, Contains}
 use Rattle.std.specs.Option.{option_map}
 use Rattle.std.specs.Prelude.{not}
-use Rattle.std.proofs.lemmas.Bool.{eq-eqb}
+use Rattle.std.proofs.lemmas.Bool.{eq-eqb, and_parts}
 use Rattle.std.proofs.lemmas.Bool.Decides.{nat_tests}
 use Rattle.std.proofs.lemmas.List.Elements.{filter_map-append, Contains-append_left, Contains-append_right}
 use Rattle.osc_method.specs.Heard.{after_call}
@@ -16,6 +16,9 @@ use Rattle.osc_model.specs.Heard.{Told, bytes_of, hear, hear_all, all_hear, rese
 use Rattle.osc_model.specs.History.{Legal, Performance, stepped_in, onward, HaveHeard}
 use Rattle.osc_model.proofs.Counted.{history_counted}
 use Rattle.osc_model.proofs.Onward.{legal_split}
+use Rattle.osc_model.proofs.Recordable.{after_caps}
+use Rattle.osc_model.proofs.Boxes.{same_id}
+use Rattle.osc_laws.proofs.Members.{sent}
 use Rattle.osc_record.specs.Reading.{entry_in}
 use Rattle.osc_record.proofs.Kept.{record_more}
 use Rattle.osc_turn.specs.Jobs.{StandsNext}
@@ -23,9 +26,8 @@ use Rattle.osc_core.specs.Ids.{is_ascending}
 use Rattle.osc_core.specs.Standing.{mark_of, mark_after, text_with, AreTexts, as_many, history_in, CarriesMark, AreMarked, StandsFor, mark_in, mark_by}
 use Rattle.osc_core.specs.Standing.{texts_of}
 use Rattle.osc_core.proofs.Added.{IsAdded, methods_added}
-use Rattle.osc_core.proofs.Ascents.{both, behind}
-use Rattle.osc_core.proofs.Hearing.{ids_stay}
-use Rattle.osc_core.proofs.Played.{few_entries, after_caps}
+use Rattle.osc_core.proofs.Ascents.{behind}
+use Rattle.osc_core.proofs.Played.{few_entries}
 
 -- What the laws say.
 pub record TextLaws : Type 0 where
@@ -88,7 +90,7 @@ pub called_marked : (texts : List (List ℕ)) (invocations : List Invocation) (b
 called_marked texts invocations [] are = tt
 called_marked texts invocations (told ∷ boxes) are = (
   subst (λ (m : ℕ). CarriesMark texts (hear_all invocations told).id m) (sym (hear_all_mark invocations told))
-      (subst (λ (n : ℕ). CarriesMark texts n (mark_of told)) (sym (ids_stay invocations told)) are.0),
+      (subst (λ (n : ℕ). CarriesMark texts n (mark_of told)) (sym (same_id invocations told)) are.0),
   called_marked texts invocations boxes are.1,
 )
 
@@ -255,16 +257,11 @@ own_read laws caps boxes past (entry ∷ entries) legal =
     ap (λ (o : Option Entry). cons_option o (history_in (texts_of boxes entries))) read
     ∙ ap (λ (l : List Entry). entry ∷ l) (own_read laws caps boxes (past ++ entry ∷ []) entries whole)
 
-contains_map : {X Y : Type 0} (f : X → Y) (xs : List X) (x : X) → Contains xs x → Contains (map f xs) (f x)
-contains_map f [] x (k, lt, is) = absurd (omega arith)
-contains_map f (y ∷ ys) x (zero, lt, is) = (0, omega arith, ap f is)
-contains_map f (y ∷ ys) x (suc k, lt, is) = let r = contains_map f ys x (k, omega arith, is) in (suc r.0, omega (arith, r.1), r.2)
-
 -- each box is the one that is found by its id
 own_marks : (boxes : List Told) → is_ascending (map (λ told. told.id) boxes) ≡ true → AllByRecursion (λ told. mark_in boxes told.id ≡ mark_of told) boxes
 own_marks [] ascending = tt
 own_marks (told ∷ boxes) ascending =
-    let p = both (list_all (nat_lt told.id) (map (λ (one : Told). one.id) boxes)) (is_ascending (map (λ (one : Told). one.id) boxes)) ascending in
+    let p = and_parts (list_all (nat_lt told.id) (map (λ (one : Told). one.id) boxes)) (is_ascending (map (λ (one : Told). one.id) boxes)) ascending in
     (here (told.id == told.id) (eq-eqb told.id told.id refl), later boxes (behind told.id (map (λ (one : Told). one.id) boxes) p.0) (own_marks boxes p.1))
   where
     here : (t : Bool) → t ≡ true → cond t (mark_of told) (mark_in boxes told.id) ≡ mark_of told
@@ -292,7 +289,7 @@ own_marked entries all (told ∷ boxes) again are marks = (one are.0 marks.0, ow
         is,
         subst (λ (h : List Entry). Contains h entry) (sym again) held,
         subst (λ (m : ℕ). Contains (texts_of all entries) (text_with m entry)) same
-            (contains_map (λ (e : Entry). text_with (mark_by all e.answer) e) entries entry held),
+            (sent (λ (e : Entry). text_with (mark_by all e.answer) e) entries entry held),
       )
 
 -- a server whose boxes have heard its history stands for these texts

@@ -1,11 +1,10 @@
 -- What events take of a recording, with the releases of the units that they queue.
 use Rattle.std.proofs.Common.{◌≡◌, ℕ, ◌+◌, ◌*◌, ◌<◌, ◌≤◌, ◌==◌, Bool, true, false, not, cond, nat_le, nat_lt, List, [], ◌∷◌, ◌++◌, length, length-append}
 use Rattle.std.proofs.Common.{Option, Some, None, is_some, sum_by, refl, sym, ap, ◌∙◌, arith}
-use Rattle.std.specs.List.{filter}
 use Rattle.std.specs.Str.{bytes_eq}
 use Rattle.std.proofs.Math.Nat.{mul-le-mul_left}
 use Rattle.std.proofs.lemmas.List.{length-map}
-use Rattle.std.proofs.lemmas.List.Sums.{sum_by-cons, sum_by-append, length-filter, count_by-le-length}
+use Rattle.std.proofs.lemmas.List.Sums.{sum_by-cons, sum_by-append}
 use Rattle.std.proofs.lemmas.List.Sorted.{length_permutation, sum_by-IsPermutation}
 use Rattle.osc_message.specs.Reading.{pattern_of}
 use Rattle.osc_message.specs.Arguments.{unknown_of}
@@ -18,6 +17,7 @@ use Rattle.osc_tree.specs.Registry.{id_at}
 use Rattle.osc_tree.specs.Adding.{Refusal, add_refusal}
 use Rattle.osc_tree.specs.Matching.{matched, matching}
 use Rattle.osc_tree.proofs.Orders.{exactly_matching}
+use Rattle.osc_tree.proofs.Lists.{filter_few}
 use Rattle.osc_model.specs.Limits.{Limits, header_size}
 use Rattle.osc_model.specs.State.{State, Queued, opening, registry}
 use Rattle.osc_model.specs.Counts.{free_places, free_blocks}
@@ -30,6 +30,7 @@ use Rattle.osc_model.specs.History.{after}
 use Rattle.osc_model.proofs.Queues.{all_joined}
 use Rattle.osc_model.proofs.Refusals.{decided_none}
 use Rattle.osc_model.proofs.Stepping.{step_so}
+use Rattle.osc_model.proofs.Changes.{either}
 use Rattle.osc_lanes.specs.Enough.{event_size}
 use Rattle.osc_lanes.specs.Shares.{stop_of}
 
@@ -71,9 +72,6 @@ units_cost_is most (unit ∷ units) =
     )
 
 -- A unit's calls are at most its messages times the methods.
-
-filter_few : {X : Type 0} (test : X → Bool) (xs : List X) → length (filter test xs) ≤ length xs
-filter_few test xs = omega (arith, length-filter test xs, count_by-le-length test xs)
 
 matching_few : (pattern : List ℕ) (methods : List Method) → length (matching pattern methods) ≤ length methods
 matching_few pattern methods =
@@ -143,11 +141,6 @@ record Pays (most : ℕ) (state : State) (event : Event) (stepped : Stepped) : T
 stays : (most : ℕ) (state : State) (event : Event) (answer : Answer) → stop_of answer ≡ None
     → (adds_entry answer ≡ true → entry_size event answer ≤ event_cost most event) → Pays most state event (leaves state answer)
 stays most state event answer goes own = record { goes = goes; caps = refl; methods = omega arith; bytes = λ some. omega (arith, own some) }
-
--- of two steps, what holds of both
-either : (P : Stepped → Type 0) (t : Bool) (one other : Stepped) → P one → P other → P (cond t one other)
-either P true one other first second = first
-either P false one other first second = second
 
 decided_pays : (most : ℕ) (state : State) (event : Event) → length state.methods ≤ most → Pays most state event (decided state event)
 decided_pays most state enrol few =

@@ -27,22 +27,15 @@ use Rattle.osc_live.specs.Enrolments.{refusal_of}
 use Rattle.osc_live.specs.Seen.{history_of, performance_in}
 use Rattle.osc_live.specs.Calls.{Calls, EndsWith}
 use Rattle.osc_live.proofs.Answered.{texts_more}
-use Rattle.osc_live.proofs.Asks.{read_more}
+use Rattle.osc_live.proofs.Pumping.{own_few}
 use Rattle.osc_record.specs.Shown.{room_of}
 use Rattle.osc_core.specs.Standing.{history_in}
+use Rattle.osc_core.proofs.Texts.{read_more}
 use Rattle.osc_lanes.specs.Performs.{enrolments}
 use Rattle.osc_lanes.specs.Crews.{names_of, same_names, IsSilent, IsCrew, HasNotEnrolled, FindsNoRoom}
 use Rattle.osc_lanes.proofs.Staging.{all_own, all_before}
 
 -- What is seen is all a token's own.
-
-own_short : (token : ℕ) (history : List Seen) → length (own token history) ≤ length history
-own_short token [] = omega arith
-own_short token (one ∷ history) = go (eqb one.number token) (own_short token history) where
-  go : (t : Bool) → length (own token history) ≤ length history
-      → length (cond t (one ∷ own token history) (own token history)) ≤ suc (length history)
-  go true short = omega arith
-  go false short = omega arith
 
 all_mine : (token : ℕ) (history : List Seen) → own token history ≡ history → AllByRecursion (λ one. one.number ≡ token) history
 all_mine token [] is = tt
@@ -51,7 +44,7 @@ all_mine token (one ∷ history) is = go (eqb one.number token) refl is (all_min
       → (own token history ≡ history → AllByRecursion (λ other. other.number ≡ token) history)
       → AllByRecursion (λ other. other.number ≡ token) (one ∷ history)
   go true e is rest = (eqb-true one.number token e, rest (cc))
-  go false e is rest = absurd (omega (arith, ap length is, own_short token history))
+  go false e is rest = absurd (omega (arith, ap length is, own_few token history))
 
 pub own_before : (token : ℕ) (history seen : List Seen) → StartsWith history seen → own token history ≡ history → own token seen ≡ seen
 own_before token history seen starts is =

@@ -1,19 +1,14 @@
 -- From the close of a server with links to what its whole life says.
-use Rattle.std.proofs.Common.{◌≡◌, ℕ, zero, suc, ◌+◌, ◌<◌, ◌≤◌, List, [], ◌∷◌, ◌++◌, length, map, flat_map, Option, Some, None, refl, sym, ap, subst, ◌∙◌}
-use Rattle.std.proofs.Common.{arith, length-append, append-nil}
-use Rattle.std.specs.List.{AllByRecursion, AllZip, insert}
+use Rattle.std.proofs.Common.{◌≡◌, ℕ, suc, ◌+◌, ◌<◌, List, [], ◌∷◌, ◌++◌, length, map, flat_map, Option, refl, sym, ap, subst, ◌∙◌}
+use Rattle.std.proofs.Common.{arith, append-nil}
+use Rattle.std.specs.List.{AllByRecursion, AllZip}
 use Rattle.std.specs.List.Sorted.{IsPermutation}
-use Rattle.std.specs.Option.{option_map}
 use Rattle.std.proofs.lemmas.List.{length-map}
 use Rattle.std.proofs.lemmas.List.Concat.{flat_map-append}
-use Rattle.std.proofs.lemmas.List.Elements.{All-from_recursion, recursion_from_All, All-contains}
+use Rattle.std.proofs.lemmas.List.Elements.{recursion_from_All}
 use Rattle.std.proofs.lemmas.List.Sorted.{IsPermutation-refl}
 use Rattle.osc_model.specs.Limits.{Limits}
-use Rattle.osc_model.specs.State.{opening}
-use Rattle.osc_model.specs.Events.{Entry, Room}
-use Rattle.osc_model.specs.History.{Legal, IsSound, stepped_in}
 use Rattle.osc_core.specs.Standing.{history_in}
-use Rattle.osc_core.specs.Telling.{told}
 use Rattle.osc_turn.specs.declared.view.Entry.{Entry as Seen}
 use Rattle.osc_turn.specs.declared.view.View.{View}
 use Rattle.osc_turn.specs.History.{StartsWith, texts, own}
@@ -22,7 +17,6 @@ use Rattle.osc_turn.specs.Passes.{view}
 use Rattle.osc_turn.proofs.Histories.{starts_on}
 use Rattle.osc_live.specs.declared.caller.Caller.{Caller}
 use Rattle.osc_live.specs.Seen.{history_of}
-use Rattle.osc_live.specs.Closing.{Closes}
 use Rattle.osc_lanes.specs.declared.link_plan.LinkPlan.{LinkPlan}
 use Rattle.osc_lanes.specs.declared.link_plan.LinkEnd.{LinkEnd}
 use Rattle.osc_lanes.specs.declared.served.Bounds.{Bounds}
@@ -32,21 +26,17 @@ use Rattle.osc_lanes.specs.Crews.{names_of, same_names, IsSilent, HasOpened}
 use Rattle.osc_lanes.specs.Ends.{seen_by, player_of}
 use Rattle.osc_lanes.specs.Hosts.{IsServed}
 use Rattle.osc_lanes.specs.Links.{Turn, IsLinkEnd, LinkOf, link_account, stop_by}
-use Rattle.osc_lanes.specs.Performs.{Part, Numbered, IsStage, IsClosedWith, player_at, enrolments, removed_ids}
-use Rattle.osc_lanes.specs.Serves.{caller_of, link_of, caller_in, seen_in, Serves}
+use Rattle.osc_lanes.specs.Performs.{Part, Numbered, player_at, enrolments, removed_ids}
+use Rattle.osc_lanes.specs.Serves.{caller_of, link_of, caller_in, Serves}
 use Rattle.osc_lanes.specs.Shares.{Player, Account, IsRemovedAt}
 use Rattle.osc_lanes.specs.Ticks.{ClockRead, Ticks, TickOf}
-use Rattle.osc_lanes.proofs.Balance.{StaysSound, gone_ids}
+use Rattle.osc_lanes.proofs.Balance.{gone_ids}
 use Rattle.osc_lanes.proofs.Finishing.{StandsOn}
 use Rattle.osc_lanes.proofs.Keeping.{link_gone, ticks_gone}
 use Rattle.osc_lanes.proofs.Parting.{given_by, given_in, parted}
 use Rattle.osc_lanes.proofs.Removals.{gone, gone_in, own_gone, plays_gone}
-use Rattle.osc_lanes.proofs.Sharing.{Carried, enrolments_keep, closed_with}
+use Rattle.osc_lanes.proofs.Sharing.{Carried, enrolments_keep}
 use Rattle.osc_lanes.proofs.Staying.{StaySilent, removed_later}
-
-pub inserted_first : {X : Type 0} (xs : List X) (x : X) → insert xs 0 x ≡ x ∷ xs
-inserted_first [] x = refl
-inserted_first (y ∷ xs) x = refl
 
 -- the first items and the others
 split_cons : {X : Type 0} (x y : X) (xs ys : List X) → x ∷ xs ≡ y ∷ ys → (x ≡ y) × (xs ≡ ys)

@@ -14,6 +14,7 @@ use Rattle.osc_model.specs.State.{State}
 use Rattle.osc_model.specs.Step.{Stepped, step, decided}
 use Rattle.osc_model.proofs.Stepping.{step_so, decided_so}
 use Rattle.osc_core.specs.Standing.{history_in}
+use Rattle.osc_core.proofs.Texts.{read_more}
 use Rattle.osc_script.specs.declared.act.Act.{Act}
 use Rattle.osc_script.specs.declared.act.Act.TheVariants.{Add, Remove, Send, Tick, Pump}
 use Rattle.osc_script.specs.declared.line.Line.{Line}
@@ -23,7 +24,6 @@ use Rattle.osc_turn.specs.History.{StartsWith, texts, entry, own}
 use Rattle.osc_turn.proofs.Histories.{starts_here, starts_on}
 use Rattle.osc_live.specs.Seen.{performance_in}
 use Rattle.osc_live.proofs.Answered.{texts_more}
-use Rattle.osc_live.proofs.Asks.{read_more}
 use Rattle.osc_turn.specs.Rule.{number_of}
 use Rattle.osc_turn.specs.Rule as rule
 use Rattle.osc_turn.specs.Passes.{view}

@@ -6,6 +6,7 @@ use Rattle.std.proofs.lemmas.List.Elements.{All-nil, All-cons, All-contains, All
 use Rattle.osc_model.specs.Limits.{Limits}
 use Rattle.osc_model.specs.Events.{Entry}
 use Rattle.osc_model.specs.Heard.{Told}
+use Rattle.osc_laws.proofs.Members.{head_or_behind}
 use Rattle.osc_core.specs.Standing.{history_in}
 use Rattle.osc_turn.specs.declared.view.Entry.{Entry as Seen}
 use Rattle.osc_turn.specs.declared.view.View.{View}
@@ -42,10 +43,6 @@ all_before P xs ys zs is all = go xs (subst (AllByRecursion P) is all) where
   go [] all = tt
   go (u ∷ us) all = (all.0, go us all.1)
 
-first_or : {X : Type 0} (x : X) (xs : List X) (y : X) → Contains (x ∷ xs) y → (x ≡ y) ⊎ Contains xs y
-first_or x xs y (zero, within, is) = inl is
-first_or x xs y (suc k, within, is) = inr (k, omega arith, is)
-
 -- where each entry is of one of these tokens, and no token but the first has entries, all are the first's
 pub only_first : (first : ℕ × View) (others : List (ℕ × View)) (seen : List Seen) → number_of first.1 ≡ 0
     → AllByRecursion (λ other. own (number_of other.1) seen ≡ []) others → AllByRecursion (IsOfCaller (first ∷ others)) seen
@@ -57,7 +54,7 @@ only_first first others seen zero_is none of =
     (All-from_recursion (IsOfCaller (first ∷ others)) seen of k d within)))
   where
     go : (one : Seen) → ((number : ℕ) → own number seen ≡ [] → one.number ≢ number) → IsOfCaller (first ∷ others) one → one.number ≡ 0
-    go one off (caller, there, same, named) = cases (first_or first others caller there) where
+    go one off (caller, there, same, named) = cases (head_or_behind first caller others there) where
       cases : (first ≡ caller) ⊎ Contains others caller → one.number ≡ 0
       cases (inl is) = sym same ∙ (ap (λ (c : ℕ × View). number_of c.1) (sym is) ∙ zero_is)
       cases (inr behind) =

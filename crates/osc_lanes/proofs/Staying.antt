@@ -19,6 +19,7 @@ use Rattle.osc_model.proofs.Calls.{all_append}
 use Rattle.osc_model.proofs.Onward.{invoked_more}
 use Rattle.osc_method.specs.Heard.{last_of}
 use Rattle.osc_core.specs.Standing.{history_in, CarriesMark, text_with}
+use Rattle.osc_core.proofs.Texts.{read_more}
 use Rattle.osc_script.specs.declared.act.Act.{Act}
 use Rattle.osc_script.specs.declared.act.Act.TheVariants.{Add, Remove, Send, Tick, Pump}
 use Rattle.osc_script.specs.declared.line.Line.{Line}
@@ -26,7 +27,7 @@ use Rattle.osc_turn.specs.declared.view.Entry.{Entry as Seen}
 use Rattle.osc_turn.specs.History.{StartsWith, texts, entry}
 use Rattle.osc_turn.proofs.Histories.{starts_here, starts_on, starts_texts}
 use Rattle.osc_live.proofs.Answered.{texts_more}
-use Rattle.osc_live.proofs.Asks.{history_starts, read_more}
+use Rattle.osc_live.proofs.Asks.{history_starts}
 use Rattle.osc_lanes.specs.Shares.{Player, Answered, EntersOne, Releases, Account, then_told, ended, stop_of, id_in, known_of, IsRemovedAt, PlaysAct, Plays}
 
 -- no invocation of an id stands after its method was removed

@@ -7,96 +7,20 @@ use Rattle.std.specs.Str.{bytes_eq}
 use Rattle.std.proofs.lemmas.List.{append-nil}
 use Rattle.std.proofs.lemmas.List.Elements.{Contains-append_left, Contains-push, Contains-push_cases}
 use Rattle.std.proofs.lemmas.Slice.Eq.{bytes_eq-Decides}
+use Rattle.std.proofs.lemmas.Bool.{both_ways}
 use Rattle.osc_pattern.specs.Methods.{Method, IsMethodList}
-use Rattle.osc_tree.specs.Registry.{id_at, without}
+use Rattle.osc_tree.specs.Registry.{id_at}
+use Rattle.osc_tree.proofs.Lists.{find-some}
 use Rattle.osc_model.specs.Limits.{Limits, AreInRange}
 use Rattle.osc_model.specs.State.{State, opening}
-use Rattle.osc_model.specs.Events.{Event, add, remove, added, removed, Entry}
-use Rattle.osc_model.specs.Refusals.{IsRefusal}
-use Rattle.osc_model.specs.Step.{Stepped, step, decided, remove_at}
+use Rattle.osc_model.specs.Events.{Event, add, added, removed, Entry}
+use Rattle.osc_model.specs.Step.{step}
 use Rattle.osc_model.specs.History.{IsLawful, LegalFrom, Legal, IsSound, after}
-use Rattle.osc_model.proofs.Stepping.{step_so, decided_so}
 use Rattle.osc_model.proofs.Calls.{all_append}
+use Rattle.osc_model.proofs.Changes.{Changes, KeepsMethods, AddsMethod, LosesMethod, tells_change, changes}
 use Rattle.osc_laws.specs.Facts.{IsRegistered}
 use Rattle.osc_laws.proofs.Members.{none_in, passed, passes}
-use Rattle.osc_laws.proofs.Places.{IsLast, IsEarlier, last_or_earlier, all_split, unique, found}
-
--- what an event does to the methods, as its answer tells
-record Keeps (state : State) (stepped : Stepped) : Type 0 where
-  methods : stepped.state.methods ≡ state.methods
-  none_added : (id : ℕ) → stepped.answer ≢ added id
-  none_removed : (id : ℕ) → stepped.answer ≢ removed id
-
-record Adds (state : State) (event : Event) (stepped : Stepped) : Type 0 where
-  address : List ℕ
-  event_is : event ≡ add address
-  methods : stepped.state.methods ≡ state.methods ++ record { id = state.next_id; address = address } ∷ []
-  answer : stepped.answer ≡ added state.next_id
-
-record Removes (state : State) (event : Event) (stepped : Stepped) : Type 0 where
-  address : List ℕ
-  id : ℕ
-  event_is : event ≡ remove address
-  methods : stepped.state.methods ≡ without state.methods address
-  answer : stepped.answer ≡ removed id
-
-abbrev Changes : State → Event → Stepped → Type 0
-Changes state event stepped = Keeps state stepped ⊎ (Adds state event stepped ⊎ Removes state event stepped)
-
-decided_changes : (state : State) (event : Event) → Changes state event (decided state event)
-decided_changes state event =
-    decided_so (Changes state) state event
-    (record {
-      refused = λ event answer is.
-          inl (record { methods = refl; none_added = λ id same. subst IsRefusal same is; none_removed = λ id same. subst IsRefusal same is });
-      enrolled = inl (record { methods = refl; none_added = λ id same. absurd (cc); none_removed = λ id same. absurd (cc) });
-      queued = λ packet. inl (record { methods = refl; none_added = λ id same. absurd (cc); none_removed = λ id same. absurd (cc) });
-      added = λ address. inr (inl (record { address = address; event_is = refl; methods = refl; answer = refl }));
-      removed = λ address id. inr (inr (record { address = address; id = id; event_is = refl; methods = refl; answer = refl }));
-      ticked = λ now later. inl (record { methods = refl; none_added = λ id same. absurd (cc); none_removed = λ id same. absurd (cc) });
-      released = λ unit units first. inl (record { methods = refl; none_added = λ id same. absurd (cc); none_removed = λ id same. absurd (cc) });
-    })
-
--- the methods and the answer are those of what is decided, where they are those of what is noted
-changes_noted : (state : State) (event : Event) (one other : Stepped) → other.state.methods ≡ one.state.methods → other.answer ≡ one.answer
-    → Changes state event one → Changes state event other
-changes_noted state event one other methods answer (inl keeps) =
-    inl (record {
-      methods = methods ∙ keeps.methods;
-      none_added = λ id same. keeps.none_added id (sym answer ∙ same);
-      none_removed = λ id same. keeps.none_removed id (sym answer ∙ same);
-    })
-changes_noted state event one other methods answer (inr (inl adds)) =
-    inr (inl (record { address = adds.address; event_is = adds.event_is; methods = methods ∙ adds.methods; answer = answer ∙ adds.answer }))
-changes_noted state event one other methods answer (inr (inr removes)) =
-    inr (inr (record {
-      address = removes.address;
-      id = removes.id;
-      event_is = removes.event_is;
-      methods = methods ∙ removes.methods;
-      answer = answer ∙ removes.answer;
-    }))
-
-step_changes : (state : State) (event : Event) → Changes state event (step state event)
-step_changes state event =
-    step_so (Changes state event) state event
-    (record {
-      silent = λ none. decided_changes state event;
-      full = λ some full. inl (record { methods = refl; none_added = λ id same. absurd (cc); none_removed = λ id same. absurd (cc) });
-      room = λ some fits. changes_noted state event (decided state event) _ refl refl (decided_changes state event);
-    })
-
--- A removal names the id that it finds at the address.
-
-removed_finds : (state : State) (address : List ℕ) (at : Option ℕ) (id : ℕ) → (remove_at state address at).answer ≡ removed id → at ≡ Some id
-removed_finds state address None id is = absurd (cc)
-removed_finds state address (Some other) id is = let same : other ≡ id = cc in ap Some same
-
-step_finds : (state : State) (address : List ℕ) (id : ℕ) → (step state (remove address)).answer ≡ removed id → id_at state.methods address ≡ Some id
-step_finds state address id =
-    let here = removed_finds state address (id_at state.methods address) id in
-    step_so (λ stepped. stepped.answer ≡ removed id → id_at state.methods address ≡ Some id) state (remove address)
-    (record { silent = λ none is. here is; full = λ some full is. absurd (cc); room = λ some fits is. here is })
+use Rattle.osc_laws.proofs.Places.{IsLast, IsEarlier, last_or_earlier, all_split, unique}
 
 -- a method stands at an address under an id
 record IsThere (methods : List Method) (address : List ℕ) (id : ℕ) : Type 0 where
@@ -111,7 +35,7 @@ there_at methods address id is = go (find (λ method. bytes_eq method.address ad
       → IsThere methods address id
   go None e is = absurd (cc)
   go (Some method) e is =
-      let held = found (λ (m : Method). bytes_eq m.address address) methods method e in
+      let held = find-some (λ (m : Method). bytes_eq m.address address) methods method e in
       record { method = method; held = held.0; at = (bytes_eq-Decides method.address address).0 held.1; under = (cc) }
 
 -- A history with one entry more.
@@ -160,20 +84,22 @@ registered_before history entry id address is = go (last_or_earlier history entr
 abbrev AreRead : List Entry → List Method → Type 0
 AreRead history methods = (method : Method) → Contains methods method ↔ IsRegistered history method.id method.address
 
-kept_read : (history : List Entry) (state : State) (entry : Entry) → entry.answer ≡ (step state entry.event).answer → Keeps state (step state entry.event)
+kept_read : (history : List Entry) (state : State) (entry : Entry) → entry.answer ≡ (step state entry.event).answer
+    → KeepsMethods state (step state entry.event)
     → AreRead history state.methods → AreRead (history ++ entry ∷ []) (step state entry.event).state.methods
 kept_read history state entry answered keeps read method = (there, λ is. back (registered_before history entry method.id method.address is)) where
   there : Contains (step state entry.event).state.methods method → IsRegistered (history ++ entry ∷ []) method.id method.address
   there held =
-      registered_later history entry method.id method.address (λ is. keeps.none_removed method.id (sym answered ∙ is))
+      registered_later history entry method.id method.address (λ is. both_ways _ keeps.answer (ap tells_change (sym answered ∙ is)))
       ((read method).0 (subst (λ (l : List Method). Contains l method) keeps.methods held))
 
   back : WasRegistered history entry method.id method.address → Contains (step state entry.event).state.methods method
-  back (inl (event, answer)) = absurd (keeps.none_added method.id (sym answered ∙ answer))
+  back (inl (event, answer)) = absurd (both_ways _ keeps.answer (ap tells_change (sym answered ∙ answer)))
   back (inr (was, stays)) = subst (λ (l : List Method). Contains l method) (sym keeps.methods) ((read method).1 was)
 
 added_read : (history : List Entry) (state : State) (entry : Entry) → entry.answer ≡ (step state entry.event).answer
-    → Adds state entry.event (step state entry.event) → AreRead history state.methods → AreRead (history ++ entry ∷ []) (step state entry.event).state.methods
+    → AddsMethod state entry.event (step state entry.event) → AreRead history state.methods
+    → AreRead (history ++ entry ∷ []) (step state entry.event).state.methods
 added_read history state entry answered adds read method = (
   λ held. there (Contains-push_cases state.methods one method (subst (λ (l : List Method). Contains l method) adds.methods held)),
   λ is.
@@ -202,7 +128,7 @@ added_read history state entry answered adds read method = (
         subst (λ (l : List Method). Contains l method) (sym adds.methods) (Contains-append_left state.methods (one ∷ []) method ((read method).1 was))
 
 removed_read : (history : List Entry) (state : State) (entry : Entry) → entry.answer ≡ (step state entry.event).answer → IsMethodList state.methods
-    → (removes : Removes state entry.event (step state entry.event))
+    → (removes : LosesMethod state entry.event (step state entry.event))
     → IsThere state.methods removes.address removes.id → AreRead history state.methods → AreRead (history ++ entry ∷ []) (step state entry.event).state.methods
 removed_read history state entry answered list removes one read method = (
   λ held. there (passed others state.methods method (subst (λ (l : List Method). Contains l method) removes.methods held)),
@@ -246,14 +172,12 @@ removed_read history state entry answered list removes one read method = (
 
 step_read : (history : List Entry) (state : State) (entry : Entry) → entry.answer ≡ (step state entry.event).answer → IsMethodList state.methods
     → AreRead history state.methods → AreRead (history ++ entry ∷ []) (step state entry.event).state.methods
-step_read history state entry answered list read = go (step_changes state entry.event) where
+step_read history state entry answered list read = go (changes state entry.event) where
   go : Changes state entry.event (step state entry.event) → AreRead (history ++ entry ∷ []) (step state entry.event).state.methods
   go (inl keeps) = kept_read history state entry answered keeps read
   go (inr (inl adds)) = added_read history state entry answered adds read
   go (inr (inr removes)) =
-      let answer = ap (λ (e : Event). (step state e).answer) (sym removes.event_is) ∙ removes.answer in
-      removed_read history state entry answered list removes
-      (there_at state.methods removes.address removes.id (step_finds state removes.address removes.id answer)) read
+      removed_read history state entry answered list removes (there_at state.methods removes.address removes.id removes.found) read
 
 -- each lawful event keeps a server sound
 abbrev pub StaysSound : Type 0

@@ -1,7 +1,7 @@
--- Places in a list, elements that differ, and what a search finds.
-use Rattle.std.proofs.Common.{◌≡◌, ◌≢◌, ◌⊎◌, inl, inr, suc, Bool, true, false, cond, List, [], ◌∷◌, ◌++◌, find, Some, refl, sym, ap, subst, ◌∙◌, arith}
+-- Places in a list, and elements that differ.
+use Rattle.std.proofs.Common.{◌≡◌, ◌≢◌, ◌⊎◌, inl, inr, suc, List, [], ◌∷◌, ◌++◌, refl, sym, ap, subst, ◌∙◌, arith}
 use Rattle.std.specs.List.{AllByRecursion, AllPairs, Contains}
-use Rattle.osc_laws.proofs.Members.{head_in, behind_in, head_or_behind, none_in, IsPassed}
+use Rattle.osc_laws.proofs.Members.{head_or_behind, none_in}
 
 -- a place in a list with one more element is its last, or one of the others
 pub record IsLast {X : Type 0} (before all later : List X) (made last : X) : Type 0 where
@@ -62,11 +62,3 @@ unique {X} key (z ∷ zs) x y pairs one other same =
     go (inl here) (inr there) rest = absurd (apart y there (ap key here ∙ same))
     go (inr here) (inl there) rest = absurd (apart x here (ap key there ∙ sym same))
     go (inr here) (inr there) rest = rest here there
-
--- what a search finds stands in the list and passes
-pub found : {X : Type 0} (test : X → Bool) (xs : List X) (x : X) → find test xs ≡ Some x → IsPassed test xs x
-found test [] x is = absurd (cc)
-found {X} test (y ∷ ys) x is = go (test y) refl is (found test ys x) where
-  go : (t : Bool) → test y ≡ t → cond t (Some y) (find test ys) ≡ Some x → (find test ys ≡ Some x → IsPassed test ys x) → IsPassed test (y ∷ ys) x
-  go true e is rest = let same : y ≡ x = cc in subst (IsPassed test (y ∷ ys)) same (head_in y ys, e)
-  go false e is rest = let more = rest is in (behind_in y x ys more.0, more.1)

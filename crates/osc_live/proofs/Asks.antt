@@ -47,11 +47,6 @@ enrolled_there grows counts performance boxes before seen number stands starts e
 
 -- An event was played.
 
--- one text more is one entry more
-pub read_more : (before : List (List ℕ)) (text : List ℕ) (one : Entry) → entry_in text ≡ Some one
-    → history_in (before ++ text ∷ []) ≡ history_in before ++ one ∷ []
-read_more before text one is = filter_map-append entry_in before (text ∷ []) ∙ ap (λ (o : Option Entry). history_in before ++ cons_option o []) is
-
 last_is : (xs : List Entry) (x y : Entry) → xs ++ x ∷ [] ≡ xs ++ y ∷ [] → x ≡ y
 last_is [] x y e = cc
 last_is (z ∷ xs) x y e = last_is xs x y (let rest : xs ++ x ∷ [] ≡ xs ++ y ∷ [] = cc in rest)

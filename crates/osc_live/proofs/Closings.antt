@@ -8,6 +8,7 @@ use Rattle.osc_turn.specs.declared.pass.Pass.{Pass}
 use Rattle.osc_turn.specs.declared.view.Entry.{Entry as Seen}
 use Rattle.std.proofs.lemmas.List.{map-append}
 use Rattle.std.proofs.lemmas.Simd.{map-map}
+use Rattle.osc_tree.proofs.Lists.{contains_later}
 use Rattle.osc_turn.specs.declared.turn.Turn.{Turn}
 use Rattle.osc_turn.specs.declared.view.View.{View}
 use Rattle.osc_turn.specs.History.{StartsWith, texts, own}
@@ -21,14 +22,12 @@ use Rattle.osc_model.specs.Recordings.{header_text, record_text}
 use Rattle.osc_model.specs.Heard.{Told}
 use Rattle.osc_model.specs.History.{Legal, Performance, HaveHeard}
 use Rattle.osc_laws.specs.Laws.{KeepsTheLaws}
+use Rattle.osc_laws.proofs.Members.{none_in, sent, sent_from}
 use Rattle.osc_core.specs.Standing.{history_in, AreMarked, StandsFor}
 use Rattle.osc_live.specs.declared.caller.Caller.{Caller}
 use Rattle.osc_live.specs.declared.guest.Guest.{Guest}
 use Rattle.osc_live.specs.Seen.{names, performance_in, IsTokenOf}
 use Rattle.osc_live.specs.Closing.{known, views_of, StartsAtZero, IsOfCaller, Closes}
-
-later : {X : Type 0} (y : X) (ys : List X) (x : X) → Contains ys x → Contains (y ∷ ys) x
-later y ys x (k, within, is) = (suc k, omega arith, is)
 
 -- a number that stands among those of passes is a pass's
 times_in : (n : ℕ) (passes : List Pass) → 0 < times n (map turn.number passes) → (p : Pass) × Contains passes p × (turn.number p ≡ n)
@@ -38,12 +37,7 @@ times_in n (p ∷ passes) some = go (turn.number p == n) refl some (times_in n p
       → (0 < times n (map turn.number passes) → (q : Pass) × Contains passes q × (turn.number q ≡ n))
       → (q : Pass) × Contains (p ∷ passes) q × (turn.number q ≡ n)
   go true is some more = (p, (0, omega arith, refl), eqb-true (turn.number p) n is)
-  go false is some more = let found = more (omega arith) in (found.0, later p passes found.0 found.1, found.2)
-
-from_map : {X Y : Type 0} (f : X → Y) (xs : List X) (y : Y) → Contains (map f xs) y → (x : X) × Contains xs x × (f x ≡ y)
-from_map f [] y (k, within, is) = absurd (omega arith)
-from_map f (x ∷ xs) y (zero, within, is) = (x, (0, omega arith, refl), is)
-from_map f (x ∷ xs) y (suc k, within, is) = let found = from_map f xs y (k, omega arith, is) in (found.0, later x xs found.0 found.1, found.2)
+  go false is some more = let found = more (omega arith) in (found.0, contains_later found.0 p passes found.1, found.2)
 
 own_holds : (history : List Seen) (one : Seen) → Contains history one → Contains (own one.number history) one
 own_holds [] one (k, within, is) = absurd (omega arith)
@@ -52,7 +46,7 @@ own_holds (first ∷ history) one (zero, within, is) =
     (sym (eq-eqb first.number one.number (ap (λ (e : Seen). e.number) is))) (0, omega arith, is)
 own_holds (first ∷ history) one (suc k, within, is) = go (first.number == one.number) (own_holds history one (k, omega arith, is)) where
   go : (t : Bool) → Contains (own one.number history) one → Contains (cond t (first ∷ own one.number history) (own one.number history)) one
-  go true there = later first (own one.number history) one there
+  go true there = contains_later one first (own one.number history) there
   go false there = there
 
 all_hold : (p : Seen → Bool) (xs : List Seen) (x : Seen) → list_all p xs ≡ true → Contains xs x → p x ≡ true
@@ -63,16 +57,8 @@ all_hold p (y ∷ xs) x all there = go (p y) refl all there (all_hold p xs x) wh
   go true one all (suc k, within, is) rest = rest all (k, omega arith, is)
   go false one all there rest = absurd (cc)
 
-none_there : (one : Seen) → Contains [] one → ⊥
-none_there one (k, within, is) = omega arith
-
 abbrev passes_of : List Caller → List Guest → List Pass
 passes_of callers guests = map (λ (caller : Caller). caller.pass) callers ++ map (λ (guest : Guest). guest.pass) guests
-
-to_map : {X Y : Type 0} (f : X → Y) (xs : List X) (x : X) → Contains xs x → Contains (map f xs) (f x)
-to_map f [] x (k, within, is) = absurd (omega arith)
-to_map f (y ∷ xs) x (zero, within, is) = (0, omega arith, ap f is)
-to_map f (y ∷ xs) x (suc k, within, is) = later (f y) (map f xs) (f x) (to_map f xs x (k, omega arith, is))
 
 -- each entry is a caller's, and names it
 named : (callers : List Caller) (guests : List Guest) (history : List Seen) → All (Carries history) (passes_of callers guests)
@@ -96,17 +82,17 @@ named callers guests history carried once k d within = go (times_in one.number (
         cases : Contains (map (λ (caller : Caller). caller.pass) callers) p ⊎ Contains (map (λ (guest : Guest). guest.pass) guests) p
             → IsOfCaller (known callers) one
         cases (inl caller) =
-            let found = from_map (λ (caller : Caller). caller.pass) callers p caller in
+            let found = sent_from (λ (caller : Caller). caller.pass) callers p caller in
             let c : Caller = found.0 in (
               (c.number, view c.pass),
-              to_map (λ (caller : Caller). (caller.number, view caller.pass)) callers c found.1,
+              sent (λ (caller : Caller). (caller.number, view caller.pass)) callers c found.1,
               ap (λ (q : Pass). turn.number q) found.2 ∙ same,
               all_hold (names c.number) (own (number_of (view c.pass)) (view c.pass).seen) one c.named
                   (subst (λ (q : Pass). Contains (own (turn.number q) (view q).seen) one) (sym found.2) held),
             )
         cases (inr guest) =
-            let found = from_map (λ (guest : Guest). guest.pass) guests p guest in
-            absurd (none_there one
+            let found = sent_from (λ (guest : Guest). guest.pass) guests p guest in
+            absurd (none_in one
             (subst (λ (l : List Seen). Contains l one) found.0.none_own
             (subst (λ (q : Pass). Contains (own (turn.number q) (view q).seen) one) (sym found.2) held)))
 
@@ -167,7 +153,7 @@ pub some_first : (callers : List Caller) → StartsAtZero callers → 0 < length
 some_first [] none = absurd none
 some_first (caller ∷ callers) is = omega arith
 
-inserted_first : {X : Type 0} (xs : List X) (x : X) → insert xs 0 x ≡ x ∷ xs
+pub inserted_first : {X : Type 0} (xs : List X) (x : X) → insert xs 0 x ≡ x ∷ xs
 inserted_first [] x = refl
 inserted_first (y ∷ xs) x = refl
 

@@ -6,6 +6,7 @@ use Rattle.osc_model.specs.Enrolled.{callers_in}
 use Rattle.osc_model.specs.Events.{Event, enrol, Answer, number, adds_entry, Entry}
 use Rattle.osc_model.specs.History.{Legal}
 use Rattle.osc_core.specs.Standing.{history_in}
+use Rattle.osc_core.proofs.Texts.{read_more}
 use Rattle.osc_turn.specs.declared.view.Entry.{Entry as Seen}
 use Rattle.osc_turn.specs.declared.view.View.{View}
 use Rattle.osc_turn.specs.History.{StartsWith, texts, entry, own}
@@ -17,7 +18,6 @@ use Rattle.std.specs.List.{list_all}
 use Rattle.osc_live.specs.Seen.{history_of, names, names_own}
 use Rattle.osc_live.specs.Calls.{EndsWith, AddsNone, Calls}
 use Rattle.osc_live.proofs.Answered.{texts_more}
-use Rattle.osc_live.proofs.Asks.{read_more}
 
 -- a call of a token that was told before it is one of the token as it was
 pub calls_met : (caps : Limits) (caller : ℕ) (event : Event) (answer : Answer) (v g v1 w : View) → v1 ≡ met_by v g → StartsWith v1.seen v.seen

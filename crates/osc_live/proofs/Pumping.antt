@@ -23,7 +23,7 @@ pub seen_few : (caps : Limits) (caller : ℕ) (event : Event) (answer : Answer) 
 seen_few caps caller event answer v w calls =
     omega (arith, few_legal caps (history_of w) calls.legal, as_many (history_of w) (texts w.seen) calls.written, length-map w.seen text_of)
 
-own_few : (n : ℕ) (xs : List Seen) → length (own n xs) ≤ length xs
+pub own_few : (n : ℕ) (xs : List Seen) → length (own n xs) ≤ length xs
 own_few n [] = omega arith
 own_few n (x ∷ xs) = go (x.number == n) (own_few n xs) where
   go : (t : Bool) → length (own n xs) ≤ length xs → length (cond t (x ∷ own n xs) (own n xs)) ≤ length (x ∷ xs)

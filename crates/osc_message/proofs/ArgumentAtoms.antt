@@ -7,11 +7,11 @@ use Rattle.std.proofs.lemmas.Int.{of_z-to_z, to_z-of_z}
 use Rattle.std.proofs.lemmas.List.{length-replicate}
 use borrow.Author.Gap.{read_sfits}
 use Rattle.osc_atoms.specs.declared.fault.Fault.{Fault}
-use Rattle.osc_atoms.specs.Atoms.{AreBytes, word, tag, string, string_end, blob, blob_end}
+use Rattle.osc_atoms.specs.Atoms.{AreBytes, word, tag, string, blob, blob_end}
 use Rattle.osc_atoms.specs.Reading.{and_then, word_read, tag_read}
 use Rattle.osc_atoms.specs.Standing.{StartsWith, StartsWithWord, StartsWithTag}
 use Rattle.osc_atoms.proofs.Numbers.{word_again, tag_again, word_seen, tag_seen, word_fault_again, tag_fault_again}
-use Rattle.osc_atoms.proofs.Strings.{string_again, string_seen, string_fault_again}
+use Rattle.osc_atoms.proofs.Strings.{string_again, string_seen, string_fault_again, length-string}
 use Rattle.osc_atoms.proofs.Blobs.{blob_again, blob_seen, blob_fault_again}
 use Rattle.osc_message.specs.Messages.{Argument, integer, float, text, content, long, time, double, symbol, character, rgba, midi, true_, false_, nil}
 use Rattle.osc_message.specs.Messages.{infinitum, array_start, array_end, tag_of, atom_of}
@@ -102,10 +102,6 @@ kind_of tag known = go (is_word_tag tag) refl (is_long_tag tag) refl (is_text_ta
   go false p false q false r false s false t is = absurd (cc)
 
 -- every atom has a size that is a multiple of 4
-pub length-string : (bytes : List ℕ) → length (string bytes) ≡ length bytes + string_end (length bytes)
-length-string bytes = length-append bytes (replicate (string_end (length bytes)) 0)
-    ∙ ap (λ (n : ℕ). length bytes + n) (length-replicate {A = ℕ} (string_end (length bytes)) 0)
-
 pub string_fours : (bytes : List ℕ) → length (string bytes) % 4 ≡ 0
 string_fours bytes = omega (arith, length-string bytes)
 

@@ -1,8 +1,8 @@
 -- A lawful pattern has no zero byte, and a pattern's fault stands within it.
-use Rattle.std.proofs.Common.{◌≡◌, ℕ, suc, ◌+◌, ◌<◌, ◌≤◌, Bool, true, false, not, ◌&&◌, ◌==◌, List, [], ◌∷◌, ◌++◌, length, refl, sym, ◌∙◌, ap, arith, eqb-true}
+use Rattle.std.proofs.Common.{◌≡◌, ℕ, suc, ◌+◌, ◌<◌, ◌≤◌, true, false, not, ◌==◌, List, [], ◌∷◌, ◌++◌, length, refl, sym, ◌∙◌, ap, arith, eqb-true}
 use Rattle.std.proofs.Common.{length-append}
 use Rattle.std.specs.List.{list_any, flat_map, slice_split, join_with_byte}
-use Rattle.std.proofs.lemmas.Bool.{ltb-true}
+use Rattle.std.proofs.lemmas.Bool.{ltb-true, and_from, or_parts}
 use Rattle.std.proofs.lemmas.Bool.Decides.{nat_tests}
 use Rattle.std.proofs.lemmas.Option.{cond_some}
 use Rattle.std.proofs.lemmas.List.{append-nil}
@@ -10,11 +10,7 @@ use Rattle.std.proofs.lemmas.List.Splits.{join_with_byte-slice_split, length-sli
 use Rattle.osc_atoms.specs.Atoms.{string, has_no_zero}
 use Rattle.osc_pattern.specs.Items.{is_slash, item_text}
 use Rattle.osc_pattern.specs.Patterns.{IsPattern, IsFault, start, byte, unclosed, IsOpenAt, begins_with_slash, parts_of, is_outside}
-use Rattle.osc_pattern.proofs.Cutting.{neither}
 use Rattle.osc_message.specs.Reading.{begins}
-
-both_true : (a b : Bool) → a ≡ true → b ≡ true → (a && b) ≡ true
-both_true a b p q = rw (p, q) refl
 
 byte_nonzero : (b : ℕ) → is_outside b ≡ false → not (b == 0) ≡ true
 byte_nonzero b inside = grind (arith, nat_tests)
@@ -22,8 +18,8 @@ byte_nonzero b inside = grind (arith, nat_tests)
 inside_nonzero : (text : List ℕ) → list_any is_outside text ≡ false → has_no_zero text ≡ true
 inside_nonzero [] inside = refl
 inside_nonzero (b ∷ text) inside =
-    let both = neither (is_outside b) (list_any is_outside text) inside in
-    both_true _ _ (byte_nonzero b both.0) (inside_nonzero text both.1)
+    let both = or_parts (is_outside b) (list_any is_outside text) inside in
+    and_from _ _ (byte_nonzero b both.0) (inside_nonzero text both.1)
 
 pub pattern_nonzero : (text : List ℕ) → IsPattern text → has_no_zero text ≡ true
 pattern_nonzero text lawful = inside_nonzero text lawful.inside

@@ -3,16 +3,17 @@ use Rattle.std.proofs.Common.{◌≡◌, ℕ, ◌<◌, ◌≤◌, ◌^◌, true,
 use Rattle.std.specs.Prelude.{option_map}
 use Rattle.std.proofs.lemmas.Bool.{cond-true, cond-false, lt-leb}
 use Rattle.std.proofs.lemmas.List.{take_all}
+use Rattle.std.proofs.lemmas.Option.{same_Some}
 use Rattle.osc_atoms.specs.Atoms.{string, has_no_zero}
 use Rattle.osc_atoms.specs.Reading.{is_zero}
 use Rattle.osc_atoms.proofs.Positions.{not_found}
+use Rattle.osc_atoms.proofs.Strings.{length-string}
 use Rattle.osc_pattern.specs.declared.faults.PatternFault.{PatternFault}
 use Rattle.osc_pattern.specs.Patterns.{IsPattern, pattern_fault}
 use Rattle.osc_message.specs.declared.build_fault.BuildFault.{BuildFault}
 use Rattle.osc_message.specs.declared.build_fault.BuildFault.TheVariants.{Pattern, HasNull, TooLong}
 use Rattle.osc_message.specs.Messages.{Argument, text, symbol, atom_of, HasNoZero}
 use Rattle.osc_message.specs.Building.{null_of, null_in, refused_null, open_refusal, IsKept}
-use Rattle.osc_message.proofs.ArgumentAtoms.{length-string}
 use Rattle.osc_message.proofs.Buildings.{kept_of}
 
 -- a short text in which no zero byte is found has none
@@ -43,13 +44,10 @@ open_pattern pattern o short none fault =
     refused_next pattern short ∙ ap (λ (n : Option ℕ). refused_null n (option_map (λ fault. Pattern fault) (pattern_fault pattern))) none
     ∙ ap (option_map (λ fault. Pattern fault)) fault
 
-some_same : (a b : BuildFault) → ◌≡◌ {A = Option BuildFault} (Some a) (Some b) → a ≡ b
-some_same a b e = cc
-
 -- one fault is refused
 pub only : {X : Type 0} (pattern : List ℕ) (told fault : BuildFault) → open_refusal pattern ≡ Some told → open_refusal pattern ≡ Some fault
     → ◌≡◌ {A = Result X BuildFault} (Err told) (Err fault)
-only pattern told fault a b = ap (λ (f : BuildFault). Err f) (some_same told fault (sym a ∙ b))
+only pattern told fault a b = ap (λ (f : BuildFault). Err f) (same_Some told fault (sym a ∙ b))
 
 pub none_refused : (pattern : List ℕ) (fault : BuildFault) → open_refusal pattern ≡ None → open_refusal pattern ≡ Some fault → ⊥
 none_refused pattern fault a b = cc

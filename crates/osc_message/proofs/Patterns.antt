@@ -11,11 +11,9 @@ use Rattle.osc_atoms.specs.Reading.{and_then, is_zero, padding_read, text_read, 
 use Rattle.osc_pattern.specs.declared.faults.PatternFault.{PatternFault}
 use Rattle.osc_pattern.specs.Patterns.{pattern_fault, is_pattern}
 use Rattle.osc_atoms.specs.Faults.{start}
+use Rattle.osc_atoms.proofs.Outcomes.{ok_is}
 use Rattle.osc_message.specs.Faults.{no_tags}
 use Rattle.osc_message.specs.Reading.{Parts, begins, tags_read, tagged_read, comma_read, unless_fault, lawful_read, message_read, parts_of}
-
-ok_is : {X : Type 0} (a b : X) → ◌≡◌ {A = Result X Fault} (Ok a) (Ok b) → a ≡ b
-ok_is a b e = cc
 
 pattern_kept_tags : (bytes pattern : List ℕ) (at : ℕ) (parts : Parts) (r : Result (List ℕ × ℕ) Fault)
     → and_then r

@@ -9,7 +9,7 @@ use Rattle.osc_atoms.specs.declared.fault.Fault.{Fault}
 use Rattle.osc_atoms.specs.Atoms.{string}
 use Rattle.osc_atoms.specs.Reading.{and_then, string_read}
 use Rattle.osc_atoms.specs.Standing.{StartsWithString, NamesStringFault, NamesBlobFault}
-use Rattle.osc_atoms.proofs.Strings.{string_again, string_fault_again}
+use Rattle.osc_atoms.proofs.Strings.{string_again, string_fault_again, length-string}
 use Rattle.osc_pattern.specs.declared.faults.PatternFault.{PatternFault}
 use Rattle.osc_pattern.specs.Patterns.{pattern_fault}
 use Rattle.osc_pattern.proofs.PatternLaws.{IsPattern-read, IsFault-read}
@@ -25,7 +25,7 @@ use Rattle.osc_message.specs.Reading.{Parts, begins, brackets_read, arguments_re
 use Rattle.osc_message.specs.Reading.{fourfold_read, within_read, limited_read}
 use Rattle.osc_message.proofs.LawfulPatterns.{pattern_fault_within}
 use Rattle.osc_message.proofs.ArrayBrackets.{balance_again, bracket_fault_again}
-use Rattle.osc_message.proofs.ArgumentAtoms.{argument_again, argument_fault_again, atom_fours, string_fours, length-string}
+use Rattle.osc_message.proofs.ArgumentAtoms.{argument_again, argument_fault_again, atom_fours, string_fours}
 
 -- a place within the bytes, a multiple of 4 before their end
 pub record Placed (bytes : List ℕ) (at : ℕ) : Type 0 where
@@ -230,7 +230,7 @@ heads x y xs ys zs a b = cc
 one_fault : (f : PatternFault) (o : Option PatternFault) → o ≡ None → o ≡ Some f → ⊥
 one_fault f o a b = cc
 
-empty_not : (x : ℕ) (xs zs : List ℕ) → zs ≡ [] → zs ≡ x ∷ xs → ⊥
+pub empty_not : (x : ℕ) (xs zs : List ℕ) → zs ≡ [] → zs ≡ x ∷ xs → ⊥
 empty_not x xs zs a b = cc
 
 -- a want that is named doesn't stand

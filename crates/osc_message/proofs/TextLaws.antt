@@ -1,9 +1,10 @@
 -- What the texts of messages are read as, and that no two messages have one.
-use Rattle.std.proofs.Common.{◌≡◌, ℕ, Bool, true, false, List, [], ◌∷◌, drop, map, Option, Some, None, option_and_then, refl, sym, ◌∙◌, ap}
+use Rattle.std.proofs.Common.{◌≡◌, ℕ, false, List, [], ◌∷◌, drop, map, None, option_and_then, refl, sym, ◌∙◌, ap}
 use Rattle.std.specs.Prelude.{find}
 use Rattle.std.specs.List.{list_any, flat_map}
 use Rattle.std.specs.Option.{option_map_or}
-use Rattle.std.proofs.lemmas.Bool.{cond-true, cond-false}
+use Rattle.std.proofs.lemmas.Bool.{cond-true, cond-false, both_ways}
+use Rattle.std.proofs.lemmas.Option.{same_Some, none-some}
 use Rattle.osc_message.specs.Tags.{is_unknown}
 use Rattle.osc_message.specs.Messages.{Argument, tag_of, atom_of, Form, bare, known, unknown, IsLawful, message_text}
 use Rattle.osc_message.specs.Reading.{parts_of, pattern_of}
@@ -58,15 +59,6 @@ rest_again pattern tags rest lawful =
     ap (λ p. option_map_or (λ parts. drop parts.place bytes) p []) (parts_again (unknown pattern tags rest) lawful)
     ∙ (behind_tags bytes 0 pattern tags rest start refl).1
 
-some_is : (a b : List ℕ) → ◌≡◌ {A = Option (List ℕ)} (Some a) (Some b) → a ≡ b
-some_is a b e = cc
-
-none_some : (a : List ℕ) → ◌≡◌ {A = Option (List ℕ)} None (Some a) → ⊥
-none_some a e = cc
-
-true_false : (b : Bool) → b ≡ true → b ≡ false → ⊥
-true_false b p q = cc
-
 pub texts_differ : (one other : Form) → IsLawful one → IsLawful other → message_text one ≡ message_text other → one ≡ other
 texts_differ one other lawful_one lawful_other same = go one other lawful_one lawful_other same patterns tags where
   patterns : (parts_in 0 one).pattern ≡ (parts_in 0 other).pattern
@@ -78,18 +70,18 @@ texts_differ one other lawful_one lawful_other same = go one other lawful_one la
   go : (a b : Form) → IsLawful a → IsLawful b → message_text a ≡ message_text b → (parts_in 0 a).pattern ≡ (parts_in 0 b).pattern
       → (parts_in 0 a).tags ≡ (parts_in 0 b).tags → a ≡ b
   go (bare p) (bare q) la lb s ps ts = ap bare ps
-  go (bare p) (known q m) la lb s ps ts = absurd (none_some (map tag_of m) ts)
-  go (bare p) (unknown q t r) la lb s ps ts = absurd (none_some t ts)
-  go (known p l) (bare q) la lb s ps ts = absurd (none_some (map tag_of l) (sym ts))
+  go (bare p) (known q m) la lb s ps ts = absurd (none-some (map tag_of m) ts)
+  go (bare p) (unknown q t r) la lb s ps ts = absurd (none-some t ts)
+  go (known p l) (bare q) la lb s ps ts = absurd (none-some (map tag_of l) (sym ts))
   go (known p l) (known q m) la lb s ps ts =
       let listed : l ≡ m = sym (known_arguments_again p l la) ∙ ap message_arguments s ∙ known_arguments_again q m lb in
       λ i. known (ps i) (listed i)
   go (known p l) (unknown q t r) la lb s ps ts =
-      absurd (true_false (list_any is_unknown t) lb.2 (ap (list_any is_unknown) (sym (some_is (map tag_of l) t ts)) ∙ known_tags l))
-  go (unknown p t r) (bare q) la lb s ps ts = absurd (none_some t (sym ts))
+      absurd (both_ways (list_any is_unknown t) (ap (list_any is_unknown) (sym (same_Some (map tag_of l) t ts)) ∙ known_tags l) lb.2)
+  go (unknown p t r) (bare q) la lb s ps ts = absurd (none-some t (sym ts))
   go (unknown p t r) (known q m) la lb s ps ts =
-      absurd (true_false (list_any is_unknown t) la.2 (ap (list_any is_unknown) (some_is t (map tag_of m) ts) ∙ known_tags m))
+      absurd (both_ways (list_any is_unknown t) (ap (list_any is_unknown) (same_Some t (map tag_of m) ts) ∙ known_tags m) la.2)
   go (unknown p t r) (unknown q u v) la lb s ps ts =
-      let tagged : t ≡ u = some_is t u ts in
+      let tagged : t ≡ u = same_Some t u ts in
       let rests : r ≡ v = sym (rest_again p t r la) ∙ ap rest_of s ∙ rest_again q u v lb in
       λ i. unknown (ps i) (tagged i) (rests i)

@@ -4,14 +4,13 @@ use Rattle.osc_atoms.specs.declared.fault.Fault.{Fault}
 use Rattle.osc_atoms.specs.Atoms.{string}
 use Rattle.osc_atoms.specs.Standing.{StartsWithString}
 use Rattle.osc_atoms.proofs.Strings.{string_again}
+use Rattle.osc_atoms.proofs.Outcomes.{ok_is}
 use Rattle.osc_message.specs.Messages.{Argument, tag_of, atom_of, tag_string}
 use Rattle.osc_message.specs.Wants.{Want, some_byte, within, fourfold, slash, pattern, lawful, comma, tag_text, brackets_balance, arguments, done, after_tags}
 use Rattle.osc_message.specs.Wants.{Leads, StartsWithArgument}
 use Rattle.osc_message.specs.ArgumentReading.{argument_read}
 use Rattle.osc_message.proofs.ArgumentAtoms.{argument_again}
-
-ok_is : {X : Type 0} (a b : X) → ◌≡◌ {A = Result X Fault} (Ok a) (Ok b) → a ≡ b
-ok_is a b e = cc
+use Rattle.osc_message.proofs.Steps.{empty_not}
 
 text_is : (bytes : List ℕ) (at : ℕ) (one other : List ℕ) → StartsWithString bytes at one → StartsWithString bytes at other → one ≡ other
 text_is bytes at one other a b = first_is one other _ _ (sym (string_again bytes at one a) ∙ string_again bytes at other b) where
@@ -30,9 +29,6 @@ argument_is bytes tag at one other p q a b =
   where
     first_is : (x y : Argument) (m n : ℕ) → ◌≡◌ {A = Result (Argument × ℕ) Fault} (Ok (x, m)) (Ok (y, n)) → x ≡ y
     first_is x y m n e = ap (λ (p : Argument × ℕ). p.0) (ok_is (x, m) (y, n) e)
-
-empty_not : (x : ℕ) (xs zs : List ℕ) → zs ≡ [] → zs ≡ x ∷ xs → ⊥
-empty_not x xs zs a b = cc
 
 pub lead_on : (bytes : List ℕ) (want next other : Want) → Leads bytes want next → Leads bytes want other → next ≡ other
 lead_on bytes (some_byte most) next other a b = a.1 ∙ sym b.1

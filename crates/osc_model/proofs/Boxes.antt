@@ -19,6 +19,7 @@ use Rattle.osc_model.proofs.Hearing.{fresh_heard, heard_on}
 use Rattle.osc_model.proofs.Onward.{onward_state, onward_invoked}
 use Rattle.osc_model.proofs.Changes.{Changes, AddsMethod, tells_change, changes}
 use Rattle.osc_model.proofs.Silence.{left}
+use Rattle.osc_model.proofs.Leaving.{filter_ids}
 
 abbrev id_of : Method → ℕ
 id_of method = method.id
@@ -64,14 +65,12 @@ adds state address id is = go (changes state (add address)) where
   go (inr (inl more)) = more
   go (inr (inr fewer)) = let other = fewer.event_is in absurd (cc)
 
-other_id : (a b : ℕ) → a < b → (a == b) ≡ false
-other_id a b below = grind (arith, nat_tests)
-
-none_called : (id : ℕ) (calls : List Invocation) → AllByRecursion (λ call. call.call.id < id) calls → filter (λ call. call.call.id == id) calls ≡ []
+pub none_called : (id : ℕ) (calls : List Invocation) → AllByRecursion (λ call. call.call.id < id) calls → filter (λ call. call.call.id == id) calls ≡ []
 none_called id [] below = refl
 none_called id (call ∷ calls) below =
-    ap (λ (t : Bool). cond t (call ∷ filter (λ other. other.call.id == id) calls) (filter (λ other. other.call.id == id) calls))
-    (other_id call.call.id id below.0)
+    let less = below.0 in
+    let other : (call.call.id == id) ≡ false = grind (arith, nat_tests) in
+    ap (λ (t : Bool). cond t (call ∷ filter (λ other. other.call.id == id) calls) (filter (λ other. other.call.id == id) calls)) other
     ∙ none_called id calls below.1
 
 -- a box of an id that no call has yet has heard nothing
@@ -116,16 +115,6 @@ added_hears given performance caller address told boxes legal have is =
 
 -- A method that leaves.
 
--- two lists with the same ids have the same ids left, where one id is taken out
-filter_ids : {X : Type 0} (of : X → ℕ) (id : ℕ) (xs : List X) → map of (filter (λ x. not (of x == id)) xs) ≡ filter (λ n. not (n == id)) (map of xs)
-filter_ids of id [] = refl
-filter_ids {X} of id (x ∷ xs) = go (not (of x == id)) (filter_ids of id xs) where
-  go : (t : Bool) → map of (filter (λ y. not (of y == id)) xs) ≡ filter (λ n. not (n == id)) (map of xs)
-      → map of (cond t (x ∷ filter (λ y. not (of y == id)) xs) (filter (λ y. not (of y == id)) xs))
-      ≡ cond t (of x ∷ filter (λ n. not (n == id)) (map of xs)) (filter (λ n. not (n == id)) (map of xs))
-  go true more = ap (λ (l : List ℕ). of x ∷ l) more
-  go false more = more
-
 all_filter : {X : Type 0} (P : X → Type 0) (test : X → Bool) (xs : List X) → AllByRecursion P xs → AllByRecursion P (filter test xs)
 all_filter P test [] all = tt
 all_filter {X} P test (x ∷ xs) all = go (test x) (all_filter P test xs all.1) where
@@ -150,7 +139,7 @@ others_left performance caller id address boxes sound have is =
 -- A release.
 
 -- a box that hears a call
-abbrev hearing : Told → Invocation → Told
+abbrev pub hearing : Told → Invocation → Told
 hearing box call = record box { heard = after_call box.keep (bytes_of call) box.heard }
 
 hear_id : (box : Told) (call : Invocation) → (hear box call).id ≡ box.id
@@ -159,7 +148,7 @@ hear_id box call = go (call.call.id == box.id) where
   go true = refl
   go false = refl
 
-same_id : (calls : List Invocation) (box : Told) → (hear_all calls box).id ≡ box.id
+pub same_id : (calls : List Invocation) (box : Told) → (hear_all calls box).id ≡ box.id
 same_id [] box = refl
 same_id (call ∷ calls) box = same_id calls (hear box call) ∙ hear_id box call
 
@@ -187,7 +176,7 @@ each_hears : (calls more : List Invocation) (boxes : List Told) → AllByRecursi
 each_hears calls more [] heard = tt
 each_hears calls more (box ∷ boxes) heard = (one_hears calls more box heard.0, each_hears calls more boxes heard.1)
 
-release_keeps : (state : State) → (step state release).state.methods ≡ state.methods
+pub release_keeps : (state : State) → (step state release).state.methods ≡ state.methods
 release_keeps state = go (changes state release) where
   go : Changes state release (step state release) → (step state release).state.methods ≡ state.methods
   go (inl kept) = kept.methods

@@ -51,7 +51,7 @@ pub record LosesMethod (state : State) (event : Event) (stepped : Stepped) : Typ
 abbrev pub Changes : State → Event → Stepped → Type 0
 Changes state event stepped = KeepsMethods state stepped ⊎ (AddsMethod state event stepped ⊎ LosesMethod state event stepped)
 
-either : (P : Stepped → Type 0) (t : Bool) (one other : Stepped) → P one → P other → P (cond t one other)
+pub either : (P : Stepped → Type 0) (t : Bool) (one other : Stepped) → P one → P other → P (cond t one other)
 either P true one other first second = first
 either P false one other first second = second
 

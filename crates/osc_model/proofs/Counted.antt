@@ -9,6 +9,7 @@ use Rattle.osc_packet.specs.Units.{TimedUnit}
 use Rattle.osc_packet.specs.Reading.{is_bundle, bundle_tag, first_size, first_element, after_first, elements_in, bundle_read, enclosed_read, units_read}
 use Rattle.osc_packet.proofs.Steps.{bundle_step}
 use Rattle.osc_packet.proofs.Walks.{enclosed_step, enclosed_end, one_first}
+use Rattle.osc_packet.proofs.Few.{one_few}
 use Rattle.osc_model.specs.Limits.{Limits, AreInRange}
 use Rattle.osc_model.specs.State.{State, opening}
 use Rattle.osc_model.specs.Counts.{free_bytes}
@@ -23,11 +24,6 @@ use Rattle.osc_model.proofs.Refusals.{decided_none}
 
 abbrev BundleFew : ℕ → Type 0
 BundleFew left = (outer : Option ℕ) (bytes : List ℕ) → is_bundle bytes ≡ true → length (bundle_read left outer bytes) ≤ length bytes
-
-one_few : (f : List ℕ → List TimedUnit) (test : Bool) (x : List ℕ) → (test ≡ true → length (f x) ≤ length x)
-    → length (flat_map f (cond test (x ∷ []) [])) ≤ length x
-one_few f true x few = omega (arith, few refl, length-append (f x) [])
-one_few f false x few = omega arith
 
 -- a first element and what follows it are together shorter than the whole
 parts_fit : (bytes : List ℕ) → 0 < length bytes → length (first_element bytes) + length (after_first bytes) < length bytes

@@ -7,7 +7,7 @@ use Rattle.std.specs.Int.{w32, w64}
 use Rattle.std.specs.List.{AllByRecursion, list_any, slice_split, join_with_byte}
 use Rattle.std.specs.Str.{bytes_eq}
 use Rattle.std.proofs.Math.Facts.{sfits_lit}
-use Rattle.std.proofs.lemmas.Bool.{ltb-true}
+use Rattle.std.proofs.lemmas.Bool.{ltb-true, and_from, or_parts}
 use Rattle.std.proofs.lemmas.List.Elements.{recursion_from_All, All-contains}
 use Rattle.std.proofs.lemmas.List.{length-map}
 use Rattle.std.proofs.lemmas.Bool.Decides.{nat_tests}
@@ -16,7 +16,6 @@ use Rattle.std.proofs.lemmas.List.Splits.{join_with_byte-slice_split}
 use Rattle.std.proofs.lemmas.List.Sums.{count_by-le-length}
 use Rattle.osc_atoms.specs.Atoms.{has_no_zero}
 use Rattle.osc_pattern.specs.Items.{is_slash}
-use Rattle.osc_pattern.proofs.Cutting.{neither}
 use Rattle.osc_pattern.specs.Addresses.{IsAddress, is_address, is_bad_byte, is_proper_prefix}
 use Rattle.osc_pattern.specs.Methods.{Method, prefixes_of, runs_of}
 use Rattle.osc_pattern.specs.Patterns.{parts_of}
@@ -204,23 +203,20 @@ refusal_fits state address small spelled =
 -- an address has no zero byte
 
 name_byte : (b : ℕ) → is_bad_byte b ≡ false → not (b == 0) ≡ true
-name_byte b good = let range = (neither (not (nat_le 0x21 b && nat_le b 0x7e)) _ good).0 in grind (arith, nat_tests)
-
-both_true : (a b : Bool) → a ≡ true → b ≡ true → (a && b) ≡ true
-both_true a b p q = rw (p, q) refl
+name_byte b good = let range = (or_parts (not (nat_le 0x21 b && nat_le b 0x7e)) _ good).0 in grind (arith, nat_tests)
 
 name_nonzero : (name : List ℕ) → list_any is_bad_byte name ≡ false → has_no_zero name ≡ true
 name_nonzero [] good = refl
 name_nonzero (b ∷ name) good =
-    let both = neither (is_bad_byte b) (list_any is_bad_byte name) good in
-    both_true _ _ (name_byte b both.0) (name_nonzero name both.1)
+    let both = or_parts (is_bad_byte b) (list_any is_bad_byte name) good in
+    and_from _ _ (name_byte b both.0) (name_nonzero name both.1)
 
 names_nonzero : (names : List (List ℕ)) → AllByRecursion (λ name. list_any is_bad_byte name ≡ false) names → has_no_zero (join_with_byte 47 names) ≡ true
 names_nonzero [] good = refl
 names_nonzero (name ∷ []) good = name_nonzero name good.0
 names_nonzero (name ∷ next ∷ names) good =
     list_all-append (λ byte. not (byte == 0)) name (47 ∷ join_with_byte 47 (next ∷ names))
-    ∙ both_true _ _ (name_nonzero name good.0) (names_nonzero (next ∷ names) good.1)
+    ∙ and_from _ _ (name_nonzero name good.0) (names_nonzero (next ∷ names) good.1)
 
 address_nonzero : (address : List ℕ) → IsAddress address → has_no_zero address ≡ true
 address_nonzero [] spelled = absurd (let slash = spelled.slash in cc)
@@ -229,7 +225,7 @@ address_nonzero (x ∷ rest) spelled =
     let names = names_nonzero (slice_split is_slash rest)
     (recursion_from_All (λ name. list_any is_bad_byte name ≡ false) (slice_split is_slash rest) spelled.spelled) in
     let behind : has_no_zero rest ≡ true = sym (ap has_no_zero (join_with_byte-slice_split 47 rest)) ∙ names in
-    both_true _ _ (ap (λ (b : ℕ). not (b == 0)) first) behind
+    and_from _ _ (ap (λ (b : ℕ). not (b == 0)) first) behind
 
 add_fits : (caller : ℕ) (state : State) (address : List ℕ) → caller < 2 ^ 31 → IsSmall state → IsAddress address
     → IsRecordable caller (add address) (decided state (add address)).answer

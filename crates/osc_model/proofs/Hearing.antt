@@ -33,16 +33,12 @@ last_of-all keep xs few = let none : length xs - keep ≡ 0 = omega arith in ap 
 last_of-short : (keep : ℕ) (xs : List ℕ) → length (last_of keep xs) ≤ keep
 last_of-short keep xs = omega (arith, length-drop (length xs - keep) xs)
 
--- what is told, after more bytes
-abbrev more_told : ℕ → List ℕ → Option (List ℕ) → Option (List ℕ)
-more_told keep bytes heard = option_map (λ told. last_of keep (told ++ bytes)) heard
-
-none_more : (keep : ℕ) (heard : Option (List ℕ)) → IfSome heard (λ bytes. length bytes ≤ keep) → heard ≡ more_told keep [] heard
+none_more : (keep : ℕ) (heard : Option (List ℕ)) → IfSome heard (λ bytes. length bytes ≤ keep) → heard ≡ after_call keep [] heard
 none_more keep None within = refl
 none_more keep (Some bytes) within = ap Some (sym (ap (last_of keep) (append-nil bytes) ∙ last_of-all keep bytes within))
 
 more_twice : (keep : ℕ) (call calls : List ℕ) (heard : Option (List ℕ))
-    → more_told keep calls (after_call keep call heard) ≡ more_told keep (call ++ calls) heard
+    → after_call keep calls (after_call keep call heard) ≡ after_call keep (call ++ calls) heard
 more_twice keep call calls None = refl
 more_twice keep call calls (Some bytes) = ap Some (last_of-append keep (bytes ++ call) calls ∙ ap (last_of keep) (append_assoc bytes call calls))
 
@@ -65,7 +61,7 @@ all_within told [] within = within
 all_within told (invocation ∷ invocations) within = all_within (hear told invocation) invocations (hear_within told invocation within)
 
 pub all_heard : (told : Told) (invocations : List Invocation) → IsWithin told
-    → hear_all invocations told ≡ telling told (more_told told.keep (calls_bytes invocations told.id) told.heard)
+    → hear_all invocations told ≡ telling told (after_call told.keep (calls_bytes invocations told.id) told.heard)
 all_heard told [] within = ap (telling told) (none_more told.keep told.heard within)
 all_heard told (invocation ∷ invocations) within =
     go (invocation.call.id == told.id)
@@ -74,11 +70,11 @@ all_heard told (invocation ∷ invocations) within =
   where
     go : (t : Bool)
         → hear_all invocations (telling told (after_call told.keep (bytes_of invocation) told.heard))
-        ≡ telling told (more_told told.keep (calls_bytes invocations told.id) (after_call told.keep (bytes_of invocation) told.heard))
-        → hear_all invocations told ≡ telling told (more_told told.keep (calls_bytes invocations told.id) told.heard)
+        ≡ telling told (after_call told.keep (calls_bytes invocations told.id) (after_call told.keep (bytes_of invocation) told.heard))
+        → hear_all invocations told ≡ telling told (after_call told.keep (calls_bytes invocations told.id) told.heard)
         → hear_all invocations (cond t (telling told (after_call told.keep (bytes_of invocation) told.heard)) told)
         ≡ telling told
-        (more_told told.keep
+        (after_call told.keep
         (flat_map bytes_of
         (cond t (invocation ∷ filter (λ other. other.call.id == told.id) invocations) (filter (λ other. other.call.id == told.id) invocations))) told.heard)
     go true hears keeps = hears ∙ ap (telling told) (more_twice told.keep (bytes_of invocation) (calls_bytes invocations told.id) told.heard)
@@ -89,7 +85,7 @@ reset_within keep None = tt
 reset_within keep (Some bytes) = omega arith
 
 fresh_told : (keep : ℕ) (calls : List ℕ) (heard : Option (List ℕ))
-    → more_told keep calls (option_map (λ (_ : List ℕ). let none : List ℕ = [] in none) heard) ≡ option_map (λ _. last_of keep calls) heard
+    → after_call keep calls (option_map (λ (_ : List ℕ). let none : List ℕ = [] in none) heard) ≡ option_map (λ _. last_of keep calls) heard
 fresh_told keep calls None = refl
 fresh_told keep calls (Some bytes) = refl
 

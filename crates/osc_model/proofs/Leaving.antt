@@ -1,12 +1,14 @@
 -- The ids of the methods, where one leaves.
-use Rattle.std.proofs.Common.{◌≡◌, ◌≢◌, ℕ, suc, Bool, true, false, ◌==◌, not, cond, List, [], ◌∷◌, filter, All, Some, refl, sym, subst, ◌∙◌, arith}
+use Rattle.std.proofs.Common.{◌≡◌, ◌≢◌, ℕ, suc, Bool, true, false, ◌==◌, not, cond, List, [], ◌∷◌, filter, All, Some, refl, sym, subst, ◌∙◌, arith, map, ap}
 use Rattle.std.specs.List.{AllByRecursion, AllPairs}
 use Rattle.std.specs.Str.{bytes_eq}
 use Rattle.std.proofs.lemmas.Bool.Decides.{nat_tests}
+use Rattle.std.proofs.lemmas.Bool.{ne_eqb}
 use Rattle.std.proofs.lemmas.List.Elements.{All-from_recursion, recursion_from_All, All-from_get_or}
 use Rattle.std.proofs.lemmas.Slice.Eq.{bytes_eq-Decides}
 use Rattle.osc_pattern.specs.Methods.{Method, IsMethodList}
 use Rattle.osc_tree.specs.Registry.{id_at, without}
+use Rattle.osc_tree.proofs.Lines.{unequal}
 
 pairs_behind : {X : Type 0} (R : X → X → Type 0) (x : X) (xs : List X) → AllPairs R (x ∷ xs) → AllPairs R xs
 pairs_behind R x xs pairs = λ i j d lt within. pairs (suc i) (suc j) d (omega arith) (omega arith)
@@ -18,21 +20,12 @@ pairs_ahead R x xs pairs = recursion_from_All (R x) xs (All-from_get_or (R x) xs
 abbrev pub Agrees : List ℕ → ℕ → Method → Type 0
 Agrees address id method = bytes_eq method.address address ≡ (method.id == id)
 
-other_text : (xs ys : List ℕ) → xs ≢ ys → bytes_eq xs ys ≡ false
-other_text xs ys other = go (bytes_eq xs ys) refl where
-  go : (t : Bool) → bytes_eq xs ys ≡ t → t ≡ false
-  go true e = absurd (other ((bytes_eq-Decides xs ys).0 e))
-  go false e = refl
-
-pub other_id : (m n : ℕ) → m ≢ n → (m == n) ≡ false
-other_id m n other = grind (arith, nat_tests)
-
 others_agree : (first : Method) (methods : List Method) → AllByRecursion (λ other. first.id ≢ other.id) methods
     → AllByRecursion (λ other. first.address ≢ other.address) methods → AllByRecursion (Agrees first.address first.id) methods
 others_agree first [] ids addresses = tt
 others_agree first (other ∷ methods) ids addresses =
-    let a : bytes_eq other.address first.address ≡ false = other_text other.address first.address (λ same. addresses.0 (sym same)) in
-    let b : (other.id == first.id) ≡ false = other_id other.id first.id (λ same. ids.0 (sym same)) in
+    let a : bytes_eq other.address first.address ≡ false = unequal other.address first.address (λ same. addresses.0 (sym same)) in
+    let b : (other.id == first.id) ≡ false = ne_eqb other.id first.id (λ same. ids.0 (sym same)) in
     (a ∙ sym b, others_agree first methods ids.1 addresses.1)
 
 -- what holds of the ids of all methods holds of the one that is found
@@ -45,7 +38,7 @@ found_id P (method ∷ methods) address id at all = go (bytes_eq method.address 
   go false e more = more (rw e at at) all.1
 
 -- in a lawful list the method at an address is the one with its id
-all_agree : (methods : List Method) (address : List ℕ) (id : ℕ) → AllPairs (λ a b. a.id ≢ b.id) methods → AllPairs (λ a b. a.address ≢ b.address) methods
+pub all_agree : (methods : List Method) (address : List ℕ) (id : ℕ) → AllPairs (λ a b. a.id ≢ b.id) methods → AllPairs (λ a b. a.address ≢ b.address) methods
     → id_at methods address ≡ Some id → AllByRecursion (Agrees address id) methods
 all_agree [] address id ids addresses at = tt
 all_agree (method ∷ methods) address id ids addresses at =
@@ -69,7 +62,7 @@ all_agree (method ∷ methods) address id ids addresses at =
     go false e more =
         let f : id_at methods address ≡ Some id = rw e at at in
         let other : method.id ≢ id = λ same. found_id (λ n. method.id ≢ n) methods address id f (pairs_ahead (λ a b. a.id ≢ b.id) method methods ids) same in
-        let b : (method.id == id) ≡ false = other_id method.id id other in
+        let b : (method.id == id) ≡ false = ne_eqb method.id id other in
         (e ∙ sym b, more f)
 
 -- the methods that stay are those with another id
@@ -79,6 +72,21 @@ others_stay methods address id list at = go methods (all_agree methods address i
   go : (some : List Method) → AllByRecursion (Agrees address id) some → without some address ≡ filter (λ method. not (method.id == id)) some
   go [] agree = refl
   go (method ∷ more) agree = λ i. cond (not (agree.0 i)) (method ∷ go more agree.1 i) (go more agree.1 i)
+
+-- two lists with the same ids have the same ids left, where one id is taken out
+pub filter_ids : {X : Type 0} (of : X → ℕ) (id : ℕ) (xs : List X) → map of (filter (λ x. not (of x == id)) xs) ≡ filter (λ n. not (n == id)) (map of xs)
+filter_ids of id [] = refl
+filter_ids {X} of id (x ∷ xs) = go (not (of x == id)) (filter_ids of id xs) where
+  go : (t : Bool) → map of (filter (λ y. not (of y == id)) xs) ≡ filter (λ n. not (n == id)) (map of xs)
+      → map of (cond t (x ∷ filter (λ y. not (of y == id)) xs) (filter (λ y. not (of y == id)) xs))
+      ≡ cond t (of x ∷ filter (λ n. not (n == id)) (map of xs)) (filter (λ n. not (n == id)) (map of xs))
+  go true more = ap (λ (l : List ℕ). of x ∷ l) more
+  go false more = more
+
+pub ids_left : (methods : List Method) (address : List ℕ) (id : ℕ) → IsMethodList methods → id_at methods address ≡ Some id
+    → map (λ method. method.id) (without methods address) ≡ filter (λ n. not (n == id)) (map (λ method. method.id) methods)
+ids_left methods address id list at =
+    ap (map (λ (method : Method). method.id)) (others_stay methods address id list at) ∙ filter_ids (λ (method : Method). method.id) id methods
 
 -- none of those with another id has the id
 pub none_has : (methods : List Method) (id : ℕ) → All (λ method. method.id ≢ id) (filter (λ method. not (method.id == id)) methods)

@@ -116,7 +116,7 @@ all_recorded of caps history legal =
     ∙ sym (length-append (header_text caps) (entries_text history))
 
 -- limits stay as they are
-after_caps : (state : State) (history : List Entry) → (after state history).caps ≡ state.caps
+pub after_caps : (state : State) (history : List Entry) → (after state history).caps ≡ state.caps
 after_caps state [] = refl
 after_caps state (entry ∷ entries) = after_caps (step state entry.event).state entries ∙ go (changes state entry.event) where
   go : Changes state entry.event (step state entry.event) → (step state entry.event).state.caps ≡ state.caps

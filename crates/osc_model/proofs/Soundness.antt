@@ -12,6 +12,7 @@ use Rattle.osc_pattern.specs.Methods.{Method}
 use Rattle.osc_queue.specs.Timed.{due_of}
 use Rattle.osc_tree.specs.Registry.{Registry, IsLawful as IsLawfulRegistry, IsNewId, id_at}
 use Rattle.osc_tree.specs.Adding.{Refusal, IsAddable, add_refusal}
+use Rattle.osc_tree.proofs.Refusing.{none_addable}
 use Rattle.osc_model.specs.Limits.{Limits, AreInRange}
 use Rattle.osc_model.specs.State.{State, Queued, opening, registry}
 use Rattle.osc_model.specs.Counts.{queued_blocks, free_places, free_blocks}
@@ -22,7 +23,7 @@ use Rattle.osc_model.specs.Step.{step, decided, leaves, numbered, after_submit, 
 use Rattle.osc_model.specs.History.{IsLawful, LegalFrom, Legal, IsSound, after}
 use Rattle.osc_model.proofs.Stepping.{step_so}
 use Rattle.osc_model.proofs.Queues.{all_counted, numbered_length, all_blocks, all_ordered, all_numbered}
-use Rattle.osc_model.proofs.Registries.{AddsNodes, without_lawful, not_refused}
+use Rattle.osc_model.proofs.Registries.{AddsNodes, without_lawful}
 
 -- an address that can be added, with a new id, leaves methods as lawful as they were
 abbrev pub StaysLawful : Type 0
@@ -169,7 +170,7 @@ adds of state address spelled sound = go (add_refusal (registry state) address) 
   go (Some refusal) e = sound
   go None e =
       let few_methods = sound.methods.few_methods in
-      let can = not_refused (registry state) address few_methods e in
+      let can = none_addable (registry state) address few_methods e in
       record {
         caps = sound.caps;
         methods = of.lawful (registry state) state.next_id address sound.methods (new_id state.next_id state.methods sound.ids)

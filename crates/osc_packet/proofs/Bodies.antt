@@ -16,13 +16,10 @@ use Rattle.osc_packet.specs.declared.content.Content.{Content}
 use Rattle.osc_packet.specs.Units.{stored_size}
 use denote.Ref.{Bor}
 use Rattle.std.proofs.lemmas.List.{length-take-le}
-use Rattle.osc_packet.proofs.Steps.{body_step, body_end, in_step, in_end}
+use Rattle.osc_packet.proofs.Steps.{body_step, body_end, in_step, in_end, some_none}
 use Rattle.osc_packet.proofs.Told.{is_size}
 
-some_none : {f : Fault} → ◌≡◌ {A = Option Fault} (Some f) None → ⊥
-some_none e = cc
-
-both_none : (r s : Option Fault) → option_or r s ≡ None → (r ≡ None) × (s ≡ None)
+pub both_none : (r s : Option Fault) → option_or r s ≡ None → (r ≡ None) × (s ≡ None)
 both_none None s e = (refl, e)
 both_none (Some f) s e = absurd (some_none e)
 

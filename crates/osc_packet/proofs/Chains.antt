@@ -1,10 +1,12 @@
 -- The reached wants stand in one row, so at most one of them ends it.
-use Rattle.std.proofs.Common.{◌≡◌, ◌⊎◌, ℕ, List, Option, Some, None, refl, sym, ◌∙◌, subst, inl, inr}
+use Rattle.std.proofs.Common.{◌≡◌, ◌⊎◌, ℕ, List, Some, None, refl, sym, ◌∙◌, subst, inl, inr}
+use Rattle.std.proofs.lemmas.Option.{same_Some}
 use Rattle.osc_atoms.specs.declared.fault.Fault.{Fault}
 use Rattle.osc_packet.specs.Faults.{moved}
 use Rattle.osc_packet.specs.Wants.{Want, some_byte, within, fourfold, begun, is_message, named_bundle, headed, shallow, in_time, sized, Stands, next_of, Names}
 use Rattle.osc_packet.specs.Wants.{Reaches, first, later, FirstFault}
 use Rattle.osc_packet.specs.Known.{OfMessages}
+use Rattle.osc_packet.proofs.Steps.{some_none}
 
 -- the second want is reached from the first
 data Onward (bytes : List ℕ) (most : ℕ) : Want → Want → Type 0 where
@@ -19,16 +21,10 @@ from_first : {bytes : List ℕ} {most : ℕ} {want : Want} → Reaches bytes mos
 from_first first = here
 from_first (later reached stands next) = extend (from_first reached) stands next
 
-some_is : (a b : Want) → ◌≡◌ {A = Option Want} (Some a) (Some b) → a ≡ b
-some_is a b e = cc
-
-some_none : (a : Want) → ◌≡◌ {A = Option Want} (Some a) None → ⊥
-some_none a e = cc
-
 past : {bytes : List ℕ} {most : ℕ} {want next last : Want} → Onward bytes most want last → next_of bytes want ≡ Some next
     → (want ≡ last) ⊎ Onward bytes most next last
 past here n = inl refl
-past {bytes} {most} {want} {next} {last} (on {next = other} s m rest) n = inr (subst (λ w. Onward bytes most w last) (some_is other next (sym m ∙ n)) rest)
+past {bytes} {most} {want} {next} {last} (on {next = other} s m rest) n = inr (subst (λ w. Onward bytes most w last) (same_Some other next (sym m ∙ n)) rest)
 
 compared : {bytes : List ℕ} {most : ℕ} {want other : Want} → Reaches bytes most want → Onward bytes most some_byte other
     → Onward bytes most want other ⊎ Onward bytes most other want
@@ -48,7 +44,7 @@ Ends bytes most want = (Stands bytes most want → ⊥) ⊎ (next_of bytes want 
 stays : {bytes : List ℕ} {most : ℕ} {want last : Want} → Onward bytes most want last → Ends bytes most want → want ≡ last
 stays here ends = refl
 stays (on {next = next} stands n rest) (inl fails) = absurd (fails stands)
-stays (on {next = next} stands n rest) (inr none) = absurd (some_none next (sym n ∙ none))
+stays (on {next = next} stands n rest) (inr none) = absurd (some_none (sym n ∙ none))
 
 pub one_end : {bytes : List ℕ} {most : ℕ} {a b : Want} → Reaches bytes most a → Ends bytes most a → Reaches bytes most b → Ends bytes most b → a ≡ b
 one_end ra ea rb eb = elim (compared ra (from_first rb)) [

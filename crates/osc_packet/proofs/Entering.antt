@@ -15,13 +15,10 @@ use Rattle.osc_packet.specs.Wants.{part}
 use Rattle.osc_packet.specs.Contents.{own_fault}
 use Rattle.osc_packet.specs.Reading.{is_bundle, bundle_tag, head_read, fault_or, message_fault_at, element_fault, body_fault, messages_in, enclosed_read}
 use Rattle.osc_packet.specs.Walks.{bundle_at, units_from, IsWalk, IsNext}
-use Rattle.osc_packet.proofs.Steps.{element_fault_is, bundle_step}
+use Rattle.osc_packet.proofs.Steps.{element_fault_is, bundle_step, some_none}
 use Rattle.osc_packet.proofs.Heads.{head_ok}
 use Rattle.osc_packet.proofs.Parts.{part_length, part_rest}
 use Rattle.osc_packet.proofs.Bodies.{weaker, message_anywhere}
-
-some_none : {f : Fault} → ◌≡◌ {A = Option Fault} (Some f) None → ⊥
-some_none e = cc
 
 -- a bundle that is read without a fault
 pub record Opened (left : ℕ) (outer : Option ℕ) (at : ℕ) (bytes : List ℕ) : Type 0 where

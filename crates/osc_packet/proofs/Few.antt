@@ -5,20 +5,16 @@ use Rattle.std.specs.Prelude.{nat_lt}
 use Rattle.std.specs.List.{filter, flat_map}
 use Rattle.std.proofs.lemmas.Bool.{cases_lt, ltb-false}
 use Rattle.std.proofs.lemmas.List.{length-take-le}
-use Rattle.osc_atoms.specs.declared.fault.Fault.{Fault}
 use Rattle.osc_packet.specs.Packets.{effective_tag}
 use Rattle.osc_atoms.specs.Faults.{empty, too_long, not_four}
 use Rattle.osc_packet.specs.Units.{TimedUnit}
 use Rattle.osc_packet.specs.Reading.{is_bundle, bundle_tag, packet_fault, element_fault, body_fault, first_size, first_element, after_first, elements_in}
 use Rattle.osc_packet.specs.Reading.{bundle_read, enclosed_read, units_read}
-use Rattle.osc_packet.proofs.Steps.{bundle_step}
+use Rattle.osc_packet.proofs.Steps.{bundle_step, some_none}
 use Rattle.osc_packet.proofs.Heads.{some_left}
 use Rattle.osc_packet.proofs.Bodies.{silent_step}
 use Rattle.osc_packet.proofs.Walks.{enclosed_step, enclosed_end, one_first}
 use Rattle.osc_packet.proofs.Entering.{opened}
-
-some_none : {f : Fault} → ◌≡◌ {A = Option Fault} (Some f) None → ⊥
-some_none e = cc
 
 -- a packet without a fault is one element without a fault
 pub record Sound (bytes : List ℕ) : Type 0 where
@@ -39,7 +35,7 @@ abbrev BundleFew : ℕ → Type 0
 BundleFew left = (outer : Option ℕ) (at : ℕ) (bytes : List ℕ) → element_fault left outer at bytes ≡ None → is_bundle bytes ≡ true
     → length (bundle_read left outer bytes) ≤ length bytes
 
-one_few : (f : List ℕ → List TimedUnit) (test : Bool) (x : List ℕ) → (test ≡ true → length (f x) ≤ length x)
+pub one_few : (f : List ℕ → List TimedUnit) (test : Bool) (x : List ℕ) → (test ≡ true → length (f x) ≤ length x)
     → length (flat_map f (cond test (x ∷ []) [])) ≤ length x
 one_few f true x few = omega (arith, few refl, length-append (f x) [])
 one_few f false x few = omega arith

@@ -11,15 +11,16 @@ use Rattle.osc_message.specs.Reading.{message_fault}
 use Rattle.osc_packet.specs.Packets.{Packet, Elements, message, bundle, none, more, packet_text, elements_text, depth, elements_depth, bundle_word, IsLawfulIn}
 use Rattle.osc_packet.specs.Packets.{AreLawfulIn, IsPacket}
 use Rattle.osc_atoms.specs.Faults.{empty, not_four, too_long, start}
+use Rattle.osc_atoms.proofs.Bytes.{front_bytes, rest_bytes}
 use Rattle.osc_packet.specs.Faults.{element_size, moved}
 use Rattle.osc_packet.specs.Wants.{IsSize}
 use Rattle.osc_packet.specs.Reading.{packet_fault, element_fault, body_fault, message_fault_at, fault_or, head_read, bundle_tag, first_size, first_element}
 use Rattle.osc_packet.specs.Reading.{after_first, begins_with_size}
 use Rattle.osc_packet.specs.Known.{OfMessages}
-use Rattle.osc_packet.proofs.Known.{front_bytes, rest_bytes}
-use Rattle.osc_packet.proofs.Steps.{joined, body_step, element_fault_is}
+use Rattle.osc_packet.proofs.Steps.{joined, body_step, element_fault_is, some_none}
 use Rattle.osc_packet.proofs.Heads.{Head, head_ok, size_written, tag_written, tag_fits}
 use Rattle.osc_packet.proofs.Told.{is_size}
+use Rattle.osc_packet.proofs.Bodies.{both_none}
 
 pub record PacketIn (left : ℕ) (outer : Option ℕ) (bytes : List ℕ) : Type 0 where
   pub packet : Packet
@@ -36,13 +37,6 @@ pub record ElementsIn (left effective : ℕ) (bytes : List ℕ) : Type 0 where
 -- an element that is read without a fault is a packet's text
 abbrev pub ElementFound : ℕ → Type 0
 ElementFound left = (outer : Option ℕ) (at : ℕ) (bytes : List ℕ) → AreBytes bytes → element_fault left outer at bytes ≡ None → PacketIn left outer bytes
-
-some_none : {f : Fault} → ◌≡◌ {A = Option Fault} (Some f) None → ⊥
-some_none e = cc
-
-both_none : (r s : Option Fault) → option_or r s ≡ None → (r ≡ None) × (s ≡ None)
-both_none None s e = (refl, e)
-both_none (Some f) s e = absurd (some_none e)
 
 -- an element and those after it
 one_more : (left effective : ℕ) (bytes : List ℕ) → AreBytes bytes → IsSize (first_size bytes) (length bytes - 4)

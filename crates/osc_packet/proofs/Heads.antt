@@ -2,25 +2,17 @@
 use Rattle.std.proofs.Common.{◌≡◌, ℕ, ◌+◌, ◌<◌, ◌≤◌, ◌^◌, Bool, true, false, cond, not, nat_lt, ◌==◌, List, ◌++◌, length, take, drop, Option, Some, None}
 use Rattle.std.proofs.Common.{Result, Ok, Err, refl, sym, ◌∙◌, ap, inl, inr, arith, take-append-drop, length-drop}
 use Rattle.std.specs.List.{starts_with}
-use Rattle.std.proofs.lemmas.Bool.{ltb-false, cases_eq}
+use Rattle.std.proofs.lemmas.Bool.{ltb-false, cases_eq, not-false}
 use Rattle.std.proofs.lemmas.Bool.Decides.{Decides-eqb, nat_tests}
 use Rattle.std.proofs.lemmas.Slice.Eq.{starts_is}
 use Rattle.std.proofs.lemmas.List.{length-take-le}
 use Rattle.std.proofs.lemmas.Nat.{be_bytes_4, be_bytes_8}
 use Rattle.osc_atoms.specs.declared.fault.Fault.{Fault}
 use Rattle.osc_atoms.specs.Atoms.{AreBytes, word, tag}
+use Rattle.osc_atoms.proofs.Bytes.{front_bytes, rest_bytes}
 use Rattle.osc_packet.specs.Packets.{bundle_word, effective_tag, IsInTime}
 use Rattle.osc_packet.specs.Faults.{no_bundle_word, no_bundle_head, too_deep, tag_before}
 use Rattle.osc_packet.specs.Reading.{head_read, is_early, bundle_tag, first_size}
-use Rattle.osc_packet.proofs.Known.{front_bytes, rest_bytes}
-
-pub not_false : (b : Bool) → not b ≡ false → b ≡ true
-not_false true e = refl
-not_false false e = sym e
-
-pub not_true : (b : Bool) → not b ≡ true → b ≡ false
-not_true true e = sym e
-not_true false e = refl
 
 -- a text begins with the bundle word where its first eight bytes are that
 pub word_there : (own : List ℕ) → starts_with ◌==◌ own bundle_word ≡ true → take 8 own ≡ bundle_word
@@ -82,7 +74,7 @@ head_ok left outer at bytes effective =
       go false false true d is_a is_b is_c is_d e = absurd (err_ok e)
       go false false false true is_a is_b is_c is_d e = absurd (err_ok e)
       go false false false false is_a is_b is_c is_d e = record {
-        named = word_there bytes (not_false _ is_a);
+        named = word_there bytes (not-false _ is_a);
         long = ltb-false (length bytes) 16 is_b;
         room = some_left left is_c;
         time = in_time_is outer (bundle_tag bytes) is_d;

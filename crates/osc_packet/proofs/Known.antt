@@ -1,5 +1,5 @@
--- What the laws of messages give, and parts of bytes that are all below 256.
-use Rattle.std.proofs.Common.{◌≡◌, ℕ, zero, suc, ◌%◌, ◌<◌, ◌≤◌, true, IsTrue, List, [], ◌∷◌, length, take, drop, None, Result, Ok, Err, refl, sym, subst, lit<}
+-- What the laws of messages give.
+use Rattle.std.proofs.Common.{◌≡◌, ℕ, ◌%◌, ◌<◌, ◌≤◌, true, IsTrue, List, length, None, Result, Ok, Err, refl, sym, subst}
 use Rattle.std.specs.Prelude.{slice_index, ◌↔◌, Some, is_ok}
 use Rattle.std.specs.Result.{result_err}
 use Rattle.osc_atoms.specs.declared.fault.Fault.{Fault}
@@ -8,17 +8,6 @@ use Rattle.osc_message.specs.Messages.{Form, message_text, IsLawful, IsMessage}
 use Rattle.osc_message.specs.Reading.{is_message, message_fault, limited_read}
 use Rattle.osc_message.specs.Wants.{FirstFault}
 use Rattle.osc_packet.specs.Known.{OfMessages}
-
-pub front_bytes : (n : ℕ) (bytes : List ℕ) → AreBytes bytes → AreBytes (take n bytes)
-front_bytes zero bytes all i = lit< tt
-front_bytes (suc n) [] all i = all i
-front_bytes (suc n) (b ∷ bytes) all zero = all 0
-front_bytes (suc n) (b ∷ bytes) all (suc i) = front_bytes n bytes (λ k. all (suc k)) i
-
-pub rest_bytes : (n : ℕ) (bytes : List ℕ) → AreBytes bytes → AreBytes (drop n bytes)
-rest_bytes zero bytes all = all
-rest_bytes (suc n) [] all = all
-rest_bytes (suc n) (b ∷ bytes) all = rest_bytes n bytes (λ k. all (suc k))
 
 no_err : {X : Type 0} (r : Result X Fault) → is_ok r ≡ true → result_err r ≡ None
 no_err (Ok x) e = refl

@@ -14,6 +14,9 @@ use Rattle.osc_packet.specs.Reading.{first_size, first_element, after_first, beg
 use Rattle.osc_packet.specs.Reading.{fault_or, message_fault_at, is_bundle, head_read, elements_of, elements_in, messages_in, bundle_tag, bundle_read}
 use Rattle.osc_packet.specs.Reading.{enclosed_read}
 
+pub some_none : {X : Type 0} {x : X} → ◌≡◌ {A = Option X} (Some x) None → ⊥
+some_none e = cc
+
 -- what a reading of elements gives, by that of the first and that of the rest
 abbrev pub joined : (ℕ → List ℕ → Option Fault) → ℕ → List ℕ → Option Fault → Option Fault
 joined fault_of at bytes rest = cond (begins_with_size bytes) (option_or (fault_of (at + 4) (first_element bytes)) rest) (Some (element_size at))

@@ -5,7 +5,7 @@ use Rattle.std.specs.Prelude.{slice_index, option_map}
 use Rattle.std.specs.Option.{option_or}
 use Rattle.std.specs.List.{starts_with}
 use Rattle.std.specs.Int.{w32, w64, from_be_bytes}
-use Rattle.std.proofs.lemmas.Bool.{cond-true, cond-false, cases_lt, false≢true, eqb-true, eqb-false, lt-ltb, ltb-true, ltb-false, le-ltb}
+use Rattle.std.proofs.lemmas.Bool.{cond-true, cond-false, cases_lt, false≢true, eqb-true, eqb-false, lt-ltb, ltb-true, ltb-false, le-ltb, not-false, not-true}
 use Rattle.std.proofs.lemmas.Bool.Decides.{nat_tests}
 use Rattle.std.proofs.lemmas.List.{take_all}
 use Rattle.osc_atoms.specs.declared.fault.Fault.{Fault}
@@ -14,16 +14,16 @@ use Rattle.osc_message.specs.Messages.{IsMessage}
 use Rattle.osc_message.specs.Reading.{message_fault}
 use Rattle.osc_packet.specs.Packets.{bundle_word, effective_tag, IsInTime}
 use Rattle.osc_atoms.specs.Faults.{empty, too_long, not_four, start}
+use Rattle.osc_atoms.proofs.Bytes.{front_bytes, rest_bytes}
 use Rattle.osc_packet.specs.Faults.{no_bundle_word, no_bundle_head, too_deep, tag_before, moved, element_size}
 use Rattle.osc_packet.specs.Wants.{Want, Element, Frame, some_byte, within, fourfold, begun, is_message, named_bundle, headed, shallow, in_time, sized, Stands}
 use Rattle.osc_packet.specs.Wants.{next_of, after, announced, opened, own_tag, tag_around, word_of, part, bytes_of, IsSize, Reaches, first, later, FirstFault}
 use Rattle.osc_packet.specs.Reading.{packet_fault, fault_or, message_fault_at, head_read, is_early, bundle_tag, element_fault, body_fault, first_size}
 use Rattle.osc_packet.specs.Reading.{first_element, after_first, begins_with_size}
 use Rattle.osc_packet.specs.Known.{OfMessages}
-use Rattle.osc_packet.proofs.Known.{front_bytes, rest_bytes}
 use Rattle.osc_packet.proofs.Chains.{Ended}
-use Rattle.osc_packet.proofs.Heads.{not_false, not_true, word_there, word_again, in_time_is, early_is, some_left}
-use Rattle.osc_packet.proofs.Steps.{joined, element_fault_is, body_step, body_end}
+use Rattle.osc_packet.proofs.Heads.{word_there, word_again, in_time_is, early_is, some_left}
+use Rattle.osc_packet.proofs.Steps.{joined, element_fault_is, body_step, body_end, some_none}
 use Rattle.osc_packet.proofs.Parts.{part_length, part_front, part_taken, part_rest, part_first}
 
 -- the reading goes on with the next want, or all is read
@@ -40,9 +40,6 @@ go_on : {bytes : List ℕ} {most : ℕ} {want : Want} → Reaches bytes most wan
     → Then bytes most next
 go_on {bytes} {most} {want} reached stands None last = record { want = want; reached = reached; stands = stands; last = last }
 go_on reached stands (Some next) is = later reached stands is
-
-clash : (fault : Fault) → ◌≡◌ {A = Option Fault} (Some fault) None → ⊥
-clash fault e = cc
 
 -- the message of an element
 message_told : OfMessages → (bytes : List ℕ) (most : ℕ) → AreBytes bytes → (element : Element) → element.end ≤ length bytes
@@ -65,7 +62,7 @@ message_told known bytes most small element inside reached = go (message_fault (
       record {
         want = is_message element;
         reached = reached;
-        fails = λ message. clash fault (sym read ∙ known.written (element.end - element.place) own message);
+        fails = λ message. some_none (sym read ∙ known.written (element.end - element.place) own message);
         named = (fault, known.told (element.end - element.place) own fault are_bytes read, refl);
       }
 
@@ -110,11 +107,11 @@ head_told bytes most left element count some inside reached =
         record {
           want = named_bundle element;
           reached = reached;
-          fails = λ stands. absurd (false≢true (sym (not_true _ is_a) ∙ word_again own stands));
+          fails = λ stands. absurd (false≢true (sym (not-true _ is_a) ∙ word_again own stands));
           named = refl;
         }
     go false true c d is_a is_b is_c is_d =
-        let named : Stands bytes most (named_bundle element) = word_there own (not_false _ is_a) in
+        let named : Stands bytes most (named_bundle element) = word_there own (not-false _ is_a) in
         record {
           want = headed element;
           reached = later reached named refl;
@@ -122,12 +119,12 @@ head_told bytes most left element count some inside reached =
           named = refl;
         }
     go false false true d is_a is_b is_c is_d =
-        let named : Stands bytes most (named_bundle element) = word_there own (not_false _ is_a) in
+        let named : Stands bytes most (named_bundle element) = word_there own (not-false _ is_a) in
         let long : element.place + 16 ≤ element.end = omega (arith, ltb-false (length own) 16 is_b, size) in
         let none : left ≡ 0 = eqb-true left 0 is_c in
         record { want = shallow element; reached = later (later reached named refl) long refl; fails = λ stands. absurd (omega arith); named = refl }
     go false false false true is_a is_b is_c is_d =
-        let named : Stands bytes most (named_bundle element) = word_there own (not_false _ is_a) in
+        let named : Stands bytes most (named_bundle element) = word_there own (not-false _ is_a) in
         let long : element.place + 16 ≤ element.end = omega (arith, ltb-false (length own) 16 is_b, size) in
         let room : 0 < left = some_left left is_c in
         let few : length element.around < 16 = omega arith in
@@ -139,7 +136,7 @@ head_told bytes most left element count some inside reached =
           named = refl;
         }
     go false false false false is_a is_b is_c is_d =
-        let named : Stands bytes most (named_bundle element) = word_there own (not_false _ is_a) in
+        let named : Stands bytes most (named_bundle element) = word_there own (not-false _ is_a) in
         let long : element.place + 16 ≤ element.end = omega (arith, ltb-false (length own) 16 is_b, size) in
         let room : 0 < left = some_left left is_c in
         let few : length element.around < 16 = omega arith in

@@ -13,9 +13,7 @@ use Rattle.osc_packet.proofs.Chains.{one_fault, no_fault}
 use Rattle.osc_packet.proofs.Told.{Outcome, packet_told}
 use Rattle.osc_packet.proofs.Found.{packet_found}
 use Rattle.osc_packet.proofs.Silent.{valid_silent}
-
-clash : {f : Fault} → ◌≡◌ {A = Option Fault} (Some f) None → ⊥
-clash e = cc
+use Rattle.osc_packet.proofs.Steps.{some_none}
 
 -- what the reading tells is the first fault
 pub told_first : OfMessages → (most : ℕ) (bytes : List ℕ) → AreBytes bytes → (fault : Fault) → packet_fault most bytes ≡ Some fault
@@ -39,7 +37,7 @@ none_packet known most bytes small none = go (packet_fault most bytes) refl wher
 pub packet_none : OfMessages → (most : ℕ) (bytes : List ℕ) → most < 2 ^ 32 → AreBytes bytes → IsPacket most bytes → (fault : Fault)
     → FirstFault bytes most fault → ⊥
 packet_none known most bytes few small is fault found =
-    clash (sym (fault_again known most bytes small fault found) ∙ valid_silent known most bytes few is)
+    some_none (sym (fault_again known most bytes small fault found) ∙ valid_silent known most bytes few is)
 
 -- what is read under a lower limit is read under a higher one
 pub limit_raised : (most higher : ℕ) (bytes : List ℕ) → most ≤ higher → packet_fault most bytes ≡ None → packet_fault higher bytes ≡ None
@@ -50,8 +48,8 @@ limit_raised most higher bytes order = go (length bytes == 0) (nat_lt most (leng
       → cond a (Some empty)
       (cond (nat_lt higher (length bytes)) (Some (too_long higher))
       (cond (length bytes % 4 == 0) (element_fault 16 None 0 bytes) (Some (not_four (length bytes))))) ≡ None
-  go true b is e = absurd (clash e)
-  go false true is e = absurd (clash e)
+  go true b is e = absurd (some_none e)
+  go false true is e = absurd (some_none e)
   go false false is e = cond-false _ _ _ (le-ltb higher (length bytes) (omega (arith, ltb-false most (length bytes) is))) ∙ e
 
 some_is : {f g : Fault} → ◌≡◌ {A = Option Fault} (Some f) (Some g) → f ≡ g
@@ -59,10 +57,10 @@ some_is e = cc
 
 module _ (known : OfMessages) (most : ℕ) (bytes : List ℕ) (small : AreBytes bytes) (few : most ≤ 65504) where
   pub refused_exact : (fault : Fault) → packet_fault most bytes ≡ Some fault → IsPacket most bytes → ⊥
-  refused_exact fault read is = clash (sym read ∙ valid_silent known most bytes (omega arith) is)
+  refused_exact fault read is = some_none (sym read ∙ valid_silent known most bytes (omega arith) is)
 
   pub refused_first : (fault other : Fault) → packet_fault most bytes ≡ Some fault → FirstFault bytes most other → fault ≡ other
   refused_first fault other read found = some_is (sym read ∙ fault_again known most bytes small other found)
 
   pub accepted_first : (other : Fault) → packet_fault most bytes ≡ None → FirstFault bytes most other → ⊥
-  accepted_first other read found = clash (sym (fault_again known most bytes small other found) ∙ read)
+  accepted_first other read found = some_none (sym (fault_again known most bytes small other found) ∙ read)

@@ -1,18 +1,15 @@
 -- An address is lawful exactly where it breaks no rule.
-use Rattle.std.proofs.Common.{◌≡◌, ℕ, Bool, true, false, cond, not, nat_lt, Option, Some, None, List, length, refl, arith, ap}
+use Rattle.std.proofs.Common.{◌≡◌, ℕ, Bool, true, false, cond, nat_lt, Option, Some, None, List, length, refl, arith, ap}
 use Rattle.std.specs.Prelude.{◌↔◌, IsTrue, is_none}
 use Rattle.std.specs.List.{list_any}
 use Rattle.std.proofs.lemmas.List.Folds.{list_any_none}
 use Rattle.std.proofs.lemmas.Bool.Decides.{nat_tests}
+use Rattle.std.proofs.lemmas.Bool.{not-false}
 use Rattle.osc_pattern.specs.declared.faults.AddressFault.TheVariants.{NoSlash, EmptyName, BadByte, NameLong, AddressLong, TooManyParts}
 use Rattle.osc_pattern.specs.declared.faults.AddressFault.{AddressFault}
 use Rattle.osc_pattern.specs.Patterns.{begins_with_slash, parts_of}
 use Rattle.osc_pattern.specs.Addresses.{IsAddress, breaks, address_fault, is_address, is_bad_byte}
 use Rattle.osc_pattern.proofs.Cutting.{All-none}
-
-kept : (t : Bool) → not t ≡ false → t ≡ true
-kept true e = refl
-kept false e = absurd (cc)
 
 -- no rule is broken
 none_broken : (a b c d e f : Bool) (p q r s t u : AddressFault)
@@ -35,7 +32,7 @@ address_fault-none bytes none =
     let size = kept_all.4 in
     let count = kept_all.5 in
     record {
-      slash = kept (begins_with_slash bytes) kept_all.0;
+      slash = not-false (begins_with_slash bytes) kept_all.0;
       named = λ k d below. (let h = named k d below in grind (arith, nat_tests));
       spelled = All-none (list_any is_bad_byte) (parts_of bytes) kept_all.2;
       names_short = λ k d below. (let h = long k d below in grind (arith, nat_tests));

@@ -3,13 +3,13 @@ use Rattle.std.proofs.Common.{◌≡◌, ℕ, Bool, true, false, cond, List, [],
 use Rattle.std.specs.Prelude.{◌↔◌, All}
 use Rattle.std.specs.List.{list_any, slice_split, onto_first}
 use Rattle.std.proofs.lemmas.Bool.Decides.{nat_tests}
-use Rattle.std.proofs.lemmas.List.Elements.{All-cons, All-nil}
+use Rattle.std.proofs.lemmas.Bool.{or_parts}
+use Rattle.std.proofs.lemmas.List.Elements.{All-cons, All-nil, All-head, All-tail}
 use Rattle.osc_pattern.specs.Items.{is_slash}
 use Rattle.osc_pattern.specs.Parts.{IsLawfulPart}
 use Rattle.osc_pattern.specs.Patterns.{IsPattern, Match, begins_with_slash, parts_of, is_special, is_outside}
 use Rattle.osc_pattern.specs.Addresses.{IsAddress, is_bad_byte}
-use Rattle.osc_pattern.proofs.Cutting.{neither}
-use Rattle.osc_pattern.proofs.PatternLaws.{All-head, All-tail, HasNoSlash, parts_of-no_slash}
+use Rattle.osc_pattern.proofs.PatternLaws.{HasNoSlash, parts_of-no_slash}
 use Rattle.osc_pattern.proofs.PlainPatterns.{HasNoSpecial, plain_part, plain_parts, own_parts, same_bytes}
 
 abbrev HasNoBad : List ℕ → Type 0
@@ -31,7 +31,7 @@ slash_inside x slash = grind (arith, nat_tests)
 none_of : (p q : ℕ → Bool) → ((x : ℕ) → p x ≡ false → q x ≡ false) → (xs : List ℕ) → list_any p xs ≡ false → list_any q xs ≡ false
 none_of p q less [] none = refl
 none_of p q less (x ∷ xs) none =
-    let both = neither (p x) (list_any p xs) none in rw (less x both.0) (none_of p q less xs both.1)
+    let both = or_parts (p x) (list_any p xs) none in rw (less x both.0) (none_of p q less xs both.1)
 
 each_none : (p q : ℕ → Bool) → ((x : ℕ) → p x ≡ false → q x ≡ false) → (parts : List (List ℕ)) → All (λ part. list_any p part ≡ false) parts
     → All (λ part. list_any q part ≡ false) parts
@@ -42,9 +42,9 @@ each_none p q less (part ∷ parts) all =
 
 first_inside : (x : ℕ) (parts : List (List ℕ)) (rest : List ℕ) → (All IsInside parts → IsInside rest) → All IsInside (onto_first x parts) → IsInside (x ∷ rest)
 first_inside x [] rest more all =
-    let one = neither (is_outside x) false (All-head IsInside (x ∷ []) [] all) in rw one.0 (more (All-nil IsInside))
+    let one = or_parts (is_outside x) false (All-head IsInside (x ∷ []) [] all) in rw one.0 (more (All-nil IsInside))
 first_inside x (part ∷ parts) rest more all =
-    let both = neither (is_outside x) (list_any is_outside part) (All-head IsInside (x ∷ part) parts all) in
+    let both = or_parts (is_outside x) (list_any is_outside part) (All-head IsInside (x ∷ part) parts all) in
     rw both.0 (more (All-cons IsInside part parts both.1 (All-tail IsInside (x ∷ part) parts all)))
 
 -- a text is inside where the parts between its slashes are

@@ -1,26 +1,22 @@
 -- Texts cut at one byte.
-use Rattle.std.proofs.Common.{◌≡◌, ℕ, zero, suc, ◌+◌, ◌≤◌, Bool, true, false, cond, ◌||◌, not, nat_lt, Option, Some, None, List, [], ◌∷◌, ◌++◌, length, take}
+use Rattle.std.proofs.Common.{◌≡◌, ℕ, zero, suc, ◌+◌, ◌≤◌, Bool, true, false, cond, not, nat_lt, Option, Some, None, List, [], ◌∷◌, ◌++◌, length, take}
 use Rattle.std.proofs.Common.{drop, refl, arith, sym, ap, ◌∙◌, one-add}
 use Rattle.std.specs.Prelude.{All, option_map}
 use Rattle.std.specs.List.{list_any, position_or_len, slice_split}
 use Rattle.std.proofs.Math.ListN.{get_or, length-append}
 use Rattle.std.proofs.Math.Seq.{take-append_seam, drop-append-add}
-use Rattle.std.proofs.lemmas.Bool.{ltb-true, ltb-false}
+use Rattle.std.proofs.lemmas.Bool.{ltb-true, ltb-false, or_parts}
 use Rattle.std.proofs.lemmas.List.{take_all}
 use Rattle.std.proofs.lemmas.List.Sums.{split_at_first, passes_at_first}
 use Rattle.std.proofs.lemmas.List.Splits.{slice_split_at, slice_split_none}
 use Rattle.std.proofs.lemmas.Bool.Decides.{nat_tests}
 use Rattle.osc_pattern.specs.Reading.{cut_at}
 
-pub neither : (a b : Bool) → (a || b) ≡ false → (a ≡ false) × (b ≡ false)
-neither true b e = absurd (cc)
-neither false b e = (refl, e)
-
 -- no element passes
 pub All-none : {X : Type 0} (p : X → Bool) (xs : List X) → list_any p xs ≡ false → All (λ x. p x ≡ false) xs
 All-none p [] none k d below = absurd (omega arith)
-All-none p (x ∷ xs) none zero d below = (neither (p x) (list_any p xs) none).0
-All-none p (x ∷ xs) none (suc k) d below = All-none p xs (neither (p x) (list_any p xs) none).1 k d (omega arith)
+All-none p (x ∷ xs) none zero d below = (or_parts (p x) (list_any p xs) none).0
+All-none p (x ∷ xs) none (suc k) d below = All-none p xs (or_parts (p x) (list_any p xs) none).1 k d (omega arith)
 
 none_before : (p : ℕ → Bool) (xs : List ℕ) → list_any p (take (position_or_len p xs) xs) ≡ false
 none_before p [] = refl
@@ -51,7 +47,7 @@ cut_at-cuts p bytes = go (nat_lt (position_or_len p bytes) (length bytes)) refl 
 position_or_len-at : (p : ℕ → Bool) (xs : List ℕ) (y : ℕ) (ys : List ℕ) → list_any p xs ≡ false → p y ≡ true → position_or_len p (xs ++ y ∷ ys) ≡ length xs
 position_or_len-at p [] y ys none at = rw at refl
 position_or_len-at p (x ∷ xs) y ys none at =
-    let both = neither (p x) (list_any p xs) none in
+    let both = or_parts (p x) (list_any p xs) none in
     rw (both.0, position_or_len-at p xs y ys both.1 at) (omega arith)
 
 -- a text is cut at its first byte that passes

@@ -7,6 +7,6 @@ mod Matches
 mod Reaches
 pub mod PatternLaws
 mod AddressLaws
-mod Parts
-mod PlainPatterns
+pub mod Parts
+pub mod PlainPatterns
 mod AddressPatterns

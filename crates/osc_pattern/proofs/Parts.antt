@@ -9,7 +9,7 @@ use Rattle.osc_pattern.specs.Reading.{match_part}
 use Rattle.osc_pattern.specs.Patterns.{match_parts}
 
 -- a cut gives at least one part
-split-cons : (bytes : List ℕ) → (part : List ℕ) × (parts : List (List ℕ)) × (slice_split is_slash bytes ≡ part ∷ parts)
+pub split-cons : (bytes : List ℕ) → (part : List ℕ) × (parts : List (List ℕ)) × (slice_split is_slash bytes ≡ part ∷ parts)
 split-cons [] = ([], [], refl)
 split-cons (x ∷ xs) = go (is_slash x) (split-cons xs) where
   go : (t : Bool) → (part : List ℕ) × (parts : List (List ℕ)) × (slice_split is_slash xs ≡ part ∷ parts)

@@ -1,31 +1,25 @@
 -- Patterns are lawful exactly where they have no fault, and a fault is the first.
-use Rattle.std.proofs.Common.{◌≡◌, inl, inr, ℕ, suc, ◌+◌, ◌≤◌, Bool, true, false, cond, ◌&&◌, nat_lt, Option, Some, None, Result, Ok, Err, List, [], ◌∷◌, ◌++◌}
+use Rattle.std.proofs.Common.{◌≡◌, inl, inr, ℕ, ◌+◌, ◌≤◌, Bool, true, false, cond, nat_lt, Option, Some, None, Result, Ok, Err, List, [], ◌∷◌, ◌++◌}
 use Rattle.std.proofs.Common.{length, refl, arith, sym, ap, subst, ◌∙◌}
 use Rattle.std.proofs.lemmas.List.Splits.{length-slice_split}
 use Rattle.std.specs.Prelude.{All, ◌↔◌, count_by, IsTrue, option_map, position, is_none, if◌then◌else◌}
 use Rattle.std.specs.List.{list_any, list_all, flat_map, slice_split, onto_first, position_or_len}
 use Rattle.std.proofs.Math.ListN.{length-append}
 use Rattle.std.proofs.lemmas.List.{append_assoc}
-use Rattle.std.proofs.lemmas.List.Elements.{All-cons, All-nil}
+use Rattle.std.proofs.lemmas.List.Elements.{All-cons, All-nil, All-head, All-tail}
 use Rattle.std.proofs.lemmas.List.Folds.{list_any-append, list_any_at}
 use Rattle.std.proofs.lemmas.List.Sums.{passes_at_first, sum_by-cons}
-use Rattle.std.proofs.lemmas.Bool.{ltb-true, ltb-false}
+use Rattle.std.proofs.lemmas.Bool.{ltb-true, ltb-false, and_parts, or_parts}
 use Rattle.osc_pattern.specs.Items.{Item, set, choice, item_text, is_item, is_slash, is_list_end, is_choice_end}
 use Rattle.osc_pattern.specs.Parts.{IsLawfulPart, MatchesName}
 use Rattle.osc_pattern.specs.Reading.{cut_at, first_item, read_part, match_part, match_read, with_first}
 use Rattle.osc_pattern.specs.Patterns.{IsPattern, IsUnclosed, IsOpenAt, IsFault, start, byte, unclosed, begins_with_slash, parts_of, is_outside, open_in}
 use Rattle.osc_pattern.specs.Patterns.{open_place, fault_after, pattern_fault, is_pattern, MatchParts, match_parts, Match, matches}
 use Rattle.osc_pattern.specs.declared.faults.PatternFault.{PatternFault}
-use Rattle.osc_pattern.proofs.Cutting.{CutAt, cut_at-cuts, neither, none_past}
+use Rattle.osc_pattern.proofs.Cutting.{CutAt, cut_at-cuts, none_past}
 use Rattle.osc_pattern.proofs.Readings.{FirstItem, IsStuck, first_item-found, first_item-written, read_part-item, read_part-stuck, IsPart-read, IsRead}
 use Rattle.osc_pattern.proofs.Readings.{read_part-read}
 use Rattle.osc_pattern.proofs.Cuts.{match_items-sound, match_items-complete}
-
-pub All-head : (P : List ℕ → Type 0) (x : List ℕ) (xs : List (List ℕ)) → All P (x ∷ xs) → P x
-All-head P x xs all = all 0 [] (omega arith)
-
-pub All-tail : (P : List ℕ → Type 0) (x : List ℕ) (xs : List (List ℕ)) → All P (x ∷ xs) → All P xs
-All-tail P x xs all k d below = all (suc k) d (omega arith)
 
 map-None : (f : ℕ → ℕ) (o : Option ℕ) → option_map f o ≡ None → o ≡ None
 map-None f None e = refl
@@ -97,8 +91,8 @@ open_place-some (part ∷ parts) at clean e =
       opened items (first ∷ rest) spelled lawful none long (inr slash) place =
           let clear = sym (list_any-append is_slash (flat_map item_text items) (first ∷ rest)) ∙ ap (list_any is_slash) (sym spelled)
           ∙ All-head HasNoSlash part parts clean in
-          let none = (neither (is_slash first) (list_any is_slash rest)
-          (neither (list_any is_slash (flat_map item_text items)) (list_any is_slash (first ∷ rest)) clear).1).0 in
+          let none = (or_parts (is_slash first) (list_any is_slash rest)
+          (or_parts (list_any is_slash (flat_map item_text items)) (list_any is_slash (first ∷ rest)) clear).1).0 in
           absurd (cc)
 
       go : (r : Result (List Item) ℕ) → IsRead part r → open_in r (length part) (open_place parts) ≡ Some at
@@ -136,15 +130,11 @@ first_item-unclosed first rest (inr (e, none)) = rw e (go (cut_at is_choice_end 
   go (Some cut) (b, spelled, at, before) =
       let has = ap (list_any is_choice_end) spelled ∙ list_any-append is_choice_end cut.0 (b ∷ cut.1) in absurd (cc)
 
-both_true : (a b : Bool) → (a && b) ≡ true → (a ≡ true) × (b ≡ true)
-both_true true b e = (refl, e)
-both_true false b e = absurd (cc)
-
 read_part-open : (items : List Item) (first : ℕ) (rest : List ℕ) → list_all is_item items ≡ true → IsUnclosed first rest
     → read_part (flat_map item_text items ++ first ∷ rest) ≡ Err (length (flat_map item_text items))
 read_part-open [] first rest lawful unshut = read_part-stuck first rest (first_item-unclosed first rest unshut)
 read_part-open (item ∷ items) first rest lawful unshut =
-    let both = both_true (is_item item) (list_all is_item items) lawful in
+    let both = and_parts (is_item item) (list_all is_item items) lawful in
     let more = read_part-open items first rest both.1 unshut in
     let left = flat_map item_text items ++ first ∷ rest in
     ap read_part (append_assoc (item_text item) (flat_map item_text items) (first ∷ rest))
@@ -227,7 +217,7 @@ match_parts-sound [] [] h = tt
 match_parts-sound [] (name ∷ names) h = absurd (cc)
 match_parts-sound (part ∷ parts) [] h = absurd (cc)
 match_parts-sound (part ∷ parts) (name ∷ names) h =
-    let both = both_true (match_part part name) (match_parts parts names) h in
+    let both = and_parts (match_part part name) (match_parts parts names) h in
     (match_part-sound part name both.0, match_parts-sound parts names both.1)
 
 match_parts-complete : (parts names : List (List ℕ)) → MatchParts parts names → match_parts parts names ≡ true

@@ -3,15 +3,15 @@ use Rattle.std.proofs.Common.{◌≡◌, ℕ, Bool, true, false, cond, ◌||◌,
 use Rattle.std.specs.Prelude.{◌↔◌, All}
 use Rattle.std.specs.List.{list_any, list_all, flat_map, slice_split, onto_first, join_with_byte}
 use Rattle.std.proofs.lemmas.Bool.Decides.{nat_tests}
-use Rattle.std.proofs.lemmas.List.Elements.{All-cons, All-nil}
+use Rattle.std.proofs.lemmas.Bool.{or_parts}
+use Rattle.std.proofs.lemmas.List.Elements.{All-cons, All-nil, All-head, All-tail}
 use Rattle.std.proofs.lemmas.List.Splits.{join_with_byte-slice_split}
 use Rattle.osc_pattern.specs.Items.{plain, item_text, is_item, is_plain, is_slash}
 use Rattle.osc_pattern.specs.Parts.{IsPart, MatchesName, MatchPart}
 use Rattle.osc_pattern.specs.Patterns.{IsPattern, Match, MatchParts, begins_with_slash, parts_of, is_special}
 use Rattle.osc_pattern.specs.Addresses.{IsAddress}
-use Rattle.osc_pattern.proofs.Cutting.{neither}
 use Rattle.osc_pattern.proofs.Readings.{one_reading}
-use Rattle.osc_pattern.proofs.PatternLaws.{All-head, All-tail, HasNoSlash, parts_of-no_slash}
+use Rattle.osc_pattern.proofs.PatternLaws.{HasNoSlash, parts_of-no_slash}
 
 abbrev pub HasNoSpecial : List ℕ → Type 0
 HasNoSpecial part = list_any is_special part ≡ false
@@ -28,8 +28,8 @@ plain_spelled (x ∷ xs) = ap (λ t. x ∷ t) (plain_spelled xs)
 plain_lawful : (part : List ℕ) → HasNoSpecial part → HasNoSlash part → list_all is_item (map plain part) ≡ true
 plain_lawful [] special slash = refl
 plain_lawful (x ∷ xs) special slash =
-    let s = neither (is_special x) (list_any is_special xs) special in
-    let t = neither (is_slash x) (list_any is_slash xs) slash in
+    let s = or_parts (is_special x) (list_any is_special xs) special in
+    let t = or_parts (is_slash x) (list_any is_slash xs) slash in
     rw (plain_byte x s.0 t.0) (plain_lawful xs s.1 t.1)
 
 pub plain_part : (part : List ℕ) → HasNoSpecial part → HasNoSlash part → IsPart part (map plain part)
@@ -77,7 +77,7 @@ onto_no_special x (part ∷ parts) other all =
 split_no_special : (bytes : List ℕ) → HasNoSpecial bytes → All HasNoSpecial (slice_split is_slash bytes)
 split_no_special [] none = All-cons HasNoSpecial [] [] refl (All-nil HasNoSpecial)
 split_no_special (x ∷ xs) none =
-    let both = neither (is_special x) (list_any is_special xs) none in go (is_slash x) both.0 (split_no_special xs both.1) where
+    let both = or_parts (is_special x) (list_any is_special xs) none in go (is_slash x) both.0 (split_no_special xs both.1) where
       go : (t : Bool) → is_special x ≡ false → All HasNoSpecial (slice_split is_slash xs)
           → All HasNoSpecial (cond t ([] ∷ slice_split is_slash xs) (onto_first x (slice_split is_slash xs)))
       go true other all = All-cons HasNoSpecial [] (slice_split is_slash xs) refl all
@@ -85,7 +85,7 @@ split_no_special (x ∷ xs) none =
 
 parts_of-no_special : (bytes : List ℕ) → HasNoSpecial bytes → All HasNoSpecial (parts_of bytes)
 parts_of-no_special [] none = All-nil HasNoSpecial
-parts_of-no_special (x ∷ xs) none = split_no_special xs (neither (is_special x) (list_any is_special xs) none).1
+parts_of-no_special (x ∷ xs) none = split_no_special xs (or_parts (is_special x) (list_any is_special xs) none).1
 
 pub same_bytes : (first second : List ℕ) → begins_with_slash first ≡ true → begins_with_slash second ≡ true → parts_of first ≡ parts_of second → first ≡ second
 same_bytes [] second a b e = absurd (cc)

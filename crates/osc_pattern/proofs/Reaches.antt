@@ -1,5 +1,5 @@
 -- What is left of a name at the places that a pattern's items reach.
-use Rattle.std.proofs.Common.{◌≡◌, ℕ, zero, suc, ◌+◌, ◌*◌, ◌-◌, ◌^◌, ◌%◌, ◌<◌, ◌≤◌, Bool, true, false, ◌||◌, ◌&&◌, ◌==◌, Some, None, List, [], ◌∷◌, ◌++◌}
+use Rattle.std.proofs.Common.{◌≡◌, ℕ, ◌+◌, ◌*◌, ◌-◌, ◌^◌, ◌%◌, ◌<◌, ◌≤◌, Bool, true, false, ◌||◌, ◌&&◌, ◌==◌, Some, None, List, [], ◌∷◌, ◌++◌}
 use Rattle.std.proofs.Common.{length, take, drop, refl, arith, sym, ap, subst, ◌∙◌, w64}
 use Rattle.std.specs.Int.{bit_at}
 use Rattle.std.specs.Int.RustNames.{bit_or}
@@ -11,7 +11,7 @@ use Rattle.std.proofs.lemmas.List.Folds.{list_any-append}
 use native.Mathlib.Nat.{add-mul, mul-add}
 use Rattle.std.proofs.lemmas.Nat.Bits.{bit_at_set_same, bit_at_set_other}
 use Rattle.std.proofs.lemmas.Bool.Decides.{nat_tests}
-use Rattle.osc_pattern.specs.Items.{Item, any, star, set, choice, plain, item_text}
+use Rattle.osc_pattern.specs.Items.{Item, star, item_text}
 use Rattle.osc_pattern.specs.Cuts.{rests, has_byte, after_byte, after_text, after_item, any_rest}
 use Rattle.osc_pattern.specs.Reading.{first_item, match_part}
 use Rattle.osc_pattern.proofs.Readings.{FirstItem, first_item-found}
@@ -181,13 +181,6 @@ pub other_byte : (item : Item) (test : List ℕ → Bool) (done here : Bool) (by
 other_byte item test true here byte after e = refl
 other_byte item test false true byte after e = rw e refl
 other_byte item test false false byte after e = refl
-
-pub item_text-some : (item : Item) → 1 ≤ length (item_text item)
-item_text-some any = omega arith
-item_text-some star = omega arith
-item_text-some (set list) = omega arith
-item_text-some (choice texts) = omega arith
-item_text-some (plain byte) = omega arith
 
 pub next_row : (place size : ℕ) → (place + 1) * size ≡ place * size + size
 next_row place size = omega (arith, add-mul place 1 size)

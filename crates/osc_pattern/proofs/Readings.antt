@@ -5,7 +5,7 @@ use Rattle.std.specs.Prelude.{◌↔◌, option_map, if◌then◌else◌, IsTrue
 use Rattle.std.specs.List.{list_all, flat_map}
 use Rattle.std.proofs.Math.ListN.{length-append}
 use Rattle.std.proofs.lemmas.List.{append_assoc}
-use Rattle.std.proofs.lemmas.Bool.Decides.{nat_tests}
+use Rattle.std.proofs.lemmas.Bool.{eqb-true, not-true}
 use Rattle.osc_pattern.specs.Items.{Item, any, star, set, choice, plain, item_text, is_item, is_slash, is_list_end, is_choice_end}
 use Rattle.osc_pattern.specs.Parts.{IsPart}
 use Rattle.osc_pattern.specs.Patterns.{IsUnclosed}
@@ -22,22 +22,19 @@ abbrev pub FirstItem : List ℕ → Option (Item × List ℕ) → Type 0
 FirstItem part None = IsStuck part
 FirstItem part (Some found) = (part ≡ item_text found.0 ++ found.1) × (is_item found.0 ≡ true)
 
-by_eq : (a b : ℕ) → (a == b) ≡ true → a ≡ b
-by_eq a b e = grind (arith, nat_tests)
-
 pub first_item-found : (part : List ℕ) → FirstItem part (first_item part)
 first_item-found [] = tt
 first_item-found (x ∷ xs) = by_any (x == 63) refl where
   by_set : (o : Option (List ℕ × List ℕ)) → CutAt is_list_end xs o → x ≡ 91 → FirstItem (x ∷ xs) (option_map (λ cut. (set cut.0, cut.1)) o)
   by_set None none e = inl (inl (e, none))
   by_set (Some (list, rest)) (byte, spelled, at, none) e =
-      let b : byte ≡ 93 = by_eq byte 93 at in
+      let b : byte ≡ 93 = eqb-true byte 93 at in
       (rw (e, spelled, b) (ap (λ t. 91 ∷ t) (sym (append_assoc list (93 ∷ []) rest))), ap not none)
 
   by_choice : (o : Option (List ℕ × List ℕ)) → CutAt is_choice_end xs o → x ≡ 123 → FirstItem (x ∷ xs) (option_map (λ cut. (choice cut.0, cut.1)) o)
   by_choice None none e = inl (inr (e, none))
   by_choice (Some (texts, rest)) (byte, spelled, at, none) e =
-      let b : byte ≡ 125 = by_eq byte 125 at in
+      let b : byte ≡ 125 = eqb-true byte 125 at in
       (rw (e, spelled, b) (ap (λ t. 123 ∷ t) (sym (append_assoc texts (125 ∷ []) rest))), ap not none)
 
   by_slash : (t : Bool) → is_slash x ≡ t → (x == 63) ≡ false → (x == 42) ≡ false → (x == 91) ≡ false → (x == 123) ≡ false
@@ -48,13 +45,13 @@ first_item-found (x ∷ xs) = by_any (x == 63) refl where
   by_brace : (t : Bool) → (x == 123) ≡ t → (x == 63) ≡ false → (x == 42) ≡ false → (x == 91) ≡ false
       → FirstItem (x ∷ xs) (if t then option_map (λ cut. (choice cut.0, cut.1)) (cut_at is_choice_end xs)
       else (if is_slash x then None else Some (plain x, xs)))
-  by_brace true d a b c = by_choice (cut_at is_choice_end xs) (cut_at-cuts is_choice_end xs) (by_eq x 123 d)
+  by_brace true d a b c = by_choice (cut_at is_choice_end xs) (cut_at-cuts is_choice_end xs) (eqb-true x 123 d)
   by_brace false d a b c = by_slash (is_slash x) refl a b c d
 
   by_bracket : (t : Bool) → (x == 91) ≡ t → (x == 63) ≡ false → (x == 42) ≡ false
       → FirstItem (x ∷ xs) (if t then option_map (λ cut. (set cut.0, cut.1)) (cut_at is_list_end xs)
       else (if x == 123 then option_map (λ cut. (choice cut.0, cut.1)) (cut_at is_choice_end xs) else (if is_slash x then None else Some (plain x, xs))))
-  by_bracket true c a b = by_set (cut_at is_list_end xs) (cut_at-cuts is_list_end xs) (by_eq x 91 c)
+  by_bracket true c a b = by_set (cut_at is_list_end xs) (cut_at-cuts is_list_end xs) (eqb-true x 91 c)
   by_bracket false c a b = by_brace (x == 123) refl a b c
 
   by_star : (t : Bool) → (x == 42) ≡ t → (x == 63) ≡ false
@@ -62,7 +59,7 @@ first_item-found (x ∷ xs) = by_any (x == 63) refl where
       (if t then Some (star, xs)
       else (if x == 91 then option_map (λ cut. (set cut.0, cut.1)) (cut_at is_list_end xs)
       else (if x == 123 then option_map (λ cut. (choice cut.0, cut.1)) (cut_at is_choice_end xs) else (if is_slash x then None else Some (plain x, xs)))))
-  by_star true b a = (ap (λ y. y ∷ xs) (by_eq x 42 b), refl)
+  by_star true b a = (ap (λ y. y ∷ xs) (eqb-true x 42 b), refl)
   by_star false b a = by_bracket (x == 91) refl a b
 
   by_any : (t : Bool) → (x == 63) ≡ t
@@ -71,12 +68,8 @@ first_item-found (x ∷ xs) = by_any (x == 63) refl where
       else (if x == 42 then Some (star, xs)
       else (if x == 91 then option_map (λ cut. (set cut.0, cut.1)) (cut_at is_list_end xs)
       else (if x == 123 then option_map (λ cut. (choice cut.0, cut.1)) (cut_at is_choice_end xs) else (if is_slash x then None else Some (plain x, xs))))))
-  by_any true a = (ap (λ y. y ∷ xs) (by_eq x 63 a), refl)
+  by_any true a = (ap (λ y. y ∷ xs) (eqb-true x 63 a), refl)
   by_any false a = by_star (x == 42) refl a
-
-untrue : (t : Bool) → not t ≡ true → t ≡ false
-untrue true e = absurd (cc)
-untrue false e = refl
 
 none_of : (a b c d e : Bool) → not (a || b || c || d || e) ≡ true → (a ≡ false) × (b ≡ false) × (c ≡ false) × (d ≡ false) × (e ≡ false)
 none_of true b c d e h = absurd (cc)
@@ -91,9 +84,9 @@ pub first_item-written : (item : Item) (rest : List ℕ) → is_item item ≡ tr
 first_item-written any rest lawful = refl
 first_item-written star rest lawful = refl
 first_item-written (set list) rest lawful =
-    rw (append_assoc list (93 ∷ []) rest) (ap (option_map (λ cut. (set cut.0, cut.1))) (cut_at-first is_list_end list 93 rest (untrue _ lawful) refl))
+    rw (append_assoc list (93 ∷ []) rest) (ap (option_map (λ cut. (set cut.0, cut.1))) (cut_at-first is_list_end list 93 rest (not-true _ lawful) refl))
 first_item-written (choice texts) rest lawful =
-    rw (append_assoc texts (125 ∷ []) rest) (ap (option_map (λ cut. (choice cut.0, cut.1))) (cut_at-first is_choice_end texts 125 rest (untrue _ lawful) refl))
+    rw (append_assoc texts (125 ∷ []) rest) (ap (option_map (λ cut. (choice cut.0, cut.1))) (cut_at-first is_choice_end texts 125 rest (not-true _ lawful) refl))
 first_item-written (plain byte) rest lawful =
     let none = none_of (byte == 63) (byte == 42) (byte == 91) (byte == 123) (is_slash byte) lawful in
     rw (none.0, none.1, none.2, none.3, none.4) refl

@@ -7,6 +7,7 @@ use Rattle.std.specs.Int.{w32, to_be_bytes, from_be_bytes}
 use Rattle.std.proofs.lemmas.Nat.{from_be_bytes-to_be_bytes_4}
 use Rattle.std.proofs.lemmas.Bool.{cond-true}
 use Rattle.std.proofs.lemmas.List.{length-drop, length-take-le, take-append-le, drop-append-le}
+use Rattle.std.proofs.lemmas.Option.{same_Some, none-some}
 use Rattle.osc_message.specs.Messages.{known}
 use Rattle.osc_message.proofs.MessageLaws.{text_fours, text_some}
 use Rattle.osc_model.specs.Events.{Event, Answer}
@@ -74,12 +75,6 @@ entry_first_again caller event answer rest limit place is fits small =
           ∙ ap (option_map (λ entry. (entry, 4 + length message))) read
           ∙ ap (λ (n : ℕ). Some (record { caller = caller; event = event; answer = answer }, n)) (sized_length message)
 
-some_is : {X : Type 0} (x y : X) → ◌≡◌ {A = Option X} (Some x) (Some y) → x ≡ y
-some_is x y e = cc
-
-none_some : {X : Type 0} (x : X) → ◌≡◌ {A = Option X} None (Some x) → ⊥
-none_some x e = cc
-
 -- the message that bytes begin with is that of more bytes
 pub message_more : (bytes next message : List ℕ) → message_first bytes ≡ Some message
     → (message_first (bytes ++ next) ≡ Some message) × (4 + length message ≤ length bytes)
@@ -90,7 +85,7 @@ message_more bytes next message is =
     let tests = each_of_three (nat_lt 0 size) (size % 4 == 0) (nat_le size (length (drop 4 bytes))) inner.0 in
     let four : 4 ≤ length bytes = leb-true 4 (length bytes) outer.0 in
     let within : size ≤ length (drop 4 bytes) = leb-true size (length (drop 4 bytes)) tests.2 in
-    let same : take size (drop 4 bytes) ≡ message = some_is _ _ inner.1 in
+    let same : take size (drop 4 bytes) ≡ message = same_Some _ _ inner.1 in
     let front : take 4 (bytes ++ next) ≡ take 4 bytes = take-append-le 4 bytes next four in
     let back : drop 4 (bytes ++ next) ≡ drop 4 bytes ++ next = drop-append-le 4 bytes next four in
     let longer : size ≤ length (drop 4 bytes ++ next) = omega (arith, length-append (drop 4 bytes) next) in
@@ -112,7 +107,7 @@ first_more limit place bytes next first is = go (message_first bytes) refl is wh
   go : (o : Option (List ℕ)) → message_first bytes ≡ o
       → option_and_then (λ m. if nat_le (place + 4 + length m) limit then option_map (λ entry. (entry, 4 + length m)) (entry_of m) else None) o ≡ Some first
       → (entry_first limit place (bytes ++ next) ≡ Some first) × (first.1 ≤ length bytes) × (4 ≤ first.1)
-  go None found read = absurd (none_some first read)
+  go None found read = absurd (none-some first read)
   go (Some message) found read =
       let more = message_more bytes next message found in
       let inner = cond_gives (nat_le (place + 4 + length message) limit) (option_map (λ entry. (entry, 4 + length message)) (entry_of message)) first read in
@@ -124,14 +119,14 @@ first_more limit place bytes next first is = go (message_first bytes) refl is wh
       )
     where
       sized_by : (o : Option Recorded) → option_map (λ entry. (entry, 4 + length message)) o ≡ Some first → 4 + length message ≡ first.1
-      sized_by None e = absurd (none_some first e)
-      sized_by (Some entry) e = ap (λ (p : Recorded × ℕ). p.1) (some_is (entry, 4 + length message) first e)
+      sized_by None e = absurd (none-some first e)
+      sized_by (Some entry) e = ap (λ (p : Recorded × ℕ). p.1) (same_Some (entry, 4 + length message) first e)
 
 read_none : (most limit place : ℕ) → entries_read most limit place [] ≡ Ok []
 read_none zero limit place = refl
 read_none (suc most) limit place = refl
 
-ok_is : {X : Type 0} (x y : X) → ◌≡◌ {A = Result X ℕ} (Ok x) (Ok y) → x ≡ y
+pub ok_is : {X : Type 0} (x y : X) → ◌≡◌ {A = Result X ℕ} (Ok x) (Ok y) → x ≡ y
 ok_is x y e = cc
 
 -- an entry alone is read
@@ -193,14 +188,14 @@ first_in limit place bytes first is = go (message_first bytes) refl is where
   go : (o : Option (List ℕ)) → message_first bytes ≡ o
       → option_and_then (λ m. if nat_le (place + 4 + length m) limit then option_map (λ entry. (entry, 4 + length m)) (entry_of m) else None) o ≡ Some first
       → entry_in bytes ≡ Some first.0
-  go None found read = absurd (none_some first read)
+  go None found read = absurd (none-some first read)
   go (Some message) found read =
       let inner = cond_gives (nat_le (place + 4 + length message) limit) (option_map (λ entry. (entry, 4 + length message)) (entry_of message)) first read in
       ap (option_and_then entry_of) found ∙ by (entry_of message) inner.1
     where
       by : (o : Option Recorded) → option_map (λ entry. (entry, 4 + length message)) o ≡ Some first → o ≡ Some first.0
-      by None e = absurd (none_some first e)
-      by (Some entry) e = ap (λ (p : Recorded × ℕ). Some p.0) (some_is (entry, 4 + length message) first e)
+      by None e = absurd (none-some first e)
+      by (Some entry) e = ap (λ (p : Recorded × ℕ). Some p.0) (same_Some (entry, 4 + length message) first e)
 
 pub entry_in_again : (caller : ℕ) (event : Event) (answer : Answer) (rest : List ℕ) → IsRecordable caller event answer
     → length (entry_text caller event answer) ≤ 1073741824

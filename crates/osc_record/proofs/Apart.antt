@@ -3,6 +3,7 @@ use Rattle.std.proofs.Common.{◌≡◌, ℕ, ◌+◌, true, List, [], ◌∷◌
 use Rattle.std.specs.Option.{option_map_or}
 use Rattle.std.specs.List.{flat_map}
 use Rattle.std.proofs.lemmas.List.{append_cancel_left, append-nil}
+use Rattle.std.proofs.lemmas.Option.{same_Some}
 use Rattle.osc_atoms.specs.Atoms.{string, has_no_zero}
 use Rattle.osc_atoms.specs.Reading.{string_read}
 use Rattle.osc_atoms.specs.declared.fault.Fault.{Fault}
@@ -107,11 +108,8 @@ text_again entry is =
       go (Some row) fits lawful read =
           (λ i. row_read (pattern_again (known row.address row.arguments) lawful i) (known_arguments_again row.address row.arguments lawful i)) ∙ read
 
-value_is : (one other : Recorded) → ◌≡◌ {A = Option Recorded} (Some one) (Some other) → one ≡ other
-value_is one other e = cc
-
 pub one_text : (one other : Recorded) → CanBeRecorded one → CanBeRecorded other → text_of one ≡ text_of other → one ≡ other
-one_text one other is is_other same = value_is one other (sym (text_again one is) ∙ ap behind_size same ∙ text_again other is_other)
+one_text one other is is_other same = same_Some one other (sym (text_again one is) ∙ ap behind_size same ∙ text_again other is_other)
 
 -- so is the text of an entry that another's begins with
 pub no_more : (one other : Recorded) (rest : List ℕ) → CanBeRecorded one → CanBeRecorded other → text_of one ≡ text_of other ++ rest → rest ≡ []

@@ -1,16 +1,14 @@
 -- The arguments that are read were there.
 use Rattle.std.proofs.Common.{◌≡◌, ℕ, ℤ, pos, negsuc, List, [], ◌∷◌, Option, Some, refl, ap}
+use Rattle.std.proofs.lemmas.Option.{same_Some}
 use Rattle.osc_message.specs.Messages.{Argument, integer, float, text, content, long, time, double, symbol, character, rgba, midi, true_, false_, nil}
 use Rattle.osc_message.specs.Messages.{infinitum, array_start, array_end}
 use Rattle.osc_model.specs.Recordings.{int}
 use Rattle.osc_record.specs.Reading.{int_first, signed_first, long_first, time_first, text_first, content_first, at_end}
 
-pub some_is : {X : Type 0} (x y : X) → ◌≡◌ {A = Option X} (Some x) (Some y) → x ≡ y
-some_is x y e = cc
-
 pub int_was : (arguments : List Argument) (first : ℕ × List Argument) → int_first arguments ≡ Some first → arguments ≡ int first.0 ∷ first.1
 int_was [] first is = absurd (cc)
-int_was (integer (pos n) ∷ rest) first is = ap (λ (p : ℕ × List Argument). int p.0 ∷ p.1) (some_is (n, rest) first is)
+int_was (integer (pos n) ∷ rest) first is = ap (λ (p : ℕ × List Argument). int p.0 ∷ p.1) (same_Some (n, rest) first is)
 int_was (integer (negsuc n) ∷ rest) first is = absurd (cc)
 int_was ((float z) ∷ rest) first is = absurd (cc)
 int_was ((text z) ∷ rest) first is = absurd (cc)
@@ -31,7 +29,7 @@ int_was (array_end ∷ rest) first is = absurd (cc)
 
 pub signed_was : (arguments : List Argument) (first : ℤ × List Argument) → signed_first arguments ≡ Some first → arguments ≡ integer first.0 ∷ first.1
 signed_was [] first is = absurd (cc)
-signed_was (integer z ∷ rest) first is = ap (λ (p : ℤ × List Argument). integer p.0 ∷ p.1) (some_is (z, rest) first is)
+signed_was (integer z ∷ rest) first is = ap (λ (p : ℤ × List Argument). integer p.0 ∷ p.1) (same_Some (z, rest) first is)
 signed_was ((float z) ∷ rest) first is = absurd (cc)
 signed_was ((text z) ∷ rest) first is = absurd (cc)
 signed_was ((content z) ∷ rest) first is = absurd (cc)
@@ -55,7 +53,7 @@ long_was ((integer z) ∷ rest) first is = absurd (cc)
 long_was ((float z) ∷ rest) first is = absurd (cc)
 long_was ((text z) ∷ rest) first is = absurd (cc)
 long_was ((content z) ∷ rest) first is = absurd (cc)
-long_was (long (pos n) ∷ rest) first is = ap (λ (p : ℕ × List Argument). long (pos p.0) ∷ p.1) (some_is (n, rest) first is)
+long_was (long (pos n) ∷ rest) first is = ap (λ (p : ℕ × List Argument). long (pos p.0) ∷ p.1) (same_Some (n, rest) first is)
 long_was (long (negsuc n) ∷ rest) first is = absurd (cc)
 long_was ((time z) ∷ rest) first is = absurd (cc)
 long_was ((double z) ∷ rest) first is = absurd (cc)
@@ -77,7 +75,7 @@ time_was ((float z) ∷ rest) first is = absurd (cc)
 time_was ((text z) ∷ rest) first is = absurd (cc)
 time_was ((content z) ∷ rest) first is = absurd (cc)
 time_was ((long z) ∷ rest) first is = absurd (cc)
-time_was (time z ∷ rest) first is = ap (λ (p : ℕ × List Argument). time p.0 ∷ p.1) (some_is (z, rest) first is)
+time_was (time z ∷ rest) first is = ap (λ (p : ℕ × List Argument). time p.0 ∷ p.1) (same_Some (z, rest) first is)
 time_was ((double z) ∷ rest) first is = absurd (cc)
 time_was ((symbol z) ∷ rest) first is = absurd (cc)
 time_was ((character z) ∷ rest) first is = absurd (cc)
@@ -94,7 +92,7 @@ pub text_was : (arguments : List Argument) (first : List ℕ × List Argument) �
 text_was [] first is = absurd (cc)
 text_was ((integer z) ∷ rest) first is = absurd (cc)
 text_was ((float z) ∷ rest) first is = absurd (cc)
-text_was (text z ∷ rest) first is = ap (λ (p : List ℕ × List Argument). text p.0 ∷ p.1) (some_is (z, rest) first is)
+text_was (text z ∷ rest) first is = ap (λ (p : List ℕ × List Argument). text p.0 ∷ p.1) (same_Some (z, rest) first is)
 text_was ((content z) ∷ rest) first is = absurd (cc)
 text_was ((long z) ∷ rest) first is = absurd (cc)
 text_was ((time z) ∷ rest) first is = absurd (cc)
@@ -115,7 +113,7 @@ content_was [] first is = absurd (cc)
 content_was ((integer z) ∷ rest) first is = absurd (cc)
 content_was ((float z) ∷ rest) first is = absurd (cc)
 content_was ((text z) ∷ rest) first is = absurd (cc)
-content_was (content z ∷ rest) first is = ap (λ (p : List ℕ × List Argument). content p.0 ∷ p.1) (some_is (z, rest) first is)
+content_was (content z ∷ rest) first is = ap (λ (p : List ℕ × List Argument). content p.0 ∷ p.1) (same_Some (z, rest) first is)
 content_was ((long z) ∷ rest) first is = absurd (cc)
 content_was ((time z) ∷ rest) first is = absurd (cc)
 content_was ((double z) ∷ rest) first is = absurd (cc)

@@ -8,6 +8,7 @@ use Rattle.osc_model.specs.Recordings.{entry_text, record_text}
 use Rattle.osc_record.specs.Reading.{Placed, entries_at, entries_after, outcome, placed_in, header_read, with_entries, record_read, placed_from, IsRecord}
 use Rattle.osc_record.proofs.Walks.{after_is}
 use Rattle.osc_record.proofs.Readings.{header_again, record_again}
+use Rattle.osc_record.proofs.Again.{ok_is}
 
 ok_entries : (limits : Limits) (r : Result (List Placed) ℕ) → Ok tt ≡ outcome r → is_ok r ≡ true
 ok_entries limits (Ok entries) is = refl
@@ -50,9 +51,6 @@ record_err bytes limits at header is = go (entries_after limits bytes) refl (is 
   go (Err place) e o = read_at bytes limits header (Err place) e ∙ same place at o where
     same : (a b : ℕ) → ◌≡◌ {A = Result ⊤ ℕ} (Err b) (Err a) → ◌≡◌ {A = Result (Limits × List Placed) ℕ} (Err a) (Err b)
     same a b e = cc
-
-ok_is : (x y : Limits × List Placed) → ◌≡◌ {A = Result (Limits × List Placed) ℕ} (Ok x) (Ok y) → x ≡ y
-ok_is x y e = cc
 
 -- a recording is read as itself
 pub complete_ok : (bytes : List ℕ) (caps : Limits) (placed : List Placed) → record_read bytes ≡ Ok (caps, placed) → (limits : Limits) (entries : List Recorded)

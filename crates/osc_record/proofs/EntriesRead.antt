@@ -9,7 +9,10 @@ use Rattle.std.specs.Option.{option_map_or}
 use Rattle.std.specs.Str.{bytes_eq}
 use Rattle.std.proofs.lemmas.Nat.{be_bytes_4}
 use Rattle.std.proofs.lemmas.List.{length-take-le, drop-drop}
+use Rattle.std.proofs.lemmas.Bool.{and_parts}
+use Rattle.std.proofs.lemmas.Option.{same_Some, none-some}
 use Rattle.osc_atoms.specs.Atoms.{AreBytes, string}
+use Rattle.osc_atoms.proofs.Bytes.{front_bytes, rest_bytes}
 use Rattle.osc_message.specs.Messages.{tag_of, atom_of, tag_string}
 use Rattle.osc_message.specs.Reading.{is_message, pattern_of}
 use Rattle.osc_message.specs.Arguments.{message_arguments}
@@ -18,20 +21,19 @@ use Rattle.osc_model.specs.Events.{Entry as Recorded}
 use Rattle.osc_model.specs.Recordings.{Row, row_text, sized, entry_text, header_text, record_text, FitsRow, IsRecordable}
 use Rattle.osc_record.specs.Reading.{row_read, entry_of, bytes_of_size, message_first, entry_first, Placed, onto_read, before_read, entries_read, entries_after}
 use Rattle.osc_record.specs.Reading.{header_of, header_read, placed_in, IsRecord}
-use Rattle.osc_record.proofs.Again.{cond_gives, each_of_three, first_more}
-use Rattle.osc_record.proofs.ArgumentsRead.{some_is}
-use Rattle.osc_record.proofs.Spelled.{Spelled, spelled, front_bytes, rest_bytes, message_bytes, header_was, none_some, both_true}
+use Rattle.osc_record.proofs.Again.{cond_gives, each_of_three, first_more, ok_is}
+use Rattle.osc_record.proofs.Spelled.{Spelled, spelled, message_bytes, header_was}
 use Rattle.osc_record.proofs.RowsRead.{row_was, back_bytes, mapped}
 
 no_row : (b1 b2 b3 b4 b5 b6 : Bool) (e : Recorded)
     → cond {A = Option Recorded} b1 None (cond b2 None (cond b3 None (cond b4 None (cond b5 None (cond b6 None None))))) ≡ Some e → ⊥
-no_row true b2 b3 b4 b5 b6 e is = none_some e is
-no_row false true b3 b4 b5 b6 e is = none_some e is
-no_row false false true b4 b5 b6 e is = none_some e is
-no_row false false false true b5 b6 e is = none_some e is
-no_row false false false false true b6 e is = none_some e is
-no_row false false false false false true e is = none_some e is
-no_row false false false false false false e is = none_some e is
+no_row true b2 b3 b4 b5 b6 e is = none-some e is
+no_row false true b3 b4 b5 b6 e is = none-some e is
+no_row false false true b4 b5 b6 e is = none-some e is
+no_row false false false true b5 b6 e is = none-some e is
+no_row false false false false true b6 e is = none-some e is
+no_row false false false false false true e is = none-some e is
+no_row false false false false false false e is = none-some e is
 
 -- a message that is read as an entry is its message
 pub record EntryWas (message : List ℕ) (e : Recorded) : Type 0 where
@@ -68,7 +70,7 @@ first_was bytes message small is =
     let tests = each_of_three (nat_lt 0 size) (size % 4 == 0) (nat_le size (length (drop 4 bytes))) inner.0 in
     let four : 4 ≤ length bytes = leb-true 4 (length bytes) outer.0 in
     let within : size ≤ length (drop 4 bytes) = leb-true size (length (drop 4 bytes)) tests.2 in
-    let same : take size (drop 4 bytes) ≡ message = some_is (take size (drop 4 bytes)) message inner.1 in
+    let same : take size (drop 4 bytes) ≡ message = same_Some (take size (drop 4 bytes)) message inner.1 in
     let count : length message ≡ size = sym (ap length same) ∙ length-take-le size (drop 4 bytes) within in
     let word_is : to_be_bytes w32 (length message) ≡ take 4 bytes =
     be_bytes_4 (take 4 bytes) (length message) (length-take-le 4 bytes four) (front_bytes 4 bytes small) count in
@@ -90,7 +92,7 @@ entry_first_was limit place bytes first small is = go (message_first bytes) refl
   go : (o : Option (List ℕ)) → message_first bytes ≡ o
       → option_and_then (λ m. if nat_le (place + 4 + length m) limit then option_map (λ entry. (entry, 4 + length m)) (entry_of m) else None) o ≡ Some first
       → FirstWas limit place bytes first
-  go None found read = absurd (none_some first read)
+  go None found read = absurd (none-some first read)
   go (Some message) found read =
       let inner = cond_gives (nat_le (place + 4 + length message) limit) (option_map (λ entry. (entry, 4 + length message)) (entry_of message)) first read in
       let entry = mapped (λ (e : Recorded). (e, 4 + length message)) (entry_of message) first inner.1 in
@@ -108,9 +110,6 @@ pub record EntriesWere (limit place : ℕ) (bytes : List ℕ) (xs : List Placed)
   pub text : bytes ≡ flat_map (λ (e : Recorded). entry_text e.caller e.event e.answer) (map (λ (p : Placed). p.entry) xs)
   pub all : AllByRecursion (λ (e : Recorded). IsRecordable e.caller e.event e.answer) (map (λ (p : Placed). p.entry) xs)
   pub within : place + length bytes ≤ limit
-
-ok_is : (x y : List Placed) → ◌≡◌ {A = Result (List Placed) ℕ} (Ok x) (Ok y) → x ≡ y
-ok_is x y e = cc
 
 pub entries_were : (most limit place : ℕ) (bytes : List ℕ) (xs : List Placed) → AreBytes bytes → place ≤ limit → entries_read most limit place bytes ≡ Ok xs
     → EntriesWere limit place bytes xs
@@ -147,7 +146,7 @@ entries_were (suc most) limit place (byte ∷ bytes) xs small inside read =
 
 within_is : (least most n : ℕ) → is_within least most n ≡ true → IsWithin least most n
 within_is least most n is =
-    let both = both_true (nat_le least n) (nat_le n most) is in
+    let both = and_parts (nat_le least n) (nat_le n most) is in
     record { above = leb-true least n both.0; below = leb-true n most both.1 }
 
 fault_step : (t : Bool) (o : Option ℕ) (k : ℕ) → cond t o (Some k) ≡ None → (t ≡ true) × (o ≡ None)
@@ -185,7 +184,7 @@ pub record HeaderWas (bytes : List ℕ) (limits : Limits) : Type 0 where
 pub header_first_was : (bytes : List ℕ) (limits : Limits) → AreBytes bytes → header_read bytes ≡ Some limits → HeaderWas bytes limits
 header_first_was bytes limits small is = go (message_first bytes) refl is where
   go : (o : Option (List ℕ)) → message_first bytes ≡ o → option_and_then header_of o ≡ Some limits → HeaderWas bytes limits
-  go None found is = absurd (none_some limits is)
+  go None found is = absurd (none-some limits is)
   go (Some message) found is =
       let was = header_was message limits (message_bytes bytes message small found) is in
       let size : length message ≡ 52 = ap length was.0 in

@@ -5,7 +5,7 @@ use Rattle.std.specs.Prelude.{⊤, option_map, is_ok, if◌then◌else◌}
 use Rattle.std.specs.List.{list_any, starts_with}
 use Rattle.std.specs.Option.{option_map_or}
 use Rattle.std.specs.Result.{result_ok}
-use Rattle.std.proofs.lemmas.Bool.{cond-true, cond-false}
+use Rattle.std.proofs.lemmas.Bool.{cond-true, cond-false, both_ways}
 use Rattle.std.proofs.lemmas.Bool.Decides.{Decides-eqb}
 use Rattle.std.proofs.lemmas.Slice.Eq.{starts_is}
 use Rattle.osc_atoms.specs.declared.fault.Fault.{Fault}
@@ -227,45 +227,42 @@ pub record BeginsNone (bytes : List ℕ) : Type 0 where
   pub tick_none : starts_with ◌==◌ bytes tick_bytes ≡ false
   pub release_none : starts_with ◌==◌ bytes release_bytes ≡ false
 
-apart : (b : Bool) → b ≡ true → b ≡ false → ⊥
-apart b is isnt = absurd (cc)
-
 row_begins : (bytes : List ℕ) (caller : ℕ) (event : Event) (answer : Answer) → BeginsNone bytes → FitsRow (row_of caller event answer)
     → sized bytes ≡ entry_text caller event answer → ⊥
 row_begins bytes caller enrol answer none fit same = go (enrolled answer) fit same where
   go : (o : Option ℤ) → FitsRow (option_map (enrol_row caller) o)
       → sized bytes ≡ option_map_or (λ row. sized (row_text row)) (option_map (enrol_row caller) o) [] → ⊥
   go None f is = f
-  go (Some told) f is = apart (starts_with ◌==◌ bytes enrol_bytes) (begun bytes (row_text (enrol_row caller told)) enrol_bytes is refl) none.enrol_none
+  go (Some told) f is = both_ways (starts_with ◌==◌ bytes enrol_bytes) none.enrol_none (begun bytes (row_text (enrol_row caller told)) enrol_bytes is refl)
 row_begins bytes caller (submit packet) answer none fit same = go (submitted answer) fit same where
   go : (o : Option (ℕ × ℕ × ℕ)) → FitsRow (option_map (submit_row caller packet) o)
       → sized bytes ≡ option_map_or (λ row. sized (row_text row)) (option_map (submit_row caller packet) o) [] → ⊥
   go None f is = f
   go (Some told) f is =
-      apart (starts_with ◌==◌ bytes submit_bytes) (begun bytes (row_text (submit_row caller packet told)) submit_bytes is refl) none.submit_none
+      both_ways (starts_with ◌==◌ bytes submit_bytes) none.submit_none (begun bytes (row_text (submit_row caller packet told)) submit_bytes is refl)
 row_begins bytes caller (add address) answer none fit same = go (adding answer) fit same where
   go : (o : Option (ℕ × ℕ × ℕ)) → FitsRow (option_map (add_row caller address) o)
       → sized bytes ≡ option_map_or (λ row. sized (row_text row)) (option_map (add_row caller address) o) [] → ⊥
   go None f is = f
-  go (Some told) f is = apart (starts_with ◌==◌ bytes add_bytes) (begun bytes (row_text (add_row caller address told)) add_bytes is refl) none.add_none
+  go (Some told) f is = both_ways (starts_with ◌==◌ bytes add_bytes) none.add_none (begun bytes (row_text (add_row caller address told)) add_bytes is refl)
 row_begins bytes caller (remove address) answer none fit same = go (removing answer) fit same where
   go : (o : Option (ℕ × ℕ)) → FitsRow (option_map (remove_row caller address) o)
       → sized bytes ≡ option_map_or (λ row. sized (row_text row)) (option_map (remove_row caller address) o) [] → ⊥
   go None f is = f
   go (Some told) f is =
-      apart (starts_with ◌==◌ bytes remove_bytes) (begun bytes (row_text (remove_row caller address told)) remove_bytes is refl) none.remove_none
+      both_ways (starts_with ◌==◌ bytes remove_bytes) none.remove_none (begun bytes (row_text (remove_row caller address told)) remove_bytes is refl)
 row_begins bytes caller (tick moment) answer none fit same = go (ticking moment answer) fit same where
   go : (o : Option (ℕ × ℕ)) → FitsRow (option_map (tick_row caller moment) o)
       → sized bytes ≡ option_map_or (λ row. sized (row_text row)) (option_map (tick_row caller moment) o) [] → ⊥
   go None f is = f
-  go (Some told) f is = apart (starts_with ◌==◌ bytes tick_bytes) (begun bytes (row_text (tick_row caller moment told)) tick_bytes is refl) none.tick_none
+  go (Some told) f is = both_ways (starts_with ◌==◌ bytes tick_bytes) none.tick_none (begun bytes (row_text (tick_row caller moment told)) tick_bytes is refl)
 row_begins bytes caller release answer none fit same = go (releasing answer) fit same where
   go : (o : Option (ℕ × List Hit)) → FitsRow (option_map (λ r. release_row caller r.0 (hits_text r.1)) o)
       → sized bytes ≡ option_map_or (λ row. sized (row_text row)) (option_map (λ r. release_row caller r.0 (hits_text r.1)) o) [] → ⊥
   go None f is = f
   go (Some told) f is =
-      apart (starts_with ◌==◌ bytes release_bytes) (begun bytes (row_text (release_row caller told.0 (hits_text told.1))) release_bytes is refl)
-      none.release_none
+      both_ways (starts_with ◌==◌ bytes release_bytes) none.release_none
+      (begun bytes (row_text (release_row caller told.0 (hits_text told.1))) release_bytes is refl)
 
 pub other_none : (bytes : List ℕ) → AreBytes bytes → BeginsNone bytes → None ≡ entry_of bytes
 other_none bytes all none = go (entry_of bytes) refl where

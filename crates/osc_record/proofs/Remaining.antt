@@ -1,13 +1,14 @@
 -- What is left of a recording that is read entry by entry.
 use Rattle.std.proofs.Common.{◌≡◌, ℕ, ◌+◌, ◌<◌, ◌≤◌, List, [], ◌∷◌, ◌++◌, length, drop, Some, None, false, ◌==◌, refl, sym, ap, subst, ◌∙◌, arith, length-drop}
+use Rattle.std.proofs.lemmas.Option.{none-some}
 use Rattle.osc_atoms.specs.Atoms.{AreBytes}
+use Rattle.osc_atoms.proofs.Bytes.{rest_bytes}
 use Rattle.osc_model.specs.Limits.{Limits}
 use Rattle.osc_model.specs.Events.{Entry as Recorded}
 use Rattle.osc_model.specs.Recordings.{entry_text, header_text}
 use Rattle.osc_record.specs.Reading.{entry_first, header_read}
 use Rattle.osc_record.specs.Unread.{Remaining, HasHeader, Reads, HasNoNext}
 use Rattle.osc_record.proofs.Again.{first_more, entry_first_again}
-use Rattle.osc_record.proofs.Spelled.{rest_bytes, none_some}
 use Rattle.osc_record.proofs.EntriesRead.{entry_first_was, header_first_was}
 
 abbrev pub from : Limits → ℕ → List ℕ → Remaining
@@ -46,7 +47,7 @@ none_next caps at rest below some none = record {
   at_is = refl;
   some = some;
   none = λ entry more recordable fits same.
-      none_some (entry, length (entry_text entry.caller entry.event entry.answer))
+      none-some (entry, length (entry_text entry.caller entry.event entry.answer))
       (sym none ∙ ap (entry_first caps.recording at) same
       ∙ entry_first_again entry.caller entry.event entry.answer more caps.recording at recordable fits below);
 }

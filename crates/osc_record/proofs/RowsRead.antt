@@ -7,7 +7,10 @@ use Rattle.std.specs.List.{flat_map, AllByRecursion}
 use Rattle.std.specs.Str.{bytes_eq}
 use Rattle.std.proofs.lemmas.Nat.{be_bytes_4}
 use Rattle.std.proofs.lemmas.Slice.Eq.{bytes_eq-Decides}
+use Rattle.std.proofs.lemmas.Bool.{and_parts}
+use Rattle.std.proofs.lemmas.Option.{same_Some, none-some}
 use Rattle.osc_atoms.specs.Atoms.{AreBytes, blob}
+use Rattle.osc_atoms.proofs.Bytes.{front_bytes, rest_bytes}
 use Rattle.osc_message.specs.Messages.{Argument, integer, text, content, long, time, atom_of}
 use Rattle.osc_model.specs.Events.{enrol, submit, add, remove, tick, release, Answer, number, callers_full, queued, units_full, pool_full, added, refused}
 use Rattle.osc_model.specs.Events.{removed, not_there, ticked, clock_back, released}
@@ -19,32 +22,32 @@ use Rattle.osc_record.specs.Reading.{int_first, signed_first, long_first, time_f
 use Rattle.osc_record.specs.Reading.{add_answer, remove_answer, tick_answer, release_answer, enrol_read, submit_read, add_read, remove_read, tick_read}
 use Rattle.osc_record.specs.Reading.{release_read, row_read}
 use Rattle.osc_record.proofs.Again.{take_front, drop_front}
-use Rattle.osc_record.proofs.ArgumentsRead.{some_is, int_was, signed_was, long_was, time_was, text_was, content_was, end_was}
-use Rattle.osc_record.proofs.Spelled.{read_then, none_some, both_true, front_bytes, rest_bytes}
+use Rattle.osc_record.proofs.ArgumentsRead.{int_was, signed_was, long_was, time_was, text_was, content_was, end_was}
+use Rattle.osc_record.proofs.Spelled.{read_then}
 
 -- an answer that is chosen by a test, or else by those after it
 chosen : (P : Answer → Type 0) (t : Bool) (a : Answer) (rest : Option Answer) (answer : Answer) → cond t (Some a) rest ≡ Some answer → (t ≡ true → P a)
     → (rest ≡ Some answer → P answer) → P answer
-chosen P true a rest answer is here more = subst P (some_is a answer is) (here refl)
+chosen P true a rest answer is here more = subst P (same_Some a answer is) (here refl)
 chosen P false a rest answer is here more = more is
 
 -- by a test and a second one
 chosen_if : (P : Answer → Type 0) (t u : Bool) (a : Answer) (rest : Option Answer) (answer : Answer) → cond t (answer_if u a) rest ≡ Some answer
     → (t ≡ true → u ≡ true → P a) → (rest ≡ Some answer → P answer) → P answer
-chosen_if P true true a rest answer is here more = subst P (some_is a answer is) (here refl refl)
+chosen_if P true true a rest answer is here more = subst P (same_Some a answer is) (here refl refl)
 chosen_if P true false a rest answer is here more = absurd (cc)
 chosen_if P false u a rest answer is here more = more is
 
 none_left : (P : Answer → Type 0) (answer : Answer) → ◌≡◌ {A = Option Answer} None (Some answer) → P answer
-none_left P answer is = absurd (none_some answer is)
+none_left P answer is = absurd (none-some answer is)
 
 abbrev pub EnrolTold : ℤ → Answer → Type 0
 EnrolTold z answer = (enrolled answer ≡ Some z) × IsSound answer
 
 enrol_told : (z : ℤ) (answer : Answer) → enrol_answer z ≡ Some answer → EnrolTold z answer
-enrol_told (pos n) answer is = subst (EnrolTold (pos n)) (some_is (number n) answer is) (refl, tt)
-enrol_told (negsuc zero) answer is = subst (EnrolTold (negsuc 0)) (some_is callers_full answer is) (refl, tt)
-enrol_told (negsuc (suc k)) answer is = absurd (none_some answer is)
+enrol_told (pos n) answer is = subst (EnrolTold (pos n)) (same_Some (number n) answer is) (refl, tt)
+enrol_told (negsuc zero) answer is = subst (EnrolTold (negsuc 0)) (same_Some callers_full answer is) (refl, tt)
+enrol_told (negsuc (suc k)) answer is = absurd (none-some answer is)
 
 abbrev pub SubmitTold : ℕ → ℕ → ℕ → Answer → Type 0
 SubmitTold code first second answer = (submitted answer ≡ Some (code, first, second)) × IsSound answer
@@ -92,9 +95,9 @@ add_told code first second answer is =
       (λ i.
           Some (
             sym (eqb-true code 3 c) i,
-            sym (eqb-true first 0 (both_true (first == 0) (second == 0) u).0) i,
+            sym (eqb-true first 0 (and_parts (first == 0) (second == 0) u).0) i,
             sym
-                (eqb-true second 0 (both_true (first == 0) (second == 0) u).1) i,
+                (eqb-true second 0 (and_parts (first == 0) (second == 0) u).1) i,
           )),
       tt,
     )) (λ is4.
@@ -170,8 +173,8 @@ abbrev pub Was : List ℕ → List Argument → Recorded → Type 0
 Was address arguments e = (row_of e.caller e.event e.answer ≡ Some (record { address = address; arguments = arguments })) × IsSound e.answer
 
 pub mapped : {X Y : Type 0} (f : X → Y) (o : Option X) (y : Y) → option_map f o ≡ Some y → (x : X) × ((o ≡ Some x) × (f x ≡ y))
-mapped f None y is = absurd (none_some y is)
-mapped f (Some x) y is = (x, (refl, some_is (f x) y is))
+mapped f None y is = absurd (none-some y is)
+mapped f (Some x) y is = (x, (refl, same_Some (f x) y is))
 
 pub enrol_was : (arguments : List Argument) (e : Recorded) → enrol_read arguments ≡ Some e → Was (codes "/osc/enrol") arguments e
 enrol_was arguments e is =
@@ -286,8 +289,8 @@ release_told : (unit : ℕ) (hits : List ℕ) (answer : Answer) → release_answ
 release_told unit hits answer is = go (length hits % 8 == 0) refl is where
   go : (t : Bool) → (length hits % 8 == 0) ≡ t → answer_if t (released unit (hits_in hits)) ≡ Some answer
       → (length hits % 8 ≡ 0) × (released unit (hits_in hits) ≡ answer)
-  go true e i = (eqb-true (length hits % 8) 0 e, some_is (released unit (hits_in hits)) answer i)
-  go false e i = absurd (none_some answer i)
+  go true e i = (eqb-true (length hits % 8) 0 e, same_Some (released unit (hits_in hits)) answer i)
+  go false e i = absurd (none-some answer i)
 
 pub release_was : (arguments : List Argument) (e : Recorded) → AreBytes (flat_map atom_of arguments) → release_read arguments ≡ Some e
     → Was (codes "/osc/release") arguments e
@@ -337,4 +340,4 @@ row_was address arguments e all is =
     go false false false true b5 b6 p q r s t u i = named_as (codes "/osc/remove") s (remove_was arguments e i)
     go false false false false true b6 p q r s t u i = named_as (codes "/osc/tick") t (tick_was arguments e i)
     go false false false false false true p q r s t u i = named_as (codes "/osc/release") u (release_was arguments e all i)
-    go false false false false false false p q r s t u i = absurd (none_some e i)
+    go false false false false false false p q r s t u i = absurd (none-some e i)

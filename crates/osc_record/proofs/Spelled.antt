@@ -1,11 +1,14 @@
 -- A message that is read as a header was written as one.
-use Rattle.std.proofs.Common.{◌≡◌, ◌⊎◌, ℕ, ◌%◌, ◌&&◌, ◌≤◌, zero, suc, Bool, true, false, cond, List, [], ◌∷◌, length, take, drop, Option, Some, None, refl, sym}
-use Rattle.std.proofs.Common.{ap, ◌∙◌, subst, inl, inr, arith, codes, eqb-true, lit<}
+use Rattle.std.proofs.Common.{◌≡◌, ◌⊎◌, ℕ, ◌%◌, ◌&&◌, ◌≤◌, true, cond, List, [], ◌∷◌, length, take, drop, Option, Some, None, refl, sym}
+use Rattle.std.proofs.Common.{ap, ◌∙◌, subst, inl, inr, arith, codes, eqb-true}
 use Rattle.std.specs.Prelude.{option_and_then, is_none, ◌==◌, nat_lt, nat_le}
 use Rattle.std.specs.Str.{bytes_eq}
 use Rattle.std.specs.Int.{w32, from_be_bytes}
 use Rattle.std.proofs.lemmas.Slice.Eq.{bytes_eq-Decides}
+use Rattle.std.proofs.lemmas.Bool.{and_parts}
+use Rattle.std.proofs.lemmas.Option.{same_Some, none-some}
 use Rattle.osc_atoms.specs.Atoms.{AreBytes}
+use Rattle.osc_atoms.proofs.Bytes.{front_bytes, rest_bytes}
 use Rattle.osc_message.specs.Messages.{Argument, Form, bare, known, unknown, IsLawful, IsMessage, message_text}
 use Rattle.osc_message.specs.Reading.{limited_read, is_message, pattern_of}
 use Rattle.osc_message.specs.Arguments.{message_arguments}
@@ -15,7 +18,7 @@ use Rattle.osc_model.specs.Limits.{Limits, limit_fault}
 use Rattle.osc_model.specs.Recordings.{int, row_text, header_row}
 use Rattle.osc_record.specs.Reading.{limits_read, lawful_limits, header_of, header_read, message_first, bytes_of_size, int_first}
 use Rattle.osc_record.proofs.Again.{message_more, cond_gives}
-use Rattle.osc_record.proofs.ArgumentsRead.{int_was, end_was, some_is}
+use Rattle.osc_record.proofs.ArgumentsRead.{int_was, end_was}
 
 -- a message with arguments, which are those that are read
 pub record Spelled (message : List ℕ) : Type 0 where
@@ -37,24 +40,13 @@ spelled message small is = go ((exact_of (limited_read 1073741824 message) 10737
           text = same ∙ (λ i. message_text (known (sym name i) (sym arguments i)));
         })
 
-pub front_bytes : (n : ℕ) (bytes : List ℕ) → AreBytes bytes → AreBytes (take n bytes)
-front_bytes zero bytes all i = lit< tt
-front_bytes (suc n) [] all i = all i
-front_bytes (suc n) (b ∷ bytes) all zero = all 0
-front_bytes (suc n) (b ∷ bytes) all (suc i) = front_bytes n bytes (λ k. all (suc k)) i
-
-pub rest_bytes : (n : ℕ) (bytes : List ℕ) → AreBytes bytes → AreBytes (drop n bytes)
-rest_bytes zero bytes all = all
-rest_bytes (suc n) [] all = all
-rest_bytes (suc n) (b ∷ bytes) all = rest_bytes n bytes (λ k. all (suc k))
-
 -- the message that bytes begin with is of bytes
 pub message_bytes : (bytes message : List ℕ) → AreBytes bytes → message_first bytes ≡ Some message → AreBytes message
 message_bytes bytes message all is =
     let size = from_be_bytes w32 (take 4 bytes) in
     let outer = cond_gives (nat_le 4 (length bytes)) (bytes_of_size size (drop 4 bytes)) message is in
     let inner = cond_gives (nat_lt 0 size && size % 4 == 0 && nat_le size (length (drop 4 bytes))) (Some (take size (drop 4 bytes))) message outer.1 in
-    subst AreBytes (some_is (take size (drop 4 bytes)) message inner.1) (front_bytes size (drop 4 bytes) (rest_bytes 4 bytes all))
+    subst AreBytes (same_Some (take size (drop 4 bytes)) message inner.1) (front_bytes size (drop 4 bytes) (rest_bytes 4 bytes all))
 
 -- the first of a chain of readings
 pub read_then : {X Y : Type 0} (f : X → Option Y) (o : Option X) (y : Y) → option_and_then f o ≡ Some y → (x : X) × ((o ≡ Some x) × (f x ≡ Some y))
@@ -64,7 +56,7 @@ read_then f (Some x) y is = (x, (refl, is))
 lawful_is : (limits read : Limits) → lawful_limits limits ≡ Some read → (limits ≡ read) × (limit_fault limits ≡ None)
 lawful_is limits read is = go (limit_fault limits) refl is where
   go : (o : Option ℕ) → limit_fault limits ≡ o → cond (is_none o) (Some limits) None ≡ Some read → (limits ≡ read) × (limit_fault limits ≡ None)
-  go None e i = (some_is limits read i, e)
+  go None e i = (same_Some limits read i, e)
   go (Some field) e i = absurd (cc)
 
 -- the arguments of a header
@@ -99,21 +91,13 @@ limits_were arguments limits is =
     header_tail : Limits → List Argument
     header_tail l = int l.units ∷ int l.blocks ∷ int l.methods ∷ int l.nodes ∷ int l.callers ∷ int l.recording ∷ []
 
-pub none_some : {X : Type 0} (x : X) → ◌≡◌ {A = Option X} None (Some x) → ⊥
-none_some x e = cc
-
-pub both_true : (a b : Bool) → (a && b) ≡ true → (a ≡ true) × (b ≡ true)
-both_true true true is = (refl, refl)
-both_true true false is = absurd (cc)
-both_true false b is = absurd (cc)
-
 -- what is read as a header is one
 pub header_was : (message : List ℕ) (limits : Limits) → AreBytes message → header_of message ≡ Some limits
     → (message ≡ row_text (header_row limits)) × (limit_fault limits ≡ None)
 header_was message limits small is =
     let inner = cond_gives (is_message 1073741824 message && bytes_eq (pattern_of message) (codes "/osc/rec"))
     (limits_read (message_arguments message)) limits is in
-    let tests = both_true (is_message 1073741824 message) (bytes_eq (pattern_of message) (codes "/osc/rec")) inner.0 in
+    let tests = and_parts (is_message 1073741824 message) (bytes_eq (pattern_of message) (codes "/osc/rec")) inner.0 in
     let name : pattern_of message ≡ codes "/osc/rec" = (bytes_eq-Decides (pattern_of message) (codes "/osc/rec")).0 tests.1 in
     let were = limits_were (message_arguments message) limits inner.1 in
     go (spelled message small tests.0) name were
@@ -130,7 +114,7 @@ header_was message limits small is =
 pub header_long : (bytes : List ℕ) (limits : Limits) → AreBytes bytes → header_read bytes ≡ Some limits → 56 ≤ length bytes
 header_long bytes limits small is = go (message_first bytes) refl is where
   go : (o : Option (List ℕ)) → message_first bytes ≡ o → option_and_then header_of o ≡ Some limits → 56 ≤ length bytes
-  go None found e = absurd (none_some limits e)
+  go None found e = absurd (none-some limits e)
   go (Some message) found e =
       let was = header_was message limits (message_bytes bytes message small found) e in
       let size : length message ≡ 52 = ap length was.0 in

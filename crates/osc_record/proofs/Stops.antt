@@ -1,15 +1,16 @@
 -- The first malformed place, by the recording that is read.
 use Rattle.std.proofs.Common.{◌≡◌, ℕ, ◌+◌, ◌<◌, ◌≤◌, zero, suc, List, [], ◌∷◌, ◌++◌, length, drop, Option, Some, None, Ok, Err, Result, refl, sym, ap, ◌∙◌}
 use Rattle.std.proofs.Common.{subst, arith, length-append, length-drop, append_assoc}
+use Rattle.std.proofs.lemmas.Option.{none-some}
 use Rattle.std.specs.List.{flat_map, AllByRecursion}
 use Rattle.osc_atoms.specs.Atoms.{AreBytes}
+use Rattle.osc_atoms.proofs.Bytes.{rest_bytes}
 use Rattle.osc_model.specs.Limits.{Limits}
 use Rattle.osc_model.specs.Events.{Entry as Recorded}
 use Rattle.osc_model.specs.Recordings.{entry_text, header_text, IsRecordable}
 use Rattle.osc_record.specs.Reading.{entry_first, Placed, onto_read, before_read, entries_read, entries_after, header_read, HasNoHeader, HasNoEntry}
 use Rattle.osc_record.proofs.Again.{first_more, entry_first_again}
 use Rattle.osc_record.proofs.Readings.{header_again}
-use Rattle.osc_record.proofs.Spelled.{rest_bytes, none_some}
 use Rattle.osc_record.proofs.EntriesRead.{entry_first_was, header_first_was}
 
 abbrev pub texts : List Recorded → List ℕ
@@ -71,7 +72,7 @@ stops (suc most) limit place (byte ∷ bytes) at small few inside read =
           }
 
 pub no_header : (bytes : List ℕ) → header_read bytes ≡ None → HasNoHeader bytes 0
-no_header bytes is = record { first = refl; none = λ limits rest range same. none_some limits (sym is ∙ ap header_read same ∙ header_again limits rest range) }
+no_header bytes is = record { first = refl; none = λ limits rest range same. none-some limits (sym is ∙ ap header_read same ∙ header_again limits rest range) }
 
 pub no_entry : (bytes : List ℕ) (limits : Limits) (at : ℕ) → AreBytes bytes → header_read bytes ≡ Some limits → entries_after limits bytes ≡ Err at
     → HasNoEntry bytes at
@@ -90,6 +91,6 @@ no_entry bytes limits at small header read =
       text = first.text ∙ ap (λ (l : List ℕ). header_text limits ++ l) stop.text ∙ sym (append_assoc (header_text limits) (texts stop.entries) stop.rest);
       place = omega arith;
       some = stop.some;
-      none = λ e more lawful fits same. none_some (e, length (entry_text e.caller e.event e.answer))
+      none = λ e more lawful fits same. none-some (e, length (entry_text e.caller e.event e.answer))
           (sym stop.none ∙ ap (entry_first limits.recording at) same ∙ entry_first_again e.caller e.event e.answer more limits.recording at lawful fits below);
     }

@@ -107,7 +107,7 @@ byte_small : (i n : ℕ) → byte_at i n < 256
 byte_small zero n = omega arith
 byte_small (suc i) n = omega arith
 
-high_first_bytes : (k n : ℕ) → IsBytes (bytes_high_first k n)
+pub high_first_bytes : (k n : ℕ) → IsBytes (bytes_high_first k n)
 high_first_bytes zero n = λ i. omega arith
 high_first_bytes (suc k) n = byte_before (byte_at k n) (bytes_high_first k n) (byte_small k n) (high_first_bytes k n)
 

@@ -1,9 +1,10 @@
 -- What has become of the boxes when a server ends.
-use Rattle.std.proofs.Common.{◌≡◌, ℕ, ◌<◌, ◌≤◌, Bool, true, false, ◌&&◌, nat_lt, Option, arith, List, [], ◌∷◌, ◌++◌, map, length, drop, refl, sym, ap, subst}
+use Rattle.std.proofs.Common.{◌≡◌, ℕ, ◌<◌, ◌≤◌, true, nat_lt, Option, arith, List, [], ◌∷◌, ◌++◌, map, length, drop, refl, sym, ap, subst}
 use Rattle.std.proofs.Common.{◌∙◌, append_assoc}
 use Rattle.std.specs.List.{list_all, AllByRecursion}
 use Rattle.std.specs.List.Sorted.{IsPermutation, IsNonDecreasingBy}
 use Rattle.std.proofs.lemmas.Bool.Decides.{nat_tests}
+use Rattle.std.proofs.lemmas.Bool.{and_from}
 use Rattle.std.proofs.lemmas.List.{map-append}
 use Rattle.std.proofs.lemmas.List.Sorted.{IsPermutation-map, IsPermutation-sym, IsPermutation-trans, Contains-permutation, sum_by-IsPermutation}
 use Rattle.osc_model.specs.Limits.{Limits}
@@ -19,10 +20,6 @@ use Rattle.osc_top.specs.Plain.{plain, count_adds}
 use Rattle.osc_top.specs.Tally.{IsOver, IsRising, refused_boxes}
 use Rattle.osc_top.specs.Tallied.{AreParted}
 use Rattle.osc_top.proofs.Rising.{times, ascending_told, same_rising}
-
-and_both : (a b : Bool) → a ≡ true → b ≡ true → (a && b) ≡ true
-and_both true b one other = other
-and_both false b one other = absurd (cc)
 
 is_below : (id other number : ℕ) → other ≡ number → id < other → nat_lt id number ≡ true
 is_below id other number same below = grind (arith, nat_tests)
@@ -46,7 +43,7 @@ below_ids : {P : Type 0} (tell : P → Told) (number : P → ℕ) → ((one : P)
     → AllByRecursion (λ other. id < other.id) (map tell ones) → list_all (nat_lt id) (map number ones) ≡ true
 below_ids tell number numbered id [] below = refl
 below_ids tell number numbered id (one ∷ ones) below =
-    and_both (nat_lt id (number one)) (list_all (nat_lt id) (map number ones)) (is_below id (tell one).id (number one) (numbered one) below.0)
+    and_from (nat_lt id (number one)) (list_all (nat_lt id) (map number ones)) (is_below id (tell one).id (number one) (numbered one) below.0)
     (below_ids tell number numbered id ones below.1)
 
 -- boxes whose ids rise have ascending ids
@@ -56,7 +53,7 @@ rising_ids tell number numbered [] rising = refl
 rising_ids {P} tell number numbered (one ∷ ones) rising =
     let below = below_ids tell number numbered (number one) ones
     (subst (λ (n : ℕ). AllByRecursion (λ other. n < other.id) (map tell ones)) (numbered one) rising.0) in
-    and_both (list_all (nat_lt (number one)) (map number ones)) (is_ascending (map number ones)) below (rising_ids tell number numbered ones rising.1)
+    and_from (list_all (nat_lt (number one)) (map number ones)) (is_ascending (map number ones)) below (rising_ids tell number numbered ones rising.1)
 
 module _ {M : Type 0} (keep : M → ℕ) (heard : M → Option (List ℕ)) where
   -- what is told of a box under its id

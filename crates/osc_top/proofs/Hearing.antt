@@ -1,14 +1,15 @@
 -- What the boxes of a bank have heard after one more add, and after more calls.
-use Rattle.std.proofs.Common.{◌≡◌, ℕ, zero, suc, ◌-◌, ◌<◌, ◌==◌, Bool, true, false, cond, List, [], ◌∷◌, ◌++◌, map, length, drop, filter, refl, sym, ap, subst}
+use Rattle.std.proofs.Common.{◌≡◌, ℕ, ◌-◌, ◌<◌, ◌==◌, Bool, false, cond, List, [], ◌∷◌, ◌++◌, map, length, drop, refl, sym, ap, subst}
 use Rattle.std.proofs.Common.{◌∙◌, arith, append_assoc}
 use Rattle.std.specs.Option.{option_map}
 use Rattle.std.specs.List.{AllByRecursion, flat_map}
 use Rattle.std.proofs.lemmas.Bool.Decides.{nat_tests}
 use Rattle.std.proofs.lemmas.List.{append-nil, map-append, drop_all}
 use Rattle.std.proofs.lemmas.List.Sums.{sum_by-cons}
-use Rattle.osc_method.specs.Heard.{last_of, after_call}
+use Rattle.osc_method.specs.Heard.{last_of}
 use Rattle.osc_model.specs.Events.{Answer, added, Invocation}
 use Rattle.osc_model.specs.Heard.{Told, bytes_of, heard_of, reset, hear, hear_all}
+use Rattle.osc_model.proofs.Boxes.{none_called, hearing, same_id}
 use Rattle.osc_top.specs.Bank.{Meaning, box_heard, box_left, boxes_heard}
 use Rattle.osc_top.specs.Tally.{IsRising, refused_boxes}
 use Rattle.osc_top.proofs.Rising.{all_weaker, count, times, one_if}
@@ -47,26 +48,11 @@ waiting_push {X} [] answer bank box more is = sym (ap (drop 1) is)
 waiting_push (first ∷ answers) answer [] box more is = absurd (cc)
 waiting_push (first ∷ answers) answer (one ∷ bank) box more is = waiting_push answers answer bank box more is
 
-pub drop_map : {X Y : Type 0} (f : X → Y) (n : ℕ) (xs : List X) → drop n (map f xs) ≡ map f (drop n xs)
-drop_map f zero xs = refl
-drop_map f (suc n) [] = refl
-drop_map f (suc n) (x ∷ xs) = drop_map f n xs
-
-other_id : (a b : ℕ) → a < b → (a == b) ≡ false
-other_id a b below = grind (arith, nat_tests)
-
-none_heard : (id : ℕ) (calls : List Invocation) → AllByRecursion (λ call. call.call.id < id) calls → filter (λ call. call.call.id == id) calls ≡ []
-none_heard id [] below = refl
-none_heard id (call ∷ calls) below =
-    ap (λ (t : Bool). cond t (call ∷ filter (λ other. other.call.id == id) calls) (filter (λ other. other.call.id == id) calls))
-    (other_id call.call.id id below.0)
-    ∙ none_heard id calls below.1
-
 -- the box of an id that no call has yet has heard nothing
 pub fresh_box : (id : ℕ) (calls : List Invocation) (box : Meaning) → AllByRecursion (λ call. call.call.id < id) calls
     → box_heard calls (added id) box ≡ reset (told_at id box) ∷ []
 fresh_box id calls box below =
-    let nothing : heard_of calls id box.keep ≡ [] = ap (λ (l : List Invocation). last_of box.keep (flat_map bytes_of l)) (none_heard id calls below)
+    let nothing : heard_of calls id box.keep ≡ [] = ap (λ (l : List Invocation). last_of box.keep (flat_map bytes_of l)) (none_called id calls below)
     ∙ drop_all (0 - box.keep) [] (omega arith) in
     ap (λ (l : List ℕ). let told : Told = record { id = id; keep = box.keep; heard = option_map (λ _. l) box.heard } in told ∷ []) nothing
 
@@ -87,20 +73,6 @@ heard_more law calls more (answer ∷ answers) (box ∷ bank) =
     ap (λ (l : List Told). l ++ boxes_heard (calls ++ more) answers bank) (one_heard law calls more answer box)
     ∙ ap (λ (l : List Told). map (hear_all more) (box_heard calls answer box) ++ l) (heard_more law calls more answers bank)
     ∙ sym (map-append (hear_all more) (box_heard calls answer box) (boxes_heard calls answers bank))
-
--- a box that hears a call
-abbrev hearing : Told → Invocation → Told
-hearing box call = record box { heard = after_call box.keep (bytes_of call) box.heard }
-
-hear_id : (box : Told) (call : Invocation) → (hear box call).id ≡ box.id
-hear_id box call = go (call.call.id == box.id) where
-  go : (t : Bool) → (cond t (hearing box call) box).id ≡ box.id
-  go true = refl
-  go false = refl
-
-pub same_id : (calls : List Invocation) (box : Told) → (hear_all calls box).id ≡ box.id
-same_id [] box = refl
-same_id (call ∷ calls) box = same_id calls (hear box call) ∙ hear_id box call
 
 pub below_map : (next : ℕ) (calls : List Invocation) (boxes : List Told) → AllByRecursion (λ box. box.id < next) boxes
     → AllByRecursion (λ box. box.id < next) (map (hear_all calls) boxes)

@@ -4,33 +4,20 @@ use Rattle.std.proofs.Common.{refl, sym, ap, subst, ◌∙◌, arith}
 use Rattle.std.specs.List.{AllByRecursion, Contains, sum_by}
 use Rattle.std.specs.List.Sorted.{IsPermutation, IsNonDecreasingBy}
 use Rattle.std.proofs.lemmas.Bool.Decides.{nat_tests}
+use Rattle.std.proofs.lemmas.Bool.{eqb-true}
 use Rattle.std.proofs.lemmas.List.Sums.{sum_by-cons}
 use Rattle.std.proofs.lemmas.List.Elements.{All-contains, All-from_recursion}
 use Rattle.std.proofs.lemmas.List.Sorted.{IsPermutation-filter_both, IsPermutation-append_left, IsPermutation-trans, IsPermutation-sym, IsPermutation-to_front}
 use Rattle.std.proofs.lemmas.List.Sorted.{IsNonDecreasingBy-drop}
 use Rattle.osc_model.specs.Heard.{Told}
 use Rattle.osc_model.specs.Heard.{without_id}
+use Rattle.osc_model.proofs.Calls.{all_append}
+use Rattle.osc_laws.proofs.Members.{head_or_behind}
 use Rattle.osc_top.specs.Tally.{IsRising}
-
-pub all_push : {X : Type 0} (P : X → Type 0) (xs : List X) (x : X) → AllByRecursion P xs → P x → AllByRecursion P (xs ++ x ∷ [])
-all_push P [] x all one = (one, tt)
-all_push P (first ∷ xs) x all one = (all.0, all_push P xs x all.1 one)
 
 pub all_weaker : {X : Type 0} (P Q : X → Type 0) (xs : List X) → ((x : X) → P x → Q x) → AllByRecursion P xs → AllByRecursion Q xs
 all_weaker P Q [] weaker all = tt
 all_weaker P Q (x ∷ xs) weaker all = (weaker x all.0, all_weaker P Q xs weaker all.1)
-
-pub all_append : {X : Type 0} (P : X → Type 0) (xs ys : List X) → AllByRecursion P xs → AllByRecursion P ys → AllByRecursion P (xs ++ ys)
-all_append P [] ys one two = two
-all_append P (x ∷ xs) ys one two = (one.0, all_append P xs ys one.1 two)
-
-pub all_front : {X : Type 0} (P : X → Type 0) (xs ys : List X) → AllByRecursion P (xs ++ ys) → AllByRecursion P xs
-all_front P [] ys all = tt
-all_front P (x ∷ xs) ys all = (all.0, all_front P xs ys all.1)
-
-pub contains_cases : {X : Type 0} (first : X) (xs : List X) (x : X) → Contains (first ∷ xs) x → (first ≡ x) ⊎ Contains xs x
-contains_cases first xs x (zero, within, is) = inl is
-contains_cases first xs x (suc k, within, is) = inr (k, omega arith, is)
 
 abbrev pub one_if : Bool → ℕ
 one_if t = cond t 1 0
@@ -48,12 +35,6 @@ equal_once a b same = grind (arith, nat_tests)
 other_none : (a b : ℕ) → b < a → one_if (a == b) ≡ 0
 other_none a b differs = grind (arith, nat_tests)
 
-other_test : (a b : ℕ) → one_if (a == b) ≡ 0 → (b == a) ≡ false
-other_test a b differs = grind (arith, nat_tests)
-
-equal_from : (a b : ℕ) → (a == b) ≡ true → a ≡ b
-equal_from a b same = grind (arith, nat_tests)
-
 pub none_counted : (id : ℕ) (boxes : List Told) → AllByRecursion (λ box. id < box.id) boxes → count id boxes ≡ 0
 none_counted id [] above = refl
 none_counted id (box ∷ boxes) above = omega (arith, sum_by-cons (times id) box boxes, other_none box.id id above.0, none_counted id boxes above.1)
@@ -63,7 +44,7 @@ once id [] rising = omega arith
 once id (box ∷ boxes) rising = go (box.id == id) refl (once id boxes rising.1) where
   go : (t : Bool) → (box.id == id) ≡ t → count id boxes ≤ 1 → count id (box ∷ boxes) ≤ 1
   go true is more =
-      let same : box.id ≡ id = equal_from box.id id is in
+      let same : box.id ≡ id = eqb-true box.id id is in
       let none : count id boxes ≡ 0 = none_counted id boxes (subst (λ (n : ℕ). AllByRecursion (λ other. n < other.id) boxes) same rising.0) in
       omega (arith, sum_by-cons (times id) box boxes, ap one_if is, none)
   go false is more = omega (arith, sum_by-cons (times id) box boxes, ap one_if is, more)
@@ -71,7 +52,7 @@ once id (box ∷ boxes) rising = go (box.id == id) refl (once id boxes rising.1)
 -- an id that stands in a list is counted, and is below what each id of the list is below
 pub id_counted : (boxes : List Told) (id : ℕ) → Contains (map (λ box. box.id) boxes) id → 1 ≤ count id boxes
 id_counted [] id (k, within, is) = absurd (omega arith)
-id_counted (box ∷ boxes) id there = go (contains_cases box.id (map (λ (other : Told). other.id) boxes) id there) (id_counted boxes id) where
+id_counted (box ∷ boxes) id there = go (head_or_behind box.id id (map (λ (other : Told). other.id) boxes) there) (id_counted boxes id) where
   go : (box.id ≡ id) ⊎ Contains (map (λ other. other.id) boxes) id → (Contains (map (λ other. other.id) boxes) id → 1 ≤ count id boxes)
       → 1 ≤ count id (box ∷ boxes)
   go (inl same) more = omega (arith, sum_by-cons (times id) box boxes, equal_once box.id id same)
@@ -79,7 +60,7 @@ id_counted (box ∷ boxes) id there = go (contains_cases box.id (map (λ (other 
 
 pub id_below : (boxes : List Told) (id next : ℕ) → Contains (map (λ box. box.id) boxes) id → AllByRecursion (λ box. box.id < next) boxes → id < next
 id_below [] id next (k, within, is) below = absurd (omega arith)
-id_below (box ∷ boxes) id next there below = go (contains_cases box.id (map (λ (other : Told). other.id) boxes) id there) (id_below boxes id next) where
+id_below (box ∷ boxes) id next there below = go (head_or_behind box.id id (map (λ (other : Told). other.id) boxes) there) (id_below boxes id next) where
   go : (box.id ≡ id) ⊎ Contains (map (λ other. other.id) boxes) id
       → (Contains (map (λ other. other.id) boxes) id → AllByRecursion (λ other. other.id < next) boxes → id < next) → id < next
   go (inl same) more = omega (arith, same, below.0)
@@ -103,7 +84,7 @@ none_kept id (box ∷ boxes) none = go (box.id == id) refl (none_kept id boxes) 
 
 one_kept : (boxes : List Told) (box : Told) → Contains boxes box → count box.id boxes ≤ 1 → filter (λ other. other.id == box.id) boxes ≡ box ∷ []
 one_kept [] box (k, within, is) few = absurd (omega arith)
-one_kept (first ∷ boxes) box there few = go (first.id == box.id) refl (contains_cases first boxes box there) (one_kept boxes box) where
+one_kept (first ∷ boxes) box there few = go (first.id == box.id) refl (head_or_behind first box boxes there) (one_kept boxes box) where
   kept : List Told
   kept = filter (λ other. other.id == box.id) boxes
 
@@ -140,7 +121,7 @@ one_moved boxes removed box there few =
 pub rising_push : (boxes : List Told) (box : Told) → IsRising boxes → AllByRecursion (λ other. other.id < box.id) boxes → IsRising (boxes ++ box ∷ [])
 rising_push [] box rising below = (tt, tt)
 rising_push (first ∷ boxes) box rising below =
-    (all_push (λ (other : Told). first.id < other.id) boxes box rising.0 below.0, rising_push boxes box rising.1 below.1)
+    (all_append (λ (other : Told). first.id < other.id) boxes (box ∷ []) rising.0 (below.0, tt), rising_push boxes box rising.1 below.1)
 
 -- each id is no higher than those behind it
 abbrev pub IsAscending : List Told → Type 0
@@ -172,7 +153,7 @@ same_rising [] [] ascending rising counts there = refl
 same_rising [] (y ∷ ys) ascending rising counts there = absurd (omega (arith, counts y.id, sum_by-cons (times y.id) y ys, equal_once y.id y.id refl))
 same_rising (x ∷ xs) [] ascending rising counts there = absurd (omega (arith, counts x.id, sum_by-cons (times x.id) x xs, equal_once x.id x.id refl))
 same_rising (x ∷ xs) (y ∷ ys) ascending rising counts there =
-    go (contains_cases y ys x (there x (0, omega arith, refl))) (same_rising xs ys ascending.1 rising.1) where
+    go (head_or_behind y x ys (there x (0, omega arith, refl))) (same_rising xs ys ascending.1 rising.1) where
       go : (y ≡ x) ⊎ Contains ys x → (((id : ℕ) → count id xs ≡ count id ys) → ((box : Told) → Contains xs box → Contains ys box) → xs ≡ ys) → x ∷ xs ≡ y ∷ ys
       go (inr behind) more =
           let below : y.id < x.id = All-contains (λ (other : Told). y.id < other.id) ys x
@@ -183,7 +164,7 @@ same_rising (x ∷ xs) (y ∷ ys) ascending rising counts there =
         fewer id = omega (arith, counts id, sum_by-cons (times id) x xs, sum_by-cons (times id) y ys, ap (times id) same)
 
         within : (box : Told) → Contains xs box → Contains ys box
-        within box inside = kept (contains_cases y ys box (there box (suc inside.0, omega (arith, inside.1), inside.2))) where
+        within box inside = kept (head_or_behind y box ys (there box (suc inside.0, omega (arith, inside.1), inside.2))) where
           kept : (y ≡ box) ⊎ Contains ys box → Contains ys box
           kept (inr behind) = behind
           kept (inl is) =

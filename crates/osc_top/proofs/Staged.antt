@@ -1,10 +1,11 @@
 -- What became of lanes, or of links, and of their boxes, put together.
-use Rattle.std.proofs.Common.{◌≡◌, ℕ, ◌<◌, ◌≤◌, Bool, true, false, ◌&&◌, nat_lt, List, [], ◌∷◌, ◌++◌, map, length, take, drop, All, Option, None, refl, sym, ap}
+use Rattle.std.proofs.Common.{◌≡◌, ℕ, ◌<◌, ◌≤◌, true, nat_lt, List, [], ◌∷◌, ◌++◌, map, length, take, drop, All, Option, None, refl, sym, ap}
 use Rattle.std.proofs.Common.{subst, ◌∙◌, arith}
 use Rattle.std.specs.List.{list_all, AllByRecursion, flat_map}
 use Rattle.std.specs.List.Sorted.{IsPermutation, IsNonDecreasingBy}
 use Rattle.std.specs.Option.{option_map, option_or}
 use Rattle.std.proofs.lemmas.Bool.Decides.{nat_tests}
+use Rattle.std.proofs.lemmas.Bool.{and_parts}
 use Rattle.std.proofs.lemmas.List.{append-nil, length-take-le, map-append}
 use Rattle.std.proofs.lemmas.List.Elements.{All-from_recursion, recursion_from_All, All-head, All-tail}
 use Rattle.std.proofs.lemmas.List.Sorted.{IsPermutation-map, IsPermutation-trans, IsPermutation-sym, All-permutation, Contains-permutation}
@@ -25,6 +26,7 @@ use Rattle.osc_model.specs.Events.{Room}
 use Rattle.osc_model.specs.Limits.{Limits}
 use Rattle.osc_model.specs.Heard.{Told}
 use Rattle.osc_model.specs.History.{HasHeard, invoked_in}
+use Rattle.osc_model.proofs.Calls.{all_append}
 use Rattle.osc_replay.specs.Printed.{printed}
 use Rattle.osc_script.specs.declared.line.Line.{Line}
 use Rattle.osc_top.specs.declared.outcome.Outcome.{Outcome}
@@ -38,7 +40,7 @@ use Rattle.osc_top.specs.Tally.{IsRising}
 use Rattle.osc_turn.specs.declared.view.Entry.{Entry as Seen}
 use Rattle.osc_turn.specs.History.{texts}
 use Rattle.osc_top.proofs.Unstopped.{counted_adds}
-use Rattle.osc_top.proofs.Rising.{all_append, all_weaker, ascending_told, same_rising, times}
+use Rattle.osc_top.proofs.Rising.{all_weaker, ascending_told, same_rising, times}
 
 -- Ids, ascending.
 
@@ -46,21 +48,17 @@ use Rattle.osc_top.proofs.Rising.{all_append, all_weaker, ascending_told, same_r
 abbrev named : ℕ → Told
 named id = record { id = id; keep = 0; heard = None }
 
-both_true : (a b : Bool) → (a && b) ≡ true → (a ≡ true) × (b ≡ true)
-both_true true b is = (refl, is)
-both_true false b is = absurd (cc)
-
 above_named : (id : ℕ) (ids : List ℕ) → list_all (nat_lt id) ids ≡ true → AllByRecursion (λ other. id < other.id) (map named ids)
 above_named id [] above = tt
 above_named id (other ∷ ids) above =
-    let both = both_true (nat_lt id other) (list_all (nat_lt id) ids) above in
+    let both = and_parts (nat_lt id other) (list_all (nat_lt id) ids) above in
     let first = both.0 in
     (grind (arith, nat_tests), above_named id ids both.1)
 
 rising_named : (ids : List ℕ) → is_ascending ids ≡ true → IsRising (map named ids)
 rising_named [] ascending = tt
 rising_named (id ∷ ids) ascending =
-    let both = both_true (list_all (nat_lt id) ids) (is_ascending ids) ascending in
+    let both = and_parts (list_all (nat_lt id) ids) (is_ascending ids) ascending in
     (above_named id ids both.0, rising_named ids both.1)
 
 ids_named : (ids : List ℕ) → map (λ box. box.id) (map named ids) ≡ ids

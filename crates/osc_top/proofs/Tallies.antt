@@ -2,7 +2,7 @@
 use Rattle.std.proofs.Common.{◌≡◌, ℕ, ◌+◌, ◌<◌, ◌≤◌, List, [], ◌∷◌, ◌++◌, map, length, drop, sym, ap, subst, ◌∙◌, arith, append_assoc}
 use Rattle.std.specs.List.{AllByRecursion, Contains}
 use Rattle.std.specs.List.Sorted.{IsPermutation}
-use Rattle.std.proofs.lemmas.List.{append-nil, map-append}
+use Rattle.std.proofs.lemmas.List.{append-nil, map-append, drop-map}
 use Rattle.std.proofs.lemmas.List.Sums.{sum_by-append}
 use Rattle.std.proofs.lemmas.List.Elements.{All-from_recursion, recursion_from_All}
 use Rattle.std.proofs.lemmas.List.Sorted.{IsPermutation-sym, IsPermutation-trans, IsPermutation-map, IsPermutation-append_left, IsPermutation-to_front}
@@ -10,17 +10,19 @@ use Rattle.std.proofs.lemmas.List.Sorted.{IsPermutation-middle, All-permutation,
 use Rattle.osc_model.specs.Events.{Answer, added, Invocation}
 use Rattle.osc_model.specs.Heard.{Told, reset, hear_all}
 use Rattle.osc_model.specs.Heard.{all_hear, without_id}
+use Rattle.osc_model.proofs.Calls.{all_append}
+use Rattle.osc_laws.proofs.Places.{all_split}
 use Rattle.osc_top.specs.Bank.{Meaning, box_left, box_heard, boxes_heard}
 use Rattle.osc_top.specs.Tally.{IsRising, refused_boxes, Tally}
-use Rattle.osc_top.proofs.Rising.{all_weaker, all_append, all_front, count, times, once, id_counted, id_below, one_moved, rising_push}
-use Rattle.osc_top.proofs.Hearing.{HearsCalls, told_at, heard_push, refused_push, waiting_push, drop_map, fresh_box, heard_more, below_map, rising_map}
+use Rattle.osc_top.proofs.Rising.{all_weaker, count, times, once, id_counted, id_below, one_moved, rising_push}
+use Rattle.osc_top.proofs.Hearing.{HearsCalls, told_at, heard_push, refused_push, waiting_push, fresh_box, heard_more, below_map, rising_map}
 use Rattle.osc_top.proofs.Hearing.{none_hear}
 
 module _ {X : Type 0} (meaning : X → Meaning) where
   -- the next answer is given the first box that waits
   next_meaning : (answers : List Answer) (bank : List X) (box : X) (more : List X) → box ∷ more ≡ drop (length answers) bank
       → drop (length answers) (map meaning bank) ≡ meaning box ∷ map meaning more
-  next_meaning answers bank box more waiting = drop_map meaning (length answers) bank ∙ ap (map meaning) (sym waiting)
+  next_meaning answers bank box more waiting = drop-map meaning (length answers) bank ∙ ap (map meaning) (sym waiting)
 
   pub tally_refused : (calls : List Invocation) (answers : List Answer) (answer : Answer) (bank : List X) (next : ℕ) (boxes removed : List Told) (left : List X)
       (box : X) (more : List X)
@@ -123,10 +125,10 @@ module _ {X : Type 0} (meaning : X → Meaning) where
       (λ call inside. omega (arith, count_once calls answers bank next boxes removed left rest tally call.call.id, id_counted boxes call.call.id inside))
       there) in
       let within : AllByRecursion (λ box. box.id < next) boxes =
-      all_front (λ (box : Told). box.id < next) boxes removed
+      (all_split (λ (box : Told). box.id < next) boxes removed
       (recursion_from_All (λ (box : Told). box.id < next) (boxes ++ removed)
       (All-permutation (λ (box : Told). box.id < next) heard (boxes ++ removed) tally.told
-      (All-from_recursion (λ (box : Told). box.id < next) heard tally.below))) in
+      (All-from_recursion (λ (box : Told). box.id < next) heard tally.below)))).0 in
       let both : map (hear_all more) (boxes ++ removed) ≡ all_hear more boxes ++ removed =
       map-append (hear_all more) boxes removed ∙ ap (λ (l : List Told). map (hear_all more) boxes ++ l) silent in
       record {

@@ -2,24 +2,25 @@
 use Rattle.std.proofs.Common.{◌≡◌, ◌≤◌, ◌<◌, ℕ, zero, suc, ◌+◌, ◌-◌, ◌*◌, Bor, Option, Some, None, Bool, true, false, cond, ◌&&◌, List, [], ◌∷◌, ◌++◌, length}
 use Rattle.std.proofs.Common.{take, drop, map, get_or, refl, sym, ap, ◌∙◌, arith, add-one}
 use Rattle.std.specs.Prelude.{sum_by, MatchOption}
-use Rattle.std.specs.List.{list_any, slice_split, onto_first, join_with_byte}
+use Rattle.std.specs.List.{list_any, slice_split, onto_first}
 use Rattle.std.specs.Str.{bytes_eq}
 use Rattle.std.proofs.Math.Seq.{drop-cons}
-use Rattle.std.proofs.lemmas.Bool.Decides.{nat_tests}
 use Rattle.std.proofs.lemmas.Option.{unwrap_or-slice_get}
 use Rattle.std.proofs.lemmas.Cmp.{nat_list_eq_equiv}
 use Rattle.std.proofs.lemmas.Slice.Eq.{bytes_eq-Decides}
 use Rattle.std.proofs.lemmas.List.{get_or-map, length-map}
-use Rattle.std.proofs.lemmas.List.Splits.{join_with_byte-slice_split, slice_split-cons_yes, slice_split-cons_no}
+use Rattle.std.proofs.lemmas.List.Splits.{slice_split-cons_yes, slice_split-cons_no}
 use Rattle.std.proofs.lemmas.List.Sums.{sum_by-cons}
 use Rattle.osc_pattern.specs.Items.{is_slash}
 use Rattle.osc_pattern.specs.Reading.{match_part}
 use Rattle.osc_pattern.specs.Patterns.{parts_of, part_at, match_parts, begins_with_slash}
 use Rattle.osc_pattern.specs.Methods.{runs_of, prefixes_of}
+use Rattle.osc_pattern.proofs.Parts.{split-cons}
+use Rattle.osc_pattern.proofs.PlainPatterns.{same_bytes}
 use Rattle.osc_tree.specs.Walking.{shared, agreeing, part_steps, spent}
 use Rattle.std.proofs.lemmas.List.Folds.{list_any_at}
 use Rattle.std.proofs.lemmas.List.{length-take-le}
-use Rattle.osc_tree.proofs.Prefixes.{ends, split-cons, prefixes_are}
+use Rattle.osc_tree.proofs.Prefixes.{ends, is_slash-true, prefixes_are}
 use Rattle.osc_tree.proofs.Lists.{list_any-some}
 use Rattle.osc_tree.proofs.Places.{any_default}
 
@@ -181,19 +182,12 @@ ends_names (byte ∷ rest) k lt = go (is_slash byte) refl k lt (ends_names rest)
       ∙ slice_split-cons_no is_slash byte (get_or (ends rest) k []) is ∙ ap (onto_first byte) (more k long)
       ∙ ap (λ l. onto_first byte (take (suc k) l)) e ∙ sym (ap (λ l. take (suc k) (onto_first byte l)) e)
 
--- texts with the same names are the same
-pub same_names : (a b : List ℕ) → slice_split is_slash a ≡ slice_split is_slash b → a ≡ b
-same_names a b e = sym (join_with_byte-slice_split 47 a) ∙ ap (join_with_byte 47) e ∙ join_with_byte-slice_split 47 b
-
 -- the prefixes of an address, and the names of each
 pub prefixes_long : (address : List ℕ) → length (prefixes_of address) ≡ length (parts_of address)
 prefixes_long address = long (parts_of address) where
   long : (names : List (List ℕ)) → length (runs_of names) ≡ length names
   long [] = refl
   long (name ∷ names) = omega (arith, long names, length-map (runs_of names) (λ more. (47 ∷ name) ++ more))
-
-slash_is : (byte : ℕ) → is_slash byte ≡ true → 47 ≡ byte
-slash_is byte e = grind (arith, nat_tests)
 
 prefix_at : (rest : List ℕ) (k : ℕ) → k < length (slice_split is_slash rest) → get_or (prefixes_of (47 ∷ rest)) k [] ≡ 47 ∷ get_or (ends rest) k []
 prefix_at rest k lt = ap (λ l. get_or l k []) (prefixes_are rest) ∙ get_or-map (λ text. 47 ∷ text) (ends rest) k [] [] (omega (arith, ends_length rest))
@@ -202,19 +196,13 @@ pub prefix_names : (address : List ℕ) (k : ℕ) → begins_with_slash address 
     → parts_of (get_or (prefixes_of address) k []) ≡ take (suc k) (parts_of address)
 prefix_names [] k slash lt = absurd (cc)
 prefix_names (byte ∷ rest) k slash lt =
-    ap (λ (b : ℕ). parts_of (get_or (prefixes_of (b ∷ rest)) k [])) (sym (slash_is byte slash)) ∙ ap parts_of (prefix_at rest k lt) ∙ ends_names rest k lt
+    ap (λ (b : ℕ). parts_of (get_or (prefixes_of (b ∷ rest)) k [])) (sym (is_slash-true byte slash)) ∙ ap parts_of (prefix_at rest k lt) ∙ ends_names rest k lt
 
 pub prefix_slash : (address : List ℕ) (k : ℕ) → begins_with_slash address ≡ true → k < length (parts_of address)
     → begins_with_slash (get_or (prefixes_of address) k []) ≡ true
 prefix_slash [] k slash lt = absurd (cc)
 prefix_slash (byte ∷ rest) k slash lt =
-    ap (λ (b : ℕ). begins_with_slash (get_or (prefixes_of (b ∷ rest)) k [])) (sym (slash_is byte slash)) ∙ ap begins_with_slash (prefix_at rest k lt)
-
-pub same_parts : (a b : List ℕ) → begins_with_slash a ≡ true → begins_with_slash b ≡ true → parts_of a ≡ parts_of b → a ≡ b
-same_parts [] b first second e = absurd (cc)
-same_parts (x ∷ a) [] first second e = absurd (cc)
-same_parts (x ∷ a) (y ∷ b) first second e =
-    ap (λ (n : ℕ). n ∷ a) (sym (slash_is x first) ∙ slash_is y second) ∙ ap (λ l. y ∷ l) (same_names a b e)
+    ap (λ (b : ℕ). begins_with_slash (get_or (prefixes_of (b ∷ rest)) k [])) (sym (is_slash-true byte slash)) ∙ ap begins_with_slash (prefix_at rest k lt)
 
 -- a prefix of one address that another has too: they have so many names in common
 pub node_shares : (other address : List ℕ) (k : ℕ) → begins_with_slash other ≡ true → begins_with_slash address ≡ true → k < length (parts_of address)
@@ -242,7 +230,7 @@ shares_node other address k first second le =
     let inside : k < length (parts_of other) = let most = shared_first (parts_of other) (parts_of address) in omega arith in
     let lt : k < length (parts_of address) = let most = shared_first (parts_of address) (parts_of other) in omega arith in
     let same : get_or (prefixes_of address) k [] ≡ get_or (prefixes_of other) k [] =
-    same_parts (get_or (prefixes_of address) k []) (get_or (prefixes_of other) k []) (prefix_slash address k second lt) (prefix_slash other k first inside)
+    same_bytes (get_or (prefixes_of address) k []) (get_or (prefixes_of other) k []) (prefix_slash address k second lt) (prefix_slash other k first inside)
     (prefix_names address k second lt ∙ sym (shared_taken (parts_of other) (parts_of address) (suc k) le) ∙ sym (prefix_names other k first inside)) in
     list_any_at (bytes_eq (get_or (prefixes_of address) k [])) (prefixes_of other) k [] (omega (arith, prefixes_long other))
     ((bytes_eq-Decides (get_or (prefixes_of address) k []) (get_or (prefixes_of other) k [])).1 same)

@@ -10,6 +10,7 @@ use Rattle.osc_tree.specs.Order.{IsOrder, ordered, begins_with}
 use Rattle.osc_tree.specs.Views.{methods_of, methods_at}
 use Rattle.osc_tree.specs.Walking.{most_steps, IsSorted}
 use Rattle.std.proofs.lemmas.List.{append-nil}
+use Rattle.std.proofs.lemmas.List.Elements.{recursion_from_All, All-from_recursion}
 use Rattle.osc_tree.proofs.Counts.{folded_steps, some_steps}
 use Rattle.osc_tree.proofs.Lawful.{some_lawful}
 use Rattle.osc_tree.proofs.Orders.{all_placed, placed_ahead, placed_behind}
@@ -28,26 +29,17 @@ abbrev Pairs : List Method → Type 0
 Pairs [] = Unit {0}
 Pairs (method ∷ methods) = AllByRecursion (AreTwo method) methods × Pairs methods
 
-pub all_of : (P : Method → Type 0) (methods : List Method) → ((k : ℕ) (d : Method) → k < length methods → P (get_or methods k d)) → AllByRecursion P methods
-all_of P [] each = tt
-all_of P (method ∷ methods) each = (each 0 method (omega arith), all_of P methods (λ k d lt. each (suc k) d (omega arith)))
-
-pub all_back : (P : Method → Type 0) (methods : List Method) (k : ℕ) (d : Method) → AllByRecursion P methods → k < length methods → P (get_or methods k d)
-all_back P [] k d all lt = absurd (omega arith)
-all_back P (method ∷ methods) zero d all lt = all.0
-all_back P (method ∷ methods) (suc k) d all lt = all_back P methods k d all.1 (omega arith)
-
 pairs_of : (methods : List Method) → ((i j : ℕ) (d : Method) → i < j → j < length methods → AreTwo (get_or methods i d) (get_or methods j d)) → Pairs methods
 pairs_of [] each = tt
 pairs_of (method ∷ methods) each = (
-  all_of (AreTwo method) methods (λ k d lt. each 0 (suc k) d (omega arith) (omega arith)),
+  recursion_from_All (AreTwo method) methods (λ k d lt. each 0 (suc k) d (omega arith) (omega arith)),
   pairs_of methods (λ i j d lt within. each (suc i) (suc j) d (omega arith) (omega arith)),
 )
 
 pairs_back : (methods : List Method) (i j : ℕ) (d : Method) → Pairs methods → i < j → j < length methods → AreTwo (get_or methods i d) (get_or methods j d)
 pairs_back [] i j d pairs lt within = absurd (omega arith)
 pairs_back (method ∷ methods) i zero d pairs lt within = absurd (omega arith)
-pairs_back (method ∷ methods) zero (suc j) d pairs lt within = all_back (AreTwo method) methods j d pairs.0 (omega arith)
+pairs_back (method ∷ methods) zero (suc j) d pairs lt within = All-from_recursion (AreTwo method) methods pairs.0 j d (omega arith)
 pairs_back (method ∷ methods) (suc i) (suc j) d pairs lt within = pairs_back methods i j d pairs.1 (omega arith) (omega arith)
 
 pairs_placed : (method : Method) (others : List Method) → AllByRecursion (AreTwo method) others → Pairs others → Pairs (in_place others method)
@@ -90,11 +82,11 @@ ordered_sorted methods list =
       above = (list.apart i j d lt within).0;
       below = (list.apart i j d lt within).1;
     })) (none_cross methods) in
-    let lawful = all_folded (λ method. IsAddress method.address) [] methods tt (all_of (λ method. IsAddress method.address) methods list.lawful) in
+    let lawful = all_folded (λ method. IsAddress method.address) [] methods tt (recursion_from_All (λ method. IsAddress method.address) methods list.lawful) in
     record {
       list = record {
         ids = λ i j d lt within. (pairs_back (ordered methods) i j d pairs lt within).ids;
-        lawful = λ k d lt. all_back (λ method. IsAddress method.address) (ordered methods) k d lawful lt;
+        lawful = All-from_recursion (λ method. IsAddress method.address) (ordered methods) lawful;
         addresses = λ i j d lt within. (pairs_back (ordered methods) i j d pairs lt within).addresses;
         apart = λ i j d lt within.
             ((pairs_back (ordered methods) i j d pairs lt within).above, (pairs_back (ordered methods) i j d pairs lt within).below);

@@ -3,16 +3,17 @@ use Rattle.std.proofs.Common.{◌≡◌, ℕ, zero, suc, ◌+◌, ◌-◌, ◌<�
 use Rattle.std.proofs.Common.{drop, get_or, All, refl, sym, ap, subst, ◌∙◌, arith}
 use Rattle.std.specs.List.{list_any, slice_split, onto_first, starts_with}
 use Rattle.std.proofs.lemmas.Bool.Decides.{nat_tests}
+use Rattle.std.proofs.lemmas.Bool.{or_parts}
 use Rattle.std.proofs.lemmas.List.{take-map, drop-map}
 use Rattle.std.proofs.lemmas.List.Elements.{All-cons, All-head, All-tail, All-nil}
 use Rattle.osc_pattern.specs.Items.{is_slash}
 use Rattle.osc_pattern.specs.Addresses.{IsAddress, is_bad_byte}
 use Rattle.osc_pattern.specs.Methods.{Method, IsMethodList}
+use Rattle.osc_pattern.proofs.Parts.{split-cons}
 use Rattle.osc_tree.specs.declared.registered.Registered.{Registered}
 use Rattle.osc_tree.specs.Order.{begins_with, is_before, IsOrder, IsSearched}
 use Rattle.osc_tree.specs.Views.{methods_of, method_at, methods_at}
 use Rattle.osc_tree.proofs.Leaving.{sorted_at}
-use Rattle.osc_tree.proofs.Prefixes.{split-cons}
 use Rattle.osc_tree.proofs.Ranges.{lower, lower_more, begun_not_before}
 
 -- a text is before another and a byte above all of its own, if it is before the other or begins with it
@@ -33,11 +34,6 @@ before_end (x ∷ address) (y ∷ text) most all =
 good_byte : (byte : ℕ) → is_bad_byte byte ≡ false → byte < 127
 good_byte byte e = grind (arith, nat_tests)
 
-both_false : (a b : Bool) → (a || b) ≡ false → (a ≡ false) × (b ≡ false)
-both_false false false e = (refl, refl)
-both_false true b e = absurd (cc)
-both_false false true e = absurd (cc)
-
 -- no byte of names or between them is above those that names may have
 names_low : (rest : List ℕ) → All (λ name. list_any is_bad_byte name ≡ false) (slice_split is_slash rest) → All (λ byte. byte < 127) rest
 names_low [] all = All-nil (λ byte. byte < 127)
@@ -53,7 +49,7 @@ names_low (byte ∷ rest) all = go (is_slash byte) refl (split-cons rest) all (n
       (more (All-tail fine [] (slice_split is_slash rest) all))
   go false slash (name, names, e) all more =
       let those : All fine ((byte ∷ name) ∷ names) = subst (λ l. All fine (onto_first byte l)) e all in
-      let first = both_false (is_bad_byte byte) (list_any is_bad_byte name) (All-head fine (byte ∷ name) names those) in
+      let first = or_parts (is_bad_byte byte) (list_any is_bad_byte name) (All-head fine (byte ∷ name) names those) in
       All-cons (λ byte. byte < 127) byte rest (good_byte byte first.0)
       (more (subst (All fine) (sym e) (All-cons fine name names first.1 (All-tail fine (byte ∷ name) names those))))
 
@@ -145,7 +141,7 @@ begun_between text methods low high ends =
       behind : (k : ℕ) (d : Method) → low + (high - low) ≤ k → k < length methods → begins_with text (get_or methods k d) ≡ false
       behind k d le lt =
           let order' = order in
-          (both_false (is_before text (get_or methods k d)) (begins_with text (get_or methods k d))
+          (or_parts (is_before text (get_or methods k d)) (begins_with text (get_or methods k d))
           (sym (here_is text methods low high k d ends lt) ∙ ends.last.behind k d (omega arith) lt)).1
 
 -- and so do their places

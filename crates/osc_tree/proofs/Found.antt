@@ -1,39 +1,19 @@
 -- Methods by their ids: those that match have their addresses, and are few.
-use Rattle.std.proofs.Common.{◌≡◌, ◌≢◌, ℕ, suc, ◌≤◌, ◌==◌, Bool, true, false, cond, List, [], ◌∷◌, length, find, get_or, Option, Some, None, All, Contains, inl}
+use Rattle.std.proofs.Common.{◌≡◌, ◌≢◌, ℕ, ◌≤◌, ◌==◌, Bool, false, List, length, find, get_or, Option, Some, None, All, Contains, inl}
 use Rattle.std.proofs.Common.{inr, refl, sym, ap, ◌∙◌, arith}
 use Rattle.std.specs.List.{AllPairs}
 use Rattle.std.specs.Option.{option_map}
 use Rattle.std.specs.List.Sorted.{IsPermutation}
 use Rattle.std.proofs.lemmas.Bool.{eq-eqb, eqb-true, cases_order}
 use Rattle.std.proofs.lemmas.List.{get_or_default, length-map}
-use Rattle.std.proofs.lemmas.List.Elements.{All-cons, All-nil, All-filter, All-contains}
+use Rattle.std.proofs.lemmas.List.Elements.{All-filter, All-contains}
 use Rattle.std.proofs.lemmas.List.Sorted.{All-permutation, length_permutation}
 use Rattle.std.proofs.lemmas.List.Sums.{length-filter, count_by-le-length}
 use Rattle.osc_pattern.specs.Patterns.{matches}
 use Rattle.osc_pattern.specs.Methods.{Method}
 use Rattle.osc_tree.specs.Registry.{Registry, IsLawful, address_by_id}
 use Rattle.osc_tree.specs.Matching.{matched, matching, matching_ids}
-
-later : (x y : Method) (ys : List Method) → Contains ys x → Contains (y ∷ ys) x
-later x y ys (k, within, is) = (suc k, omega arith, is)
-
--- what is found is in the list and passes the test
-found : (test : Method → Bool) (xs : List Method) (x : Method) → find test xs ≡ Some x → Contains xs x × (test x ≡ true)
-found test [] x e = absurd (cc)
-found test (y ∷ ys) x e = go (test y) refl e (found test ys x) where
-  go : (t : Bool) → test y ≡ t → cond t (Some y) (find test ys) ≡ Some x → (find test ys ≡ Some x → Contains ys x × (test x ≡ true))
-      → Contains (y ∷ ys) x × (test x ≡ true)
-  go true is e more = let same : y ≡ x = cc in ((0, omega arith, same), ap test (sym same) ∙ is)
-  go false is e more = let first = more e in (later x y ys first.0, first.1)
-
--- where none is found, none passes the test
-not_found : (test : Method → Bool) (xs : List Method) → find test xs ≡ None → All (λ x. test x ≡ false) xs
-not_found test [] e = All-nil (λ x. test x ≡ false)
-not_found test (y ∷ ys) e = go (test y) refl e (not_found test ys) where
-  go : (t : Bool) → test y ≡ t → cond t (Some y) (find test ys) ≡ None → (find test ys ≡ None → All (λ x. test x ≡ false) ys)
-      → All (λ x. test x ≡ false) (y ∷ ys)
-  go true is e more = absurd (cc)
-  go false is e more = All-cons (λ x. test x ≡ false) y ys is (more e)
+use Rattle.osc_tree.proofs.Lists.{find-some, find-none}
 
 -- methods with one id are one, where ids differ
 one_by_id : (methods : List Method) (x y : Method) → AllPairs (λ a b. a.id ≢ b.id) methods → Contains methods x → Contains methods y → x.id ≡ y.id → x ≡ y
@@ -49,11 +29,11 @@ pub address_found : (methods : List Method) (method : Method) → AllPairs (λ a
 address_found methods method apart here = go (find (λ other. other.id == method.id) methods) refl where
   go : (o : Option Method) → find (λ other. other.id == method.id) methods ≡ o → option_map (λ m. m.address) o ≡ Some method.address
   go None e =
-      let other = All-contains (λ m. (m.id == method.id) ≡ false) methods method (not_found (λ m. m.id == method.id) methods e) here in
+      let other = All-contains (λ m. (m.id == method.id) ≡ false) methods method (find-none (λ m. m.id == method.id) methods e) here in
       let own = eq-eqb method.id method.id refl in
       absurd (cc)
   go (Some other) e =
-      let is = found (λ m. m.id == method.id) methods other e in
+      let is = find-some (λ m. m.id == method.id) methods other e in
       let same : other.id ≡ method.id = eqb-true other.id method.id is.1 in
       ap (λ (m : Method). Some m.address) (one_by_id methods other method apart is.0 here same)
 

@@ -5,7 +5,7 @@ use Rattle.std.specs.List.{position_or_len}
 use Rattle.std.specs.List.{before_first}
 use Rattle.std.proofs.lemmas.List.{length-map, get_or-map, map_push}
 use Rattle.std.proofs.lemmas.List.Edits.{length-insert}
-use Rattle.std.proofs.lemmas.List.Elements.{All-head, All-tail, All-nil, All-cons, All-append, All-take, All-drop}
+use Rattle.std.proofs.lemmas.List.Elements.{All-head, All-tail, All-nil, All-cons, All-append, All-take, All-drop, recursion_from_All, All-from_recursion}
 use Rattle.std.proofs.Math.ListN.{get_or-append}
 use Rattle.std.proofs.Math.Seq.{get_or-append_seam}
 use Rattle.osc_pattern.specs.Patterns.{begins_with_slash, is_special, matches}
@@ -20,7 +20,7 @@ use Rattle.osc_tree.proofs.Literals.{matched_starts}
 use Rattle.osc_tree.proofs.Places.{method_at-get}
 use Rattle.osc_tree.proofs.Sorting.{filter_ordered, ordered_ascend}
 use Rattle.osc_tree.proofs.Searches.{enters_there}
-use Rattle.osc_tree.proofs.Apart.{all_of, all_back, all_folded}
+use Rattle.osc_tree.proofs.Apart.{all_folded}
 
 pub methods_at-length : (registered : List Registered) (places : List ℕ) → length (methods_at registered places) ≡ length places
 methods_at-length registered places = length-map places (method_at registered)
@@ -97,7 +97,7 @@ last_method registered one = method_at-get (registered ++ one ∷ []) (length re
 none_in_order : (methods : List Method) (address : List ℕ) → NoneAt methods address → NoneAt (ordered methods) address
 none_in_order methods address none =
     let P : Method → Type 0 = λ method. method.address ≢ address in
-    λ k d lt. all_back P (ordered methods) k d (all_folded P [] methods tt (all_of P methods none)) lt
+    All-from_recursion P (ordered methods) (all_folded P [] methods tt (recursion_from_All P methods none))
 
 all_inserted : {X : Type 0} (P : X → Type 0) (xs : List X) (n : ℕ) (x : X) → All P xs → P x → All P (insert xs n x)
 all_inserted P xs n x all here = All-append P (take n xs) (x ∷ drop n xs) (All-take P n xs all) (All-cons P x (drop n xs) here (All-drop P n xs all))

@@ -4,6 +4,7 @@ use Rattle.std.proofs.Common.{subst, ◌∙◌, arith}
 use Rattle.std.specs.List.{position_or_len, remove}
 use Rattle.std.specs.Str.{bytes_eq}
 use Rattle.std.proofs.lemmas.Bool.Decides.{nat_tests}
+use Rattle.std.proofs.lemmas.Bool.{eqb-true}
 use Rattle.std.proofs.lemmas.Slice.Eq.{bytes_eq-Decides}
 use Rattle.std.proofs.lemmas.List.{length-map, get_or-map}
 use Rattle.std.proofs.lemmas.List.Edits.{get_or-remove_below, get_or-remove_above, length-remove}
@@ -29,9 +30,6 @@ pub record Leaves (registered : List Registered) (place : ℕ) (address : List �
   pub list : IsMethodList (methods_of registered)
   pub first : place ≡ position_or_len (λ method. bytes_eq method.address address) registered
   pub within : place < length registered
-
-same_place : (a b : ℕ) → (a == b) ≡ true → a ≡ b
-same_place a b e = let h : (a == b) ≡ true = e in grind (arith, nat_tests)
 
 -- the method at the place has the address
 here : (registered : List Registered) (place : ℕ) (address : List ℕ) (d : Registered) → Leaves registered place address
@@ -127,7 +125,7 @@ others_stay registered place address d (other ∷ places) so all =
       go true e more =
           let is : bytes_eq (method_at registered other).address address ≡ true =
           ap (λ (m : Method). bytes_eq m.address address) (method_at-get registered other d inside)
-          ∙ ap (λ (k : ℕ). bytes_eq (get_or registered k d).address address) (same_place other place e) ∙ here registered place address d so in
+          ∙ ap (λ (k : ℕ). bytes_eq (get_or registered k d).address address) (eqb-true other place e) ∙ here registered place address d so in
           more ∙ sym (ap
           (λ (t : Bool). cond (not t) (method_at registered other ∷ filter test (methods_at registered places)) (filter test (methods_at registered places)))
           is)
@@ -193,7 +191,7 @@ taken_out registered places at list order within =
 
     earlier : (k : ℕ) → k < at → (t : Bool) → test (get_or places k 0) ≡ t → test (get_or places k 0) ≡ false
     earlier k lt false e = e
-    earlier k lt true e = absurd (places_differ registered places k at list order lt within (same_place (get_or places k 0) (get_or places at 0) e))
+    earlier k lt true e = absurd (places_differ registered places k at list order lt within (eqb-true (get_or places k 0) (get_or places at 0) e))
 
     first : position_or_len test places ≡ at
     first = position_or_len_is test places at 0 (omega arith) (λ k lt. earlier k lt (test (get_or places k 0)) refl) (λ _. own (get_or places at 0))
@@ -203,8 +201,8 @@ taken_out registered places at list order within =
     once i j d lt in' is false e = e
     once i j d lt in' is true e =
         absurd (places_differ registered places i j list order lt in'
-        (any_default places i 0 d (omega arith) ∙ same_place (get_or places i d) (get_or places at 0) is
-        ∙ sym (same_place (get_or places j d) (get_or places at 0) e) ∙ any_default places j d 0 in'))
+        (any_default places i 0 d (omega arith) ∙ eqb-true (get_or places i d) (get_or places at 0) is
+        ∙ sym (eqb-true (get_or places j d) (get_or places at 0) e) ∙ any_default places j d 0 in'))
 
 -- the places of the others, in their order
 order_left : (registered : List Registered) (places : List ℕ) (at : ℕ) (address : List ℕ) (d : Registered) → IsMethodList (methods_of registered)

@@ -11,7 +11,7 @@ pub mod Sorting
 pub mod Ranges
 pub mod InOrder
 pub mod Leaving
-mod Refusing
+pub mod Refusing
 mod Found
 pub mod Alike
 pub mod Charges

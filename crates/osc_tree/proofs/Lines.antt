@@ -5,9 +5,11 @@ use Rattle.std.specs.List.{list_any, Contains}
 use Rattle.std.specs.Option.{option_map}
 use Rattle.std.specs.Str.{bytes_eq}
 use Rattle.std.proofs.lemmas.Bool.Decides.{nat_tests}
+use Rattle.std.proofs.lemmas.Bool.{false_from_ne_true}
 use Rattle.std.proofs.lemmas.Slice.Eq.{bytes_eq-Decides}
 use Rattle.osc_pattern.specs.Addresses.{is_proper_prefix}
 use Rattle.osc_pattern.specs.Methods.{Method, IsMethodList}
+use Rattle.osc_pattern.proofs.Cutting.{All-none}
 use Rattle.std.proofs.lemmas.List.{length-map, get_or-map}
 use Rattle.std.proofs.lemmas.List.Sums.{position_or_len_is}
 use Rattle.osc_tree.specs.declared.refusals.TreeRefusal.{TreeRefusal}
@@ -17,7 +19,7 @@ use Rattle.osc_tree.specs.Registry.{Registry, IsAt, IsAbove, HasBelow, IsNewId, 
 use Rattle.osc_tree.specs.Nodes.{new_nodes, free_nodes}
 use Rattle.osc_tree.specs.Adding.{IsApart, IsAddable, IsRefused, taken, under_method, is_container, methods_full, nodes_full, add_refusal}
 use Rattle.osc_tree.specs.Views.{method_of, methods_of}
-use Rattle.osc_tree.proofs.Lists.{find-map, find-some, find-none, none-find, list_any-none, list_any-some, find-at}
+use Rattle.osc_tree.proofs.Lists.{find-map, find-some, find-none, none-find, list_any-some, find-at}
 
 option_map-map : {X Y Z : Type 0} (g : Y → Z) (f : X → Y) (o : Option X) → option_map g (option_map f o) ≡ option_map (λ x. g (f x)) o
 option_map-map g f None = refl
@@ -58,11 +60,8 @@ id_at-some methods address id e =
 pub different : (a b : List ℕ) → bytes_eq a b ≡ false → a ≢ b
 different a b e same = let yes : bytes_eq a b ≡ true = (bytes_eq-Decides a b).1 same in cc
 
-no_longer_equal : (a b : List ℕ) → a ≢ b → bytes_eq a b ≡ false
-no_longer_equal a b other = go (bytes_eq a b) refl where
-  go : (t : Bool) → bytes_eq a b ≡ t → t ≡ false
-  go true e = absurd (other ((bytes_eq-Decides a b).0 e))
-  go false e = refl
+pub unequal : (a b : List ℕ) → a ≢ b → bytes_eq a b ≡ false
+unequal a b other = false_from_ne_true (bytes_eq a b) (λ e. other ((bytes_eq-Decides a b).0 e))
 
 pub id_at-none : (methods : List Method) (address : List ℕ) → id_at methods address ≡ None → NoneAt methods address
 id_at-none methods address e =
@@ -73,7 +72,7 @@ id_at-none methods address e =
 
 pub none-id_at : (methods : List Method) (address : List ℕ) → NoneAt methods address → id_at methods address ≡ None
 none-id_at methods address none =
-    ap (option_map (λ method. method.id)) (none-find (λ method. bytes_eq method.address address) methods (λ k d below. no_longer_equal _ _ (none k d below)))
+    ap (option_map (λ method. method.id)) (none-find (λ method. bytes_eq method.address address) methods (λ k d below. unequal _ _ (none k d below)))
 
 pub id_above-some : (methods : List Method) (address : List ℕ) (id : ℕ) → id_above methods address ≡ Some id → IsAbove methods id address
 id_above-some methods address id e =
@@ -94,7 +93,7 @@ below-some methods address e =
 
 pub below-none : (methods : List Method) (address : List ℕ) → list_any (λ method. is_proper_prefix address method.address) methods ≡ false
     → NoneBelow methods address
-below-none methods address e = list_any-none (λ method. is_proper_prefix address method.address) methods e
+below-none methods address e = All-none (λ method. is_proper_prefix address method.address) methods e
 
 -- the lines, one after another
 pub first_line : (tree : Registry) (address : List ℕ) (id : ℕ) → id_at tree.methods address ≡ Some id → add_refusal tree address ≡ Some (taken id)

@@ -6,6 +6,7 @@ use Rattle.std.specs.Option.{option_map}
 use Rattle.std.proofs.lemmas.Bool.{ltb-true, ltb-false}
 use Rattle.std.proofs.lemmas.List.{map-append, take-map, drop-map}
 use Rattle.std.proofs.lemmas.List.Elements.{All-cons, All-head, All-tail, All-nil}
+use Rattle.std.proofs.lemmas.List.Sums.{length-filter, count_by-le-length}
 
 pub find-map : {X Y : Type 0} (view : X → Y) (test : Y → Bool) (xs : List X) → find test (map view xs) ≡ option_map view (find (λ x. test (view x)) xs)
 find-map view test [] = refl
@@ -23,7 +24,7 @@ pub insert-map : {X Y : Type 0} (view : X → Y) (n : ℕ) (x : X) (xs : List X)
 insert-map view n x xs = map-append view (take n xs) (x ∷ drop n xs) ∙ ap (λ l. l ++ view x ∷ map view (drop n xs)) (sym (take-map view n xs))
     ∙ ap (λ l. take n (map view xs) ++ view x ∷ l) (sym (drop-map view n xs))
 
-contains_later : {X : Type 0} (x y : X) (ys : List X) → Contains ys x → Contains (y ∷ ys) x
+pub contains_later : {X : Type 0} (x y : X) (ys : List X) → Contains ys x → Contains (y ∷ ys) x
 contains_later x y ys (k, within, is) = (suc k, omega arith, is)
 
 -- what is found is in the list and passes the test
@@ -48,14 +49,6 @@ find-none test (y ∷ ys) e = go (test y) refl e (find-none test ys) where
 pub none-find : {X : Type 0} (test : X → Bool) (xs : List X) → All (λ x. test x ≡ false) xs → find test xs ≡ None
 none-find test [] all = refl
 none-find test (y ∷ ys) all = rw (All-head (λ x. test x ≡ false) y ys all) (none-find test ys (All-tail (λ x. test x ≡ false) y ys all))
-
-pub list_any-none : {X : Type 0} (test : X → Bool) (xs : List X) → list_any test xs ≡ false → All (λ x. test x ≡ false) xs
-list_any-none test [] e = All-nil (λ x. test x ≡ false)
-list_any-none test (y ∷ ys) e = go (test y) refl e (list_any-none test ys) where
-  go : (t : Bool) → test y ≡ t → (t || list_any test ys) ≡ false → (list_any test ys ≡ false → All (λ x. test x ≡ false) ys)
-      → All (λ x. test x ≡ false) (y ∷ ys)
-  go true is e more = absurd (cc)
-  go false is e more = All-cons (λ x. test x ≡ false) y ys is (more e)
 
 pub list_any-some : {X : Type 0} (test : X → Bool) (xs : List X) → list_any test xs ≡ true → (x : X) × Contains xs x × (test x ≡ true)
 list_any-some test [] e = absurd (cc)
@@ -95,6 +88,9 @@ pub find-at : {X : Type 0} (test : X → Bool) (xs : List X) (place : ℕ) (d : 
     → find test xs ≡ Some (get_or xs place d)
 find-at test xs place d is within = let lt : position_or_len test xs < length xs = omega arith in
     find_first test xs d lt ∙ ap (λ (n : ℕ). Some (get_or xs n d)) (sym is)
+
+pub filter_few : {X : Type 0} (test : X → Bool) (xs : List X) → length (filter test xs) ≤ length xs
+filter_few test xs = omega (arith, length-filter test xs, count_by-le-length test xs)
 
 filter_all : {X : Type 0} (p : X → Bool) (xs : List X) → All (λ x. p x ≡ true) xs → filter p xs ≡ xs
 filter_all p [] all = refl

@@ -1,16 +1,17 @@
 -- An address that a pattern matches begins with what the pattern has before its first special byte.
-use Rattle.std.proofs.Common.{◌≡◌, ℕ, ◌+◌, Bool, true, false, cond, ◌&&◌, ◌||◌, ◌==◌, not, length, List, [], ◌∷◌, ◌++◌, take, position, Some, None, Option}
+use Rattle.std.proofs.Common.{◌≡◌, ℕ, ◌+◌, Bool, true, false, cond, ◌||◌, ◌==◌, not, length, List, [], ◌∷◌, ◌++◌, take, position, Some, None, Option}
 use Rattle.std.proofs.Common.{refl, arith, sym, ap, subst, ◌∙◌, one-add, nat_eq}
 use Rattle.std.specs.Prelude.{Result, Ok, Err}
 use Rattle.std.specs.List.{list_any, slice_split, onto_first, before_first, position_or_len, starts_with}
 use Rattle.std.specs.Option.{option_map}
 use Rattle.std.proofs.lemmas.Bool.Decides.{nat_tests}
+use Rattle.std.proofs.lemmas.Bool.{both_ways, and_parts}
 use Rattle.osc_pattern.specs.Items.{Item, any, star, set, choice, plain, is_slash, is_list_end, is_choice_end}
 use Rattle.osc_pattern.specs.Cuts.{match_items}
 use Rattle.osc_pattern.specs.Reading.{cut_at, first_item, read_part, read_within, match_read, match_part, with_first}
 use Rattle.osc_pattern.specs.Patterns.{begins_with_slash, is_special, matches, match_parts}
+use Rattle.osc_pattern.proofs.Parts.{split-cons}
 use Rattle.osc_tree.proofs.Lists.{position-some}
-use Rattle.osc_tree.proofs.Prefixes.{split-cons}
 
 -- a part without bytes matches the name without bytes alone
 empty_part : (x : ℕ) (name : List ℕ) → match_part [] (x ∷ name) ≡ false
@@ -60,13 +61,6 @@ plain_first byte x part name special slash e = after_plain byte x (read_part par
 pub plain_none : (byte : ℕ) (part : List ℕ) → is_special byte ≡ false → is_slash byte ≡ false → match_part (byte ∷ part) [] ≡ false
 plain_none byte part special slash = part_plain byte part [] special slash ∙ no_name byte (read_part part)
 
-clash : (b : Bool) → b ≡ true → b ≡ false → ⊥
-clash b is other = let bad : true ≡ false = sym is ∙ other in absurd (cc)
-
-both : (a b : Bool) → (a && b) ≡ true → (a ≡ true) × (b ≡ true)
-both true b e = (refl, e)
-both false b e = absurd (cc)
-
 abbrev Splits : List ℕ → List ℕ → Type 0
 Splits pattern address = match_parts (slice_split is_slash pattern) (slice_split is_slash address) ≡ true
 
@@ -76,7 +70,7 @@ after_slash : (pattern address : List ℕ) → match_parts ([] ∷ slice_split i
 after_slash pattern [] e =
     let found = split-cons pattern in
     let no : match_parts ([] ∷ found.0 ∷ found.1) ([] ∷ []) ≡ true = subst (λ parts. match_parts ([] ∷ parts) ([] ∷ []) ≡ true) found.2 e in
-    absurd (clash false (both (match_part [] []) false no).1 refl)
+    absurd (both_ways false refl (and_parts (match_part [] []) false no).1)
 after_slash pattern (x ∷ address) e = go (is_slash x) refl e where
   go : (t : Bool) → is_slash x ≡ t
       → match_parts ([] ∷ slice_split is_slash pattern) (cond t ([] ∷ slice_split is_slash address) (onto_first x (slice_split is_slash address))) ≡ true
@@ -84,24 +78,24 @@ after_slash pattern (x ∷ address) e = go (is_slash x) refl e where
   go true is e = (
     address,
     ap (λ b. b ∷ address) (let h : (x == 47) ≡ true = is in grind (arith, nat_tests)),
-    (both (match_part [] []) (match_parts (slice_split is_slash pattern) (slice_split is_slash address)) e).1,
+    (and_parts (match_part [] []) (match_parts (slice_split is_slash pattern) (slice_split is_slash address)) e).1,
   )
   go false is e =
       let found = split-cons address in
       let no : match_parts ([] ∷ slice_split is_slash pattern) ((x ∷ found.0) ∷ found.1) ≡ true =
       subst (λ names. match_parts ([] ∷ slice_split is_slash pattern) (onto_first x names) ≡ true) found.2 e in
-      absurd (clash (match_part [] (x ∷ found.0)) (both (match_part [] (x ∷ found.0)) (match_parts (slice_split is_slash pattern) found.1) no).0
-      (empty_part x found.0))
+      absurd (both_ways (match_part [] (x ∷ found.0)) (empty_part x found.0)
+      (and_parts (match_part [] (x ∷ found.0)) (match_parts (slice_split is_slash pattern) found.1) no).0)
 
 not_empty : (byte : ℕ) (part : List ℕ) (parts names : List (List ℕ)) → is_special byte ≡ false → is_slash byte ≡ false
     → match_parts ((byte ∷ part) ∷ parts) ([] ∷ names) ≡ true → ⊥
 not_empty byte part parts names special slash e =
-    clash (match_part (byte ∷ part) []) (both (match_part (byte ∷ part) []) (match_parts parts names) e).0 (plain_none byte part special slash)
+    both_ways (match_part (byte ∷ part) []) (plain_none byte part special slash) (and_parts (match_part (byte ∷ part) []) (match_parts parts names) e).0
 
 first_names : (byte x : ℕ) (part name : List ℕ) (parts names : List (List ℕ)) → is_special byte ≡ false → is_slash byte ≡ false
     → match_parts ((byte ∷ part) ∷ parts) ((x ∷ name) ∷ names) ≡ true → (x ≡ byte) × (match_parts (part ∷ parts) (name ∷ names) ≡ true)
 first_names byte x part name parts names special slash e =
-    let two = both (match_part (byte ∷ part) (x ∷ name)) (match_parts parts names) e in
+    let two = and_parts (match_part (byte ∷ part) (x ∷ name)) (match_parts parts names) e in
     let first = plain_first byte x part name special slash two.0 in
     (first.0, rw (first.1, two.1) refl)
 
@@ -153,8 +147,8 @@ literal_begins (byte ∷ pattern) address e = go (is_special byte) (is_slash byt
 -- an address that a pattern matches is what the pattern has before its first special byte, and more
 pub matched_begins : (pattern address : List ℕ) → begins_with_slash pattern ≡ true → begins_with_slash address ≡ true → matches pattern address ≡ true
     → (rest : List ℕ) × (address ≡ literal pattern ++ rest)
-matched_begins [] address p a e = absurd (clash false p refl)
-matched_begins (x ∷ pattern) [] p a e = absurd (clash false a refl)
+matched_begins [] address p a e = absurd (both_ways false refl p)
+matched_begins (x ∷ pattern) [] p a e = absurd (both_ways false refl a)
 matched_begins (x ∷ pattern) (y ∷ address) p a e =
     let first : x ≡ 47 = (let h : (x == 47) ≡ true = p in grind (arith, nat_tests)) in
     let second : y ≡ 47 = (let h : (y == 47) ≡ true = a in grind (arith, nat_tests)) in

@@ -14,13 +14,14 @@ use Rattle.osc_pattern.specs.Addresses.{is_proper_prefix}
 use Rattle.osc_pattern.specs.Items.{is_slash}
 use Rattle.osc_pattern.specs.Patterns.{begins_with_slash}
 use Rattle.osc_pattern.specs.Methods.{Method, IsMethodList}
+use Rattle.osc_pattern.proofs.Cutting.{All-none}
 use Rattle.osc_tree.specs.declared.registered.Registered.{Registered}
 use Rattle.osc_tree.specs.Registry.{NoneAt, id_at, id_above}
 use Rattle.osc_tree.specs.Adding.{IsApart}
 use Rattle.osc_tree.specs.Order.{IsOrder, IsSearched, StandsAt, begins_with}
 use Rattle.osc_tree.specs.Views.{method_of, methods_of, method_at, methods_at}
 use Rattle.osc_tree.proofs.Above.{cut_above, above_cut, above_both}
-use Rattle.osc_tree.proofs.Lists.{find-at, none-find, list_any-none}
+use Rattle.osc_tree.proofs.Lists.{find-at, none-find}
 use Rattle.osc_tree.proofs.Lines.{different, id_at-some, id_at-none}
 use Rattle.osc_tree.proofs.Lawful.{once}
 use Rattle.osc_tree.proofs.Places.{any_default, method_at-get}
@@ -55,7 +56,7 @@ none_has registered places address order e =
     let test : Method → Bool = λ method. bytes_eq method.address address in
     λ k d below.
     different _ _
-    (list_any-none test (methods_of registered)
+    (All-none test (methods_of registered)
     (sym (any_ordered test (methods_of registered)) ∙ ap (list_any test) (sym order.all) ∙ e) k d below)
 
 -- a method lies below an address where one begins with it and a slash

@@ -1,5 +1,5 @@
 -- The nodes that an address adds, by what it has in common with the two methods beside its place in the order.
-use Rattle.std.proofs.Common.{◌≡◌, ◌≢◌, ◌≤◌, ◌<◌, ℕ, zero, suc, ◌-◌, max, Bool, true, false, not, cond, ◌||◌, nat_lt, List, [], ◌∷◌, ◌++◌, length, fold, take}
+use Rattle.std.proofs.Common.{◌≡◌, ◌≤◌, ◌<◌, ℕ, zero, suc, ◌-◌, max, Bool, true, false, not, cond, ◌||◌, nat_lt, List, [], ◌∷◌, ◌++◌, length, fold, take}
 use Rattle.std.proofs.Common.{drop, get_or, count_by, refl, sym, ap, ◌∙◌, arith}
 use Rattle.std.specs.List.{list_any, position_or_len}
 use Rattle.std.specs.Str.{bytes_eq}
@@ -7,6 +7,7 @@ use Rattle.std.proofs.lemmas.Bool.Decides.{nat_tests}
 use Rattle.std.proofs.lemmas.List.{take-append-drop}
 use Rattle.std.proofs.lemmas.List.Folds.{list_any-append, list_any_at}
 use Rattle.std.proofs.lemmas.List.Sums.{sum_by-cons}
+use Rattle.std.proofs.lemmas.List.Elements.{recursion_from_All, All-from_recursion}
 use Rattle.std.proofs.lemmas.Slice.Eq.{bytes_eq-Decides}
 use Rattle.osc_pattern.specs.Patterns.{parts_of, begins_with_slash}
 use Rattle.osc_pattern.specs.Methods.{Method, IsMethodList, prefixes_of}
@@ -19,8 +20,9 @@ use Rattle.osc_tree.proofs.Lists.{list_any-some}
 use Rattle.osc_tree.proofs.Places.{any_default}
 use Rattle.osc_tree.proofs.Ranges.{lower_order, ascend_far}
 use Rattle.osc_tree.proofs.Alike.{prefixes_long, node_shares, shares_node, shared_first, shared_turn, shared_through}
-use Rattle.osc_tree.proofs.Apart.{all_of, all_back, all_folded, ordered_sorted}
+use Rattle.osc_tree.proofs.Apart.{all_folded, ordered_sorted}
 use Rattle.osc_tree.proofs.Charges.{AreApart, shared_between, at_slash}
+use Rattle.osc_tree.proofs.Lines.{unequal}
 
 any_middle : {X : Type 0} (test : X → Bool) (front : List X) (x : X) (back : List X)
     → list_any test (front ++ x ∷ back) ≡ (test x || list_any test (front ++ back))
@@ -84,20 +86,15 @@ pub record IsAside (methods : List Method) (address : List ℕ) : Type 0 where
 aside_of : (methods : List Method) (address : List ℕ) → begins_with_slash address ≡ true → IsApart methods address → IsAside (ordered methods) address
 aside_of methods address slash apart = record {
   slash = slash;
-  apart = λ k d lt. all_back (λ method. AreApart method.address address) (ordered methods) k d
+  apart = All-from_recursion (λ method. AreApart method.address address) (ordered methods)
       (all_folded (λ method. AreApart method.address address) [] methods tt
-      (all_of (λ method. AreApart method.address address) methods
+      (recursion_from_All (λ method. AreApart method.address address) methods
       (λ k d lt. record {
-        differ = differ (get_or methods k d).address (apart.none_at k d lt);
+        differ = unequal (get_or methods k d).address address (apart.none_at k d lt);
         above = apart.none_above k d lt;
         below = apart.none_below k d lt;
-      }))) lt;
-} where
-  differ : (other : List ℕ) → other ≢ address → bytes_eq other address ≡ false
-  differ other ne = go (bytes_eq other address) refl where
-    go : (t : Bool) → bytes_eq other address ≡ t → t ≡ false
-    go true e = absurd (ne ((bytes_eq-Decides other address).0 e))
-    go false e = refl
+      })));
+}
 
 -- no method has more names in common with an address than the two beside its place
 beside : (methods : List Method) (address : List ℕ) (at i : ℕ) (d : Method) → IsSorted methods → IsAside methods address → IsSearched address methods at at

@@ -9,6 +9,7 @@ use Rattle.osc_pattern.specs.Items.{is_slash}
 use Rattle.osc_pattern.specs.Patterns.{begins_with_slash}
 use Rattle.osc_pattern.specs.Addresses.{is_proper_prefix}
 use Rattle.osc_pattern.specs.Methods.{runs_of, prefixes_of}
+use Rattle.osc_pattern.proofs.Parts.{split-cons}
 
 pub map-map : {X Y Z : Type 0} (g : Y → Z) (f : X → Y) (xs : List X) → map g (map f xs) ≡ map (λ x. g (f x)) xs
 map-map g f [] = refl
@@ -32,19 +33,11 @@ runs_inner : (names : List (List ℕ)) → runs_of names ≡ map (λ text. 47 �
 runs_inner [] = refl
 runs_inner (name ∷ names) = ap (λ l. (47 ∷ name) ∷ l) (sym (map-map (λ text. 47 ∷ text) (λ more. name ++ more) (runs_of names)))
 
-pub split-cons : (bytes : List ℕ) → (name : List ℕ) × (names : List (List ℕ)) × (slice_split is_slash bytes ≡ name ∷ names)
-split-cons [] = ([], [], refl)
-split-cons (x ∷ xs) = go (is_slash x) (split-cons xs) where
-  go : (t : Bool) → (name : List ℕ) × (names : List (List ℕ)) × (slice_split is_slash xs ≡ name ∷ names)
-      → (name : List ℕ) × (names : List (List ℕ)) × (cond t ([] ∷ slice_split is_slash xs) (onto_first x (slice_split is_slash xs)) ≡ name ∷ names)
-  go true found = ([], slice_split is_slash xs, refl)
-  go false (name, names, e) = (x ∷ name, names, ap (onto_first x) e)
-
 inner_onto : (byte : ℕ) (names : List (List ℕ)) (first : List ℕ) (others : List (List ℕ)) → names ≡ first ∷ others
     → inner (onto_first byte names) ≡ map (λ text. byte ∷ text) (inner names)
 inner_onto byte names first others e = rw e (ap (λ l. (byte ∷ first) ∷ l) (sym (map-map (λ text. byte ∷ text) (λ more. first ++ more) (runs_of others))))
 
-is_slash-true : (byte : ℕ) → is_slash byte ≡ true → 47 ≡ byte
+pub is_slash-true : (byte : ℕ) → is_slash byte ≡ true → 47 ≡ byte
 is_slash-true byte e = grind (arith, nat_tests)
 
 inner_ends : (rest : List ℕ) → inner (slice_split is_slash rest) ≡ ends rest

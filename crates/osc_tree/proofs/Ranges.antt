@@ -1,12 +1,13 @@
 -- Of methods in the order of their addresses, those that begin with a text stand together.
 use Rattle.std.proofs.Common.{Less, Equal, Greater, ◌≡◌, ℕ, zero, suc, ◌+◌, ◌<◌, ◌≤◌, Bool, true, false, cond, ◌==◌, List, [], ◌∷◌, length, get_or, refl, subst}
 use Rattle.std.proofs.Common.{arith, nat_eq, nat_lt}
-use Rattle.std.specs.List.{AllByRecursion, starts_with}
+use Rattle.std.specs.List.{starts_with}
 use Rattle.std.specs.Ordering.{is_lt, nat_cmp, ordering_then}
 use Rattle.std.specs.Cmp.{IsStrictWeakOrder}
 use Rattle.std.specs.Cmp.Lexicographic.{slice_cmp}
 use Rattle.std.proofs.lemmas.Cmp.{nat_list_cmp_total}
 use Rattle.std.proofs.lemmas.List.MinMax.{ranks_by}
+use Rattle.std.proofs.lemmas.List.Elements.{All-from_recursion}
 use Rattle.std.proofs.lemmas.Bool.Decides.{nat_tests}
 use Rattle.osc_pattern.specs.Methods.{Method}
 use Rattle.osc_tree.specs.Matching.{is_below, IsAscending}
@@ -58,11 +59,6 @@ before_smaller text method later up e = go (is_before text method) refl where
 pub behind_greater : (text : List ℕ) (method later : Method) → is_below later method ≡ false → is_before text method ≡ false → is_before text later ≡ false
 behind_greater text method later up e = lower_order.chain later.address method.address text up e
 
-all_at : (P : Method → Type 0) (methods : List Method) (k : ℕ) (d : Method) → AllByRecursion P methods → k < length methods → P (get_or methods k d)
-all_at P [] k d all within = absurd (omega arith)
-all_at P (method ∷ methods) zero d all within = all.0
-all_at P (method ∷ methods) (suc k) d all within = all_at P methods k d all.1 (omega arith)
-
 -- of two methods in order the later isn't below the earlier
 pub ascend_far : (methods : List Method) (i j : ℕ) (d : Method) → IsAscending methods → i ≤ j → j < length methods
     → is_below (get_or methods j d) (get_or methods i d) ≡ false
@@ -73,7 +69,7 @@ ascend_far (method ∷ methods) zero zero d up le within = same where
     go : (t : Bool) → is_below method method ≡ t → is_below method method ≡ false
     go true is = lower_order.one_way method.address method.address is
     go false is = is
-ascend_far (method ∷ methods) zero (suc j) d up le within = all_at (λ other. is_below other method ≡ false) methods j d up.0 (omega arith)
+ascend_far (method ∷ methods) zero (suc j) d up le within = All-from_recursion (λ other. is_below other method ≡ false) methods up.0 j d (omega arith)
 ascend_far (method ∷ methods) (suc i) zero d up le within = absurd (omega arith)
 ascend_far (method ∷ methods) (suc i) (suc j) d up le within = ascend_far methods i j d up.1 (omega arith) (omega arith)
 

@@ -13,14 +13,16 @@ use Rattle.osc_pattern.specs.Addresses.{is_proper_prefix}
 use Rattle.osc_pattern.specs.Items.{is_slash}
 use Rattle.osc_pattern.specs.Patterns.{parts_of, matches, begins_with_slash}
 use Rattle.osc_pattern.specs.Methods.{Method, prefixes_of}
+use Rattle.osc_pattern.proofs.Parts.{split-cons}
+use Rattle.osc_pattern.proofs.PlainPatterns.{same_bytes}
 use Rattle.osc_tree.specs.Walking.{shared, agreeing, known_at, IsWalked, IsSorted}
-use Rattle.osc_tree.proofs.Prefixes.{has_prefix_is, split-cons}
+use Rattle.osc_tree.proofs.Prefixes.{has_prefix_is}
 use Rattle.osc_tree.specs.declared.registered.Registered.{Registered}
 use Rattle.osc_tree.specs.Views.{method_of, method_at, methods_at}
-use Rattle.osc_tree.proofs.Lists.{position_or_len-bound, position-map}
+use Rattle.osc_tree.proofs.Lists.{position_or_len-bound, position-map, filter_few}
 use Rattle.osc_tree.proofs.InOrder.{methods_at-get, methods_at-length}
 use Rattle.osc_tree.proofs.Places.{any_default, method_at-get}
-use Rattle.osc_tree.proofs.Alike.{shared_first, shared_turn, all_agree, matched_agree, agree_too, shared_through, prefix_names, prefix_slash, same_parts}
+use Rattle.osc_tree.proofs.Alike.{shared_first, shared_turn, all_agree, matched_agree, agree_too, shared_through, prefix_names, prefix_slash}
 use Rattle.osc_tree.proofs.Alike.{shares_node}
 use Rattle.std.specs.List.Sorted.{IsPartitionedBy}
 use Rattle.osc_tree.proofs.Charges.{AreApart, at_slash, at_apart, shared_between}
@@ -85,7 +87,7 @@ not_all_shared one (x ∷ rest) first second apart le = go (split-cons rest) whe
       let alike : suc k ≤ shared (parts_of one) (parts_of other) = omega arith in
       let node : List ℕ = get_or (prefixes_of other) k [] in
       let is : node ≡ other =
-      same_parts node other (prefix_slash other k second (omega arith)) second
+      same_bytes node other (prefix_slash other k second (omega arith)) second
       (prefix_names other k second (omega arith) ∙ take_all (suc k) (parts_of other) (omega arith)) in
       let has : (bytes_eq node one || is_proper_prefix node one) ≡ true =
       sym (has_prefix_is node one (prefix_slash other k second (omega arith)) first) ∙ shares_node one other k first second alike in
@@ -256,13 +258,6 @@ walked_over pattern methods at ids count matching least d sorted within so is wh
         let one = any_default methods (at + count) other d (omega arith) in
         let two = any_default methods (suc (at + count)) other d (omega arith) in
         rw (one, two) (next_here lt)
-
-filter_few : {X : Type 0} (test : X → Bool) (xs : List X) → length (filter test xs) ≤ length xs
-filter_few test [] = omega arith
-filter_few test (x ∷ xs) = go (test x) (filter_few test xs) where
-  go : (t : Bool) → length (filter test xs) ≤ length xs → length (cond t (x ∷ filter test xs) (filter test xs)) ≤ suc (length xs)
-  go true le = omega arith
-  go false le = omega arith
 
 pub walked_few : (pattern : List ℕ) (methods : List Method) (at : ℕ) (ids : List ℕ) → IsWalked pattern methods at ids → length ids ≤ at
 walked_few pattern methods at ids so =

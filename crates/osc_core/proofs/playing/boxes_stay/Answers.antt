@@ -3,7 +3,8 @@ use Rattle.osc_model.specs.State.{State}
 use Rattle.osc_model.specs.Events.{release}
 use Rattle.osc_model.specs.History.{state_of}
 use Rattle.osc_model.proofs.Onward.{caps_stay}
-use Rattle.osc_core.proofs.Staying.{quiet_silent, release_keeps}
+use Rattle.osc_model.proofs.Boxes.{release_keeps}
+use Rattle.osc_core.proofs.Staying.{quiet_silent}
 use Rattle.osc_core.proofs.playing.boxes_stay.Goals as goal
 
 pub returns-clause-quiet : goal.returns-clause-quiet

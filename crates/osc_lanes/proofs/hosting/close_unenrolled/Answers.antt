@@ -8,7 +8,7 @@ use Rattle.osc_live.specs.Enrolments.{refusal_of}
 use Rattle.osc_live.specs.Seen.{IsTokenOf, history_of}
 use Rattle.osc_lanes.proofs.Finishing.{never_both, stands_alone}
 use Rattle.osc_lanes.proofs.HostEnds.{finish_unenrolled}
-use Rattle.osc_lanes.proofs.Hosts.{inserted_first}
+use Rattle.osc_live.proofs.Closings.{inserted_first}
 use Rattle.osc_lanes.proofs.hosting.close_unenrolled.Goals as goal
 use Rattle.osc_lanes.proofs.hosting.close_unenrolled.Goals.{In_ok-push, In_ok-bytes}
 

@@ -9,9 +9,10 @@ use Rattle.osc_live.specs.declared.caller.Caller.{Caller}
 use Rattle.osc_live.specs.declared.guest.Guest.{Guest}
 use Rattle.osc_live.specs.Closing.{known, views_of, made_by, Closes}
 use Rattle.osc_live.specs.Seen.{IsTokenOf}
+use Rattle.osc_live.proofs.Closings.{inserted_first}
 use Rattle.osc_lanes.specs.Crews.{names_of}
 use Rattle.osc_lanes.proofs.HostEnds.{finish_served}
-use Rattle.osc_lanes.proofs.Hosts.{inserted_first, many_served}
+use Rattle.osc_lanes.proofs.Hosts.{many_served}
 use Rattle.osc_lanes.proofs.hosting.serve_crew.Goals as goal
 use Rattle.osc_lanes.proofs.hosting.serve_crew.Goals.{After-new}
 

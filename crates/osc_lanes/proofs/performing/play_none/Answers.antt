@@ -10,7 +10,7 @@ use Rattle.osc_live.specs.Enrolments.{refusal_of}
 use Rattle.osc_lanes.specs.Shares.{Account, ended}
 use Rattle.osc_lanes.specs.Performs.{Performs, part_of}
 use Rattle.osc_lanes.proofs.Finishing.{never_both, finish_none}
-use Rattle.osc_lanes.proofs.Hosts.{inserted_first}
+use Rattle.osc_live.proofs.Closings.{inserted_first}
 use Rattle.osc_lanes.proofs.performing.play_none.Goals as goal
 use Rattle.osc_lanes.proofs.performing.play_none.Goals.{In_ok-bytes}
 

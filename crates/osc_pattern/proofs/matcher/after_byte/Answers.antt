@@ -4,10 +4,11 @@ use Rattle.std.specs.List.{list_any}
 use Rattle.osc_pattern.specs.Items.{item_text}
 use Rattle.osc_pattern.specs.Cuts.{after_byte}
 use Rattle.osc_pattern.specs.Views.{item_of, is_place_of, passes}
-use Rattle.osc_pattern.proofs.Reaches.{any_rest-none, any_rest-next, any_rest-byte, not_reached, other_byte, item_text-some, next_row, first_and_rest}
+use Rattle.osc_pattern.proofs.Reaches.{any_rest-none, any_rest-next, any_rest-byte, not_reached, other_byte, next_row, first_and_rest}
 use Rattle.osc_pattern.proofs.Reaches.{drop-next}
 use Rattle.osc_pattern.proofs.matcher.after_byte.Goals.{then-has+then-has_byte, else-has, else-has-via-then-has+else-has_byte, else-has-via-else-has}
 use Rattle.osc_pattern.proofs.matcher.after_byte.Goals as goal
+use Rattle.osc_pattern.proofs.Readings.{item_text-long}
 
 pub loop-rest-init : goal.loop-rest-init
 loop-rest-init g c = (
@@ -49,7 +50,7 @@ loop-rest-preserved g c =
           ]
     ] in
     let ticked = c.tick.ensures in
-    let some_text = item_text-some item in
+    let some_text = item_text-long item in
     let spent : (c.loop-rest.steps ≤ c.if-has.steps) × (c.if-has.steps ≤ c.loop-rest.steps + length (item_text item)) =
     elim c.if-has.branch [
       | then-has+then-has_byte w ↦

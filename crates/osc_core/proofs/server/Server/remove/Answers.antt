@@ -3,8 +3,8 @@ use Rattle.std.proofs.lemmas.List.Elements.{All-filter}
 use Rattle.std.specs.Str.{bytes_eq}
 use Rattle.osc_tree.specs.Registry.{Registry}
 use Rattle.osc_model.specs.State.{State}
+use Rattle.osc_model.proofs.Leaving.{ids_left}
 use Rattle.osc_core.specs.Ids.{without}
-use Rattle.osc_core.proofs.Leaving.{ids_left}
 use Rattle.osc_core.proofs.server.Server.remove.Goals as goal
 
 pub invariant_of-self-2 : goal.invariant_of-self-2
