@@ -15,7 +15,7 @@ use Rattle.osc_model.specs.Recordings.{IsRecordable, entry_text, record_text}
 use Rattle.osc_model.specs.Heard.{Told, bytes_of, hear, hear_all, all_hear, reset, without_id}
 use Rattle.osc_model.specs.History.{Legal, Performance, stepped_in, onward, HaveHeard}
 use Rattle.osc_model.proofs.Counted.{history_counted}
-use Rattle.osc_model.proofs.Onward.{legal_split}
+use Rattle.osc_model.proofs.Onward.{legal_split, entry_in as entry_on}
 use Rattle.osc_model.proofs.Recordable.{after_caps}
 use Rattle.osc_model.proofs.Boxes.{same_id}
 use Rattle.osc_laws.proofs.Members.{sent}
@@ -117,10 +117,6 @@ few_legal caps history legal =
     omega (arith, few, within, most, same)
 
 -- One event on.
-
--- the entry of a caller's event
-abbrev entry_on : Performance → ℕ → Event → Entry
-entry_on performance caller event = record { caller = caller; event = event; answer = (stepped_in performance event).answer }
 
 last_of_all : {X : Type 0} (P : X → Type 0) (xs : List X) (x : X) → AllByRecursion P (xs ++ x ∷ []) → P x
 last_of_all P [] x all = all.0

@@ -7,6 +7,7 @@ use Rattle.std.proofs.lemmas.Bool.Decides.{nat_tests}
 use Rattle.std.proofs.lemmas.List.{append-nil, map-append, drop_all}
 use Rattle.std.proofs.lemmas.List.Elements.{recursion_from_All}
 use Rattle.osc_pattern.specs.Methods.{Method}
+use Rattle.osc_tree.proofs.Lists.{all_filter}
 use Rattle.osc_method.specs.Heard.{last_of, after_call}
 use Rattle.osc_model.specs.Limits.{Limits}
 use Rattle.osc_model.specs.State.{State}
@@ -114,13 +115,6 @@ added_hears given performance caller address told boxes legal have is =
     })
 
 -- A method that leaves.
-
-all_filter : {X : Type 0} (P : X → Type 0) (test : X → Bool) (xs : List X) → AllByRecursion P xs → AllByRecursion P (filter test xs)
-all_filter P test [] all = tt
-all_filter {X} P test (x ∷ xs) all = go (test x) (all_filter P test xs all.1) where
-  go : (t : Bool) → AllByRecursion P (filter test xs) → AllByRecursion P (cond t (x ∷ filter test xs) (filter test xs))
-  go true more = (all.0, more)
-  go false more = more
 
 pub others_left : (performance : Performance) (caller id : ℕ) (address : List ℕ) (boxes : List Told) → IsSound (state_of performance)
     → HaveHeard performance boxes

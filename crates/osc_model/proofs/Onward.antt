@@ -72,7 +72,7 @@ legal_split state (entry ∷ first) more legal =
 -- A performance, one event on.
 
 -- the entry of a caller's event
-abbrev entry_in : Performance → ℕ → Event → Entry
+abbrev pub entry_in : Performance → ℕ → Event → Entry
 entry_in performance caller event = record { caller = caller; event = event; answer = (stepped_in performance event).answer }
 
 -- what holds of both ways in which a performance goes on holds of it

@@ -1,11 +1,11 @@
 -- Lists of the code, and what they stand for.
 use Rattle.std.proofs.Common.{◌≡◌, ℕ, suc, ◌+◌, ◌<◌, ◌≤◌, Bool, true, false, not, cond, ◌||◌, List, [], ◌∷◌, ◌++◌, map, find, filter, length, take, drop}
 use Rattle.std.proofs.Common.{insert, get_or, Some, None, position, All, nat_lt, refl, sym, ap, ◌∙◌, one-add, arith}
-use Rattle.std.specs.List.{list_any, position_or_len, AllPairs, Contains, remove}
+use Rattle.std.specs.List.{list_any, position_or_len, AllPairs, Contains, remove, AllByRecursion}
 use Rattle.std.specs.Option.{option_map}
 use Rattle.std.proofs.lemmas.Bool.{ltb-true, ltb-false}
 use Rattle.std.proofs.lemmas.List.{map-append, take-map, drop-map}
-use Rattle.std.proofs.lemmas.List.Elements.{All-cons, All-head, All-tail, All-nil}
+use Rattle.std.proofs.lemmas.List.Elements.{All-cons, All-head, All-tail, All-nil, All-filter, All-from_recursion, recursion_from_All}
 use Rattle.std.proofs.lemmas.List.Sums.{length-filter, count_by-le-length}
 
 pub find-map : {X Y : Type 0} (view : X → Y) (test : Y → Bool) (xs : List X) → find test (map view xs) ≡ option_map view (find (λ x. test (view x)) xs)
@@ -88,6 +88,9 @@ pub find-at : {X : Type 0} (test : X → Bool) (xs : List X) (place : ℕ) (d : 
     → find test xs ≡ Some (get_or xs place d)
 find-at test xs place d is within = let lt : position_or_len test xs < length xs = omega arith in
     find_first test xs d lt ∙ ap (λ (n : ℕ). Some (get_or xs n d)) (sym is)
+
+pub all_filter : {X : Type 0} (P : X → Type 0) (test : X → Bool) (xs : List X) → AllByRecursion P xs → AllByRecursion P (filter test xs)
+all_filter P test xs all = recursion_from_All P (filter test xs) (All-filter test P xs (All-from_recursion P xs all))
 
 pub filter_few : {X : Type 0} (test : X → Bool) (xs : List X) → length (filter test xs) ≤ length xs
 filter_few test xs = omega (arith, length-filter test xs, count_by-le-length test xs)

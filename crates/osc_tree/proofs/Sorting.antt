@@ -6,6 +6,7 @@ use Rattle.osc_pattern.specs.Methods.{Method}
 use Rattle.osc_tree.specs.Matching.{is_below, in_place, matching, IsAscending}
 use Rattle.osc_tree.specs.Order.{ordered}
 use Rattle.osc_tree.proofs.Orders.{below_order, placed_behind, placed_ahead, ascending_placed, folded_ascend}
+use Rattle.osc_tree.proofs.Lists.{all_filter}
 
 -- what is before a method is before all that aren't before that one
 before_all : (method other : Method) (others : List Method) → is_below method other ≡ true → AllByRecursion (λ third. is_below third other ≡ false) others
@@ -15,13 +16,6 @@ before_all method other (third ∷ others) e first = (go (is_below method third)
   go : (t : Bool) → is_below method third ≡ t → is_below method third ≡ true
   go true is = is
   go false is = absurd (let no = below_order.chain method third other is first.0 in cc)
-
-kept_all : (P : Method → Type 0) (test : Method → Bool) (methods : List Method) → AllByRecursion P methods → AllByRecursion P (filter test methods)
-kept_all P test [] all = tt
-kept_all P test (method ∷ methods) all = go (test method) (kept_all P test methods all.1) where
-  go : (t : Bool) → AllByRecursion P (filter test methods) → AllByRecursion P (cond t (method ∷ filter test methods) (filter test methods))
-  go true more = (all.0, more)
-  go false more = more
 
 placed_first : (method : Method) (others : List Method) → AllByRecursion (λ other. is_below method other ≡ true) others
     → in_place others method ≡ method ∷ others
@@ -54,7 +48,7 @@ filter_placed test method (other ∷ others) ascending = go (is_below method oth
       ap (filter test) (placed_ahead method other others e)
       ∙ ahead (test method)
       (placed_first method (filter test (other ∷ others))
-      (kept_all (λ third. is_below method third ≡ true) test (other ∷ others) (e, before_all method other others e ascending.0)))
+      (all_filter (λ third. is_below method third ≡ true) test (other ∷ others) (e, before_all method other others e ascending.0)))
   go false e more = ap (filter test) (placed_behind method other others e) ∙ behind (test other) (test method) e more
 
 filter_folded : (test : Method → Bool) (methods more : List Method) → IsAscending methods
