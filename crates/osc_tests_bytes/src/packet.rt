@@ -1,7 +1,7 @@
 // Vectors of packets, each with its first fault or the number of its units.
 ghost use Rattle.std.specs.Prelude.{◌≤◌};
 
-use osc_atoms::{Fault, put_string, put_tag, put_word};
+use osc_atoms::{put_string, put_tag, put_word};
 use osc_packet::{MAX_PACKET, Packet};
 use std::alloc::{AllocError, Global};
 
@@ -9,13 +9,12 @@ use std::alloc::{AllocError, Global};
 const MIXED: &[u8; 60] =
     b"#bundle\0\0\0\0\0\0\0\0\x02\0\0\0\x04/a\0\0\0\0\0\x18#bundle\0\0\0\0\0\0\0\0\x02\0\0\0\x04/b\0\0\0\0\0\x04/c\0\0";
 
-/// The number of units, or the first fault.
-fn told(bytes: &[u8]) -> Result<u32, Fault> {
-    Ok(Packet::check(bytes, MAX_PACKET)?.count())
-}
-
-fn fault(kind: u8, at: u32) -> Result<u32, Fault> {
-    Err(Fault { kind, at })
+/// The number of units, or the kind and the place of the first fault.
+fn told(bytes: &[u8]) -> Result<u32, (u8, u32)> {
+    match Packet::check(bytes, MAX_PACKET) {
+        Ok(packet) => Ok(packet.count()),
+        Err(fault) => Err((fault.kind, fault.at)),
+    }
 }
 
 /// So many bundles, each the only element of the one before, all with tag 1.
@@ -33,50 +32,51 @@ fn nested(alloc: Global, depth: u32) -> Result<Vec<u8>, AllocError>
     Ok(out)
 }
 
+const VECTORS: [(&[u8], Result<u32, (u8, u32)>); 22] = [
+    (b"", Err((1, 0))),
+    (&[0; 30], Err((2, 30))),
+    (b"ab\0\0", Err((4, 0))),
+    (b"#bundle\x01", Err((5, 0))),
+    (b"#bundle\0\0\0\0\0", Err((6, 8))),
+    (
+        b"#bundle\0\0\0\0\0\0\0\0\x01\0\0\0\x06/a\0\0\0\0\0\0",
+        Err((7, 16)),
+    ),
+    (b"#bundle\0\0\0\0\0\0\0\0\x01\0\0\0\0", Err((7, 16))),
+    (b"/abc", Err((8, 0))),
+    (b"/a\0\0,s\0\0", Err((8, 8))),
+    (b"/a\0\x01", Err((9, 3))),
+    (b"/a\0\0\0\0\0\x01", Err((12, 4))),
+    (b"/a\0\0,b\0\0\0\0\0\x05\0\0\0\0", Err((13, 8))),
+    (b"/a\0\0,i\0\0", Err((14, 8))),
+    (b"/a\0\0,]\0\0", Err((15, 5))),
+    (b"/a\0\0,[\0\0", Err((15, 5))),
+    (b"/a\0\0,i\0\0\0\0\0\x01\0\0\0\x02", Err((16, 12))),
+    (
+        b"#bundle\0\0\0\0\0\0\0\0\x03\0\0\0\x04/a\0\0\0\0\0\x18#bundle\0\0\0\0\0\0\0\0\x02\0\0\0\x04/b\0\0\0\0\0\x04/c\0\0",
+        Err((18, 36)),
+    ),
+    (b"/a\0\0,x]\0abcd", Ok(1)),
+    (MIXED, Ok(2)),
+    (
+        b"#bundle\0\0\0\0\0\0\0\0\x01\0\0\0\x08/a\0\0,x\0\0\0\0\0\x0c/a\0\0,i\0\0\0\0\0\x01",
+        Ok(1),
+    ),
+    (b"#bundle\0\0\0\0\0\0\0\0\x01", Ok(1)),
+    (
+        b"#bundle\0\0\0\0\0\0\0\0\x01\xff\xff\xff\xfc/a\0\0",
+        Err((7, 16)),
+    ),
+];
+
 #[test]
 fn each_vector_has_its_first_fault_or_its_units(rt: HostRuntime) -> Result<(), AllocError> {
-    let rows: [(&[u8], Result<u32, Fault>); 22] = [
-        (b"", fault(1, 0)),
-        (&[0; 30], fault(2, 30)),
-        (b"ab\0\0", fault(4, 0)),
-        (b"#bundle\x01", fault(5, 0)),
-        (b"#bundle\0\0\0\0\0", fault(6, 8)),
-        (
-            b"#bundle\0\0\0\0\0\0\0\0\x01\0\0\0\x06/a\0\0\0\0\0\0",
-            fault(7, 16),
-        ),
-        (b"#bundle\0\0\0\0\0\0\0\0\x01\0\0\0\0", fault(7, 16)),
-        (b"/abc", fault(8, 0)),
-        (b"/a\0\0,s\0\0", fault(8, 8)),
-        (b"/a\0\x01", fault(9, 3)),
-        (b"/a\0\0\0\0\0\x01", fault(12, 4)),
-        (b"/a\0\0,b\0\0\0\0\0\x05\0\0\0\0", fault(13, 8)),
-        (b"/a\0\0,i\0\0", fault(14, 8)),
-        (b"/a\0\0,]\0\0", fault(15, 5)),
-        (b"/a\0\0,[\0\0", fault(15, 5)),
-        (b"/a\0\0,i\0\0\0\0\0\x01\0\0\0\x02", fault(16, 12)),
-        (
-            b"#bundle\0\0\0\0\0\0\0\0\x03\0\0\0\x04/a\0\0\0\0\0\x18#bundle\0\0\0\0\0\0\0\0\x02\0\0\0\x04/b\0\0\0\0\0\x04/c\0\0",
-            fault(18, 36),
-        ),
-        (b"/a\0\0,x]\0abcd", Ok(1)),
-        (MIXED, Ok(2)),
-        (
-            b"#bundle\0\0\0\0\0\0\0\0\x01\0\0\0\x08/a\0\0,x\0\0\0\0\0\x0c/a\0\0,i\0\0\0\0\0\x01",
-            Ok(1),
-        ),
-        (b"#bundle\0\0\0\0\0\0\0\0\x01", Ok(1)),
-        (
-            b"#bundle\0\0\0\0\0\0\0\0\x01\xff\xff\xff\xfc/a\0\0",
-            fault(7, 16),
-        ),
-    ];
-    for (bytes, wanted) in rows {
+    for (bytes, wanted) in VECTORS {
         assert_eq!(rt; told(bytes), wanted);
     }
     let long = vec![in rt.alloc(); 0; 65_508]?;
-    assert_eq!(rt; told(&long), fault(3, 65_504));
-    assert_eq!(rt; told(&nested(rt.alloc(), 17)?), fault(17, 320));
+    assert_eq!(rt; told(&long), Err((3, 65_504)));
+    assert_eq!(rt; told(&nested(rt.alloc(), 17)?), Err((17, 320)));
     assert_eq!(rt; told(&nested(rt.alloc(), 16)?), Ok(16));
     Ok(())
 }
@@ -85,15 +85,15 @@ fn each_vector_has_its_first_fault_or_its_units(rt: HostRuntime) -> Result<(), A
 fn a_packet_that_is_cut_off_is_read_to_the_cut(rt: HostRuntime) {
     for size in 0..60 {
         let wanted = match size {
-            0 => fault(1, 0),
-            4 => fault(5, 0),
-            8 | 12 => fault(6, 8),
+            0 => Err((1, 0)),
+            4 => Err((5, 0)),
+            8 | 12 => Err((6, 8)),
             16 | 24 => Ok(1),
-            20 => fault(7, 16),
-            28 | 32 | 36 | 40 | 44 | 48 => fault(7, 24),
+            20 => Err((7, 16)),
+            28 | 32 | 36 | 40 | 44 | 48 => Err((7, 24)),
             52 => Ok(2),
-            56 => fault(7, 52),
-            _ => fault(2, size),
+            56 => Err((7, 52)),
+            _ => Err((2, size)),
         };
         assert_eq!(rt; told(&MIXED[..size as usize]), wanted);
     }

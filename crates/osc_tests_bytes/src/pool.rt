@@ -1,5 +1,5 @@
 // A pool of three blocks, whose chains come and go.
-ghost use Rattle.osc_pool.specs.Holding.{IsLive};
+ghost use Rattle.osc_pool.specs.Holding.{AreApart, IsLive};
 
 use osc_atoms::Room;
 use osc_pool::{Chain, Pool};
@@ -33,6 +33,33 @@ fn assert_reads<R: Abort>(
     Ok(())
 }
 
+/// Gives the first chain back, whose blocks a third one takes, and then the second.
+fn take_the_blocks<R: Abort>(
+    rt: &R,
+    alloc: Global,
+    pool: &mut Pool,
+    first: Chain,
+    second: Chain,
+    second_bytes: &[u8],
+    third_bytes: &[u8],
+) -> Result<(), Fail>
+    requires first { IsLive first pool.old }
+    requires second { IsLive second pool.old }
+    requires apart { AreApart second first }
+{
+    pool.give(first);
+    assert_eq!(rt; pool.free(), 2);
+    let Ok(third) = pool.store(third_bytes) else {
+        return Err(Fail::new("the third is refused"));
+    };
+    assert_reads(rt, alloc, pool, &second, second_bytes)?;
+    assert_reads(rt, alloc, pool, &third, third_bytes)?;
+    pool.give(second);
+    assert_reads(rt, alloc, pool, &third, third_bytes)?;
+    assert_eq!(rt; pool.free(), 1);
+    Ok(())
+}
+
 /// The first chain has two blocks and the second one. The third takes those of the first.
 fn take_turns<R: Abort>(
     rt: &R,
@@ -54,17 +81,15 @@ fn take_turns<R: Abort>(
         Some(Room { need: 1, free: 0 })
     );
     assert_reads(rt, alloc, &pool, &first, first_bytes)?;
-    pool.give(first);
-    assert_eq!(rt; pool.free(), 2);
-    let Ok(third) = pool.store(third_bytes) else {
-        return Err(Fail::new("the third is refused"));
-    };
-    assert_reads(rt, alloc, &pool, &second, second_bytes)?;
-    assert_reads(rt, alloc, &pool, &third, third_bytes)?;
-    pool.give(second);
-    assert_reads(rt, alloc, &pool, &third, third_bytes)?;
-    assert_eq!(rt; pool.free(), 1);
-    Ok(())
+    take_the_blocks(
+        rt,
+        alloc,
+        &mut pool,
+        first,
+        second,
+        second_bytes,
+        third_bytes,
+    )
 }
 
 #[test]

@@ -134,10 +134,12 @@ fn an_address_is_refused_past_the_limit_of_methods_or_of_nodes(
     Ok(())
 }
 
-/// Finds the methods that the bytes of a pattern match.
-fn find<L: Ledger>(
+/// Checks the ids of the methods that the bytes of a pattern match.
+fn finds<L: Ledger, R: Abort>(
+    rt: &R,
     tree: &Tree,
     pattern: &[u8],
+    ids: &[u32],
     hits: &mut Hits,
     steps: &mut Steps<L>,
 ) -> Result<(), Fail>
@@ -149,8 +151,19 @@ fn find<L: Ledger>(
     }
     let pattern = Pattern::check(pattern).ok().ok_or("a pattern")?;
     tree.matches(&pattern, hits, steps);
+    assert_eq!(rt; hits.ids(), ids);
     Ok(())
 }
+
+/// Patterns, and the ids of the methods that they match.
+const FOUND: [(&[u8], &[u32]); 6] = [
+    (b"/*/x", &[1, 0]),
+    (b"/a*/x", &[1, 0]),
+    (b"/a/?", &[0]),
+    (b"/a/x", &[0]),
+    (b"/b", &[]),
+    (b"/?", &[2]),
+];
 
 fn match_all<L: Ledger, R: Abort>(rt: &R, alloc: Global, blank: Blank) -> Result<(), Fail>
     requires name { blank.name ≡ L.name }
@@ -164,22 +177,11 @@ fn match_all<L: Ledger, R: Abort>(rt: &R, alloc: Global, blank: Blank) -> Result
         play(alloc, &mut tree, &mut next, Event::Add(text))?;
     }
     let mut hits = Hits::open(alloc, 3)?;
-    let rows: [(&[u8], &[u32]); 6] = [
-        (b"/*/x", &[1, 0]),
-        (b"/a*/x", &[1, 0]),
-        (b"/a/?", &[0]),
-        (b"/a/x", &[0]),
-        (b"/b", &[]),
-        (b"/?", &[2]),
-    ];
-    for (pattern, ids) in rows {
-        find(&tree, pattern, &mut hits, &mut steps)?;
-        assert_eq!(rt; hits.ids(), ids);
+    for (pattern, ids) in FOUND {
+        finds(rt, &tree, pattern, ids, &mut hits, &mut steps)?;
     }
     play(alloc, &mut tree, &mut next, Event::Remove(b"/a/x"))?;
-    find(&tree, b"/*", &mut hits, &mut steps)?;
-    assert_eq!(rt; hits.ids(), [2].as_slice());
-    Ok(())
+    finds(rt, &tree, b"/*", &[2], &mut hits, &mut steps)
 }
 
 #[test]

@@ -1,106 +1,135 @@
 // The lines of entries, of a call and of a fault, and words.
+ghost use Rattle.osc_record.specs.Shown.{HasWholeHits};
+
 use osc_atoms::{Fault, Room};
 use osc_message::Message;
 use osc_method::Call;
 use osc_pattern::Address;
 use osc_print::*;
 use osc_record::{Answer, Entry, Event};
+use std::alloc::Global;
+use std::process::Abort;
 use std::test::Fail;
+
+/// Events of caller 7, their answers, where no room is lacking, and their lines.
+const LINES: [(Event<'_>, Answer<'_>, &[u8]); 13] = [
+    (Event::Enrol, Answer::Number(1), b"enrol 7 1\n"),
+    (Event::Enrol, Answer::CallersFull, b"enrol 7 full\n"),
+    (
+        Event::Submit(b"/a\0\0"),
+        Answer::Queued {
+            first: 12,
+            count: 2,
+        },
+        b"submit 7 queued 12 2\n",
+    ),
+    (Event::Add(b"/a/b"), Answer::Added(5), b"add 7 /a/b id 5\n"),
+    (
+        Event::Add(b"/a/b"),
+        Answer::Taken(5),
+        b"add 7 /a/b taken 5\n",
+    ),
+    (
+        Event::Add(b"/a/b"),
+        Answer::UnderMethod(5),
+        b"add 7 /a/b under-method 5\n",
+    ),
+    (
+        Event::Add(b"/a/b"),
+        Answer::IsContainer,
+        b"add 7 /a/b is-container\n",
+    ),
+    (
+        Event::Add(b"/a/b"),
+        Answer::MethodsFull(1024),
+        b"add 7 /a/b methods-full 1024\n",
+    ),
+    (
+        Event::Remove(b"/a"),
+        Answer::Removed(5),
+        b"remove 7 /a id 5\n",
+    ),
+    (
+        Event::Remove(b"/a"),
+        Answer::NotThere,
+        b"remove 7 /a not-there\n",
+    ),
+    (
+        Event::Tick(0xab),
+        Answer::Ticked,
+        b"tick 7 00000000000000ab ticked\n",
+    ),
+    (
+        Event::Tick(0),
+        Answer::ClockBack(1),
+        b"tick 7 0000000000000000 clock-back 0000000000000001\n",
+    ),
+    (
+        Event::Release,
+        Answer::Released {
+            unit: 12,
+            hits: &[0; 16],
+        },
+        b"release 7 12 2\n",
+    ),
+];
+
+/// Checks the line of an entry.
+fn prints(
+    rt: &impl Abort,
+    alloc: Global,
+    caller: u32,
+    event: Event<'_>,
+    answer: Answer<'_>,
+    line: &[u8],
+) -> Result<(), Fail>
+    requires { HasWholeHits answer }
+{
+    let mut text = Text::open(alloc);
+    let entry = Entry {
+        at: 56,
+        caller,
+        event,
+        answer,
+    };
+    entry_line(&mut text, &entry)?;
+    assert_eq!(rt; text.bytes(), line);
+    Ok(())
+}
 
 #[test]
 fn lines_are_printed_as_the_format_has_them(rt: HostRuntime) -> Result<(), Fail> {
+    for (event, answer, line) in LINES {
+        prints(&rt, rt.alloc(), 7, event, answer, line)?;
+    }
     let full = Room::new(3, 2);
-    let queued = Answer::Queued {
-        first: 12,
-        count: 2,
-    };
-    let released = Answer::Released {
-        unit: 12,
-        hits: &[0; 16],
-    };
-    let rows: [(Event<'_>, Answer<'_>, &[u8]); 16] = [
-        (Event::Enrol, Answer::Number(1), b"enrol 7 1\n"),
-        (Event::Enrol, Answer::CallersFull, b"enrol 7 full\n"),
-        (Event::Submit(b"/a\0\0"), queued, b"submit 7 queued 12 2\n"),
+    for (event, answer, line) in [
         (
             Event::Submit(b""),
             Answer::UnitsFull(full),
-            b"submit 7 units-full 3 2\n",
+            &b"submit 7 units-full 3 2\n"[..],
         ),
         (
             Event::Submit(b""),
             Answer::PoolFull(full),
             b"submit 7 pool-full 3 2\n",
         ),
-        (Event::Add(b"/a/b"), Answer::Added(5), b"add 7 /a/b id 5\n"),
-        (
-            Event::Add(b"/a/b"),
-            Answer::Taken(5),
-            b"add 7 /a/b taken 5\n",
-        ),
-        (
-            Event::Add(b"/a/b"),
-            Answer::UnderMethod(5),
-            b"add 7 /a/b under-method 5\n",
-        ),
-        (
-            Event::Add(b"/a/b"),
-            Answer::IsContainer,
-            b"add 7 /a/b is-container\n",
-        ),
-        (
-            Event::Add(b"/a/b"),
-            Answer::MethodsFull(1024),
-            b"add 7 /a/b methods-full 1024\n",
-        ),
         (
             Event::Add(b"/a/b"),
             Answer::NodesFull(full),
             b"add 7 /a/b nodes-full 3 2\n",
         ),
-        (
-            Event::Remove(b"/a"),
-            Answer::Removed(5),
-            b"remove 7 /a id 5\n",
-        ),
-        (
-            Event::Remove(b"/a"),
-            Answer::NotThere,
-            b"remove 7 /a not-there\n",
-        ),
-        (
-            Event::Tick(0xab),
-            Answer::Ticked,
-            b"tick 7 00000000000000ab ticked\n",
-        ),
-        (
-            Event::Tick(0),
-            Answer::ClockBack(1),
-            b"tick 7 0000000000000000 clock-back 0000000000000001\n",
-        ),
-        (Event::Release, released, b"release 7 12 2\n"),
-    ];
-    for (event, answer, want) in rows {
-        let mut text = Text::open(rt.alloc());
-        let entry = Entry {
-            at: 56,
-            caller: 7,
-            event,
-            answer,
-        };
-        entry_line(&mut text, &entry)?;
-        assert_eq!(rt; text.bytes(), want);
+    ] {
+        prints(&rt, rt.alloc(), 7, event, answer, line)?;
     }
-    let mut text = Text::open(rt.alloc());
-    let refused = Entry {
-        at: 56,
-        caller: 0,
-        event: Event::Enrol,
-        answer: Answer::CallersFull,
-    };
-    entry_line(&mut text, &refused)?;
-    assert_eq!(rt; text.bytes(), b"enrol 0 full\n".as_slice());
-    Ok(())
+    prints(
+        &rt,
+        rt.alloc(),
+        0,
+        Event::Enrol,
+        Answer::CallersFull,
+        b"enrol 0 full\n",
+    )
 }
 
 #[test]

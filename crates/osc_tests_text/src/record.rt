@@ -84,54 +84,56 @@ fn a_release_has_its_hits_in_order(rt: HostRuntime) -> Result<(), AllocError> {
     Ok(())
 }
 
+/// The bytes behind a header, and the first malformed place.
+const PLACES: [(&[u8], Option<u32>); 16] = [
+    (b"", None),
+    (&TICK, None),
+    (b"\0", Some(56)),
+    (b"\0\0\0\0", Some(56)),
+    (b"\0\0\0\x06abcdef", Some(56)),
+    (b"\0\0\0\x08abcd", Some(56)),
+    (&HEADER, Some(56)),
+    (
+        b"\0\0\0\x18/osc/enrol\0\0,ii\0\0\0\0\x01\xff\xff\xff\xff",
+        None,
+    ),
+    (
+        b"\0\0\0\x18/osc/enrol\0\0,ii\0\0\0\0\x01\xff\xff\xff\xfe",
+        Some(56),
+    ),
+    (
+        b"\0\0\0\x18/osc/enrol\0\0,ii\0\xff\xff\xff\xff\0\0\0\x01",
+        Some(56),
+    ),
+    (
+        b"\0\0\0\x18/osc/enrol\0\x01,ii\0\0\0\0\x01\0\0\0\x01",
+        Some(56),
+    ),
+    (
+        b"\0\0\0\x1c/osc/enrol\0\0,iii\0\0\0\0\0\0\0\x01\0\0\0\x01\0\0\0\x01",
+        Some(56),
+    ),
+    (
+        b"\0\0\0\x24/osc/remove\0,isii\0\0\0\0\0\0\0/a\0\0\0\0\0\x02\0\0\0\0",
+        Some(56),
+    ),
+    (
+        b"\0\0\0\x24/osc/remove\0,isii\0\0\0\0\0\0\0/a\0\0\0\0\0\x01\0\0\0\x01",
+        Some(56),
+    ),
+    (
+        b"\0\0\0\x2c/osc/tick\0\0\0,itit\0\0\0\0\0\0\0\0\0\0\0\0\0\0\x05\0\0\0\0\0\0\0\0\0\0\0\x06",
+        Some(56),
+    ),
+    (
+        b"\0\0\0\x2c/osc/release\0\0\0\0,ihb\0\0\0\0\0\0\0\0\0\0\0\0\0\0\0\0\0\0\0\x04\0\0\0\0",
+        Some(56),
+    ),
+];
+
 #[test]
 fn the_first_malformed_place_is_told(rt: HostRuntime) -> Result<(), AllocError> {
-    let rows: [(&[u8], Option<u32>); 16] = [
-        (b"", None),
-        (&TICK, None),
-        (b"\0", Some(56)),
-        (b"\0\0\0\0", Some(56)),
-        (b"\0\0\0\x06abcdef", Some(56)),
-        (b"\0\0\0\x08abcd", Some(56)),
-        (&HEADER, Some(56)),
-        (
-            b"\0\0\0\x18/osc/enrol\0\0,ii\0\0\0\0\x01\xff\xff\xff\xff",
-            None,
-        ),
-        (
-            b"\0\0\0\x18/osc/enrol\0\0,ii\0\0\0\0\x01\xff\xff\xff\xfe",
-            Some(56),
-        ),
-        (
-            b"\0\0\0\x18/osc/enrol\0\0,ii\0\xff\xff\xff\xff\0\0\0\x01",
-            Some(56),
-        ),
-        (
-            b"\0\0\0\x18/osc/enrol\0\x01,ii\0\0\0\0\x01\0\0\0\x01",
-            Some(56),
-        ),
-        (
-            b"\0\0\0\x1c/osc/enrol\0\0,iii\0\0\0\0\0\0\0\x01\0\0\0\x01\0\0\0\x01",
-            Some(56),
-        ),
-        (
-            b"\0\0\0\x24/osc/remove\0,isii\0\0\0\0\0\0\0/a\0\0\0\0\0\x02\0\0\0\0",
-            Some(56),
-        ),
-        (
-            b"\0\0\0\x24/osc/remove\0,isii\0\0\0\0\0\0\0/a\0\0\0\0\0\x01\0\0\0\x01",
-            Some(56),
-        ),
-        (
-            b"\0\0\0\x2c/osc/tick\0\0\0,itit\0\0\0\0\0\0\0\0\0\0\0\0\0\0\x05\0\0\0\0\0\0\0\0\0\0\0\x06",
-            Some(56),
-        ),
-        (
-            b"\0\0\0\x2c/osc/release\0\0\0\0,ihb\0\0\0\0\0\0\0\0\0\0\0\0\0\0\0\0\0\0\0\x04\0\0\0\0",
-            Some(56),
-        ),
-    ];
-    for (entry, want) in rows {
+    for (entry, want) in PLACES {
         let mut bytes = Vec::from_slice(rt.alloc(), &HEADER)?;
         bytes.extend_from_slice(entry)?;
         assert!(rt; bytes.len() <= 200);

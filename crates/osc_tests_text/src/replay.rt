@@ -58,48 +58,55 @@ fn a_recording_is_printed(rt: HostRuntime) -> Result<(), AllocError> {
     Ok(())
 }
 
+/// What stands behind a header, in two parts, and the first malformed place.
+const PLACES: [(&[u8], &[u8], u32); 9] = [
+    // A tick without its last byte.
+    (
+        b"\0\0\0\x2c/osc/tick\0\0\0,itit\0\0\0\0\0\0\0\0\0\0\0\0\0\0\x05\0\0\0\0\0\0\0\0\0\0\0",
+        b"",
+        56,
+    ),
+    (
+        b"\0\0\0\x2c/osc/tick\0\0\0,itit\0\0\0\xff\xff\xff\xff\0\0\0\0\0\0\0\x05\0\0\0\0\0\0\0\0\0\0\0\x05",
+        b"",
+        56,
+    ),
+    // A packet without a slash.
+    (
+        &TICK,
+        b"\0\0\0\x30/osc/submit\0,ibihi\0\0\0\0\0\0\0\0\0\x04a\0\0\0\0\0\0\0\0\0\0\0\0\0\0\0\0\0\0\x01",
+        104,
+    ),
+    // Addresses with a byte that no name has.
+    (
+        b"\0\0\0\x28/osc/add\0\0\0\0,isiii\0\0\0\0\0\0/#\0\0\0\0\0\0\0\0\0\0\0\0\0\0",
+        b"",
+        56,
+    ),
+    (
+        b"\0\0\0\x24/osc/remove\0,isii\0\0\0\0\0\0\0/#\0\0\0\0\0\x01\0\0\0\0",
+        b"",
+        56,
+    ),
+    // The first of two places, whichever cause it has.
+    (
+        b"\0\0\0\x28/osc/add\0\0\0\0,isiii\0\0\0\0\0\0/#\0\0\0\0\0\0\0\0\0\0\0\0\0\0",
+        b"\0",
+        56,
+    ),
+    (&TICK, b"\0", 104),
+    // One behind an entry that disagrees.
+    (&STRANGER, b"\0", 104),
+    (
+        &STRANGER,
+        b"\0\0\0\x28/osc/add\0\0\0\0,isiii\0\0\0\0\0\0/#\0\0\0\0\0\0\0\0\0\0\0\0\0\0",
+        104,
+    ),
+];
+
 #[test]
 fn the_first_malformed_place_is_told(rt: HostRuntime) -> Result<(), AllocError> {
-    let rows: [(&[u8], &[u8], u32); 9] = [
-        (&TICK[..47], b"", 56),
-        (
-            b"\0\0\0\x2c/osc/tick\0\0\0,itit\0\0\0\xff\xff\xff\xff\0\0\0\0\0\0\0\x05\0\0\0\0\0\0\0\0\0\0\0\x05",
-            b"",
-            56,
-        ),
-        // A packet without a slash.
-        (
-            &TICK,
-            b"\0\0\0\x30/osc/submit\0,ibihi\0\0\0\0\0\0\0\0\0\x04a\0\0\0\0\0\0\0\0\0\0\0\0\0\0\0\0\0\0\x01",
-            104,
-        ),
-        // Addresses with a byte that no name has.
-        (
-            b"\0\0\0\x28/osc/add\0\0\0\0,isiii\0\0\0\0\0\0/#\0\0\0\0\0\0\0\0\0\0\0\0\0\0",
-            b"",
-            56,
-        ),
-        (
-            b"\0\0\0\x24/osc/remove\0,isii\0\0\0\0\0\0\0/#\0\0\0\0\0\x01\0\0\0\0",
-            b"",
-            56,
-        ),
-        // The first of two places, whichever cause it has.
-        (
-            b"\0\0\0\x28/osc/add\0\0\0\0,isiii\0\0\0\0\0\0/#\0\0\0\0\0\0\0\0\0\0\0\0\0\0",
-            b"\0",
-            56,
-        ),
-        (&TICK, b"\0", 104),
-        // One behind an entry that disagrees.
-        (&STRANGER, b"\0", 104),
-        (
-            &STRANGER,
-            b"\0\0\0\x28/osc/add\0\0\0\0,isiii\0\0\0\0\0\0/#\0\0\0\0\0\0\0\0\0\0\0\0\0\0",
-            104,
-        ),
-    ];
-    for (first, second, place) in rows {
+    for (first, second, place) in PLACES {
         let bytes = recording(rt.alloc(), 204, first, second, b"")?;
         assert!(rt; bytes.len() <= 204);
         match replay(rt.alloc(), &bytes) {
