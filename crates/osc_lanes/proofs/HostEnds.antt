@@ -8,7 +8,6 @@ use Rattle.std.proofs.lemmas.List.{length-map}
 use Rattle.std.proofs.lemmas.List.Elements.{recursion_from_All}
 use Rattle.osc_atoms.specs.declared.room.Room.{Room as CodeRoom}
 use Rattle.osc_model.specs.Limits.{Limits}
-use Rattle.osc_model.specs.State.{opening}
 use Rattle.osc_model.specs.Events.{enrol, record_full}
 use Rattle.osc_model.specs.History.{stepped_in}
 use Rattle.osc_record.specs.Shown.{room_of}
@@ -33,7 +32,7 @@ use Rattle.osc_lanes.specs.declared.served.TickerEnd.{TickerEnd}
 use Rattle.osc_lanes.specs.declared.served.TickerEnd.TheVariants.{Done}
 use Rattle.osc_lanes.specs.Crews.{names_of, same_names, IsSilent, HasSeen, IsCrew, HasOpened, FindsNoRoom}
 use Rattle.osc_lanes.specs.Ends.{seen_by, player_of}
-use Rattle.osc_lanes.specs.Hosts.{IsServed, IsSettled, IsStill, IsUnserved, ServesAll, Hosts}
+use Rattle.osc_lanes.specs.Hosts.{IsServed, IsSettled, IsUnserved, ServesAll, Hosts}
 use Rattle.osc_lanes.specs.Links.{Turn}
 use Rattle.osc_lanes.specs.Performs.{Part, Numbered, HasNoRoomToEnrol, told_of, player_at, removed_ids}
 use Rattle.osc_lanes.specs.Serves.{caller_of, link_of, caller_in, seen_in, Serves}

@@ -1,5 +1,5 @@
 -- Links and the ticker remove no method.
-use Rattle.std.proofs.Common.{◌≡◌, ℕ, ◌+◌, List, [], ◌∷◌, ◌++◌, map, flat_map, Option, Some, None, refl, sym, ap, ◌∙◌, append-nil}
+use Rattle.std.proofs.Common.{◌≡◌, ℕ, ◌+◌, List, [], ◌∷◌, ◌++◌, map, flat_map, Option, Some, None, sym, ap, ◌∙◌, append-nil}
 use Rattle.std.specs.Prelude.{MatchOption}
 use Rattle.osc_model.specs.Events.{Room}
 use Rattle.osc_record.specs.Shown.{room_of}
@@ -9,7 +9,7 @@ use Rattle.osc_lanes.specs.declared.link_plan.Over.{Over}
 use Rattle.osc_lanes.specs.declared.served.Bounds.{Bounds}
 use Rattle.osc_lanes.specs.declared.served.TickerEnd.{TickerEnd}
 use Rattle.osc_lanes.specs.declared.served.TickerEnd.TheVariants.{Done, ClockFailed, Full}
-use Rattle.osc_lanes.specs.Shares.{Player, Onward, Account, then_told, ended, PlaysAct}
+use Rattle.osc_lanes.specs.Shares.{Player, Onward, Account, then_told, ended}
 use Rattle.osc_lanes.specs.Links.{Turn, stop_by, PlaysTurns}
 use Rattle.osc_lanes.specs.Ticks.{ClockRead, round_lines, last_after, PlaysRound, PlaysRounds, EndsTicks, Ticks}
 use Rattle.osc_lanes.proofs.Removals.{gone, own_gone, ids_told, nothing_told, act_gone, gone_on, plays_gone}

@@ -1,6 +1,5 @@
 -- Caller 0 alone plays lines on a new server: it enrols none.
 use Rattle.std.proofs.Common.{◌≡◌, ℕ, zero, suc, ◌+◌, Bool, true, false, cond, List, [], ◌∷◌, ◌++◌, Option, Some, None, MatchBool, refl, sym, ap, subst, ◌∙◌}
-use Rattle.std.proofs.Common.{arith}
 use Rattle.std.specs.Prelude.{MatchOption}
 use Rattle.osc_atoms.specs.declared.fault.Fault.{Fault}
 use Rattle.osc_packet.specs.declared.limits.TheConstants.{MAX_PACKET}

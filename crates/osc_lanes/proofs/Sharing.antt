@@ -1,5 +1,5 @@
 -- From what the lanes' tokens have seen to the one history.
-use Rattle.std.proofs.Common.{◌≡◌, ℕ, zero, suc, ◌+◌, ◌<◌, List, [], ◌∷◌, ◌++◌, length, map, Option, None, Some, refl, sym, ap, subst, ◌∙◌, arith}
+use Rattle.std.proofs.Common.{◌≡◌, ℕ, zero, suc, ◌+◌, ◌<◌, List, [], ◌∷◌, ◌++◌, length, map, Option, None, refl, sym, ap, subst, ◌∙◌, arith}
 use Rattle.std.specs.List.{AllByRecursion, AllZip}
 use Rattle.std.specs.List.Sorted.{IsPermutation}
 use Rattle.std.proofs.lemmas.List.{length-map}
@@ -7,7 +7,6 @@ use Rattle.std.proofs.lemmas.List.Elements.{All-from_recursion, recursion_from_A
 use Rattle.std.proofs.lemmas.List.Sorted.{IsPermutation-refl, IsPermutation-trans, IsPermutation-append_right}
 use Rattle.osc_model.specs.Limits.{Limits}
 use Rattle.osc_model.specs.State.{opening}
-use Rattle.osc_model.specs.Events.{Room}
 use Rattle.osc_model.specs.Heard.{Told}
 use Rattle.osc_model.specs.Recordings.{record_text}
 use Rattle.osc_model.specs.History.{Legal, IsSound, HaveHeard, after}

@@ -1,5 +1,5 @@
 -- Rounds of the ticker, one after another.
-use Rattle.std.proofs.Common.{◌≡◌, ◌≢◌, ℕ, Bool, true, false, List, [], ◌∷◌, Option, Some, None, All, refl, sym, ap, ◌∙◌, subst}
+use Rattle.std.proofs.Common.{◌≡◌, ℕ, Bool, true, List, [], ◌∷◌, Option, Some, None, All, refl, sym, ap, ◌∙◌, subst}
 use Rattle.std.specs.Prelude.{if◌then◌else◌}
 use Rattle.std.specs.Option.{option_map}
 use Rattle.std.proofs.lemmas.List.Elements.{All-nil}
@@ -18,7 +18,7 @@ use Rattle.osc_lanes.specs.declared.ticker.Round.{Round}
 use Rattle.osc_lanes.specs.declared.ticker.Round.TheVariants as round
 use Rattle.osc_lanes.specs.Shares.{Player, Onward, Account, then_told, ended, Plays}
 use Rattle.osc_lanes.specs.Tallies.{Played}
-use Rattle.osc_lanes.specs.Ticks.{is_later, last_after, tick_line, pump_line, round_lines, Reads, ClockRead, PlaysRound, PlaysRounds, PlaysLast, EndsTicks}
+use Rattle.osc_lanes.specs.Ticks.{is_later, last_after, tick_line, pump_line, Reads, ClockRead, PlaysRound, PlaysRounds, EndsTicks}
 use Rattle.osc_lanes.specs.Ticks.{Ticks}
 use Rattle.osc_lanes.specs.Rounds.{IsRound, TicksMeanwhile}
 

@@ -1,5 +1,5 @@
 -- Inside the crate: the rounds of the ticker.
-use Rattle.std.specs.Prelude.{◌≡◌, ◌≢◌, ℕ, List, [], Option, Some, None}
+use Rattle.std.specs.Prelude.{◌≡◌, ◌≢◌, ℕ, List, [], Option, None}
 use Rattle.osc_edge.specs.declared.clock.Moment.TheVariants.{At}
 use Rattle.osc_edge.specs.Clock.{GivesMoment}
 use Rattle.osc_turn.specs.declared.view.Entry.{Entry as Seen}

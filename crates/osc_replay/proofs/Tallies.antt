@@ -1,16 +1,16 @@
 -- Counts of entries, and the calls of a legal history.
-use Rattle.std.proofs.Common.{◌≡◌, ◌∙◌, ℕ, ◌+◌, ◌*◌, ◌≤◌, ◌^◌, Bool, true, false, cond, List, [], ◌∷◌, ◌++◌, length, map, refl, sym, ap, ap₂, subst, arith}
+use Rattle.std.proofs.Common.{◌≡◌, ◌∙◌, ℕ, ◌+◌, ◌≤◌, ◌^◌, cond, List, [], ◌∷◌, length, refl, sym, ap, ap₂, subst, arith}
 use Rattle.std.proofs.Common.{length-append}
 use Rattle.std.proofs.lemmas.List.{length-map}
-use Rattle.std.specs.Prelude.{fold, sum_by, count_by, not, ◌&&◌}
+use Rattle.std.specs.Prelude.{fold, sum_by, not, ◌&&◌}
 use Rattle.std.specs.List.{AllByRecursion}
 use Rattle.std.proofs.lemmas.List.Sums.{count_by-le-length, sum_by-cons}
 use Rattle.osc_model.specs.Limits.{Limits}
 use Rattle.osc_model.specs.State.{State, opening}
-use Rattle.osc_model.specs.Events.{Event, enrol, submit, add, remove, tick, release, Answer, released, Entry, Hit}
+use Rattle.osc_model.specs.Events.{Event, enrol, submit, add, remove, tick, release, Answer, released, Entry}
 use Rattle.osc_model.specs.Refusals.{IsRefusal}
-use Rattle.osc_model.specs.Recordings.{FitsRow, row_of, entry_text, entry_size, record_text}
-use Rattle.osc_model.specs.Step.{Stepped, step, decided, calls_of_unit, hits_of}
+use Rattle.osc_model.specs.Recordings.{FitsRow, row_of, entry_text, entry_size}
+use Rattle.osc_model.specs.Step.{Stepped, step, decided, calls_of_unit}
 use Rattle.osc_model.specs.History.{LegalFrom, invocations}
 use Rattle.osc_model.proofs.Stepping.{step_so, decided_so}
 use Rattle.osc_model.proofs.Sizes.{sizes_are}

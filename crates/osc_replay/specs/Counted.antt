@@ -1,7 +1,6 @@
 -- The summary of a history: how often it has each kind of entry.
 use Rattle.std.specs.Prelude.{ℕ, ◌+◌, ◌≤◌, Bool, true, false, not, ◌&&◌, cond, List, ◌++◌, length}
 use Rattle.std.specs.Prelude.{fold, sum_by, count_by, codes}
-use Rattle.std.specs.Fmt.{decimal}
 use Rattle.osc_print.specs.Lines.{line}
 use Rattle.osc_print.specs.Entries.{named}
 use Rattle.osc_model.specs.Limits.{Limits}

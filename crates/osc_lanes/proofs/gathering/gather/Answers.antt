@@ -1,4 +1,4 @@
-use Rattle.std.proofs.Common.{◌+◌, length, ap, arith}
+use Rattle.std.proofs.Common.{length, ap, arith}
 use Rattle.std.specs.Vec.Iter.{into_iter_items}
 use Rattle.osc_lanes.specs.Serves.{caller_in, link_in}
 use Rattle.osc_lanes.proofs.Totals.{mapped_on, faults_on, failed_on, stop_on}

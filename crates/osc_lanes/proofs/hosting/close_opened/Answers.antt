@@ -1,4 +1,4 @@
-use Rattle.std.proofs.Common.{◌∷◌, ◌++◌, List, [], refl, sym, ap, subst, ◌∙◌}
+use Rattle.std.proofs.Common.{◌∷◌, ◌++◌, List, [], refl, ap, subst, ◌∙◌}
 use Rattle.osc_core.specs.Telling.{told}
 use Rattle.osc_turn.specs.Passes.{view}
 use Rattle.osc_turn.proofs.Histories.{starts_here}

@@ -1,5 +1,4 @@
 use Rattle.osc_model.specs.Recordings.{header_text}
-use Rattle.osc_lanes.specs.declared.plan.LaneEnd.{LaneEnd}
 use Rattle.osc_lanes.specs.Performs.{part_of}
 use Rattle.osc_lanes.proofs.Opening.{opened_by}
 use Rattle.osc_lanes.proofs.hosting.host.Goals as goal

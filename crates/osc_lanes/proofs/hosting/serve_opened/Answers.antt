@@ -1,5 +1,4 @@
-use Rattle.std.proofs.Common.{refl, subst}
-use Rattle.std.specs.Prelude.{IfOk}
+use Rattle.std.proofs.Common.{refl}
 use Rattle.osc_turn.specs.Passes.{view}
 use Rattle.osc_lanes.specs.Performs.{told_of}
 use Rattle.osc_lanes.proofs.Opening.{opened_alone}

@@ -1,6 +1,6 @@
 use Rattle.std.proofs.Common.{◌≡◌, ℕ, List, [], ◌∷◌, ◌++◌, All, refl, sym, ap, ◌∙◌, subst, append_assoc}
 use Rattle.std.specs.List.{AllZip}
-use Rattle.std.proofs.lemmas.List.Elements.{All-rest, All-push, All-weaker, All-head}
+use Rattle.std.proofs.lemmas.List.Elements.{All-rest, All-push, All-weaker}
 use Rattle.std.proofs.lemmas.Slice.Zip.{all_zipped_more}
 use Rattle.osc_turn.specs.declared.view.View.{View}
 use Rattle.osc_turn.specs.History.{StartsWith, own}
@@ -9,7 +9,7 @@ use Rattle.osc_turn.specs.Passes.{view}
 use Rattle.osc_turn.proofs.Histories.{starts_on}
 use Rattle.osc_live.specs.Seen.{IsTokenOf}
 use Rattle.osc_lanes.specs.declared.link_plan.LinkEnd.{LinkEnd}
-use Rattle.osc_lanes.specs.Ends.{seen_by, player_of}
+use Rattle.osc_lanes.specs.Ends.{seen_by}
 use Rattle.osc_lanes.specs.Shares.{Player}
 use Rattle.osc_lanes.specs.Serves.{seen_in}
 use Rattle.osc_lanes.specs.Taken.{IsSameEnd}

@@ -1,11 +1,11 @@
-use Rattle.std.proofs.Common.{◌≡◌, List, [], ◌∷◌, ◌++◌, length, map, All, sym, ap, subst, ◌∙◌, arith}
+use Rattle.std.proofs.Common.{length, map, All, sym, ap, subst, ◌∙◌, arith}
 use Rattle.std.proofs.lemmas.List.{length-map}
 use Rattle.std.proofs.lemmas.List.Elements.{All-map, All-push}
 use Rattle.osc_live.specs.declared.caller.Caller.{Caller}
 use Rattle.osc_live.specs.Seen.{IsTokenOf}
 use Rattle.osc_lanes.specs.Ends.{seen_by, player_of}
 use Rattle.osc_lanes.specs.Links.{IsLinkEnd}
-use Rattle.osc_lanes.specs.Serves.{caller_of, link_of, caller_in}
+use Rattle.osc_lanes.specs.Serves.{link_of, caller_in}
 use Rattle.osc_lanes.specs.Taken.{IsSameEnd}
 use Rattle.osc_lanes.proofs.Totals.{parted, zip_long, zip_over, same_link_end}
 use Rattle.osc_lanes.proofs.serving.serve.Goals as goal
