@@ -1,12 +1,14 @@
 //! Where bytes, datagrams and the time come from and where bytes go to: sources, sinks, links and clocks, in memory and
-//! real, each with a count of its faults.
+//! real, each with a count of its faults; and the words of the command line.
 //!
 //! A contract sees what is left in a source, a link or a clock and what a sink holds, where the object tells it, and
-//! how often the object has failed. Only the standard streams, files, ports and the system's clock tell nothing.
+//! how often the object has failed. Only the standard streams, files, ports, the system's clock and the command line
+//! tell nothing.
 #![tactic(auto)]
 
 mod calls;
 mod clock;
+mod command_line;
 mod file_sink;
 mod limits;
 mod link;
@@ -22,6 +24,7 @@ mod system_clock;
 mod udp_link;
 
 pub use clock::{Clock, Moment};
+pub use command_line::command_words;
 pub use file_sink::FileSink;
 pub use limits::MAX_DATAGRAM;
 pub use link::{Datagram, Link};

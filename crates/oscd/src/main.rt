@@ -3,7 +3,7 @@
 
 ghost use Rattle.std.specs.Prelude.{◌≤◌, length, IfOk};
 
-use osc_edge::{FileSink, StdSink, StdSource, SystemClock, UdpLink};
+use osc_edge::{FileSink, StdSink, StdSource, SystemClock, UdpLink, command_words};
 use osc_lanes::OpenGate;
 use osc_method::Method;
 use osc_top::{live_top, ports, recording_name, traces};
@@ -11,7 +11,6 @@ use std::alloc::AllocError;
 use std::process::ExitCode;
 use std::sync::Wait;
 use std::thread::Threads;
-use std::{env, io};
 
 const NO_MEMORY: u8 = 3;
 
@@ -25,7 +24,7 @@ fn main(rt: HostRuntime) -> ExitCode {
 /// `threads` is the runtime too, which starts threads and waits only where `main` hands it on.
 fn run<W: Threads + Wait + Sync>(rt: &HostRuntime, threads: &W) -> Result<u8, AllocError> {
     let alloc = rt.alloc();
-    let words = words(rt)?;
+    let words = command_words(rt)?;
     let mut bank: Vec<Box<dyn Method + Send>> = Vec::new(alloc);
     for trace in traces(alloc)? {
         bank.push(Box::new(alloc, trace)?)?;
@@ -52,20 +51,4 @@ fn links(rt: &HostRuntime, words: &[String]) -> Result<Vec<UdpLink>, AllocError>
         links.push(UdpLink::at(rt, port))?;
     }
     Ok(links)
-}
-
-/// The words of the command line, without the program's name; none where one of them isn't UTF-8, which is no
-/// command either.
-fn words(rt: &HostRuntime) -> Result<Vec<String>, AllocError> {
-    let mut words = Vec::new(rt.alloc());
-    match env::args(rt) {
-        Ok(args) => {
-            for word in args.skip(1) {
-                words.push(word)?;
-            }
-        }
-        Err(error) if error.kind() == io::ErrorKind::InvalidData => {}
-        Err(_) => return Err(AllocError),
-    }
-    Ok(words)
 }
