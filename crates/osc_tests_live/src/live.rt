@@ -136,64 +136,72 @@ fn two_lanes_are_played_at_once(rt: HostRuntime) -> Result<(), Fail> {
     Ok(())
 }
 
+const NO_SOURCE: Setting = Setting {
+    source_fails: 1,
+    ..SETTING
+};
+
+const NO_SINK: Setting = Setting {
+    sink_fails: 1,
+    ..SETTING
+};
+
+const NO_RECORDING: Setting = Setting {
+    recording_fails: 1,
+    ..SETTING
+};
+
+const NO_BOXES: Setting = Setting {
+    boxes: 0,
+    ..SETTING
+};
+
+const ONE_TICK: &str = "0 tick 0000000000000005\n";
+
+/// Words, a script and a setting where no box is used: the status, what is printed, and how many bytes are recorded.
+const ENDS: [(&str, &str, Setting, u8, &str, usize); 16] = [
+    ("", TWO_LANES, SETTING, 2, "usage\n", 0),
+    ("lanes", TWO_LANES, SETTING, 2, "usage\n", 0),
+    ("lanes f g", TWO_LANES, SETTING, 2, "usage\n", 0),
+    ("lanes f --units 1", TWO_LANES, SETTING, 2, "usage\n", 0),
+    (
+        "lanes --recording 55 f",
+        TWO_LANES,
+        SETTING,
+        2,
+        "usage\n",
+        0,
+    ),
+    ("lanes --help f", TWO_LANES, SETTING, 2, "usage\n", 0),
+    ("run", TWO_LANES, SETTING, 2, "usage\n", 0),
+    (
+        "lanes --recording 100 f",
+        TWO_LANES,
+        SETTING,
+        6,
+        "enrol 0 1\nrecording-full 28 16\n",
+        84,
+    ),
+    ("serve f", "pump\n", SETTING, 1, "script 1 8\n", 0),
+    ("lanes f", "add /a\n", SETTING, 1, "script 1 7\n", 0),
+    ("lanes f", TWO_LANES, NO_SOURCE, 4, "", 0),
+    ("lanes f", TWO_LANES, NO_BOXES, 8, "bank-short 1 0\n", 0),
+    ("lanes f", ONE_TICK, NO_RECORDING, 5, "", 0),
+    ("lanes f", ONE_TICK, NO_SINK, 5, "", 132),
+    ("lanes f", "", SETTING, 0, "", 56),
+    (
+        "lanes f",
+        "0 send\n",
+        SETTING,
+        0,
+        "enrol 0 1\nfault 1 1 0\n",
+        84,
+    ),
+];
+
 #[test]
 fn each_status_has_its_last_line(rt: HostRuntime) -> Result<(), Fail> {
-    let source = Setting {
-        source_fails: 1,
-        ..SETTING
-    };
-    let sink = Setting {
-        sink_fails: 1,
-        ..SETTING
-    };
-    let recording = Setting {
-        recording_fails: 1,
-        ..SETTING
-    };
-    let bank = Setting {
-        boxes: 0,
-        ..SETTING
-    };
-    let rows = [
-        ("", TWO_LANES, SETTING, 2, "usage\n", 0),
-        ("lanes", TWO_LANES, SETTING, 2, "usage\n", 0),
-        ("lanes f g", TWO_LANES, SETTING, 2, "usage\n", 0),
-        ("lanes f --units 1", TWO_LANES, SETTING, 2, "usage\n", 0),
-        (
-            "lanes --recording 55 f",
-            TWO_LANES,
-            SETTING,
-            2,
-            "usage\n",
-            0,
-        ),
-        ("lanes --help f", TWO_LANES, SETTING, 2, "usage\n", 0),
-        ("run", TWO_LANES, SETTING, 2, "usage\n", 0),
-        (
-            "lanes --recording 100 f",
-            TWO_LANES,
-            SETTING,
-            6,
-            "enrol 0 1\nrecording-full 28 16\n",
-            84,
-        ),
-        ("serve f", "pump\n", SETTING, 1, "script 1 8\n", 0),
-        ("lanes f", "add /a\n", SETTING, 1, "script 1 7\n", 0),
-        ("lanes f", TWO_LANES, source, 4, "", 0),
-        ("lanes f", TWO_LANES, bank, 8, "bank-short 1 0\n", 0),
-        ("lanes f", "0 tick 0000000000000005\n", recording, 5, "", 0),
-        ("lanes f", "0 tick 0000000000000005\n", sink, 5, "", 132),
-        ("lanes f", "", SETTING, 0, "", 56),
-        (
-            "lanes f",
-            "0 send\n",
-            SETTING,
-            0,
-            "enrol 0 1\nfault 1 1 0\n",
-            84,
-        ),
-    ];
-    for (line, script, setting, status, printed, recorded) in rows {
+    for (line, script, setting, status, printed, recorded) in ENDS {
         let outcome = perform(&rt, rt.alloc(), line, script, setting, &OpenGate)?;
         assert_eq!(rt; outcome.status, status, "{line}");
         assert_eq!(rt; outcome.written.as_slice(), printed.as_bytes(), "{line}");
