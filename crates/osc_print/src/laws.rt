@@ -1,5 +1,5 @@
 //! What the definitions say of examples. This function does nothing; its contract is the laws.
-ghost use Rattle.std.specs.Prelude.{◌≡◌, [], ◌∷◌, codes};
+ghost use Rattle.std.specs.Prelude.{◌≡◌, ◌++◌, [], ◌∷◌, codes};
 ghost use Rattle.osc_tree.specs.Adding.{taken, under_method, is_container, methods_full};
 ghost use Rattle.osc_tree.specs.Adding.{nodes_full};
 ghost use Rattle.osc_model.specs.Events.{enrol, add, remove, submit, tick, release, number};
@@ -86,5 +86,6 @@ pub fn examples()
     ensures leap_day { date_text 3_160_857_599 ≡ codes "2000-02-29T23:59:59Z" }
     ensures dump { dumped (limits_of 4096 16384 1024 4096 1 67_108_864)
         (record { caller = 0; event = tick 0x83aa_7e80_0000_0000; answer = ticked } ∷ [])
-        ≡ codes "rec 1 4096 16384 1024 4096 1 67108864\n56 tick 0 83aa7e8000000000 ticked 1970-01-01T00:00:00Z\n" }
+        ≡ codes "rec 1 4096 16384 1024 4096 1 67108864\n"
+        ++ codes "56 tick 0 83aa7e8000000000 ticked 1970-01-01T00:00:00Z\n" }
 {}

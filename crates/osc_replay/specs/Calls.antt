@@ -1,4 +1,5 @@
--- Inside the crate: the calls of a release: their hits as a recording has them, and their printed lines.
+-- Inside the crate: the calls of a release: their hits as a recording has them, and their printed
+-- lines.
 use Rattle.std.specs.Prelude.{ℕ, List}
 use Rattle.std.specs.List.{flat_map}
 use Rattle.osc_print.specs.Entries.{invocation_text}

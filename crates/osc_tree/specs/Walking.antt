@@ -75,7 +75,8 @@ pub record IsWalked (pattern : List ℕ) (methods : List Method) (at : ℕ) (ids
     pub found : ids ≡ map (λ method. method.id)
         (filter (λ method. matches pattern method.address) (take at methods))
     pub known : (d : Method) → at < length methods
-        → known_at methods at d ≤ agreeing (parts_of pattern) (parts_of (get_or methods at d).address)
+        → known_at methods at d
+        ≤ agreeing (parts_of pattern) (parts_of (get_or methods at d).address)
 
 -- a lawful list of methods in ascending order of the address
 pub record IsSorted (methods : List Method) : Type 0 where

@@ -43,7 +43,9 @@ new-requires c =
     let step = entered c.args.bytes.now c.args.walk.now.bundles c.args.walk.now.depth c.args.walk.now.place c.in_ok-found.found
     (effective_tag (Some (bundle_at c.args.walk.now.bundles (c.in_ok-found.found.depth - 1)).tag)
     (bundle_tag (part c.args.bytes.now c.in_ok-found.found.place c.in_ok-found.found.end))) sized next refl in
-    let whole : c.bundle_elements.result.now ≡ drop 16 (part c.args.bytes.now c.in_ok-found.found.place c.in_ok-found.found.end) = c.bundle_elements.ensures in (
+    let whole : c.bundle_elements.result.now
+        ≡ drop 16 (part c.args.bytes.now c.in_ok-found.found.place c.in_ok-found.found.end)
+        = c.bundle_elements.ensures in (
       ap (body_fault own_fault 0) whole ∙ step.sound,
       omega (
         arith,
