@@ -89,10 +89,10 @@ ascending_without id (first ∷ ids) ascending =
     left [] all = refl
     left (other ∷ others) all = let p = and_parts (nat_lt first other) (list_all (nat_lt first) others) all in
         step (not (other == id)) p.0 (left others p.1) where
-      step : (t : Bool) → nat_lt first other ≡ true → list_all (nat_lt first) (without id others) ≡ true
-          → list_all (nat_lt first) (cond t (other ∷ without id others) (without id others)) ≡ true
-      step true e more = rw (e, more) refl
-      step false e more = more
+          step : (t : Bool) → nat_lt first other ≡ true → list_all (nat_lt first) (without id others) ≡ true
+              → list_all (nat_lt first) (cond t (other ∷ without id others) (without id others)) ≡ true
+          step true e more = rw (e, more) refl
+          step false e more = more
 
     go : (t : Bool) → list_all (nat_lt first) ids ≡ true → is_ascending (without id ids) ≡ true
         → is_ascending (cond t (first ∷ without id ids) (without id ids)) ≡ true

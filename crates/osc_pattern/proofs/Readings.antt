@@ -87,7 +87,7 @@ first_item-written (set list) rest lawful =
     rw (append_assoc list (93 ∷ []) rest) (ap (option_map (λ cut. (set cut.0, cut.1))) (cut_at-first is_list_end list 93 rest (not-true _ lawful) refl))
 first_item-written (choice texts) rest lawful =
     rw (append_assoc texts (125 ∷ []) rest) (ap (option_map (λ cut. (choice cut.0, cut.1)))
-        (cut_at-first is_choice_end texts 125 rest (not-true _ lawful) refl))
+    (cut_at-first is_choice_end texts 125 rest (not-true _ lawful) refl))
 first_item-written (plain byte) rest lawful =
     let none = none_of (byte == 63) (byte == 42) (byte == 91) (byte == 123) (is_slash byte) lawful in
     rw (none.0, none.1, none.2, none.3, none.4) refl

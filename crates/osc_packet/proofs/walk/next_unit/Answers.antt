@@ -44,8 +44,8 @@ new-requires c =
     (effective_tag (Some (bundle_at c.args.walk.now.bundles (c.in_ok-found.found.depth - 1)).tag)
     (bundle_tag (part c.args.bytes.now c.in_ok-found.found.place c.in_ok-found.found.end))) sized next refl in
     let whole : c.bundle_elements.result.now
-        ≡ drop 16 (part c.args.bytes.now c.in_ok-found.found.place c.in_ok-found.found.end)
-        = c.bundle_elements.ensures in (
+    ≡ drop 16 (part c.args.bytes.now c.in_ok-found.found.place c.in_ok-found.found.end)
+    = c.bundle_elements.ensures in (
       ap (body_fault own_fault 0) whole ∙ step.sound,
       omega (
         arith,
