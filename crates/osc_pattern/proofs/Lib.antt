@@ -5,6 +5,7 @@ mod Openings
 mod Cuts
 mod Matches
 mod Reaches
+mod Moves
 pub mod PatternLaws
 mod AddressLaws
 pub mod Parts

@@ -111,7 +111,7 @@ and_false : (t : Bool) → (t && false) ≡ false
 and_false true = refl
 and_false false = refl
 
-any_rest-never : (places : ℕ → Bool) (at : ℕ) (name : List ℕ) → any_rest (λ rest. false) places at name ≡ false
+pub any_rest-never : (places : ℕ → Bool) (at : ℕ) (name : List ℕ) → any_rest (λ rest. false) places at name ≡ false
 any_rest-never places at [] = and_false (places at)
 any_rest-never places at (byte ∷ name) = rw (and_false (places at)) (any_rest-never places (at + 1) name)
 

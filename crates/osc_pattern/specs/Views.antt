@@ -1,5 +1,6 @@
 -- Inside the crate: how the code's items stand for items, and its sets for places of a name.
-use Rattle.std.specs.Prelude.{ℕ, Bool, ◌==◌, List}
+use Rattle.std.specs.Prelude.{◌≡◌, ℕ, ◌<◌, Bool, true, false, ◌==◌, ◌&&◌, List, [], ◌∷◌, length}
+use Rattle.std.specs.Prelude.{get_or}
 use Rattle.std.specs.Int.{bit_at}
 use Rattle.osc_pattern.specs.declared.item.Item.{Item as Borrowed}
 use Rattle.osc_pattern.specs.declared.item.Item.TheVariants.{Any, Star, Set, Choice, Plain}
@@ -14,6 +15,26 @@ item_of (Set list) = set list.now
 item_of (Choice texts) = choice texts.now
 item_of (Plain byte) = plain byte
 
+-- whether the item is a choice
+abbrev pub is_choice : Borrowed → Bool
+is_choice Any = false
+is_choice Star = false
+is_choice (Set list) = false
+is_choice (Choice texts) = true
+is_choice (Plain byte) = false
+
+-- whether a part begins with two stars
+abbrev pub begins_twice : List ℕ → Bool
+begins_twice [] = false
+begins_twice (first ∷ []) = false
+begins_twice (first ∷ second ∷ rest) = first == 42 && second == 42
+
+-- whether a part begins with a choice of nothing but the empty text
+abbrev pub begins_empty : List ℕ → Bool
+begins_empty [] = false
+begins_empty (first ∷ []) = false
+begins_empty (first ∷ second ∷ rest) = first == 123 && second == 125
+
 -- whether the place is one of the set
 abbrev pub is_place_of : Places → ℕ → Bool
 is_place_of places place = bit_at places.bits place == 1
@@ -21,3 +42,8 @@ is_place_of places place = bit_at places.bits place == 1
 -- whether what is left of the name passes the test at one of the places
 abbrev pub passes : (List ℕ → Bool) → Places → List ℕ → Bool
 passes test places name = any_rest test (is_place_of places) 0 name
+
+-- for each byte, the places that stand right before it are marked
+abbrev pub AreMarks : List ℕ → List ℕ → Type 0
+AreMarks marks name = (byte place : ℕ) → byte < 256 → place < length name
+    → (bit_at (get_or marks byte 0) place == 1) ≡ (get_or name place 0 == byte)

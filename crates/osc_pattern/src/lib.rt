@@ -8,6 +8,7 @@ mod faults;
 mod item;
 pub mod laws;
 mod limits;
+mod marks;
 mod matcher;
 mod pattern;
 mod places;

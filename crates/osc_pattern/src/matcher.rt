@@ -1,16 +1,17 @@
 //! The matcher: one item of a part after another, and the places of the name that they reach.
 ghost use Rattle.osc_pattern.specs.declared.limits.TheConstants.{MAX_NAME};
-ghost use Rattle.std.specs.Prelude.{◌≡◌, ◌≤◌, ◌<◌, ◌+◌, ◌*◌, ◌||◌, ℕ, Bool, IsTrue, List, length};
-ghost use Rattle.std.specs.Prelude.{take, drop};
+ghost use Rattle.std.specs.Prelude.{◌≡◌, ◌≤◌, ◌<◌, ◌+◌, ◌*◌, ℕ, Bool, false, List, length};
+ghost use Rattle.std.specs.Prelude.{IsTrue};
 ghost use Rattle.std.specs.List.{flat_map, list_any, slice_split};
-ghost use Rattle.std.specs.Str.{bytes_eq};
 ghost use Rattle.osc_pattern.specs.Items.{is_comma, item_text};
 ghost use Rattle.osc_pattern.specs.Cuts.{rests, after_text, after_byte, after_item};
 ghost use Rattle.osc_pattern.specs.Reading.{match_part};
-ghost use Rattle.osc_pattern.specs.Views.{item_of, passes};
+ghost use Rattle.osc_pattern.specs.Views.{item_of, passes, is_choice, begins_twice, begins_empty};
+ghost use Rattle.osc_pattern.specs.Views.{AreMarks};
 
 use crate::cut::first_piece;
 use crate::item::{Item, first_item, has_byte};
+use crate::marks::marks_of;
 use crate::places::Places;
 use crate::steps::Steps;
 use std::sync::ledger::Ledger;
@@ -32,7 +33,8 @@ pub(crate) fn match_part<L: Ledger>(part: &[u8], name: &[u8], steps: &mut Steps<
             return part.is_empty() && name.is_empty();
         };
         match item {
-            Item::Star | Item::Choice(_) => return match_places(part, name, steps),
+            Item::Star => return match_places(part, name, steps),
+            Item::Choice(_) => return match_choices(part, &first_place(), name, steps),
             Item::Any | Item::Set(_) | Item::Plain(_) => {
                 let [byte, rest @ ..] = name else {
                     return false;
@@ -47,31 +49,147 @@ pub(crate) fn match_part<L: Ledger>(part: &[u8], name: &[u8], steps: &mut Steps<
     }
 }
 
-/// Whether a part matches a name, by the places that its items reach.
+/// Whether a part matches a name, by the places that its items reach, up to the first choice.
 fn match_places<L: Ledger>(part: &[u8], name: &[u8], steps: &mut Steps<L>) -> bool
     requires { length name.now ≤ MAX_NAME }
     ensures value { result ≡ match_part part.now name.now }
     ensures counted { steps.old ≤ steps.new }
     ensures bounded { steps.new ≤ steps.old + (length name.now + 1) * length part.now }
 {
-    let mut reached = Places::none();
-    reached.add(0);
-    let mut part = part;
+    let mut reached = first_place();
+    let mut part = last_star(part);
     while let Some((item, others)) = first_item(part) {
+        if reached.is_empty() {
+            return false;
+        }
+        if is_choice(item) {
+            return match_choices(part, &reached, name, steps);
+        }
         reached = places_after(item, &reached, name, steps);
-        part = others;
+        part = last_star(without_empty(others));
     }
     part.is_empty() && reached.has(name.len())
 }
 
+/// Whether a part matches what is left of a name at one of the places. The places at which each byte of the name stands
+/// are noted once, so that a byte of a choice is tried at all places at once.
+fn match_choices<L: Ledger>(part: &[u8], from: &Places, name: &[u8], steps: &mut Steps<L>) -> bool
+    requires { length name.now ≤ MAX_NAME }
+    ensures value { result ≡ passes (match_part part.now) from.now name.now }
+    ensures counted { steps.old ≤ steps.new }
+    ensures bounded { steps.new ≤ steps.old + (length name.now + 1) * length part.now }
+{
+    let marks = marks_of(name);
+    let mut reached = from.again();
+    let mut part = part;
+    while let Some((item, others)) = first_item(part) {
+        if reached.is_empty() {
+            return false;
+        }
+        reached = places_after_any(item, &reached, &marks, name, steps);
+        part = last_star(without_empty(others));
+    }
+    part.is_empty() && reached.has(name.len())
+}
+
+/// The first place alone.
+fn first_place() -> Places
+    ensures { (test : List ℕ → Bool) (name : List ℕ) → passes test result name ≡ test name }
+{
+    let mut first = Places::none();
+    first.add(0);
+    first
+}
+
+/// The part from the last of the stars on that it begins with. The others add nothing.
+fn last_star(part: &[u8]) -> &[u8]
+    ensures same { (name : List ℕ) → match_part result.now name ≡ match_part part.now name }
+    ensures shorter { length result.now ≤ length part.now }
+{
+    let mut rest = part;
+    while begins_twice(rest) {
+        rest = &rest[1..];
+    }
+    rest
+}
+
+/// Whether a part begins with two stars.
+fn begins_twice(part: &[u8]) -> bool
+    ensures value { result ≡ begins_twice part.now }
+    ensures long { IsTrue result → 2 ≤ length part.now }
+{
+    match part {
+        [first, second, ..] => *first == b'*' && *second == b'*',
+        _ => false,
+    }
+}
+
+/// The part behind each `{}` that it begins with. They match the empty text alone.
+fn without_empty(part: &[u8]) -> &[u8]
+    ensures same { (name : List ℕ) → match_part result.now name ≡ match_part part.now name }
+    ensures shorter { length result.now ≤ length part.now }
+{
+    let mut rest = part;
+    while begins_empty(rest) {
+        rest = &rest[2..];
+    }
+    rest
+}
+
+/// Whether a part begins with `{}`.
+fn begins_empty(part: &[u8]) -> bool
+    ensures value { result ≡ begins_empty part.now }
+    ensures long { IsTrue result → 2 ≤ length part.now }
+{
+    match part {
+        [first, second, ..] => *first == b'{' && *second == b'}',
+        _ => false,
+    }
+}
+
+fn is_choice(item: Item<'_>) -> bool
+    ensures { result ≡ is_choice item.entry }
+{
+    match item {
+        Item::Choice(_) => true,
+        Item::Any | Item::Star | Item::Set(_) | Item::Plain(_) => false,
+    }
+}
+
 /// The places that stand after a text of the item from one of these.
+fn places_after_any<L: Ledger>(
+    item: Item<'_>,
+    reached: &Places,
+    marks: &[u64; 256],
+    name: &[u8],
+    steps: &mut Steps<L>,
+) -> Places
+    requires short { length name.now ≤ MAX_NAME }
+    requires marks { AreMarks marks.now name.now }
+    ensures value { (test : List ℕ → Bool) → passes test result name.now
+        ≡ passes (λ rest. list_any test (after_item (item_of item.entry) rest)) reached.now
+        name.now }
+    ensures counted { steps.old ≤ steps.new }
+    ensures bounded { steps.new
+        ≤ steps.old + (length name.now + 1) * length (item_text (item_of item.entry)) }
+{
+    match item {
+        Item::Choice(texts) => after_choice(texts, reached, marks, steps),
+        Item::Any | Item::Star | Item::Set(_) | Item::Plain(_) => {
+            places_after(item, reached, name, steps)
+        }
+    }
+}
+
+/// The places that stand after a text of the item, which is no choice, from one of these.
 fn places_after<L: Ledger>(
     item: Item<'_>,
     reached: &Places,
     name: &[u8],
     steps: &mut Steps<L>,
 ) -> Places
-    requires { length name.now ≤ MAX_NAME }
+    requires short { length name.now ≤ MAX_NAME }
+    requires other { is_choice item ≡ false }
     ensures value { (test : List ℕ → Bool) → passes test result name.now
         ≡ passes (λ rest. list_any test (after_item (item_of item.entry) rest)) reached.now
         name.now }
@@ -81,7 +199,7 @@ fn places_after<L: Ledger>(
 {
     match item {
         Item::Star => after_star(reached, name, steps),
-        Item::Choice(texts) => after_choice(texts, reached, name, steps),
+        Item::Choice(_) => unreachable!(),
         Item::Any | Item::Set(_) | Item::Plain(_) => after_byte(item, reached, name, steps),
     }
 }
@@ -147,83 +265,52 @@ fn after_star<L: Ledger>(reached: &Places, name: &[u8], steps: &mut Steps<L>) ->
 fn after_choice<L: Ledger>(
     texts: &[u8],
     reached: &Places,
-    name: &[u8],
+    marks: &[u64; 256],
     steps: &mut Steps<L>,
 ) -> Places
-    requires { length name.now ≤ MAX_NAME }
-    ensures value { (test : List ℕ → Bool) → passes test result name.now
+    ensures value { (name : List ℕ) (test : List ℕ → Bool) → length name ≤ MAX_NAME
+        → AreMarks marks.now name → passes test result name
         ≡ passes (λ rest. list_any test
         (flat_map (after_text rest) (slice_split is_comma texts.now)))
-        reached.now name.now }
-    ensures counted { steps.old ≤ steps.new }
-    ensures bounded { steps.new ≤ steps.old + (length name.now + 1) * (length texts.now + 2) }
-{
-    let mut next = Places::none();
-    let mut place = 0;
-    let mut rest = name;
-    loop {
-        steps.tick();
-        if reached.has(place) {
-            add_texts(texts, name, place, &mut next, steps);
-        }
-        let [_, after @ ..] = rest else {
-            return next;
-        };
-        place += 1;
-        rest = after;
-    }
-}
-
-/// Adds the places that stand after one of the texts from this place.
-fn add_texts<L: Ledger>(
-    texts: &[u8],
-    name: &[u8],
-    place: usize,
-    next: &mut Places,
-    steps: &mut Steps<L>,
-)
-    requires name { length name.now ≤ MAX_NAME }
-    requires place { place ≤ length name.now }
-    ensures value { (test : List ℕ → Bool) → passes test next.new name.now
-        ≡ (passes test next.old name.now
-        || list_any test
-        (flat_map (after_text (drop place name.now)) (slice_split is_comma texts.now))) }
+        reached.now name }
     ensures counted { steps.old ≤ steps.new }
     ensures bounded { steps.new ≤ steps.old + (length texts.now + 1) }
 {
-    let left = &name[place..];
+    let mut next = Places::none();
     let mut texts = texts;
     loop {
         steps.tick();
         let (text, others) = first_piece(texts, b',');
-        if begins_with(left, text, steps) {
-            next.add(place + text.len());
-        }
+        next.join(&after_text(text, reached, marks, steps));
         match others {
             Some(others) => texts = others,
-            None => return,
+            None => return next,
         }
     }
 }
 
-/// Whether the name begins with the text.
-fn begins_with<L: Ledger>(name: &[u8], text: &[u8], steps: &mut Steps<L>) -> bool
-    ensures value { result ≡ bytes_eq (take (length text.now) name.now) text.now }
-    ensures fits { IsTrue result → length text.now ≤ length name.now }
+/// The places that stand after the text from one of these.
+fn after_text<L: Ledger>(
+    text: &[u8],
+    reached: &Places,
+    marks: &[u64; 256],
+    steps: &mut Steps<L>,
+) -> Places
+    ensures value { (name : List ℕ) (test : List ℕ → Bool) → length name ≤ MAX_NAME
+        → AreMarks marks.now name → passes test result name
+        ≡ passes (λ rest. list_any test (after_text rest text.now)) reached.now name }
     ensures counted { steps.old ≤ steps.new }
     ensures bounded { steps.new ≤ steps.old + length text.now }
 {
-    let mut name = name;
+    let mut places = reached.again();
     let mut text = text;
-    while let [own, others @ ..] = text {
-        steps.tick();
-        match name {
-            [byte, rest @ ..] if *byte == *own => {
-                name = rest;
-                text = others;
-            }
-            _ => return false,
+    while let [byte, more @ ..] = text {
+        if places.is_empty() {
+            return places;
         }
+        steps.tick();
+        places = places.behind(marks[*byte as usize]);
+        text = more;
     }
-    true
+    places
 }

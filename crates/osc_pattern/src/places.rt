@@ -1,5 +1,6 @@
 //! Sets of places of a name.
-ghost use Rattle.std.specs.Prelude.{◌≡◌, ◌<◌, ◌||◌, ◌==◌, ℕ, false};
+ghost use Rattle.std.specs.Prelude.{◌≡◌, ◌<◌, ◌+◌, ◌||◌, ◌&&◌, ◌==◌, ℕ, false, IsTrue};
+ghost use Rattle.std.specs.Int.{bit_at};
 ghost use Rattle.osc_pattern.specs.Views.{is_place_of};
 
 /// Places of a name, from 0 to 63. Place 0 stands before the first byte.
@@ -31,5 +32,38 @@ impl Places {
             ≡ (other == place || is_place_of self.old other) }
     {
         self.bits |= 1 << place;
+    }
+
+    /// Whether there is no place.
+    pub(crate) fn is_empty(&self) -> bool
+        ensures { IsTrue result → (place : ℕ) → is_place_of self.now place ≡ false }
+    {
+        self.bits == 0
+    }
+
+    /// The same places.
+    pub(crate) fn again(&self) -> Places
+        ensures { result ≡ self.now }
+    {
+        Places { bits: self.bits }
+    }
+
+    /// Adds the places of another set.
+    pub(crate) fn join(&mut self, others: &Places)
+        ensures { (place : ℕ) → is_place_of self.new place
+            ≡ (is_place_of others.now place || is_place_of self.old place) }
+    {
+        self.bits |= others.bits;
+    }
+
+    /// The places right behind those that are marked.
+    pub(crate) fn behind(&self, marks: u64) -> Places
+        ensures first { is_place_of result 0 ≡ false }
+        ensures others { (place : ℕ) → place < 63 → is_place_of result (place + 1)
+            ≡ (is_place_of self.now place && bit_at marks place == 1) }
+    {
+        Places {
+            bits: (self.bits & marks) << 1,
+        }
     }
 }

@@ -22,3 +22,4 @@ pub mod Searches
 pub mod Lookups
 pub mod Spelled
 pub mod Beginnings
+mod Bounds

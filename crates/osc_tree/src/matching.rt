@@ -21,11 +21,12 @@ use crate::lookup::id_at;
 use crate::names::{count_names, first_name, names_of, shared_names};
 use crate::registered::Registered;
 use osc_pattern::laws::{plain_pattern, tests_are_exact};
-use osc_pattern::{Pattern, Steps};
+use osc_pattern::{MAX_NAMES, Pattern, Steps};
 use std::sync::ledger::Ledger;
 
 /// Fills the list with the ids of the methods that the pattern matches, in ascending order of the address. A pattern
-/// without special bytes is looked up; else only the methods that begin with its literal front are tried.
+/// without special bytes is looked up; else only the methods that begin with its literal front are tried. One with more
+/// parts than an address has names matches none.
 pub(crate) fn find_ids<L: Ledger>(
     methods: &[Registered],
     places: &[u32],
@@ -43,11 +44,15 @@ pub(crate) fn find_ids<L: Ledger>(
     ensures bounded { steps.new ≤ steps.old + most_steps pattern.now (methods_of methods.now) }
 {
     ids.clear();
+    let parts = pattern.parts();
+    if parts as usize > MAX_NAMES {
+        return;
+    }
     let text = pattern.bytes();
     match first_special(text) {
         Some(end) => {
             let near = beginning_with(methods, places, &text[..end]);
-            walk(methods, near, pattern, ids, steps);
+            walk(methods, near, pattern, parts, ids, steps);
         }
         None => add_spelled(methods, places, pattern, ids),
     }
@@ -76,9 +81,11 @@ fn walk<L: Ledger>(
     methods: &[Registered],
     near: &[u32],
     pattern: &Pattern<'_>,
+    parts: u32,
     ids: &mut Vec<u32>,
     steps: &mut Steps<L>,
 )
+    requires parts { parts ≡ length (parts_of pattern.now) }
     requires within { All (λ place. place < length methods.now) near.now }
     requires sorted { IsSorted (methods_at methods.now near.now) }
     requires empty { ids.old.items ≡ [] }
@@ -93,7 +100,7 @@ fn walk<L: Ledger>(
 {
     let mut at = 0;
     while at < near.len() {
-        at = visit(methods, near, at, pattern, ids, steps);
+        at = visit(methods, near, at, pattern, parts, ids, steps);
     }
 }
 
@@ -104,9 +111,11 @@ fn visit<L: Ledger>(
     places: &[u32],
     at: usize,
     pattern: &Pattern<'_>,
+    parts: u32,
     ids: &mut Vec<u32>,
     steps: &mut Steps<L>,
 ) -> usize
+    requires parts { parts ≡ length (parts_of pattern.now) }
     requires within { All (λ place. place < length methods.now) places.now }
     requires sorted { IsSorted (methods_at methods.now places.now) }
     requires at { at < length places.now }
@@ -123,8 +132,7 @@ fn visit<L: Ledger>(
     let method = &methods[places[at] as usize];
     let names = names_of(&method.address);
     let known = known_at(methods, places, at);
-    let matching = count_matching(pattern, known, names, steps);
-    let parts = pattern.parts();
+    let matching = count_matching(pattern, parts, known, names, steps);
     if is_whole(matching, parts, names) {
         add_id(method.id, ids);
         return at + 1;
@@ -150,10 +158,12 @@ fn known_at(methods: &[Registered], places: &[u32], at: usize) -> usize
 /// How many parts match the names at their places, from the first on. The first `known` are known to.
 fn count_matching<L: Ledger>(
     pattern: &Pattern<'_>,
+    parts: u32,
     known: usize,
     names: &[u8],
     steps: &mut Steps<L>,
 ) -> u32
+    requires parts { parts ≡ length (parts_of pattern.now) }
     requires short { All (λ name. length name ≤ MAX_NAME) (slice_split is_slash names.now) }
     requires known { known ≤ agreeing (parts_of pattern.now) (slice_split is_slash names.now) }
     ensures count { result ≡ agreeing (parts_of pattern.now) (slice_split is_slash names.now) }
@@ -163,7 +173,7 @@ fn count_matching<L: Ledger>(
 {
     let mut place = 0;
     let mut rest = names;
-    while place < pattern.parts() {
+    while place < parts {
         let (name, more) = first_name(rest);
         let left = known.saturating_sub(place as usize);
         if !is_matching(pattern, place, left, name, steps) {
@@ -217,8 +227,29 @@ fn least_shared(matching: u32, parts: u32) -> u32
     }
 }
 
-/// How many methods have at least so many names in common with an address, before the first that hasn't.
+/// How many methods have at least so many names in common with an address, before the first that hasn't. Where
+/// addresses differ much, the first one hasn't.
 fn count_sharing(methods: &[Registered], places: &[u32], names: &[u8], least: usize) -> usize
+    requires within { All (λ place. place < length methods.now) places.now }
+    requires parted { IsPartitionedBy
+        (λ place. nat_le least (shared (slice_split is_slash names.now)
+        (parts_of (method_at methods.now place).address))) places.now }
+    ensures count { result
+        ≡ position_or_len (λ place. not (nat_le least (shared (slice_split is_slash names.now)
+        (parts_of (method_at methods.now place).address)))) places.now }
+    ensures bound { result ≤ length places.now }
+{
+    let [next, ..] = places else {
+        return 0;
+    };
+    if !is_sharing(methods, *next, names, least) {
+        return 0;
+    }
+    search_sharing(methods, places, names, least)
+}
+
+/// The same, by halving the range in which the first that hasn't must stand.
+fn search_sharing(methods: &[Registered], places: &[u32], names: &[u8], least: usize) -> usize
     requires within { All (λ place. place < length methods.now) places.now }
     requires parted { IsPartitionedBy
         (λ place. nat_le least (shared (slice_split is_slash names.now)

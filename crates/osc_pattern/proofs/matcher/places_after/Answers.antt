@@ -11,11 +11,6 @@ returns-in-Star-clause-value g c = λ test.
     c.after_star.ensures.value test ∙ ap (λ i. passes (λ rest. list_any test (after_item (item_of i) rest)) c.args.reached.now c.args.name.now)
     (sym c.in-Star.is)
 
-pub returns-in-Choice-clause-value : goal.returns-in-Choice-clause-value
-returns-in-Choice-clause-value g c = λ test.
-    c.after_choice.ensures.value test ∙ ap (λ i. passes (λ rest. list_any test (after_item (item_of i) rest)) c.args.reached.now c.args.name.now)
-    (sym c.in-Choice.is)
-
 pub returns-in-Any : goal.returns-in-Any
 returns-in-Any g c = record {
   value = λ test.

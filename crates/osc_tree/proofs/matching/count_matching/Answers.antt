@@ -13,7 +13,7 @@ pub is_matching-requires-clause-known : goal.is_matching-requires-clause-known
 is_matching-requires-clause-known g c =
     let pattern = c.args.pattern.now in
     let place = c.loop-place.place in
-    let within : place < length (parts_of pattern) = omega (arith, c.parts.ensures.parts) in
+    let within : place < length (parts_of pattern) = omega (arith, c.requires.parts) in
     let cut = first_piece_is c.loop-place.rest.now c.first_name.result.0.now c.first_name.result.1 c.first_name.ensures.names in
     let here = agree_here pattern place (slice_split is_slash c.loop-place.rest.now) c.first_name.result.0.now cut.0 within cut.1 in
     λ some. known_matches (c.args.known - place) _ (match_part (part_at pattern place) c.first_name.result.0.now)
@@ -23,7 +23,7 @@ pub returns-then-not-is_matching-clause-count : goal.returns-then-not-is_matchin
 returns-then-not-is_matching-clause-count g c =
     let pattern = c.args.pattern.now in
     let place = c.loop-place.place in
-    let within : place < length (parts_of pattern) = omega (arith, c.parts.ensures.parts) in
+    let within : place < length (parts_of pattern) = omega (arith, c.requires.parts) in
     let cut = first_piece_is c.loop-place.rest.now c.first_name.result.0.now c.first_name.result.1 c.first_name.ensures.names in
     let no : match_part (part_at pattern place) c.first_name.result.0.now ≡ false = search rules in
     let here : agreeing (drop place (parts_of pattern)) (slice_split is_slash c.loop-place.rest.now) ≡ 0 =
@@ -35,7 +35,7 @@ pub returns-then-not-is_matching-clause-bounded : goal.returns-then-not-is_match
 returns-then-not-is_matching-clause-bounded g c =
     let pattern = c.args.pattern.now in
     let place = c.loop-place.place in
-    let within : place < length (parts_of pattern) = omega (arith, c.parts.ensures.parts) in
+    let within : place < length (parts_of pattern) = omega (arith, c.requires.parts) in
     let cut = first_piece_is c.loop-place.rest.now c.first_name.result.0.now c.first_name.result.1 c.first_name.ensures.names in
     let here = spent_here pattern place (c.args.known - place) (slice_split is_slash c.loop-place.rest.now) c.first_name.result.0.now cut.0 within cut.1 in
     let same = ap (λ n. part_steps n (part_at pattern place)) c.saturating_sub-left.ensures in
@@ -45,7 +45,7 @@ pub loop-place-preserved : goal.loop-place-preserved
 loop-place-preserved g c =
     let pattern = c.args.pattern.now in
     let place = c.loop-place.place in
-    let within : place < length (parts_of pattern) = omega (arith, c.parts.ensures.parts) in
+    let within : place < length (parts_of pattern) = omega (arith, c.requires.parts) in
     let cut : slice_split is_slash c.loop-place.rest.now ≡ c.first_name.result.0.now ∷ slice_split is_slash c.in-Some.more.now = search rules in
     let yes : match_part (part_at pattern place) c.first_name.result.0.now ≡ true = search rules in
     let here = agree_here pattern place (slice_split is_slash c.loop-place.rest.now) c.first_name.result.0.now
@@ -72,7 +72,7 @@ pub returns-in-None-clause-count : goal.returns-in-None-clause-count
 returns-in-None-clause-count g c =
     let pattern = c.args.pattern.now in
     let place = c.loop-place.place in
-    let within : place < length (parts_of pattern) = omega (arith, c.parts.ensures.parts) in
+    let within : place < length (parts_of pattern) = omega (arith, c.requires.parts) in
     let cut : slice_split is_slash c.loop-place.rest.now ≡ c.first_name.result.0.now ∷ [] = search rules in
     let yes : match_part (part_at pattern place) c.first_name.result.0.now ≡ true = search rules in
     let agree : agreeing (drop place (parts_of pattern)) (slice_split is_slash c.loop-place.rest.now) ≡ agreeing (drop (place + 1) (parts_of pattern)) [] + 1 =
@@ -84,7 +84,7 @@ pub returns-in-None-clause-bounded : goal.returns-in-None-clause-bounded
 returns-in-None-clause-bounded g c =
     let pattern = c.args.pattern.now in
     let place = c.loop-place.place in
-    let within : place < length (parts_of pattern) = omega (arith, c.parts.ensures.parts) in
+    let within : place < length (parts_of pattern) = omega (arith, c.requires.parts) in
     let cut : slice_split is_slash c.loop-place.rest.now ≡ c.first_name.result.0.now ∷ [] = search rules in
     let cost = spent_here pattern place (c.args.known - place) (slice_split is_slash c.loop-place.rest.now) c.first_name.result.0.now [] within cut in
     let same = ap (λ n. part_steps n (part_at pattern place)) c.saturating_sub-left.ensures in

@@ -1,8 +1,10 @@
-use Rattle.std.proofs.Common.{◌≡◌, true, filter, map, take, ap, sym, subst, ◌∙◌, arith}
+use Rattle.std.proofs.Common.{◌≡◌, true, filter, map, take, ap, sym, subst, ◌∙◌, arith, rules, []}
 use Rattle.std.specs.List.{before_first}
 use Rattle.osc_pattern.specs.Methods.{Method}
 use Rattle.osc_pattern.specs.Patterns.{begins_with_slash, is_special, matches}
+use Rattle.osc_tree.proofs.Bounds.{no_ids}
 use Rattle.osc_tree.proofs.InOrder.{found_is}
+use Rattle.osc_tree.specs.Views.{methods_of}
 use Rattle.osc_tree.proofs.Apart.{near_sorted, near_steps}
 use Rattle.osc_tree.proofs.Literals.{front_found}
 use Rattle.osc_tree.proofs.matching.find_ids.Goals as goal
@@ -29,3 +31,8 @@ returns-in-Some-clause-bounded g c =
     let most = near_steps c.args.pattern.now (take c.in-Some.end c.bytes-text.result.now) c.args.methods.now c.args.places.now
     c.beginning_with-near.result.now c.requires.order c.beginning_with-near.ensures.those in
     omega (arith, c.walk.ensures.bounded)
+
+pub returns-then-parts-gt-MAX_NAMES-clause-ids : goal.returns-then-parts-gt-MAX_NAMES-clause-ids
+returns-then-parts-gt-MAX_NAMES-clause-ids g c =
+    let cleared : c.clear.new.self.items ≡ [] = search rules in
+    cleared ∙ sym (no_ids c.args.pattern.now (methods_of c.args.methods.now) c.requires.list (omega (arith, c.parts-parts.ensures.parts)))

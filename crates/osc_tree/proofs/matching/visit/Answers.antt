@@ -27,17 +27,17 @@ returns-then-is_whole-clause-walked g c =
     let here = method_here registered places at c.index-methods-places.result d c.requires.within c.requires.at c.index-methods-places.is in
     let names : slice_split is_slash c.names_of-names.result.now ≡ parts_of (get_or ms at d).address =
     c.names_of-names.ensures.parts ∙ ap (λ (m : Method). parts_of m.address) (sym here) in
-    let whole = whole_is c.count_matching-matching.result c.parts-parts.result (length (slice_split is_slash c.names_of-names.result.now))
+    let whole = whole_is c.count_matching-matching.result c.args.parts (length (slice_split is_slash c.names_of-names.result.now))
     (sym c.is_whole.ensures ∙ c.if-is_whole.true) in
     subst (λ (n : ℕ). IsWalked c.args.pattern.now ms n c.add_id.new.ids.items) (sym (add-one at))
     (walked_hit c.args.pattern.now ms at c.args.ids.now.items c.add_id.new.ids.items c.index-methods-places.result.id c.count_matching-matching.result d within
-    c.requires.walked (c.count_matching-matching.ensures.count ∙ ap (agreeing (parts_of c.args.pattern.now)) names) (whole.0 ∙ c.parts-parts.ensures.parts)
+    c.requires.walked (c.count_matching-matching.ensures.count ∙ ap (agreeing (parts_of c.args.pattern.now)) names) (whole.0 ∙ c.requires.parts)
     (whole.1 ∙ ap length names) (ap (λ (m : Method). m.id) (sym here)) c.add_id.ensures.ids)
 
 pub least_shared-least-requires : goal.least_shared-least-requires
 least_shared-least-requires g c =
     let most = agreeing_parts (parts_of c.args.pattern.now) (slice_split is_slash c.names_of-names.result.now) in
-    omega (arith, c.count_matching-matching.ensures.count, c.parts-parts.ensures.parts)
+    omega (arith, c.count_matching-matching.ensures.count, c.requires.parts)
 
 pub returns-then-is_whole-clause-bounded : goal.returns-then-is_whole-clause-bounded
 returns-then-is_whole-clause-bounded g c =
@@ -92,8 +92,8 @@ returns-clause-walked g c =
     let whole : (c.count_matching-matching.result == length (parts_of c.args.pattern.now)
     && c.count_matching-matching.result == length (parts_of (get_or ms at d).address)) ≡ false =
     ap (λ (n : ℕ). c.count_matching-matching.result == n && c.count_matching-matching.result == length (parts_of (get_or ms at d).address))
-    (sym c.parts-parts.ensures.parts)
-    ∙ ap (λ l. c.count_matching-matching.result == c.parts-parts.result && c.count_matching-matching.result == length l) (sym names)
+    (sym c.requires.parts)
+    ∙ ap (λ l. c.count_matching-matching.result == c.args.parts && c.count_matching-matching.result == length l) (sym names)
     ∙ sym c.is_whole.ensures ∙ c.if-is_whole.false in
     let counted = counted_over registered places at c.count_sharing.result
     (λ method. not (nat_le c.least_shared-least.result (shared (slice_split is_slash c.names_of-names.result.now) (parts_of method.address))))
@@ -103,7 +103,7 @@ returns-clause-walked g c =
     subst (λ (n : ℕ). IsWalked c.args.pattern.now ms (n + c.count_sharing.result) c.args.ids.now.items) (sym (add-one at))
     (walked_over c.args.pattern.now ms at c.args.ids.now.items c.count_sharing.result c.count_matching-matching.result c.least_shared-least.result d
     c.requires.sorted within c.requires.walked (c.count_matching-matching.ensures.count ∙ ap (agreeing (parts_of c.args.pattern.now)) names) whole
-    (c.least_shared-least.ensures ∙ ap (λ (n : ℕ). least_of c.count_matching-matching.result n) c.parts-parts.ensures.parts) counted_names)
+    (c.least_shared-least.ensures ∙ ap (λ (n : ℕ). least_of c.count_matching-matching.result n) c.requires.parts) counted_names)
 
 pub count_sharing-requires-clause-parted : goal.count_sharing-requires-clause-parted
 count_sharing-requires-clause-parted g c =

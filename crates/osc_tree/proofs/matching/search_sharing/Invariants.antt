@@ -5,7 +5,7 @@ use Rattle.osc_pattern.specs.Patterns.{parts_of}
 use Rattle.osc_tree.specs.Views.{method_at}
 use Rattle.osc_tree.specs.Walking.{shared}
 use Rattle.osc_tree.proofs.Walks.{IsHalved}
-use Rattle.osc_tree.proofs.matching.count_sharing.Given as goal
+use Rattle.osc_tree.proofs.matching.search_sharing.Given as goal
 
 abbrev pub invariant-loop-low : goal.invariant-loop-low
 invariant-loop-low l =

@@ -1,0 +1,342 @@
+-- Sets of places as bits: two joined, one moved on by a byte, and the places that a choice or a run of stars reaches.
+use Rattle.std.proofs.Common.{◌≡◌, ℕ, zero, suc, ◌+◌, ◌-◌, ◌*◌, ◌/◌, ◌%◌, ◌^◌, ◌<◌, ◌≤◌, max, min, Bool, true, false, ◌||◌, ◌&&◌, ◌==◌, nat_lt, Some, List, [], ◌∷◌, ◌++◌}
+use Rattle.std.proofs.Common.{length, take, drop, refl, arith, sym, ap, subst, ◌∙◌, w64}
+use Rattle.std.specs.Prelude.{if◌then◌else◌, set, replicate}
+use Rattle.std.specs.Int.{bit_at}
+use Rattle.std.specs.Int.RustNames.{bit_or, bit_and}
+use Rattle.std.specs.List.{list_any, flat_map}
+use Rattle.std.specs.Str.{bytes_eq}
+use Rattle.std.proofs.Math.ListN.{get_or}
+use Rattle.std.proofs.lemmas.List.{get_or-set_same, get_or-set_other, get_or-replicate, take_rest}
+use Rattle.std.proofs.lemmas.List.Folds.{list_any-append}
+use Rattle.std.proofs.lemmas.Nat.Bits.{bit_at_or, bit_at_and, bit_at-suc, bit_at-zero, bit_at-lt, bit_at_cat_low}
+use Rattle.std.proofs.lemmas.Bool.{and_parts}
+use Rattle.std.proofs.lemmas.Bool.Decides.{nat_tests}
+use Rattle.osc_pattern.specs.Items.{Item, star, plain, choice, is_comma, is_choice_end}
+use Rattle.osc_pattern.specs.Cuts.{rests, after_byte, after_text, any_rest}
+use Rattle.osc_pattern.specs.Reading.{first_item, match_part}
+use Rattle.osc_pattern.specs.Views.{begins_twice, begins_empty}
+use Rattle.std.specs.Prelude.{option_map}
+use Rattle.std.specs.List.{slice_split}
+use Rattle.std.proofs.lemmas.List.Splits.{slice_split_none}
+use Rattle.osc_pattern.proofs.Cutting.{cut_at-first}
+use Rattle.osc_pattern.proofs.Matches.{match_part-item}
+use Rattle.osc_pattern.proofs.Reaches.{bits-added, any_rest-same, any_rest-never, rows_split}
+
+or_false : (t : Bool) → (t || false) ≡ (t)
+or_false true = refl
+or_false false = refl
+
+and_false : (t : Bool) → (t && false) ≡ (false)
+and_false true = refl
+and_false false = refl
+
+or_assoc : (a b c : Bool) → ((a || b) || c) ≡ (a || (b || c))
+or_assoc true true true = refl
+or_assoc true true false = refl
+or_assoc true false true = refl
+or_assoc true false false = refl
+or_assoc false true true = refl
+or_assoc false true false = refl
+or_assoc false false true = refl
+or_assoc false false false = refl
+
+or_again : (a b : Bool) → ((a || b) || b) ≡ (a || b)
+or_again true true = refl
+or_again true false = refl
+or_again false true = refl
+or_again false false = refl
+
+or_row : (p a b x y : Bool) → ((p && (a || b)) || (x || y)) ≡ (((p && a) || x) || ((p && b) || y))
+or_row true true true true true = refl
+or_row true true true true false = refl
+or_row true true true false true = refl
+or_row true true true false false = refl
+or_row true true false true true = refl
+or_row true true false true false = refl
+or_row true true false false true = refl
+or_row true true false false false = refl
+or_row true false true true true = refl
+or_row true false true true false = refl
+or_row true false true false true = refl
+or_row true false true false false = refl
+or_row true false false true true = refl
+or_row true false false true false = refl
+or_row true false false false true = refl
+or_row true false false false false = refl
+or_row false true true true true = refl
+or_row false true true true false = refl
+or_row false true true false true = refl
+or_row false true true false false = refl
+or_row false true false true true = refl
+or_row false true false true false = refl
+or_row false true false false true = refl
+or_row false true false false false = refl
+or_row false false true true true = refl
+or_row false false true true false = refl
+or_row false false true false true = refl
+or_row false false true false false = refl
+or_row false false false true true = refl
+or_row false false false true false = refl
+or_row false false false false true = refl
+or_row false false false false false = refl
+
+join_row : (m o t x y : Bool) → (((m || o) && t) || (x || y)) ≡ (((o && t) || x) || ((m && t) || y))
+join_row true true true true true = refl
+join_row true true true true false = refl
+join_row true true true false true = refl
+join_row true true true false false = refl
+join_row true true false true true = refl
+join_row true true false true false = refl
+join_row true true false false true = refl
+join_row true true false false false = refl
+join_row true false true true true = refl
+join_row true false true true false = refl
+join_row true false true false true = refl
+join_row true false true false false = refl
+join_row true false false true true = refl
+join_row true false false true false = refl
+join_row true false false false true = refl
+join_row true false false false false = refl
+join_row false true true true true = refl
+join_row false true true true false = refl
+join_row false true true false true = refl
+join_row false true true false false = refl
+join_row false true false true true = refl
+join_row false true false true false = refl
+join_row false true false false true = refl
+join_row false true false false false = refl
+join_row false false true true true = refl
+join_row false false true true false = refl
+join_row false false true false true = refl
+join_row false false true false false = refl
+join_row false false false true true = refl
+join_row false false false true false = refl
+join_row false false false false true = refl
+join_row false false false false false = refl
+
+-- ---- bits
+
+or_bits : (x y : ℕ) → x < 2 → y < 2 → (max x y == 1) ≡ (y == 1 || x == 1)
+or_bits zero zero a b = refl
+or_bits zero (suc zero) a b = refl
+or_bits (suc zero) zero a b = refl
+or_bits (suc zero) (suc zero) a b = refl
+or_bits (suc (suc x)) y a b = absurd (omega arith)
+or_bits x (suc (suc y)) a b = absurd (omega arith)
+
+and_bits : (x y : ℕ) → x < 2 → y < 2 → (min x y == 1) ≡ (x == 1 && y == 1)
+and_bits zero zero a b = refl
+and_bits zero (suc zero) a b = refl
+and_bits (suc zero) zero a b = refl
+and_bits (suc zero) (suc zero) a b = refl
+and_bits (suc (suc x)) y a b = absurd (omega arith)
+and_bits x (suc (suc y)) a b = absurd (omega arith)
+
+pub bits-joined : (a b place : ℕ) → (bit_at (bit_or a b) place == 1) ≡ (bit_at b place == 1 || bit_at a place == 1)
+bits-joined a b place = ap (λ bit. bit == 1) (bit_at_or a b place) ∙ or_bits (bit_at a place) (bit_at b place) (bit_at-lt a place) (bit_at-lt b place)
+
+low_bit : (n i : ℕ) → i < 64 → bit_at (n % 2 ^ 64) i ≡ bit_at n i
+low_bit n i within =
+    let whole : n / 2 ^ 64 * 2 ^ 64 + n % 2 ^ 64 ≡ n = omega arith in
+    sym (bit_at_cat_low (n / 2 ^ 64) 64 (n % 2 ^ 64) i within) ∙ ap (λ x. bit_at x i) whole
+
+twice_bit : (n i : ℕ) → bit_at (n * 2) (i + 1) ≡ bit_at n i
+twice_bit n i =
+    let e : i + 1 ≡ suc i = omega arith in
+    let half : n * 2 / 2 ≡ n = omega arith in
+    ap (bit_at (n * 2)) e ∙ bit_at-suc (n * 2) i ∙ ap (λ x. bit_at x i) half
+
+pub bits-behind : (a marks place : ℕ) → place < 63
+    → (bit_at (bit_and a marks * 2 % 2 ^ 64) (place + 1) == 1) ≡ (bit_at a place == 1 && bit_at marks place == 1)
+bits-behind a marks place within =
+    ap (λ bit. bit == 1) (low_bit (bit_and a marks * 2) (place + 1) (omega arith) ∙ twice_bit (bit_and a marks) place ∙ bit_at_and a marks place)
+    ∙ and_bits (bit_at a place) (bit_at marks place) (bit_at-lt a place) (bit_at-lt marks place)
+
+-- ---- marks
+
+-- the bytes before a place are marked
+abbrev pub MarkedTo : List ℕ → List ℕ → ℕ → Type 0
+MarkedTo marks name end = (byte place : ℕ) → byte < 256 → (bit_at (get_or marks byte 0) place == 1) ≡ (nat_lt place end && get_or name place 0 == byte)
+
+one_more : (place end n byte : ℕ) → (place ≡ end → n ≡ byte) → (place == end || (nat_lt place end && n == byte)) ≡ (nat_lt place (end + 1) && n == byte)
+one_more place end n byte h = go (place == end) refl where
+  go : (t : Bool) → (place == end) ≡ t → (t || (nat_lt place end && n == byte)) ≡ (nat_lt place (end + 1) && n == byte)
+  go true e =
+      let same : place ≡ end = grind (arith, nat_tests) in
+      let is : n ≡ byte = h same in
+      let below : nat_lt place (end + 1) ≡ true = grind (arith, nat_tests) in
+      let own : (n == byte) ≡ true = grind (arith, nat_tests) in
+      rw (below, own) refl
+  go false e =
+      let below : nat_lt place (end + 1) ≡ nat_lt place end = grind (arith, nat_tests) in
+      ap (λ t. t && n == byte) (sym below)
+
+no_more : (place end n byte own : ℕ) → (place ≡ end → n ≡ own) → (byte == own) ≡ false
+    → (nat_lt place end && n == byte) ≡ (nat_lt place (end + 1) && n == byte)
+no_more place end n byte own h other = go (place == end) refl where
+  go : (t : Bool) → (place == end) ≡ t → (nat_lt place end && n == byte) ≡ (nat_lt place (end + 1) && n == byte)
+  go true e =
+      let same : place ≡ end = grind (arith, nat_tests) in
+      let is : n ≡ own = h same in
+      let apart : (n == byte) ≡ false = grind (arith, nat_tests) in
+      rw apart (and_false (nat_lt place end) ∙ sym (and_false (nat_lt place (end + 1))))
+  go false e =
+      let below : nat_lt place (end + 1) ≡ nat_lt place end = grind (arith, nat_tests) in
+      ap (λ t. t && n == byte) (sym below)
+
+pub marked-next : (marks name : List ℕ) (own end : ℕ) → length marks ≡ 256 → own < 256 → end < 64 → get_or name end 0 ≡ own → MarkedTo marks name end
+    → MarkedTo (set marks own (bit_or (get_or marks own 0) (1 * 2 ^ end % 2 ^ 64))) name (end + 1)
+marked-next marks name own end size small within is so_far byte place below = go (byte == own) refl where
+  new : ℕ
+  new = bit_or (get_or marks own 0) (1 * 2 ^ end % 2 ^ 64)
+
+  here : place ≡ end → get_or name place 0 ≡ own
+  here e = ap (λ k. get_or name k 0) e ∙ is
+
+  go : (t : Bool) → (byte == own) ≡ t
+      → (bit_at (get_or (set marks own (bit_or (get_or marks own 0) (1 * 2 ^ end % 2 ^ 64))) byte 0) place == 1) ≡ (nat_lt place (end + 1) && get_or name place 0 == byte)
+  go true e =
+      let same : byte ≡ own = grind (arith, nat_tests) in
+      rw same (ap (λ n. bit_at n place == 1) (get_or-set_same marks own new 0 (omega arith)) ∙ bits-added (get_or marks own 0) end within place
+      ∙ ap (λ t. place == end || t) (so_far own place small) ∙ one_more place end (get_or name place 0) own here)
+  go false e =
+      ap (λ n. bit_at n place == 1) (get_or-set_other marks own byte new 0 (λ same. (let h : (byte == own) ≡ true = grind (arith, nat_tests) in cc)))
+      ∙ so_far byte place below ∙ no_more place end (get_or name place 0) byte own here e
+
+pub marked-none : (name : List ℕ) → MarkedTo (replicate 256 0) name 0
+marked-none name byte place below =
+    let none : nat_lt place 0 ≡ false = grind (arith, nat_tests) in
+    ap (λ n. bit_at n place == 1) (get_or-replicate 256 byte 0 0 below) ∙ ap (λ n. n == 1) (bit_at-zero place) ∙ rw none refl
+
+-- ---- places
+
+pub any_rest-or : (f g : List ℕ → Bool) (places : ℕ → Bool) (at : ℕ) (name : List ℕ)
+    → any_rest (λ rest. f rest || g rest) places at name ≡ (any_rest f places at name || any_rest g places at name)
+any_rest-or f g places at [] = end (places at) (f []) (g []) where
+  end : (p a b : Bool) → (p && (a || b)) ≡ ((p && a) || (p && b))
+  end true a b = refl
+  end false a b = refl
+any_rest-or f g places at (byte ∷ name) =
+    rw (any_rest-or f g places (at + 1) name)
+    (or_row (places at) (f (byte ∷ name)) (g (byte ∷ name)) (any_rest f places (at + 1) name) (any_rest g places (at + 1) name))
+
+pub any_rest-joined : (test : List ℕ → Bool) (more old new : ℕ → Bool) → ((place : ℕ) → new place ≡ (more place || old place)) → (at : ℕ) (name : List ℕ)
+    → any_rest test new at name ≡ (any_rest test old at name || any_rest test more at name)
+any_rest-joined test more old new joined at [] = rw (joined at) (end (more at) (old at) (test [])) where
+  end : (m o t : Bool) → ((m || o) && t) ≡ ((o && t) || (m && t))
+  end true true true = refl
+  end true true false = refl
+  end true false true = refl
+  end true false false = refl
+  end false true true = refl
+  end false true false = refl
+  end false false true = refl
+  end false false false = refl
+any_rest-joined test more old new joined at (byte ∷ name) =
+    rw (joined at, any_rest-joined test more old new joined (at + 1) name)
+    (join_row (more at) (old at) (test (byte ∷ name)) (any_rest test old (at + 1) name) (any_rest test more (at + 1) name))
+
+one_byte : (o t : Bool) (test : List ℕ → Bool) (name : List ℕ) → ((o && t) && test name) ≡ (o && list_any test (if t then name ∷ [] else []))
+one_byte true true test name = sym (or_false (test name))
+one_byte true false test name = refl
+one_byte false t test name = refl
+
+moved : (test : List ℕ → Bool) (old new : ℕ → Bool) (own at : ℕ) (name : List ℕ)
+    → ((k : ℕ) → k < length name → new (at + k + 1) ≡ (old (at + k) && get_or name k 0 == own))
+    → any_rest test new at name ≡ ((new at && test name) || any_rest (λ rest. list_any test (after_byte (plain own) rest)) old at name)
+moved test old new own at [] h = rw (and_false (old at)) (sym (or_false (new at && test [])))
+moved test old new own at (byte ∷ name) h =
+    let none : at + 0 ≡ at = omega arith in
+    let first : new (at + 1) ≡ (old at && byte == own) = subst (λ n. new (n + 1) ≡ (old n && byte == own)) none (h 0 (omega arith)) in
+    let others : (k : ℕ) → k < length name → new (at + 1 + k + 1) ≡ (old (at + 1 + k) && get_or name k 0 == own) =
+    λ k below. (let e : at + suc k ≡ at + 1 + k = omega arith in subst (λ n. new (n + 1) ≡ (old n && get_or name k 0 == own)) e (h (suc k) (omega arith))) in
+    ap (λ r. (new at && test (byte ∷ name)) || r)
+    (moved test old new own (at + 1) name others
+    ∙ ap (λ t. t || any_rest (λ rest. list_any test (after_byte (plain own) rest)) old (at + 1) name) (ap (λ n. n && test name) first ∙ one_byte (old at) (byte == own) test name))
+
+-- the places right behind a byte
+pub any_rest-behind : (test : List ℕ → Bool) (old new : ℕ → Bool) (own : ℕ) (name : List ℕ) → new 0 ≡ false
+    → ((k : ℕ) → k < length name → new (k + 1) ≡ (old k && get_or name k 0 == own))
+    → any_rest test new 0 name ≡ any_rest (λ rest. list_any test (after_byte (plain own) rest)) old 0 name
+any_rest-behind test old new own name none h =
+    moved test old new own 0 name (λ k below. (let e : k ≡ 0 + k = omega arith in subst (λ n. new (n + 1) ≡ (old n && get_or name k 0 == own)) e (h k below)))
+    ∙ rw none refl
+
+-- a text: its first byte, and then the others
+pub text_byte : (test : List ℕ → Bool) (byte : ℕ) (text rest : List ℕ)
+    → list_any test (after_text rest (byte ∷ text)) ≡ list_any (λ left. list_any test (after_text left text)) (after_byte (plain byte) rest)
+text_byte test byte text [] = refl
+text_byte test byte text (x ∷ rest) = go (x == byte) refl where
+  go : (t : Bool) → (x == byte) ≡ t → list_any test (after_text (x ∷ rest) (byte ∷ text)) ≡ list_any (λ left. list_any test (after_text left text)) (if t then rest ∷ [] else [])
+  go true e = rw e (sym (or_false (list_any test (after_text rest text))))
+  go false e = rw e refl
+
+pub text_end : (test : List ℕ → Bool) (rest : List ℕ) → list_any test (after_text rest []) ≡ test rest
+text_end test rest = or_false (test rest)
+
+-- the texts of a choice: the first, and then the others
+pub choice_texts : (test : List ℕ → Bool) (places : ℕ → Bool) (name text : List ℕ) (texts more : List (List ℕ)) → texts ≡ text ∷ more
+    → any_rest (λ rest. list_any test (flat_map (after_text rest) texts)) places 0 name
+    ≡ (any_rest (λ rest. list_any test (after_text rest text)) places 0 name || any_rest (λ rest. list_any test (flat_map (after_text rest) more)) places 0 name)
+choice_texts test places name text texts more cut =
+    any_rest-same (λ rest. list_any test (flat_map (after_text rest) texts))
+    (λ rest. list_any test (after_text rest text) || list_any test (flat_map (after_text rest) more))
+    (λ rest. ap (λ all. list_any test (flat_map (after_text rest) all)) cut ∙ list_any-append test (after_text rest text) (flat_map (after_text rest) more)) places 0 name
+    ∙ any_rest-or (λ rest. list_any test (after_text rest text)) (λ rest. list_any test (flat_map (after_text rest) more)) places 0 name
+
+pub choice_next : (n n' a c d whole : Bool) → n' ≡ (n || a) → d ≡ (a || c) → (n || d) ≡ whole → (n' || c) ≡ whole
+choice_next n n' a c d whole e cut so_far = ap (λ t. t || c) e ∙ or_assoc n a c ∙ ap (λ t. n || t) (sym cut) ∙ so_far
+
+pub choice_end : (test : List ℕ → Bool) (places : ℕ → Bool) (name : List ℕ) (n n' a d whole : Bool) → n' ≡ (n || a)
+    → d ≡ (a || any_rest (λ rest. list_any test (flat_map (after_text rest) [])) places 0 name) → (n || d) ≡ whole → n' ≡ whole
+choice_end test places name n n' a d whole e cut so_far =
+    sym (or_false n') ∙ choice_next n n' a false d whole e (cut ∙ ap (λ t. a || t) (any_rest-never places 0 name)) so_far
+
+-- ---- stars
+
+same_any : (f g : List ℕ → Bool) → ((x : List ℕ) → f x ≡ g x) → (xs : List (List ℕ)) → list_any f xs ≡ list_any g xs
+same_any f g same [] = refl
+same_any f g same (x ∷ xs) = rw (same x, same_any f g same xs) refl
+
+rests_again : (f : List ℕ → Bool) (name : List ℕ) → list_any (λ left. list_any f (rests left)) (rests name) ≡ list_any f (rests name)
+rests_again f [] = or_false (f [] || false)
+rests_again f (byte ∷ name) = rw (rests_again f name) (or_again (f (byte ∷ name)) (list_any f (rests name)))
+
+-- a star right behind a star adds nothing
+pub star_again : (more name : List ℕ) → match_part (42 ∷ more) name ≡ match_part (42 ∷ 42 ∷ more) name
+star_again more name =
+    match_part-item (42 ∷ more) star more name refl
+    ∙ sym (rests_again (match_part more) name)
+    ∙ sym (same_any (match_part (42 ∷ more)) (λ left. list_any (match_part more) (rests left)) (λ left. match_part-item (42 ∷ more) star more left refl) (rests name))
+    ∙ sym (match_part-item (42 ∷ 42 ∷ more) star (42 ∷ more) name refl)
+
+pub star_twice : (part name : List ℕ) → begins_twice part ≡ true → match_part (take (length part - 1) (drop 1 part)) name ≡ match_part part name
+star_twice [] name e = cc
+star_twice (a ∷ []) name e = cc
+star_twice (a ∷ b ∷ more) name e =
+    let both = and_parts (a == 42) (b == 42) e in
+    let first : a ≡ 42 = grind (arith, nat_tests, both.0) in
+    let second : b ≡ 42 = grind (arith, nat_tests, both.1) in
+    ap (λ xs. match_part xs name) (take_rest (a ∷ b ∷ more) 1) ∙ rw (first, second) (star_again more name)
+
+pub rows_less : (places some more : ℕ) → some ≤ more → places * some ≤ places * more
+rows_less places some more h =
+    let e : some + (more - some) ≡ more = omega arith in
+    omega (arith, rows_split places some (more - some) more e)
+
+-- a choice of nothing but the empty text adds nothing
+pub empty_choice : (more name : List ℕ) → match_part more name ≡ match_part (123 ∷ 125 ∷ more) name
+empty_choice more name = sym
+    (match_part-item (123 ∷ 125 ∷ more) (choice []) more name (ap (option_map (λ cut. (choice cut.0, cut.1))) (cut_at-first is_choice_end [] 125 more refl refl))
+    ∙ ap (λ texts. list_any (match_part more) (flat_map (after_text name) texts)) (slice_split_none is_comma [] (λ k d below. absurd (omega arith)))
+    ∙ or_false (match_part more name))
+
+pub empty_twice : (part name : List ℕ) → begins_empty part ≡ true → match_part (take (length part - 2) (drop 2 part)) name ≡ match_part part name
+empty_twice [] name e = cc
+empty_twice (a ∷ []) name e = cc
+empty_twice (a ∷ b ∷ more) name e =
+    let both = and_parts (a == 123) (b == 125) e in
+    let first : a ≡ 123 = grind (arith, nat_tests, both.0) in
+    let second : b ≡ 125 = grind (arith, nat_tests, both.1) in
+    ap (λ xs. match_part xs name) (take_rest (a ∷ b ∷ more) 2) ∙ rw (first, second) (empty_choice more name)
