@@ -21,6 +21,7 @@ mod source;
 mod standard;
 mod steady;
 mod system_clock;
+mod tcp_source;
 mod udp_link;
 
 pub use clock::{Clock, Moment};
@@ -37,4 +38,5 @@ pub use source::{Source, Taken};
 pub use standard::{StdSink, StdSource};
 pub use steady::{SteadySink, SteadySource};
 pub use system_clock::SystemClock;
+pub use tcp_source::TcpSource;
 pub use udp_link::UdpLink;

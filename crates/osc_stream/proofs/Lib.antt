@@ -1,0 +1,7 @@
+mod Fronts
+mod Fills
+mod FrameLaws
+mod ReadLaws
+mod RunLaws
+mod Written
+mod Fullness

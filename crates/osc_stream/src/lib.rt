@@ -1,0 +1,21 @@
+//! Packets over a stream: each follows its size, a big-endian word of 4 bytes.
+//!
+//! A stream takes its bytes in any pieces, and tells when a packet is whole. A link reads a source through a stream,
+//! and gives the packets as datagrams.
+#![tactic(auto)]
+
+mod fed;
+mod filling;
+mod front;
+pub mod laws;
+mod limits;
+mod reading;
+mod state;
+mod stream;
+mod stream_link;
+
+pub use fed::Fed;
+pub use limits::MAX_PACKET;
+pub use state::StreamState;
+pub use stream::Stream;
+pub use stream_link::StreamLink;
