@@ -8,6 +8,7 @@ pub mod Joins
 pub mod Played
 pub mod Released
 pub mod Recorded
+pub mod Refusing
 pub mod Staying
 pub mod Stocks
 pub mod Storing

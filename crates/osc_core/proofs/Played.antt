@@ -13,11 +13,11 @@ use Rattle.osc_model.specs.Counts.{free_places, free_blocks, free_bytes}
 use Rattle.osc_model.specs.Events.{Event, enrol, submit, add, remove, tick, release, Answer, Entry, Hit, number, callers_full, queued, units_full, pool_full}
 use Rattle.osc_model.specs.Events.{ticked, clock_back, released, nothing_due, record_full, adds_entry}
 use Rattle.osc_model.specs.Recordings.{IsRecordable, FitsRow, row_of, entry_size, entry_text, record_text}
-use Rattle.osc_model.specs.Step.{Stepped, step, decided, leaves, after_submit, add_at, remove_at, releases, release_first}
+use Rattle.osc_model.specs.Step.{Stepped, step, decided, leaves, kept_units, after_submit, add_at, remove_at, releases, release_first}
 use Rattle.osc_model.specs.History.{IsLawful, AddsEntry, LegalFrom, Legal, IsSound, IsCounted, after, Performance, state_of, stepped_in, onward}
 use Rattle.osc_model.proofs.Stepping.{no_room, noted}
 use Rattle.osc_model.specs.Refusals.{IsRefusal}
-use Rattle.osc_model.proofs.Refusals.{none_decided, refusal_silent}
+use Rattle.osc_model.proofs.Refusals.{none_decided, refusal_silent, refusal_stays}
 use Rattle.osc_model.proofs.Onward.{entered, is_adds}
 use Rattle.osc_model.proofs.Recordable.{after_caps}
 use Rattle.osc_atoms.specs.declared.room.Room.{Room}
@@ -34,10 +34,10 @@ use Rattle.osc_core.specs.Playing.{tables, performance_of, IsPlaying, AreSmall, 
 abbrev tabled : Stepped → Stepped
 tabled stepped = record { answer = stepped.answer; state = tables stepped.state; invocations = stepped.invocations }
 
-abbrev submits : List TimedUnit → Bool → Bool → State → Stepped
-submits units t u s = cond t (leaves s (units_full (record { need = length units; free = free_places s })))
-    (cond u (leaves s (pool_full (record { need = blocks_of units; free = free_blocks s })))
-    (leaves (after_submit s units) (queued s.next_unit (length units))))
+abbrev submits : List TimedUnit → List TimedUnit → Bool → Bool → State → Stepped
+submits units keeps t u s = cond t (leaves s (units_full (record { need = length keeps; free = free_places s })))
+    (cond u (leaves s (pool_full (record { need = blocks_of keeps; free = free_blocks s })))
+    (leaves (after_submit s units) (queued s.next_unit (length units) (length units - length keeps))))
 
 pub decided_tables : (state : State) (event : Event) → decided (tables state) event ≡ tabled (decided state event)
 decided_tables state enrol = go (state.callers == state.caps.callers) where
@@ -46,8 +46,11 @@ decided_tables state enrol = go (state.callers == state.caps.callers) where
   go true = refl
   go false = refl
 decided_tables state (submit packet) =
-    go (nat_lt (free_places state) (length (units_read packet))) (nat_lt (free_blocks state) (blocks_of (units_read packet))) where
-      go : (t u : Bool) → submits (units_read packet) t u (tables state) ≡ tabled (submits (units_read packet) t u state)
+    go (nat_lt (free_places state) (length keeps)) (nat_lt (free_blocks state) (blocks_of keeps)) where
+      keeps : List TimedUnit
+      keeps = kept_units state (units_read packet)
+
+      go : (t u : Bool) → submits (units_read packet) keeps t u (tables state) ≡ tabled (submits (units_read packet) keeps t u state)
       go true u = refl
       go false true = refl
       go false false = refl
@@ -204,6 +207,26 @@ is_played laws server recorder entries caller event answer playing enrolled lawf
       };
     }
 
+-- an event that is refused is played, and leaves the tables
+pub is_refused : Laws → (server : State) (recorder : Recording) (entries caller : ℕ) (event : Event) (answer : Answer) → IsPlaying server recorder entries
+    → caller < (state_of (performance_of recorder)).callers → IsLawful event → answer ≡ (stepped_in (performance_of recorder) event).answer
+    → IsRefusal answer → adds_entry answer ≡ true
+    → IsPlayed server recorder entries caller event answer × ((decided server event).state ≡ server)
+is_refused laws server recorder entries caller event answer playing enrolled lawful is refusal adds =
+    let state = state_of (performance_of recorder) in
+    let same = same_decided server state event playing.server_is in
+    let on = entered state event (ap adds_entry (sym is) ∙ adds) in
+    let decides : answer ≡ (decided state event).answer = is ∙ ap (λ (s : Stepped). s.answer) on.is in
+    let size : entry_size event answer ≡ entry_size event (decided state event).answer = ap (entry_size event) decides in
+    let room = on.room in (
+      is_played laws server recorder entries caller event answer playing enrolled lawful
+          (decides ∙ sym (ap (λ (s : Stepped). s.answer) same)) adds
+          (omega (arith, size, room, some_bytes event answer, same_free laws server recorder entries playing)),
+      ap (λ (s : Stepped). s.state) same
+          ∙ (sym (ap (λ (s : Stepped). tables s.state) on.is) ∙ ap tables (refusal_stays state event (subst IsRefusal is refusal)))
+          ∙ sym playing.server_is,
+    )
+
 -- all other events than a release add an entry, where there is room for it
 pub others_add : (state : State) (event : Event) → event ≢ release → adds_entry (decided state event).answer ≡ true
 others_add state enrol other = go (state.callers == state.caps.callers) where
@@ -211,8 +234,11 @@ others_add state enrol other = go (state.callers == state.caps.callers) where
   go true = refl
   go false = refl
 others_add state (submit packet) other =
-    go (nat_lt (free_places state) (length (units_read packet))) (nat_lt (free_blocks state) (blocks_of (units_read packet))) where
-      go : (t u : Bool) → adds_entry (submits (units_read packet) t u state).answer ≡ true
+    go (nat_lt (free_places state) (length keeps)) (nat_lt (free_blocks state) (blocks_of keeps)) where
+      keeps : List TimedUnit
+      keeps = kept_units state (units_read packet)
+
+      go : (t u : Bool) → adds_entry (submits (units_read packet) keeps t u state).answer ≡ true
       go true u = refl
       go false true = refl
       go false false = refl

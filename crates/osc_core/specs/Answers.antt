@@ -28,7 +28,7 @@ enrolled_of enrolled.CallersFull = callers_full
 
 -- the answer to a submit
 abbrev pub submitted_of : Submitted → Answer
-submitted_of (submitted.Queued first count) = queued first count
+submitted_of (submitted.Queued first count late) = queued first count late
 submitted_of (submitted.RecordFull room) = record_full (room_of room)
 submitted_of (submitted.UnitsFull room) = units_full (room_of room)
 submitted_of (submitted.PoolFull room) = pool_full (room_of room)

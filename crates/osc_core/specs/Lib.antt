@@ -2,6 +2,7 @@
 pub mod Answers
 pub mod Ids
 pub mod Playing
+pub mod Redoing
 pub mod Standing
 pub mod Telling
 -- Inside the crate.

@@ -16,13 +16,13 @@ pub enum Enrolled {
 /// What a submit is answered.
 #[derive(Clone, Copy, Debug, PartialEq, Eq)]
 pub enum Submitted {
-    /// So many units wait, the first of which has this number.
-    Queued { first: u64, count: u32 },
+    /// So many units were numbered, the first of which has this number. All wait but those that are late and aren't kept.
+    Queued { first: u64, count: u32, late: u32 },
     /// The entry has more bytes than the recording has left.
     RecordFull(Room),
-    /// The packet has more units than places are free.
+    /// More of the packet's units are kept than places are free.
     UnitsFull(Room),
-    /// The packet's units take more blocks of 64 bytes than are free.
+    /// The packet's units that are kept take more blocks of 64 bytes than are free.
     PoolFull(Room),
 }
 

@@ -37,7 +37,7 @@ pub(crate) fn submit_answer(submitted: Submitted) -> Answer<'static>
     ensures { answer_of result ≡ submitted_of submitted }
 {
     match submitted {
-        Submitted::Queued { first, count } => Answer::Queued { first, count },
+        Submitted::Queued { first, count, late } => Answer::Queued { first, count, late },
         Submitted::UnitsFull(room) => Answer::UnitsFull(room),
         Submitted::PoolFull(room) => Answer::PoolFull(room),
         Submitted::RecordFull(_) => unreachable!(),

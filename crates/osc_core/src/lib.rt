@@ -11,6 +11,7 @@ mod entry_answers;
 mod messages;
 mod performance;
 mod playing;
+mod redoing;
 mod sequential;
 mod server;
 mod shortage;

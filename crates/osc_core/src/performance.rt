@@ -1,11 +1,13 @@
 // The server with its recording, but for its boxes.
-ghost use Rattle.std.specs.Prelude.{◌≡◌, ◌+◌, ◌<◌, ◌≤◌, ◌++◌, ◌∷◌, [], length, map, All, Contains};
+ghost use Rattle.std.specs.Prelude.{◌≡◌, ◌≢◌, ◌+◌, ◌<◌, ◌≤◌, ◌++◌, ◌∷◌, [], length, map, All, Contains};
 ghost use Rattle.std.specs.Prelude.{IsTrue, IfOk, IfErr, OnOk, IfSome, IfNone, vec_capacity};
 ghost use Rattle.osc_tree.specs.Adding.{refusal_of as tree_refusal_of};
 ghost use Rattle.osc_model.specs.Events.{enrol, submit, add, remove, tick, release, added, removed};
 ghost use Rattle.osc_model.specs.Recordings.{record_text};
 ghost use Rattle.osc_model.specs.Heard.{all_hear};
-ghost use Rattle.osc_model.specs.History.{Legal, state_of, stepped_in, onward};
+ghost use Rattle.osc_model.specs.Refusals.{IsRefusal};
+ghost use Rattle.osc_model.specs.History.{IsLawful, Legal, state_of, stepped_in, onward};
+ghost use Rattle.osc_record.specs.Shown.{event_of, answer_of};
 ghost use Rattle.osc_core.specs.Answers.{enrolled_of, submitted_of, refusal_of, removing_of};
 ghost use Rattle.osc_core.specs.Answers.{ticking_of, OnRemoved, TellsRelease};
 ghost use Rattle.osc_core.specs.Ids.{is_ascending, without};
@@ -195,6 +197,20 @@ impl Performance {
             self.entries += 1;
         }
         releasing
+    }
+
+    /// Records the entry of an event that was refused, as the history has it.
+    pub(crate) fn refuse(&mut self, caller: u32, event: Event<'_>, answer: Answer<'_>)
+        requires caller { caller < (state_of self.old).callers }
+        requires lawful { IsLawful (event_of event) }
+        requires no_release { event_of event ≢ release }
+        requires answer { answer_of answer ≡ (stepped_in self.old (event_of event)).answer }
+        requires refusal { IsRefusal (answer_of answer) }
+        ensures performance { self.new ≡ onward self.old caller (event_of event.entry) }
+    {
+        a_performance_is_played();
+        self.recorder.put(caller, event, answer);
+        self.entries += 1;
     }
 
     pub(crate) fn callers(&self) -> u32

@@ -16,7 +16,8 @@ use osc_model::laws;
 use osc_record::laws as recordings;
 
 /// The numbers of a server that is played and recorded are small. Where there is no room for an event's entry, all
-/// stays; else the event is answered by the server's rules, and its entry can be appended.
+/// stays; else the event is answered by the server's rules, and its entry can be appended. An event that is refused
+/// leaves the tables.
 pub(crate) fn a_performance_is_played()
     ensures small { (server : State) (recorder : Recording) (entries : ℕ)
         → IsPlaying server recorder entries → AreSmall server entries }
@@ -32,6 +33,13 @@ pub(crate) fn a_performance_is_played()
         answer ≡ (decided server event).answer → adds_entry answer ≡ true
         → length (recording_text recorder) + entry_size event answer ≤ recorder.caps.recording
         → IsPlayed server recorder entries caller event answer }
+    ensures refused { (server : State) (recorder : Recording) (entries caller : ℕ) (event : Event)
+        (answer : Answer) → IsPlaying server recorder entries
+        → caller < (state_of (performance_of recorder)).callers → IsLawful event →
+        answer ≡ (stepped_in (performance_of recorder) event).answer → IsRefusal answer
+        → adds_entry answer ≡ true
+        → IsPlayed server recorder entries caller event answer
+        × ((decided server event).state ≡ server) }
 {
     laws::a_server_stays_sound();
     laws::a_performance_goes_on();

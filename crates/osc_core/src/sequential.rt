@@ -1,10 +1,13 @@
 //! The server with its recording and its boxes, one event after another.
-ghost use Rattle.std.specs.Prelude.{◌≡◌, ◌<◌, ◌≤◌, ◌++◌, ◌∷◌, [], length, map, IsTrue, ℕ, List};
+ghost use Rattle.std.specs.Prelude.{◌≡◌, ◌≢◌, ◌<◌, ◌≤◌, ◌++◌, ◌∷◌, [], length, map, IsTrue, ℕ, List};
 ghost use Rattle.std.specs.Prelude.{Contains, vec_capacity, IfOk};
 ghost use Rattle.osc_model.specs.Events.{enrol, submit, add, remove, tick, release};
 ghost use Rattle.osc_model.specs.Recordings.{record_text};
 ghost use Rattle.osc_model.specs.Heard.{Told, reset, all_hear, without_id};
-ghost use Rattle.osc_model.specs.History.{Legal, state_of, stepped_in, onward, HaveHeard};
+ghost use Rattle.osc_model.specs.Refusals.{IsRefusal};
+ghost use Rattle.osc_model.specs.History.{IsLawful, Legal, state_of, stepped_in, onward};
+ghost use Rattle.osc_model.specs.History.{HaveHeard};
+ghost use Rattle.osc_record.specs.Shown.{event_of, answer_of};
 ghost use Rattle.osc_laws.specs.Laws.{KeepsTheLaws};
 ghost use Rattle.osc_core.specs.Answers.{enrolled_of, submitted_of, adding_of, removing_of};
 ghost use Rattle.osc_core.specs.Answers.{ticking_of, TellsRelease, OnAdded, OnRefused, OnRemoved};
@@ -24,7 +27,7 @@ use osc_method::Method;
 use osc_model::laws::{a_performance_goes_on, a_server_stays_sound, boxes_hear_the_history};
 use osc_packet::Packet;
 use osc_pattern::Address;
-use osc_record::Caps;
+use osc_record::{Answer, Caps, Event};
 use std::alloc::{AllocError, Global};
 
 /// Methods by address with their boxes, units that wait for their moment, a clock and callers (OSC 1.0, "OSC Message
@@ -204,6 +207,23 @@ impl<M: Method> Core<M> {
         a_server_stands_for_more();
         boxes_hear_the_history();
         self.performance.release(caller, &mut self.boxes)
+    }
+
+    /// Records the entry of an event that was refused, as the history has it.
+    pub(crate) fn refuse(&mut self, caller: u32, event: Event<'_>, answer: Answer<'_>)
+        requires caller { caller < (state_of self.old.performance).callers }
+        requires lawful { IsLawful (event_of event) }
+        requires no_release { event_of event ≢ release }
+        requires answer { answer_of answer
+            ≡ (stepped_in self.old.performance (event_of event)).answer }
+        requires refusal { IsRefusal (answer_of answer) }
+        ensures performance { self.new.performance
+            ≡ onward self.old.performance caller (event_of event.entry) }
+        ensures boxes { told M.keep M.heard self.new.boxes.items
+            ≡ told M.keep M.heard self.old.boxes.items }
+    {
+        boxes_stay();
+        self.performance.refuse(caller, event, answer);
     }
 
     /// How many callers are enrolled: their numbers are those below this one. Caller 0 always is.

@@ -24,6 +24,7 @@ use crate::store::{MAX_STORED, Store, Stored};
 use crate::units::{enter_all, take_first};
 use osc_atoms::Room;
 use osc_method::Method;
+use osc_model::{Late, Need};
 use osc_packet::Packet;
 use osc_pattern::Address;
 use osc_queue::Queue;
@@ -49,6 +50,8 @@ pub(crate) struct Server {
     next_unit: u64,
     callers: u32,
     caller_limit: u32,
+    /// What becomes of late units.
+    late: Late,
 }
 
 impl Model for Server {
@@ -67,6 +70,7 @@ impl Model for Server {
         callers =
             s.caller_limit;
         recording = 0;
+        late = s.late;
       };
       methods = s.tree.methods;
       queue = queue_of s.store s.queue.items;
@@ -97,6 +101,7 @@ impl Server {
             next_unit: 0,
             callers: 1,
             caller_limit: caps.callers(),
+            late: caps.late(),
         })
     }
 
@@ -113,7 +118,7 @@ impl Server {
         Enrolled::Number(caller)
     }
 
-    /// Queues all of the packet's units, or none of them.
+    /// Queues all of the packet's units that are kept, or none of them.
     pub(crate) fn submit(&mut self, packet: &Packet<'_>) -> Submitted
         requires { self.old.next_unit + length (units_read packet.now) < 2 ^ 64 }
         ensures answer { submitted_of result ≡ (decided self.old (submit packet.now)).answer }
@@ -121,19 +126,33 @@ impl Server {
         ensures state { self.new ≡ (decided self.old (submit packet.now)).state }
     {
         let count = packet.count();
+        let Need {
+            places: keeps,
+            blocks: need,
+        } = self.late.need(self.clock, packet);
         let places = self.queue.free();
-        if count > places {
-            return Submitted::UnitsFull(Room::new(u64::from(count), u64::from(places)));
+        if keeps > places {
+            return Submitted::UnitsFull(Room::new(u64::from(keeps), u64::from(places)));
         }
-        let need = packet.blocks();
         let free = self.store.free();
         if need > free {
             return Submitted::PoolFull(Room::new(u64::from(need), u64::from(free)));
         }
         let first = self.next_unit;
-        enter_all(&mut self.queue, &mut self.store, packet, self.clock, first);
+        enter_all(
+            &mut self.queue,
+            &mut self.store,
+            packet,
+            self.late,
+            self.clock,
+            first,
+        );
         self.next_unit += u64::from(count);
-        Submitted::Queued { first, count }
+        Submitted::Queued {
+            first,
+            count,
+            late: count - keeps,
+        }
     }
 
     /// Adds a method at the address, or hands the address back.

@@ -18,13 +18,14 @@ use Rattle.osc_tree.specs.Adding.{Refusal, add_refusal}
 use Rattle.osc_tree.specs.Matching.{matched, matching}
 use Rattle.osc_tree.proofs.Orders.{exactly_matching}
 use Rattle.osc_tree.proofs.Lists.{filter_few}
+use Rattle.osc_model.specs.declared.late.Late.{Late}
 use Rattle.osc_model.specs.Limits.{Limits, header_size}
 use Rattle.osc_model.specs.State.{State, Queued, opening, registry}
 use Rattle.osc_model.specs.Counts.{free_places, free_blocks}
 use Rattle.osc_model.specs.Recordings.{entry_size}
 use Rattle.osc_model.specs.Events.{Event, enrol, submit, add, remove, tick, release, Answer, number, callers_full, queued, units_full, pool_full, refused}
 use Rattle.osc_model.specs.Events.{not_there, ticked, clock_back, nothing_due, record_full, adds_entry, Room, Hit, Call, Entry}
-use Rattle.osc_model.specs.Step.{Stepped, step, decided, leaves, waiting, numbered, enter_all, after_submit, add_at, remove_at, matching_calls, calls_of}
+use Rattle.osc_model.specs.Step.{Stepped, step, decided, leaves, waiting, is_kept, kept_numbered, kept_units, late_count, enter_all, after_submit, add_at, remove_at, matching_calls, calls_of}
 use Rattle.osc_model.specs.Step.{calls_from, calls_of_unit, hits_of, releases, release_first}
 use Rattle.osc_model.specs.History.{after}
 use Rattle.osc_model.proofs.Queues.{all_joined}
@@ -45,20 +46,33 @@ units_cost most units = sum_by (unit_cost most) units
 abbrev queue_cost : ℕ → List Queued → ℕ
 queue_cost most queue = sum_by (λ unit. unit_cost most unit.2) queue
 
-numbered_cost : (most clock next : ℕ) (units : List TimedUnit) → queue_cost most (numbered clock next units) ≡ units_cost most units
-numbered_cost most clock next [] = refl
-numbered_cost most clock next (unit ∷ units) =
-    sum_by-cons (λ (unit : Queued). unit_cost most unit.2) (waiting clock next unit) (numbered clock (next + 1) units)
-    ∙ ap (λ (n : ℕ). unit_cost most unit + n) (numbered_cost most clock (next + 1) units)
-    ∙ sym (sum_by-cons (unit_cost most) unit units)
+-- the units that are kept cost no more than all
+kept_cost : (most : ℕ) (late : Late) (clock next : ℕ) (units : List TimedUnit) → queue_cost most (kept_numbered late clock next units) ≤ units_cost most units
+kept_cost most late clock next [] = omega arith
+kept_cost most late clock next (unit ∷ units) =
+    go (is_kept late clock unit) (kept_numbered late clock (next + 1) units) (kept_cost most late clock (next + 1) units) where
+      go : (t : Bool) (items : List Queued) → queue_cost most items ≤ units_cost most units
+          → queue_cost most (cond t (waiting clock next unit ∷ items) items) ≤ units_cost most (unit ∷ units)
+      go true items few =
+          omega (
+            arith,
+            sum_by-cons (λ (unit : Queued). unit_cost most unit.2) (waiting clock next unit) items,
+            sum_by-cons (unit_cost most) unit units,
+            few,
+          )
+      go false items few = omega (arith, sum_by-cons (unit_cost most) unit units, few)
 
-entered_cost : (most clock next : ℕ) (units : List TimedUnit) (queue : List Queued)
-    → queue_cost most (enter_all (numbered clock next units) queue) ≡ units_cost most units + queue_cost most queue
-entered_cost most clock next units queue =
+entered_cost : (most : ℕ) (late : Late) (clock next : ℕ) (units : List TimedUnit) (queue : List Queued)
+    → queue_cost most (enter_all (kept_numbered late clock next units) queue) ≤ units_cost most units + queue_cost most queue
+entered_cost most late clock next units queue =
     let cost : Queued → ℕ = λ unit. unit_cost most unit.2 in
-    sum_by-IsPermutation cost (numbered clock next units ++ queue) (enter_all (numbered clock next units) queue) (all_joined (numbered clock next units) queue)
-    ∙ sum_by-append cost (numbered clock next units) queue
-    ∙ ap (λ (n : ℕ). n + queue_cost most queue) (numbered_cost most clock next units)
+    let keeps : List Queued = kept_numbered late clock next units in
+    omega (
+      arith,
+      sum_by-IsPermutation cost (keeps ++ queue) (enter_all keeps queue) (all_joined keeps queue),
+      sum_by-append cost keeps queue,
+      kept_cost most late clock next units,
+    )
 
 pub units_cost_is : (most : ℕ) (units : List TimedUnit) → units_cost most units ≡ 44 * length units + 8 * (sum_by (λ unit. length unit.messages) units * most)
 units_cost_is most [] = omega arith
@@ -149,14 +163,15 @@ decided_pays most state enrol few =
     (stays most state enrol callers_full refl (λ some. omega arith)) (record { goes = refl; caps = refl; methods = omega arith; bytes = λ some. omega arith })
 decided_pays most state (submit packet) few =
     let units = units_read packet in
-    let places = units_full (record { need = length units; free = free_places state }) in
-    let pool = pool_full (record { need = blocks_of units; free = free_blocks state }) in
-    let enter = leaves (after_submit state units) (queued state.next_unit (length units)) in
-    let entered = entered_cost most state.clock state.next_unit units state.queue in
-    either (Pays most state (submit packet)) (nat_lt (free_places state) (length units)) (leaves state places)
-    (cond (nat_lt (free_blocks state) (blocks_of units)) (leaves state pool) enter)
+    let keeps = kept_units state units in
+    let places = units_full (record { need = length keeps; free = free_places state }) in
+    let pool = pool_full (record { need = blocks_of keeps; free = free_blocks state }) in
+    let enter = leaves (after_submit state units) (queued state.next_unit (length units) (late_count state units)) in
+    let entered = entered_cost most state.caps.late state.clock state.next_unit units state.queue in
+    either (Pays most state (submit packet)) (nat_lt (free_places state) (length keeps)) (leaves state places)
+    (cond (nat_lt (free_blocks state) (blocks_of keeps)) (leaves state pool) enter)
     (stays most state (submit packet) places refl (λ some. omega arith))
-    (either (Pays most state (submit packet)) (nat_lt (free_blocks state) (blocks_of units)) (leaves state pool) enter
+    (either (Pays most state (submit packet)) (nat_lt (free_blocks state) (blocks_of keeps)) (leaves state pool) enter
     (stays most state (submit packet) pool refl (λ some. omega arith))
     (record { goes = refl; caps = refl; methods = omega arith; bytes = λ some. omega (arith, entered) }))
 decided_pays most state (add address) few = go (add_refusal (registry state) address) where

@@ -22,6 +22,7 @@ use Rattle.osc_live.specs.declared.refusal.EnrolRefusal.TheVariants.{CallersFull
 use Rattle.osc_live.specs.Enrolments.{refusal_of}
 use Rattle.osc_live.specs.Seen.{performance_in}
 use Rattle.osc_live.specs.Closing.{known, views_of, IsOfCaller, Closes}
+use Rattle.osc_lanes.proofs.Fresh.{all_since}
 use Rattle.osc_lanes.specs.declared.plan.LanePlan.{LanePlan}
 use Rattle.osc_lanes.specs.declared.plan.LaneEnd.{LaneEnd}
 use Rattle.osc_lanes.specs.Ends.{seen_by, account_of, IsReady, IsEndOf}
@@ -51,7 +52,7 @@ module _ (history : List Seen) where
 
 -- the history of a close begins with what each caller has seen, and has no further entry of it
 pub all_carried : {caps : Limits} {knows : List (ℕ × View)} {bytes : List ℕ} {kept : List Told} (callers : List Caller) (guests : List Guest)
-    (closes : Closes caps knows (views_of callers guests) bytes kept) → AllByRecursion (Carried closes.history) callers
+    (closes : Closes caps [] knows (views_of callers guests) bytes kept) → AllByRecursion (Carried closes.history) callers
 all_carried callers guests closes =
     carried_each closes.history callers (map (λ (guest : Guest). view guest.pass) guests)
     (recursion_from_All (λ v. StartsWith closes.history v.seen) (views_of callers guests) closes.carried)
@@ -83,7 +84,7 @@ module _ (caps : Limits) (start : List Entry) (made : ℕ) (first : Caller) (v :
     (zero_is : first.number ≡ 0) (crew : IsCrew start made v enrolled) where
   pub stands_on : {bytes : List ℕ} {kept : List Told} (others : List Caller) (guests : List Guest) → names_of others ≡ names_of enrolled
       → AllByRecursion (λ other. own (number_of other.1) v.seen ≡ []) (known others)
-      → (closes : Closes caps (known (first ∷ others)) (views_of (first ∷ others) guests) bytes kept)
+      → (closes : Closes caps [] (known (first ∷ others)) (views_of (first ∷ others) guests) bytes kept)
       → StandsOn caps start (length enrolled) v closes.history
   stands_on others guests named none closes =
       let history = closes.history in
@@ -93,7 +94,7 @@ module _ (caps : Limits) (start : List Entry) (made : ℕ) (first : Caller) (v :
       subst (λ (n : ℕ). own n history ≡ own n v.seen) crew.token
       (subst (λ (u : View). own (number_of u) history ≡ own (number_of u) u.seen) is carried.0.1) in
       let alone : own 0 v.seen ≡ v.seen =
-      alone_from caps start v enrolled made crew history (first.number, view first.pass) others is none starts closes.named in
+      alone_from caps start v enrolled made crew history (first.number, view first.pass) others is none starts (all_since closes) in
       record {
         starts = starts;
         owned = owned;
@@ -114,7 +115,7 @@ module _ (caps : Limits) (start : List Entry) (made : ℕ) (first : Caller) (v :
 
   -- where no other has played, all entries are caller 0's, and it has seen them
   pub stands_alone : {bytes : List ℕ} {kept : List Told} (guests : List Guest)
-      → (closes : Closes caps (known (first ∷ enrolled)) (views_of (first ∷ enrolled) guests) bytes kept)
+      → (closes : Closes caps [] (known (first ∷ enrolled)) (views_of (first ∷ enrolled) guests) bytes kept)
       → StandsOn caps start (length enrolled) v closes.history × (own 0 closes.history ≡ closes.history) × (closes.history ≡ v.seen)
   stands_alone guests closes =
       let history = closes.history in
@@ -122,7 +123,7 @@ module _ (caps : Limits) (start : List Entry) (made : ℕ) (first : Caller) (v :
       let none = silent_then history enrolled (recursion_from_All IsSilent enrolled crew.silent) carried.1 in
       let whole : own 0 history ≡ history =
       only_first (first.number, view first.pass) (known enrolled) history (ap number_of is ∙ crew.token) none
-      (recursion_from_All (IsOfCaller (known (first ∷ enrolled))) history closes.named) in
+      (recursion_from_All (IsOfCaller (known (first ∷ enrolled))) history (all_since closes)) in
       let starts : StartsWith history v.seen = subst (λ (u : View). StartsWith history u.seen) is carried.0.0 in
       let stands = stands_on enrolled guests refl (silent_before history v.seen starts (known enrolled) none) closes in
       (stands, whole, sym whole ∙ stands.owned ∙ stands.alone)
@@ -157,7 +158,7 @@ module _ {M : Type 0} (keep : M → ℕ) (heard : M → Option (List ℕ)) (caps
     pub finish_played : KeepsRemoved keep heard caps → IsCrew [] (1 + length enrolled) v enrolled → (plans : List (LanePlan M)) (ends : List (LaneEnd M))
         → names_of (map caller_of plans) ≡ names_of enrolled → length plans ≡ length enrolled → AllByRecursion IsSilent (map caller_of plans)
         → AllByRecursion (HasSeen v.seen) (map caller_of plans) → AllByRecursion IsReady plans → AllZip (IsEndOf keep heard caps) plans ends
-        → Closes caps (known (first ∷ map caller_in ends)) (views_of (first ∷ map caller_in ends) []) bytes (told keep heard kept)
+        → Closes caps [] (known (first ∷ map caller_in ends)) (views_of (first ∷ map caller_in ends) []) bytes (told keep heard kept)
         → Performs keep heard caps (map part_in plans) bytes kept (map account_of ends) None
     finish_played law crew plans ends named many silent has all_ready all closes =
         let others = map caller_in ends in
@@ -182,7 +183,7 @@ module _ {M : Type 0} (keep : M → ℕ) (heard : M → Option (List ℕ)) (caps
     -- there was no room for an enrolment
     pub finish_none : IsCrew [] (2 + length enrolled) v enrolled → (why : EnrolRefusal) → FindsNoRoom caps v why → (guests : List Guest)
         → (parts : List (Part M)) → length enrolled < length parts
-        → Closes caps (known (first ∷ enrolled)) (views_of (first ∷ enrolled) guests) bytes (told keep heard kept)
+        → Closes caps [] (known (first ∷ enrolled)) (views_of (first ∷ enrolled) guests) bytes (told keep heard kept)
         → (room : Room) × (refusal_of why ≡ record_full room)
         × Performs keep heard caps parts bytes kept (map (λ part. ended part.boxes None) parts) (Some room)
     finish_none crew why refused guests parts few closes =

@@ -24,6 +24,7 @@ use Rattle.osc_live.specs.declared.refusal.EnrolRefusal.{EnrolRefusal}
 use Rattle.osc_live.specs.Enrolments.{refusal_of}
 use Rattle.osc_live.specs.Seen.{history_of, performance_in}
 use Rattle.osc_live.specs.Closing.{known, views_of, Closes}
+use Rattle.osc_lanes.proofs.Fresh.{all_since}
 use Rattle.osc_lanes.specs.declared.hosting.Hosted.{Hosted}
 use Rattle.osc_lanes.specs.declared.served.Bounds.{Bounds}
 use Rattle.osc_lanes.specs.declared.served.LinksTold.{LinksTold}
@@ -60,7 +61,7 @@ module _ {M L : Type 0} (left : L → Option (List Turn)) (faults : L → ℕ) (
 
   -- caller 0's lines begin all, and the server was closed with them
   hosts_with : (count : ℕ) (knows : List (ℕ × View)) (views : List View)
-      → (closes : Closes caps knows views hosted.bytes.items (told keep heard hosted.kept.items))
+      → (closes : Closes caps [] knows views hosted.bytes.items (told keep heard hosted.kept.items))
       → StandsOn caps (history_of start) count v closes.history
       → IsPermutation (gone_ids (history_in (texts closes.history))) (removed_ids (told_of hosted.opening ∷ []))
       → Serving closes.history count → Hosts left faults keep heard caps bounds part links clock hosted
@@ -83,7 +84,7 @@ module _ {M L : Type 0} (left : L → Option (List Turn)) (faults : L → ℕ) (
 
   -- no link was started
   hosts_none : (made : ℕ) → IsCrew (history_of start) made v enrolled → (guests : List Guest)
-      → Closes caps (known (first ∷ enrolled)) (views_of (first ∷ enrolled) guests) hosted.bytes.items (told keep heard hosted.kept.items)
+      → Closes caps [] (known (first ∷ enrolled)) (views_of (first ∷ enrolled) guests) hosted.bytes.items (told keep heard hosted.kept.items)
       → ((history : List Seen) → own 0 history ≡ history → history ≡ v.seen → own 0 v.seen ≡ v.seen → Serving history (length enrolled))
       → Hosts left faults keep heard caps bounds part links clock hosted
   hosts_none made crew guests closes serving =
@@ -97,7 +98,7 @@ module _ {M L : Type 0} (left : L → Option (List Turn)) (faults : L → ℕ) (
   -- caller 0's lines found the recording full
   pub finish_opened : IsSome hosted.opening.stop → enrolled ≡ [] → hosted.unenrolled ≡ None → IsUnserved links clock hosted.links
       → IsCrew (history_of start) 1 v enrolled
-      → Closes caps (known (first ∷ enrolled)) (views_of (first ∷ enrolled) []) hosted.bytes.items (told keep heard hosted.kept.items)
+      → Closes caps [] (known (first ∷ enrolled)) (views_of (first ∷ enrolled) []) hosted.bytes.items (told keep heard hosted.kept.items)
       → Hosts left faults keep heard caps bounds part links clock hosted
   finish_opened some none unenrolled unserved crew closes =
       hosts_none 1 crew [] closes (λ history whole same alone. go _ _ hosted.opening.stop some (λ room. (ap length none, unenrolled, whole, unserved)))
@@ -110,7 +111,7 @@ module _ {M L : Type 0} (left : L → Option (List Turn)) (faults : L → ℕ) (
   pub finish_unenrolled : hosted.opening.stop ≡ None → length enrolled < length links + 1 → (why : EnrolRefusal) → FindsNoRoom caps v why
       → (room : CodeRoom) → hosted.unenrolled ≡ Some room → refusal_of why ≡ record_full (room_of room) → IsUnserved links clock hosted.links
       → IsCrew (history_of start) (2 + length enrolled) v enrolled → (guests : List Guest)
-      → Closes caps (known (first ∷ enrolled)) (views_of (first ∷ enrolled) guests) hosted.bytes.items (told keep heard hosted.kept.items)
+      → Closes caps [] (known (first ∷ enrolled)) (views_of (first ∷ enrolled) guests) hosted.bytes.items (told keep heard hosted.kept.items)
       → Hosts left faults keep heard caps bounds part links clock hosted
   finish_unenrolled none few why refused room told_is full unserved crew guests closes =
       hosts_none (2 + length enrolled) crew guests closes
@@ -128,13 +129,13 @@ module _ {M L : Type 0} (left : L → Option (List Turn)) (faults : L → ℕ) (
       → All IsSilent met → All (HasSeen v.seen) met → (end : ServeEnd L)
       → Serves keep heard left faults caps bounds met links clock end
       → hosted.links ≡ record { links = end.links; faults = end.faults; failed = end.failed; clock_failed = end.clock_failed; stop = end.stop }
-      → Closes caps (known (first ∷ end.callers.items)) (views_of (first ∷ end.callers.items) []) hosted.bytes.items (told keep heard hosted.kept.items)
+      → Closes caps [] (known (first ∷ end.callers.items)) (views_of (first ∷ end.callers.items) []) hosted.bytes.items (told keep heard hosted.kept.items)
       → Hosts left faults keep heard caps bounds part links clock hosted
   finish_served no_stop no_refusal many crew met named silent_met has_met end serves told_is closes =
       let before = map caller_of serves.plans ++ serves.ticker ∷ [] in
       let others = map caller_in serves.ends ++ serves.ticker_after ∷ [] in
-      let closed : Closes caps (known (first ∷ others)) (views_of (first ∷ others) []) hosted.bytes.items (told keep heard hosted.kept.items) =
-      subst (λ (l : List Caller). Closes caps (known (first ∷ l)) (views_of (first ∷ l) []) hosted.bytes.items (told keep heard hosted.kept.items))
+      let closed : Closes caps [] (known (first ∷ others)) (views_of (first ∷ others) []) hosted.bytes.items (told keep heard hosted.kept.items) =
+      subst (λ (l : List Caller). Closes caps [] (known (first ∷ l)) (views_of (first ∷ l) []) hosted.bytes.items (told keep heard hosted.kept.items))
       serves.callers_then closes in
       let history = closed.history in
       let quiet : AllByRecursion IsSilent before = recursion_from_All IsSilent before (subst (All IsSilent) serves.callers_are silent_met) in
@@ -164,7 +165,7 @@ module _ {M L : Type 0} (left : L → Option (List Turn)) (faults : L → ℕ) (
       let seen : StartsWith there (seen_by first) =
       subst (λ (u : View). StartsWith there u.seen) (sym is)
       (starts_on there (seen_by serves.ticker) v.seen ended.0 (all_behind (HasSeen v.seen) (map caller_of serves.plans) (serves.ticker ∷ []) has).0) in
-      subst (IsSettled caps) (sym (all_seen history there serves.ticker_after refl first serves.ends seen ended.1 carried closed.named)) ended.2 in
+      subst (IsSettled caps) (sym (all_seen history there serves.ticker_after refl first serves.ends seen ended.1 carried (all_since closed))) ended.2 in
       let serving : ServesAll left faults keep heard caps bounds history links clock hosted.links = record {
         ends = serves.ends;
         ticker_end = serves.ticker_end;

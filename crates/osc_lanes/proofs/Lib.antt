@@ -3,6 +3,7 @@ pub mod Balance
 pub mod Costs
 pub mod Enrolling
 pub mod Finishing
+pub mod Fresh
 pub mod Going
 pub mod HostEnds
 pub mod Hosts

@@ -125,7 +125,7 @@ module _ {M : Type 0} (keep : M → ℕ) (heard : M → Option (List ℕ)) (caps
 
     -- what is known of a history that was closed, of whose ids these were removed
     pub closed_with : StaysSound → IsSound (opening caps) → (bytes : List ℕ) (kept : List (ℕ × M)) (knows : List (ℕ × View)) (views : List View)
-        → (closes : Closes caps knows views bytes (told keep heard kept)) → closes.history ≡ history → (accounts : List (Account M))
+        → (closes : Closes caps [] knows views bytes (told keep heard kept)) → closes.history ≡ history → (accounts : List (Account M))
         → IsPermutation (gone_ids (history_in (texts history))) (removed_ids accounts)
         → AllByRecursion (λ account. AllByRecursion (IsRemovedAt keep heard caps history) account.removed) accounts
         → IsClosedWith keep heard caps history bytes kept accounts
@@ -144,7 +144,7 @@ module _ {M : Type 0} (keep : M → ℕ) (heard : M → Option (List ℕ)) (caps
 
     -- what all lanes removed
     pub closed_all : StaysSound → IsSound (opening caps) → KeepsRemoved → (bytes : List ℕ) (kept : List (ℕ × M)) (knows : List (ℕ × View))
-        (views : List View) → (closes : Closes caps knows views bytes (told keep heard kept)) → closes.history ≡ history
+        (views : List View) → (closes : Closes caps [] knows views bytes (told keep heard kept)) → closes.history ≡ history
         → (plans : List (LanePlan M)) (ends : List (LaneEnd M)) → IsStage caps [] (length plans) history
         → Numbered IsShare 1 (map part_in plans) (map account_of ends) → AllZip (IsEndOf keep heard caps) plans ends
         → AllByRecursion (Carried history) (map caller_in ends) → IsClosedWith keep heard caps history bytes kept (map account_of ends)
@@ -165,7 +165,7 @@ module _ {M : Type 0} (keep : M → ℕ) (heard : M → Option (List ℕ)) (caps
 
     -- where all entries are caller 0's, and it has only enrolled
     pub closed_none : StaysSound → IsSound (opening caps) → (bytes : List ℕ) (kept : List (ℕ × M)) (knows : List (ℕ × View)) (views : List View)
-        → (closes : Closes caps knows views bytes (told keep heard kept)) → closes.history ≡ history → (parts : List (Part M)) (callers : ℕ)
+        → (closes : Closes caps [] knows views bytes (told keep heard kept)) → closes.history ≡ history → (parts : List (Part M)) (callers : ℕ)
         → IsStage caps [] callers history → own 0 history ≡ history
         → IsClosedWith keep heard caps history bytes kept (map (λ part. ended part.boxes None) parts)
     closed_none stays sound bytes kept knows views closes is parts callers stage alone =

@@ -16,6 +16,7 @@ use Rattle.osc_turn.specs.Passes.{view}
 use Rattle.osc_live.specs.declared.caller.Caller.{Caller}
 use Rattle.osc_live.specs.Seen.{names}
 use Rattle.osc_live.specs.Closing.{known, IsOfCaller, Closes}
+use Rattle.osc_lanes.proofs.Fresh.{all_since}
 use Rattle.osc_lanes.specs.Performs.{IsStage}
 use Rattle.osc_lanes.specs.Crews.{names_of, same_names, IsCrew}
 
@@ -96,7 +97,7 @@ module _ (caps : Limits) (start : List Entry) (v : View) (callers : List Caller)
 
   -- the stage on which callers are enrolled
   pub staged : {bytes : List ℕ} {kept : List Told} {views : List View} (first : Caller) (others : List Caller)
-      (closes : Closes caps (known (first ∷ others)) views bytes kept) → closes.history ≡ history → first.number ≡ 0 → view first.pass ≡ v
+      (closes : Closes caps [] (known (first ∷ others)) views bytes kept) → closes.history ≡ history → first.number ≡ 0 → view first.pass ≡ v
       → names_of others ≡ names_of callers → own 0 v.seen ≡ v.seen → StartsWith history v.seen → own 0 history ≡ own 0 v.seen
       → IsStage caps start (length callers) history
   staged first others closes same number_is is names_are alone starts owned =
@@ -113,6 +114,6 @@ module _ (caps : Limits) (start : List Entry) (v : View) (callers : List Caller)
         laws = closes.laws;
         begins = subst (StartsWith closes.history) (sym (ap (own 0) same ∙ owned ∙ alone)) (subst (λ (h : List Seen). StartsWith h v.seen) (sym same) starts);
         enrolled = ap (λ (l : List Seen). history_in (texts l)) (ap (own 0) same ∙ owned ∙ alone) ∙ here.0;
-        named = λ k d within. (each (get_or closes.history k d) (closes.named k d within)).0;
-        within = λ k d within. (each (get_or closes.history k d) (closes.named k d within)).1;
+        named = λ k d within. (each (get_or closes.history k d) (all_since closes k d within)).0;
+        within = λ k d within. (each (get_or closes.history k d) (all_since closes k d within)).1;
       })

@@ -99,7 +99,7 @@ only_id : (answer : Answer) (id : ℕ) (rest : List ℕ) → id ∷ rest ≡ id_
 only_id (removed other) id rest is = (let same : id ≡ other = cc in ap removed (sym same), let none : rest ≡ [] = cc in none)
 only_id (number caller) id rest is = absurd (cc)
 only_id callers_full id rest is = absurd (cc)
-only_id (queued first count) id rest is = absurd (cc)
+only_id (queued first count late) id rest is = absurd (cc)
 only_id (units_full room) id rest is = absurd (cc)
 only_id (pool_full room) id rest is = absurd (cc)
 only_id (added other) id rest is = absurd (cc)

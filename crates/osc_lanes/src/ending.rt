@@ -1,7 +1,7 @@
 // What comes of lanes at the end of their server.
-ghost use Rattle.std.specs.Prelude.{◌≡◌, ◌≤◌, ◌+◌, ◌∷◌, length, map, All, IfOk, None};
+ghost use Rattle.std.specs.Prelude.{◌≡◌, ◌≤◌, ◌+◌, ◌∷◌, [], length, map, All, IfOk, None};
 ghost use Rattle.osc_core.specs.Telling.{told};
-ghost use Rattle.osc_live.specs.Seen.{IsTokenOf};
+ghost use Rattle.osc_live.specs.Seen.{IsTokenOf, past_of};
 ghost use Rattle.osc_live.specs.Closing.{Closes, known, views_of, made_by, StartsAtZero};
 ghost use Rattle.osc_lanes.specs.Shares.{ended};
 ghost use Rattle.osc_lanes.specs.Performs.{part_of, told_of};
@@ -69,13 +69,14 @@ pub(crate) fn none_played<M: Drop>(
     Ok(lanes)
 }
 
-/// Closes a server whose tokens are all handed in.
+/// Closes a server that was opened on nothing, and whose tokens are all handed in.
 pub(crate) fn close_all<M: Method>(
     alloc: Global,
     live: Live<M>,
     callers: Vec<Caller>,
     guests: Vec<Guest>,
 ) -> Result<Closed<M>, AllocError>
+    requires fresh { past_of live.turn ≡ [] }
     requires callers_ours { All (λ caller. IsTokenOf live.turn live.caps caller.pass)
         callers.items }
     requires guests_ours { All (λ guest. IsTokenOf live.turn live.caps guest.pass)
@@ -83,7 +84,7 @@ pub(crate) fn close_all<M: Method>(
     requires first { StartsAtZero callers.items }
     requires few { length callers.items + length guests.items ≤ 65536 }
     requires all_in { made_by callers.items ≡ length callers.items + length guests.items }
-    ensures { IfOk result (λ closed. Closes live.caps (known callers.items)
+    ensures { IfOk result (λ closed. Closes live.caps [] (known callers.items)
         (views_of callers.items guests.items) closed.bytes.items
         (told M.keep M.heard closed.kept.items)) }
 {

@@ -18,7 +18,7 @@ ghost use Rattle.std.specs.Prelude.{
 ghost use Rattle.osc_turn.specs.declared.view.View.{View};
 ghost use Rattle.osc_turn.specs.History.{StartsWith};
 ghost use Rattle.osc_turn.specs.Passes.{view};
-ghost use Rattle.osc_live.specs.Seen.{IsTokenOf, history_of};
+ghost use Rattle.osc_live.specs.Seen.{IsTokenOf, history_of, past_of};
 ghost use Rattle.osc_lanes.specs.Crews.{IsCrew, HasOpened, FindsNoRoom};
 ghost use Rattle.osc_lanes.specs.Hosts.{Hosts, IsStill};
 ghost use Rattle.osc_lanes.specs.Links.{Turn};
@@ -133,6 +133,7 @@ fn serve_opened<
     bounds: Bounds,
     gate: &G,
 ) -> Result<Hosted<M, L>, AllocError>
+    requires fresh { past_of live.turn ≡ [] }
     requires ours { IsTokenOf live.turn live.caps first.pass }
     requires number { first.number ≡ 0 }
     requires opened { (part : Part M)
@@ -182,6 +183,7 @@ fn serve_crew<
     bounds: Bounds,
     gate: &G,
 ) -> Result<Hosted<M, L>, AllocError>
+    requires fresh { past_of live.turn ≡ [] }
     requires ours { IsTokenOf live.turn live.caps first.pass }
     requires number { first.number ≡ 0 }
     requires callers_ours { All (λ caller. IsTokenOf live.turn live.caps caller.pass)
@@ -239,6 +241,7 @@ fn close_unenrolled<M: Method, L: Drop>(
     opening: LaneTold<M>,
     links: Vec<L>,
 ) -> Result<Hosted<M, L>, AllocError>
+    requires fresh { past_of live.turn ≡ [] }
     requires ours { IsTokenOf live.turn live.caps first.pass }
     requires number { first.number ≡ 0 }
     requires callers_ours { All (λ caller. IsTokenOf live.turn live.caps caller.pass)
@@ -284,6 +287,7 @@ fn close_opened<M: Method, L: Drop>(
     opening: LaneTold<M>,
     links: Vec<L>,
 ) -> Result<Hosted<M, L>, AllocError>
+    requires fresh { past_of live.turn ≡ [] }
     requires ours { IsTokenOf live.turn live.caps first.pass }
     requires number { first.number ≡ 0 }
     requires opened { (part : Part M)

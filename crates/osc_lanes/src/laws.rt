@@ -104,7 +104,7 @@ pub fn examples()
         (record {
           lines = record { number = 1; lane = 0; act = Add (codes "/a") } ∷ [];
           boxes = boxes;
-        } ∷ []) ≡ 56 + 28 + 44 }
+        } ∷ []) ≡ 60 + 28 + 44 }
     ensures enough_for_two { (boxes : List ℕ) → enough_for
         (record {
           lines = record { number = 1; lane = 0; act = Add (codes "/a") } ∷ [];
@@ -118,7 +118,7 @@ pub fn examples()
           } ∷ [];
           boxes = [];
         } ∷ [])
-        ≡ 56 + 28 * 2 + (44 + 56) + 44 + 8 }
+        ≡ 60 + 28 * 2 + (44 + 60) + 44 + 8 }
 {}
 
 /// Two quiets in a row end a link that may have so many, and a datagram between them starts their count anew; a moment

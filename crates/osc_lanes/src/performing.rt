@@ -3,7 +3,7 @@ ghost use Rattle.std.specs.Prelude.{◌≡◌, ◌<◌, ◌+◌, [], length, map
 ghost use Rattle.std.specs.Option.{option_map};
 ghost use Rattle.osc_record.specs.Shown.{room_of};
 ghost use Rattle.osc_turn.specs.Passes.{view};
-ghost use Rattle.osc_live.specs.Seen.{IsTokenOf};
+ghost use Rattle.osc_live.specs.Seen.{IsTokenOf, past_of};
 ghost use Rattle.osc_lanes.specs.Performs.{part_of, told_of, IsWhole, Performs};
 ghost use Rattle.osc_lanes.specs.Crews.{IsCrew, FindsNoRoom};
 
@@ -77,6 +77,7 @@ fn play_all<M: Method + Send, W: Threads + Wait + Sync, G: Gate + Sync>(
     parts: Vec<LanePart<M>>,
     gate: &G,
 ) -> Result<Performed<M>, AllocError>
+    requires fresh { past_of live.turn ≡ [] }
     requires ours { IsTokenOf live.turn live.caps first.pass }
     requires number { first.number ≡ 0 }
     requires callers_ours { All (λ caller. IsTokenOf live.turn live.caps caller.pass)
@@ -114,6 +115,7 @@ fn play_none<M: Method>(
     why: EnrolRefusal,
     parts: Vec<LanePart<M>>,
 ) -> Result<Performed<M>, AllocError>
+    requires fresh { past_of live.turn ≡ [] }
     requires ours { IsTokenOf live.turn live.caps first.pass }
     requires number { first.number ≡ 0 }
     requires callers_ours { All (λ caller. IsTokenOf live.turn live.caps caller.pass)

@@ -1,6 +1,7 @@
 pub mod ReadOff
 pub mod Units
 pub mod InTime
+pub mod Discarded
 pub mod Given
 pub mod Members
 pub mod Places

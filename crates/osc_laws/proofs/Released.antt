@@ -12,6 +12,7 @@ use Rattle.osc_model.specs.Passing.{released_in, numbers_from}
 use Rattle.osc_model.specs.History.{LegalFrom, IsSound, invocations}
 use Rattle.osc_model.proofs.Stepping.{step_so, decided_so}
 use Rattle.osc_model.proofs.Calls.{MatchesExactly, all_more, all_append}
+use Rattle.osc_model.specs.declared.late.Late.{Late}
 use Rattle.osc_laws.specs.Once.{numbers_released, AreReleasedOnce}
 use Rattle.osc_laws.proofs.InTime.{each_of_unit}
 use Rattle.osc_laws.proofs.Methods.{StaysSound}
@@ -103,9 +104,9 @@ none_invoked number state (entry ∷ entries) legal none =
 abbrev pub AreOnce : List Entry → Type 0
 AreOnce history = (number : ℕ) → times (λ m. m == number) (numbers_released history) ≤ 1
 
-pub released_once : (history : List Entry) (queue : List Queued) → AreReleasedOnce history queue → AreOnce history
-released_once history queue once number =
-    let waiting = map (λ (item : Queued). unit_of item) queue in
+pub released_once : (policy : Late) (history : List Entry) (queue : List Queued) → AreReleasedOnce policy history queue → AreOnce history
+released_once policy history queue once number =
+    let waiting = map (λ (item : Queued). unit_of item) queue ++ once.discarded in
     let all = times_permuted (λ m. m == number) (numbers_from 0 once.count) (numbers_released history ++ waiting) once.once in
     let parts = times_append (λ m. m == number) (numbers_released history) waiting in
     let few = numbers_once number 0 once.count in

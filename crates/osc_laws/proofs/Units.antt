@@ -9,7 +9,9 @@ use Rattle.osc_queue.proofs.Orders.{all_entered, all_mapped}
 use Rattle.osc_model.specs.Limits.{Limits}
 use Rattle.osc_model.specs.State.{State, Queued, opening}
 use Rattle.osc_model.specs.Events.{Event, submit, Answer, queued, Entry}
-use Rattle.osc_model.specs.Step.{step, waiting, numbered, enter_all}
+use Rattle.osc_model.specs.Step.{step, waiting, numbered, is_kept, kept_numbered, late_count, enter_all}
+use Rattle.osc_model.specs.declared.late.Late.{Late}
+use Rattle.osc_tree.proofs.Lists.{all_filter}
 use Rattle.osc_model.specs.History.{LegalFrom, Legal, after}
 use Rattle.osc_model.proofs.Stepping.{step_so, decided_so}
 use Rattle.osc_laws.specs.Facts.{IsUnitOf}
@@ -21,13 +23,14 @@ IsWaiting history item = IsUnitOf history (unit_of item) item.2 × (item.2.tag �
 -- a history that goes on has the same units
 pub unit_later : (history more : List Entry) (number : ℕ) (unit : TimedUnit) → IsUnitOf history number unit → IsUnitOf (history ++ more) number unit
 unit_later history more number unit is =
-    let entry : Entry = record { caller = is.caller; event = submit is.packet; answer = queued is.first is.count } in
+    let entry : Entry = record { caller = is.caller; event = submit is.packet; answer = queued is.first is.count is.dropped } in
     record {
       before = is.before;
       caller = is.caller;
       packet = is.packet;
       first = is.first;
       count = is.count;
+      dropped = is.dropped;
       later = is.later ++ more;
       place = ap (λ (l : List Entry). l ++ more) is.place ∙ append_assoc is.before (entry ∷ is.later) more;
       index = is.index;
@@ -41,7 +44,7 @@ waiting_later history more queue all =
     all_mapped queue (λ (item : Queued) (is : IsWaiting history item). (unit_later history more (unit_of item) item.2 is.0, is.1)) all
 
 -- what holds of each unit under its number holds of all that are numbered
-each_numbered : (P : Queued → Type 0) (clock next : ℕ) (units : List TimedUnit)
+pub each_numbered : (P : Queued → Type 0) (clock next : ℕ) (units : List TimedUnit)
     → ((index : ℕ) (unit : TimedUnit) → slice_get units index ≡ Some unit → P (waiting clock (next + index) unit))
     → AllByRecursion P (numbered clock next units)
 each_numbered P clock next [] holds = tt
@@ -64,11 +67,11 @@ all_in P [] queue new old = old
 all_in P (unit ∷ units) queue new old = all_in P units (enter unit queue) new.1 (all_entered P unit queue new.0 old)
 
 -- the units of a packet that is queued wait
-packet_waits : (history : List Entry) (caller clock first : ℕ) (packet : List ℕ)
-    → AllByRecursion (IsWaiting (history ++ record { caller = caller; event = submit packet; answer = queued first (length (units_read packet)) } ∷ []))
-    (numbered clock first (units_read packet))
-packet_waits history caller clock first packet =
-    each_numbered _ clock first (units_read packet)
+packet_waits : (policy : Late) (history : List Entry) (caller clock first dropped : ℕ) (packet : List ℕ)
+    → AllByRecursion (IsWaiting (history ++ record { caller = caller; event = submit packet; answer = queued first (length (units_read packet)) dropped } ∷ []))
+    (kept_numbered policy clock first (units_read packet))
+packet_waits policy history caller clock first dropped packet =
+    all_filter _ (λ (item : Queued). is_kept policy clock item.2) (numbered clock first (units_read packet)) (each_numbered _ clock first (units_read packet)
     (λ (index : ℕ) (unit : TimedUnit) (at : slice_get (units_read packet) index ≡ Some unit). (
       record {
         before = history;
@@ -76,6 +79,7 @@ packet_waits history caller clock first packet =
         packet = packet;
         first = first;
         count = length (units_read packet);
+        dropped = dropped;
         later = [];
         place = refl;
         index = index;
@@ -83,7 +87,7 @@ packet_waits history caller clock first packet =
         unit_is = at;
       },
       tag_first unit.tag clock,
-    ))
+    )))
   where
     tag_first : (tag moment : ℕ) → tag ≤ max tag moment
     tag_first tag moment = omega arith
@@ -100,8 +104,9 @@ step_waits history state caller event wait =
     (record {
       refused = λ event answer is. waiting_later history _ state.queue wait;
       enrolled = waiting_later history _ state.queue wait;
-      queued = λ packet. all_in _ (numbered state.clock state.next_unit (units_read packet)) state.queue
-          (packet_waits history caller state.clock state.next_unit packet) (waiting_later history _ state.queue wait);
+      queued = λ packet. all_in _ (kept_numbered state.caps.late state.clock state.next_unit (units_read packet)) state.queue
+          (packet_waits state.caps.late history caller state.clock state.next_unit (late_count state (units_read packet)) packet)
+          (waiting_later history _ state.queue wait);
       added = λ address. waiting_later history _ state.queue wait;
       removed = λ address id. waiting_later history _ state.queue wait;
       ticked = λ now later. waiting_later history _ state.queue wait;

@@ -17,4 +17,4 @@ pub record KeepsTheLaws (caps : Limits) (history : List Entry) : Type 0 where
   pub consecutive : AreConsecutive (invocations (opening caps) history)
   pub in_time : AllByRecursion (IsInTime history) (invocations (opening caps) history)
   pub exact : AreExact history (invocations (opening caps) history)
-  pub once : AreReleasedOnce history (after (opening caps) history).queue
+  pub once : AreReleasedOnce caps.late history (after (opening caps) history).queue

@@ -37,10 +37,10 @@ pub fn no_unit_is_released_before_its_tag()
     model::a_release_takes_the_least_unit();
 }
 
-/// The accepted units are numbered without a gap, and each is released once or waits.
+/// The accepted units are numbered without a gap, and each is released once, waits, or was discarded since it was late.
 pub fn every_unit_is_released_once_or_waits()
     ensures { (caps : Limits) (history : List Entry) → Legal caps history →
-        AreReleasedOnce history (after (opening caps) history).queue }
+        AreReleasedOnce caps.late history (after (opening caps) history).queue }
 {}
 
 /// The methods are those that were added and not removed since.

@@ -1,5 +1,7 @@
 -- A call that took the turn and was answered.
-use Rattle.std.proofs.Common.{◌≡◌, ℕ, ◌+◌, ◌<◌, ◌==◌, Bool, true, false, ◌&&◌, List, [], ◌∷◌, ◌++◌, length, length-append, Option, Some, MatchBool, refl, sym}
+use Rattle.std.proofs.Common.{◌≡◌, ℕ, zero, suc, ◌+◌, ◌<◌, ◌==◌, Bool, true, false, cond, ◌&&◌, List, [], ◌∷◌, ◌++◌, length, length-append, drop, Option, Some}
+use Rattle.std.proofs.Common.{MatchBool}
+use Rattle.std.proofs.Common.{refl, sym}
 use Rattle.std.proofs.Common.{ap, subst, ◌∙◌, arith}
 use Rattle.std.specs.List.{list_all}
 use Rattle.std.specs.Option.{option_map_or}
@@ -16,7 +18,7 @@ use Rattle.osc_turn.specs.Rule.{number_of}
 use Rattle.osc_turn.specs.Answers.{TakesOnce, TakesNone, FindsFree, KeepsOwn, Ran}
 use Rattle.osc_turn.proofs.Histories.{own_append, own_of_mine, starts_texts, texts_append}
 use Rattle.osc_model.specs.History.{stepped_in}
-use Rattle.osc_live.specs.Seen.{history_of, performance_in, names, names_own}
+use Rattle.osc_live.specs.Seen.{history_of, performance_in, names, old_own, names_own}
 use Rattle.osc_live.specs.Calls.{AddsText, Plays, EndsWith, AddsNone, TakesTurn, Calls}
 use Rattle.osc_live.proofs.Asks.{Grow, enrolled_more}
 
@@ -46,7 +48,7 @@ own_then number found seen past text same is =
     ap (own number) is ∙ own_append number found (entry number text ∷ []) ∙ ap (λ (l : List Seen). l ++ own number (entry number text ∷ [])) same
     ∙ ap (λ (l : List Seen). own number past ++ l) (own_of_mine number (entry number text) refl)
 
-takes : (v w : View) → TakesOnce v w → TakesTurn v w
+pub takes : (v w : View) → TakesOnce v w → TakesTurn v w
 takes v w once = once ∙ ap (λ olds. record v { seen = w.seen; olds = olds; words = w.words; taken = v.taken + 1 }) (sym (ap (λ (z : View). z.olds) once))
 
 -- what a call says, by what the turn says of it and what its job did
@@ -101,30 +103,55 @@ all_more p (y ∷ xs) x all one = go (p y) all (all_more p xs x) where
   go true all rest = rest all one
   go false all rest = absurd (cc)
 
+-- the same of all but the first elements
+all_drop_more : (p : Seen → Bool) (k : ℕ) (xs : List Seen) (x : Seen) → list_all p (drop k xs) ≡ true → p x ≡ true
+    → list_all p (drop k (xs ++ x ∷ [])) ≡ true
+all_drop_more p zero xs x all one = all_more p xs x all one
+all_drop_more p (suc zero) [] x all one = refl
+all_drop_more p (suc (suc k)) [] x all one = refl
+all_drop_more p (suc k) (y ∷ xs) x all one = all_drop_more p k xs x all one
+
+pub none_named : (p : Seen → Bool) (k : ℕ) (xs : List Seen) → xs ≡ [] → list_all p (drop k xs) ≡ true
+none_named p k xs none = ap (λ (l : List Seen). list_all p (drop k l)) none ∙ go k where
+  go : (k : ℕ) → list_all p (drop k []) ≡ true
+  go zero = refl
+  go (suc k) = refl
+
+-- a token with the same number and the same own entries, of a turn that was opened with as many entries
+pub kept_named : (caller : ℕ) (v w : View) → number_of w ≡ number_of v → w.opened_at ≡ v.opened_at → own (number_of v) w.seen ≡ own (number_of v) v.seen
+    → names_own caller v ≡ true → names_own caller w ≡ true
+kept_named caller v w number opened same named =
+    ap (λ (z : ℕ × ℕ). list_all (names caller) (drop (cond (z.0 == 0) z.1 0) (own z.0 w.seen))) (λ i. (number i, opened i))
+    ∙ ap (λ (l : List Seen). list_all (names caller) (drop (old_own v) l)) same ∙ named
+
 pub still_enrolled : Grow → (number : ℕ) (v w : View) → StartsWith w.seen v.seen → number < callers_in (history_of v) → number < callers_in (history_of w)
 still_enrolled grows number v w starts enrolled = enrolled_more grows (texts w.seen) (texts v.seen) number (starts_texts w.seen v.seen starts) enrolled
 
 pub still_named : (caps : Limits) (caller : ℕ) (event : Event) (answer : Answer) (v w : View) → Calls caps caller event answer v w → names_own caller v ≡ true
     → names_own caller w ≡ true
 still_named caps caller event answer v w calls named =
-    ap (λ (n : ℕ). list_all (names caller) (own n w.seen)) number ∙ go (adds_entry answer) calls.answered
+    ap (λ (z : ℕ × ℕ). list_all (names caller) (drop (cond (z.0 == 0) z.1 0) (own z.0 w.seen))) (λ i. (number i, opened i))
+    ∙ go (adds_entry answer) calls.answered
   where
     number : number_of w ≡ number_of v
     number = ap number_of calls.once
+
+    opened : w.opened_at ≡ v.opened_at
+    opened = ap (λ (z : View). z.opened_at) calls.once
 
     mine : (text : List ℕ) → entry_in text ≡ Some (record { caller = caller; event = event; answer = answer }) → names caller (entry (number_of v) text) ≡ true
     mine text read = ap (λ (o : Option Entry). option_map_or (λ (e : Entry). e.caller == caller) o false) read ∙ eq-eqb caller caller refl
 
     go : (t : Bool) → MatchBool t (EndsWith caps caller event answer v w) (AddsNone caps event answer v w)
-        → list_all (names caller) (own (number_of v) w.seen) ≡ true
+        → list_all (names caller) (drop (old_own v) (own (number_of v) w.seen)) ≡ true
     go true ends =
-        ap (list_all (names caller)) ends.own_once
-        ∙ all_more (names caller) (own (number_of v) v.seen) (entry (number_of v) ends.text) named (mine ends.text ends.read)
-    go false none = ap (list_all (names caller)) none.own_same ∙ named
+        ap (λ (l : List Seen). list_all (names caller) (drop (old_own v) l)) ends.own_once
+        ∙ all_drop_more (names caller) (old_own v) (own (number_of v) v.seen) (entry (number_of v) ends.text) named (mine ends.text ends.read)
+    go false none = ap (λ (l : List Seen). list_all (names caller) (drop (old_own v) l)) none.own_same ∙ named
 
 -- a token that looked, and did not take the turn, stays the caller's
 pub looked_named : (caller : ℕ) (v w : View) → TakesNone v w → KeepsOwn v w → names_own caller v ≡ true → names_own caller w ≡ true
-looked_named caller v w none kept named = ap (λ (n : ℕ). list_all (names caller) (own n w.seen)) (ap number_of none) ∙ ap (list_all (names caller)) kept ∙ named
+looked_named caller v w none kept named = kept_named caller v w (ap number_of none) (ap (λ (z : View). z.opened_at) none) kept named
 
 -- an event that was asked for was answered
 pub called : {J : Type 0} {did : J → J → List (List ℕ) → List (List ℕ) → Type 0} {old new : J} (caps limits : Limits) (caller who : ℕ) (event : Event)

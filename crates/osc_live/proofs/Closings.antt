@@ -1,6 +1,6 @@
 -- The history of a server that is closed.
-use Rattle.std.proofs.Common.{◌≡◌, ℕ, zero, suc, ◌+◌, ◌<◌, ◌==◌, Bool, true, false, cond, ◌&&◌, List, [], ◌∷◌, ◌++◌, length, map, get_or, All, Contains, inl}
-use Rattle.std.proofs.Common.{inr, ◌⊎◌, refl, sym, ap, subst, ◌∙◌, arith, eq-eqb}
+use Rattle.std.proofs.Common.{◌≡◌, ℕ, zero, suc, ◌+◌, ◌<◌, ◌==◌, Bool, true, false, cond, ◌&&◌, List, [], ◌∷◌, ◌++◌, length, map, drop, get_or, All, Contains, inl}
+use Rattle.std.proofs.Common.{inr, ◌⊎◌, refl, sym, ap, subst, ◌∙◌, arith, eq-eqb, ne_eqb}
 use Rattle.std.specs.List.{list_all, insert}
 use Rattle.std.proofs.lemmas.Bool.{eqb-true}
 use Rattle.std.proofs.lemmas.List.Elements.{All-contains, All-append, All-cons, All-map, Contains-append_cases, Contains-get_or}
@@ -11,10 +11,11 @@ use Rattle.std.proofs.lemmas.Simd.{map-map}
 use Rattle.osc_tree.proofs.Lists.{contains_later}
 use Rattle.osc_turn.specs.declared.turn.Turn.{Turn}
 use Rattle.osc_turn.specs.declared.view.View.{View}
-use Rattle.osc_turn.specs.History.{StartsWith, texts, own}
+use Rattle.osc_turn.specs.History.{StartsWith, entry, entries_of, texts, own}
 use Rattle.osc_turn.specs.Numbers.{times}
 use Rattle.osc_turn.specs.Rule.{number_of}
 use Rattle.osc_turn.specs.Passes.{view, IsPassOf}
+use Rattle.osc_turn.proofs.Histories.{own_append, own_of_mine, own_of_other}
 use Rattle.osc_turn.specs.Closing.{Carries, IsOwnOfOne}
 use Rattle.osc_turn.specs.Closing as turn
 use Rattle.osc_model.specs.Limits.{Limits}
@@ -26,8 +27,8 @@ use Rattle.osc_laws.proofs.Members.{none_in, sent, sent_from}
 use Rattle.osc_core.specs.Standing.{history_in, AreMarked, StandsFor}
 use Rattle.osc_live.specs.declared.caller.Caller.{Caller}
 use Rattle.osc_live.specs.declared.guest.Guest.{Guest}
-use Rattle.osc_live.specs.Seen.{names, performance_in, IsTokenOf}
-use Rattle.osc_live.specs.Closing.{known, views_of, StartsAtZero, IsOfCaller, Closes}
+use Rattle.osc_live.specs.Seen.{names, old_own, own_since, performance_in, IsTokenOf}
+use Rattle.osc_live.specs.Closing.{known, views_of, StartsAtZero, IsOfFirst, IsOfCaller, Closes}
 
 -- a number that stands among those of passes is a pass's
 times_in : (n : ℕ) (passes : List Pass) → 0 < times n (map turn.number passes) → (p : Pass) × Contains passes p × (turn.number p ≡ n)
@@ -60,41 +61,107 @@ all_hold p (y ∷ xs) x all there = go (p y) refl all there (all_hold p xs x) wh
 abbrev passes_of : List Caller → List Guest → List Pass
 passes_of callers guests = map (λ (caller : Caller). caller.pass) callers ++ map (λ (guest : Guest). guest.pass) guests
 
--- each entry is a caller's, and names it
-named : (callers : List Caller) (guests : List Guest) (history : List Seen) → All (Carries history) (passes_of callers guests)
-    → All (IsOwnOfOne (passes_of callers guests)) history → All (IsOfCaller (known callers)) history
-named callers guests history carried once k d within = go (times_in one.number (passes_of callers guests) (omega (arith, once k d within))) where
-  one : Seen
-  one = get_or history k d
+-- The entries that were there when the turn was opened are the first pass's.
 
-  here : Contains history one
-  here = Contains-get_or history k d within
+pub own_first : (opened : List (List ℕ)) → own 0 (entries_of opened) ≡ entries_of opened
+own_first [] = refl
+own_first (text ∷ opened) =
+    own_append 0 (entry 0 text ∷ []) (entries_of opened)
+    ∙ (ap (λ (l : List Seen). l ++ own 0 (entries_of opened)) (own_of_mine 0 (entry 0 text) refl) ∙ ap (λ (l : List Seen). entry 0 text ∷ l) (own_first opened))
 
-  go : (p : Pass) × Contains (passes_of callers guests) p × (turn.number p ≡ one.number) → IsOfCaller (known callers) one
-  go (p, there, same) =
-      cases (Contains-append_cases (map (λ (caller : Caller). caller.pass) callers) (map (λ (guest : Guest). guest.pass) guests) p there) where
-        mine : own (turn.number p) history ≡ own (turn.number p) (view p).seen
-        mine = (All-contains (Carries history) (passes_of callers guests) p carried there).1
+own_none : (n : ℕ) (opened : List (List ℕ)) → own (suc n) (entries_of opened) ≡ []
+own_none n [] = refl
+own_none n (text ∷ opened) =
+    own_append (suc n) (entry 0 text ∷ []) (entries_of opened)
+    ∙ (ap (λ (l : List Seen). l ++ own (suc n) (entries_of opened)) (own_of_other (suc n) (entry 0 text) (λ (e : 0 ≡ suc n). omega arith)) ∙ own_none n opened)
 
-        held : Contains (own (turn.number p) (view p).seen) one
-        held = subst (λ (l : List Seen). Contains l one) mine (subst (λ (n : ℕ). Contains (own n history) one) (sym same) (own_holds history one here))
+behind_entries : (opened : List (List ℕ)) (since : List Seen) → drop (length opened) (entries_of opened ++ since) ≡ since
+behind_entries [] since = refl
+behind_entries (text ∷ opened) since = behind_entries opened since
 
-        cases : Contains (map (λ (caller : Caller). caller.pass) callers) p ⊎ Contains (map (λ (guest : Guest). guest.pass) guests) p
-            → IsOfCaller (known callers) one
-        cases (inl caller) =
-            let found = sent_from (λ (caller : Caller). caller.pass) callers p caller in
-            let c : Caller = found.0 in (
-              (c.number, view c.pass),
-              sent (λ (caller : Caller). (caller.number, view caller.pass)) callers c found.1,
-              ap (λ (q : Pass). turn.number q) found.2 ∙ same,
-              all_hold (names c.number) (own (number_of (view c.pass)) (view c.pass).seen) one c.named
-                  (subst (λ (q : Pass). Contains (own (turn.number q) (view q).seen) one) (sym found.2) held),
-            )
-        cases (inr guest) =
-            let found = sent_from (λ (guest : Guest). guest.pass) guests p guest in
-            absurd (none_in one
-            (subst (λ (l : List Seen). Contains l one) found.0.none_own
-            (subst (λ (q : Pass). Contains (own (turn.number q) (view q).seen) one) (sym found.2) held)))
+pub own_later : (n : ℕ) (opened : List (List ℕ)) (since : List Seen) → drop (cond (n == 0) (length opened) 0) (own n (entries_of opened ++ since)) ≡ own n since
+own_later zero opened since =
+    let is : (zero == 0) ≡ true = eq-eqb zero 0 refl in
+    (λ i. drop (cond (is i) (length opened) 0) (own 0 (entries_of opened ++ since)))
+    ∙ (ap (drop (length opened)) (own_append 0 (entries_of opened) since ∙ ap (λ (l : List Seen). l ++ own 0 since) (own_first opened))
+    ∙ behind_entries opened (own 0 since))
+own_later (suc n) opened since =
+    let other : (suc n == 0) ≡ false = ne_eqb (suc n) 0 (λ (e : suc n ≡ 0). omega arith) in
+    (λ i. drop (cond (other i) (length opened) 0) (own (suc n) (entries_of opened ++ since)))
+    ∙ (own_append (suc n) (entries_of opened) since ∙ ap (λ (l : List Seen). l ++ own (suc n) since) (own_none n opened))
+
+-- each pass knows how many they are
+abbrev pub AreAlike : List (List ℕ) → List Pass → Type 0
+AreAlike opened passes = All (λ (p : Pass). (view p).opened_at ≡ length opened) passes
+
+pub alike : {S : Type 0} (turn_of : Turn S) (opened : List (List ℕ)) (passes : List Pass) → All (IsPassOf turn_of) passes
+    → 0 < length passes → (turn.first_view passes).opened_at ≡ length opened → AreAlike opened passes
+alike turn_of opened [] ours some first = absurd (omega arith)
+alike turn_of opened (p ∷ passes) ours some first = λ k d within.
+    let here : (view (get_or (p ∷ passes) k d)).opened_at ≡ turn_of.opened_at.value = (ours k d within).1 in
+    let there : (view p).opened_at ≡ turn_of.opened_at.value = (ours 0 p (omega arith)).1 in
+    here ∙ (sym there ∙ first)
+
+since_of : (opened : List (List ℕ)) (history since : List Seen) (v : View) → history ≡ entries_of opened ++ since → v.opened_at ≡ length opened
+    → own (number_of v) history ≡ own (number_of v) v.seen → own_since v ≡ own (number_of v) since
+since_of opened history since v begins count mine =
+    (λ i. drop (cond (number_of v == 0) (count i) 0) (sym mine i)) ∙ ap (λ (l : List Seen). drop (cond (number_of v == 0) (length opened) 0) (own (number_of v) l)) begins
+    ∙ own_later (number_of v) opened since
+
+none_since : (v : View) → own (number_of v) v.seen ≡ [] → own_since v ≡ []
+none_since v none = go (old_own v) (own (number_of v) v.seen) none where
+  go : (k : ℕ) (xs : List Seen) → xs ≡ [] → drop k xs ≡ []
+  go zero xs e = e
+  go (suc k) [] e = refl
+  go (suc k) (x ∷ xs) e = absurd (cc)
+
+-- they are of caller 0's token
+first_of : (callers : List Caller) (opened : List (List ℕ)) → StartsAtZero callers → All (IsOfFirst (known callers)) (entries_of opened)
+first_of [] opened none = absurd none
+first_of (caller ∷ callers) opened is =
+    All-map (IsOfFirst (known (caller ∷ callers))) (entry 0) opened
+    (λ k d within. ((caller.number, view caller.pass), (0, omega arith, refl), caller.first is, is))
+
+-- each entry since then is a caller's, and names it
+named : (callers : List Caller) (guests : List Guest) (opened : List (List ℕ)) (history since : List Seen) → history ≡ entries_of opened ++ since
+    → AreAlike opened (passes_of callers guests) → All (Carries history) (passes_of callers guests)
+    → All (IsOwnOfOne (passes_of callers guests)) since → All (IsOfCaller (known callers)) since
+named callers guests opened history since begins counts carried once k d within =
+    go (times_in one.number (passes_of callers guests) (omega (arith, once k d within))) where
+      one : Seen
+      one = get_or since k d
+
+      here : Contains since one
+      here = Contains-get_or since k d within
+
+      go : (p : Pass) × Contains (passes_of callers guests) p × (turn.number p ≡ one.number) → IsOfCaller (known callers) one
+      go (p, there, same) =
+          cases (Contains-append_cases (map (λ (caller : Caller). caller.pass) callers) (map (λ (guest : Guest). guest.pass) guests) p there) where
+            mine : own (turn.number p) history ≡ own (turn.number p) (view p).seen
+            mine = (All-contains (Carries history) (passes_of callers guests) p carried there).1
+
+            held : Contains (own_since (view p)) one
+            held = subst (λ (l : List Seen). Contains l one)
+                (sym (since_of opened history since (view p) begins
+                (All-contains (λ (q : Pass). (view q).opened_at ≡ length opened) (passes_of callers guests) p counts there) mine))
+                (subst (λ (n : ℕ). Contains (own n since) one) (sym same) (own_holds since one here))
+
+            cases : Contains (map (λ (caller : Caller). caller.pass) callers) p ⊎ Contains (map (λ (guest : Guest). guest.pass) guests) p
+                → IsOfCaller (known callers) one
+            cases (inl caller) =
+                let found = sent_from (λ (caller : Caller). caller.pass) callers p caller in
+                let c : Caller = found.0 in (
+                  (c.number, view c.pass),
+                  sent (λ (caller : Caller). (caller.number, view caller.pass)) callers c found.1,
+                  ap (λ (q : Pass). turn.number q) found.2 ∙ same,
+                  all_hold (names c.number) (own_since (view c.pass)) one c.named
+                      (subst (λ (q : Pass). Contains (own_since (view q)) one) (sym found.2) held),
+                )
+            cases (inr guest) =
+                let found = sent_from (λ (guest : Guest). guest.pass) guests p guest in
+                absurd (none_in one
+                (subst (λ (l : List Seen). Contains l one) (none_since (view found.0.pass) found.0.none_own)
+                (subst (λ (q : Pass). Contains (own_since (view q)) one) (sym found.2) held)))
 
 views_same : (callers : List Caller) (guests : List Guest) → map view (passes_of callers guests) ≡ views_of callers guests
 views_same callers guests =
@@ -105,12 +172,19 @@ numbers_same : (passes : List Pass) → map turn.number passes ≡ map number_of
 numbers_same [] = refl
 numbers_same (p ∷ passes) = ap (λ (l : List ℕ). turn.number p ∷ l) (numbers_same passes)
 
+All-behind : {X : Type 0} (P : X → Type 0) (xs ys : List X) → All P (xs ++ ys) → All P ys
+All-behind P [] ys all = all
+All-behind P (x ∷ xs) ys all = All-behind P xs ys (λ k d within. all (suc k) d (omega arith))
+
 pub closes : (caps : Limits) (performance : Performance) (boxes kept : List Told) (bytes : List ℕ) (callers : List Caller) (guests : List Guest)
-    (passes : List Pass) (history : List Seen) → passes ≡ passes_of callers guests → StandsFor performance boxes (texts history) → performance.caps ≡ caps
+    (passes : List Pass) (opened : List (List ℕ)) (history since : List Seen) → passes ≡ passes_of callers guests → StandsFor performance boxes (texts history)
+    → performance.caps ≡ caps → history ≡ entries_of opened ++ since → AreAlike opened passes → StartsAtZero callers
     → All (Carries history) passes → All (IsOwnOfOne passes) history → bytes ≡ record_text performance.caps performance.history
-    → KeepsTheLaws performance.caps performance.history → kept ≡ boxes → Closes caps (known callers) (views_of callers guests) bytes kept
-closes caps performance boxes kept bytes callers guests passes history all stands limits carried once recorded laws is = record {
+    → KeepsTheLaws performance.caps performance.history → kept ≡ boxes → Closes caps opened (known callers) (views_of callers guests) bytes kept
+closes caps performance boxes kept bytes callers guests passes opened history since all stands limits begins counts starts carried once recorded laws is = record {
   history = history;
+  since = since;
+  begins = begins;
   legal = subst (λ (l : Limits). Legal l (history_in (texts history))) limits (subst (Legal performance.caps) (sym stands.read) stands.legal);
   laws = subst (λ (l : Limits). KeepsTheLaws l (history_in (texts history))) limits (subst (KeepsTheLaws performance.caps) (sym stands.read) laws);
   recorded = recorded ∙ (λ i. record_text (limits i) (sym stands.read i));
@@ -120,7 +194,10 @@ closes caps performance boxes kept bytes callers guests passes history all stand
       (All-map (λ (v : View). own (number_of v) history ≡ own (number_of v) v.seen) view passes (λ k d within. (carried k d within).1));
   each_once = λ k d within. ap (λ (l : List ℕ). times (get_or history k d).number l)
       (sym (numbers_same passes ∙ ap (map number_of) (ap (map view) all ∙ views_same callers guests))) ∙ once k d within;
-  named = named callers guests history (subst (All (Carries history)) all carried) (subst (λ (l : List Pass). All (IsOwnOfOne l) history) all once);
+  first = first_of callers opened starts;
+  named = named callers guests opened history since begins (subst (AreAlike opened) all counts) (subst (All (Carries history)) all carried)
+      (All-behind (IsOwnOfOne (passes_of callers guests)) (entries_of opened) since
+      (subst (λ (l : List Seen). All (IsOwnOfOne (passes_of callers guests)) l) begins (subst (λ (l : List Pass). All (IsOwnOfOne l) history) all once)));
   heard = subst (HaveHeard (performance_in caps (texts history))) (sym is) (subst (λ (p : Performance). HaveHeard p boxes) whole stands.heard);
   marked = subst (λ (l : List Told). AreMarked (texts history) l) (sym is) stands.marked;
 }
@@ -172,9 +249,14 @@ kind_is turn_of caps kind callers others one back guests passes is ours same all
     kinds ∙ ap (λ (l : List Pass). (turn.first_view l).kind) all ∙ ap (λ (v : View). v.kind) same
     ∙ (subst (λ (l : List Caller). All (λ caller. IsTokenOf turn_of caps caller.pass) l) is ours 0 one (omega arith)).1
 
-pub closes_still : (caps : Limits) (callers others : List Caller) (one back : Caller) (guests : List Guest) (bytes : List ℕ) (kept : List Told)
+pub closes_still : (caps : Limits) (opened : List (List ℕ)) (callers others : List Caller) (one back : Caller) (guests : List Guest) (bytes : List ℕ) (kept : List Told)
     → callers ≡ one ∷ others → back.number ≡ one.number → view back.pass ≡ view one.pass
-    → Closes caps (known (back ∷ others)) (views_of (back ∷ others) guests) bytes kept → Closes caps (known callers) (views_of callers guests) bytes kept
-closes_still caps callers others one back guests bytes kept is number same closed =
-    subst (λ (l : List (ℕ × View)). Closes caps l (views_of callers guests) bytes kept) (still_known callers others one back is number same)
-    (subst (λ (l : List View). Closes caps (known (back ∷ others)) l bytes kept) (still_viewed callers others guests one back is same) closed)
+    → Closes caps opened (known (back ∷ others)) (views_of (back ∷ others) guests) bytes kept
+    → Closes caps opened (known callers) (views_of callers guests) bytes kept
+closes_still caps opened callers others one back guests bytes kept is number same closed =
+    subst (λ (l : List (ℕ × View)). Closes caps opened l (views_of callers guests) bytes kept) (still_known callers others one back is number same)
+    (subst (λ (l : List View). Closes caps opened (known (back ∷ others)) l bytes kept) (still_viewed callers others guests one back is same) closed)
+
+pub starts_still : (callers others : List Caller) (one back : Caller) → callers ≡ one ∷ others → back.number ≡ one.number → StartsAtZero callers
+    → StartsAtZero (back ∷ others)
+starts_still callers others one back is number starts = number ∙ subst StartsAtZero is starts

@@ -4,3 +4,8 @@ pub mod Closings
 pub mod Marks
 pub mod Meeting
 pub mod Pumping
+pub mod PlayedAgain
+pub mod Roomier
+pub mod Resumed
+pub mod Backs
+pub mod Copies

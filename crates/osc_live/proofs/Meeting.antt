@@ -14,10 +14,9 @@ use Rattle.osc_turn.specs.Rule.{number_of}
 use Rattle.osc_turn.specs.Steps.{longer}
 use Rattle.osc_turn.specs.Passes.{met_by}
 use Rattle.osc_turn.proofs.Histories.{starts_on}
-use Rattle.std.specs.List.{list_all}
-use Rattle.osc_live.specs.Seen.{history_of, names, names_own}
+use Rattle.osc_live.specs.Seen.{history_of, names_own}
 use Rattle.osc_live.specs.Calls.{EndsWith, AddsNone, Calls}
-use Rattle.osc_live.proofs.Answered.{texts_more}
+use Rattle.osc_live.proofs.Answered.{texts_more, kept_named}
 
 -- a call of a token that was told before it is one of the token as it was
 pub calls_met : (caps : Limits) (caller : ℕ) (event : Event) (answer : Answer) (v g v1 w : View) → v1 ≡ met_by v g → StartsWith v1.seen v.seen
@@ -72,7 +71,7 @@ longer_is a b (rest, is) = ap (λ (t : Bool). cond t b a) (le-leb (length a) (le
 -- a token that is told stays its caller's
 pub met_named : (caller : ℕ) (v g v1 : View) → v1 ≡ met_by v g → own (number_of v) v1.seen ≡ own (number_of v) v.seen → names_own caller v ≡ true
     → names_own caller v1 ≡ true
-met_named caller v g v1 is same named = ap (λ (n : ℕ). list_all (names caller) (own n v1.seen)) (ap number_of is) ∙ ap (list_all (names caller)) same ∙ named
+met_named caller v g v1 is same named = kept_named caller v v1 (ap number_of is) (ap (λ (z : View). z.opened_at) is) same named
 
 -- a guest that is told what was seen then has seen it
 pub told_all : (g w g1 : View) → g1 ≡ met_by g w → StartsWith w.seen g.seen → g1.seen ≡ w.seen

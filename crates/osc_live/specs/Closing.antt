@@ -2,7 +2,7 @@
 use Rattle.std.specs.Prelude.{◌≡◌, ℕ, true, List, [], ◌∷◌, ◌++◌, map, All, Contains}
 use Rattle.osc_turn.specs.declared.view.Entry.{Entry as Seen}
 use Rattle.osc_turn.specs.declared.view.View.{View}
-use Rattle.osc_turn.specs.History.{StartsWith, texts, own}
+use Rattle.osc_turn.specs.History.{StartsWith, texts, entries_of, own}
 use Rattle.osc_turn.specs.Rule.{number_of}
 use Rattle.osc_turn.specs.Passes.{view}
 use Rattle.osc_turn.specs.Numbers.{times}
@@ -40,19 +40,28 @@ abbrev pub IsOfCaller : List (ℕ × View) → Seen → Type 0
 IsOfCaller callers one = (caller : ℕ × View) × Contains callers caller
     × (number_of caller.1 ≡ one.number) × (names caller.0 one ≡ true)
 
+-- the entry is one of caller 0's token
+abbrev pub IsOfFirst : List (ℕ × View) → Seen → Type 0
+IsOfFirst callers one = (caller : ℕ × View) × Contains callers caller
+    × (number_of caller.1 ≡ one.number) × (caller.0 ≡ 0)
+
 -- There is one history: it is legal, keeps the four laws and is what was recorded; it begins with
 -- what each token has seen, which holds all own entries of the token; each entry is an own one of
--- exactly one token, which is that of the caller whom the entry names; and the boxes have heard it,
--- each with the mark of its id's entry.
-pub record Closes (caps : Limits) (callers : List (ℕ × View)) (views : List View) (bytes : List ℕ)
-    (kept : List Told) : Type 0 where
+-- exactly one token. The history begins with the entries of the texts `opened`, which were there when
+-- the turn was opened: they are of caller 0's token. An entry since then is of the token of the caller
+-- whom it names. And the boxes have heard the history, each with the mark of its id's entry.
+pub record Closes (caps : Limits) (opened : List (List ℕ)) (callers : List (ℕ × View))
+    (views : List View) (bytes : List ℕ) (kept : List Told) : Type 0 where
   pub history : List Seen
+  pub since : List Seen
+  pub begins : history ≡ entries_of opened ++ since
   pub legal : Legal caps (history_in (texts history))
   pub laws : KeepsTheLaws caps (history_in (texts history))
   pub recorded : bytes ≡ record_text caps (history_in (texts history))
   pub carried : All (λ v. StartsWith history v.seen) views
   pub owned : All (λ v. own (number_of v) history ≡ own (number_of v) v.seen) views
   pub each_once : All (λ one. times one.number (map number_of views) ≡ 1) history
-  pub named : All (IsOfCaller callers) history
+  pub first : All (IsOfFirst callers) (entries_of opened)
+  pub named : All (IsOfCaller callers) since
   pub heard : HaveHeard (performance_in caps (texts history)) kept
   pub marked : AreMarked (texts history) kept

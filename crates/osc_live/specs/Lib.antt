@@ -4,6 +4,9 @@ pub mod Closing
 pub mod Enrolments
 pub mod Outs
 pub mod Pumps
+pub mod Resuming
+pub mod Reads
 pub mod Seen
 -- Inside the crate.
 pub mod Asked
+pub mod Redone

@@ -3,7 +3,7 @@ ghost use Rattle.std.specs.Prelude.{◌≡◌, ◌≢◌, ◌≤◌, ◌+◌, �
 ghost use Rattle.std.specs.Prelude.{vec_len, vec_capacity};
 ghost use Rattle.osc_turn.specs.Passes.{view};
 ghost use Rattle.osc_core.specs.Telling.{told};
-ghost use Rattle.osc_live.specs.Seen.{IsTokenOf};
+ghost use Rattle.osc_live.specs.Seen.{IsTokenOf, past_of};
 ghost use Rattle.osc_live.specs.Outs.{TellsMade, AreOurs, live_back, callers_back, guests_back};
 ghost use Rattle.osc_live.specs.Closing.{Closes, known, views_of, made_by, StartsAtZero};
 
@@ -67,7 +67,7 @@ impl<M: Method> Live<M> {
         requires few { length callers.items + length guests.items ≤ 65536 }
         ensures all_in { OnOk result
             (made_by callers.items ≡ length callers.items + length guests.items) }
-        ensures closes { IfOk result (λ closed. Closes self.caps (known callers.items)
+        ensures closes { IfOk result (λ closed. Closes self.caps (past_of self.turn) (known callers.items)
             (views_of callers.items guests.items) closed.bytes.items
             (told M.keep M.heard closed.kept.items)) }
         ensures made { IfErr result (λ out. TellsMade out callers.items guests.items) }

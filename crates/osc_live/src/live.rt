@@ -1,9 +1,9 @@
 //! The server that callers share.
-ghost use Rattle.std.specs.Prelude.{◌≡◌, IfOk};
+ghost use Rattle.std.specs.Prelude.{◌≡◌, [], IfOk};
 ghost use Rattle.osc_turn.specs.Rule.{opening};
 ghost use Rattle.osc_turn.specs.Passes.{view};
 ghost use Rattle.osc_model.specs.Recordings.{header_text};
-ghost use Rattle.osc_live.specs.Seen.{IsTokenOf};
+ghost use Rattle.osc_live.specs.Seen.{IsTokenOf, past_of};
 ghost use Rattle.osc_live.specs.Calls.{Looks};
 
 use crate::caller::Caller;
@@ -26,6 +26,7 @@ impl<M: Method> Live<M> {
     pub fn open(alloc: Global, caps: Caps) -> Result<(Live<M>, Caller), AllocError>
         ensures limits { IfOk result (λ opened. opened.0.caps ≡ caps) }
         ensures ours { IfOk result (λ opened. IsTokenOf opened.0.turn opened.0.caps opened.1.pass) }
+        ensures empty { IfOk result (λ opened. past_of opened.0.turn ≡ []) }
         ensures number { IfOk result (λ opened. opened.1.number ≡ 0) }
         ensures first { IfOk result (λ opened. view opened.1.pass ≡ opening (header_text caps)) }
     {

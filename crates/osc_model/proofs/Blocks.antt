@@ -14,7 +14,7 @@ use Rattle.osc_packet.proofs.Walks.{enclosed_step, enclosed_end, one_first}
 use Rattle.osc_packet.proofs.Entering.{opened}
 use Rattle.osc_packet.proofs.Few.{Sound, sound}
 
-blocks_joined : (first more : List TimedUnit) → blocks_of (first ++ more) ≡ blocks_of first + blocks_of more
+pub blocks_joined : (first more : List TimedUnit) → blocks_of (first ++ more) ≡ blocks_of first + blocks_of more
 blocks_joined [] more = omega arith
 blocks_joined (unit ∷ first) more = omega (arith, blocks_joined first more)
 

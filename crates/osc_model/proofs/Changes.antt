@@ -1,5 +1,5 @@
 -- What an event does to the registered methods.
-use Rattle.std.proofs.Common.{◌≡◌, ◌⊎◌, inl, inr, ℕ, ◌+◌, ◌==◌, Bool, true, false, nat_le, nat_lt, List, [], ◌∷◌, ◌++◌, length, Option, Some, None, cond, refl}
+use Rattle.std.proofs.Common.{◌≡◌, ◌⊎◌, inl, inr, ℕ, ◌+◌, ◌-◌, ◌==◌, Bool, true, false, nat_le, nat_lt, List, [], ◌∷◌, ◌++◌, length, Option, Some, None, cond, refl}
 use Rattle.osc_packet.specs.Units.{TimedUnit, blocks_of}
 use Rattle.osc_packet.specs.Reading.{units_read}
 use Rattle.osc_queue.specs.Timed.{due_of}
@@ -10,7 +10,7 @@ use Rattle.osc_model.specs.Counts.{free_places, free_blocks}
 use Rattle.osc_model.specs.Recordings.{entry_size}
 use Rattle.osc_model.specs.Events.{Event, enrol, submit, add, remove, tick, release, Answer, number, callers_full, queued, units_full, pool_full, added}
 use Rattle.osc_model.specs.Events.{removed, ticked, clock_back, nothing_due}
-use Rattle.osc_model.specs.Step.{Stepped, step, decided, leaves, after_submit, add_at, remove_at, releases, release_first}
+use Rattle.osc_model.specs.Step.{Stepped, step, decided, leaves, kept_units, submit_kept, after_submit, add_at, remove_at, releases, release_first}
 use Rattle.osc_model.proofs.Stepping.{noted, step_so}
 
 -- an answer that says that methods changed
@@ -66,16 +66,12 @@ remove_changes state address None is = inl (record { caps = refl; answer = refl;
 remove_changes state address (Some id) is =
     inr (inr (record { address = address; id = id; event_is = refl; found = is; answer = refl; caps = refl; methods = refl; next_id = refl; silent = refl }))
 
-submit_keeps : (state : State) (units : List TimedUnit)
-    → KeepsMethods state
-    (cond (nat_lt (free_places state) (length units)) (leaves state (units_full (record { need = length units; free = free_places state })))
-    (cond (nat_lt (free_blocks state) (blocks_of units)) (leaves state (pool_full (record { need = blocks_of units; free = free_blocks state })))
-    (leaves (after_submit state units) (queued state.next_unit (length units)))))
-submit_keeps state units =
-    either (KeepsMethods state) (nat_lt (free_places state) (length units)) _ _ (record { caps = refl; answer = refl; methods = refl; next_id = refl })
-    (either (KeepsMethods state) (nat_lt (free_blocks state) (blocks_of units))
-    (leaves state (pool_full (record { need = blocks_of units; free = free_blocks state })))
-    (leaves (after_submit state units) (queued state.next_unit (length units)))
+submit_keeps : (state : State) (units keeps : List TimedUnit) → KeepsMethods state (submit_kept state units keeps)
+submit_keeps state units keeps =
+    either (KeepsMethods state) (nat_lt (free_places state) (length keeps)) _ _ (record { caps = refl; answer = refl; methods = refl; next_id = refl })
+    (either (KeepsMethods state) (nat_lt (free_blocks state) (blocks_of keeps))
+    (leaves state (pool_full (record { need = blocks_of keeps; free = free_blocks state })))
+    (leaves (after_submit state units) (queued state.next_unit (length units) (length units - length keeps)))
     (record { caps = refl; answer = refl; methods = refl; next_id = refl }) (record { caps = refl; answer = refl; methods = refl; next_id = refl }))
 
 release_keeps : (state : State) (queue : List Queued) → KeepsMethods state (release_first state queue)
@@ -89,7 +85,7 @@ decided_changes state enrol =
     inl (either (KeepsMethods state) (state.callers == state.caps.callers) (leaves state callers_full)
     (leaves (record state { callers = state.callers + 1 }) (number state.callers))
     (record { caps = refl; answer = refl; methods = refl; next_id = refl }) (record { caps = refl; answer = refl; methods = refl; next_id = refl }))
-decided_changes state (submit packet) = inl (submit_keeps state (units_read packet))
+decided_changes state (submit packet) = inl (submit_keeps state (units_read packet) (kept_units state (units_read packet)))
 decided_changes state (add address) = add_changes state address (add_refusal (registry state) address)
 decided_changes state (remove address) = remove_changes state address (id_at state.methods address) refl
 decided_changes state (tick now) =

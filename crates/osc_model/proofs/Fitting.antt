@@ -1,5 +1,5 @@
 -- What a server answers fits into the messages of its recording.
-use Rattle.std.proofs.Common.{◌≡◌, ◌↔◌, ℕ, ◌+◌, ◌*◌, ◌<◌, ◌≤◌, ◌/◌, ◌^◌, ◌==◌, ◌&&◌, Bool, true, false, not, cond, nat_le, nat_lt, IsTrue, pos, List, [], ◌∷◌}
+use Rattle.std.proofs.Common.{◌≡◌, ◌↔◌, ℕ, ◌+◌, ◌-◌, ◌*◌, ◌<◌, ◌≤◌, ◌/◌, ◌^◌, ◌==◌, ◌&&◌, Bool, true, false, not, cond, nat_le, nat_lt, IsTrue, pos, List, [], ◌∷◌}
 use Rattle.std.proofs.Common.{◌++◌, length, find, Option, Some, None, is_none, refl, sym, ap, ◌∙◌, arith, eqb-true}
 use Rattle.std.specs.Prelude.{IfSome, FitsSigned}
 use Rattle.std.specs.Option.{option_map, option_or}
@@ -33,10 +33,12 @@ use Rattle.osc_model.specs.Counts.{queued_blocks, free_places, free_blocks, free
 use Rattle.osc_model.specs.Recordings.{IsHit, IsRecordable, IsSound as IsSoundAnswer, entry_size, refusing, submit_row}
 use Rattle.osc_model.specs.Events.{Event, enrol, submit, add, remove, tick, release, number, callers_full, queued, units_full, pool_full, refused, ticked}
 use Rattle.osc_model.specs.Events.{clock_back, nothing_due, adds_entry, Call}
-use Rattle.osc_model.specs.Step.{decided, leaves, after_submit, add_at, remove_at, releases, release_first, calls_of_unit, hits_of, invocations_of}
+use Rattle.osc_model.specs.Step.{decided, leaves, kept_units, submit_kept, after_submit, add_at, remove_at, releases, release_first, calls_of_unit, hits_of, invocations_of}
 use Rattle.osc_model.specs.History.{IsLawful, IsSound, IsCounted}
 use Rattle.osc_model.proofs.Calls.{MatchesExactly, all_more, unit_calls}
 use Rattle.osc_model.proofs.Blocks.{packet_few}
+use Rattle.osc_model.proofs.Queues.{kept_few, kept_blocks_few}
+use Rattle.osc_model.specs.declared.late.Late.{Late}
 use Rattle.osc_model.proofs.Sizes.{length-hits_text}
 
 -- what is known of a server's numbers
@@ -87,16 +89,26 @@ packet_silent packet lawful = go (packet_fault 65504 packet) lawful where
   go None is = refl
   go (Some fault) is = absurd (cc)
 
-submit_row_fits : (caller : ℕ) (packet : List ℕ) (code first count : ℕ) → caller < 2 ^ 31 → length packet ≤ 65504 → code < 2 ^ 31 → first < 2 ^ 63
-    → count < 2 ^ 31 → AllFit (submit_row caller packet (code, first, count)).arguments
-submit_row_fits caller packet code first count few short small big fits =
-    (int_fits caller few, (omega arith, (int_fits code small, (long_fits first big, (int_fits count fits, tt)))))
+submit_row_fits : (caller : ℕ) (packet : List ℕ) (code first count late : ℕ) → caller < 2 ^ 31 → length packet ≤ 65504 → code < 2 ^ 31 → first < 2 ^ 63
+    → count < 2 ^ 31 → late < 2 ^ 31 → AllFit (submit_row caller packet (code, first, count, late)).arguments
+submit_row_fits caller packet code first count late few short small big fits last =
+    (int_fits caller few, (omega arith, (int_fits code small, (long_fits first big, (int_fits count fits, (int_fits late last, tt))))))
 
 submit_fits : (caller : ℕ) (state : State) (packet : List ℕ) → caller < 2 ^ 31 → IsSmall state → IsTrue (is_packet 65504 packet)
     → IsRecordable caller (submit packet) (decided state (submit packet)).answer
 submit_fits caller state packet few small lawful =
-    go (units_read packet) (units_few packet silent) (packet_few packet silent)
+    go units (kept_units state units) (units_few packet silent) (kept_few late state.clock units)
+    (at_most _ _ _ (kept_blocks_few late state.clock units) (packet_few packet silent))
   where
+    units : List TimedUnit
+    units = units_read packet
+
+    late : Late
+    late = state.caps.late
+
+    at_most : (a b c : ℕ) → a ≤ b → b ≤ c → a ≤ c
+    at_most a b c first second = omega arith
+
     silent : packet_fault 65504 packet ≡ None
     silent = packet_silent packet lawful
 
@@ -109,29 +121,30 @@ submit_fits caller state packet few small lawful =
     most : state.caps.blocks ≤ 1048576
     most = small.sound.caps.blocks.below
 
-    go : (units : List TimedUnit) → length units ≤ 65504 → blocks_of units ≤ 65508
-        → IsRecordable caller (submit packet)
-        (cond (nat_lt (free_places state) (length units)) (leaves state (units_full (record { need = length units; free = free_places state })))
-        (cond (nat_lt (free_blocks state) (blocks_of units)) (leaves state (pool_full (record { need = blocks_of units; free = free_blocks state })))
-        (leaves (after_submit state units) (queued state.next_unit (length units))))).answer
-    go units count size = cases (nat_lt (free_places state) (length units)) refl (nat_lt (free_blocks state) (blocks_of units)) refl where
-      cases : (t : Bool) → nat_lt (free_places state) (length units) ≡ t → (u : Bool) → nat_lt (free_blocks state) (blocks_of units) ≡ u
-          → IsRecordable caller (submit packet) (cond t (leaves state (units_full (record { need = length units; free = free_places state })))
-          (cond u (leaves state (pool_full (record { need = blocks_of units; free = free_blocks state })))
-          (leaves (after_submit state units) (queued state.next_unit (length units))))).answer
+    go : (units keeps : List TimedUnit) → length units ≤ 65504 → length keeps ≤ length units → blocks_of keeps ≤ 65508
+        → IsRecordable caller (submit packet) (submit_kept state units keeps).answer
+    go units keeps count fewer size = cases (nat_lt (free_places state) (length keeps)) refl (nat_lt (free_blocks state) (blocks_of keeps)) refl where
+      cases : (t : Bool) → nat_lt (free_places state) (length keeps) ≡ t → (u : Bool) → nat_lt (free_blocks state) (blocks_of keeps) ≡ u
+          → IsRecordable caller (submit packet) (cond t (leaves state (units_full (record { need = length keeps; free = free_places state })))
+          (cond u (leaves state (pool_full (record { need = blocks_of keeps; free = free_blocks state })))
+          (leaves (after_submit state units) (queued state.next_unit (length units) (length units - length keeps))))).answer
       cases true is u fits =
           record {
-            fits = submit_row_fits caller packet 1 (length units) (free_places state) few short (omega arith) (omega arith) (omega arith);
+            fits = submit_row_fits caller packet 1 (length keeps) (free_places state) 0 few short (omega arith) (omega arith) (omega arith) (omega arith);
             sound = ltb-true _ _ is;
           }
       cases false is true fits =
           record {
-            fits = submit_row_fits caller packet 2 (blocks_of units) (free_blocks state) few short (omega arith) (omega arith) (omega arith);
+            fits = submit_row_fits caller packet 2 (blocks_of keeps) (free_blocks state) 0 few short (omega arith) (omega arith) (omega arith) (omega arith);
             sound = ltb-true _ _ fits;
           }
       cases false is false fits =
           let units_given = (given state small).units in
-          record { fits = submit_row_fits caller packet 0 state.next_unit (length units) few short (omega arith) (omega arith) (omega arith); sound = tt }
+          record {
+            fits = submit_row_fits caller packet 0 state.next_unit (length units) (length units - length keeps) few short (omega arith) (omega arith) (omega arith)
+                (omega arith);
+            sound = omega arith;
+          }
 
 -- The answers to an address.
 

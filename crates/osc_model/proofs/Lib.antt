@@ -2,6 +2,7 @@ pub mod Stepping
 pub mod Refusals
 pub mod Counted
 pub mod Queues
+pub mod Needs
 pub mod Registries
 pub mod Soundness
 pub mod Calls

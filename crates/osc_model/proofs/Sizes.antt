@@ -38,7 +38,7 @@ release_size caller unit hits =
 abbrev pub text_in : Option Row → List ℕ
 text_in o = option_map_or (λ row. sized (row_text row)) o []
 
-pub header_size : (limits : Limits) → length (header_text limits) ≡ 56
+pub header_size : (limits : Limits) → length (header_text limits) ≡ 60
 header_size limits = refl
 
 pub sizes_are : (caller : ℕ) (event : Event) (answer : Answer) → FitsRow (row_of caller event answer)
@@ -48,12 +48,12 @@ sizes_are caller enrol answer fits = go (enrolled answer) fits where
   go None f = absurd f
   go (Some z) f = refl
 sizes_are caller (submit packet) answer fits = go (submitted answer) fits where
-  go : (o : Option (ℕ × ℕ × ℕ)) → FitsRow (option_map (submit_row caller packet) o)
-      → length (text_in (option_map (submit_row caller packet) o)) ≡ 48 + (length packet + blob_end (length packet))
+  go : (o : Option (ℕ × ℕ × ℕ × ℕ)) → FitsRow (option_map (submit_row caller packet) o)
+      → length (text_in (option_map (submit_row caller packet) o)) ≡ 52 + (length packet + blob_end (length packet))
   go None f = absurd f
   go (Some t) f =
       let zeros : List ℕ = replicate (blob_end (length packet)) 0 in
-      let tail : List ℕ = word t.0 ++ (tag t.1 ++ (word t.2 ++ [])) in
+      let tail : List ℕ = word t.0 ++ (tag t.1 ++ (word t.2 ++ (word t.3 ++ []))) in
       omega (arith, length-append (packet ++ zeros) tail, length-append packet zeros, length-replicate {A = ℕ} (blob_end (length packet)) 0)
 sizes_are caller (add address) answer fits = go (adding answer) fits where
   go : (o : Option (ℕ × ℕ × ℕ)) → FitsRow (option_map (add_row caller address) o)

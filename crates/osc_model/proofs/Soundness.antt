@@ -19,10 +19,10 @@ use Rattle.osc_model.specs.Counts.{queued_blocks, free_places, free_blocks}
 use Rattle.osc_model.specs.Recordings.{entry_size}
 use Rattle.osc_model.specs.Events.{Event, enrol, submit, add, remove, tick, release, units_full, pool_full, queued, number, callers_full, ticked, clock_back}
 use Rattle.osc_model.specs.Events.{nothing_due, Entry}
-use Rattle.osc_model.specs.Step.{step, decided, leaves, numbered, after_submit, add_at, remove_at, releases, release_first}
+use Rattle.osc_model.specs.Step.{step, decided, leaves, kept_units, kept_numbered, submit_kept, after_submit, add_at, remove_at, releases, release_first}
 use Rattle.osc_model.specs.History.{IsLawful, LegalFrom, Legal, IsSound, after}
 use Rattle.osc_model.proofs.Stepping.{step_so}
-use Rattle.osc_model.proofs.Queues.{all_counted, numbered_length, all_blocks, all_ordered, all_numbered}
+use Rattle.osc_model.proofs.Queues.{all_counted, kept_length, all_blocks, all_ordered, all_numbered}
 use Rattle.osc_model.proofs.Registries.{AddsNodes, without_lawful}
 
 -- an address that can be added, with a new id, leaves methods as lawful as they were
@@ -115,38 +115,42 @@ enrolled state sound = go (state.callers == state.caps.callers) refl where
   go true e = sound
   go false e = let few = sound.callers in with_callers state (state.callers + 1) sound (omega arith, grind (arith, nat_tests))
 
-submitted : (state : State) (units : List TimedUnit) → IsSound state → nat_lt (free_places state) (length units) ≡ false
-    → nat_lt (free_blocks state) (blocks_of units) ≡ false → IsSound (after_submit state units)
+submitted : (state : State) (units : List TimedUnit) → IsSound state → nat_lt (free_places state) (length (kept_units state units)) ≡ false
+    → nat_lt (free_blocks state) (blocks_of (kept_units state units)) ≡ false → IsSound (after_submit state units)
 submitted state units sound places room =
+    let late = state.caps.late in
     let few_units = sound.few_units in
     let few_blocks = sound.few_blocks in
-    let fit : length units ≤ state.caps.units - length state.queue = ltb-false _ _ places in
-    let hold : blocks_of units ≤ state.caps.blocks - queued_blocks state.queue = ltb-false _ _ room in
+    let fit : length (kept_units state units) ≤ state.caps.units - length state.queue = ltb-false _ _ places in
+    let hold : blocks_of (kept_units state units) ≤ state.caps.blocks - queued_blocks state.queue = ltb-false _ _ room in
     record {
       caps = sound.caps;
       methods = sound.methods;
       ids = sound.ids;
-      ordered = all_ordered state.clock state.next_unit units state.queue sound.numbers sound.ordered;
-      numbers = all_numbered state.clock state.next_unit units state.queue sound.numbers;
-      few_units = omega (arith, all_counted (numbered state.clock state.next_unit units) state.queue, numbered_length state.clock state.next_unit units);
-      few_blocks = omega (arith, all_blocks state.clock state.next_unit units state.queue);
+      ordered = all_ordered late state.clock state.next_unit units state.queue sound.numbers sound.ordered;
+      numbers = all_numbered late state.clock state.next_unit units state.queue sound.numbers;
+      few_units = omega (
+        arith,
+        all_counted (kept_numbered late state.clock state.next_unit units) state.queue,
+        kept_length late state.clock state.next_unit units,
+      );
+      few_blocks = omega (arith, all_blocks late state.clock state.next_unit units state.queue);
       callers = sound.callers;
     }
 
 submits : (state : State) (packet : List ℕ) → IsSound state → IsSound (decided state (submit packet)).state
-submits state packet sound = go (units_read packet) where
-  go : (units : List TimedUnit)
-      → IsSound (cond (nat_lt (free_places state) (length units)) (leaves state (units_full (record { need = length units; free = free_places state })))
-      (cond (nat_lt (free_blocks state) (blocks_of units)) (leaves state (pool_full (record { need = blocks_of units; free = free_blocks state })))
-      (leaves (after_submit state units) (queued state.next_unit (length units))))).state
-  go units = cases (nat_lt (free_places state) (length units)) refl (nat_lt (free_blocks state) (blocks_of units)) refl where
-    cases : (t : Bool) → nat_lt (free_places state) (length units) ≡ t → (u : Bool) → nat_lt (free_blocks state) (blocks_of units) ≡ u
-        → IsSound (cond t (leaves state (units_full (record { need = length units; free = free_places state })))
-        (cond u (leaves state (pool_full (record { need = blocks_of units; free = free_blocks state })))
-        (leaves (after_submit state units) (queued state.next_unit (length units))))).state
+submits state packet sound = go (units_read packet) (kept_units state (units_read packet)) (submitted state (units_read packet) sound) where
+  go : (units keeps : List TimedUnit)
+      → (nat_lt (free_places state) (length keeps) ≡ false → nat_lt (free_blocks state) (blocks_of keeps) ≡ false → IsSound (after_submit state units))
+      → IsSound (submit_kept state units keeps).state
+  go units keeps fit = cases (nat_lt (free_places state) (length keeps)) refl (nat_lt (free_blocks state) (blocks_of keeps)) refl where
+    cases : (t : Bool) → nat_lt (free_places state) (length keeps) ≡ t → (u : Bool) → nat_lt (free_blocks state) (blocks_of keeps) ≡ u
+        → IsSound (cond t (leaves state (units_full (record { need = length keeps; free = free_places state })))
+        (cond u (leaves state (pool_full (record { need = blocks_of keeps; free = free_blocks state })))
+        (leaves (after_submit state units) (queued state.next_unit (length units) (length units - length keeps))))).state
     cases true e u f = sound
     cases false e true f = sound
-    cases false e false f = submitted state units sound e f
+    cases false e false f = fit e f
 
 pub new_id : (next : ℕ) (methods : List Method) → All (λ method. method.id < next) methods → IsNewId methods next
 new_id next methods given = All-weaker (λ method. method.id < next) (λ method. method.id ≢ next) (λ method. differs method.id) methods given where

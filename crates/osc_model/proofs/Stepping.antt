@@ -1,5 +1,5 @@
 -- How a step goes: an event is decided, and its entry is recorded where there is room for it.
-use Rattle.std.proofs.Common.{◌≡◌, ℕ, ◌+◌, ◌<◌, ◌≤◌, ◌==◌, Bool, true, false, cond, nat_le, nat_lt, List, [], ◌∷◌, length, Option, Some, None, refl}
+use Rattle.std.proofs.Common.{◌≡◌, ℕ, ◌+◌, ◌-◌, ◌<◌, ◌≤◌, ◌==◌, Bool, true, false, cond, nat_le, nat_lt, List, [], ◌∷◌, length, Option, Some, None, refl}
 use Rattle.std.proofs.lemmas.Bool.{ltb-true, ltb-false}
 use Rattle.osc_packet.specs.Units.{TimedUnit, blocks_of}
 use Rattle.osc_packet.specs.Reading.{units_read}
@@ -12,7 +12,7 @@ use Rattle.osc_model.specs.Recordings.{entry_size}
 use Rattle.osc_model.specs.Events.{Event, enrol, submit, add, remove, tick, release, Answer, number, callers_full, queued, units_full, pool_full, refused}
 use Rattle.osc_model.specs.Events.{not_there, ticked, clock_back, nothing_due, record_full, adds_entry}
 use Rattle.osc_model.specs.Refusals.{IsRefusal}
-use Rattle.osc_model.specs.Step.{Stepped, step, decided, leaves, after_submit, add_at, remove_at, releases, release_first}
+use Rattle.osc_model.specs.Step.{Stepped, step, decided, leaves, kept_units, late_count, submit_kept, after_submit, add_at, remove_at, releases, release_first}
 
 -- there is no room for an entry of so many bytes
 abbrev pub no_room : State → ℕ → Stepped
@@ -45,7 +45,9 @@ step_so Q state event lifts = recorded_so Q state (entry_size event (decided sta
 pub record Decides (Q : Event → Stepped → Type 0) (state : State) : Type 0 where
   pub refused : (event : Event) (answer : Answer) → IsRefusal answer → Q event (leaves state answer)
   pub enrolled : Q enrol (leaves (record state { callers = state.callers + 1 }) (number state.callers))
-  pub queued : (packet : List ℕ) → Q (submit packet) (leaves (after_submit state (units_read packet)) (queued state.next_unit (length (units_read packet))))
+  pub queued : (packet : List ℕ)
+      → Q (submit packet)
+      (leaves (after_submit state (units_read packet)) (queued state.next_unit (length (units_read packet)) (late_count state (units_read packet))))
   pub added : (address : List ℕ) → Q (add address) (add_at state address None)
   pub removed : (address : List ℕ) (id : ℕ) → Q (remove address) (remove_at state address (Some id))
   pub ticked : (now : ℕ) → state.clock ≤ now → Q (tick now) (leaves (record state { clock = now }) ticked)
@@ -56,18 +58,16 @@ decided_so Q state enrol decides = go (state.callers == state.caps.callers) wher
   go : (t : Bool) → Q enrol (cond t (leaves state callers_full) (leaves (record state { callers = state.callers + 1 }) (number state.callers)))
   go true = decides.refused enrol callers_full tt
   go false = decides.enrolled
-decided_so Q state (submit packet) decides = go (units_read packet) (decides.queued packet) where
-  go : (units : List TimedUnit) → Q (submit packet) (leaves (after_submit state units) (queued state.next_unit (length units)))
-      → Q (submit packet)
-      (cond (nat_lt (free_places state) (length units)) (leaves state (units_full (record { need = length units; free = free_places state })))
-      (cond (nat_lt (free_blocks state) (blocks_of units)) (leaves state (pool_full (record { need = blocks_of units; free = free_blocks state })))
-      (leaves (after_submit state units) (queued state.next_unit (length units)))))
-  go units holds = cases (nat_lt (free_places state) (length units)) (nat_lt (free_blocks state) (blocks_of units)) where
-    cases : (t u : Bool) → Q (submit packet) (cond t (leaves state (units_full (record { need = length units; free = free_places state })))
-        (cond u (leaves state (pool_full (record { need = blocks_of units; free = free_blocks state })))
-        (leaves (after_submit state units) (queued state.next_unit (length units)))))
-    cases true u = decides.refused (submit packet) (units_full (record { need = length units; free = free_places state })) tt
-    cases false true = decides.refused (submit packet) (pool_full (record { need = blocks_of units; free = free_blocks state })) tt
+decided_so Q state (submit packet) decides = go (units_read packet) (kept_units state (units_read packet)) (decides.queued packet) where
+  go : (units keeps : List TimedUnit)
+      → Q (submit packet) (leaves (after_submit state units) (queued state.next_unit (length units) (length units - length keeps)))
+      → Q (submit packet) (submit_kept state units keeps)
+  go units keeps holds = cases (nat_lt (free_places state) (length keeps)) (nat_lt (free_blocks state) (blocks_of keeps)) where
+    cases : (t u : Bool) → Q (submit packet) (cond t (leaves state (units_full (record { need = length keeps; free = free_places state })))
+        (cond u (leaves state (pool_full (record { need = blocks_of keeps; free = free_blocks state })))
+        (leaves (after_submit state units) (queued state.next_unit (length units) (length units - length keeps)))))
+    cases true u = decides.refused (submit packet) (units_full (record { need = length keeps; free = free_places state })) tt
+    cases false true = decides.refused (submit packet) (pool_full (record { need = blocks_of keeps; free = free_blocks state })) tt
     cases false false = holds
 decided_so Q state (add address) decides = go (add_refusal (registry state) address) where
   go : (refusal : Option Refusal) → Q (add address) (add_at state address refusal)

@@ -25,7 +25,7 @@ pub record Hit : Type 0 where
 pub data Answer : Type 0 where
   number : ℕ → Answer
   callers_full : Answer
-  queued : ℕ → ℕ → Answer  -- the first unit's number, and how many
+  queued : ℕ → ℕ → ℕ → Answer  -- the first unit's number, how many, and how many late ones are dropped
   units_full : Room → Answer
   pool_full : Room → Answer
   added : ℕ → Answer

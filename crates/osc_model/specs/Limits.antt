@@ -1,9 +1,10 @@
--- The limits of a server's tables and of its recording.
+-- The limits of a server's tables and of its recording, and what becomes of late units.
 use Rattle.std.specs.Prelude.{ℕ, ◌≤◌, Bool, ◌&&◌, nat_le, if◌then◌else◌, Option, Some, None}
+use Rattle.osc_model.specs.declared.late.Late.{Late}
 
 -- queued units, blocks of 64 bytes for their messages, methods, nodes of the methods' addresses,
 -- callers, and the bytes
--- of the recording
+-- of the recording; and what becomes of late units
 pub record Limits : Type 0 where
   pub units : ℕ
   pub blocks : ℕ
@@ -11,16 +12,18 @@ pub record Limits : Type 0 where
   pub nodes : ℕ
   pub callers : ℕ
   pub recording : ℕ
+  pub late : Late
 
--- the six limits, in this order
-abbrev pub limits_of : ℕ → ℕ → ℕ → ℕ → ℕ → ℕ → Limits
-limits_of units blocks methods nodes callers recording = record {
+-- the six limits and the policy, in this order
+abbrev pub limits_of : ℕ → ℕ → ℕ → ℕ → ℕ → ℕ → Late → Limits
+limits_of units blocks methods nodes callers recording late = record {
   units = units;
   blocks = blocks;
   methods = methods;
   nodes = nodes;
   callers = callers;
   recording = recording;
+  late = late;
 }
 
 -- the most queued units, blocks or nodes
@@ -37,7 +40,7 @@ max_callers = 1024
 
 -- how many bytes the header of a recording has
 abbrev pub header_size : ℕ
-header_size = 56
+header_size = 60
 
 -- the most bytes of a recording
 abbrev pub max_recording : ℕ

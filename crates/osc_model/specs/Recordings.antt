@@ -1,6 +1,6 @@
 -- A recording, written: the messages that stand for its header and its entries, each after its
 -- size.
-use Rattle.std.specs.Prelude.{ℕ, ◌+◌, ◌*◌, ◌<◌, ◌^◌, ℤ, pos, negsuc, List, [], ◌∷◌, ◌++◌, length}
+use Rattle.std.specs.Prelude.{ℕ, ◌+◌, ◌*◌, ◌<◌, ◌≤◌, ◌^◌, ℤ, pos, negsuc, List, [], ◌∷◌, ◌++◌, length}
 use Rattle.std.specs.Prelude.{codes, Option, Some, None, option_map}
 use Rattle.std.specs.List.{flat_map, AllByRecursion}
 use Rattle.std.specs.Option.{option_map_or}
@@ -14,6 +14,8 @@ use Rattle.osc_model.specs.Events.{added, refused, removed, not_there, ticked, c
 use Rattle.osc_tree.specs.Adding.{Refusal, taken, under_method, is_container, methods_full}
 use Rattle.osc_tree.specs.Adding.{nodes_full}
 use Rattle.osc_model.specs.Limits.{Limits}
+use Rattle.osc_model.specs.declared.late.Late.{Late}
+use Rattle.osc_model.specs.declared.late.Late.TheVariants.{Deliver, Discard}
 
 -- a message of the recording: its address, and its arguments, each under its tag
 pub record Row : Type 0 where
@@ -24,12 +26,17 @@ pub record Row : Type 0 where
 abbrev pub int : ℕ → Argument
 int n = integer (pos n)
 
--- the version, and the six limits
+-- the number that stands for what becomes of late units
+abbrev pub late_code : Late → ℕ
+late_code Deliver = 0
+late_code Discard = 1
+
+-- the version, the six limits, and what becomes of late units
 abbrev pub header_row : Limits → Row
 header_row limits = record {
   address = codes "/osc/rec";
-  arguments = int 1 ∷ int limits.units ∷ int limits.blocks ∷ int limits.methods ∷ int limits.nodes
-      ∷ int limits.callers ∷ int limits.recording ∷ [];
+  arguments = int 2 ∷ int limits.units ∷ int limits.blocks ∷ int limits.methods ∷ int limits.nodes
+      ∷ int limits.callers ∷ int limits.recording ∷ int (late_code limits.late) ∷ [];
 }
 
 -- the number that an enrolling caller is answered, -1 where callers are full
@@ -38,11 +45,11 @@ enrolled (number n) = Some (pos n)
 enrolled callers_full = Some (negsuc 0)
 enrolled _ = None
 
--- the code and two numbers that a submitting caller is answered
-abbrev pub submitted : Answer → Option (ℕ × ℕ × ℕ)
-submitted (queued first count) = Some (0, first, count)
-submitted (units_full room) = Some (1, room.need, room.free)
-submitted (pool_full room) = Some (2, room.need, room.free)
+-- the code and three numbers that a submitting caller is answered
+abbrev pub submitted : Answer → Option (ℕ × ℕ × ℕ × ℕ)
+submitted (queued first count late) = Some (0, first, count, late)
+submitted (units_full room) = Some (1, room.need, room.free, 0)
+submitted (pool_full room) = Some (2, room.need, room.free, 0)
 submitted _ = None
 
 -- why an address isn't added
@@ -97,10 +104,11 @@ abbrev pub enrol_row : ℕ → ℤ → Row
 enrol_row caller answer =
     record { address = codes "/osc/enrol"; arguments = int caller ∷ integer answer ∷ [] }
 
-abbrev pub submit_row : ℕ → List ℕ → ℕ × ℕ × ℕ → Row
+abbrev pub submit_row : ℕ → List ℕ → ℕ × ℕ × ℕ × ℕ → Row
 submit_row caller packet answer = record {
   address = codes "/osc/submit";
-  arguments = int caller ∷ content packet ∷ int answer.0 ∷ long (pos answer.1) ∷ int answer.2 ∷ [];
+  arguments = int caller ∷ content packet ∷ int answer.0 ∷ long (pos answer.1) ∷ int answer.2
+      ∷ int answer.3 ∷ [];
 }
 
 abbrev pub add_row : ℕ → List ℕ → ℕ × ℕ × ℕ → Row
@@ -165,8 +173,9 @@ pub record IsHit (hit : Hit) : Type 0 where
   pub index_fits : hit.index < 2 ^ 32
   pub id_fits : hit.id < 2 ^ 32
 
--- more is needed than is free, and hits are words
+-- more is needed than is free, no more units are late than there are, and hits are words
 abbrev pub IsSound : Answer → Type 0
+IsSound (queued first count late) = late ≤ count
 IsSound (units_full room) = room.free < room.need
 IsSound (pool_full room) = room.free < room.need
 IsSound (refused (nodes_full need free)) = free < need
@@ -187,7 +196,7 @@ pub record IsRecordable (caller : ℕ) (event : Event) (answer : Answer) : Type 
 -- how many bytes an entry has
 abbrev pub entry_size : Event → Answer → ℕ
 entry_size enrol answer = 28
-entry_size (submit packet) answer = 48 + (length packet + blob_end (length packet))
+entry_size (submit packet) answer = 52 + (length packet + blob_end (length packet))
 entry_size (add address) answer = 40 + length (string address)
 entry_size (remove address) answer = 36 + length (string address)
 entry_size (tick moment) answer = 48

@@ -1,6 +1,9 @@
 -- The rules of the server: what an event is answered, and what it leaves.
-use Rattle.std.specs.Prelude.{ℕ, ◌+◌, ◌==◌, max, nat_le, nat_lt, if◌then◌else◌, List, [], ◌∷◌, ◌++◌}
-use Rattle.std.specs.Prelude.{length, map, Option, Some, None, is_some}
+use Rattle.std.specs.Prelude.{ℕ, ◌+◌, ◌-◌, ◌==◌, Bool, true, ◌&&◌, not, max, nat_le, nat_lt}
+use Rattle.std.specs.Prelude.{if◌then◌else◌, List, [], ◌∷◌, ◌++◌, length, map, filter, Option, Some}
+use Rattle.std.specs.Prelude.{None, is_some}
+use Rattle.osc_model.specs.declared.late.Late.{Late}
+use Rattle.osc_model.specs.declared.late.Late.TheVariants.{Deliver, Discard}
 use Rattle.osc_pattern.specs.Methods.{Method}
 use Rattle.osc_message.specs.Reading.{pattern_of}
 use Rattle.osc_message.specs.Arguments.{unknown_of}
@@ -44,27 +47,59 @@ abbrev pub numbered : ℕ → ℕ → List TimedUnit → List Queued
 numbered clock next [] = []
 numbered clock next (unit ∷ units) = waiting clock next unit ∷ numbered clock (next + 1) units
 
+-- a unit is late at a clock where its effective tag isn't 1 and is below that clock
+abbrev pub is_late : ℕ → TimedUnit → Bool
+is_late clock unit = not (unit.tag == 1) && nat_lt unit.tag clock
+
+-- whether a unit is kept: each is where late ones are delivered, else each that isn't late
+abbrev pub is_kept : Late → ℕ → TimedUnit → Bool
+is_kept Deliver clock unit = true
+is_kept Discard clock unit = not (is_late clock unit)
+
+-- the units that are kept
+abbrev pub kept : Late → ℕ → List TimedUnit → List TimedUnit
+kept late clock units = filter (is_kept late clock) units
+
+-- those of them, each under its number, which is counted over all units
+abbrev pub kept_numbered : Late → ℕ → ℕ → List TimedUnit → List Queued
+kept_numbered late clock next units =
+    filter (λ item. is_kept late clock item.2) (numbered clock next units)
+
+-- the units of a packet that are kept in a state
+abbrev pub kept_units : State → List TimedUnit → List TimedUnit
+kept_units state units = kept state.caps.late state.clock units
+
+-- how many of them are not
+abbrev pub late_count : State → List TimedUnit → ℕ
+late_count state units = length units - length (kept_units state units)
+
 -- units enter the queue one after another
 abbrev pub enter_all : List Queued → List Queued → List Queued
 enter_all [] queue = queue
 enter_all (unit ∷ units) queue = enter_all units (enter unit queue)
 
--- the units enter the queue under the next numbers
+-- all units take the next numbers, and those that are kept enter the queue
 abbrev pub after_submit : State → List TimedUnit → State
 after_submit state units =
     record state {
-      queue = enter_all (numbered state.clock state.next_unit units) state.queue;
+      queue = enter_all (kept_numbered state.caps.late state.clock state.next_unit units)
+          state.queue;
       next_unit = state.next_unit + length units;
     }
 
--- units are queued where there is a place for each of them, and blocks for all their messages
+-- where there is a place for each unit that is kept, and blocks for all their messages, they are
+-- queued
+abbrev pub submit_kept : State → List TimedUnit → List TimedUnit → Stepped
+submit_kept state units keeps =
+    if nat_lt (free_places state) (length keeps)
+    then leaves state (units_full (record { need = length keeps; free = free_places state }))
+    else (if nat_lt (free_blocks state) (blocks_of keeps)
+    then leaves state (pool_full (record { need = blocks_of keeps; free = free_blocks state }))
+    else leaves (after_submit state units)
+    (queued state.next_unit (length units) (length units - length keeps)))
+
 abbrev pub submit_units : State → List TimedUnit → Stepped
-submit_units state units =
-    if nat_lt (free_places state) (length units)
-    then leaves state (units_full (record { need = length units; free = free_places state }))
-    else (if nat_lt (free_blocks state) (blocks_of units)
-    then leaves state (pool_full (record { need = blocks_of units; free = free_blocks state }))
-    else leaves (after_submit state units) (queued state.next_unit (length units)))
+submit_units state units = submit_kept state units (kept_units state units)
 
 -- a method that is added stands last, under the next id
 abbrev pub add_at : State → List ℕ → Option Refusal → Stepped

@@ -21,10 +21,13 @@ ghost use Rattle.osc_model.specs.Events.{removed, record_full, adds_entry, numbe
 ghost use Rattle.osc_model.specs.Events.{units_full, pool_full, ticked, clock_back, Invocation};
 ghost use Rattle.osc_model.specs.Events.{Entry};
 ghost use Rattle.osc_model.specs.Enrolled.{callers_in};
-ghost use Rattle.osc_model.specs.Step.{step, decided, leaves, waiting, numbered, enter_all};
+ghost use Rattle.osc_model.specs.Step.{step, decided, leaves, waiting, numbered, kept, kept_numbered};
+ghost use Rattle.osc_model.specs.Step.{late_count, enter_all};
+ghost use Rattle.osc_model.specs.declared.late.Late.{Late};
+ghost use Rattle.osc_model.specs.declared.late.Late.TheVariants.{Deliver, Discard};
 ghost use Rattle.osc_model.specs.Releases.{ReleasesLeast, InvokesRegistered};
 ghost use Rattle.osc_model.specs.Refusals.{IsRefusal};
-ghost use Rattle.osc_model.specs.Passing.{entering, leaving, all_entering, all_leaving, queued_in};
+ghost use Rattle.osc_model.specs.Passing.{entering, dropping, leaving, all_entering, all_leaving, queued_in};
 ghost use Rattle.osc_model.specs.Passing.{released_in};
 ghost use Rattle.osc_model.specs.Heard.{Told, reset, hear_all, all_hear, without_id, heard_of};
 ghost use Rattle.osc_model.specs.Heard.{calls_bytes, IsWithin};
@@ -51,13 +54,13 @@ pub fn a_server_stays_sound()
     trees::an_address_adds_its_new_nodes();
 }
 
-/// Units enter the queue each once, and none of those that waited is lost. Each takes its blocks.
+/// Units enter the queue each once, and none of those that waited is lost. Each that is kept takes its blocks.
 pub fn units_enter_the_queue()
     ensures joined { (units queue : List Queued)
         → IsPermutation (units ++ queue) (enter_all units queue) }
-    ensures blocks { (clock next : ℕ) (units : List TimedUnit) (queue : List Queued)
-        → queued_blocks (enter_all (numbered clock next units) queue)
-        ≡ blocks_of units + queued_blocks queue }
+    ensures blocks { (late : Late) (clock next : ℕ) (units : List TimedUnit) (queue : List Queued)
+        → queued_blocks (enter_all (kept_numbered late clock next units) queue)
+        ≡ blocks_of (kept late clock units) + queued_blocks queue }
 {}
 
 /// A number above those of all units is new. So units that enter under the next numbers keep the order, and their
@@ -68,12 +71,13 @@ pub fn units_keep_the_order()
         → IsInOrder queue → IsInOrder (enter (waiting clock next unit) queue) }
     ensures one_number { (clock next : ℕ) (unit : TimedUnit) (queue : List Queued)
         → AreNumbered next queue → AreNumbered (next + 1) (enter (waiting clock next unit) queue) }
-    ensures all { (clock next : ℕ) (units : List TimedUnit) (queue : List Queued)
+    ensures all { (late : Late) (clock next : ℕ) (units : List TimedUnit) (queue : List Queued)
         → AreNumbered next queue → IsInOrder queue
-        → IsInOrder (enter_all (numbered clock next units) queue) }
-    ensures all_numbers { (clock next : ℕ) (units : List TimedUnit) (queue : List Queued)
-        → AreNumbered next queue
-        → AreNumbered (next + length units) (enter_all (numbered clock next units) queue) }
+        → IsInOrder (enter_all (kept_numbered late clock next units) queue) }
+    ensures all_numbers { (late : Late) (clock next : ℕ) (units : List TimedUnit)
+        (queue : List Queued) → AreNumbered next queue
+        → AreNumbered (next + length units)
+        (enter_all (kept_numbered late clock next units) queue) }
 {}
 
 /// Each unit that enters is one more in the queue, and takes its blocks.
@@ -86,6 +90,21 @@ pub fn units_are_counted()
         → length (enter_all units queue) ≡ length units + length queue }
     ensures numbered { (clock next : ℕ) (units : List TimedUnit)
         → length (numbered clock next units) ≡ length units }
+    ensures kept { (late : Late) (clock next : ℕ) (units : List TimedUnit)
+        → length (kept_numbered late clock next units) ≡ length (kept late clock units) }
+    ensures few { (late : Late) (clock : ℕ) (units : List TimedUnit)
+        → length (kept late clock units) ≤ length units }
+    ensures few_blocks { (late : Late) (clock : ℕ) (units : List TimedUnit)
+        → blocks_of (kept late clock units) ≤ blocks_of units }
+{}
+
+/// Where late units are delivered, each unit is kept, under its number, and none is counted as late.
+pub fn all_are_delivered()
+    ensures kept { (clock : ℕ) (units : List TimedUnit) → kept Deliver clock units ≡ units }
+    ensures numbered { (clock next : ℕ) (units : List TimedUnit)
+        → kept_numbered Deliver clock next units ≡ numbered clock next units }
+    ensures none { (state : State) (units : List TimedUnit) → state.caps.late ≡ Deliver
+        → late_count state units ≡ 0 }
 {}
 
 /// Units that enter in two goes enter as in one.
@@ -95,6 +114,10 @@ pub fn units_enter_in_two_goes()
     ensures numbered { (clock next : ℕ) (first more : List TimedUnit)
         → numbered clock next (first ++ more)
         ≡ numbered clock next first ++ numbered clock (next + length first) more }
+    ensures kept { (late : Late) (clock next : ℕ) (first more : List TimedUnit)
+        → kept_numbered late clock next (first ++ more)
+        ≡ kept_numbered late clock next first
+        ++ kept_numbered late clock (next + length first) more }
 {}
 
 /// An address that isn't refused can be added. Where it is added under a new id, and where a method is removed, the
@@ -130,7 +153,8 @@ pub fn a_release_takes_the_least_unit()
 }
 
 /// No unit is lost, and none is released twice: those that waited and those that are queued are, each once, those that
-/// are released and those that wait then. The answers tell their numbers.
+/// are released and those that wait then. The answers tell their numbers: each that is given is once that of a unit that is
+/// queued, or of one that is dropped.
 pub fn no_unit_is_lost()
     ensures step { (state : State) (event : Event)
         → IsPermutation (state.queue ++ entering state event)
@@ -139,7 +163,9 @@ pub fn no_unit_is_lost()
         → IsPermutation (state.queue ++ all_entering state history)
         (all_leaving state history ++ (after state history).queue) }
     ensures entering { (state : State) (event : Event)
-        → map (λ unit. unit_of unit) (entering state event) ≡ queued_in (step state event).answer }
+        → IsPermutation (queued_in (step state event).answer)
+        (map (λ unit. unit_of unit) (entering state event)
+        ++ map (λ unit. unit_of unit) (dropping state event)) }
     ensures leaving { (state : State) (event : Event)
         → map (λ unit. unit_of unit) (leaving state event) ≡ released_in (step state event).answer }
 {}
@@ -328,24 +354,24 @@ pub fn callers_are_counted()
 /// message alone is queued where there is a place for it and blocks for its bytes, of which 64 take two.
 pub fn examples()
     ensures early { (step (opening
-        (record { units = 1; blocks = 1; methods = 1; nodes = 1; callers = 1; recording = 200 }))
+        (record { units = 1; blocks = 1; methods = 1; nodes = 1; callers = 1; recording = 200; late = Deliver }))
         (tick 0)).answer ≡ clock_back 1 }
     ensures on { (step (opening
-        (record { units = 1; blocks = 1; methods = 1; nodes = 1; callers = 1; recording = 200 }))
+        (record { units = 1; blocks = 1; methods = 1; nodes = 1; callers = 1; recording = 200; late = Deliver }))
         (tick 5)).answer ≡ ticked }
     ensures full { (step (opening
-        (record { units = 1; blocks = 1; methods = 1; nodes = 1; callers = 1; recording = 200 }))
+        (record { units = 1; blocks = 1; methods = 1; nodes = 1; callers = 1; recording = 200; late = Deliver }))
         enrol).answer ≡ callers_full }
     ensures no_place { (step (step (opening
-        (record { units = 1; blocks = 1; methods = 1; nodes = 1; callers = 1; recording = 200 }))
+        (record { units = 1; blocks = 1; methods = 1; nodes = 1; callers = 1; recording = 200; late = Deliver }))
         (submit (codes "/a" ++ 0 ∷ 0 ∷ []))).state (submit (codes "/a" ++ 0 ∷ 0 ∷ []))).answer
         ≡ units_full (record { need = 1; free = 0 }) }
     ensures no_block { (step (opening
-        (record { units = 1; blocks = 1; methods = 1; nodes = 1; callers = 1; recording = 200 }))
+        (record { units = 1; blocks = 1; methods = 1; nodes = 1; callers = 1; recording = 200; late = Deliver }))
         (submit (codes "/a" ++ 0 ∷ 0 ∷ codes ",b"
         ++ 0 ∷ 0 ∷ 0 ∷ 0 ∷ 0 ∷ 52 ∷ replicate 52 0))).answer
         ≡ pool_full (record { need = 2; free = 1 }) }
     ensures second { (step (opening
-        (record { units = 1; blocks = 1; methods = 1; nodes = 1; callers = 2; recording = 200 }))
+        (record { units = 1; blocks = 1; methods = 1; nodes = 1; callers = 2; recording = 200; late = Deliver }))
         enrol).answer ≡ number 1 }
 {}

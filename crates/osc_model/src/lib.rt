@@ -2,4 +2,9 @@
 //! boxed methods hear of them (docs/SERVER.md). The definitions stand in `specs/`; `laws` says what they come to.
 #![tactic(auto)]
 
+mod late;
 pub mod laws;
+mod need;
+
+pub use late::Late;
+pub use need::Need;

@@ -13,3 +13,4 @@ pub mod Whole
 pub mod Walks
 pub mod Entering
 pub mod Few
+pub mod Bundlings

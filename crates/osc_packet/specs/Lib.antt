@@ -5,6 +5,7 @@ pub mod Faults
 pub mod Wants
 pub mod Reading
 pub mod Contents
+pub mod Bundling
 -- Inside the crate.
 pub mod Known
 pub mod Walks

@@ -1,11 +1,12 @@
 //! What the definitions of packets say of each other. These functions do nothing; their contracts are the laws.
 ghost use Rattle.std.specs.Prelude.{◌≡◌, ◌<◌, ◌^◌, ◌↔◌, ℕ, List, [], ◌∷◌, ◌++◌, replicate, codes};
-ghost use Rattle.std.specs.Prelude.{Some, None};
+ghost use Rattle.std.specs.Prelude.{Some, None, map};
 ghost use Rattle.osc_atoms.specs.declared.fault.Fault.{Fault};
 ghost use Rattle.osc_atoms.specs.Atoms.{AreBytes};
-ghost use Rattle.osc_message.specs.Messages.{bare};
+ghost use Rattle.osc_message.specs.Messages.{Form, bare, message_text};
 ghost use Rattle.osc_packet.specs.Packets.{Packet, message, bundle, none, more, packet_text};
 ghost use Rattle.osc_packet.specs.Packets.{IsValid, IsPacket};
+ghost use Rattle.osc_packet.specs.Bundling.{bundled, elements_of};
 ghost use Rattle.osc_packet.specs.Units.{units_of, blocks};
 ghost use Rattle.osc_packet.specs.Wants.{FirstFault};
 ghost use Rattle.osc_packet.specs.Reading.{packet_fault, units_read};
@@ -52,6 +53,13 @@ pub fn units_are_read_again()
 {
     of_messages();
 }
+
+/// The bytes of a bundle in the making are the text of that bundle of its messages.
+pub fn a_bundle_is_written()
+    ensures { (own : ℕ) (forms : List Form)
+        → bundled (record { tag = own; messages = map message_text forms })
+        ≡ packet_text (bundle own (elements_of forms)) }
+{}
 
 /// A bundle of `/a`, a bundle of `/b`, and `/c`: its text, its units where the inner tag is 2 and where it is 1, and
 /// blocks at their edges.

@@ -4,6 +4,8 @@
 //! Packets", "OSC Bundles").
 #![tactic(auto)]
 
+mod bundle_fault;
+mod bundler;
 mod checking;
 mod content;
 pub mod laws;
@@ -14,6 +16,8 @@ mod unit_messages;
 mod units;
 mod walk;
 
+pub use bundle_fault::BundleFault;
+pub use bundler::Bundler;
 pub use limits::{BLOCK_SIZE, MAX_PACKET};
 pub use packet::Packet;
 pub use unit::Unit;

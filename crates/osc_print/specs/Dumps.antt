@@ -2,6 +2,8 @@
 use Rattle.std.specs.Prelude.{ℕ, ◌/◌, ◌^◌, List, [], ◌++◌, codes}
 use Rattle.std.specs.List.{flat_map}
 use Rattle.std.specs.Fmt.{decimal}
+use Rattle.osc_model.specs.declared.late.Late.{Late}
+use Rattle.osc_model.specs.declared.late.Late.TheVariants.{Deliver, Discard}
 use Rattle.osc_model.specs.Limits.{Limits, header_size}
 use Rattle.osc_model.specs.Events.{Event, tick, Entry}
 use Rattle.osc_record.specs.Reading.{Placed, placed_from}
@@ -10,12 +12,18 @@ use Rattle.osc_print.specs.Lines.{line}
 use Rattle.osc_print.specs.Entries.{entry_words}
 use Rattle.osc_print.specs.Dates.{date_text}
 
--- the version of the format, and the limits
+-- the word for what becomes of late units
+abbrev pub policy_word : Late → List ℕ
+policy_word Deliver = codes "deliver"
+policy_word Discard = codes "discard"
+
+-- the version of the format, the limits, and what becomes of late units
 abbrev pub limits_text : Limits → List ℕ
 limits_text limits =
-    line (codes "rec 1" ++ spaced (decimal limits.units) ++ spaced (decimal limits.blocks)
+    line (codes "rec 2" ++ spaced (decimal limits.units) ++ spaced (decimal limits.blocks)
     ++ spaced (decimal limits.methods) ++ spaced (decimal limits.nodes)
-    ++ spaced (decimal limits.callers) ++ spaced (decimal limits.recording))
+    ++ spaced (decimal limits.callers) ++ spaced (decimal limits.recording)
+    ++ spaced (policy_word limits.late))
 
 -- behind a tick the date of its moment's seconds
 abbrev pub date_behind : Event → List ℕ

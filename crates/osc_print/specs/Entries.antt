@@ -1,5 +1,5 @@
 -- The printed lines of entries and of invocations.
-use Rattle.std.specs.Prelude.{ℕ, List, [], ◌++◌, length, codes}
+use Rattle.std.specs.Prelude.{ℕ, ◌==◌, if◌then◌else◌, List, [], ◌++◌, length, codes}
 use Rattle.std.specs.Fmt.{decimal}
 use Rattle.hex.specs.Hex.{encode_lower}
 use Rattle.osc_atoms.specs.Atoms.{tag}
@@ -20,6 +20,10 @@ named word value = word ++ spaced (decimal value)
 abbrev pub named_room : List ℕ → ℕ → ℕ → List ℕ
 named_room word need free = word ++ (spaced (decimal need) ++ spaced (decimal free))
 
+-- behind a packet that is queued, how many of its units are dropped, where some are
+abbrev pub late_words : ℕ → List ℕ
+late_words late = if late == 0 then [] else spaced (named (codes "late") late)
+
 -- a moment, in 16 digits
 abbrev pub moment_word : ℕ → List ℕ
 moment_word moment = encode_lower (tag moment)
@@ -36,7 +40,8 @@ refusal_words (nodes_full need free) = named_room (codes "nodes-full") need free
 abbrev pub answer_words : Answer → List ℕ
 answer_words (number caller) = decimal caller
 answer_words callers_full = codes "full"
-answer_words (queued first count) = named_room (codes "queued") first count
+answer_words (queued first count late) =
+    named_room (codes "queued") first count ++ late_words late
 answer_words (units_full room) = named_room (codes "units-full") room.need room.free
 answer_words (pool_full room) = named_room (codes "pool-full") room.need room.free
 answer_words (added id) = named (codes "id") id

@@ -39,3 +39,11 @@ abbrev pub link_fault_text : ℕ → ℕ → Fault → List ℕ
 link_fault_text link number fault =
     line (codes "fault" ++ spaced (datagram_words link number) ++ spaced (decimal fault.kind)
     ++ spaced (decimal fault.at))
+
+-- the first line of a list of methods: after how many edits it stands
+abbrev pub list_text : ℕ → List ℕ
+list_text edits = line (codes "list" ++ spaced (decimal edits))
+
+-- the line of a method in it
+abbrev pub method_text : ℕ → List ℕ → List ℕ
+method_text id address = line (codes "method" ++ spaced (decimal id) ++ spaced address)

@@ -2,16 +2,16 @@
 ghost use Rattle.std.specs.Prelude.{◌≡◌, ◌++◌, OnOk, OnErr};
 ghost use Rattle.osc_record.specs.Left.{placed_of};
 ghost use Rattle.osc_record.specs.Shown.{event_of};
-ghost use Rattle.osc_print.specs.Words.{BeginsWith};
-ghost use Rattle.osc_print.specs.Dumps.{limits_text, placed_text, date_behind};
+ghost use Rattle.osc_print.specs.Words.{spaced, BeginsWith};
+ghost use Rattle.osc_print.specs.Dumps.{policy_word, limits_text, placed_text, date_behind};
 
 use crate::Text;
 use crate::date::date_text;
-use osc_record::{Caps, Entry, Event};
+use osc_record::{Caps, Entry, Event, Late};
 use std::alloc::AllocError;
 
-/// Adds the first line of a dump: the version of the format, and the limits of the recording (docs/FORMATS.md,
-/// "Dumps"). An `Err` is want of memory.
+/// Adds the first line of a dump: the version of the format, the limits of the recording, and what becomes of late
+/// units (docs/FORMATS.md, "Dumps"). An `Err` is want of memory.
 pub fn header_line(text: &mut Text, caps: &Caps) -> Result<(), AllocError>
     ensures ok { OnOk result (text.new ≡ text.old ++ limits_text caps.now) }
     ensures err { OnErr result (text.new ≡ text.old) }
@@ -37,14 +37,26 @@ impl Text {
         ensures ok { OnOk result (self.new ≡ self.old ++ limits_text caps.now) }
         ensures err { OnErr result (BeginsWith self.new self.old) }
     {
-        self.word(b"rec 1")?;
+        self.word(b"rec 2")?;
         self.space_number(u64::from(caps.units()))?;
         self.space_number(u64::from(caps.blocks()))?;
         self.space_number(u64::from(caps.methods()))?;
         self.space_number(u64::from(caps.nodes()))?;
         self.space_number(u64::from(caps.callers()))?;
         self.space_number(u64::from(caps.recording()))?;
+        self.space_policy(caps.late())?;
         self.end_line()
+    }
+
+    /// Adds the word for what becomes of late units.
+    fn space_policy(&mut self, late: Late) -> Result<(), AllocError>
+        ensures ok { OnOk result (self.new ≡ self.old ++ spaced (policy_word late)) }
+        ensures err { OnErr result (BeginsWith self.new self.old) }
+    {
+        match late {
+            Late::Deliver => self.space_word(b"deliver"),
+            Late::Discard => self.space_word(b"discard"),
+        }
     }
 
     fn placed_words(&mut self, entry: &Entry<'_>) -> Result<(), AllocError>

@@ -1,11 +1,11 @@
 // The line of an entry.
 ghost use Rattle.std.specs.Prelude.{◌≡◌, ◌++◌, length, OnOk, OnErr};
-ghost use Rattle.osc_model.specs.Events.{tick, clock_back, released};
+ghost use Rattle.osc_model.specs.Events.{tick, queued, clock_back, released};
 ghost use Rattle.osc_model.specs.Recordings.{hits_in};
 ghost use Rattle.osc_record.specs.Shown.{event_of, answer_of};
 ghost use Rattle.osc_record.specs.Left.{placed_of};
 ghost use Rattle.osc_print.specs.Words.{spaced, BeginsWith};
-ghost use Rattle.osc_print.specs.Entries.{named, named_room, moment_word, event_words};
+ghost use Rattle.osc_print.specs.Entries.{named, named_room, late_words, moment_word, event_words};
 ghost use Rattle.osc_print.specs.Entries.{answer_words, entry_words, event_line};
 
 use crate::Text;
@@ -65,7 +65,7 @@ impl Text {
         match answer {
             Answer::Number(number) => self.space_number(u64::from(number)),
             Answer::CallersFull => self.space_word(b"full"),
-            Answer::Queued { first, count } => self.space_pair(b"queued", first, u64::from(count)),
+            Answer::Queued { first, count, late } => self.space_queued(first, count, late),
             Answer::UnitsFull(room) => self.space_room(b"units-full", room),
             Answer::PoolFull(room) => self.space_room(b"pool-full", room),
             Answer::Added(id) => self.space_named(b"id", id),
@@ -133,6 +133,26 @@ impl Text {
         self.space_word(name)?;
         self.space_number(first)?;
         self.space_number(second)
+    }
+
+    fn space_queued(&mut self, first: u64, count: u32, late: u32) -> Result<(), AllocError>
+        ensures ok { OnOk result (self.new
+            ≡ self.old ++ spaced (answer_words (queued first count late))) }
+        ensures err { OnErr result (BeginsWith self.new self.old) }
+    {
+        self.space_pair(b"queued", first, u64::from(count))?;
+        self.space_late(late)
+    }
+
+    /// Adds how many units are dropped, where some are.
+    fn space_late(&mut self, late: u32) -> Result<(), AllocError>
+        ensures ok { OnOk result (self.new ≡ self.old ++ late_words late) }
+        ensures err { OnErr result (BeginsWith self.new self.old) }
+    {
+        if late == 0 {
+            return Ok(());
+        }
+        self.space_named(b"late", late)
     }
 
     fn space_clock_back(&mut self, clock: u64) -> Result<(), AllocError>

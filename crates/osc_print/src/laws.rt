@@ -5,9 +5,10 @@ ghost use Rattle.osc_tree.specs.Adding.{nodes_full};
 ghost use Rattle.osc_model.specs.Events.{enrol, add, remove, submit, tick, release, number};
 ghost use Rattle.osc_model.specs.Events.{callers_full, queued, units_full, pool_full, added};
 ghost use Rattle.osc_model.specs.Events.{refused, removed, not_there, ticked, clock_back, released};
+ghost use Rattle.osc_model.specs.declared.late.Late.TheVariants.{Deliver, Discard};
 ghost use Rattle.osc_model.specs.Limits.{limits_of};
 ghost use Rattle.osc_print.specs.Entries.{event_line, invocation_text};
-ghost use Rattle.osc_print.specs.Lines.{fault_text, link_fault_text};
+ghost use Rattle.osc_print.specs.Lines.{fault_text, link_fault_text, list_text, method_text};
 ghost use Rattle.osc_print.specs.Dates.{date_text};
 ghost use Rattle.osc_print.specs.Dumps.{dumped};
 
@@ -15,10 +16,14 @@ ghost use Rattle.osc_print.specs.Dumps.{dumped};
 pub fn examples()
     ensures number { event_line (record { caller = 0; event = enrol; answer = number 1 })
         ≡ codes "enrol 0 1\n" }
+    ensures list { list_text 4 ≡ codes "list 4\n" }
+    ensures method { method_text 1 (codes "/a/x") ≡ codes "method 1 /a/x\n" }
     ensures callers_full { event_line (record { caller = 3; event = enrol; answer = callers_full })
         ≡ codes "enrol 3 full\n" }
-    ensures queued { event_line (record { caller = 0; event = submit []; answer = queued 12 2 })
+    ensures queued { event_line (record { caller = 0; event = submit []; answer = queued 12 2 0 })
         ≡ codes "submit 0 queued 12 2\n" }
+    ensures late { event_line (record { caller = 0; event = submit []; answer = queued 12 2 1 })
+        ≡ codes "submit 0 queued 12 2 late 1\n" }
     ensures units_full { event_line
         (record {
           caller = 1;
@@ -84,8 +89,10 @@ pub fn examples()
     ensures last_second { date_text 4_294_967_295 ≡ codes "2036-02-07T06:28:15Z" }
     ensures unix_epoch { date_text 2_208_988_800 ≡ codes "1970-01-01T00:00:00Z" }
     ensures leap_day { date_text 3_160_857_599 ≡ codes "2000-02-29T23:59:59Z" }
-    ensures dump { dumped (limits_of 4096 16384 1024 4096 1 67_108_864)
+    ensures dump { dumped (limits_of 4096 16384 1024 4096 1 67_108_864 Deliver)
         (record { caller = 0; event = tick 0x83aa_7e80_0000_0000; answer = ticked } ∷ [])
-        ≡ codes "rec 1 4096 16384 1024 4096 1 67108864\n"
-        ++ codes "56 tick 0 83aa7e8000000000 ticked 1970-01-01T00:00:00Z\n" }
+        ≡ codes "rec 2 4096 16384 1024 4096 1 67108864 deliver\n"
+        ++ codes "60 tick 0 83aa7e8000000000 ticked 1970-01-01T00:00:00Z\n" }
+    ensures discards { dumped (limits_of 1 1 1 1 1 60 Discard) []
+        ≡ codes "rec 2 1 1 1 1 1 60 discard\n" }
 {}

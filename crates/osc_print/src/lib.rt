@@ -8,10 +8,12 @@ mod dump;
 mod entry;
 mod fault;
 pub mod laws;
+mod methods;
 mod text;
 
 pub use call::call_line;
 pub use dump::{dump_line, header_line};
 pub use entry::entry_line;
 pub use fault::{fault_line, link_fault_line};
+pub use methods::{list_line, method_line};
 pub use text::Text;

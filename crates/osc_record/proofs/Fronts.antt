@@ -133,7 +133,7 @@ abbrev pub enrol_bytes : List ℕ
 enrol_bytes = codes "/osc/enrol" ++ 0 ∷ 0 ∷ codes ",ii" ++ 0 ∷ []
 
 abbrev pub submit_bytes : List ℕ
-submit_bytes = codes "/osc/submit" ++ 0 ∷ codes ",ibihi" ++ 0 ∷ 0 ∷ []
+submit_bytes = codes "/osc/submit" ++ 0 ∷ codes ",ibihii" ++ 0 ∷ []
 
 abbrev pub add_bytes : List ℕ
 add_bytes = codes "/osc/add" ++ 0 ∷ 0 ∷ 0 ∷ 0 ∷ codes ",isiii" ++ 0 ∷ 0 ∷ []
@@ -158,10 +158,10 @@ enrol_front = record {
   some = omega arith;
 }
 
-pub submit_front : Front submit_bytes (codes "/osc/submit") (codes "ibihi")
+pub submit_front : Front submit_bytes (codes "/osc/submit") (codes "ibihii")
 submit_front = record {
   reads = λ rest.
-      read_front (codes "/osc/submit") (codes "ibihi") (submit_bytes ++ rest) 12 20 refl
+      read_front (codes "/osc/submit") (codes "ibihii") (submit_bytes ++ rest) 12 20 refl
       (record { no_zero = refl; written = record { rest = drop 12 (submit_bytes ++ rest); parts = refl } }) refl submit_address
       (omega arith) refl (record { no_zero = refl; written = record { rest = rest; parts = refl } }) refl refl refl;
   pattern = λ rest. refl;
@@ -235,7 +235,7 @@ row_begins bytes caller enrol answer none fit same = go (enrolled answer) fit sa
   go None f is = f
   go (Some told) f is = both_ways (starts_with ◌==◌ bytes enrol_bytes) none.enrol_none (begun bytes (row_text (enrol_row caller told)) enrol_bytes is refl)
 row_begins bytes caller (submit packet) answer none fit same = go (submitted answer) fit same where
-  go : (o : Option (ℕ × ℕ × ℕ)) → FitsRow (option_map (submit_row caller packet) o)
+  go : (o : Option (ℕ × ℕ × ℕ × ℕ)) → FitsRow (option_map (submit_row caller packet) o)
       → sized bytes ≡ option_map_or (λ row. sized (row_text row)) (option_map (submit_row caller packet) o) [] → ⊥
   go None f is = f
   go (Some told) f is =

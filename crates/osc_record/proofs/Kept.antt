@@ -51,19 +51,19 @@ whole_more limits bytes entry whole is fits small = go (entries_after limits byt
   go (Err at) read ok = absurd (cc)
   go (Ok xs) read ok =
       let text : List ℕ = entry_text entry.caller entry.event entry.answer in
-      let rest : List ℕ = drop 56 bytes in
+      let rest : List ℕ = drop 60 bytes in
       let header = whole.header in
       let some : 0 < length text = entry_some entry.caller entry.event entry.answer is.fits in
-      let place : 56 + length rest ≡ length bytes = omega (arith, length-drop 56 bytes) in
-      let first : entry_first limits.recording (56 + length rest) text ≡ Some (entry, length text) =
-      subst (λ (l : List ℕ). entry_first limits.recording (56 + length rest) l ≡ Some (entry, length text)) (append-nil text)
-      (entry_first_again entry.caller entry.event entry.answer [] limits.recording (56 + length rest) is (omega arith) small) in
+      let place : 60 + length rest ≡ length bytes = omega (arith, length-drop 60 bytes) in
+      let first : entry_first limits.recording (60 + length rest) text ≡ Some (entry, length text) =
+      subst (λ (l : List ℕ). entry_first limits.recording (60 + length rest) l ≡ Some (entry, length text)) (append-nil text)
+      (entry_first_again entry.caller entry.event entry.answer [] limits.recording (60 + length rest) is (omega arith) small) in
       let fewer : length bytes < length (bytes ++ text) = omega (arith, length-append bytes text) in
-      let new : entries_after limits (bytes ++ text) ≡ Ok (xs ++ record { at = 56 + length rest; entry = entry } ∷ []) =
-      ap (entries_read (length (bytes ++ text)) limits.recording 56) (drop-append-le 56 bytes text header)
-      ∙ entries_more (length bytes) (length (bytes ++ text)) limits.recording 56 rest text xs entry read fewer first some in
+      let new : entries_after limits (bytes ++ text) ≡ Ok (xs ++ record { at = 60 + length rest; entry = entry } ∷ []) =
+      ap (entries_read (length (bytes ++ text)) limits.recording 60) (drop-append-le 60 bytes text header)
+      ∙ entries_more (length bytes) (length (bytes ++ text)) limits.recording 60 rest text xs entry read fewer first some in
       let entries : entries_in limits (bytes ++ text) ≡ entries_in limits bytes ++ entry ∷ [] =
-      ap entries_of new ∙ map_more xs (record { at = 56 + length rest; entry = entry })
+      ap entries_of new ∙ map_more xs (record { at = 60 + length rest; entry = entry })
       ∙ ap (λ (l : List Recorded). l ++ entry ∷ []) (sym (ap entries_of read)) in
       record {
         whole = record {

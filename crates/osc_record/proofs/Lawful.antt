@@ -1,6 +1,6 @@
 -- The messages of a recording are lawful, and are read as the entries that they stand for.
 use Rattle.std.proofs.Common.{◌≡◌, ℕ, ◌%◌, ◌≤◌, true, ◌==◌, ℤ, List, [], ◌∷◌, length, Option, Some, None, Ok, Err, Result, refl, ap, ◌∙◌, inl, inr, arith}
-use Rattle.std.proofs.Common.{codes, eq-eqb, lt-ltb}
+use Rattle.std.proofs.Common.{codes, eq-eqb, lt-ltb, le-leb}
 use Rattle.std.specs.Prelude.{⊤, option_map, is_ok}
 use Rattle.std.specs.Int.{w32, to_be_bytes, from_be_bytes}
 use Rattle.std.specs.List.{AllByRecursion}
@@ -84,9 +84,9 @@ row_lawful caller enrol answer fit = go (enrolled answer) fit where
   go None f = tt
   go (Some told) f = (enrol_address, f, balanced (105 ∷ 105 ∷ []) refl)
 row_lawful caller (submit packet) answer fit = go (submitted answer) fit where
-  go : (o : Option (ℕ × ℕ × ℕ)) → FitsRow (option_map (submit_row caller packet) o) → LawfulRow (option_map (submit_row caller packet) o)
+  go : (o : Option (ℕ × ℕ × ℕ × ℕ)) → FitsRow (option_map (submit_row caller packet) o) → LawfulRow (option_map (submit_row caller packet) o)
   go None f = tt
-  go (Some told) f = (submit_address, f, balanced (105 ∷ 98 ∷ 105 ∷ 104 ∷ 105 ∷ []) refl)
+  go (Some told) f = (submit_address, f, balanced (105 ∷ 98 ∷ 105 ∷ 104 ∷ 105 ∷ 105 ∷ []) refl)
 row_lawful caller (add address) answer fit = go (adding answer) fit where
   go : (o : Option (ℕ × ℕ × ℕ)) → FitsRow (option_map (add_row caller address) o) → LawfulRow (option_map (add_row caller address) o)
   go None f = tt
@@ -128,7 +128,7 @@ pub entry_again : (caller : ℕ) (event : Event) (answer : Answer) → IsSound a
     → ReadAs (record { caller = caller; event = event; answer = answer }) (row_of caller event answer)
 entry_again caller enrol (number n) sound = refl
 entry_again caller enrol callers_full sound = refl
-entry_again caller (submit packet) (queued first count) sound = refl
+entry_again caller (submit packet) (queued first count late) sound = rw (le-leb late count sound) refl
 entry_again caller (submit packet) (units_full room) sound = rw (lt-ltb room.free room.need sound) refl
 entry_again caller (submit packet) (pool_full room) sound = rw (lt-ltb room.free room.need sound) refl
 entry_again caller (add address) (added id) sound = refl
@@ -143,7 +143,7 @@ entry_again caller (tick moment) ticked sound = rw (self_eq moment) refl
 entry_again caller (tick moment) (clock_back kept) sound = refl
 entry_again caller release (released unit hits) sound =
     rw (eighths hits) (ap (λ h. Some (record { caller = caller; event = release; answer = released unit h })) (hits_again hits sound))
-entry_again caller enrol (queued first count) sound = tt
+entry_again caller enrol (queued first count late) sound = tt
 entry_again caller enrol (units_full room) sound = tt
 entry_again caller enrol (pool_full room) sound = tt
 entry_again caller enrol (added id) sound = tt
@@ -168,7 +168,7 @@ entry_again caller (submit packet) (nothing_due next) sound = tt
 entry_again caller (submit packet) (record_full room) sound = tt
 entry_again caller (add address) (number n) sound = tt
 entry_again caller (add address) callers_full sound = tt
-entry_again caller (add address) (queued first count) sound = tt
+entry_again caller (add address) (queued first count late) sound = tt
 entry_again caller (add address) (units_full room) sound = tt
 entry_again caller (add address) (pool_full room) sound = tt
 entry_again caller (add address) (removed id) sound = tt
@@ -180,7 +180,7 @@ entry_again caller (add address) (nothing_due next) sound = tt
 entry_again caller (add address) (record_full room) sound = tt
 entry_again caller (remove address) (number n) sound = tt
 entry_again caller (remove address) callers_full sound = tt
-entry_again caller (remove address) (queued first count) sound = tt
+entry_again caller (remove address) (queued first count late) sound = tt
 entry_again caller (remove address) (units_full room) sound = tt
 entry_again caller (remove address) (pool_full room) sound = tt
 entry_again caller (remove address) (added id) sound = tt
@@ -192,7 +192,7 @@ entry_again caller (remove address) (nothing_due next) sound = tt
 entry_again caller (remove address) (record_full room) sound = tt
 entry_again caller (tick moment) (number n) sound = tt
 entry_again caller (tick moment) callers_full sound = tt
-entry_again caller (tick moment) (queued first count) sound = tt
+entry_again caller (tick moment) (queued first count late) sound = tt
 entry_again caller (tick moment) (units_full room) sound = tt
 entry_again caller (tick moment) (pool_full room) sound = tt
 entry_again caller (tick moment) (added id) sound = tt
@@ -204,7 +204,7 @@ entry_again caller (tick moment) (nothing_due next) sound = tt
 entry_again caller (tick moment) (record_full room) sound = tt
 entry_again caller release (number n) sound = tt
 entry_again caller release callers_full sound = tt
-entry_again caller release (queued first count) sound = tt
+entry_again caller release (queued first count late) sound = tt
 entry_again caller release (units_full room) sound = tt
 entry_again caller release (pool_full room) sound = tt
 entry_again caller release (added id) sound = tt

@@ -1,7 +1,8 @@
 -- A recording that is written is read again, so no two have one text.
 use Rattle.std.proofs.Common.{◌≡◌, ℕ, ◌+◌, ◌<◌, ◌≤◌, true, ◌&&◌, zero, suc, List, [], ◌∷◌, ◌++◌, length, drop, map, Option, Some, None, Ok, Err, Result, refl}
-use Rattle.std.proofs.Common.{sym, ap, ◌∙◌, arith, length-append, codes, le-leb}
-use Rattle.std.specs.Prelude.{option_and_then, is_ok, is_none, if◌then◌else◌}
+use Rattle.std.proofs.Common.{pos, sym, ap, ◌∙◌, arith, length-append, codes, le-leb}
+use Rattle.std.specs.Prelude.{option_and_then, is_ok, is_none, if◌then◌else◌, FitsSigned}
+use Rattle.std.specs.Int.{w32}
 use Rattle.std.specs.List.{flat_map, AllByRecursion}
 use Rattle.std.specs.Str.{bytes_eq}
 use Rattle.osc_message.specs.Messages.{known, IsLawful, AllFit}
@@ -10,8 +11,10 @@ use Rattle.osc_message.proofs.MessageLaws.{limited_again}
 use Rattle.osc_message.proofs.TextLaws.{pattern_again, known_arguments_again}
 use Rattle.osc_model.specs.Limits.{Limits, IsWithin, AreInRange, is_within, limit_fault}
 use Rattle.osc_model.specs.Events.{Entry as Recorded}
-use Rattle.osc_model.specs.Recordings.{row_text, header_row, header_text, entry_text, record_text, IsRecordable}
-use Rattle.osc_record.specs.Reading.{entry_first, Placed, onto_read, before_read, entries_read, limits_read, header_of, header_read, with_entries, record_read}
+use Rattle.osc_model.specs.declared.late.Late.{Late}
+use Rattle.osc_model.specs.declared.late.Late.TheVariants.{Deliver, Discard}
+use Rattle.osc_model.specs.Recordings.{late_code, row_text, header_row, header_text, entry_text, record_text, IsRecordable}
+use Rattle.osc_record.specs.Reading.{entry_first, Placed, onto_read, before_read, entries_read, late_told, lawful_limits, limits_read, header_of, header_read, with_entries, record_read}
 use Rattle.osc_record.specs.Reading.{placed_from, IsRecord}
 use Rattle.osc_record.proofs.Lawful.{rec_address, balanced}
 use Rattle.osc_record.proofs.Again.{drop_front, message_again, entry_first_again}
@@ -30,12 +33,21 @@ no_limit_fault limits is =
       within_true 1
           1048576 limits.nodes is.nodes,
       within_true 1 1024 limits.callers is.callers,
-      within_true 56 1073741824 limits.recording is.recording,
+      within_true 60 1073741824 limits.recording is.recording,
     )
     refl
 
 small_int : (n : ℕ) → n ≤ 1073741824 → n < 2147483648
 small_int n small = omega arith
+
+late_fits : (late : Late) → FitsSigned w32 (pos (late_code late))
+late_fits Deliver = record { sfits = omega arith }
+late_fits Discard = record { sfits = omega arith }
+
+-- the number that is written for what becomes of late units is read
+late_again : (late : Late) → late_told (late_code late) ≡ Some late
+late_again Deliver = refl
+late_again Discard = refl
 
 header_lawful : (limits : Limits) → AreInRange limits → IsLawful (known (codes "/osc/rec") (header_row limits).arguments)
 header_lawful limits is =
@@ -51,11 +63,14 @@ header_lawful limits is =
         record { sfits = omega arith },
         (
           record { sfits = omega arith },
-          (record { sfits = omega arith }, (record { sfits = omega arith }, (record { sfits = omega arith }, (record { sfits = omega arith }, tt)))),
+          (
+            record { sfits = omega arith },
+            (record { sfits = omega arith }, (record { sfits = omega arith }, (record { sfits = omega arith }, (late_fits limits.late, tt)))),
+          ),
         ),
       ),
     ) in
-    (rec_address, fit, balanced (105 ∷ 105 ∷ 105 ∷ 105 ∷ 105 ∷ 105 ∷ 105 ∷ []) refl)
+    (rec_address, fit, balanced (105 ∷ 105 ∷ 105 ∷ 105 ∷ 105 ∷ 105 ∷ 105 ∷ 105 ∷ []) refl)
 
 -- the header that is written is read, whatever follows it
 pub header_again : (limits : Limits) (rest : List ℕ) → AreInRange limits → header_read (header_text limits ++ rest) ≡ Some limits
@@ -67,6 +82,7 @@ header_again limits rest is =
     ap (option_and_then header_of) (message_again message rest (omega arith) refl (omega arith))
     ∙ (λ i. if accepted i && bytes_eq (pattern_again form lawful i) (codes "/osc/rec")
     then limits_read (known_arguments_again (codes "/osc/rec") (header_row limits).arguments lawful i) else None)
+    ∙ ap (option_and_then (λ (policy : Late). lawful_limits (record limits { late = policy }))) (late_again limits.late)
     ∙ ap (λ o. if is_none o then Some limits else None) (no_limit_fault limits is)
 
 -- what is read of some bytes begins with the first entry
@@ -100,13 +116,13 @@ entries_again (e ∷ entries) (suc most) limit place all few within small =
     ∙ ap (onto_read (record { at = place; entry = e })) (entries_again entries most limit (place + length text) all.1 (omega arith) (omega arith) small)
 
 pub record_again : (limits : Limits) (entries : List Recorded) → IsRecord limits entries
-    → record_read (record_text limits entries) ≡ Ok (limits, placed_from 56 entries)
+    → record_read (record_text limits entries) ≡ Ok (limits, placed_from 60 entries)
 record_again limits entries is =
     let rest : List ℕ = flat_map (λ (e : Recorded). entry_text e.caller e.event e.answer) entries in
     let small = is.lawful.recording.below in
     let fits = is.fits in
     ap (with_entries (record_text limits entries)) (header_again limits rest is.lawful)
-    ∙ ap (finished limits) (entries_again entries (length (record_text limits entries)) limits.recording 56 is.all (omega arith) (omega arith) small)
+    ∙ ap (finished limits) (entries_again entries (length (record_text limits entries)) limits.recording 60 is.all (omega arith) (omega arith) small)
   where
     finished : Limits → Result (List Placed) ℕ → Result (Limits × List Placed) ℕ
     finished limits (Ok entries) = Ok (limits, entries)
@@ -119,11 +135,11 @@ entries_of_placed place (e ∷ entries) = ap (λ (l : List Recorded). e ∷ l) (
 pub texts_differ : (limits other : Limits) (entries others : List Recorded) → IsRecord limits entries → IsRecord other others
     → record_text limits entries ≡ record_text other others → (limits ≡ other) × (entries ≡ others)
 texts_differ limits other entries others one two same =
-    let both = value_is (limits, placed_from 56 entries) (other, placed_from 56 others)
+    let both = value_is (limits, placed_from 60 entries) (other, placed_from 60 others)
     (sym (record_again limits entries one) ∙ ap record_read same ∙ record_again other others two) in (
       ap (λ (p : Limits × List Placed). p.0) both,
-      sym (entries_of_placed 56 entries) ∙ ap (λ (p : Limits × List Placed). map (λ (x : Placed). x.entry) p.1) both
-          ∙ entries_of_placed 56 others,
+      sym (entries_of_placed 60 entries) ∙ ap (λ (p : Limits × List Placed). map (λ (x : Placed). x.entry) p.1) both
+          ∙ entries_of_placed 60 others,
     )
   where
     value_is : (x y : Limits × List Placed) → ◌≡◌ {A = Result (Limits × List Placed) ℕ} (Ok x) (Ok y) → x ≡ y

@@ -15,8 +15,8 @@ abbrev pub from : Limits → ℕ → List ℕ → Remaining
 from caps at rest = record { caps = caps; at = at; rest = rest }
 
 -- the header is read
-pub opened : (bytes : List ℕ) (caps : Limits) (rest : List ℕ) → AreBytes bytes → header_read bytes ≡ Some caps → rest ≡ drop 56 bytes
-    → HasHeader bytes (from caps 56 rest)
+pub opened : (bytes : List ℕ) (caps : Limits) (rest : List ℕ) → AreBytes bytes → header_read bytes ≡ Some caps → rest ≡ drop 60 bytes
+    → HasHeader bytes (from caps 60 rest)
 opened bytes caps rest small header is =
     let first = header_first_was bytes caps small header in
     record { lawful = first.range; text = first.text ∙ ap (λ (l : List ℕ). header_text caps ++ l) (sym is); at_is = refl }

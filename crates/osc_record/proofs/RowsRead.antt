@@ -1,7 +1,7 @@
 -- What is read as an entry was written as one.
 use Rattle.std.proofs.Common.{◌≡◌, ℕ, ◌%◌, ◌&&◌, ◌<◌, ◌^◌, zero, suc, Bool, true, false, cond, ◌==◌, ℤ, pos, negsuc, List, [], ◌∷◌, ◌++◌, length, Option, Some}
-use Rattle.std.proofs.Common.{None, refl, sym, ap, ◌∙◌, subst, arith, codes, eqb-true, ltb-true, lit<}
-use Rattle.std.specs.Prelude.{option_map, nat_lt}
+use Rattle.std.proofs.Common.{None, refl, sym, ap, ◌∙◌, subst, arith, codes, eqb-true, ltb-true, leb-true, lit<}
+use Rattle.std.specs.Prelude.{option_map, nat_lt, nat_le}
 use Rattle.std.specs.Int.{w32, to_be_bytes, from_be_bytes}
 use Rattle.std.specs.List.{flat_map, AllByRecursion}
 use Rattle.std.specs.Str.{bytes_eq}
@@ -49,21 +49,33 @@ enrol_told (pos n) answer is = subst (EnrolTold (pos n)) (same_Some (number n) a
 enrol_told (negsuc zero) answer is = subst (EnrolTold (negsuc 0)) (same_Some callers_full answer is) (refl, tt)
 enrol_told (negsuc (suc k)) answer is = absurd (none-some answer is)
 
-abbrev pub SubmitTold : ℕ → ℕ → ℕ → Answer → Type 0
-SubmitTold code first second answer = (submitted answer ≡ Some (code, first, second)) × IsSound answer
+abbrev pub SubmitTold : ℕ → ℕ → ℕ → ℕ → Answer → Type 0
+SubmitTold code first second third answer = (submitted answer ≡ Some (code, first, second, third)) × IsSound answer
 
-submit_told : (code first second : ℕ) (answer : Answer) → submit_answer code first second ≡ Some answer → SubmitTold code first second answer
-submit_told code first second answer is =
-    chosen (SubmitTold code first second) (code == 0) (queued first second)
-    (cond (code == 1) (answer_if (nat_lt second first) (units_full (record { need = first; free = second })))
-    (cond (code == 2) (answer_if (nat_lt second first) (pool_full (record { need = first; free = second }))) None)) answer is
-    (λ c. ((λ i. Some (sym (eqb-true code 0 c) i, first, second)), tt)) (λ is1.
-    chosen_if (SubmitTold code first second) (code == 1) (nat_lt second first) (units_full (record { need = first; free = second }))
-    (cond (code == 2) (answer_if (nat_lt second first) (pool_full (record { need = first; free = second }))) None) answer is1
-    (λ c u. ((λ i. Some (sym (eqb-true code 1 c) i, first, second)), ltb-true second first u)) (λ is2.
-    chosen_if (SubmitTold code first second) (code == 2) (nat_lt second first) (pool_full (record { need = first; free = second })) None answer is2
-    (λ c u. ((λ i. Some (sym (eqb-true code 2 c) i, first, second)), ltb-true second first u)) (λ is3.
-    none_left (SubmitTold code first second) answer is3)))
+submit_told : (code first second third : ℕ) (answer : Answer) → submit_answer code first second third ≡ Some answer
+    → SubmitTold code first second third answer
+submit_told code first second third answer is =
+    chosen_if told (code == 0) (nat_le third second) (queued first second third)
+    (cond (code == 1) (answer_if (nat_lt second first && third == 0) units) (cond (code == 2) (answer_if (nat_lt second first && third == 0) pool) None)) answer is
+    (λ c u. ((λ i. Some (sym (eqb-true code 0 c) i, first, second, third)), leb-true third second u)) (λ is1.
+    chosen_if told (code == 1) (nat_lt second first && third == 0) units (cond (code == 2) (answer_if (nat_lt second first && third == 0) pool) None) answer is1
+    (λ c u. full 1 c (and_parts (nat_lt second first) (third == 0) u)) (λ is2.
+    chosen_if told (code == 2) (nat_lt second first && third == 0) pool None answer is2
+    (λ c u. full 2 c (and_parts (nat_lt second first) (third == 0) u)) (λ is3.
+    none_left told answer is3)))
+  where
+    told : Answer → Type 0
+    told = SubmitTold code first second third
+
+    units : Answer
+    units = units_full (record { need = first; free = second })
+
+    pool : Answer
+    pool = pool_full (record { need = first; free = second })
+
+    full : (k : ℕ) → (code == k) ≡ true → (nat_lt second first ≡ true) × ((third == 0) ≡ true)
+        → (◌≡◌ {A = Option (ℕ × ℕ × ℕ × ℕ)} (Some (k, first, second, 0)) (Some (code, first, second, third))) × (second < first)
+    full k c both = ((λ i. Some (sym (eqb-true code k c) i, first, second, sym (eqb-true third 0 both.1) i)), ltb-true second first both.0)
 
 abbrev pub AddTold : ℕ → ℕ → ℕ → Answer → Type 0
 AddTold code first second answer = (adding answer ≡ Some (code, first, second)) × IsSound answer
@@ -199,17 +211,21 @@ submit_was arguments e is =
     let code = read_then _ (int_first packet.0.1) e packet.1.1 in
     let first = read_then _ (long_first code.0.1) e code.1.1 in
     let second = read_then _ (int_first first.0.1) e first.1.1 in
-    let last = end_was second.0.1
-    (option_map (λ a. record { caller = caller.0.0; event = submit packet.0.0; answer = a }) (submit_answer code.0.0 first.0.0 second.0.0)) e second.1.1 in
-    let found = mapped (λ a. record { caller = caller.0.0; event = submit packet.0.0; answer = a }) (submit_answer code.0.0 first.0.0 second.0.0) e last.1 in
-    let told = submit_told code.0.0 first.0.0 second.0.0 found.0 found.1.0 in
+    let third = read_then _ (int_first second.0.1) e second.1.1 in
+    let last = end_was third.0.1
+    (option_map (λ a. record { caller = caller.0.0; event = submit packet.0.0; answer = a }) (submit_answer code.0.0 first.0.0 second.0.0 third.0.0)) e
+    third.1.1 in
+    let found = mapped (λ a. record { caller = caller.0.0; event = submit packet.0.0; answer = a })
+    (submit_answer code.0.0 first.0.0 second.0.0 third.0.0) e last.1 in
+    let told = submit_told code.0.0 first.0.0 second.0.0 third.0.0 found.0 found.1.0 in
     let same = int_was arguments caller.0 caller.1.0
     ∙ ap (λ (l : List Argument). int caller.0.0 ∷ l)
     (content_was caller.0.1 packet.0 packet.1.0
     ∙ ap (λ (l : List Argument). content packet.0.0 ∷ l)
     (int_was packet.0.1 code.0 code.1.0 ∙ ap (λ (l : List Argument). int code.0.0 ∷ l)
     (long_was code.0.1 first.0 first.1.0 ∙ ap (λ (l : List Argument). long (pos first.0.0) ∷ l)
-    (int_was first.0.1 second.0 second.1.0 ∙ ap (λ (l : List Argument). int second.0.0 ∷ l) (last.0))))) in
+    (int_was first.0.1 second.0 second.1.0 ∙ ap (λ (l : List Argument). int second.0.0 ∷ l)
+    (int_was second.0.1 third.0 third.1.0 ∙ ap (λ (l : List Argument). int third.0.0 ∷ l) (last.0)))))) in
     subst (Was (codes "/osc/submit") arguments) found.1.1 (
       ap (option_map (submit_row caller.0.0 packet.0.0)) told.0
           ∙ ap (λ (l : List Argument). Some (record { address = codes "/osc/submit"; arguments = l })) (sym same),

@@ -1,5 +1,5 @@
 -- A message that is read as a header was written as one.
-use Rattle.std.proofs.Common.{◌≡◌, ◌⊎◌, ℕ, ◌%◌, ◌&&◌, ◌≤◌, true, cond, List, [], ◌∷◌, length, take, drop, Option, Some, None, refl, sym}
+use Rattle.std.proofs.Common.{◌≡◌, ◌⊎◌, ℕ, ◌%◌, ◌&&◌, ◌≤◌, Bool, true, false, cond, List, [], ◌∷◌, length, take, drop, Option, Some, None, refl, sym}
 use Rattle.std.proofs.Common.{ap, ◌∙◌, subst, inl, inr, arith, codes, eqb-true}
 use Rattle.std.specs.Prelude.{option_and_then, is_none, ◌==◌, nat_lt, nat_le}
 use Rattle.std.specs.Str.{bytes_eq}
@@ -15,8 +15,10 @@ use Rattle.osc_message.specs.Arguments.{message_arguments}
 use Rattle.osc_message.proofs.Checks.{exact_of}
 use Rattle.osc_message.proofs.TextLaws.{pattern_again, bare_arguments, known_arguments_again, unknown_arguments_again}
 use Rattle.osc_model.specs.Limits.{Limits, limit_fault}
-use Rattle.osc_model.specs.Recordings.{int, row_text, header_row}
-use Rattle.osc_record.specs.Reading.{limits_read, lawful_limits, header_of, header_read, message_first, bytes_of_size, int_first}
+use Rattle.osc_model.specs.declared.late.Late.{Late}
+use Rattle.osc_model.specs.declared.late.Late.TheVariants.{Deliver, Discard}
+use Rattle.osc_model.specs.Recordings.{int, late_code, row_text, header_row}
+use Rattle.osc_record.specs.Reading.{limits_read, late_told, lawful_limits, header_of, header_read, message_first, bytes_of_size, int_first}
 use Rattle.osc_record.proofs.Again.{message_more, cond_gives}
 use Rattle.osc_record.proofs.ArgumentsRead.{int_was, end_was}
 
@@ -59,6 +61,13 @@ lawful_is limits read is = go (limit_fault limits) refl is where
   go None e i = (same_Some limits read i, e)
   go (Some field) e i = absurd (cc)
 
+late_was : (code : ℕ) (late : Late) → late_told code ≡ Some late → code ≡ late_code late
+late_was code late is = go (code == 0) (code == 1) refl refl is where
+  go : (t u : Bool) → (code == 0) ≡ t → (code == 1) ≡ u → cond t (Some Deliver) (cond u (Some Discard) None) ≡ Some late → code ≡ late_code late
+  go true u e f i = eqb-true code 0 e ∙ ap late_code (same_Some Deliver late i)
+  go false true e f i = eqb-true code 1 f ∙ ap late_code (same_Some Discard late i)
+  go false false e f i = absurd (none-some late i)
+
 -- the arguments of a header
 pub limits_were : (arguments : List Argument) (limits : Limits) → limits_read arguments ≡ Some limits
     → (arguments ≡ (header_row limits).arguments) × (limit_fault limits ≡ None)
@@ -70,12 +79,24 @@ limits_were arguments limits is =
     let nodes = read_then _ (int_first methods.0.1) limits methods.1.1 in
     let callers = read_then _ (int_first nodes.0.1) limits nodes.1.1 in
     let recording = read_then _ (int_first callers.0.1) limits callers.1.1 in
-    let told : Limits =
-    record { units = units.0.0; blocks = blocks.0.0; methods = methods.0.0; nodes = nodes.0.0; callers = callers.0.0; recording = recording.0.0 } in
-    let last = end_was recording.0.1 (cond (version.0.0 == 1) (lawful_limits told) None) limits recording.1.1 in
-    let first = cond_gives (version.0.0 == 1) (lawful_limits told) limits last.1 in
-    let one : version.0.0 ≡ 1 = eqb-true version.0.0 1 first.0 in
-    let lawful = lawful_is told limits first.1 in (
+    let late = read_then _ (int_first recording.0.1) limits recording.1.1 in
+    let told : Late → Limits = λ policy.
+    record {
+      units = units.0.0;
+      blocks = blocks.0.0;
+      methods = methods.0.0;
+      nodes = nodes.0.0;
+      callers = callers.0.0;
+      recording = recording.0.0;
+      late = policy;
+    } in
+    let read : Option Limits = option_and_then (λ policy. lawful_limits (told policy)) (late_told late.0.0) in
+    let last = end_was late.0.1 (cond (version.0.0 == 2) read None) limits late.1.1 in
+    let first = cond_gives (version.0.0 == 2) read limits last.1 in
+    let two : version.0.0 ≡ 2 = eqb-true version.0.0 2 first.0 in
+    let policy = read_then (λ policy. lawful_limits (told policy)) (late_told late.0.0) limits first.1 in
+    let code : late.0.0 ≡ late_code policy.0 = late_was late.0.0 policy.0 policy.1.0 in
+    let lawful = lawful_is (told policy.0) limits policy.1.1 in (
       int_was arguments version.0 version.1.0
           ∙ ap (λ (l : List Argument). int version.0.0 ∷ l) (int_was version.0.1 units.0 units.1.0
           ∙ ap (λ (l : List Argument). int units.0.0 ∷ l) (int_was units.0.1 blocks.0 blocks.1.0
@@ -83,13 +104,15 @@ limits_were arguments limits is =
           ∙ ap (λ (l : List Argument). int methods.0.0 ∷ l) (int_was methods.0.1 nodes.0 nodes.1.0
           ∙ ap (λ (l : List Argument). int nodes.0.0 ∷ l) (int_was nodes.0.1 callers.0 callers.1.0
           ∙ ap (λ (l : List Argument). int callers.0.0 ∷ l) (int_was callers.0.1 recording.0 recording.1.0
-          ∙ ap (λ (l : List Argument). int recording.0.0 ∷ l) last.0))))))
-          ∙ (λ i. int (one i) ∷ (header_tail (lawful.0 i))),
+          ∙ ap (λ (l : List Argument). int recording.0.0 ∷ l) (int_was recording.0.1 late.0 late.1.0
+          ∙ ap (λ (l : List Argument). int late.0.0 ∷ l) last.0)))))))
+          ∙ (λ i. int (two i) ∷ int units.0.0 ∷ int blocks.0.0 ∷ int methods.0.0 ∷ int nodes.0.0 ∷ int callers.0.0 ∷ int recording.0.0 ∷ int (code i) ∷ [])
+          ∙ (λ i. int 2 ∷ (header_tail (lawful.0 i))),
       ap limit_fault (sym lawful.0) ∙ lawful.1,
     )
   where
     header_tail : Limits → List Argument
-    header_tail l = int l.units ∷ int l.blocks ∷ int l.methods ∷ int l.nodes ∷ int l.callers ∷ int l.recording ∷ []
+    header_tail l = int l.units ∷ int l.blocks ∷ int l.methods ∷ int l.nodes ∷ int l.callers ∷ int l.recording ∷ int (late_code l.late) ∷ []
 
 -- what is read as a header is one
 pub header_was : (message : List ℕ) (limits : Limits) → AreBytes message → header_of message ≡ Some limits
@@ -111,12 +134,12 @@ header_was message limits small is =
       no_arguments e = cc
 
 -- the header that bytes begin with is one, so they are long enough for it
-pub header_long : (bytes : List ℕ) (limits : Limits) → AreBytes bytes → header_read bytes ≡ Some limits → 56 ≤ length bytes
+pub header_long : (bytes : List ℕ) (limits : Limits) → AreBytes bytes → header_read bytes ≡ Some limits → 60 ≤ length bytes
 header_long bytes limits small is = go (message_first bytes) refl is where
-  go : (o : Option (List ℕ)) → message_first bytes ≡ o → option_and_then header_of o ≡ Some limits → 56 ≤ length bytes
+  go : (o : Option (List ℕ)) → message_first bytes ≡ o → option_and_then header_of o ≡ Some limits → 60 ≤ length bytes
   go None found e = absurd (none-some limits e)
   go (Some message) found e =
       let was = header_was message limits (message_bytes bytes message small found) e in
-      let size : length message ≡ 52 = ap length was.0 in
+      let size : length message ≡ 56 = ap length was.0 in
       let more = (message_more bytes [] message found).1 in
       omega arith

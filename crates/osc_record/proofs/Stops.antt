@@ -80,7 +80,7 @@ no_entry bytes limits at small header read =
     let first = header_first_was bytes limits small header in
     let above = first.range.recording.above in
     let below = first.range.recording.below in
-    let stop = stops (length bytes) limits.recording 56 (drop 56 bytes) at (rest_bytes 56 bytes small) (omega (arith, length-drop 56 bytes)) above read in
+    let stop = stops (length bytes) limits.recording 60 (drop 60 bytes) at (rest_bytes 60 bytes small) (omega (arith, length-drop 60 bytes)) above read in
     let end = stop.end in
     let within = stop.within in
     record {

@@ -48,8 +48,8 @@ at_none limit place (byte ∷ bytes) some is =
     ap (λ o. before_read place o (λ size. entries_read (length bytes) limit (place + size) (drop size (byte ∷ bytes)))) is
 
 -- those after a header
-pub after_is : (limits : Limits) (bytes : List ℕ) → entries_after limits bytes ≡ entries_at limits.recording 56 (drop 56 bytes)
-after_is limits bytes = enough (length bytes) (length (drop 56 bytes)) limits.recording 56 (drop 56 bytes) (omega (arith, length-drop 56 bytes)) (omega arith)
+pub after_is : (limits : Limits) (bytes : List ℕ) → entries_after limits bytes ≡ entries_at limits.recording 60 (drop 60 bytes)
+after_is limits bytes = enough (length bytes) (length (drop 60 bytes)) limits.recording 60 (drop 60 bytes) (omega (arith, length-drop 60 bytes)) (omega arith)
 
 outcome_of : (first : Placed) (r : Result (List Placed) ℕ) → outcome (onto_read first r) ≡ outcome r
 outcome_of first (Ok entries) = refl

@@ -15,6 +15,8 @@ use Rattle.osc_model.specs.Events.{enrol, submit, add, remove, tick, release, An
 use Rattle.osc_model.specs.Events.{callers_full, queued, units_full, pool_full, added, refused}
 use Rattle.osc_model.specs.Events.{removed, not_there, ticked, clock_back, released}
 use Rattle.osc_tree.specs.Adding.{taken, under_method, is_container, methods_full, nodes_full}
+use Rattle.osc_model.specs.declared.late.Late.{Late}
+use Rattle.osc_model.specs.declared.late.Late.TheVariants.{Deliver, Discard}
 use Rattle.osc_model.specs.Limits.{AreInRange, Limits, header_size, limit_fault, max_recording}
 use Rattle.osc_model.specs.Events.{Entry as Recorded}
 use Rattle.osc_model.specs.Recordings.{IsRecordable, hits_in, header_text, entry_text, record_text}
@@ -69,15 +71,16 @@ enrol_answer (pos n) = Some (number n)
 enrol_answer (negsuc zero) = Some callers_full
 enrol_answer (negsuc (suc k)) = None
 
--- what a submitting caller is answered by a code and two numbers
-abbrev pub submit_answer : ℕ → ℕ → ℕ → Option Answer
-submit_answer code first second =
-    if code == 0 then Some (queued first second) else
+-- what a submitting caller is answered by a code and three numbers
+abbrev pub submit_answer : ℕ → ℕ → ℕ → ℕ → Option Answer
+submit_answer code first second third =
+    if code == 0 then answer_if (nat_le third second) (queued first second third) else
     if code == 1
-    then answer_if (nat_lt second first)
+    then answer_if (nat_lt second first && third == 0)
     (units_full (record { need = first; free = second })) else
     if code == 2
-    then answer_if (nat_lt second first) (pool_full (record { need = first; free = second }))
+    then answer_if (nat_lt second first && third == 0)
+    (pool_full (record { need = first; free = second }))
     else None
 
 -- what adding a method is answered by a code and two numbers
@@ -120,10 +123,11 @@ submit_read arguments =
     option_and_then (λ code.
     option_and_then (λ first.
     option_and_then (λ second.
-    at_end second.1
+    option_and_then (λ third.
+    at_end third.1
     (option_map (λ a. record { caller = caller.0; event = submit packet.0; answer = a })
-    (submit_answer code.0 first.0 second.0)))
-    (int_first first.1)) (long_first code.1)) (int_first packet.1)) (content_first caller.1))
+    (submit_answer code.0 first.0 second.0 third.0)))
+    (int_first second.1)) (int_first first.1)) (long_first code.1)) (int_first packet.1)) (content_first caller.1))
     (int_first arguments)
 
 abbrev pub add_read : List Argument → Option Recorded
@@ -253,6 +257,10 @@ placed_in (Err at) = []
 abbrev pub lawful_limits : Limits → Option Limits
 lawful_limits limits = if is_none (limit_fault limits) then Some limits else None
 
+-- what a number says that becomes of late units
+abbrev pub late_told : ℕ → Option Late
+late_told code = if code == 0 then Some Deliver else if code == 1 then Some Discard else None
+
 -- the limits that the arguments of a header tell
 abbrev pub limits_read : List Argument → Option Limits
 limits_read arguments =
@@ -263,9 +271,11 @@ limits_read arguments =
     option_and_then (λ nodes.
     option_and_then (λ callers.
     option_and_then (λ recording.
-    at_end recording.1
-    (if version.0 == 1
-    then lawful_limits
+    option_and_then (λ late.
+    at_end late.1
+    (if version.0 == 2
+    then option_and_then (λ policy.
+    lawful_limits
     (record {
       units = units.0;
       blocks = blocks.0;
@@ -273,8 +283,9 @@ limits_read arguments =
       nodes = nodes.0;
       callers = callers.0;
       recording = recording.0;
-    }) else None))
-    (int_first callers.1)) (int_first nodes.1)) (int_first methods.1)) (int_first blocks.1))
+      late = policy;
+    })) (late_told late.0) else None))
+    (int_first recording.1)) (int_first callers.1)) (int_first nodes.1)) (int_first methods.1)) (int_first blocks.1))
     (int_first units.1)) (int_first version.1)) (int_first arguments)
 
 -- the limits that a message is the header of

@@ -40,7 +40,7 @@ room_of room = record { need = room.need; free = room.free }
 abbrev pub answer_of : Answer → model.Answer
 answer_of (Number n) = number n
 answer_of CallersFull = callers_full
-answer_of (Queued first count) = queued first count
+answer_of (Queued first count late) = queued first count late
 answer_of (UnitsFull room) = units_full (room_of room)
 answer_of (PoolFull room) = pool_full (room_of room)
 answer_of (Added id) = added id

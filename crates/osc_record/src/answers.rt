@@ -19,19 +19,26 @@ pub(crate) fn enrol_answer(answer: i32) -> Option<Answer<'static>>
     }
 }
 
-pub(crate) fn submit_answer(code: u32, first: u64, second: u32) -> Option<Answer<'static>>
-    ensures value { option_map answer_of result ≡ Reading.submit_answer code first second }
+pub(crate) fn submit_answer(
+    code: u32,
+    first: u64,
+    second: u32,
+    third: u32,
+) -> Option<Answer<'static>>
+    ensures value { option_map answer_of result
+        ≡ Reading.submit_answer code first second third }
     ensures whole { IfSome result HasWholeHits }
 {
     let need = first;
     let free = second as u64;
     match code {
-        0 => Some(Answer::Queued {
+        0 if third <= second => Some(Answer::Queued {
             first,
             count: second,
+            late: third,
         }),
-        1 if free < need => Some(Answer::UnitsFull(Room::new(need, free))),
-        2 if free < need => Some(Answer::PoolFull(Room::new(need, free))),
+        1 if free < need && third == 0 => Some(Answer::UnitsFull(Room::new(need, free))),
+        2 if free < need && third == 0 => Some(Answer::PoolFull(Room::new(need, free))),
         _ => None,
     }
 }

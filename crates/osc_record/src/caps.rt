@@ -3,6 +3,7 @@ ghost use Rattle.std.specs.Prelude.{◌≡◌, ◌↔◌, IsOk, IfOk, IfErr, Som
 ghost use Rattle.osc_model.specs.Limits.{Limits, limits_of, AreInRange, is_within, limit_fault};
 
 use crate::limits::{HEADER_SIZE, MAX_CALLERS, MAX_METHODS, MAX_RECORDING, MAX_RESERVED};
+use osc_model::Late;
 use std::marker::Model;
 use thiserror::Error;
 
@@ -14,7 +15,8 @@ pub struct CapFault {
     pub field: u8,
 }
 
-/// How many queued units, blocks of 64 bytes, methods, nodes and callers there may be, and how many bytes of recording.
+/// How many queued units, blocks of 64 bytes, methods, nodes and callers there may be, and how many bytes of recording;
+/// and what becomes of late units.
 #[derive(Clone, Copy, Debug, PartialEq, Eq)]
 pub struct Caps {
     units: u32,
@@ -23,6 +25,7 @@ pub struct Caps {
     nodes: u32,
     callers: u32,
     recording: u32,
+    late: Late,
 }
 
 impl Model for Caps {
@@ -30,10 +33,10 @@ impl Model for Caps {
 
     ghost Value = { Limits };
 
-    ghost view = { λ c. limits_of c.units c.blocks c.methods c.nodes c.callers c.recording };
+    ghost view = { λ c. limits_of c.units c.blocks c.methods c.nodes c.callers c.recording c.late };
 
     ghost invariant = { λ c. AreInRange
-        (limits_of c.units c.blocks c.methods c.nodes c.callers c.recording) };
+        (limits_of c.units c.blocks c.methods c.nodes c.callers c.recording c.late) };
 
     ghost inverse = { λ l. record {
       units = l.units;
@@ -42,6 +45,7 @@ impl Model for Caps {
       nodes = l.nodes;
       callers = l.callers;
       recording = l.recording;
+      late = l.late;
     } };
 }
 
@@ -56,15 +60,16 @@ impl Caps {
         nodes: u32,
         callers: u32,
         recording: u32,
+        late: Late,
     ) -> Result<Caps, CapFault>
         ensures ok { IfOk result
-            (λ caps. caps ≡ limits_of units blocks methods nodes callers recording) }
+            (λ caps. caps ≡ limits_of units blocks methods nodes callers recording late) }
         ensures exact { IsOk result
-            ↔ AreInRange (limits_of units blocks methods nodes callers recording) }
+            ↔ AreInRange (limits_of units blocks methods nodes callers recording late) }
         ensures read { IsOk result
-            ↔ (limit_fault (limits_of units blocks methods nodes callers recording) ≡ None) }
+            ↔ (limit_fault (limits_of units blocks methods nodes callers recording late) ≡ None) }
         ensures fault { IfErr result
-            (λ fault. limit_fault (limits_of units blocks methods nodes callers recording)
+            (λ fault. limit_fault (limits_of units blocks methods nodes callers recording late)
             ≡ Some fault.field) }
     {
         if !lies_within(1, MAX_RESERVED, units) {
@@ -92,6 +97,7 @@ impl Caps {
             nodes,
             callers,
             recording,
+            late,
         })
     }
 
@@ -141,6 +147,14 @@ impl Caps {
         ensures range { AreInRange self.now }
     {
         self.recording
+    }
+
+    /// What becomes of late units.
+    pub fn late(&self) -> Late
+        ensures value { result ≡ self.now.late }
+        ensures range { AreInRange self.now }
+    {
+        self.late
     }
 }
 

@@ -57,12 +57,14 @@ fn submit_entry(out: &mut Vec<u8>, caller: u32, packet: &[u8], answer: Answer<'_
     ensures capacity { vec_capacity out.old ≤ vec_capacity out.new }
 {
     match answer {
-        Answer::Queued { first, count } => { append_submit(out, caller, packet, 0, first, count) }
+        Answer::Queued { first, count, late } => {
+            append_submit(out, caller, packet, 0, first, count, late)
+        }
         Answer::UnitsFull(room) => {
-            append_submit(out, caller, packet, 1, room.need, room.free as u32)
+            append_submit(out, caller, packet, 1, room.need, room.free as u32, 0)
         }
         Answer::PoolFull(room) => {
-            append_submit(out, caller, packet, 2, room.need, room.free as u32)
+            append_submit(out, caller, packet, 2, room.need, room.free as u32, 0)
         }
         _ => unreachable!(),
     }

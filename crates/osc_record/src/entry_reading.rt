@@ -17,7 +17,7 @@ use osc_message::Args;
 /// What the message of each event begins with: its address, and the tags of its arguments.
 const ENROL: [u8; 16] = *b"/osc/enrol\0\0,ii\0";
 
-const SUBMIT: [u8; 20] = *b"/osc/submit\0,ibihi\0\0";
+const SUBMIT: [u8; 20] = *b"/osc/submit\0,ibihii\0";
 
 const ADD: [u8; 20] = *b"/osc/add\0\0\0\0,isiii\0\0";
 
@@ -37,7 +37,7 @@ pub(crate) fn read_message(bytes: &[u8]) -> Option<Parts<'_>>
     if bytes.starts_with(&ENROL) {
         read_enrol(Args::read(b"ii", bytes, 16)?)
     } else if bytes.starts_with(&SUBMIT) {
-        read_submit(Args::read(b"ibihi", bytes, 20)?)
+        read_submit(Args::read(b"ibihii", bytes, 20)?)
     } else if bytes.starts_with(&ADD) {
         read_add(Args::read(b"isiii", bytes, 20)?)
     } else if bytes.starts_with(&REMOVE) {
@@ -77,10 +77,11 @@ fn read_submit<'a>(mut args: Args<'a>) -> Option<Parts<'a>>
     let code = next_int(&mut args)?;
     let first = next_long(&mut args)?;
     let second = next_int(&mut args)?;
+    let third = next_int(&mut args)?;
     if args.next().is_some() {
         return None;
     }
-    let answer = submit_answer(code, first, second)?;
+    let answer = submit_answer(code, first, second, third)?;
     Some(Parts {
         caller,
         event: Event::Submit(packet),

@@ -23,8 +23,8 @@ pub enum Answer<'a> {
     /// A new caller's number.
     Number(u32),
     CallersFull,
-    /// The number of the packet's first unit, and how many units it has.
-    Queued { first: u64, count: u32 },
+    /// The number of the packet's first unit, how many units it has, and how many of them are late and aren't kept.
+    Queued { first: u64, count: u32, late: u32 },
     UnitsFull(Room),
     PoolFull(Room),
     /// The method's id.

@@ -1,6 +1,7 @@
 //! What the definitions of recordings say of each other. These functions do nothing; their contracts are the laws.
 ghost use Rattle.std.specs.Prelude.{◌≡◌, ℕ, ◌%◌, ◌≤◌, List, [], ◌∷◌, ◌++◌, length, codes, Ok, Some};
 ghost use Rattle.osc_atoms.specs.Atoms.{AreBytes};
+ghost use Rattle.osc_model.specs.declared.late.Late.TheVariants.{Deliver};
 ghost use Rattle.osc_model.specs.Events.{Event, Answer, tick, ticked};
 ghost use Rattle.osc_model.specs.Limits.{AreInRange, Limits, header_size, max_recording};
 ghost use Rattle.osc_model.specs.Events.{Entry as Recorded};
@@ -76,10 +77,11 @@ pub fn examples()
           nodes = 4096;
           callers = 1;
           recording = 67108864;
+          late = Deliver;
         })
-        ≡ 0 ∷ 0 ∷ 0 ∷ 0x34 ∷ codes "/osc/rec" ++ 0 ∷ 0 ∷ 0 ∷ 0 ∷ codes ",iiiiiii"
-        ++ 0 ∷ 0 ∷ 0 ∷ 0 ∷ 0 ∷ 0 ∷ 0 ∷ 1 ∷ 0 ∷ 0 ∷ 0x10 ∷ 0 ∷ 0 ∷ 0 ∷ 0x40 ∷ 0 ∷ 0 ∷ 0 ∷ 4 ∷ 0 ∷ 0
-        ∷ 0 ∷ 0x10 ∷ 0 ∷ 0 ∷ 0 ∷ 0 ∷ 1 ∷ 4 ∷ 0 ∷ 0 ∷ 0 ∷ [] }
+        ≡ 0 ∷ 0 ∷ 0 ∷ 0x38 ∷ codes "/osc/rec" ++ 0 ∷ 0 ∷ 0 ∷ 0 ∷ codes ",iiiiiiii"
+        ++ 0 ∷ 0 ∷ 0 ∷ 0 ∷ 0 ∷ 0 ∷ 2 ∷ 0 ∷ 0 ∷ 0x10 ∷ 0 ∷ 0 ∷ 0 ∷ 0x40 ∷ 0 ∷ 0 ∷ 0 ∷ 4 ∷ 0 ∷ 0
+        ∷ 0 ∷ 0x10 ∷ 0 ∷ 0 ∷ 0 ∷ 0 ∷ 1 ∷ 4 ∷ 0 ∷ 0 ∷ 0 ∷ 0 ∷ 0 ∷ 0 ∷ 0 ∷ [] }
     ensures entry { entry_text 0 (tick 5) ticked
         ≡ 0 ∷ 0 ∷ 0 ∷ 0x2c ∷ codes "/osc/tick" ++ 0 ∷ 0 ∷ 0 ∷ codes ",itit"
         ++ 0 ∷ 0 ∷ 0 ∷ 0 ∷ 0 ∷ 0 ∷ 0 ∷ 0 ∷ 0 ∷ 0 ∷ 0 ∷ 0 ∷ 0 ∷ 0 ∷ 5 ∷ 0 ∷ 0 ∷ 0 ∷ 0 ∷ 0 ∷ 0 ∷ 0 ∷ 0

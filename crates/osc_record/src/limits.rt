@@ -1,7 +1,7 @@
 // The limits of limits, and the size of a header.
 
 /// How many bytes the header of a recording has.
-pub const HEADER_SIZE: u32 = 56;
+pub const HEADER_SIZE: u32 = 60;
 
 /// The most queued units, blocks or nodes.
 pub const MAX_RESERVED: u32 = 1_048_576;

@@ -8,6 +8,7 @@ ghost use Rattle.osc_model.specs.Recordings.{remove_row, tick_row, header_text};
 
 use crate::caps::Caps;
 use crate::message::append_message;
+use crate::policy::late_code;
 use osc_message::Arg;
 
 /// Appends the header.
@@ -19,15 +20,16 @@ pub(crate) fn append_header(out: &mut Vec<u8>, caps: Caps)
     append_message(
         out,
         b"/osc/rec",
-        b",iiiiiii",
+        b",iiiiiiii",
         &[
-            Arg::Int(1),
+            Arg::Int(2),
             Arg::Int(caps.units() as i32),
             Arg::Int(caps.blocks() as i32),
             Arg::Int(caps.methods() as i32),
             Arg::Int(caps.nodes() as i32),
             Arg::Int(caps.callers() as i32),
             Arg::Int(caps.recording() as i32),
+            Arg::Int(late_code(caps.late()) as i32),
         ],
     );
 }
@@ -47,7 +49,7 @@ pub(crate) fn append_enrol(out: &mut Vec<u8>, caller: u32, answer: i32)
     );
 }
 
-/// Appends a submit with the code and the two numbers of its answer.
+/// Appends a submit with the code and the three numbers of its answer.
 pub(crate) fn append_submit(
     out: &mut Vec<u8>,
     caller: u32,
@@ -55,27 +57,29 @@ pub(crate) fn append_submit(
     code: u32,
     first: u64,
     second: u32,
+    third: u32,
 )
-    requires fits { AllFit (submit_row caller packet.now (code, first, second)).arguments }
-    requires small { length (row_text (submit_row caller packet.now (code, first, second)))
+    requires fits { AllFit (submit_row caller packet.now (code, first, second, third)).arguments }
+    requires small { length (row_text (submit_row caller packet.now (code, first, second, third)))
         ≤ max_recording }
     requires room { vec_len out.old + length
-        (sized (row_text (submit_row caller packet.now (code, first, second))))
+        (sized (row_text (submit_row caller packet.now (code, first, second, third))))
         ≤ vec_capacity out.old }
     ensures out { out.new.items ≡ out.old.items
-        ++ sized (row_text (submit_row caller packet.now (code, first, second))) }
+        ++ sized (row_text (submit_row caller packet.now (code, first, second, third))) }
     ensures capacity { vec_capacity out.old ≤ vec_capacity out.new }
 {
     append_message(
         out,
         b"/osc/submit",
-        b",ibihi",
+        b",ibihii",
         &[
             Arg::Int(caller as i32),
             Arg::Blob(packet),
             Arg::Int(code as i32),
             Arg::Long(first as i64),
             Arg::Int(second as i32),
+            Arg::Int(third as i32),
         ],
     );
 }

@@ -13,8 +13,10 @@ use crate::caps::Caps;
 use crate::entry_reading::read_message;
 use crate::limits::HEADER_SIZE;
 use crate::parts::Parts;
+use crate::policy::late_told;
 use osc_atoms::MAX_BYTES;
 use osc_message::{Args, Message};
+use osc_model::Late;
 
 /// The message after the size that the bytes begin with.
 fn first_message(bytes: &[u8]) -> Option<&[u8]>
@@ -90,10 +92,19 @@ fn read_limits(mut args: Args<'_>) -> Option<Caps>
     let nodes = next_int(&mut args)?;
     let callers = next_int(&mut args)?;
     let recording = next_int(&mut args)?;
-    if args.next().is_some() || version != 1 {
+    let late = next_int(&mut args)?;
+    if args.next().is_some() || version != 2 {
         return None;
     }
-    lawful_caps(units, blocks, methods, nodes, callers, recording)
+    lawful_caps(
+        units,
+        blocks,
+        methods,
+        nodes,
+        callers,
+        recording,
+        late_told(late)?,
+    )
 }
 
 fn lawful_caps(
@@ -103,6 +114,7 @@ fn lawful_caps(
     nodes: u32,
     callers: u32,
     recording: u32,
+    late: Late,
 ) -> Option<Caps>
     ensures { result
         ≡ lawful_limits
@@ -113,9 +125,10 @@ fn lawful_caps(
           nodes = nodes;
           callers = callers;
           recording = recording;
+          late = late;
         }) }
 {
-    match Caps::new(units, blocks, methods, nodes, callers, recording) {
+    match Caps::new(units, blocks, methods, nodes, callers, recording, late) {
         Ok(caps) => Some(caps),
         Err(_) => None,
     }

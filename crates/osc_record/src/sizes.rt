@@ -12,9 +12,9 @@ pub const TICK_SIZE: u64 = 48;
 
 /// How many bytes the entry of a submit of the packet has.
 pub fn submit_size(packet: &[u8]) -> u64
-    ensures { result ≡ 48 + (length packet.now + blob_end (length packet.now)) }
+    ensures { result ≡ 52 + (length packet.now + blob_end (length packet.now)) }
 {
-    44 + blob_size(packet.len()) as u64
+    48 + blob_size(packet.len()) as u64
 }
 
 /// How many bytes the entry of an add at the address has.

@@ -6,6 +6,7 @@ use Rattle.osc_print.specs.Entries.{invocation_text}
 use Rattle.osc_packet.specs.Units.{TimedUnit}
 use Rattle.osc_queue.specs.Timed.{TimedQueue, due_of, unit_of}
 use Rattle.osc_tree.specs.Registry.{Registry}
+use Rattle.osc_model.specs.declared.late.Late.{Late}
 use Rattle.osc_model.specs.State.{State, Queued, registry}
 use Rattle.osc_model.specs.Counts.{free_bytes}
 use Rattle.osc_model.specs.Events.{Event, add, release, released, refused, adds_entry, Hit, Call}
@@ -21,8 +22,8 @@ use Rattle.osc_replay.specs.Calls.{hits_bytes, call_lines}
 use Rattle.osc_replay.specs.Playing.{Decides, Enters}
 
 -- the state of a server with these parts
-abbrev pub server_state : Registry → TimedQueue TimedUnit → (blocks clock next_id next_unit callers caller_limit recorded record_limit : ℕ) → State
-server_state tree queue blocks clock next_id next_unit callers caller_limit recorded record_limit = record {
+abbrev pub server_state : Registry → TimedQueue TimedUnit → (blocks clock next_id next_unit callers caller_limit recorded record_limit : ℕ) → Late → State
+server_state tree queue blocks clock next_id next_unit callers caller_limit recorded record_limit late = record {
   caps = record {
     units = queue.limit;
     blocks = blocks;
@@ -30,6 +31,7 @@ server_state tree queue blocks clock next_id next_unit callers caller_limit reco
     nodes = tree.node_limit;
     callers = caller_limit;
     recording = record_limit;
+    late = late;
   };
   methods = tree.methods;
   queue = queue.items;

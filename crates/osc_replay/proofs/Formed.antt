@@ -77,7 +77,7 @@ record_split limits front more =
     ap (λ (l : List ℕ). header_text limits ++ l) (flat_map-append (λ (e : Entry). entry_text e.caller e.event e.answer) front more)
     ∙ sym (append_assoc (header_text limits) (texts front) (texts more))
 
-pub record_length : (limits : Limits) (entries : List Entry) → length (record_text limits entries) ≡ 56 + length (texts entries)
+pub record_length : (limits : Limits) (entries : List Entry) → length (record_text limits entries) ≡ 60 + length (texts entries)
 record_length limits entries = omega (arith, header_size limits, length-append (header_text limits) (texts entries))
 
 -- two entries that some bytes begin with are one
@@ -228,7 +228,7 @@ no_place bytes at caps history formed same (inr is) =
     sym (drop_front (header_text is.limits) (texts is.entries ++ is.rest)) ∙ ap (drop (length (header_text is.limits))) (sym split ∙ same)
     ∙ ap (λ (l : List ℕ). drop (length l) (header_text caps ++ texts history)) header ∙ drop_front (header_text caps) (texts history) in
     let limit = ap (λ (l : Limits). l.recording) one in
-    never caps.recording 56 at is.entries history is.rest is.formed.record_.all formed.record_.all formed.lawful
+    never caps.recording 60 at is.entries history is.rest is.formed.record_.all formed.record_.all formed.lawful
     (omega (arith, formed.record_.fits, record_length caps history)) formed.record_.lawful.recording.below
     (is.place ∙ record_length is.limits is.entries) is.some
     (λ entry more recordable lawful fits rest. is.none entry more recordable lawful (omega (arith, fits, limit)) rest) behind

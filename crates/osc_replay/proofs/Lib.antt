@@ -6,5 +6,6 @@ pub mod Entering
 pub mod Reached
 pub mod Agreeing
 pub mod Replayed
+pub mod Tallying
 pub mod Listed
 pub mod Tallies

@@ -78,6 +78,18 @@ count [] all = omega arith
 count (e ∷ entries) all =
     omega (arith, count entries all.1, entry_some e.caller e.event e.answer all.0.fits, length-append (entry_text e.caller e.event e.answer) (texts entries))
 
+-- the entries so far are those before, and the next one
+pub none_before : (bytes : List ℕ) (left : Remaining) (is : HasHeader bytes left) → (played_none bytes left is).before ≡ []
+unfolding played_none
+none_before bytes left is = refl
+
+pub more_before : (bytes : List ℕ) (left rest : Remaining) (placed : Placed) (state new : State) (text more : List ℕ) (number : ℕ)
+    (is : IsPlayed bytes left state text number) (reads : Reads left placed rest) (lawful : IsLawful placed.entry.event)
+    (goes : Goes placed.entry state new text more)
+    → (played_more bytes left rest placed state new text more number is reads lawful goes).before ≡ is.before ++ placed.entry ∷ []
+unfolding played_more
+more_before bytes left rest placed state new text more number is reads lawful goes = refl
+
 pub few_played : (bytes : List ℕ) (left : Remaining) (state : State) (text : List ℕ) (number : ℕ) → IsPlayed bytes left state text number
     → number ≤ length bytes
 few_played bytes left state text number is =
@@ -157,20 +169,20 @@ none_disagrees fit within bytes entry kept computed caps history d is =
 
 -- what is answered where an entry isn't played, and all that follows is formed
 
-pub stops_not_malformed : (fault : ReplayFault) (number : ℕ) (kept computed : List ℕ) (holds : ℕ → Type 0) → Differs fault number kept computed
-    → OnMalformed (Err fault) holds
-stops_not_malformed (Malformed at) number kept computed holds differs = absurd differs
-stops_not_malformed (Disagrees entry own given) number kept computed holds differs = tt
-stops_not_malformed NoMemory number kept computed holds differs = tt
+pub stops_not_malformed : (X : Type 0) (fault : ReplayFault) (number : ℕ) (kept computed : List ℕ) (holds : ℕ → Type 0) → Differs fault number kept computed
+    → OnMalformed {X = X} (Err fault) holds
+stops_not_malformed X (Malformed at) number kept computed holds differs = absurd differs
+stops_not_malformed X (Disagrees entry own given) number kept computed holds differs = tt
+stops_not_malformed X NoMemory number kept computed holds differs = tt
 
-pub stops_disagreeing : (bytes : List ℕ) (left rest : Remaining) (placed : Placed) (state : State) (text : List ℕ) (number : ℕ) (fault : ReplayFault)
+pub stops_disagreeing : (X : Type 0) (bytes : List ℕ) (left rest : Remaining) (placed : Placed) (state : State) (text : List ℕ) (number : ℕ) (fault : ReplayFault)
     → IsPlayed bytes left state text number → Reads left placed rest → IsLawful placed.entry.event → EndsFormed rest
     → Differs fault number (entry_text placed.entry.caller placed.entry.event placed.entry.answer) (computed_text state placed.entry.caller placed.entry.event)
-    → OnDisagrees (Err fault) (λ entry kept computed. DisagreesAt bytes entry kept computed)
-stops_disagreeing bytes left rest placed state text number (Malformed at) is reads lawful ends differs = tt
-stops_disagreeing bytes left rest placed state text number (Disagrees entry kept computed) is reads lawful ends differs =
+    → OnDisagrees {X = X} (Err fault) (λ entry kept computed. DisagreesAt bytes entry kept computed)
+stops_disagreeing X bytes left rest placed state text number (Malformed at) is reads lawful ends differs = tt
+stops_disagreeing X bytes left rest placed state text number (Disagrees entry kept computed) is reads lawful ends differs =
     disagrees bytes left rest placed state text number entry kept computed is reads lawful ends differs
-stops_disagreeing bytes left rest placed state text number NoMemory is reads lawful ends differs = tt
+stops_disagreeing X bytes left rest placed state text number NoMemory is reads lawful ends differs = tt
 
 pub stops_short : AllFit → StaysWithin
     → (bytes : List ℕ) (left rest : Remaining) (other : Limits) (history : List Entry) (placed : Placed) (state : State) (text : List ℕ) (number : ℕ)

@@ -174,13 +174,13 @@ is_short within bytes caps history is =
     omega (arith, ap length is.text, within caps history is.legal, is.legal.0.recording.below)
 
 pub is_light : AllFit → StaysWithin → (bytes : List ℕ) (placed : List Placed) (caps : Limits) (history : List Entry) → IsRecordingOf bytes caps history
-    → placed ≡ placed_from 56 history → weight (unplaced placed) ≤ 2 ^ 62
+    → placed ≡ placed_from 60 history → weight (unplaced placed) ≤ 2 ^ 62
 is_light fit within bytes placed caps history is same =
-    let own = ap weight (ap unplaced same ∙ without_places 56 history) in
+    let own = ap weight (ap unplaced same ∙ without_places 60 history) in
     omega (arith, own, light history (fit caps history is.legal), record_length caps history, ap length is.text, is_short within bytes caps history is)
 
 pub summed : (bytes text : List ℕ) (placed : List Placed) (caps : Limits) (history : List Entry) → IsRecordingOf bytes caps history
-    → placed ≡ placed_from 56 history → text ≡ counts_text (more_counted no_counts (unplaced placed)) (length bytes) → text ≡ summary caps history
+    → placed ≡ placed_from 60 history → text ≡ counts_text (more_counted no_counts (unplaced placed)) (length bytes) → text ≡ summary caps history
 summed bytes text placed caps history is same text_is =
-    text_is ∙ ap (λ (l : List Entry). counts_text (more_counted no_counts l) (length bytes)) (ap unplaced same ∙ without_places 56 history)
+    text_is ∙ ap (λ (l : List Entry). counts_text (more_counted no_counts l) (length bytes)) (ap unplaced same ∙ without_places 60 history)
     ∙ ap₂ counts_text (all_counted history ∙ ap (λ (n : ℕ). counts_of n history) (sym (all_many (opening caps) history is.legal.1))) (ap length is.text)

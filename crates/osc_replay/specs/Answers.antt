@@ -1,16 +1,17 @@
--- What a replay is answered.
+-- What a replay and a check are answered.
 use Rattle.std.specs.Prelude.{◌≡◌, ℕ, List, Result, Ok, Err}
 use Rattle.osc_replay.specs.declared.fault.ReplayFault.{ReplayFault}
 use Rattle.osc_replay.specs.declared.fault.ReplayFault.TheVariants.{Malformed, Disagrees, NoMemory}
 
 -- where the recording is malformed, this holds of the place
-abbrev pub OnMalformed : Result (List ℕ) ReplayFault → (ℕ → Type 0) → Type 0
+abbrev pub OnMalformed : {X : Type 0} → Result X ReplayFault → (ℕ → Type 0) → Type 0
 OnMalformed (Err (Malformed at)) holds = holds at
 OnMalformed _ holds = Unit {0}
 
 -- where an entry disagrees, this holds of its number, of the bytes that are kept, and of those that
 -- the server computed
-abbrev pub OnDisagrees : Result (List ℕ) ReplayFault → (ℕ → List ℕ → List ℕ → Type 0) → Type 0
+abbrev pub OnDisagrees : {X : Type 0} → Result X ReplayFault
+    → (ℕ → List ℕ → List ℕ → Type 0) → Type 0
 OnDisagrees (Err (Disagrees entry kept computed)) holds = holds entry kept computed
 OnDisagrees _ holds = Unit {0}
 

@@ -16,7 +16,7 @@ is_submit (submit packet) = true
 is_submit _ = false
 
 abbrev pub is_queued : Answer → Bool
-is_queued (queued first count) = true
+is_queued (queued first count late) = true
 is_queued _ = false
 
 abbrev pub is_added : Answer → Bool

@@ -7,6 +7,7 @@ pub mod Formed
 pub mod Printed
 -- Inside the crate.
 pub mod Calls
+pub mod Checking
 pub mod Events
 pub mod Kept
 pub mod Lawful

@@ -84,7 +84,7 @@ fn is_queued(answer: Answer<'_>) -> bool
     matches!(answer, Answer::Queued { .. })
 }
 
-fn is_added(answer: Answer<'_>) -> bool
+pub(crate) fn is_added(answer: Answer<'_>) -> bool
     ensures { result ≡ Counted.is_added (answer_of answer.entry) }
 {
     matches!(answer, Answer::Added(_))

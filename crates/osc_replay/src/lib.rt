@@ -4,6 +4,7 @@
 
 mod agreement;
 mod calls;
+mod checking;
 mod counts;
 mod dumping;
 mod event;
@@ -17,6 +18,7 @@ mod server;
 mod summing;
 mod units;
 
+pub use checking::{Checked, check};
 pub use dumping::{DumpFault, dump};
 pub use fault::ReplayFault;
 pub use replaying::replay;

@@ -99,6 +99,41 @@ fn replay_row<'a>(
     }
 }
 
+/// Tells whether the answer of the entry with a number is the one that is computed.
+pub(crate) fn agreed(
+    alloc: Global,
+    number: u32,
+    entry: &Entry<'_>,
+    answer: Answer<'_>,
+) -> Result<(), ReplayFault>
+    requires whole { HasWholeHits answer }
+    requires kept { IsRecordable entry.now.caller (event_of entry.now.event)
+        (answer_of entry.now.answer) }
+    requires kept_small { length
+        (entry_text entry.now.caller (event_of entry.now.event) (answer_of entry.now.answer))
+        ≤ max_recording }
+    requires computed { IsRecordable entry.now.caller (event_of entry.now.event)
+        (answer_of answer) }
+    requires computed_small { length
+        (entry_text entry.now.caller (event_of entry.now.event) (answer_of answer))
+        ≤ max_recording }
+    ensures agree { OnOk result (answer_of entry.now.answer ≡ answer_of answer.entry) }
+    ensures differs { IfErr result
+        (λ fault. Differs fault number
+        (entry_text entry.now.caller (event_of entry.now.event) (answer_of entry.now.answer))
+        (entry_text entry.now.caller (event_of entry.now.event) (answer_of answer.entry))) }
+{
+    osc_record::laws::entries_have_their_own_texts();
+    if !agree(entry.answer, answer) {
+        return Err(ReplayFault::Disagrees {
+            entry: number,
+            kept: entry_bytes(alloc, entry.caller, entry.event, entry.answer)?,
+            computed: entry_bytes(alloc, entry.caller, entry.event, answer)?,
+        });
+    }
+    Ok(())
+}
+
 /// Prints the entry with a number and its lines, if its answer is the one that is computed.
 fn print_agreed(
     alloc: Global,
@@ -127,14 +162,7 @@ fn print_agreed(
         (entry_text entry.now.caller (event_of entry.now.event) (answer_of entry.now.answer))
         (entry_text entry.now.caller (event_of entry.now.event) (answer_of answer.entry))) }
 {
-    osc_record::laws::entries_have_their_own_texts();
-    if !agree(entry.answer, answer) {
-        return Err(ReplayFault::Disagrees {
-            entry: number,
-            kept: entry_bytes(alloc, entry.caller, entry.event, entry.answer)?,
-            computed: entry_bytes(alloc, entry.caller, entry.event, answer)?,
-        });
-    }
+    agreed(alloc, number, entry, answer)?;
     entry_line(text, entry)?;
     text.word(lines)?;
     Ok(())

@@ -11,6 +11,7 @@ use crate::event::LawfulEvent;
 use crate::outcome::Outcome;
 use crate::units::{Queued, enter_all};
 use osc_atoms::Room;
+use osc_model::{Late, Need};
 use osc_packet::Packet;
 use osc_pattern::Address;
 use osc_queue::Queue;
@@ -42,6 +43,8 @@ pub(crate) struct Server<'a> {
     caller_limit: u32,
     recorded: u32,
     record_limit: u32,
+    /// What becomes of late units.
+    late: Late,
 }
 
 impl<'a> Model for Server<'a> {
@@ -59,6 +62,7 @@ impl<'a> Model for Server<'a> {
         callers =
             s.caller_limit;
         recording = s.record_limit;
+        late = s.late;
       };
       methods = s.tree.methods;
       queue = s.queue.items;
@@ -82,6 +86,13 @@ impl<'a> Server<'a> {
     ghost use Rattle.osc_replay.specs.Events.{event_in};
     ghost use Rattle.osc_replay.specs.Playing.{IsReached, Decides, Does, Releases, ComesTo};
 
+    /// How many callers are enrolled.
+    pub(crate) fn callers(&self) -> u32
+        ensures { result ≡ self.now.callers }
+    {
+        self.callers
+    }
+
     pub(crate) fn open(alloc: Global, caps: Caps) -> Result<Server<'a>, AllocError>
         ensures { IfOk result (λ server. server ≡ opening caps) }
     {
@@ -99,6 +110,7 @@ impl<'a> Server<'a> {
             caller_limit: caps.callers(),
             recorded: HEADER_SIZE,
             record_limit: caps.recording(),
+            late: caps.late(),
         })
     }
 
@@ -171,27 +183,40 @@ impl<'a> Server<'a> {
         Answer::Number(caller)
     }
 
-    /// Queues all of the packet's units, or none of them.
+    /// Queues all of the packet's units that are kept, or none of them.
     fn submit(&mut self, packet: &Packet<'a>) -> Answer<'static>
         requires sound { IsSound self.old }
         requires counted { IsCounted self.old }
         ensures { Decides result self.old (submit packet.now) self.new }
     {
         let count = packet.count();
+        let Need {
+            places: keeps,
+            blocks: need,
+        } = self.late.need(self.clock, packet);
         let places = self.queue.free();
-        if count > places {
-            return Answer::UnitsFull(Room::new(count as u64, places as u64));
+        if keeps > places {
+            return Answer::UnitsFull(Room::new(keeps as u64, places as u64));
         }
-        let need = packet.blocks();
         let free = self.blocks - self.used;
         if need > free {
             return Answer::PoolFull(Room::new(need as u64, free as u64));
         }
         let first = self.next_unit;
-        enter_all(&mut self.queue, packet.units(), self.clock, first);
+        enter_all(
+            &mut self.queue,
+            packet.units(),
+            self.late,
+            self.clock,
+            first,
+        );
         self.used += need;
         self.next_unit += count as u64;
-        Answer::Queued { first, count }
+        Answer::Queued {
+            first,
+            count,
+            late: count - keeps,
+        }
     }
 
     fn add(&mut self, address: &[u8]) -> Result<Answer<'static>, AllocError>

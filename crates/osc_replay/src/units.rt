@@ -1,9 +1,10 @@
 // Units that wait, with the blocks that they take.
-ghost use Rattle.std.specs.Prelude.{◌≡◌, ◌≤◌, ◌+◌, ◌<◌, ◌^◌, length};
+ghost use Rattle.std.specs.Prelude.{◌≡◌, ◌≤◌, ◌+◌, ◌<◌, ◌^◌, ◌∷◌, [], length};
 ghost use Rattle.osc_queue.specs.Timed as timed;
 ghost use Rattle.osc_model.specs.State.{AreNumbered};
 ghost use Rattle.osc_model.specs.Step as step;
 
+use osc_model::Late;
 use osc_packet::{Packet, Unit, UnitMessages, Units};
 use osc_queue::Queue;
 use std::marker::Model;
@@ -59,19 +60,49 @@ impl<'a> Queued<'a> {
     }
 }
 
-/// The units enter, numbered from `first` on.
-pub(crate) fn enter_all<'a>(queue: &mut Queue<Queued<'a>>, units: Units<'a>, clock: u64, first: u64)
+/// The units that are kept enter, numbered from `first` on as all of them are.
+pub(crate) fn enter_all<'a>(
+    queue: &mut Queue<Queued<'a>>,
+    units: Units<'a>,
+    late: Late,
+    clock: u64,
+    first: u64,
+)
     requires given { AreNumbered first queue.old.items }
     requires numbers { first + length units < 2 ^ 64 }
-    requires places { length queue.old.items + length units ≤ queue.old.limit }
+    requires places { length queue.old.items + length (step.kept late clock units)
+        ≤ queue.old.limit }
     ensures items { queue.new.items
-        ≡ step.enter_all (step.numbered clock first units.entry) queue.old.items }
+        ≡ step.enter_all (step.kept_numbered late clock first units.entry) queue.old.items }
     ensures limit { queue.new.limit ≡ queue.old.limit }
 {
     let mut number = first;
     for unit in units {
-        enter(queue, Queued::new(unit), clock, number);
+        enter_kept(queue, unit, late, clock, number);
         number += 1;
+    }
+}
+
+/// One unit enters, if it is kept.
+fn enter_kept<'a>(
+    queue: &mut Queue<Queued<'a>>,
+    unit: Unit<'a>,
+    late: Late,
+    clock: u64,
+    number: u64,
+)
+    requires given { AreNumbered number queue.old.items }
+    requires place { length queue.old.items + length (step.kept late clock (unit ∷ []))
+        ≤ queue.old.limit }
+    ensures items { queue.new.items
+        ≡ step.enter_all (step.kept_numbered late clock number (unit.entry ∷ [])) queue.old.items }
+    ensures given { AreNumbered (number + 1) queue.new.items }
+    ensures length { length queue.new.items
+        ≡ length queue.old.items + length (step.kept late clock (unit.entry ∷ [])) }
+    ensures limit { queue.new.limit ≡ queue.old.limit }
+{
+    if late.keeps(clock, &unit) {
+        enter(queue, Queued::new(unit), clock, number);
     }
 }
 

@@ -25,5 +25,7 @@ pub use fault::{ScriptFault, ScriptRefusal};
 pub use generating::MAX_GENERATED_LINES;
 pub use lane::MAX_LANES;
 pub use line::Line;
+pub use line_writing::{put_digits, put_line};
 pub use mode::Mode;
 pub use script::{MAX_SCRIPT, Script};
+pub use words::{first_line, next_word};

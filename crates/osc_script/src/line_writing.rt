@@ -62,7 +62,7 @@ pub(crate) fn put_drawn_line(
 }
 
 /// Adds a line of a word and its operand.
-pub(crate) fn put_line(script: &mut Vec<u8>, word: &[u8], operand: &[u8]) -> Result<(), AllocError>
+pub fn put_line(script: &mut Vec<u8>, word: &[u8], operand: &[u8]) -> Result<(), AllocError>
     ensures { OnOk result
         (script.new.items
         ≡ script.old.items ++ (with_operand word.now operand.now ++ 10 ∷ [])) }
@@ -73,8 +73,8 @@ pub(crate) fn put_line(script: &mut Vec<u8>, word: &[u8], operand: &[u8]) -> Res
     script.extend_from_slice(b"\n")
 }
 
-/// The same, the operand being the digits of these bytes.
-fn put_digits(
+/// Adds a line of a word and, as its operand, the digits of these bytes.
+pub fn put_digits(
     alloc: Global,
     script: &mut Vec<u8>,
     word: &[u8],

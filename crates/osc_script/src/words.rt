@@ -5,7 +5,7 @@ ghost use Rattle.osc_script.specs.Words.{is_space, is_no_space, is_line_feed, wo
 
 #[tactic(auto, using(crate::proofs::Cutting::lines))]
 /// The first line without what ends it, and what follows it.
-pub(crate) fn first_line(rest: &[u8]) -> (&[u8], &[u8])
+pub fn first_line(rest: &[u8]) -> (&[u8], &[u8])
     requires { 0 < length rest.now }
     ensures lines { lines_of rest.now ≡ result.0.now ∷ lines_of result.1.now }
     ensures shorter { length result.1.now < length rest.now }
@@ -33,7 +33,7 @@ fn without_return(line: &[u8]) -> &[u8]
 
 #[tactic(auto, using(crate::proofs::Cutting::words))]
 /// The first word, and what follows the space behind it.
-pub(crate) fn next_word(text: &[u8]) -> Option<(&[u8], &[u8])>
+pub fn next_word(text: &[u8]) -> Option<(&[u8], &[u8])>
     ensures words { MatchOption result (words_of text.now ≡ [])
         (λ parts. words_of text.now ≡ parts.0.now ∷ words_of parts.1.now) }
     ensures shorter { IfSome result (λ parts. length parts.1.now < length text.now) }

@@ -6,7 +6,7 @@ use crate::parts::{address, empty, push_add, push_line};
 use osc_lanes::{LanePart, OpenGate, Performed, perform};
 use osc_message::Bytes;
 use osc_method::Mute;
-use osc_record::{Caps, Event, Reader};
+use osc_record::{Caps, Event, Late, Reader};
 use osc_replay::replay;
 use osc_script::Act;
 use std::alloc::Global;
@@ -42,7 +42,9 @@ fn performed<R: Threads + Wait + Sync>(
     alloc: Global,
     recording: u32,
 ) -> Result<Performed<Mute>, Fail> {
-    let caps = Caps::new(8, 8, 8, 8, 3, recording).ok().ok_or("limits")?;
+    let caps = Caps::new(8, 8, 8, 8, 3, recording, Late::Deliver)
+        .ok()
+        .ok_or("limits")?;
     let adding = adding(alloc)?;
     let sending = sending(alloc)?;
     let mut parts = Vec::with_capacity(alloc, 2)?;
@@ -100,8 +102,8 @@ fn each_caller_has_the_entries_of_its_lane_in_order(rt: HostRuntime) -> Result<(
 
 #[test]
 fn no_lane_is_started_where_an_enrolment_finds_no_room(rt: HostRuntime) -> Result<(), Fail> {
-    // The header has 56 bytes, and the first enrolment 28.
-    let done = performed(&rt, rt.alloc(), 56 + 28)?;
+    // The header has 60 bytes, and the first enrolment 28.
+    let done = performed(&rt, rt.alloc(), 60 + 28)?;
     let room = done.unenrolled.ok_or("a room")?;
     assert_eq!(rt; (room.need, room.free), (28, 0));
     assert_eq!(rt;

@@ -10,7 +10,7 @@ use osc_lanes::{Gate, LaneEnd, LanePart, LanePlan, play};
 use osc_live::{Caller, Live};
 use osc_message::Bytes;
 use osc_method::Mute;
-use osc_record::Caps;
+use osc_record::{Caps, Late};
 use osc_script::Act;
 use std::alloc::Global;
 use std::sync::Wait;
@@ -64,7 +64,9 @@ fn play_both<R: Threads + Wait + Sync, G: Gate + Sync>(
     alloc: Global,
     gate: &G,
 ) -> Result<Vec<LaneEnd<Mute>>, Fail> {
-    let caps = Caps::new(8, 8, 8, 8, 3, 4096).ok().ok_or("limits")?;
+    let caps = Caps::new(8, 8, 8, 8, 3, 4096, Late::Deliver)
+        .ok()
+        .ok_or("limits")?;
     let (live, first) = Live::open(alloc, caps)?;
     let (first, one) = enrolled(rt, &live, first)?;
     let (_, two) = enrolled(rt, &live, first)?;

@@ -10,7 +10,7 @@ use osc_lanes::{Bounds, Gate, OpenGate, ServeEnd, serve};
 use osc_live::Live;
 use osc_message::Bytes;
 use osc_method::{Call, Method, Mute};
-use osc_record::Caps;
+use osc_record::{Caps, Late};
 use std::alloc::Global;
 use std::sync::atomic::{AtomicU64, Ordering};
 use std::sync::{Arc, Wait};
@@ -55,7 +55,9 @@ fn serve_both<M: Method + Send, R: Threads + Wait + Sync, G: Gate + Sync>(
     second_link: MemoryLink,
     gate: &G,
 ) -> Result<ServeEnd<MemoryLink>, Fail> {
-    let caps = Caps::new(8, 8, 8, 8, 4, 4096).ok().ok_or("limits")?;
+    let caps = Caps::new(8, 8, 8, 8, 4, 4096, Late::Deliver)
+        .ok()
+        .ok_or("limits")?;
     let (live, first) = Live::open(alloc, caps)?;
     let (first, one) = enrolled(rt, &live, first)?;
     let (first, two) = enrolled(rt, &live, first)?;

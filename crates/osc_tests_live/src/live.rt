@@ -165,7 +165,7 @@ const ENDS: [(&str, &str, Setting, u8, &str, usize); 16] = [
     ("lanes f g", TWO_LANES, SETTING, 2, "usage\n", 0),
     ("lanes f --units 1", TWO_LANES, SETTING, 2, "usage\n", 0),
     (
-        "lanes --recording 55 f",
+        "lanes --recording 59 f",
         TWO_LANES,
         SETTING,
         2,
@@ -188,7 +188,7 @@ const ENDS: [(&str, &str, Setting, u8, &str, usize); 16] = [
     ("lanes f", TWO_LANES, NO_BOXES, 8, "bank-short 1 0\n", 0),
     ("lanes f", ONE_TICK, NO_RECORDING, 5, "", 0),
     ("lanes f", ONE_TICK, NO_SINK, 5, "", 132),
-    ("lanes f", "", SETTING, 0, "", 56),
+    ("lanes f", "", SETTING, 0, "", 60),
     (
         "lanes f",
         "0 send\n",

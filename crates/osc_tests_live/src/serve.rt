@@ -193,7 +193,7 @@ const UNPLAYED: [(Given, u8, &str, (usize, usize)); 7] = [
         (1, 7),
     ),
     (
-        ("serve --recording 56 f", ADD, 8, &[]),
+        ("serve --recording 60 f", ADD, 8, &[]),
         6,
         "recording-full 52 0",
         (0, 8),

@@ -6,7 +6,7 @@ use osc_message::Message;
 use osc_method::{Call, Method, Mute, Trace};
 use osc_packet::{MAX_PACKET, Packet};
 use osc_pattern::Address;
-use osc_record::Caps;
+use osc_record::{Caps, Late};
 use std::alloc::Global;
 use std::test::*;
 
@@ -118,7 +118,15 @@ static SCRIPTS: &[Script] = &[
 
 /// A server with these limits: of units, blocks, methods, nodes and callers, and of the recording's bytes.
 fn open<M: Method>(alloc: Global, caps: [u32; 6]) -> Result<Core<M>, Fail> {
-    let caps = Caps::new(caps[0], caps[1], caps[2], caps[3], caps[4], caps[5]);
+    let caps = Caps::new(
+        caps[0],
+        caps[1],
+        caps[2],
+        caps[3],
+        caps[4],
+        caps[5],
+        Late::Deliver,
+    );
     Ok(Core::open(alloc, caps.ok().ok_or("limits")?)?)
 }
 
@@ -137,7 +145,11 @@ fn submit<M: Method>(core: &mut Core<M>, bytes: &[u8]) -> Answer {
     };
     let _ = core.callers();
     match core.submit(0, &packet) {
-        Submitted::Queued { first, count: 1 } => Answer::Queued(first),
+        Submitted::Queued {
+            first,
+            count: 1,
+            late: 0,
+        } => Answer::Queued(first),
         Submitted::UnitsFull(room) => Answer::UnitsFull(room.need, room.free),
         Submitted::PoolFull(room) => Answer::PoolFull(room.need, room.free),
         _ => Answer::Other,
@@ -409,7 +421,7 @@ fn released_boxed(alloc: Global, recording: u32) -> Result<Outcome, Fail> {
 
 #[test]
 fn a_release_without_room_calls_no_box(rt: HostRuntime) -> Result<(), Fail> {
-    match released_boxed(rt.alloc(), 203)? {
+    match released_boxed(rt.alloc(), 211)? {
         (Releasing::RecordFull(one), Releasing::RecordFull(two), 2, Some(0)) => {
             assert_eq!(rt; (one.need, one.free), (52, 51));
             assert_eq!(rt; (two.need, two.free), (52, 51));
@@ -418,7 +430,7 @@ fn a_release_without_room_calls_no_box(rt: HostRuntime) -> Result<(), Fail> {
     }
     let released = Releasing::Released { unit: 0, calls: 1 };
     let none = Releasing::NothingDue { next: None };
-    let within = released_boxed(rt.alloc(), 204)?;
+    let within = released_boxed(rt.alloc(), 212)?;
     assert_eq!(rt; within, (released, none, 3, Some(20)));
     Ok(())
 }

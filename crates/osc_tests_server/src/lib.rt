@@ -4,6 +4,8 @@
 #[cfg(test)]
 mod core_calls;
 #[cfg(test)]
+mod late;
+#[cfg(test)]
 mod live_calls;
 #[cfg(test)]
 mod live_threads;

@@ -187,7 +187,11 @@ fn a_call_that_does_not_wait_finds_the_turn_taken(rt: HostRuntime) -> Result<(),
             released: Err(Busy { found: 7 }),
         }),
         released: Releasing::Released { unit: 0, calls: 1 },
-        then: Some(Ok(Submitted::Queued { first: 1, count: 1 })),
+        then: Some(Ok(Submitted::Queued {
+            first: 1,
+            count: 1,
+            late: 0,
+        })),
         front: 5,
     };
     assert_eq!(rt; hold(&rt, rt.alloc()), Some(held));
@@ -216,7 +220,11 @@ fn submit_and_pump<M: Method, W: Wait>(
     let (caller, submitted) = live.submit(rt, caller, &packet);
     let (caller, pumped) = live.pump(rt, caller);
     let first = match submitted {
-        Submitted::Queued { first, count: 1 } => Some(first),
+        Submitted::Queued {
+            first,
+            count: 1,
+            ..
+        } => Some(first),
         _ => None,
     };
     (caller, first, pumped.released)

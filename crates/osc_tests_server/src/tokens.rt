@@ -5,7 +5,7 @@ ghost use Rattle.osc_live.specs.Seen.{IsTokenOf};
 use osc_core::Closed;
 use osc_live::{Caller, Guest, Live, LiveOut};
 use osc_method::Method;
-use osc_record::Caps;
+use osc_record::{Caps, Late};
 use std::alloc::Global;
 use std::sync::Wait;
 
@@ -13,7 +13,7 @@ pub(crate) fn open<M: Method>(alloc: Global) -> Option<(Live<M>, Caller)>
     ensures ours { IfSome result (λ opened. IsTokenOf opened.0.turn opened.0.caps opened.1.pass) }
     ensures first { IfSome result (λ opened. opened.1.number ≡ 0) }
 {
-    let caps = Caps::new(8, 8, 8, 8, 2, 4096).ok()?;
+    let caps = Caps::new(8, 8, 8, 8, 2, 4096, Late::Deliver).ok()?;
     Live::open(alloc, caps).ok()
 }
 

@@ -12,7 +12,7 @@ use std::process::Abort;
 use std::test::Fail;
 
 /// Events of caller 7, their answers, where no room is lacking, and their lines.
-const LINES: [(Event<'_>, Answer<'_>, &[u8]); 13] = [
+const LINES: [(Event<'_>, Answer<'_>, &[u8]); 14] = [
     (Event::Enrol, Answer::Number(1), b"enrol 7 1\n"),
     (Event::Enrol, Answer::CallersFull, b"enrol 7 full\n"),
     (
@@ -20,8 +20,18 @@ const LINES: [(Event<'_>, Answer<'_>, &[u8]); 13] = [
         Answer::Queued {
             first: 12,
             count: 2,
+            late: 0,
         },
         b"submit 7 queued 12 2\n",
+    ),
+    (
+        Event::Submit(b"/a\0\0"),
+        Answer::Queued {
+            first: 12,
+            count: 2,
+            late: 1,
+        },
+        b"submit 7 queued 12 2 late 1\n",
     ),
     (Event::Add(b"/a/b"), Answer::Added(5), b"add 7 /a/b id 5\n"),
     (
@@ -87,7 +97,7 @@ fn prints(
 {
     let mut text = Text::open(alloc);
     let entry = Entry {
-        at: 56,
+        at: 60,
         caller,
         event,
         answer,
@@ -175,33 +185,33 @@ fn dumped_ticks_have_their_dates(rt: HostRuntime) -> Result<(), Fail> {
     let rows: [(u64, &[u8]); 6] = [
         (
             0,
-            b"56 tick 7 0000000000000000 ticked 1900-01-01T00:00:00Z\n",
+            b"60 tick 7 0000000000000000 ticked 1900-01-01T00:00:00Z\n",
         ),
         (
             0xffff_ffff,
-            b"56 tick 7 00000000ffffffff ticked 1900-01-01T00:00:00Z\n",
+            b"60 tick 7 00000000ffffffff ticked 1900-01-01T00:00:00Z\n",
         ),
         (
             0x0309_6280_0000_0000,
-            b"56 tick 7 0309628000000000 ticked 1901-08-13T15:51:28Z\n",
+            b"60 tick 7 0309628000000000 ticked 1901-08-13T15:51:28Z\n",
         ),
         (
             0x83aa_7e80_0000_0000,
-            b"56 tick 7 83aa7e8000000000 ticked 1970-01-01T00:00:00Z\n",
+            b"60 tick 7 83aa7e8000000000 ticked 1970-01-01T00:00:00Z\n",
         ),
         (
             0xbc66_dbff_8000_0000,
-            b"56 tick 7 bc66dbff80000000 ticked 2000-02-29T23:59:59Z\n",
+            b"60 tick 7 bc66dbff80000000 ticked 2000-02-29T23:59:59Z\n",
         ),
         (
             u64::MAX,
-            b"56 tick 7 ffffffffffffffff ticked 2036-02-07T06:28:15Z\n",
+            b"60 tick 7 ffffffffffffffff ticked 2036-02-07T06:28:15Z\n",
         ),
     ];
     for (moment, want) in rows {
         let mut text = Text::open(rt.alloc());
         let entry = Entry {
-            at: 56,
+            at: 60,
             caller: 7,
             event: Event::Tick(moment),
             answer: Answer::Ticked,

@@ -2,9 +2,10 @@
 use osc_record::*;
 use std::alloc::AllocError;
 
-/// The header of 4,096 units, 16,384 blocks, 1,024 methods, 4,096 nodes, 1 caller and 67,108,864 bytes.
-const HEADER: [u8; 56] =
-    *b"\0\0\0\x34/osc/rec\0\0\0\0,iiiiiii\0\0\0\0\0\0\0\x01\0\0\x10\0\0\0\x40\0\0\0\x04\0\0\0\x10\0\0\0\0\x01\x04\0\0\0";
+/// The header of 4,096 units, 16,384 blocks, 1,024 methods, 4,096 nodes, 1 caller and 67,108,864 bytes, where late units
+/// are delivered.
+const HEADER: [u8; 60] =
+    *b"\0\0\0\x38/osc/rec\0\0\0\0,iiiiiiii\0\0\0\0\0\0\x02\0\0\x10\0\0\0\x40\0\0\0\x04\0\0\0\x10\0\0\0\0\x01\x04\0\0\0\0\0\0\0";
 
 /// The entry of a tick by caller 0 at 5.
 const TICK: [u8; 48] =
@@ -17,34 +18,42 @@ const RELEASE: [u8; 60] =
 #[test]
 fn the_first_limit_outside_its_range_is_named(rt: HostRuntime) {
     let rows: [([u32; 6], Option<u8>); 8] = [
-        ([0, 1, 1, 1, 1, 56], Some(1)),
-        ([1, 1048577, 0, 1, 1, 56], Some(2)),
-        ([1, 1, 65537, 1, 1, 56], Some(3)),
-        ([1, 1, 1, 0, 1, 56], Some(4)),
-        ([1, 1, 1, 1, 1025, 56], Some(5)),
-        ([1, 1, 1, 1, 1, 55], Some(6)),
-        ([1, 1, 1, 1, 1, 56], None),
+        ([0, 1, 1, 1, 1, 60], Some(1)),
+        ([1, 1048577, 0, 1, 1, 60], Some(2)),
+        ([1, 1, 65537, 1, 1, 60], Some(3)),
+        ([1, 1, 1, 0, 1, 60], Some(4)),
+        ([1, 1, 1, 1, 1025, 60], Some(5)),
+        ([1, 1, 1, 1, 1, 59], Some(6)),
+        ([1, 1, 1, 1, 1, 60], None),
         ([1048576, 1048576, 65536, 1048576, 1024, 1073741824], None),
     ];
     for ([units, blocks, methods, nodes, callers, recording], want) in rows {
-        let caps = Caps::new(units, blocks, methods, nodes, callers, recording);
+        let caps = Caps::new(
+            units,
+            blocks,
+            methods,
+            nodes,
+            callers,
+            recording,
+            Late::Deliver,
+        );
         assert_eq!(rt; caps.err().map(|fault| fault.field), want);
     }
 }
 
 #[test]
 fn a_header_and_a_tick_are_written_and_read(rt: HostRuntime) -> Result<(), AllocError> {
-    let Ok(caps) = Caps::new(4096, 16384, 1024, 4096, 1, 67108864) else {
+    let Ok(caps) = Caps::new(4096, 16384, 1024, 4096, 1, 67108864, Late::Deliver) else {
         panic!(rt; "refused");
     };
     let mut recorder = Recorder::open(rt.alloc(), caps)?;
     assert_eq!(rt; recorder.bytes(), HEADER.as_slice());
-    assert_eq!(rt; recorder.free(), 67108864 - 56);
+    assert_eq!(rt; recorder.free(), 67108864 - 60);
     assert!(rt; recorder.fits(48));
     recorder.put(0, Event::Tick(5), Answer::Ticked);
     let bytes = recorder.close();
-    assert!(rt; bytes.len() == 104);
-    assert_eq!(rt; &bytes[56..], TICK.as_slice());
+    assert!(rt; bytes.len() == 108);
+    assert_eq!(rt; &bytes[60..], TICK.as_slice());
     let entry = entry_bytes(rt.alloc(), 0, Event::Tick(5), Answer::Ticked)?;
     assert_eq!(rt; entry.as_slice(), TICK.as_slice());
     let Ok(reader) = Reader::check(&bytes) else {
@@ -52,7 +61,7 @@ fn a_header_and_a_tick_are_written_and_read(rt: HostRuntime) -> Result<(), Alloc
     };
     assert_eq!(rt; reader.caps(), caps);
     let want = Entry {
-        at: 56,
+        at: 60,
         caller: 0,
         event: Event::Tick(5),
         answer: Answer::Ticked,
@@ -65,7 +74,7 @@ fn a_header_and_a_tick_are_written_and_read(rt: HostRuntime) -> Result<(), Alloc
 
 #[test]
 fn a_release_has_its_hits_in_order(rt: HostRuntime) -> Result<(), AllocError> {
-    let Ok(caps) = Caps::new(1, 1, 1, 1, 1, 200) else {
+    let Ok(caps) = Caps::new(1, 1, 1, 1, 1, 200, Late::Discard) else {
         panic!(rt; "refused");
     };
     let mut recorder = Recorder::open(rt.alloc(), caps)?;
@@ -73,8 +82,8 @@ fn a_release_has_its_hits_in_order(rt: HostRuntime) -> Result<(), AllocError> {
     recorder.put_hit(0, 5);
     recorder.put_hit(1, 4);
     let bytes = recorder.close();
-    assert!(rt; bytes.len() == 116);
-    assert_eq!(rt; &bytes[56..], RELEASE.as_slice());
+    assert!(rt; bytes.len() == 120);
+    assert_eq!(rt; &bytes[60..], RELEASE.as_slice());
     let answer = Answer::Released {
         unit: 7,
         hits: &RELEASE[44..],
@@ -85,49 +94,71 @@ fn a_release_has_its_hits_in_order(rt: HostRuntime) -> Result<(), AllocError> {
 }
 
 /// The bytes behind a header, and the first malformed place.
-const PLACES: [(&[u8], Option<u32>); 16] = [
+const PLACES: [(&[u8], Option<u32>); 21] = [
     (b"", None),
     (&TICK, None),
-    (b"\0", Some(56)),
-    (b"\0\0\0\0", Some(56)),
-    (b"\0\0\0\x06abcdef", Some(56)),
-    (b"\0\0\0\x08abcd", Some(56)),
-    (&HEADER, Some(56)),
+    (b"\0", Some(60)),
+    (b"\0\0\0\0", Some(60)),
+    (b"\0\0\0\x06abcdef", Some(60)),
+    (b"\0\0\0\x08abcd", Some(60)),
+    (&HEADER, Some(60)),
     (
         b"\0\0\0\x18/osc/enrol\0\0,ii\0\0\0\0\x01\xff\xff\xff\xff",
         None,
     ),
     (
         b"\0\0\0\x18/osc/enrol\0\0,ii\0\0\0\0\x01\xff\xff\xff\xfe",
-        Some(56),
+        Some(60),
     ),
     (
         b"\0\0\0\x18/osc/enrol\0\0,ii\0\xff\xff\xff\xff\0\0\0\x01",
-        Some(56),
+        Some(60),
     ),
     (
         b"\0\0\0\x18/osc/enrol\0\x01,ii\0\0\0\0\x01\0\0\0\x01",
-        Some(56),
+        Some(60),
     ),
     (
         b"\0\0\0\x1c/osc/enrol\0\0,iii\0\0\0\0\0\0\0\x01\0\0\0\x01\0\0\0\x01",
-        Some(56),
+        Some(60),
     ),
     (
         b"\0\0\0\x24/osc/remove\0,isii\0\0\0\0\0\0\0/a\0\0\0\0\0\x02\0\0\0\0",
-        Some(56),
+        Some(60),
     ),
     (
         b"\0\0\0\x24/osc/remove\0,isii\0\0\0\0\0\0\0/a\0\0\0\0\0\x01\0\0\0\x01",
-        Some(56),
+        Some(60),
     ),
     (
         b"\0\0\0\x2c/osc/tick\0\0\0,itit\0\0\0\0\0\0\0\0\0\0\0\0\0\0\x05\0\0\0\0\0\0\0\0\0\0\0\x06",
-        Some(56),
+        Some(60),
     ),
     (
         b"\0\0\0\x2c/osc/release\0\0\0\0,ihb\0\0\0\0\0\0\0\0\0\0\0\0\0\0\0\0\0\0\0\x04\0\0\0\0",
-        Some(56),
+        Some(60),
+    ),
+    // A packet of two units, of which two, three and fewer than none are late.
+    (
+        b"\0\0\0\x30/osc/submit\0,ibihii\0\0\0\0\0\0\0\0\0\0\0\0\0\0\0\0\0\0\0\0\0\0\0\0\x02\0\0\0\x02",
+        None,
+    ),
+    (
+        b"\0\0\0\x30/osc/submit\0,ibihii\0\0\0\0\0\0\0\0\0\0\0\0\0\0\0\0\0\0\0\0\0\0\0\0\x02\0\0\0\x03",
+        Some(60),
+    ),
+    (
+        b"\0\0\0\x30/osc/submit\0,ibihii\0\0\0\0\0\0\0\0\0\0\0\0\0\0\0\0\0\0\0\0\0\0\0\0\x02\xff\xff\xff\xff",
+        Some(60),
+    ),
+    // Units that had no place have no late ones, and a submit of the first version has no such number.
+    (
+        b"\0\0\0\x30/osc/submit\0,ibihii\0\0\0\0\0\0\0\0\0\0\0\0\x01\0\0\0\0\0\0\0\x02\0\0\0\x01\0\0\0\x01",
+        Some(60),
+    ),
+    (
+        b"\0\0\0\x2c/osc/submit\0,ibihi\0\0\0\0\0\0\0\0\0\0\0\0\0\0\0\0\0\0\0\0\0\0\0\0\0\x02",
+        Some(60),
     ),
 ];
 
@@ -143,9 +174,16 @@ fn the_first_malformed_place_is_told(rt: HostRuntime) -> Result<(), AllocError> 
             "{entry:?}"
         );
     }
-    assert_eq!(rt;
-        Reader::check(&TICK).err().map(|malformed| malformed.at),
-        Some(0)
-    );
+    // A header of the first version, and one with no policy.
+    let first =
+        b"\0\0\0\x34/osc/rec\0\0\0\0,iiiiiii\0\0\0\0\0\0\0\x01\0\0\0\x01\0\0\0\x01\0\0\0\x01\0\0\0\x01\0\0\0\x01\0\0\0\xc8";
+    let third =
+        b"\0\0\0\x38/osc/rec\0\0\0\0,iiiiiiii\0\0\0\0\0\0\x02\0\0\0\x01\0\0\0\x01\0\0\0\x01\0\0\0\x01\0\0\0\x01\0\0\0\xc8\0\0\0\x02";
+    for bytes in [TICK.as_slice(), first.as_slice(), third.as_slice()] {
+        assert_eq!(rt;
+            Reader::check(bytes).err().map(|malformed| malformed.at),
+            Some(0)
+        );
+    }
     Ok(())
 }

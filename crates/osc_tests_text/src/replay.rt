@@ -4,16 +4,16 @@ use std::alloc::{AllocError, Global};
 use std::process::Abort;
 use std::test::*;
 
-/// The header of 1 unit, 1 block, 1 method, 1 node, 1 caller and up to 255 bytes, but for its last byte.
+/// The header of 1 unit, 1 block, 1 method, 1 node, 1 caller and up to 255 bytes, but for the last byte of the limit and what follows it.
 const HEADER: [u8; 55] =
-    *b"\0\0\0\x34/osc/rec\0\0\0\0,iiiiiii\0\0\0\0\0\0\0\x01\0\0\0\x01\0\0\0\x01\0\0\0\x01\0\0\0\x01\0\0\0\x01\0\0\0";
+    *b"\0\0\0\x38/osc/rec\0\0\0\0,iiiiiiii\0\0\0\0\0\0\x02\0\0\0\x01\0\0\0\x01\0\0\0\x01\0\0\0\x01\0\0\0\x01\0\0\0";
 
 /// Caller 0 adds `/a`, submits a message to it, and releases it, which calls the method.
 const ADD: [u8; 44] =
     *b"\0\0\0\x28/osc/add\0\0\0\0,isiii\0\0\0\0\0\0/a\0\0\0\0\0\0\0\0\0\0\0\0\0\0";
 
-const SUBMIT: [u8; 52] =
-    *b"\0\0\0\x30/osc/submit\0,ibihi\0\0\0\0\0\0\0\0\0\x04/a\0\0\0\0\0\0\0\0\0\0\0\0\0\0\0\0\0\x01";
+const SUBMIT: [u8; 56] =
+    *b"\0\0\0\x34/osc/submit\0,ibihii\0\0\0\0\0\0\0\0\x04/a\0\0\0\0\0\0\0\0\0\0\0\0\0\0\0\0\0\x01\0\0\0\0";
 
 const RELEASE: [u8; 52] =
     *b"\0\0\0\x30/osc/release\0\0\0\0,ihb\0\0\0\0\0\0\0\0\0\0\0\0\0\0\0\0\0\0\0\x08\0\0\0\0\0\0\0\0";
@@ -41,6 +41,7 @@ fn recording(
 ) -> Result<Vec<u8>, AllocError> {
     let mut bytes = Vec::from_slice(alloc, &HEADER)?;
     bytes.push(limit)?;
+    bytes.extend_from_slice(b"\0\0\0\0")?;
     bytes.extend_from_slice(first)?;
     bytes.extend_from_slice(second)?;
     bytes.extend_from_slice(third)?;
@@ -49,8 +50,8 @@ fn recording(
 
 #[test]
 fn a_recording_is_printed(rt: HostRuntime) -> Result<(), AllocError> {
-    let bytes = recording(rt.alloc(), 204, &ADD, &SUBMIT, &RELEASE)?;
-    assert!(rt; bytes.len() <= 204);
+    let bytes = recording(rt.alloc(), 212, &ADD, &SUBMIT, &RELEASE)?;
+    assert!(rt; bytes.len() <= 212);
     let Ok(text) = replay(rt.alloc(), &bytes) else {
         panic!(rt; "refused");
     };
@@ -64,51 +65,51 @@ const PLACES: [(&[u8], &[u8], u32); 9] = [
     (
         b"\0\0\0\x2c/osc/tick\0\0\0,itit\0\0\0\0\0\0\0\0\0\0\0\0\0\0\x05\0\0\0\0\0\0\0\0\0\0\0",
         b"",
-        56,
+        60,
     ),
     (
         b"\0\0\0\x2c/osc/tick\0\0\0,itit\0\0\0\xff\xff\xff\xff\0\0\0\0\0\0\0\x05\0\0\0\0\0\0\0\0\0\0\0\x05",
         b"",
-        56,
+        60,
     ),
     // A packet without a slash.
     (
         &TICK,
-        b"\0\0\0\x30/osc/submit\0,ibihi\0\0\0\0\0\0\0\0\0\x04a\0\0\0\0\0\0\0\0\0\0\0\0\0\0\0\0\0\0\x01",
-        104,
+        b"\0\0\0\x34/osc/submit\0,ibihii\0\0\0\0\0\0\0\0\x04a\0\0\0\0\0\0\0\0\0\0\0\0\0\0\0\0\0\0\x01\0\0\0\0",
+        108,
     ),
     // Addresses with a byte that no name has.
     (
         b"\0\0\0\x28/osc/add\0\0\0\0,isiii\0\0\0\0\0\0/#\0\0\0\0\0\0\0\0\0\0\0\0\0\0",
         b"",
-        56,
+        60,
     ),
     (
         b"\0\0\0\x24/osc/remove\0,isii\0\0\0\0\0\0\0/#\0\0\0\0\0\x01\0\0\0\0",
         b"",
-        56,
+        60,
     ),
     // The first of two places, whichever cause it has.
     (
         b"\0\0\0\x28/osc/add\0\0\0\0,isiii\0\0\0\0\0\0/#\0\0\0\0\0\0\0\0\0\0\0\0\0\0",
         b"\0",
-        56,
+        60,
     ),
-    (&TICK, b"\0", 104),
+    (&TICK, b"\0", 108),
     // One behind an entry that disagrees.
-    (&STRANGER, b"\0", 104),
+    (&STRANGER, b"\0", 108),
     (
         &STRANGER,
         b"\0\0\0\x28/osc/add\0\0\0\0,isiii\0\0\0\0\0\0/#\0\0\0\0\0\0\0\0\0\0\0\0\0\0",
-        104,
+        108,
     ),
 ];
 
 #[test]
 fn the_first_malformed_place_is_told(rt: HostRuntime) -> Result<(), AllocError> {
     for (first, second, place) in PLACES {
-        let bytes = recording(rt.alloc(), 204, first, second, b"")?;
-        assert!(rt; bytes.len() <= 204);
+        let bytes = recording(rt.alloc(), 212, first, second, b"")?;
+        assert!(rt; bytes.len() <= 212);
         match replay(rt.alloc(), &bytes) {
             Err(ReplayFault::Malformed { at }) => assert_eq!(rt; at, place),
             _ => panic!(rt; "accepted"),
@@ -123,19 +124,19 @@ fn the_first_malformed_place_is_told(rt: HostRuntime) -> Result<(), AllocError> 
 
 #[test]
 fn the_first_entry_that_disagrees_is_told(rt: HostRuntime) -> Result<(), AllocError> {
-    // A release without its hit; where the limit is 203 there is no room for that.
+    // A release without its hit; where the limit is 211 there is no room for that.
     let bare: [u8; 44] =
         *b"\0\0\0\x28/osc/release\0\0\0\0,ihb\0\0\0\0\0\0\0\0\0\0\0\0\0\0\0\0\0\0\0\0";
     let rows: [(u8, &[u8], &[u8], &[u8], u32, &[u8], &[u8]); 5] = [
-        (204, &ADD, &SUBMIT, &OTHER, 2, &OTHER, &RELEASE),
-        (204, &STRANGER, &TICK, b"", 0, &STRANGER, b""),
-        (204, &ADD, &RELEASE, b"", 1, &RELEASE, b""),
-        (204, &ADD, &SUBMIT, &bare, 2, &bare, &RELEASE),
-        (203, &ADD, &SUBMIT, &bare, 2, &bare, b""),
+        (212, &ADD, &SUBMIT, &OTHER, 2, &OTHER, &RELEASE),
+        (212, &STRANGER, &TICK, b"", 0, &STRANGER, b""),
+        (212, &ADD, &RELEASE, b"", 1, &RELEASE, b""),
+        (212, &ADD, &SUBMIT, &bare, 2, &bare, &RELEASE),
+        (211, &ADD, &SUBMIT, &bare, 2, &bare, b""),
     ];
     for (limit, first, second, third, number, own, given) in rows {
         let bytes = recording(rt.alloc(), limit, first, second, third)?;
-        assert!(rt; bytes.len() <= 204);
+        assert!(rt; bytes.len() <= 212);
         match replay(rt.alloc(), &bytes) {
             Err(
                 ReplayFault::Disagrees {
@@ -158,28 +159,28 @@ fn the_first_entry_that_disagrees_is_told(rt: HostRuntime) -> Result<(), AllocEr
 fn a_recording_is_dumped_as_it_stands(rt: HostRuntime) -> Result<(), AllocError> {
     // The recording of the one line `tick 83aa7e8000000000`.
     let row =
-        b"\0\0\0\x34/osc/rec\0\0\0\0,iiiiiii\0\0\0\0\0\0\0\x01\0\0\x10\0\0\0\x40\0\0\0\x04\0\0\0\x10\0\0\0\0\x01\x04\0\0\0\0\0\0\x2c/osc/tick\0\0\0,itit\0\0\0\0\0\0\0\x83\xaa\x7e\x80\0\0\0\0\0\0\0\0\x83\xaa\x7e\x80\0\0\0\0";
+        b"\0\0\0\x38/osc/rec\0\0\0\0,iiiiiiii\0\0\0\0\0\0\x02\0\0\x10\0\0\0\x40\0\0\0\x04\0\0\0\x10\0\0\0\0\x01\x04\0\0\0\0\0\0\0\0\0\0\x2c/osc/tick\0\0\0,itit\0\0\0\0\0\0\0\x83\xaa\x7e\x80\0\0\0\0\0\0\0\0\x83\xaa\x7e\x80\0\0\0\0";
     match dump(rt.alloc(), row) {
         Ok(text) => assert_eq!(rt;
             text.bytes(),
-            b"rec 1 4096 16384 1024 4096 1 67108864\n56 tick 0 83aa7e8000000000 ticked 1970-01-01T00:00:00Z\n".as_slice()
+            b"rec 2 4096 16384 1024 4096 1 67108864 deliver\n60 tick 0 83aa7e8000000000 ticked 1970-01-01T00:00:00Z\n".as_slice()
         ),
         Err(_) => panic!(rt; "refused"),
     }
     // No server gives the second entry, and a dump prints no call of the third.
-    let bytes = recording(rt.alloc(), 204, &ADD, &STRANGER, &OTHER)?;
-    assert!(rt; bytes.len() <= 204);
+    let bytes = recording(rt.alloc(), 212, &ADD, &STRANGER, &OTHER)?;
+    assert!(rt; bytes.len() <= 212);
     match dump(rt.alloc(), &bytes) {
         Ok(text) => assert_eq!(rt;
             text.bytes(),
-            b"rec 1 1 1 1 1 1 204\n56 add 0 /a id 0\n100 tick 1 0000000000000005 ticked 1900-01-01T00:00:00Z\n148 release 0 0 1\n".as_slice()
+            b"rec 2 1 1 1 1 1 212 deliver\n60 add 0 /a id 0\n104 tick 1 0000000000000005 ticked 1900-01-01T00:00:00Z\n152 release 0 0 1\n".as_slice()
         ),
         Err(_) => panic!(rt; "refused"),
     }
-    let bytes = recording(rt.alloc(), 204, &STRANGER, &TICK[..47], b"")?;
-    assert!(rt; bytes.len() <= 204);
+    let bytes = recording(rt.alloc(), 212, &STRANGER, &TICK[..47], b"")?;
+    assert!(rt; bytes.len() <= 212);
     match dump(rt.alloc(), &bytes) {
-        Err(DumpFault::Malformed { at }) => assert_eq!(rt; at, 104),
+        Err(DumpFault::Malformed { at }) => assert_eq!(rt; at, 108),
         _ => panic!(rt; "accepted"),
     }
     Ok(())
@@ -187,15 +188,15 @@ fn a_recording_is_dumped_as_it_stands(rt: HostRuntime) -> Result<(), AllocError>
 
 #[test]
 fn a_history_is_summed_up(rt: HostRuntime) -> Result<(), AllocError> {
-    let bytes = recording(rt.alloc(), 204, &ADD, &SUBMIT, &RELEASE)?;
-    assert!(rt; bytes.len() <= 204);
+    let bytes = recording(rt.alloc(), 212, &ADD, &SUBMIT, &RELEASE)?;
+    assert!(rt; bytes.len() <= 212);
     let Ok(_text) = replay(rt.alloc(), &bytes) else {
         panic!(rt; "refused");
     };
     let text = summary(rt.alloc(), &bytes)?;
     assert_eq!(rt;
         text.bytes(),
-        b"entries 3\nsubmits 1\nqueued 1\nrefused 0\nadds 1\nremoves 0\nticks 0\nreleases 1\ncalls 1\nrecording 204\n".as_slice()
+        b"entries 3\nsubmits 1\nqueued 1\nrefused 0\nadds 1\nremoves 0\nticks 0\nreleases 1\ncalls 1\nrecording 212\n".as_slice()
     );
     Ok(())
 }

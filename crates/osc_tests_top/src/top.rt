@@ -458,6 +458,9 @@ fn other_words_are_refused(rt: HostRuntime) -> Result<(), Fail> {
         "run --units 1048577",
         "run --units 7 --units 7",
         "run --callers 2",
+        "run --late",
+        "run --late never",
+        "run --late deliver --late deliver",
         "lanes f",
     ] {
         let script = FIRST_LIGHT.as_bytes();
@@ -466,8 +469,12 @@ fn other_words_are_refused(rt: HostRuntime) -> Result<(), Fail> {
     Ok(())
 }
 
+/// Two bundles of which the first is late.
+const LATE: &str =
+    "add /a\ntick 0000000000000005\nsend 2362756e646c6500 0000000000000003 00000004 2f610000\nsend 2362756e646c6500 0000000000000005 00000004 2f610000\npump\n";
+
 /// Words with limits, a script, the status, and what is written.
-const LIMITED: [(&str, &str, u8, &str); 9] = [
+const LIMITED: [(&str, &str, u8, &str); 12] = [
     (
         "run --blocks 1",
         "send 2f610000 2c690000 00000001\nsend 2f610000 2c690000 00000001\npump\nsend 2f610000 2c690000 00000001\n",
@@ -493,22 +500,40 @@ const LIMITED: [(&str, &str, u8, &str); 9] = [
         "add 0 /a/b id 0\nadd 0 /a/c nodes-full 1 0\n",
     ),
     (
-        "run --recording 203",
+        "run --recording 211",
         "add /a\nsend 2f610000\npump\n",
         6,
         "add 0 /a id 0\nsubmit 0 queued 0 1\nrecording-full 52 51\n",
     ),
     (
-        "run --recording 204",
+        "run --recording 212",
         "add /a\nsend 2f610000\npump\n",
         0,
         "add 0 /a id 0\nsubmit 0 queued 0 1\nrelease 0 0 1\ncall 0 0 0 /a -\n",
     ),
     (
-        "run --recording 56 --units 1048576",
+        "run --recording 60 --units 1048576",
         "add /a\n",
         6,
         "recording-full 44 0\n",
+    ),
+    (
+        "run --late discard",
+        LATE,
+        0,
+        "add 0 /a id 0\ntick 0 0000000000000005 ticked\nsubmit 0 queued 0 1 late 1\nsubmit 0 queued 1 1\nrelease 0 1 1\ncall 1 0 0 /a -\n",
+    ),
+    (
+        "run --late deliver",
+        LATE,
+        0,
+        "add 0 /a id 0\ntick 0 0000000000000005 ticked\nsubmit 0 queued 0 1\nsubmit 0 queued 1 1\nrelease 0 0 1\ncall 0 0 0 /a -\nrelease 0 1 1\ncall 1 0 0 /a -\n",
+    ),
+    (
+        "run --late discard",
+        "tick 0000000000000005\nsend 2362756e646c6500 0000000000000003 00000010 2362756e646c6500 0000000000000009\n",
+        0,
+        "tick 0 0000000000000005 ticked\nsubmit 0 queued 0 2 late 1\n",
     ),
     (
         "run --units 1 --methods 65536 --nodes 1048576 --blocks 1048576 --recording 1073741824",
@@ -516,7 +541,7 @@ const LIMITED: [(&str, &str, u8, &str); 9] = [
         0,
         "",
     ),
-    ("run --recording 56", "", 0, ""),
+    ("run --recording 60", "", 0, ""),
 ];
 
 #[test]
@@ -567,7 +592,7 @@ fn recordings_are_replayed(rt: HostRuntime) -> Result<(), Fail> {
     let digits = hex::encode(alloc, &recording(&rt, alloc, "")?)?;
     assert_eq!(rt;
         digits.as_str(),
-        "000000342f6f73632f726563000000002c696969696969690000000000000001000010000000400000000400000010000000000104000000"
+        "000000382f6f73632f726563000000002c69696969696969690000000000000200001000000040000000040000001000000000010400000000000000"
     );
     for script in ["", FIRST_LIGHT, NESTED, REMOVED] {
         let printed = perform(&rt, alloc, "run", script.as_bytes(), SETTING)?;
@@ -587,9 +612,9 @@ const RELEASE: &str =
 fn other_recordings_are_refused(rt: HostRuntime) -> Result<(), Fail> {
     let alloc = rt.alloc();
     let mut cut = recording(&rt, alloc, "tick 0000000000000005")?;
-    assert_eq!(rt; cut.len(), 104);
+    assert_eq!(rt; cut.len(), 108);
     cut.pop();
-    let malformed: (u8, &[u8]) = (1, b"malformed 56\n");
+    let malformed: (u8, &[u8]) = (1, b"malformed 60\n");
     writes(&rt, alloc, "replay", &cut, SETTING, malformed)?;
 
     // The hit's id.
@@ -618,7 +643,7 @@ fn a_drawn_script_is_played_and_summed_up(rt: HostRuntime) -> Result<(), Fail> {
     let alloc = rt.alloc();
     // The source would fail at once, but nothing reads it.
     let adds =
-        "entries 64\nsubmits 0\nqueued 0\nrefused 0\nadds 64\nremoves 0\nticks 0\nreleases 0\ncalls 0\nrecording 3128\n";
+        "entries 64\nsubmits 0\nqueued 0\nrefused 0\nadds 64\nremoves 0\nticks 0\nreleases 0\ncalls 0\nrecording 3132\n";
     let expected = (0, adds.as_bytes());
     writes(
         &rt,
@@ -659,7 +684,7 @@ fn a_dump_has_what_stands_in_the_recording(rt: HostRuntime) -> Result<(), Fail> 
     let alloc = rt.alloc();
     let tick = recording(&rt, alloc, "tick 83aa7e8000000000")?;
     let dumped =
-        "rec 1 4096 16384 1024 4096 1 67108864\n56 tick 0 83aa7e8000000000 ticked 1970-01-01T00:00:00Z\n";
+        "rec 2 4096 16384 1024 4096 1 67108864 deliver\n60 tick 0 83aa7e8000000000 ticked 1970-01-01T00:00:00Z\n";
     writes(&rt, alloc, "dump", &tick, SETTING, (0, dumped.as_bytes()))?;
 
     // An entry that the rules don't give.

@@ -31,12 +31,12 @@ fn a_fader_keeps_the_number_that_it_was_sent(rt: HostRuntime) -> Result<(), Fail
             b"/oscillator/4/frequency",
             FREQUENCY,
             Some(0x43dc_0000),
-            56 + 64 + 80 + 52,
+            60 + 64 + 84 + 52,
         ),
-        (b"/foo", FOO, Some(0x40b5_b22d), 56 + 48 + 88 + 52),
-        (b"/light/dim", DIM, Some(7), 56 + 52 + 68 + 52),
-        (b"/light/on", DIM, None, 56 + 52 + 68 + 44),
-        (b"/foo", b"/*\0\0,x\0\0", None, 56 + 48 + 56 + 44),
+        (b"/foo", FOO, Some(0x40b5_b22d), 60 + 48 + 92 + 52),
+        (b"/light/dim", DIM, Some(7), 60 + 52 + 72 + 52),
+        (b"/light/on", DIM, None, 60 + 52 + 72 + 44),
+        (b"/foo", b"/*\0\0,x\0\0", None, 60 + 48 + 60 + 44),
     ];
     for (at, bytes, level, size) in rows {
         assert_eq!(rt; run(rt.alloc(), at, bytes)?, (level, size));
@@ -50,14 +50,22 @@ fn a_packet_is_submitted_and_released(rt: HostRuntime) -> Result<(), Fail> {
         (
             FOO,
             Ok((
-                Submitted::Queued { first: 0, count: 1 },
+                Submitted::Queued {
+                    first: 0,
+                    count: 1,
+                    late: 0,
+                },
                 Releasing::Released { unit: 0, calls: 1 },
             )),
         ),
         (
             DIM,
             Ok((
-                Submitted::Queued { first: 0, count: 1 },
+                Submitted::Queued {
+                    first: 0,
+                    count: 1,
+                    late: 0,
+                },
                 Releasing::Released { unit: 0, calls: 0 },
             )),
         ),

@@ -39,7 +39,11 @@ fn three_threads_make_one_recording(rt: HostRuntime) -> Result<(), Fail> {
     let rows: [(&[u8], Result<Submitted, Fault>, u32); 2] = [
         (
             b"/a\0\0,i\0\0\0\0\0\x07",
-            Ok(Submitted::Queued { first: 0, count: 1 }),
+            Ok(Submitted::Queued {
+                first: 0,
+                count: 1,
+                late: 0,
+            }),
             1,
         ),
         (b"/abc", Err(Fault { kind: 8, at: 0 }), 0),

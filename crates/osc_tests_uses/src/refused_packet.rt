@@ -32,7 +32,11 @@ fn bytes_that_are_no_packet_are_refused_and_leave_no_entry(rt: HostRuntime) -> R
     for (bytes, kind, at) in rows {
         assert_eq!(rt; run(rt.alloc(), bytes)?, (Err(Fault { kind, at }), 1));
     }
-    let queued = Submitted::Queued { first: 0, count: 1 };
+    let queued = Submitted::Queued {
+        first: 0,
+        count: 1,
+        late: 0,
+    };
     assert_eq!(rt; run(rt.alloc(), b"/a\0\0")?, (Ok(queued), 2));
     Ok(())
 }

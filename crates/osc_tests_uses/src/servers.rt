@@ -2,13 +2,17 @@
 use osc_core::{Adding, Core};
 use osc_method::Method;
 use osc_pattern::Address;
-use osc_record::Caps;
+use osc_record::{Caps, Late};
 use osc_uses::Fader;
 use std::alloc::Global;
 use std::test::Fail;
 
 pub(crate) fn caps(callers: u32) -> Result<Caps, Fail> {
-    Ok(Caps::new(8, 8, 8, 8, callers, 4096).ok().ok_or("limits")?)
+    Ok(
+        Caps::new(8, 8, 8, 8, callers, 4096, Late::Deliver)
+            .ok()
+            .ok_or("limits")?,
+    )
 }
 
 pub(crate) fn address(alloc: Global, bytes: &[u8]) -> Result<Address, Fail> {

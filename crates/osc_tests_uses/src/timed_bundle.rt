@@ -25,7 +25,11 @@ fn run(alloc: Global, bundle: &[u8], moment: u64) -> Result<(TimedRun, Option<u3
 
 fn answers(early: Releasing, ticked: Ticking, released: Releasing) -> TimedRun {
     TimedRun {
-        submitted: Submitted::Queued { first: 0, count: 1 },
+        submitted: Submitted::Queued {
+            first: 0,
+            count: 1,
+            late: 0,
+        },
         early,
         ticked,
         released,

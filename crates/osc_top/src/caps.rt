@@ -49,6 +49,7 @@ fn limits_for(callers: u32, caps: Capacities) -> Caps
         caps.nodes,
         callers,
         caps.recording,
+        caps.late,
     ) {
         Ok(limits) => limits,
         Err(_) => unreachable!(),

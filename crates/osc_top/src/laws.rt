@@ -59,10 +59,10 @@ pub fn lines_are_dealt_to_their_lanes()
         ≡ (1 ∷ 3 ∷ [], 7 ∷ []) ∷ ([], []) ∷ (2 ∷ [], 8 ∷ []) ∷ []) }
 {}
 
-/// The header of 56 bytes, the enrolments of two lanes, an add, a send, its release, and a call.
+/// The header of 60 bytes, the enrolments of two lanes, an add, a send, its release, and a call.
 pub fn what_is_enough_for_two_lanes()
     ensures { IsOkAnd (script_of Lanes (codes "0 add /a\n1 send 2f610000 2c000000\n"))
-        (λ lines. enough_lanes lines ≡ 56 + 28 * 2 + (44 + 56) + 44 + 8) }
+        (λ lines. enough_lanes lines ≡ 60 + 28 * 2 + (44 + 60) + 44 + 8) }
 {}
 
 /// A recording of as many bytes as `enough` says never stops a script.

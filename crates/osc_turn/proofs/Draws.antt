@@ -17,14 +17,14 @@ use Rattle.osc_turn.proofs.Histories.{weigh_append, total_set, total_at, total_s
 use Rattle.osc_turn.proofs.Histories.{views_stay}
 use Rattle.osc_turn.proofs.Keeps.{lives, still_held, Rule, Stands, apart, view_changes, stays}
 
-module _ {S : Type 0} (stands : S → List (List ℕ) → Type 0) (kind_of : S → List ℕ) where
-  pub counts : (slots id : ℕ) (me : Me (Option S) View) → Allows (Rule stands kind_of) slots id me 1 (λ n. n) (Counts me)
+module _ {S : Type 0} (stands : S → List (List ℕ) → Type 0) (kind_of : S → List ℕ) (opened : List (List ℕ)) where
+  pub counts : (slots id : ℕ) (me : Me (Option S) View) → Allows (Rule stands kind_of opened) slots id me 1 (λ n. n) (Counts me)
   counts slots id me s r _ at _ = let f = r.standing.each_view id me.0 at in (
     me.0,
     keeps,
     tt,
-    stays stands kind_of s r 1 id me.1 me.0
-        (view_changes stands kind_of s.homes s.views r.log r.kind r.holder (get_or s.words 0 0) (get_or s.words 1 0) r.standing id me.0 me.0 at f refl refl),
+    stays stands kind_of opened s r 1 id me.1 me.0
+        (view_changes stands kind_of opened s.homes s.views r.log r.kind r.holder (get_or s.words 0 0) (get_or s.words 1 0) r.standing id me.0 me.0 at f refl refl),
     (
       refl,
       λ p. sym (f.first p),
@@ -42,22 +42,24 @@ module _ {S : Type 0} (stands : S → List (List ℕ) → Type 0) (kind_of : S �
   )
 
   -- the rule after the number of passes becomes x
-  drawn : (s : State (Option S) View) (r : Rule stands kind_of s) (x : ℕ) (views : List View)
-      → Stands stands kind_of s.homes views r.log r.kind r.holder (get_or s.words 0 0) x
-      → Rule stands kind_of record { words = set s.words 1 x; homes = s.homes; views = views }
+  drawn : (s : State (Option S) View) (r : Rule stands kind_of opened s) (x : ℕ) (views : List View)
+      → Stands stands kind_of opened s.homes views r.log r.kind r.holder (get_or s.words 0 0) x
+      → Rule stands kind_of opened record { words = set s.words 1 x; homes = s.homes; views = views }
   drawn s r x views r' = let wide = r.two_words in record {
     log = r.log;
     kind = r.kind;
     holder = r.holder;
     two_words = length-set s.words 1 x ∙ r.two_words;
-    standing = subst (λ (z : ℕ × ℕ). Stands stands kind_of s.homes views r.log r.kind r.holder z.0 z.1)
+    begun = r.begun;
+    counted = r.counted;
+    standing = subst (λ (z : ℕ × ℕ). Stands stands kind_of opened s.homes views r.log r.kind r.holder z.0 z.1)
         (λ k. (sym (get_or-set_other s.words 1 0 x 0 (λ e. omega arith)) k, sym (get_or-set_same s.words 1 x 0 (omega arith)) k)) r';
   }
 
-  drawn_stands : (homes : List (maybe.Option (Option S))) (views : List View) (log : List Entry) (kind : List ℕ) (holder t d : ℕ)
-      → Stands stands kind_of homes views log kind holder t d
+  drawn_stands : (homes : List (maybe.Option (Option S))) (views : List View) (log : List Entry) (kind : List ℕ × ℕ) (holder t d : ℕ)
+      → Stands stands kind_of opened homes views log kind holder t d
       → (i : ℕ) (v : View) → get_elem? views i ≡ some v → v.holds ≡ false → v.spare ≡ [] → 0 < times 0 v.numbers → d < 65536
-      → Stands stands kind_of homes (set views i (drew v d)) log kind holder t (d + 1)
+      → Stands stands kind_of opened homes (set views i (drew v d)) log kind holder t (d + 1)
   drawn_stands homes views log kind holder t d r i v at free bare first few = let f = r.each_view i v at in let w = drew v d in record {
     counted = r.counted;
     at_home = r.at_home;
@@ -84,7 +86,7 @@ module _ {S : Type 0} (stands : S → List (List ℕ) → Type 0) (kind_of : S �
           olds = g.olds;
           covers = g.covers;
           first = λ p.
-              absurd (apart stands kind_of homes views log kind holder t d r i j v u at a (λ e. other (sym e)) 0
+              absurd (apart stands kind_of opened homes views log kind holder t d r i j v u at a (λ e. other (sym e)) 0
               (omega (arith, weigh_append (only 0) v.numbers v.spare)) (omega (arith, weigh_append (only 0) u.numbers u.spare)));
           later = g.later;
           alike = g.alike;
@@ -105,12 +107,12 @@ module _ {S : Type 0} (stands : S → List (List ℕ) → Type 0) (kind_of : S �
   }
 
   pub draws : (slots id : ℕ) (me : Me (Option S) View) → me.0.holds ≡ false → me.0.spare ≡ [] → 0 < times 0 me.0.numbers → me.0.made < 65536
-      → Allows (Rule stands kind_of) slots id me 1 (λ n. (n + 1) % 2 ^ 64) (Draws me)
+      → Allows (Rule stands kind_of opened) slots id me 1 (λ n. (n + 1) % 2 ^ 64) (Draws me)
   draws slots id me free bare first few s r _ at _ = (
     drew me.0 d,
     keeps,
     tt,
-    subst (λ (x : ℕ). Rule stands kind_of record { words = set s.words 1 x; homes = s.homes; views = set s.views id (drew me.0 d) }) (sym small)
+    subst (λ (x : ℕ). Rule stands kind_of opened record { words = set s.words 1 x; homes = s.homes; views = set s.views id (drew me.0 d) }) (sym small)
         (drawn s r (d + 1) (set s.views id (drew me.0 d))
         (drawn_stands s.homes s.views r.log r.kind r.holder (get_or s.words 0 0) d r.standing id me.0 at free bare first (omega (arith, made)))),
     (sym made, none_begun d r.log me.0.seen (r.standing.each_view id me.0 at).seen (r.standing.named d (le_refl d)), refl),
@@ -126,7 +128,7 @@ module _ {S : Type 0} (stands : S → List (List ℕ) → Type 0) (kind_of : S �
       small = omega arith
 
   -- what is split off fits, since no entry has a number that was spare
-  split_fits : (log : List Entry) (kind : List ℕ) (t d : ℕ) (v : View) → Fits log kind t d v → 0 < length v.numbers → times 0 (numbers_of v) ≤ 1
+  split_fits : (log : List Entry) (kind : List ℕ × ℕ) (t d : ℕ) (v : View) → Fits log kind t d v → 0 < length v.numbers → times 0 (numbers_of v) ≤ 1
       → Fits log kind t d (split_off v)
   split_fits log kind t d v f some_number once = record {
     seen = f.seen;
@@ -141,7 +143,7 @@ module _ {S : Type 0} (stands : S → List (List ℕ) → Type 0) (kind_of : S �
     alike = inr (lives log kind t d v f some_number);
   }
 
-  kept_fits : (log : List Entry) (kind : List ℕ) (t d : ℕ) (v : View) → Fits log kind t d v → 0 < length v.numbers → Fits log kind t d (kept_of v)
+  kept_fits : (log : List Entry) (kind : List ℕ × ℕ) (t d : ℕ) (v : View) → Fits log kind t d v → 0 < length v.numbers → Fits log kind t d (kept_of v)
   kept_fits log kind t d v f some_number = record {
     seen = f.seen;
     own_seen = f.own_seen;
@@ -154,10 +156,10 @@ module _ {S : Type 0} (stands : S → List (List ℕ) → Type 0) (kind_of : S �
     alike = inr (lives log kind t d v f some_number);
   }
 
-  split_stands : (homes : List (maybe.Option (Option S))) (views : List View) (log : List Entry) (kind : List ℕ) (holder t d : ℕ)
-      → Stands stands kind_of homes views log kind holder t d
+  split_stands : (homes : List (maybe.Option (Option S))) (views : List View) (log : List Entry) (kind : List ℕ × ℕ) (holder t d : ℕ)
+      → Stands stands kind_of opened homes views log kind holder t d
       → (i : ℕ) (v : View) → get_elem? views i ≡ some v → 0 < length v.numbers
-      → Stands stands kind_of homes (set views i (kept_of v) ++ split_off v ∷ []) log kind holder t d
+      → Stands stands kind_of opened homes (set views i (kept_of v) ++ split_off v ∷ []) log kind holder t d
   split_stands homes views log kind holder t d r i v at some_number = let f = r.each_view i v at in let w = kept_of v in let u' = split_off v in record {
     counted = r.counted;
     at_home = r.at_home;
@@ -186,11 +188,13 @@ module _ {S : Type 0} (stands : S → List (List ℕ) → Type 0) (kind_of : S �
     named = r.named;
   }
 
-  pub splits : (id : ℕ) (v : View) → 0 < length v.numbers → Splits (Rule stands kind_of) id v (kept_of v) (split_off v)
+  pub splits : (id : ℕ) (v : View) → 0 < length v.numbers → Splits (Rule stands kind_of opened) id v (kept_of v) (split_off v)
   splits id v some_number s r at = record {
     log = r.log;
     kind = r.kind;
     holder = r.holder;
     two_words = r.two_words;
+    begun = r.begun;
+    counted = r.counted;
     standing = split_stands s.homes s.views r.log r.kind r.holder (get_or s.words 0 0) (get_or s.words 1 0) r.standing id v at some_number;
   }

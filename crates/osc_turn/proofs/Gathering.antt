@@ -4,7 +4,7 @@ use Rattle.std.proofs.lemmas.List.{length-map}
 use Rattle.osc_turn.specs.declared.pass.Pass.{Pass}
 use Rattle.osc_turn.specs.declared.view.Entry.{Entry}
 use Rattle.osc_turn.specs.declared.view.View.{View}
-use Rattle.osc_turn.specs.History.{texts}
+use Rattle.osc_turn.specs.History.{StartsWith, entries_of, texts}
 use Rattle.osc_turn.specs.Numbers.{weigh, only, times}
 use Rattle.osc_turn.specs.Rule.{number_of, Rests}
 use Rattle.osc_turn.specs.Steps.{Grows, joined, Remembers}
@@ -27,6 +27,7 @@ gathered_none v a = record {
   bare = a.1;
   same_made = refl;
   same_kind = refl;
+  same_opened = refl;
   numbers = λ h. omega arith;
   first = ((starts_here v.seen, λ n _. refl), λ n p. p);
   others = λ k d l. absurd (omega arith);
@@ -48,6 +49,7 @@ gathered_one v w u p done a e g b is m once = record {
       b.4 (λ z. omega (arith, once 0, weighs (only 0), gathered_first v w done a e g, times_one 0 (view p).numbers (b.0 ∙ ap (λ n. n ∷ []) z))) in
       let now = ap (λ (z : View). z.made) is in let before = g.same_made in omega arith;
   same_kind = ap (λ (z : View). z.kind) is ∙ g.same_kind;
+  same_opened = ap (λ (z : View). z.opened_at) is ∙ g.same_opened;
   numbers = λ h. omega (arith, weighs h, g.numbers h, ap (weigh h) b.0);
   first = absorbs_on w u v g.first told.0 (λ n q. omega (arith, weighs (only n)));
   others = all_cons (λ q. Absorbs u (view q)) p done (told.1, λ n q. omega (arith, weighs (only n)))
@@ -83,12 +85,13 @@ gathered_whole v w others a e g made = (
 carries : (w : View) (p : Pass) → Absorbs w (view p) → Carries w.seen p
 carries w p a = (a.0.0, a.0.1 (number p) (omega (arith, times_one (number p) (view p).numbers p.rests.0)))
 
-pub closes : {S : Type 0} (stands : S → List (List ℕ) → Type 0) (x : S) (passes : List Pass) (p : Pass) (others : List Pass) (w : View) → passes ≡ p ∷ others
+pub closes : {S : Type 0} (stands : S → List (List ℕ) → Type 0) (opened : List (List ℕ)) (x : S) (passes : List Pass) (p : Pass) (others : List Pass) (w : View) → passes ≡ p ∷ others
     → Gathers (view p) others w → stands x (texts w.seen)
-    → All (λ e. times e.number w.numbers ≡ 1) w.seen → Closes stands x passes
-closes stands x passes p others w is g stands_now each = subst (Closes stands x) (sym is) record {
+    → All (λ e. times e.number w.numbers ≡ 1) w.seen → StartsWith w.seen (entries_of opened) → Closes stands opened x passes
+closes stands opened x passes p others w is g stands_now each begins = subst (Closes stands opened x) (sym is) record {
   history = w.seen;
   stands_for = stands_now;
+  begins = begins;
   carried = all_cons (Carries w.seen) p others (carries w p g.first) (all_map (λ q. Absorbs w (view q)) (Carries w.seen) others (λ q. carries w q) g.others);
   each_once = all_map (λ (e : Entry). times e.number w.numbers ≡ 1) (IsOwnOfOne (p ∷ others)) w.seen
       (λ e one. omega (arith, one, g.numbers (only e.number), ap (times e.number) p.rests.0)) each;

@@ -46,7 +46,7 @@ starts_longer log a b p q =
     longer_cases (λ l. StartsWith l a × StartsWith l b) a b (λ le. (starts_order log a b p q le, starts_here b))
     (λ le. (starts_here a, starts_order log b a q p le))
 
-spent_fits : (log : List Entry) (kind : List ℕ) (t d : ℕ) → Fits log kind t d spent
+spent_fits : (log : List Entry) (kind : List ℕ × ℕ) (t d : ℕ) → Fits log kind t d spent
 spent_fits log kind t d = record {
   seen = (log, refl);
   own_seen = λ n p. absurd (omega arith);
@@ -59,7 +59,7 @@ spent_fits log kind t d = record {
   alike = inl refl;
 }
 
-joined_fits : (log : List Entry) (kind : List ℕ) (t d : ℕ) (v w : View) → Fits log kind t d v → Fits log kind t d w → 0 < length v.numbers → v.holds ≡ false
+joined_fits : (log : List Entry) (kind : List ℕ × ℕ) (t d : ℕ) (v w : View) → Fits log kind t d v → Fits log kind t d w → 0 < length v.numbers → v.holds ≡ false
     → v.spare ≡ [] → w.spare ≡ []
     → times 0 v.numbers + times 0 w.numbers ≤ 1 → Fits log kind t d (joined v w)
 joined_fits log kind t d v w f g some_number free bare bare' once = record {
@@ -101,12 +101,12 @@ remembered v w u is m = subst (λ (z : View). Remembers z → Grows v z.seen × 
       ),
     )) m
 
-module _ {S : Type 0} (stands : S → List (List ℕ) → Type 0) (kind_of : S → List ℕ) where
-  joined_stands : (homes : List (maybe.Option (Option S))) (views : List View) (log : List Entry) (kind : List ℕ) (holder t d : ℕ)
-      → Stands stands kind_of homes views log kind holder t d
+module _ {S : Type 0} (stands : S → List (List ℕ) → Type 0) (kind_of : S → List ℕ) (opened : List (List ℕ)) where
+  joined_stands : (homes : List (maybe.Option (Option S))) (views : List View) (log : List Entry) (kind : List ℕ × ℕ) (holder t d : ℕ)
+      → Stands stands kind_of opened homes views log kind holder t d
       → (i j : ℕ) (v w : View) → get_elem? views i ≡ some v → get_elem? views j ≡ some w → j ≢ i → 0 < length v.numbers → v.holds ≡ false → w.holds ≡ false
       → v.spare ≡ [] → w.spare ≡ []
-      → Stands stands kind_of homes (set (set views i (joined v w)) j spent) log kind holder t d
+      → Stands stands kind_of opened homes (set (set views i (joined v w)) j spent) log kind holder t d
   joined_stands homes views log kind holder t d r i j v w at at' other some_number free free' bare bare' = record {
     counted = r.counted;
     at_home = r.at_home;
@@ -150,12 +150,14 @@ module _ {S : Type 0} (stands : S → List (List ℕ) → Type 0) (kind_of : S �
       at_then = set_else views i j (joined v w) other ∙ at'
 
   pub joins : (id other : ℕ) (v w : View) → 0 < length v.numbers → v.holds ≡ false → w.holds ≡ false → v.spare ≡ [] → w.spare ≡ []
-      → Joins (Rule stands kind_of) id v other w (joined v w) spent
+      → Joins (Rule stands kind_of opened) id v other w (joined v w) spent
   joins id other v w some_number free free' bare bare' s r at apart at_then = record {
     log = r.log;
     kind = r.kind;
     holder = r.holder;
     two_words = r.two_words;
+    begun = r.begun;
+    counted = r.counted;
     standing = joined_stands s.homes s.views r.log r.kind r.holder (get_or s.words 0 0) (get_or s.words 1 0) r.standing id other v w at
         (sym (set_else s.views id other (joined v w) apart) ∙ at_then) apart some_number free free' bare bare';
   }

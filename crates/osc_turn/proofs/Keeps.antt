@@ -12,7 +12,7 @@ use Rattle.atomic_table.specs.Table.{State, Me, keeps, takes, gives, stepped, Al
 use Rattle.atomic_table.proofs.Lists.{set_else, exchanged}
 use Rattle.osc_turn.specs.declared.view.Entry.{Entry}
 use Rattle.osc_turn.specs.declared.view.View.{View}
-use Rattle.osc_turn.specs.History.{StartsWith, entry, texts, own}
+use Rattle.osc_turn.specs.History.{StartsWith, entry, entries_of, texts, own}
 use Rattle.osc_turn.specs.Numbers.{weigh, only, times, numbers_of}
 use Rattle.osc_turn.specs.Rule.{number_of, Rests, Fits, Standing, Turns}
 use Rattle.osc_turn.specs.Steps.{found_at, Finds, holding, given, Looks, Tries, GivesEntry, GivesBack, Has}
@@ -28,10 +28,10 @@ here (x ∷ xs) zero v w e = refl
 here (x ∷ xs) (suc i) v w e = here xs i v w e
 
 -- a view with a number is not spent
-pub lives : (log : List Entry) (kind : List ℕ) (t d : ℕ) (v : View) → Fits log kind t d v → 0 < length v.numbers → v.kind ≡ kind
+pub lives : (log : List Entry) (kind : List ℕ × ℕ) (t d : ℕ) (v : View) → Fits log kind t d v → 0 < length v.numbers → (v.kind, v.opened_at) ≡ kind
 lives log kind t d v f some_number = ⊎_elim (λ e. absurd (let z = ap (λ (u : View). length u.numbers) e in omega arith)) (λ k. k) f.alike
 
-pub alive : (log : List Entry) (kind : List ℕ) (t d : ℕ) (v : View) → Fits log kind t d v → IsOne v → v.kind ≡ kind
+pub alive : (log : List Entry) (kind : List ℕ × ℕ) (t d : ℕ) (v : View) → Fits log kind t d v → IsOne v → (v.kind, v.opened_at) ≡ kind
 alive log kind t d v f one = lives log kind t d v f (omega (arith, ap length one))
 
 -- whoever holds the turn still does, where a view changes otherwise
@@ -43,7 +43,7 @@ still_held views i v w holder at same h = dite (ℕ_discrete holder i)
     (w, ap (get_elem? (set views i w)) e ∙ here views i v w at, same ∙ (sym (ap (λ (u : View). u.holds) same_view) ∙ h.2)))
     (λ other. (h.0, set_else views i holder w other ∙ h.1, h.2))
 
-pub found_fits : (log : List Entry) (kind : List ℕ) (t d r : ℕ) (v : View) → Fits log kind t d v → IsOne v → Fits log kind t d (found_at v log r)
+pub found_fits : (log : List Entry) (kind : List ℕ × ℕ) (t d r : ℕ) (v : View) → Fits log kind t d v → IsOne v → Fits log kind t d (found_at v log r)
 found_fits log kind t d r v f one = record {
   seen = starts_here log;
   own_seen = λ n _. refl;
@@ -57,7 +57,7 @@ found_fits log kind t d r v f one = record {
 }
 
 -- a view that does not hold the turn, when the turn changes hands
-pub fits_other : (log : List Entry) (kind : List ℕ) (t t' d : ℕ) (v : View) → Fits log kind t d v → (v.holds ≡ true → ⊥) → Fits log kind t' d v
+pub fits_other : (log : List Entry) (kind : List ℕ × ℕ) (t t' d : ℕ) (v : View) → Fits log kind t d v → (v.holds ≡ true → ⊥) → Fits log kind t' d v
 fits_other log kind t t' d v f free = record {
   seen = f.seen;
   own_seen = f.own_seen;
@@ -71,7 +71,7 @@ fits_other log kind t t' d v f free = record {
 }
 
 -- a view that has none of the numbers of what is added to the history
-pub fits_longer : (log added : List Entry) (kind : List ℕ) (t t' d : ℕ) (v : View) → Fits log kind t d v → (v.holds ≡ true → ⊥)
+pub fits_longer : (log added : List Entry) (kind : List ℕ × ℕ) (t t' d : ℕ) (v : View) → Fits log kind t d v → (v.holds ≡ true → ⊥)
     → ((n : ℕ) → 0 < times n (numbers_of v) → own n added ≡ []) → Fits (log ++ added) kind t' d v
 fits_longer log added kind t t' d v f free others = record {
   seen = starts_on (log ++ added) log v.seen (added, refl) f.seen;
@@ -88,15 +88,15 @@ fits_longer log added kind t t' d v f free others = record {
     stays : (n : ℕ) → 0 < times n (numbers_of v) → own n (log ++ added) ≡ own n log
     stays n p = own_append n log added ∙ (ap (λ l. own n log ++ l) (others n p) ∙ append-nil (own n log))
 
-module _ {S : Type 0} (stands : S → List (List ℕ) → Type 0) (kind_of : S → List ℕ) where
+module _ {S : Type 0} (stands : S → List (List ℕ) → Type 0) (kind_of : S → List ℕ) (opened : List (List ℕ)) where
   abbrev pub Rule : State (Option S) View → Type 0
-  Rule = Turns stands kind_of
+  Rule = Turns stands kind_of opened
 
-  abbrev pub Stands : List (maybe.Option (Option S)) → List View → List Entry → List ℕ → ℕ → ℕ → ℕ → Type 0
+  abbrev pub Stands : List (maybe.Option (Option S)) → List View → List Entry → List ℕ × ℕ → ℕ → ℕ → ℕ → Type 0
   Stands = Standing stands kind_of
 
   -- a number stands in one view
-  pub apart : (homes : List (maybe.Option (Option S))) (views : List View) (log : List Entry) (kind : List ℕ) (holder t d : ℕ)
+  pub apart : (homes : List (maybe.Option (Option S))) (views : List View) (log : List Entry) (kind : List ℕ × ℕ) (holder t d : ℕ)
       → Stands homes views log kind holder t d
       → (i j : ℕ) (v u : View) → get_elem? views i ≡ some v → get_elem? views j ≡ some u → i ≢ j → (n : ℕ) → 0 < times n (numbers_of v)
       → 0 < times n (numbers_of u) → ⊥
@@ -104,14 +104,14 @@ module _ {S : Type 0} (stands : S → List (List ℕ) → Type 0) (kind_of : S �
       omega (arith, total_two (λ w. times n (numbers_of w)) views i j v u other a b, r.numbered (only n), one_below n d)
 
   -- a number that stands in a view was drawn
-  pub drawn_below : (homes : List (maybe.Option (Option S))) (views : List View) (log : List Entry) (kind : List ℕ) (holder t d : ℕ)
+  pub drawn_below : (homes : List (maybe.Option (Option S))) (views : List View) (log : List Entry) (kind : List ℕ × ℕ) (holder t d : ℕ)
       → Stands homes views log kind holder t d
       → (i : ℕ) (v : View) → get_elem? views i ≡ some v → (n : ℕ) → 0 < times n (numbers_of v) → d ≤ n → ⊥
   drawn_below homes views log kind holder t d r i v a n p far =
       omega (arith, total_at (λ w. times n (numbers_of w)) views i v a, r.numbered (only n), none_below n d far)
 
   -- a view changes, and neither its numbers nor who holds the turn
-  pub view_changes : (homes : List (maybe.Option (Option S))) (views : List View) (log : List Entry) (kind : List ℕ) (holder t d : ℕ)
+  pub view_changes : (homes : List (maybe.Option (Option S))) (views : List View) (log : List Entry) (kind : List ℕ × ℕ) (holder t d : ℕ)
       → Stands homes views log kind holder t d
       → (i : ℕ) (v w : View) → get_elem? views i ≡ some v → Fits log kind t d w → numbers_of w ≡ numbers_of v → w.holds ≡ v.holds
       → Stands homes (set views i w) log kind holder t d
@@ -132,22 +132,24 @@ module _ {S : Type 0} (stands : S → List (List ℕ) → Type 0) (kind_of : S �
       → Stands s.homes (set s.views id w) r.log r.kind r.holder (get_or s.words 0 0) (get_or s.words 1 0)
       → Rule (stepped s i (get_or s.words i 0) id cs w keeps)
   stays s r i id cs w r' = subst (λ (ws : List ℕ). Rule record { words = ws; homes = s.homes; views = set s.views id w }) (sym (set-get_or s.words i 0))
-      record { log = r.log; kind = r.kind; holder = r.holder; two_words = r.two_words; standing = r' }
+      record { log = r.log; kind = r.kind; holder = r.holder; two_words = r.two_words; begun = r.begun; counted = r.counted; standing = r' }
 
   -- the rule after the turn becomes x
   pub turned : (s : State (Option S) View) (r : Rule s) (x : ℕ) (homes : List (maybe.Option (Option S))) (views : List View) (log : List Entry) (holder : ℕ)
-      → Stands homes views log r.kind holder x (get_or s.words 1 0)
+      → StartsWith log (entries_of opened) → Stands homes views log r.kind holder x (get_or s.words 1 0)
       → Rule record { words = set s.words 0 x; homes = homes; views = views }
-  turned s r x homes views log holder r' = let wide = r.two_words in record {
+  turned s r x homes views log holder begun r' = let wide = r.two_words in record {
     log = log;
     kind = r.kind;
     holder = holder;
     two_words = length-set s.words 0 x ∙ r.two_words;
+    begun = begun;
+    counted = r.counted;
     standing = subst (λ (z : ℕ × ℕ). Stands homes views log r.kind holder z.0 z.1)
         (λ k. (sym (get_or-set_same s.words 0 x 0 (omega arith)) k, sym (get_or-set_other s.words 0 1 x 0 (λ e. omega arith)) k)) r';
   }
 
-  abbrev finds_tells : (log : List Entry) (kind : List ℕ) (t d : ℕ) (v : View) → Fits log kind t d v → t / 2 ≡ length log → Finds v t (found_at v log t)
+  abbrev finds_tells : (log : List Entry) (kind : List ℕ × ℕ) (t d : ℕ) (v : View) → Fits log kind t d v → t / 2 ≡ length log → Finds v t (found_at v log t)
   finds_tells log kind t d v f counted = (refl, (f.seen, λ n p. sym (f.own_seen n p)), sym counted)
 
   pub looks : (slots id : ℕ) (me : Me (Option S) View) → IsOne me.0 → Allows Rule slots id me 0 (λ n. n) (Looks me)
@@ -161,7 +163,7 @@ module _ {S : Type 0} (stands : S → List (List ℕ) → Type 0) (kind_of : S �
         (finds_tells r.log r.kind t d me.0 f r.standing.counted, refl),
       )
 
-  holding_stands : (homes : List (maybe.Option (Option S))) (views : List View) (log : List Entry) (kind : List ℕ) (holder t d : ℕ)
+  holding_stands : (homes : List (maybe.Option (Option S))) (views : List View) (log : List Entry) (kind : List ℕ × ℕ) (holder t d : ℕ)
       → Stands homes views log kind holder t d
       → (i : ℕ) (v : View) → get_elem? views i ≡ some v → IsOne v → v.spare ≡ [] → t % 2 ≡ 0
       → Stands (none ∷ []) (set views i (holding v log t)) log kind i (t + 1) d
@@ -200,14 +202,14 @@ module _ {S : Type 0} (stands : S → List (List ℕ) → Type 0) (kind_of : S �
         w,
         takes 0 (Some home.0),
         ap (λ hs. get_elem? hs 0) home.1,
-        turned s r (old + 1) (set s.homes 0 none) (set s.views id w) r.log id
+        turned s r (old + 1) (set s.homes 0 none) (set s.views id w) r.log id r.begun
             (subst (λ (z : List (maybe.Option (Option S)) × ℕ). Stands z.0 (set s.views id w) r.log r.kind id (z.1 + 1) d)
             (λ k. (sym (ap (λ hs. set hs 0 none) home.1) k, e k))
             (holding_stands s.homes s.views r.log r.kind r.holder t d r.standing id v at resting.0 resting.1 even_now)),
         (
           λ _. (
             (refl, (f.seen, λ n p. sym (f.own_seen n p)), sym r.standing.counted),
-            (home.0, (ap (λ cs. (0, Some home.0) ∷ cs) bare, home.2, home.3 ∙ sym (alive r.log r.kind t d v f resting.0))),
+            (home.0, (ap (λ cs. (0, Some home.0) ∷ cs) bare, home.2, home.3 ∙ sym (ap (λ (z : List ℕ × ℕ). z.0) (alive r.log r.kind t d v f resting.0)))),
           ),
           λ ne. absurd (ne e),
         ),
@@ -236,10 +238,10 @@ module _ {S : Type 0} (stands : S → List (List ℕ) → Type 0) (kind_of : S �
   pub has_number : (v : View) → IsOne v → 0 < times (number_of v) (numbers_of v)
   has_number v one = omega (arith, weigh_append (only (number_of v)) v.numbers v.spare, times_one (number_of v) v.numbers one)
 
-  given_stands : (homes : List (maybe.Option (Option S))) (views : List View) (log : List Entry) (kind : List ℕ) (holder t d : ℕ)
+  given_stands : (homes : List (maybe.Option (Option S))) (views : List View) (log : List Entry) (kind : List ℕ × ℕ) (holder t d : ℕ)
       → Stands homes views log kind holder t d
       → (i : ℕ) (v : View) → get_elem? views i ≡ some v → v.holds ≡ true → (added : List Entry) → ((n : ℕ) → n ≢ number_of v → own n added ≡ [])
-      → (x : S) → stands x (texts (log ++ added)) → kind_of x ≡ kind → (t' : ℕ) → t' ≡ 2 * length (log ++ added)
+      → (x : S) → stands x (texts (log ++ added)) → kind_of x ≡ kind.0 → (t' : ℕ) → t' ≡ 2 * length (log ++ added)
       → Stands (some (Some x) ∷ []) (set views i (given v (log ++ added))) (log ++ added) kind holder t' d
   given_stands homes views log kind holder t d r i v at held added mine x stands_now alike t' is = record {
     counted = omega arith;
@@ -295,10 +297,11 @@ module _ {S : Type 0} (stands : S → List (List ℕ) → Type 0) (kind_of : S �
     gives,
     tt,
     turned s r new (put_back s.homes me.1) (set s.views id (given v (r.log ++ added))) (r.log ++ added) r.holder
+        (starts_on (r.log ++ added) r.log (entries_of opened) (added, refl) r.begun)
         (subst (λ hs. Stands hs (set s.views id (given v (r.log ++ added))) (r.log ++ added) r.kind r.holder new (get_or s.words 1 0)) (sym back)
         (given_stands s.homes s.views r.log r.kind r.holder (get_or s.words 0 0) (get_or s.words 1 0) r.standing id v at held added mine x
         (subst (λ l. stands x (texts (l ++ added))) o.1 stands_now)
-        (alike ∙ alive r.log r.kind (get_or s.words 0 0) (get_or s.words 1 0) v f o.2) new (is ∙ ap (λ l. 2 * length (l ++ added)) o.1))),
+        (alike ∙ ap (λ (z : List ℕ × ℕ). z.0) (alive r.log r.kind (get_or s.words 0 0) (get_or s.words 1 0) v f o.2)) new (is ∙ ap (λ l. 2 * length (l ++ added)) o.1))),
     subst (λ (z : List Entry × List (ℕ × Option S)). Q (given v (z.0 ++ added), z.1)) (λ k. (o.1 k, sym (ap rest at_hand) k)) q,
   )
     where

@@ -9,7 +9,7 @@ use lib.ListN.{get_elem?}
 use Rattle.atomic_table.specs.Table.{State, Final, Seen}
 use Rattle.osc_turn.specs.declared.view.Entry.{Entry}
 use Rattle.osc_turn.specs.declared.view.View.{View}
-use Rattle.osc_turn.specs.History.{texts, own}
+use Rattle.osc_turn.specs.History.{StartsWith, entries_of, texts, own}
 use Rattle.osc_turn.specs.Numbers.{weigh, only, times, numbers_of}
 use Rattle.osc_turn.proofs.Histories.{no_append, own_append, own_of_mine, weigh_append, weigh_ones, ones_below, some_below, total_two, total_alone, times_some}
 use Rattle.osc_turn.proofs.Histories.{none_long}
@@ -32,13 +32,13 @@ all_own P (e ∷ es) f zero d l = f e.number (λ nothing. absurd (let there = ap
     omega (arith, there, split, length-append (own e.number (e ∷ [])) (own e.number es), ap length (own_of_mine e.number e refl))))
 all_own P (e ∷ es) f (suc k) d l = all_own P es (λ n some_entry. f n (λ nothing. some_entry (none_after n e es nothing))) k d (omega arith)
 
-module _ {S : Type 0} (stands : S → List (List ℕ) → Type 0) (kind_of : S → List ℕ) where
+module _ {S : Type 0} (stands : S → List (List ℕ) → Type 0) (kind_of : S → List ℕ) (opened : List (List ℕ)) where
   -- the view has every number
   abbrev pub IsWhole : View → Type 0
   IsWhole v = (v.holds ≡ false) × (v.spare ≡ []) × (0 < times 0 v.numbers) × (length v.numbers ≡ v.made)
 
-  module _ (homes : List (maybe.Option (Option S))) (views : List View) (log : List Entry) (kind : List ℕ) (holder t d : ℕ)
-      (r : Stands stands kind_of homes views log kind holder t d)
+  module _ (homes : List (maybe.Option (Option S))) (views : List View) (log : List Entry) (kind : List ℕ × ℕ) (holder t d : ℕ)
+      (r : Stands stands kind_of opened homes views log kind holder t d)
       (i : ℕ) (v : View) (at : get_elem? views i ≡ some v)
       (whole : (v.holds ≡ false) × (v.spare ≡ []) × (0 < times 0 v.numbers) × (length v.numbers ≡ v.made)) where
     others_bare : (j : ℕ) (u : View) → j ≢ i → get_elem? views j ≡ some u → length (numbers_of u) ≡ 0
@@ -102,23 +102,26 @@ module _ {S : Type 0} (stands : S → List (List ℕ) → Type 0) (kind_of : S �
   abbrev pub Settled : View → List (Option S) → Type 0
   Settled v slots = (x : S) × (get_elem? slots 0 ≡ some (Some x)) × stands x (texts v.seen) × (kind_of x ≡ v.kind)
       × All (λ e. times e.number v.numbers ≡ 1) v.seen
+      × StartsWith v.seen (entries_of opened) × (v.opened_at ≡ length opened)
 
-  pub settles : (id : ℕ) (v : View) (words : List ℕ) (slots : List (Option S)) → IsWhole v → Final (Seen (Rule stands kind_of) id v) words slots
+  pub settles : (id : ℕ) (v : View) (words : List ℕ) (slots : List (Option S)) → IsWhole v → Final (Seen (Rule stands kind_of opened) id v) words slots
       → Settled v slots
   settles id v words slots whole final = (
     home.0,
     final.4 0 (Some home.0) (ap (λ hs. get_elem? hs 0) home.1),
     subst (λ l. stands home.0 (texts l)) same home.2,
-    home.3 ∙ sym (lives rule.log rule.kind t d v (r.each_view id v at) (times_some 0 v.numbers whole.2)),
+    home.3 ∙ sym (ap (λ (z : List ℕ × ℕ). z.0) alike),
     all_own (λ n. times n v.numbers ≡ 1) v.seen
         (λ n some_entry. has_each s.homes s.views rule.log rule.kind rule.holder t d r id v at whole n
         (is_drawn s.homes s.views rule.log rule.kind rule.holder t d r id v at whole n (λ e. some_entry (ap (own n) (sym same) ∙ e)))),
+    subst (λ l. StartsWith l (entries_of opened)) same rule.begun,
+    ap (λ (z : List ℕ × ℕ). z.1) alike ∙ rule.counted,
   )
     where
       s : State (Option S) View
       s = final.0
 
-      rule : Rule stands kind_of s
+      rule : Rule stands kind_of opened s
       rule = final.1.0
 
       at : get_elem? s.views id ≡ some v
@@ -130,11 +133,14 @@ module _ {S : Type 0} (stands : S → List (List ℕ) → Type 0) (kind_of : S �
       d : ℕ
       d = get_or s.words 1 0
 
-      r : Stands stands kind_of s.homes s.views rule.log rule.kind rule.holder t d
+      r : Stands stands kind_of opened s.homes s.views rule.log rule.kind rule.holder t d
       r = rule.standing
 
-      home : (x : S) × (s.homes ≡ some (Some x) ∷ []) × stands x (texts rule.log) × (kind_of x ≡ rule.kind)
+      home : (x : S) × (s.homes ≡ some (Some x) ∷ []) × stands x (texts rule.log) × (kind_of x ≡ rule.kind.0)
       home = r.at_home (is_even s.homes s.views rule.log rule.kind rule.holder t d r id v at whole)
+
+      alike : (v.kind, v.opened_at) ≡ rule.kind
+      alike = lives rule.log rule.kind t d v (r.each_view id v at) (times_some 0 v.numbers whole.2)
 
       same : rule.log ≡ v.seen
       same = sees_all s.homes s.views rule.log rule.kind rule.holder t d r id v at whole

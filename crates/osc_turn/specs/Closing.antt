@@ -3,7 +3,7 @@ use Rattle.std.specs.Prelude.{◌≡◌, ℕ, ◌+◌, ◌<◌, false, List, [],
 use Rattle.osc_turn.specs.declared.pass.Pass.{Pass}
 use Rattle.osc_turn.specs.declared.view.Entry.{Entry}
 use Rattle.osc_turn.specs.declared.view.View.{View}
-use Rattle.osc_turn.specs.History.{StartsWith, texts, own}
+use Rattle.osc_turn.specs.History.{StartsWith, entries_of, texts, own}
 use Rattle.osc_turn.specs.Numbers.{weigh, times}
 use Rattle.osc_turn.specs.Rule.{number_of, spent}
 use Rattle.osc_turn.specs.Steps.{Grows}
@@ -26,12 +26,14 @@ Carries history p = StartsWith history (view p).seen
 abbrev pub IsOwnOfOne : List Pass → Entry → Type 0
 IsOwnOfOne passes e = times e.number (map number passes) ≡ 1
 
--- the value stands for a history that carries each pass, and each entry of it is an own one of
--- exactly one of them
-pub record Closes {S : Type 0} (stands : S → List (List ℕ) → Type 0) (value : S)
-    (passes : List Pass) : Type 0 where
+-- The value stands for a history that carries each pass, and each entry of it is an own one of
+-- exactly one of them. It begins with the entries that the value had when the turn was opened, which
+-- are the first pass's.
+pub record Closes {S : Type 0} (stands : S → List (List ℕ) → Type 0) (opened : List (List ℕ))
+    (value : S) (passes : List Pass) : Type 0 where
   pub history : List Entry
   pub stands_for : stands value (texts history)
+  pub begins : StartsWith history (entries_of opened)
   pub carried : All (Carries history) passes
   pub each_once : All (IsOwnOfOne passes) history
 
@@ -46,6 +48,7 @@ pub record Gathers (v : View) (passes : List Pass) (w : View) : Type 0 where
   pub bare : w.spare ≡ []
   pub same_made : w.made ≡ v.made
   pub same_kind : w.kind ≡ v.kind
+  pub same_opened : w.opened_at ≡ v.opened_at
   pub numbers : (h : ℕ → ℕ) → weigh h w.numbers ≡ weigh h v.numbers + weigh h (map number passes)
   pub first : Absorbs w v
   pub others : All (λ p. Absorbs w (view p)) passes

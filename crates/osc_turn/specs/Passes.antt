@@ -10,9 +10,14 @@ use Rattle.osc_turn.specs.Steps.{longer, past}
 abbrev pub view : Pass → View
 view p = slice_index_or p.badge.views 0 spent
 
--- the pass is one of this turn's
+-- the value as it was when the turn was opened
+abbrev pub opened_with : {S : Type 0} → Turn S → S
+opened_with turn = turn.table.shared.key.value
+
+-- the pass is one of this turn's, and knows how many entries its history had when it was opened
 abbrev pub IsPassOf : {S : Type 0} → Turn S → Pass → Type 0
-IsPassOf turn p = p.badge.table_id ≡ turn.table.shared.table_id
+IsPassOf turn p = (p.badge.table_id ≡ turn.table.shared.table_id)
+    × ((view p).opened_at ≡ turn.opened_at.value)
 
 -- the first pass once it has made another
 abbrev pub one_more : View → View
@@ -31,6 +36,7 @@ guest_of v =
       taken = 0;
       holds = false;
       kind = v.kind;
+      opened_at = v.opened_at;
     }
 
 -- a pass that was told what another has seen: it has seen the longer of both lists, and is

@@ -29,6 +29,7 @@ reopening kind h =
       taken = 0;
       holds = false;
       kind = kind;
+      opened_at = length h;
     }
 
 -- what the first pass knows of a turn whose value had no entries
@@ -47,6 +48,7 @@ spent = record {
   taken = 0;
   holds = false;
   kind = [];
+  opened_at = 0;
 }
 
 -- the number of a pass
@@ -65,7 +67,7 @@ abbrev pub Covers : Past → Past → Type 0
 Covers a b = (n : ℕ) → 0 < times n a.numbers → StartsWith (own n a.seen) (own n b.seen)
 
 -- what one view knows of the history, at these two words
-pub record Fits (log : List Entry) (kind : List ℕ) (turn drawn : ℕ) (v : View) : Type 0 where
+pub record Fits (log : List Entry) (kind : List ℕ × ℕ) (turn drawn : ℕ) (v : View) : Type 0 where
   -- it has seen a beginning of the history, and all entries of its own
   pub seen : StartsWith log v.seen
   pub own_seen : (n : ℕ) → 0 < times n v.numbers → own n v.seen ≡ own n log
@@ -82,17 +84,18 @@ pub record Fits (log : List Entry) (kind : List ℕ) (turn drawn : ℕ) (v : Vie
   -- the view with the number 0 knows how many passes were made, and it alone draws numbers
   pub first : 0 < times 0 v.numbers → v.made ≡ drawn
   pub later : times 0 v.numbers ≡ 0 → (v.made ≡ 0) × (v.spare ≡ [])
-  pub alike : (v ≡ spent) ⊎ (v.kind ≡ kind)
+  -- each view knows the value's kind, and how many entries the history had when the turn was opened
+  pub alike : (v ≡ spent) ⊎ ((v.kind, v.opened_at) ≡ kind)
 
 -- what holds of the value's slot and of all views, where this is the history, these are the two
 -- words, and this seat holds the turn, if one does
 pub record Standing {S : Type 0} (stands : S → List (List ℕ) → Type 0) (kind_of : S → List ℕ)
-    (homes : List (maybe.Option (Option S))) (views : List View) (log : List Entry) (kind : List ℕ)
+    (homes : List (maybe.Option (Option S))) (views : List View) (log : List Entry) (kind : List ℕ × ℕ)
     (holder turn drawn : ℕ) : Type 0 where
   pub counted : turn / 2 ≡ length log
   -- the value of a free turn stands for the history; the slot of a taken one is empty
   pub at_home : turn % 2 ≡ 0 → (x : S) × (homes ≡ some (Some x) ∷ []) × stands x (texts log)
-      × (kind_of x ≡ kind)
+      × (kind_of x ≡ kind.0)
   pub away : turn % 2 ≡ 1 → homes ≡ none ∷ []
   -- as many views hold the turn as the word modulo 2
   pub held : turn % 2 ≡ 1 → (v : View) × (get_elem? views holder ≡ some v) × (v.holds ≡ true)
@@ -105,11 +108,15 @@ pub record Standing {S : Type 0} (stands : S → List (List ℕ) → Type 0) (ki
   -- entries are under numbers that were drawn
   pub named : (n : ℕ) → drawn ≤ n → own n log ≡ []
 
+-- the rule of a turn whose value had these entries when the turn was opened: the history begins with
+-- them, under the first pass's number
 pub record Turns {S : Type 0} (stands : S → List (List ℕ) → Type 0) (kind_of : S → List ℕ)
-    (s : State (Option S) View) : Type 0 where
+    (opened : List (List ℕ)) (s : State (Option S) View) : Type 0 where
   pub log : List Entry
-  pub kind : List ℕ
+  pub kind : List ℕ × ℕ
   pub holder : ℕ
   pub two_words : length s.words ≡ 2
+  pub begun : StartsWith log (entries_of opened)
+  pub counted : kind.1 ≡ length opened
   pub standing : Standing stands kind_of s.homes s.views log kind holder (slice_index s.words 0)
       (slice_index s.words 1)

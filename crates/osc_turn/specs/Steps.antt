@@ -106,6 +106,7 @@ split_off v =
       taken = 0;
       holds = false;
       kind = v.kind;
+      opened_at = v.opened_at;
     }
 
 abbrev pub longer : List Entry → List Entry → List Entry

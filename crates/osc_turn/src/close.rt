@@ -1,10 +1,10 @@
 //! How a turn is closed.
 ghost use Rattle.std.specs.Prelude.{◌≡◌, ◌≢◌, ℕ, ◌<◌, ◌≤◌, List, [], ◌∷◌, false, length, map, All};
 ghost use Rattle.std.specs.Prelude.{IfOk, OnOk, IfErr};
-ghost use Rattle.osc_turn.specs.History.{texts};
+ghost use Rattle.osc_turn.specs.History.{StartsWith, entries_of, texts};
 ghost use Rattle.osc_turn.specs.Numbers.{times};
 ghost use Rattle.osc_turn.specs.Rule.{number_of, Rests};
-ghost use Rattle.osc_turn.specs.Passes.{view, IsPassOf};
+ghost use Rattle.osc_turn.specs.Passes.{view, IsPassOf, opened_with};
 ghost use Rattle.osc_turn.specs.Closing.{Gathers, Closes, first_view};
 
 use crate::job::Kept;
@@ -41,8 +41,10 @@ impl<S: Kept> Turn<S> {
         ensures stands { S.stands result (texts seat.me.0.seen) }
         ensures kind { S.kind result ≡ seat.me.0.kind }
         ensures each { All (λ e. times e.number seat.me.0.numbers ≡ 1) seat.me.0.seen }
+        ensures opened { seat.me.0.opened_at ≡ length (S.history (opened_with self)) }
+        ensures begins { StartsWith seat.me.0.seen (entries_of (S.history (opened_with self))) }
     {
-        let Turn { table } = self;
+        let Turn { table, .. } = self;
         let mut closed = table.close_with(seat);
         let value = closed.take(0).unwrap();
         closed.free();
@@ -68,7 +70,10 @@ impl<S: Kept> Turn<S> {
         requires few { (0 < length passes.items) × (length passes.items ≤ 65536) }
         requires first { number_of (first_view passes.items) ≡ 0 }
         ensures all_in { OnOk result ((first_view passes.items).made ≡ length passes.items) }
-        ensures closes { IfOk result (λ value. Closes S.stands value passes.items) }
+        ensures closes { IfOk result
+            (λ value. Closes S.stands (S.history (opened_with self)) value passes.items) }
+        ensures opened { OnOk result
+            ((first_view passes.items).opened_at ≡ length (S.history (opened_with self))) }
         ensures kind { IfOk result (λ value. S.kind value ≡ (first_view passes.items).kind) }
         ensures made { IfErr result (λ out. out.made ≡ (first_view passes.items).made) }
         ensures handed { IfErr result (λ out. out.handed ≡ length passes.items) }

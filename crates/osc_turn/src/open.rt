@@ -1,7 +1,7 @@
 //! How a turn is opened.
 ghost use Rattle.std.specs.Prelude.{◌≡◌, [], ◌∷◌, IfOk, IfErr, Some};
 ghost use Rattle.osc_turn.specs.Rule.{opening, reopening};
-ghost use Rattle.osc_turn.specs.Passes.{view, IsPassOf};
+ghost use Rattle.osc_turn.specs.Passes.{view, IsPassOf, opened_with};
 
 use crate::job::Kept;
 use crate::pass::Pass;
@@ -38,6 +38,7 @@ impl<S: Kept> Turn<S> {
         requires empty { S.stands state [] }
         ensures ours { IfOk result (λ opened. IsPassOf opened.0 opened.1) }
         ensures first { IfOk result (λ opened. view opened.1 ≡ opening (S.kind state)) }
+        ensures empty { IfOk result (λ opened. S.history (opened_with opened.0) ≡ []) }
         ensures err { IfErr result (λ refused. refused.1 ≡ state) }
     {
         Turn::reopen(alloc, state)
@@ -48,14 +49,17 @@ impl<S: Kept> Turn<S> {
         ensures ours { IfOk result (λ opened. IsPassOf opened.0 opened.1) }
         ensures first { IfOk result
             (λ opened. view opened.1 ≡ reopening (S.kind state) (S.history state)) }
+        ensures opened { IfOk result (λ opened. opened_with opened.0 ≡ state) }
         ensures stands { S.stands state (S.history state) }
         ensures err { IfErr result (λ refused. refused.1 ≡ state) }
     {
         let about = Snapshot::of(&state);
-        let word = 2 * state.entries();
+        let entries = state.entries();
+        let word = 2 * entries;
+        let opened_at = Snapshot::of(&entries);
         let slots = one_slot(alloc, state)?;
         match Table::new(alloc, &[word, 1], slots, &about) {
-            Ok((table, seat)) => Ok((Turn { table }, Pass::of(seat))),
+            Ok((table, seat)) => Ok((Turn { table, opened_at }, Pass::of(seat))),
             Err(Refused { slots }) => Err((AllocError, only_state(slots))),
         }
     }

@@ -15,7 +15,7 @@ pub struct Law<S> {
 }
 
 impl<S: Kept> TableRule<Option<S>, View, Snapshot<S>> for Law<S> {
-    ghost holds = { λ _. Turns S.stands S.kind };
+    ghost holds = { λ about. Turns S.stands S.kind (S.history about.value) };
 
     ghost first = { λ about. reopening (S.kind about.value) (S.history about.value) };
 }

@@ -12,5 +12,7 @@ use std::snapshot::Snapshot;
 #[derive(Drop)]
 pub struct Turn<S: Kept> {
     pub(crate) table: Table<Option<S>, View, Snapshot<S>, Law<S>, Global>,
+    // How many entries the history had when the turn was opened. It has no bytes.
+    pub(crate) opened_at: Snapshot<u64>,
     ghost sized: { (table.shared.table_id.words ≡ 2) × (table.shared.table_id.slots ≡ 1) },
 }

@@ -37,4 +37,6 @@ pub struct View {
     pub holds: bool,
     /// The kind of the value.
     pub kind: LinkedList<u64>,
+    /// How many entries the history had when the turn was opened.
+    pub opened_at: u64,
 }

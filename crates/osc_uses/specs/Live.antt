@@ -60,7 +60,7 @@ pub record AreOneHistory {M : Type 0} (caps : Limits) (address bytes : List ℕ)
   pub one : View
   pub two : View
   pub three : View
-  pub closes : Closes caps ((0, one) ∷ (second, two) ∷ (third, three) ∷ [])
+  pub closes : Closes caps [] ((0, one) ∷ (second, two) ∷ (third, three) ∷ [])
       (one ∷ two ∷ three ∷ []) run.closed.bytes.items kept
   pub comes : (v : View)
       × ComesAndGoes caps 0 address (adding_of run.added) (removing_of run.removed) v one

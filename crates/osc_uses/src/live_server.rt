@@ -4,7 +4,7 @@ ghost use Rattle.std.specs.Prelude.{◌≡◌, ◌<◌, ◌+◌, [], ◌∷◌, 
 ghost use Rattle.osc_turn.specs.Passes.{view};
 ghost use Rattle.osc_core.specs.Answers.{adding_of, removing_of, ticking_of};
 ghost use Rattle.osc_core.specs.Telling.{told};
-ghost use Rattle.osc_live.specs.Seen.{IsTokenOf};
+ghost use Rattle.osc_live.specs.Seen.{IsTokenOf, past_of};
 ghost use Rattle.osc_live.specs.Outs.{AreOurs, live_back};
 ghost use Rattle.osc_live.specs.Closing.{Closes};
 ghost use Rattle.osc_uses.specs.Live.{ComesAndGoes, Sends, Ticks, AreOneHistory, AreTokensOf};
@@ -87,6 +87,7 @@ fn open_three<M: Method, W: Wait>(
     caps: Caps,
 ) -> Result<(Live<M>, Callers), Unfinished<M>>
     ensures limits { IfOk result (λ opened. opened.0.caps ≡ caps) }
+    ensures empty { IfOk result (λ opened. past_of opened.0.turn ≡ []) }
     ensures ours { IfOk result (λ opened. AreTokensOf opened.0.turn opened.0.caps opened.1) }
     ensures first { IfOk result (λ opened. opened.1.first.number ≡ 0) }
     ensures made { IfOk result (λ opened. (view opened.1.first.pass).made ≡ 3) }
@@ -281,16 +282,17 @@ fn three_at_once<M: Method + Send, R: Threads + Wait + Sync>(
     )
 }
 
-/// Closes the server.
+/// Closes the server, which was opened on nothing.
 fn close_three<M: Method>(
     alloc: Global,
     live: Live<M>,
     callers: Callers,
 ) -> Result<Closed<M>, Unfinished<M>>
+    requires empty { past_of live.turn ≡ [] }
     requires ours { AreTokensOf live.turn live.caps callers }
     requires first { callers.first.number ≡ 0 }
     requires made { (view callers.first.pass).made ≡ 3 }
-    ensures closes { IfOk result (λ closed. Closes live.caps
+    ensures closes { IfOk result (λ closed. Closes live.caps []
         ((0, view callers.first.pass) ∷ (callers.second.number, view callers.second.pass)
         ∷ (callers.third.number, view callers.third.pass) ∷ [])
         (view callers.first.pass ∷ view callers.second.pass ∷ view callers.third.pass ∷ [])

@@ -1,6 +1,7 @@
 -- What some lines of words say.
 use Rattle.std.proofs.Common.{◌≡◌, refl, [], ◌∷◌, Some, None, codes}
 use Rattle.clap.proofs.OnLiterals.{clap_on_literals}
+use Rattle.osc_model.specs.declared.late.Late.TheVariants.{Deliver, Discard}
 use Rattle.osc_words.specs.Commands.{command_of, to_read}
 use Rattle.osc_words.specs.Reading.{found_by}
 use Rattle.osc_words.specs.declared.command.Capacities.{Capacities}
@@ -11,7 +12,7 @@ use Rattle.osc_words.specs.declared.command.LiveCommand.TheVariants.{Lanes, Serv
 use Rattle.osc_words.specs.declared.command.Command.TheVariants.{Plain, Live}
 
 abbrev defaults : Capacities
-defaults = record { units = 4096; blocks = 16384; methods = 1024; nodes = 4096; recording = 67108864 }
+defaults = record { units = 4096; blocks = 16384; methods = 1024; nodes = 4096; recording = 67108864; late = Deliver }
 
 run : command_of (codes "run" ∷ []) ≡ Some (to_read (Run output.Text defaults))
 unfolding clap_on_literals command_of found_by
@@ -21,6 +22,18 @@ run_bytes : command_of (codes "run" ∷ codes "--nodes" ∷ codes "1" ∷ codes 
     ≡ Some (to_read (Run output.Recording (record defaults { nodes = 1; units = 7 })))
 unfolding clap_on_literals command_of found_by
 run_bytes = refl
+
+discards : command_of (codes "run" ∷ codes "--late" ∷ codes "discard" ∷ []) ≡ Some (to_read (Run output.Text (record defaults { late = Discard })))
+unfolding clap_on_literals command_of found_by
+discards = refl
+
+delivers : command_of (codes "run" ∷ codes "--late=deliver" ∷ []) ≡ Some (to_read (Run output.Text defaults))
+unfolding clap_on_literals command_of found_by
+delivers = refl
+
+no_policy : command_of (codes "run" ∷ codes "--late" ∷ codes "never" ∷ []) ≡ None
+unfolding clap_on_literals command_of found_by
+no_policy = refl
 
 no_unit : command_of (codes "run" ∷ codes "--units" ∷ codes "0" ∷ []) ≡ None
 unfolding clap_on_literals command_of found_by
@@ -62,15 +75,15 @@ seed_too_large : command_of (codes "gen" ∷ codes "--seed" ∷ codes "184467440
 unfolding clap_on_literals command_of found_by
 seed_too_large = refl
 
-lanes : command_of (codes "lanes" ∷ codes "--recording" ∷ codes "56" ∷ codes "out.rec" ∷ []) ≡ Some (Live (Lanes (record defaults { recording = 56 })))
+lanes : command_of (codes "lanes" ∷ codes "--recording" ∷ codes "60" ∷ codes "out.rec" ∷ []) ≡ Some (Live (Lanes (record defaults { recording = 60 })))
 unfolding clap_on_literals command_of found_by
 lanes = refl
 
-file_first : command_of (codes "lanes" ∷ codes "out.rec" ∷ codes "--recording" ∷ codes "56" ∷ []) ≡ None
+file_first : command_of (codes "lanes" ∷ codes "out.rec" ∷ codes "--recording" ∷ codes "60" ∷ []) ≡ None
 unfolding clap_on_literals command_of found_by
 file_first = refl
 
-no_file : command_of (codes "lanes" ∷ codes "--recording" ∷ codes "56" ∷ []) ≡ None
+no_file : command_of (codes "lanes" ∷ codes "--recording" ∷ codes "60" ∷ []) ≡ None
 unfolding clap_on_literals command_of found_by
 no_file = refl
 

@@ -5,7 +5,9 @@ use Rattle.std.specs.Option.{option_map_or}
 use Rattle.std.specs.Str.{bytes_eq}
 use Rattle.clap.specs.Words.{Row, first_of}
 use Rattle.osc_words.specs.Numbers.{number_within}
-use Rattle.osc_words.specs.Options.{flag_name, row_of}
+use Rattle.osc_model.specs.declared.late.Late.{Late}
+use Rattle.osc_model.specs.declared.late.Late.TheVariants.{Deliver, Discard}
+use Rattle.osc_words.specs.Options.{flag_name, late_name, row_of}
 use Rattle.osc_words.specs.Reading.{found_by}
 use Rattle.osc_words.specs.Verbs as verbs
 use Rattle.osc_words.specs.declared.options.Flag.{Flag}
@@ -40,21 +42,34 @@ number_of quantity rows =
     option_map_or (number_within (row_of quantity).least (row_of quantity).most)
     (first_of (row_of quantity).name rows) (Some (row_of quantity).default)
 
-abbrev pub caps_from : Option ℕ → Option ℕ → Option ℕ → Option ℕ → Option ℕ → Option Capacities
-caps_from (Some units) (Some blocks) (Some methods) (Some nodes) (Some recording) =
+-- the policy that a word names
+abbrev pub policy_named : List ℕ → Option Late
+policy_named word =
+    if bytes_eq word (codes "deliver") then Some Deliver
+    else if bytes_eq word (codes "discard") then Some Discard else None
+
+-- what the words say that becomes of late units, or that they are delivered where nothing is said;
+-- none where the word is no policy
+abbrev pub late_of : List Row → Option Late
+late_of rows = option_map_or policy_named (first_of late_name rows) (Some Deliver)
+
+abbrev pub caps_from : Option ℕ → Option ℕ → Option ℕ → Option ℕ → Option ℕ → Option Late
+    → Option Capacities
+caps_from (Some units) (Some blocks) (Some methods) (Some nodes) (Some recording) (Some late) =
     Some (record {
       units = units;
       blocks = blocks;
       methods = methods;
       nodes = nodes;
       recording = recording;
+      late = late;
     })
-caps_from _ _ _ _ _ = None
+caps_from _ _ _ _ _ _ = None
 
 abbrev pub caps_of : List Row → Option Capacities
 caps_of rows =
     caps_from (number_of Units rows) (number_of Blocks rows) (number_of Methods rows)
-    (number_of Nodes rows) (number_of Recording rows)
+    (number_of Nodes rows) (number_of Recording rows) (late_of rows)
 
 abbrev pub output_of : List Row → Output
 output_of rows = if is_given Bytes rows then output.Recording else output.Text

@@ -29,7 +29,7 @@ row_of Units = number_option (codes "units") 1 1048576 4096
 row_of Blocks = number_option (codes "blocks") 1 1048576 16384
 row_of Methods = number_option (codes "methods") 1 65536 1024
 row_of Nodes = number_option (codes "nodes") 1 1048576 4096
-row_of Recording = number_option (codes "recording") 56 1073741824 67108864
+row_of Recording = number_option (codes "recording") 60 1073741824 67108864
 row_of Seed = number_option (codes "seed") 0 18446744073709551615 1
 row_of Lines = number_option (codes "lines") 1 100000 20000
 row_of Port = number_option (codes "port") 1 65535 9000
@@ -44,12 +44,17 @@ IsInRange quantity number = ((row_of quantity).least ≤ number) × (number ≤ 
 abbrev pub flag_name : Flag → List ℕ
 flag_name Bytes = codes "bytes"
 
--- how each is told to clap: a flag and a number by a long name, and the file as a word that has to
+-- the option that says what becomes of late units
+abbrev pub late_name : List ℕ
+late_name = codes "late"
+
+-- how each is told to clap: a flag, a number and a policy by a long name, and the file as a word that has to
 -- stand, and behind which no option is read and no other word may stand
 abbrev pub rule_for : Parameter → Rule
 rule_for (parameter.Flag flag) =
     record (new_rule (flag_name flag)) { long = Some (flag_name flag); action = Some SetTrue }
 rule_for (parameter.Number quantity) =
     record (new_rule (row_of quantity).name) { long = Some (row_of quantity).name }
+rule_for parameter.Late = record (new_rule late_name) { long = Some late_name }
 rule_for parameter.File =
     record (new_rule (codes "FILE")) { required = true; trailing_var_arg = true }

@@ -1,5 +1,6 @@
 -- The numbers of a command lie in the ranges of their options.
 use Rattle.std.specs.Prelude.{ℕ, ◌+◌, ◌≤◌}
+use Rattle.osc_model.specs.declared.late.Late.TheVariants.{Deliver}
 use Rattle.osc_words.specs.Options.{IsInRange, row_of}
 use Rattle.osc_words.specs.declared.options.Quantity.TheVariants.{Units, Blocks, Methods, Nodes}
 use Rattle.osc_words.specs.declared.options.Quantity.TheVariants.{Recording, Lines, Port, Links}
@@ -56,4 +57,5 @@ default_capacities =
       methods = (row_of Methods).default;
       nodes = (row_of Nodes).default;
       recording = (row_of Recording).default;
+      late = Deliver;
     }

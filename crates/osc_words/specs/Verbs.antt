@@ -6,7 +6,7 @@ use Rattle.osc_words.specs.declared.options.Quantity.TheVariants.{Units, Blocks,
 use Rattle.osc_words.specs.declared.options.Quantity.TheVariants.{Recording, Seed, Lines, Port}
 use Rattle.osc_words.specs.declared.options.Quantity.TheVariants.{Links, Count, Idle}
 use Rattle.osc_words.specs.declared.options.Parameter.{Parameter}
-use Rattle.osc_words.specs.declared.options.Parameter.TheVariants.{Flag, Number, File}
+use Rattle.osc_words.specs.declared.options.Parameter.TheVariants.{Flag, Number, Late, File}
 use Rattle.osc_words.specs.declared.verb.Verb.{Verb}
 use Rattle.osc_words.specs.declared.verb.Verb.TheVariants.{Run, Replay, Dump, Gen, Lanes, Serve}
 
@@ -20,9 +20,9 @@ verb_of word =
     else if bytes_eq word (codes "serve") then Some Serve
     else None
 
--- the limits of a server
+-- the limits of a server, and what becomes of late units
 abbrev pub caps : List Parameter
-caps = map Number (Units ∷ Blocks ∷ Methods ∷ Nodes ∷ Recording ∷ [])
+caps = map Number (Units ∷ Blocks ∷ Methods ∷ Nodes ∷ Recording ∷ []) ++ Late ∷ []
 
 -- what may stand behind the first word
 abbrev pub options_of : Verb → List Parameter

@@ -3,9 +3,10 @@ ghost use Rattle.std.specs.Prelude.{◌≡◌};
 ghost use Rattle.osc_words.specs.Ranges.{AreInRange, default_capacities};
 
 use crate::options::Quantity;
+use osc_model::Late;
 
 /// How much a server holds, as far as words set it: queued units, blocks of 64 bytes for their messages, methods, nodes
-/// of the methods' addresses, and bytes of recording.
+/// of the methods' addresses, and bytes of recording; and what becomes of late units.
 #[derive(Clone, Copy, Debug, PartialEq, Eq)]
 pub struct Capacities {
     pub units: u32,
@@ -13,6 +14,7 @@ pub struct Capacities {
     pub methods: u32,
     pub nodes: u32,
     pub recording: u32,
+    pub late: Late,
 }
 
 /// The capacities where no option is given.
@@ -26,6 +28,7 @@ pub fn default_capacities() -> Capacities
         methods: Quantity::Methods.row().default as u32,
         nodes: Quantity::Nodes.row().default as u32,
         recording: Quantity::Recording.row().default as u32,
+        late: Late::Deliver,
     }
 }
 

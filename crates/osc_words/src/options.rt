@@ -33,6 +33,7 @@ pub(crate) enum Quantity {
 pub(crate) enum Parameter {
     Flag(Flag),
     Number(Quantity),
+    Late,
     File,
 }
 
@@ -70,7 +71,7 @@ impl Quantity {
             Quantity::Blocks => NumberOption::of("blocks", 1, 1_048_576, 16_384),
             Quantity::Methods => NumberOption::of("methods", 1, 65_536, 1_024),
             Quantity::Nodes => NumberOption::of("nodes", 1, 1_048_576, 4_096),
-            Quantity::Recording => NumberOption::of("recording", 56, 1_073_741_824, 67_108_864),
+            Quantity::Recording => NumberOption::of("recording", 60, 1_073_741_824, 67_108_864),
             Quantity::Seed => NumberOption::of("seed", 0, u64::MAX, 1),
             Quantity::Lines => NumberOption::of("lines", 1, 100_000, 20_000),
             Quantity::Port => NumberOption::of("port", 1, 65_535, 9_000),
@@ -108,6 +109,7 @@ impl Parameter {
             Parameter::Number(quantity) => Arg::new(alloc, quantity.row().name).long(
                 quantity.row().name,
             ),
+            Parameter::Late => Arg::new(alloc, "late").long("late"),
             Parameter::File => Arg::new(alloc, "FILE")
                 .required(true)
                 .trailing_var_arg(true),

@@ -12,6 +12,7 @@ use crate::options::{Flag, Quantity};
 use crate::reading::read;
 use crate::verb::Verb;
 use clap::ArgMatches;
+use osc_model::Late;
 use std::alloc::{AllocError, Global};
 
 /// The command that the words say, the program's name left out; none where they are refused. An `Err` is want of
@@ -111,6 +112,7 @@ fn caps_in(found: &ArgMatches<'_>) -> Option<Capacities>
         methods: number(found, Quantity::Methods)? as u32,
         nodes: number(found, Quantity::Nodes)? as u32,
         recording: number(found, Quantity::Recording)? as u32,
+        late: late(found)?,
     })
 }
 
@@ -162,6 +164,26 @@ fn number(found: &ArgMatches<'_>, quantity: Quantity) -> Option<u64>
     match text_in(found, row.name) {
         Some(text) => number_within(row.least, row.most, text),
         None => Some(row.default),
+    }
+}
+
+fn late(found: &ArgMatches<'_>) -> Option<Late>
+    ensures { result ≡ commands.late_of (rows_of (found_of found.now)) }
+{
+    match text_in(found, "late") {
+        Some(text) => policy_named(text),
+        None => Some(Late::Deliver),
+    }
+}
+
+/// The policy that the word names.
+fn policy_named(word: &str) -> Option<Late>
+    ensures { result ≡ commands.policy_named word.now }
+{
+    match word {
+        "deliver" => Some(Late::Deliver),
+        "discard" => Some(Late::Discard),
+        _ => None,
     }
 }
 

@@ -15,13 +15,14 @@ pub enum Verb {
     Serve,
 }
 
-static RUN: [Parameter; 6] = [
+static RUN: [Parameter; 7] = [
     Parameter::Flag(Flag::Bytes),
     Parameter::Number(Quantity::Units),
     Parameter::Number(Quantity::Blocks),
     Parameter::Number(Quantity::Methods),
     Parameter::Number(Quantity::Nodes),
     Parameter::Number(Quantity::Recording),
+    Parameter::Late,
 ];
 
 static GEN: [Parameter; 2] = [
@@ -29,16 +30,17 @@ static GEN: [Parameter; 2] = [
     Parameter::Number(Quantity::Lines),
 ];
 
-static LANES: [Parameter; 6] = [
+static LANES: [Parameter; 7] = [
     Parameter::Number(Quantity::Units),
     Parameter::Number(Quantity::Blocks),
     Parameter::Number(Quantity::Methods),
     Parameter::Number(Quantity::Nodes),
     Parameter::Number(Quantity::Recording),
+    Parameter::Late,
     Parameter::File,
 ];
 
-static SERVE: [Parameter; 10] = [
+static SERVE: [Parameter; 11] = [
     Parameter::Number(Quantity::Port),
     Parameter::Number(Quantity::Links),
     Parameter::Number(Quantity::Count),
@@ -48,6 +50,7 @@ static SERVE: [Parameter; 10] = [
     Parameter::Number(Quantity::Methods),
     Parameter::Number(Quantity::Nodes),
     Parameter::Number(Quantity::Recording),
+    Parameter::Late,
     Parameter::File,
 ];
 

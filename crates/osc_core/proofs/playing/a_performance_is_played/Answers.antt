@@ -1,4 +1,4 @@
-use Rattle.osc_core.proofs.Played.{Laws, are_small, is_full, is_played}
+use Rattle.osc_core.proofs.Played.{Laws, are_small, is_full, is_played, is_refused}
 use Rattle.osc_core.proofs.playing.a_performance_is_played.Goals as goal
 
 pub returns : goal.returns
@@ -14,4 +14,4 @@ returns c =
       room = c.a_full_recording_refuses.ensures.room;
       sizes = c.sizes.ensures.entry;
     } in
-    record { small = are_small laws; full = is_full laws; played = is_played laws }
+    record { small = are_small laws; full = is_full laws; played = is_played laws; refused = is_refused laws }

@@ -20,9 +20,9 @@ returns g c part bounds clock left faults opened still =
     let kept = c.in_ok-bytes.field-0.kept.items in
     let v = view c.args.first.pass in
     let closes =
-    subst (λ (l : List Caller). Closes caps (known l) (views_of l []) bytes (told keep heard kept))
+    subst (λ (l : List Caller). Closes caps [] (known l) (views_of l []) bytes (told keep heard kept))
     (c.in_ok-push.ensures.items ∙ ap (λ (l : List Caller). l ++ c.args.first ∷ []) c.in_ok-callers.ensures.items)
-    (subst (λ (l : List Guest). Closes caps (known c.push.new.self.items) (views_of c.push.new.self.items l) bytes (told keep heard kept))
+    (subst (λ (l : List Guest). Closes caps [] (known c.push.new.self.items) (views_of c.push.new.self.items l) bytes (told keep heard kept))
     c.new.ensures.items c.in_ok-bytes.ensures) in
     finish_opened left faults keep heard caps bounds part c.args.links.items clock _ c.a_server_stays_sound.ensures.step
     c.a_server_stays_sound.ensures.opening c.a_method_is_called_while_it_is_registered.ensures.removed c.args.first v v [] refl c.requires.number opened

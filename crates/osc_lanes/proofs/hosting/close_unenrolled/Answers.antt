@@ -1,4 +1,4 @@
-use Rattle.std.proofs.Common.{◌≡◌, ◌+◌, ◌∷◌, List, length, All, refl, sym, ap, subst, ◌∙◌}
+use Rattle.std.proofs.Common.{◌≡◌, ◌+◌, [], ◌∷◌, List, length, All, refl, sym, ap, subst, ◌∙◌}
 use Rattle.std.proofs.lemmas.List.Elements.{All-cons}
 use Rattle.osc_core.specs.Telling.{told}
 use Rattle.osc_turn.specs.Passes.{view}
@@ -20,13 +20,13 @@ close_all-requires-clause-callers_ours g c =
     let Ours : Caller → Type 0 = λ one. IsTokenOf c.args.live.turn c.args.live.caps one.pass in
     subst (All Ours) (sym (handed g c)) (All-cons Ours c.args.first c.args.callers.items c.requires.ours c.requires.callers_ours)
 
-closed : (g : _) (c : In_ok-bytes g) → Closes c.args.live.caps (known (c.args.first ∷ c.args.callers.items))
+closed : (g : _) (c : In_ok-bytes g) → Closes c.args.live.caps [] (known (c.args.first ∷ c.args.callers.items))
     (views_of (c.args.first ∷ c.args.callers.items) c.push.new.self.items) c.in_ok-bytes.field-0.bytes.items
     (told g.M.Method.keep g.M.Method.heard c.in_ok-bytes.field-0.kept.items)
 closed g c =
     let same : c.insert.new.self.items ≡ c.args.first ∷ c.args.callers.items =
     c.in_ok-insert.ensures.items ∙ inserted_first c.args.callers.items c.args.first in
-    subst (λ (l : List Caller). Closes c.args.live.caps (known l) (views_of l c.push.new.self.items) c.in_ok-bytes.field-0.bytes.items
+    subst (λ (l : List Caller). Closes c.args.live.caps [] (known l) (views_of l c.push.new.self.items) c.in_ok-bytes.field-0.bytes.items
     (told g.M.Method.keep g.M.Method.heard c.in_ok-bytes.field-0.kept.items)) same c.in_ok-bytes.ensures
 
 pub unreachable-requires : goal.unreachable-requires

@@ -64,8 +64,8 @@ returns g c part start opened crew behind =
     let end = c.in_ok-callers.field-0 in
     let first = c.in_ok-first.first in
     let closes =
-    subst (λ (l : List Caller). Closes caps (known l) (views_of l []) bytes (told keep heard kept)) (handed g (goal.at.returns g c).After-new)
-    (subst (λ (l : List Guest). Closes caps (known c.insert.new.self.items) (views_of c.insert.new.self.items l) bytes (told keep heard kept))
+    subst (λ (l : List Caller). Closes caps [] (known l) (views_of l []) bytes (told keep heard kept)) (handed g (goal.at.returns g c).After-new)
+    (subst (λ (l : List Guest). Closes caps [] (known c.insert.new.self.items) (views_of c.insert.new.self.items l) bytes (told keep heard kept))
     c.new.ensures.items c.in_ok-bytes.ensures) in
     finish_served g.L.Link.left g.L.Link.faults keep heard caps c.args.bounds part c.args.links.items _ _ c.a_server_stays_sound.ensures.step
     c.a_server_stays_sound.ensures.opening c.a_method_is_called_while_it_is_registered.ensures.removed first start (view c.args.first.pass)

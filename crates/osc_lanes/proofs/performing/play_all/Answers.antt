@@ -106,8 +106,8 @@ returns g c =
     let callers = c.in_ok-callers.ensures.callers in
     let guests = c.new.ensures.items in
     let closes =
-    subst (λ (l : List Caller). Closes caps (known l) (views_of l []) bytes (told keep heard kept)) callers
-    (subst (λ (l : List Guest). Closes caps (known c.in_ok-callers.callers.items) (views_of c.in_ok-callers.callers.items l) bytes (told keep heard kept))
+    subst (λ (l : List Caller). Closes caps [] (known l) (views_of l []) bytes (told keep heard kept)) callers
+    (subst (λ (l : List Guest). Closes caps [] (known c.in_ok-callers.callers.items) (views_of c.in_ok-callers.callers.items l) bytes (told keep heard kept))
     guests c.in_ok-bytes.ensures) in
     let many : length plans ≡ length c.args.callers.items =
     omega (arith, ap length c.in_ok-plans.ensures.parts, length-map plans part_in, length-map c.args.parts.items part_of, c.requires.many) in

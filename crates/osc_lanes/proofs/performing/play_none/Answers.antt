@@ -1,4 +1,4 @@
-use Rattle.std.proofs.Common.{◌≡◌, List, ◌∷◌, map, None, Some, refl, sym, ap, subst, ◌∙◌, arith}
+use Rattle.std.proofs.Common.{◌≡◌, List, [], ◌∷◌, map, None, Some, refl, sym, ap, subst, ◌∙◌, arith}
 use Rattle.std.proofs.lemmas.List.{length-map}
 use Rattle.osc_model.specs.Events.{Room, record_full}
 use Rattle.osc_record.specs.Shown.{room_of}
@@ -26,7 +26,7 @@ finished g c =
     c.in_ok-bytes.field-0.bytes.items c.in_ok-bytes.field-0.kept.items c.args.first (view c.args.first.pass) c.args.callers.items refl c.requires.number
     c.requires.crew c.args.why c.requires.refused c.push.new.self.items (map part_of c.args.parts.items)
     (omega (arith, length-map c.args.parts.items part_of, c.requires.fewer))
-    (subst (λ (l : List Caller). Closes c.args.live.caps (known l) (views_of l c.push.new.self.items) c.in_ok-bytes.field-0.bytes.items
+    (subst (λ (l : List Caller). Closes c.args.live.caps [] (known l) (views_of l c.push.new.self.items) c.in_ok-bytes.field-0.bytes.items
     (told g.M.Method.keep g.M.Method.heard c.in_ok-bytes.field-0.kept.items)) callers c.in_ok-bytes.ensures)
 
 pub unreachable-requires : goal.unreachable-requires

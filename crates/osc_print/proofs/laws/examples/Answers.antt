@@ -10,8 +10,11 @@ pub returns : goal.returns
 unfolding digits hex_on_literals message_read read_part year_of month_of
 returns c = record {
   number = refl;
+  list = refl;
+  method = refl;
   callers_full = refl;
   queued = refl;
+  late = refl;
   units_full = refl;
   pool_full = refl;
   added = refl;
@@ -33,4 +36,5 @@ returns c = record {
   unix_epoch = refl;
   leap_day = refl;
   dump = refl;
+  discards = refl;
 }

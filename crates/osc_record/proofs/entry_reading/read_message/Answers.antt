@@ -23,13 +23,13 @@ pub returns-in_err-read-2-clause-value : goal.returns-in_err-read-2-clause-value
 returns-in_err-read-2-clause-value c =
     let none : c.from_residual-in_err-read-2.result ≡ None = search rules in
     ap (option_map parts_of) none
-    ∙ sym (front_none submit_bytes (codes "/osc/submit") (codes "ibihi") submit_front c.args.bytes.now
+    ∙ sym (front_none submit_bytes (codes "/osc/submit") (codes "ibihii") submit_front c.args.bytes.now
     (sym c.starts_with-else-starts_with.ensures.value ∙ c.if-starts_with-2.true) c.requires.fours c.requires.small (sym c.in_err-read-2.ensures.exact))
 
 pub returns-in_ok-read-2-clause-value : goal.returns-in_ok-read-2-clause-value
 returns-in_ok-read-2-clause-value c =
     c.read_submit.ensures.value ∙ ap submit_read c.in_ok-read-2.ensures.read
-    ∙ sym (front_some submit_bytes (codes "/osc/submit") (codes "ibihi") submit_front c.args.bytes.now
+    ∙ sym (front_some submit_bytes (codes "/osc/submit") (codes "ibihii") submit_front c.args.bytes.now
     (sym c.starts_with-else-starts_with.ensures.value ∙ c.if-starts_with-2.true) c.requires.fours c.requires.small (sym c.in_ok-read-2.ensures.exact))
 
 pub returns-in_err-read-3-clause-value : goal.returns-in_err-read-3-clause-value

@@ -1,7 +1,7 @@
 use Rattle.std.proofs.Common.{◌≡◌, ◌++◌, ◌∷◌, [], codes, pos, to_z, w32, arith, ap, ◌∙◌}
 use Rattle.std.proofs.lemmas.Int.{to_z_pos}
 use Rattle.osc_message.specs.Messages.{integer}
-use Rattle.osc_model.specs.Recordings.{sized, row_text}
+use Rattle.osc_model.specs.Recordings.{late_code, sized, row_text}
 use Rattle.osc_record.proofs.rows.append_header.Goals as goal
 
 pub returns-clause-out : goal.returns-clause-out
@@ -18,11 +18,13 @@ returns-clause-out c =
     to_z_pos w32 c.callers.result (omega (arith, c.callers.ensures.range.callers.below)) ∙ ap pos c.callers.ensures.value in
     let recording : to_z w32 c.recording.result ≡ pos c.args.caps.recording =
     to_z_pos w32 c.recording.result (omega (arith, c.recording.ensures.range.recording.below)) ∙ ap pos c.recording.ensures.value in
+    let late : to_z w32 c.late_code.result ≡ pos (late_code c.args.caps.late) =
+    to_z_pos w32 c.late_code.result (omega (arith, c.late_code.ensures.small)) ∙ ap pos (c.late_code.ensures.value ∙ ap late_code c.late.ensures.value) in
     c.append_message.ensures.out
     ∙ (λ i. c.args.out.now.items
     ++ sized (row_text
     (record {
       address = codes "/osc/rec";
-      arguments = integer (pos 1) ∷ integer (units i) ∷ integer (blocks i) ∷ integer (methods i) ∷ integer (nodes i) ∷ integer (callers i)
-          ∷ integer (recording i) ∷ [];
+      arguments = integer (pos 2) ∷ integer (units i) ∷ integer (blocks i) ∷ integer (methods i) ∷ integer (nodes i) ∷ integer (callers i)
+          ∷ integer (recording i) ∷ integer (late i) ∷ [];
     })))

@@ -10,10 +10,11 @@ returns-clause-out c =
     let code : to_z w32 c.args.code ≡ pos c.args.code = to_z_pos w32 c.args.code (omega (arith, c.requires.fits.1.1.0)) in
     let first : to_z w64 c.args.first ≡ pos c.args.first = to_z_pos w64 c.args.first (omega (arith, c.requires.fits.1.1.1.0)) in
     let second : to_z w32 c.args.second ≡ pos c.args.second = to_z_pos w32 c.args.second (omega (arith, c.requires.fits.1.1.1.1.0)) in
+    let third : to_z w32 c.args.third ≡ pos c.args.third = to_z_pos w32 c.args.third (omega (arith, c.requires.fits.1.1.1.1.1.0)) in
     c.append_message.ensures.out
     ∙ (λ i. c.args.out.now.items
     ++ sized (row_text
     (record {
       address = codes "/osc/submit";
-      arguments = integer (caller i) ∷ content c.args.packet.now ∷ integer (code i) ∷ long (first i) ∷ integer (second i) ∷ [];
+      arguments = integer (caller i) ∷ content c.args.packet.now ∷ integer (code i) ∷ long (first i) ∷ integer (second i) ∷ integer (third i) ∷ [];
     })))

@@ -6,7 +6,7 @@ use Rattle.osc_record.proofs.sized_reading.check_entries.Given as goal
 abbrev pub invariant-loop-at : goal.invariant-loop-at
 invariant-loop-at l = record {
   inside : l.at ≤ length l.bytes;
-  same : outcome (entries_at l.limit l.at (drop l.at l.bytes)) ≡ outcome (entries_at l.limit 56 (drop 56 l.bytes));
+  same : outcome (entries_at l.limit l.at (drop l.at l.bytes)) ≡ outcome (entries_at l.limit 60 (drop 60 l.bytes));
 }
 
 abbrev pub decreases-loop-at : goal.decreases-loop-at

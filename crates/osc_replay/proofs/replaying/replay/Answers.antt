@@ -1,4 +1,4 @@
-use Rattle.std.proofs.Common.{◌≡◌, Err, inl, ap, ◌∙◌, arith, rules}
+use Rattle.std.proofs.Common.{◌≡◌, ℕ, List, Err, inl, ap, ◌∙◌, arith, rules}
 use Rattle.osc_model.specs.State.{opening}
 use Rattle.osc_record.specs.Left.{placed_of}
 use Rattle.osc_record.specs.Unread.{Reads}
@@ -69,7 +69,7 @@ returns-in-Err-clause-disagrees c =
     let row = c.in-Some.row in
     let reads = of_some (λ (row : Row). Reads c.loop-text.unread (placed_of row.entry) c.next_row.new.unread) c.in_ok-row.field-0 c.in-Some.row c.in-Some.is
     c.in_ok-row.ensures.read in
-    stops_disagreeing c.args.recording.now c.loop-text.unread c.next_row.new.unread
+    stops_disagreeing (List ℕ) c.args.recording.now c.loop-text.unread c.next_row.new.unread
     (placed_of row.entry) c.loop-text.server c.loop-text.text c.loop-text.number c.in-Err.fault c.loop-text.invariant.played reads
     (row_lawful row) c.in_default-first_malformed.ensures.none c.in-Err.ensures.differs
 

@@ -13,7 +13,7 @@ returns-in-Some c =
     let full = refuses c.a_performance_is_played.ensures.full s.server s.recorder s.entries c.args.caller
     (submit c.args.packet.now) c.in-Some.room c.submit_size.result c.args.self.now c.self.invariant c.self.view_is
     (others_add s.server (submit c.args.packet.now) (λ other. cc))
-    (c.submit_size.ensures ∙ ap (λ (b : List ℕ). 48 + (length b + blob_end (length b))) c.bytes-bytes.ensures.value) c.in-Some.ensures in
+    (c.submit_size.ensures ∙ ap (λ (b : List ℕ). 52 + (length b + blob_end (length b))) c.bytes-bytes.ensures.value) c.in-Some.ensures in
     record { answer = sym full.answer; performance = sym full.stays }
 
 pub invariant_of-self : goal.invariant_of-self
@@ -24,7 +24,7 @@ invariant_of-self c =
     (c.bytes-bytes.ensures.read) (c.submit_answer.ensures ∙ c.submit-submitted.ensures.answer)
     (ap adds_entry c.submit_answer.ensures ∙ c.submit-submitted.ensures.entry)
     (subst (λ (n : ℕ). length (recording_text s.recorder) + n ≤ s.recorder.caps.recording)
-    (c.submit_size.ensures ∙ ap (λ (b : List ℕ). 48 + (length b + blob_end (length b))) c.bytes-bytes.ensures.value) c.in_default.ensures) in
+    (c.submit_size.ensures ∙ ap (λ (b : List ℕ). 52 + (length b + blob_end (length b))) c.bytes-bytes.ensures.value) c.in_default.ensures) in
     let on = plays s.server s.recorder s.entries c.args.caller (submit c.args.packet.now)
     (answer_of c.submit_answer.result) c.submit-submitted.new.self c.put.new.self c.args.self.now played c.self.view_is c.submit-submitted.ensures.state
     (c.put.ensures
@@ -40,7 +40,7 @@ returns-clause-answer c =
     (c.bytes-bytes.ensures.read) (c.submit_answer.ensures ∙ c.submit-submitted.ensures.answer)
     (ap adds_entry c.submit_answer.ensures ∙ c.submit-submitted.ensures.entry)
     (subst (λ (n : ℕ). length (recording_text s.recorder) + n ≤ s.recorder.caps.recording)
-    (c.submit_size.ensures ∙ ap (λ (b : List ℕ). 48 + (length b + blob_end (length b))) c.bytes-bytes.ensures.value) c.in_default.ensures) in
+    (c.submit_size.ensures ∙ ap (λ (b : List ℕ). 52 + (length b + blob_end (length b))) c.bytes-bytes.ensures.value) c.in_default.ensures) in
     let on = plays s.server s.recorder s.entries c.args.caller (submit c.args.packet.now)
     (answer_of c.submit_answer.result) c.submit-submitted.new.self c.put.new.self c.args.self.now played c.self.view_is c.submit-submitted.ensures.state
     (c.put.ensures
@@ -56,7 +56,7 @@ returns-clause-performance c =
     (c.bytes-bytes.ensures.read) (c.submit_answer.ensures ∙ c.submit-submitted.ensures.answer)
     (ap adds_entry c.submit_answer.ensures ∙ c.submit-submitted.ensures.entry)
     (subst (λ (n : ℕ). length (recording_text s.recorder) + n ≤ s.recorder.caps.recording)
-    (c.submit_size.ensures ∙ ap (λ (b : List ℕ). 48 + (length b + blob_end (length b))) c.bytes-bytes.ensures.value) c.in_default.ensures) in
+    (c.submit_size.ensures ∙ ap (λ (b : List ℕ). 52 + (length b + blob_end (length b))) c.bytes-bytes.ensures.value) c.in_default.ensures) in
     let on = plays s.server s.recorder s.entries c.args.caller (submit c.args.packet.now)
     (answer_of c.submit_answer.result) c.submit-submitted.new.self c.put.new.self c.args.self.now played c.self.view_is c.submit-submitted.ensures.state
     (c.put.ensures
@@ -72,5 +72,5 @@ put-requires-clause-lawful c =
     (c.bytes-bytes.ensures.read) (c.submit_answer.ensures ∙ c.submit-submitted.ensures.answer)
     (ap adds_entry c.submit_answer.ensures ∙ c.submit-submitted.ensures.entry)
     (subst (λ (n : ℕ). length (recording_text s.recorder) + n ≤ s.recorder.caps.recording)
-    (c.submit_size.ensures ∙ ap (λ (b : List ℕ). 48 + (length b + blob_end (length b))) c.bytes-bytes.ensures.value) c.in_default.ensures) in
+    (c.submit_size.ensures ∙ ap (λ (b : List ℕ). 52 + (length b + blob_end (length b))) c.bytes-bytes.ensures.value) c.in_default.ensures) in
     subst (λ (b : List ℕ). IsRecordable c.args.caller (submit b) (answer_of c.submit_answer.result)) (sym c.bytes-bytes.ensures.value) played.recordable

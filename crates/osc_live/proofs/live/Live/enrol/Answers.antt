@@ -1,5 +1,4 @@
 use Rattle.std.proofs.Common.{◌≡◌, ℕ, ◌<◌, List, [], sym, ap, subst, ◌∙◌, arith}
-use Rattle.std.specs.List.{list_all}
 use Rattle.osc_model.specs.Enrolled.{callers_in}
 use Rattle.osc_model.specs.Events.{enrol, Answer, number, callers_full}
 use Rattle.osc_core.specs.Answers.{enrolled_of}
@@ -10,9 +9,9 @@ use Rattle.osc_turn.specs.Rule.{number_of}
 use Rattle.osc_turn.specs.Passes.{view}
 use Rattle.osc_turn.proofs.Histories.{starts_on}
 use Rattle.osc_core.specs.Standing.{history_in}
-use Rattle.osc_live.specs.Seen.{names}
+use Rattle.osc_live.specs.Seen.{names, old_own}
 use Rattle.osc_live.specs.Calls.{Calls}
-use Rattle.osc_live.proofs.Answered.{still_enrolled}
+use Rattle.osc_live.proofs.Answered.{still_enrolled, none_named}
 use Rattle.osc_live.proofs.Meeting.{calls_met, newly_enrolled, met_named, told_all}
 use Rattle.osc_live.proofs.live.Live.enrol.Goals as goal
 
@@ -67,6 +66,6 @@ invariant_of-new g c =
     let first = next.0 in
     record {
       enrolled = subst (λ (seen : List Seen). c.in-Number.given < callers_in (history_in (texts seen))) (sym same) next.1;
-      named = ap (list_all (names c.in-Number.given)) none;
+      named = none_named (names c.in-Number.given) (old_own new) _ none;
       first = λ zero. absurd (omega arith);
     }

@@ -7,13 +7,13 @@ use Rattle.osc_record.proofs.reader.Reader.entries.Goals as goal
 pub new-requires-clause-readable : goal.new-requires-clause-readable
 new-requires-clause-readable c =
     let f = c.self.inside in
-    ap (λ (n : ℕ). is_ok (entries_at n 56 (drop 56 f.bytes.now))) c.recording.ensures.value ∙ sym (ap is_ok (after_is f.caps f.bytes.now))
+    ap (λ (n : ℕ). is_ok (entries_at n 60 (drop 60 f.bytes.now))) c.recording.ensures.value ∙ sym (ap is_ok (after_is f.caps f.bytes.now))
     ∙ c.self.invariant.entries
 
 pub returns : goal.returns
 returns c =
     let f = c.self.inside in
     c.new.ensures
-    ∙ ap (λ (n : ℕ). placed_in (entries_at n 56 (drop 56 f.bytes.now))) c.recording.ensures.value
+    ∙ ap (λ (n : ℕ). placed_in (entries_at n 60 (drop 60 f.bytes.now))) c.recording.ensures.value
     ∙ sym (ap placed_in (after_is f.caps f.bytes.now))
     ∙ ap (λ (r : ReadRecord). r.entries) c.self.view_is

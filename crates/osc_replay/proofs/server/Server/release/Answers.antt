@@ -14,7 +14,7 @@ pub returns-then-size-self : goal.returns-then-size-self
 returns-then-size-self c =
     let s = c.self.inside in
     let unit : Queued = (c.in-Some.field-0-0, c.in-Some.unit, c.in-Some.taken) in
-    let old = server_state s.tree s.queue s.blocks s.clock s.next_id s.next_unit s.callers s.caller_limit s.recorded s.record_limit in
+    let old = server_state s.tree s.queue s.blocks s.clock s.next_id s.next_unit s.callers s.caller_limit s.recorded s.record_limit s.late in
     subst (λ (old : State). adds_entry (step old release).answer ≡ false) c.self.view_is
     (release_full old unit c.take_due.new.self.items c.find_calls.new.calls.hits.items c.in-Some.ensures.taken c.in-Some.ensures.due
     c.in_ok-find_calls.ensures.hits
@@ -27,7 +27,7 @@ returns c =
     let calls = c.find_calls.new.calls in
     let hits = calls.hits.items in
     let with : TimedQueue TimedUnit → ℕ
-    → State = λ queue recorded. server_state s.tree queue s.blocks s.clock s.next_id s.next_unit s.callers s.caller_limit recorded s.record_limit in
+    → State = λ queue recorded. server_state s.tree queue s.blocks s.clock s.next_id s.next_unit s.callers s.caller_limit recorded s.record_limit s.late in
     let old = with s.queue s.recorded in
     let long : c.len-size.result ≡ length hits = omega (arith, c.len-size.ensures) in
     let new = λ (n : ℕ). with c.take_due.new.self (s.recorded + (44 + n)) in

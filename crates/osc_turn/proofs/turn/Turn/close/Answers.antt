@@ -5,7 +5,7 @@ use Rattle.osc_turn.specs.declared.view.View.{View}
 use Rattle.osc_turn.specs.Numbers.{times}
 use Rattle.osc_turn.specs.Rule.{number_of}
 use Rattle.osc_turn.specs.Steps.{Counts}
-use Rattle.osc_turn.specs.Passes.{view}
+use Rattle.osc_turn.specs.Passes.{view, opened_with}
 use Rattle.osc_turn.specs.Closing.{Gathers, first_view}
 use Rattle.osc_turn.proofs.Acting.{has_first}
 use Rattle.osc_turn.proofs.Gathering.{gathered_whole, closes, parted}
@@ -50,8 +50,8 @@ returns-clause-closes g c =
     let all = gathered c.args.passes.items c.remove.result c.remove.new.self.items c.into_seat-seat.result.me c.count-made.new.seat.me c.count-made.result
     c.gather.new.seat.me.0 is c.requires.first c.into_seat-seat.ensures.1
     c.count-made.ensures.counts (search rules) c.gather.ensures.gathers in
-    closes g.S.Kept.stands c.into_value.result c.args.passes.items c.remove.result c.remove.new.self.items c.gather.new.seat.me.0 is all.gathers
-    c.into_value.ensures.stands c.into_value.ensures.each
+    closes g.S.Kept.stands (g.S.Kept.history (opened_with c.args.self)) c.into_value.result c.args.passes.items c.remove.result c.remove.new.self.items c.gather.new.seat.me.0 is all.gathers
+    c.into_value.ensures.stands c.into_value.ensures.each c.into_value.ensures.begins
 
 pub returns-clause-all_in : goal.returns-clause-all_in
 returns-clause-all_in g c =
@@ -68,3 +68,11 @@ returns-clause-kind g c =
     c.gather.new.seat.me.0 is c.requires.first c.into_seat-seat.ensures.1
     c.count-made.ensures.counts (search rules) c.gather.ensures.gathers in
     c.into_value.ensures.kind ∙ (all.gathers.same_kind ∙ ap (λ ps. (first_view ps).kind) (sym is))
+
+pub returns-clause-opened : goal.returns-clause-opened
+returns-clause-opened g c =
+    let is = parted c.args.passes.items c.remove.new.self.items c.remove.result c.requires.few.0 c.remove.ensures.value c.remove.ensures.items in
+    let all = gathered c.args.passes.items c.remove.result c.remove.new.self.items c.into_seat-seat.result.me c.count-made.new.seat.me c.count-made.result
+    c.gather.new.seat.me.0 is c.requires.first c.into_seat-seat.ensures.1
+    c.count-made.ensures.counts (search rules) c.gather.ensures.gathers in
+    ap (λ ps. (first_view ps).opened_at) is ∙ (sym all.gathers.same_opened ∙ c.into_value.ensures.opened)

@@ -21,10 +21,10 @@ join_seat-requires g c = let gathered = c.loop-pass.invariant.3.2 in
     let ours = (All-pop (IsPassOf c.args.self.now) c.loop-pass.passes.items c.pop.new.self.items
     (Some c.in-Some.pass) c.in-Some.ensures.items c.loop-pass.invariant.2).1 in (
       search rules,
-      c.into_seat-other.ensures.0 ∙ ours,
+      c.into_seat-other.ensures.0 ∙ ours.0,
       ap (λ m. m.1) off,
       search rules,
-      joins g.S.Kept.stands g.S.Kept.kind _ _ c.loop-pass.seat.me.0 c.into_seat-other.result.me.0
+      joins g.S.Kept.stands g.S.Kept.kind _ _ _ c.loop-pass.seat.me.0 c.into_seat-other.result.me.0
           (times_some 0 c.loop-pass.seat.me.0.numbers some_first) gathered.free
           (ap (λ m. m.0.holds) off ∙ c.into_seat-other.ensures.2.2) gathered.bare (ap (λ m. m.0.spare) off ∙ c.into_seat-other.ensures.2.1),
     )

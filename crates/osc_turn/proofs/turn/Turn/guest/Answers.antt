@@ -22,11 +22,11 @@ pub fetch_add-requires : goal.fetch_add-requires
 fetch_add-requires g c =
     let k = counted (view c.args.pass) c.into_seat-seat.result.me c.count.new.seat.me c.count.result c.into_seat-seat.ensures.2 c.requires.first
     c.into_seat-seat.ensures.1 c.count.ensures.counts in
-    (search rules, search rules, draws g.S.Kept.stands g.S.Kept.kind _ _ c.count.new.seat.me k.0.2 k.0.1 k.1 (omega (arith, c.from.ensures)))
+    (search rules, search rules, draws g.S.Kept.stands g.S.Kept.kind _ _ _ c.count.new.seat.me k.0.2 k.0.1 k.1 (omega (arith, c.from.ensures)))
 
 pub split_seat-guest-requires : goal.split_seat-guest-requires
 split_seat-guest-requires g c =
     let k = counted (view c.args.pass) c.into_seat-seat.result.me c.count.new.seat.me c.count.result c.into_seat-seat.ensures.2 c.requires.first
     c.into_seat-seat.ensures.1 c.count.ensures.counts in
     let drew = ap (λ (m : Me (Option g.row.S.Denot) View). length m.0.numbers) c.fetch_add.ensures.2.2 in
-    (search rules, search rules, splits g.S.Kept.stands g.S.Kept.kind _ c.fetch_add.new.seat.me.0 (omega (arith, drew, has_one c.count.new.seat.me.0 k.0)))
+    (search rules, search rules, splits g.S.Kept.stands g.S.Kept.kind _ _ c.fetch_add.new.seat.me.0 (omega (arith, drew, has_one c.count.new.seat.me.0 k.0)))

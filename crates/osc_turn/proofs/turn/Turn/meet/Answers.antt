@@ -15,7 +15,7 @@ pub split_seat-told-requires : goal.split_seat-told-requires
 split_seat-told-requires g c = let e = ap (λ (m : Me (Option g.row.S.Denot) View). length m.0.numbers) c.into_seat-teller.ensures.1 in (
   search rules,
   search rules,
-  splits g.S.Kept.stands g.S.Kept.kind _ c.into_seat-teller.result.me.0
+  splits g.S.Kept.stands g.S.Kept.kind _ _ c.into_seat-teller.result.me.0
       (omega (arith, e, has_one (view c.args.from) c.into_seat-teller.ensures.2)),
 )
 
@@ -27,7 +27,7 @@ join_seat-requires g c =
       search rules,
       ap (λ m. m.1) off,
       search rules,
-      joins g.S.Kept.stands g.S.Kept.kind _ _ c.into_seat-learner.result.me.0 c.split_seat-told.result.me.0
+      joins g.S.Kept.stands g.S.Kept.kind _ _ _ c.into_seat-learner.result.me.0 c.split_seat-told.result.me.0
           (has_one c.into_seat-learner.result.me.0 resting) resting.2 (ap (λ m. m.0.holds) off) resting.1 (ap (λ m. m.0.spare) off),
     )
 

@@ -1,0 +1,418 @@
+//! How a server goes on from a recording.
+ghost use Rattle.std.specs.Prelude.{◌≡◌, ◌≤◌, ◌<◌, ◌+◌, ◌++◌, [], List, All};
+ghost use Rattle.std.specs.Prelude.{length, option_to_list, option_map, IfOk, IfErr, IsTrue, ℕ};
+ghost use Rattle.std.specs.Prelude.{vec_len, vec_capacity};
+ghost use Rattle.std.specs.VecDeque.{deque_capacity};
+ghost use Rattle.osc_turn.specs.Passes.{view};
+ghost use Rattle.osc_turn.specs.Rule.{reopening};
+ghost use Rattle.osc_model.specs.Limits.{Limits, max_recording};
+ghost use Rattle.osc_model.specs.Events.{Entry as Recorded};
+ghost use Rattle.osc_model.specs.Enrolled.{callers_in};
+ghost use Rattle.osc_model.specs.Recordings.{header_text};
+ghost use Rattle.osc_model.specs.History.{IsLawful, Legal, state_of, stepped_in};
+ghost use Rattle.osc_record.specs.Left.{placed_of, entries_left};
+ghost use Rattle.osc_record.specs.Reading.{unplaced};
+ghost use Rattle.osc_record.specs.Shown.{event_of, answer_of};
+ghost use Rattle.osc_core.specs.Redoing.{with_entry};
+ghost use Rattle.osc_core.specs.Standing.{history_in};
+ghost use Rattle.osc_core.specs.Telling.{told};
+ghost use Rattle.osc_live.specs.Seen.{IsTokenOf, past_of};
+ghost use Rattle.osc_live.specs.Closing.{known};
+ghost use Rattle.osc_live.specs.Resuming.{Records, CanResume, Resumes, roomier, needed_by};
+ghost use Rattle.osc_live.specs.Resuming.{takes_box, added_in, addresses_in, all_resumed};
+ghost use Rattle.osc_live.specs.Resuming.{HaveHeardAll, marks};
+ghost use Rattle.osc_live.specs.Redone.{Takes, Moves, IsRedone, IsOut};
+ghost use Rattle.osc_live.specs.Redone.{TakesOut, TakesEither};
+
+use crate::caller::Caller;
+use crate::live::Live;
+use osc_core::Core;
+use osc_method::Method;
+use osc_model::laws::{
+    a_legal_history_is_recordable, a_method_is_called_while_it_is_registered, a_server_stays_sound,
+    callers_are_counted,
+};
+use osc_pattern::Address;
+use osc_record::laws::texts_differ;
+use osc_record::{Answer, Caps, Entries, Entry, Event, Reader};
+use osc_turn::{Pass, Turn};
+use std::alloc::{AllocError, Global};
+use std::collections::VecDeque;
+
+/// A server that goes on from a recording.
+#[derive(Drop)]
+pub struct LiveResumed<M: Method> {
+    /// The server.
+    pub live: Live<M>,
+    /// The tokens of all callers of the recording, ascending.
+    pub callers: Vec<Caller>,
+    /// The ids that the recording removes, in that order, each with its box.
+    pub removed: Vec<(u32, M)>,
+    /// The boxes that no added method got, in their order.
+    pub left: Vec<M>,
+}
+
+impl<M: Method> Live<M> {
+    /// Takes up the server that a recording leaves, with room for so many bytes of recording at least. The boxes of the
+    /// bank are those of the added methods, in order, and hear the invocations of the recording again. The `Err` means
+    /// that there is no memory, and hands all boxes back, in their order.
+    pub fn resume(
+        alloc: Global,
+        recording: &[u8],
+        room: u32,
+        bank: Vec<M>,
+    ) -> Result<LiveResumed<M>, (AllocError, Vec<M>)>
+        requires recording { CanResume recording.now (length bank.items) }
+        requires room { (60 ≤ room) × (room ≤ max_recording) }
+        ensures resumes { IfOk result
+            (λ resumed. (caps : Limits) (history : List Recorded)
+            → Records recording.now caps history
+            → Resumes M.keep M.heard caps history room bank.items resumed.live.caps
+            (past_of resumed.live.turn) (known resumed.callers.items) resumed.removed.items
+            resumed.left.items) }
+        ensures heard { IfOk result (λ resumed. (caps : Limits) (history : List Recorded)
+            → Records recording.now caps history
+            → HaveHeardAll M.keep M.heard resumed.live.caps history resumed.removed.items) }
+        ensures ours { IfOk result
+            (λ resumed. All (λ caller. IsTokenOf resumed.live.turn resumed.live.caps caller.pass)
+            resumed.callers.items) }
+        ensures back { IfErr result
+            (λ refused. marks M.keep M.heard refused.1.items ≡ marks M.keep M.heard bank.items) }
+    {
+        callers_are_counted();
+        a_legal_history_is_recordable();
+        a_server_stays_sound();
+        a_method_is_called_while_it_is_registered();
+        texts_differ();
+        let Ok(reader) = Reader::check(recording) else {
+            unreachable!()
+        };
+        let caps = with_room(reader.caps(), room);
+        let mut stage = match set_stage(alloc, &reader, caps) {
+            Ok(stage) => stage,
+            Err(none) => return Err((none, bank)),
+        };
+        let whole = bank.len();
+        let mut bank = VecDeque::from_vec(bank);
+        redo_all(
+            &mut stage.core,
+            reader.entries(),
+            &mut stage.addresses,
+            &mut bank,
+            &mut stage.removed,
+        );
+        let Stage {
+            core,
+            removed,
+            callers,
+            ..
+        } = stage;
+        let count = core.callers();
+        match Turn::reopen(alloc, core) {
+            Ok((turn, pass)) => {
+                let live = Live { turn, caps };
+                let callers = live.hand_tokens(pass, count, callers);
+                Ok(LiveResumed {
+                    live,
+                    callers,
+                    removed,
+                    left: bank.into_vec(),
+                })
+            }
+            Err((none, core)) => {
+                let taken = (whole - bank.len()) as u32;
+                Err((none, put_back(core, removed, bank, taken)))
+            }
+        }
+    }
+
+    /// The tokens of so many callers, in room that is there.
+    fn hand_tokens(&self, pass: Pass, count: u32, callers: Vec<Caller>) -> Vec<Caller>
+        requires ours { IsTokenOf self.now.turn self.now.caps pass }
+        requires first { view pass
+            ≡ reopening (header_text self.now.caps) (past_of self.now.turn) }
+        requires none { callers.items ≡ [] }
+        requires room { count ≤ vec_capacity callers }
+        requires some { 1 ≤ count }
+        requires few { count ≤ 65536 }
+        requires enrolled { count ≤ callers_in (history_in (past_of self.now.turn)) }
+        ensures tokens { known result.items
+            ≡ all_resumed self.now.caps (past_of self.now.turn) count }
+        ensures ours { All (λ caller. IsTokenOf self.now.turn self.now.caps caller.pass)
+            result.items }
+    {
+        let mut callers = callers;
+        let mut pass = pass;
+        let mut number = 1;
+        while number < count {
+            let (first, made) = self.turn.guest(pass);
+            pass = first;
+            let Ok(guest) = made else { unreachable!() };
+            callers.push_reserved(Caller {
+                pass: guest,
+                number,
+            });
+            number += 1;
+        }
+        let Ok(()) = callers.insert(0, Caller { pass, number: 0 }) else {
+            unreachable!()
+        };
+        callers
+    }
+}
+
+/// What is taken of memory before any box is moved.
+#[derive(Drop)]
+struct Stage<M: Method> {
+    core: Core<M>,
+    /// The addresses that the entries need, in order.
+    addresses: VecDeque<Address>,
+    removed: Vec<(u32, M)>,
+    callers: Vec<Caller>,
+}
+
+/// The limits, with room for so many bytes at least.
+fn with_room(caps: Caps, room: u32) -> Caps
+    requires { room ≤ max_recording }
+    ensures { result ≡ roomier caps room }
+{
+    let recording = if caps.recording() < room {
+        room
+    } else {
+        caps.recording()
+    };
+    let made = Caps::new(
+        caps.units(),
+        caps.blocks(),
+        caps.methods(),
+        caps.nodes(),
+        caps.callers(),
+        recording,
+        caps.late(),
+    );
+    match made {
+        Ok(caps) => caps,
+        Err(_) => unreachable!(),
+    }
+}
+
+fn set_stage<M: Method>(
+    alloc: Global,
+    reader: &Reader<'_>,
+    caps: Caps,
+) -> Result<Stage<M>, AllocError>
+    ensures core { IfOk result (λ stage. (stage.core.performance ≡ record { caps = caps; history = [] })
+        × (told M.keep M.heard stage.core.boxes.items ≡ [])) }
+    ensures addresses { IfOk result
+        (λ stage. stage.addresses.items ≡ addresses_in (unplaced reader.now.entries)) }
+    ensures removed { IfOk result (λ stage. (stage.removed.items ≡ [])
+        × (length stage.addresses.items ≤ vec_capacity stage.removed)) }
+    ensures callers { IfOk result (λ stage. (stage.callers.items ≡ [])
+        × (caps.callers ≤ vec_capacity stage.callers)) }
+{
+    let addresses = read_addresses(alloc, reader.entries())?;
+    let removed = Vec::with_capacity(alloc, addresses.len())?;
+    let callers = Vec::with_capacity(alloc, caps.callers() as usize)?;
+    Ok(Stage {
+        core: Core::open(alloc, caps)?,
+        addresses: VecDeque::from_vec(addresses),
+        removed,
+        callers,
+    })
+}
+
+/// The addresses that entries need, in order.
+fn read_addresses(alloc: Global, entries: Entries<'_>) -> Result<Vec<Address>, AllocError>
+    ensures { IfOk result
+        (λ addresses. addresses.items ≡ addresses_in (unplaced (entries_left entries.entry))) }
+{
+    let mut addresses = Vec::new(alloc);
+    for entry in entries {
+        if let Some(bytes) = address_needed(&entry) {
+            let Ok(address) = Address::read(alloc, bytes) else {
+                return Err(AllocError);
+            };
+            if addresses.push(address).is_err() {
+                return Err(AllocError);
+            }
+        }
+    }
+    Ok(addresses)
+}
+
+/// The address that is handed in again with an entry.
+fn address_needed<'a>(entry: &Entry<'a>) -> Option<&'a [u8]>
+    ensures { option_map (λ bytes. bytes.now) result
+        ≡ needed_by (event_of entry.now.event) (answer_of entry.now.answer) }
+{
+    match entry.event {
+        Event::Add(bytes) if matches!(entry.answer, Answer::Added(_)) => Some(bytes),
+        Event::Remove(bytes) if matches!(entry.answer, Answer::Removed(_)) => Some(bytes),
+        _ => None,
+    }
+}
+
+/// Whether a box is handed in again with an entry.
+fn box_needed(entry: &Entry<'_>) -> bool
+    ensures { result ≡ takes_box (event_of entry.now.event) (answer_of entry.now.answer) }
+{
+    match entry.event {
+        Event::Add(_) => matches!(entry.answer, Answer::Added(_)),
+        _ => false,
+    }
+}
+
+/// The address that an entry needs, which is the first of those that are left.
+fn take_address(entry: &Entry<'_>, addresses: &mut VecDeque<Address>) -> Option<Address>
+    requires { (rest : List (List ℕ)) × (addresses.old.items
+        ≡ option_to_list (needed_by (event_of entry.now.event) (answer_of entry.now.answer)) ++ rest) }
+    ensures address { result ≡ needed_by (event_of entry.now.event) (answer_of entry.now.answer) }
+    ensures rest { addresses.old.items
+        ≡ option_to_list (needed_by (event_of entry.now.event) (answer_of entry.now.answer))
+        ++ addresses.new.items }
+{
+    match address_needed(entry) {
+        Some(_) => addresses.pop_front(),
+        None => None,
+    }
+}
+
+/// The box that an entry needs, which is the first of those that are left.
+fn take_box<M: Method>(entry: &Entry<'_>, bank: &mut VecDeque<M>) -> Option<M>
+    requires { IsTrue (takes_box (event_of entry.now.event) (answer_of entry.now.answer))
+        → 0 < length bank.old.items }
+    ensures takes { Takes (takes_box (event_of entry.now.event) (answer_of entry.now.answer)) result
+        bank.old.items bank.new.items }
+    ensures capacity { deque_capacity bank.new ≡ deque_capacity bank.old }
+{
+    if box_needed(entry) {
+        return bank.pop_front();
+    }
+    None
+}
+
+/// Plays an entry again, with the address and the box that it needs.
+fn redo_one<M: Method>(
+    core: &mut Core<M>,
+    entry: &Entry<'_>,
+    addresses: &mut VecDeque<Address>,
+    bank: &mut VecDeque<M>,
+    removed: &mut Vec<(u32, M)>,
+)
+    requires caller { entry.now.caller < (state_of core.old.performance).callers }
+    requires lawful { IsLawful (event_of entry.now.event) }
+    requires answer { answer_of entry.now.answer
+        ≡ (stepped_in core.old.performance (event_of entry.now.event)).answer }
+    requires address { (rest : List (List ℕ)) × (addresses.old.items
+        ≡ option_to_list (needed_by (event_of entry.now.event) (answer_of entry.now.answer)) ++ rest) }
+    requires method { IsTrue (takes_box (event_of entry.now.event) (answer_of entry.now.answer))
+        → 0 < length bank.old.items }
+    requires room { length addresses.old.items + vec_len removed.old ≤ vec_capacity removed.old }
+    ensures performance { core.new.performance
+        ≡ with_entry core.old.performance (placed_of entry.now).entry }
+    ensures addresses { addresses.old.items
+        ≡ option_to_list (needed_by (event_of entry.now.event) (answer_of entry.now.answer))
+        ++ addresses.new.items }
+    ensures moves { Moves M.keep M.heard (event_of entry.now.event) (answer_of entry.now.answer)
+        (stepped_in core.old.performance (event_of entry.now.event)).invocations bank.old.items
+        bank.new.items (told M.keep M.heard core.old.boxes.items)
+        (told M.keep M.heard core.new.boxes.items) removed.old.items removed.new.items }
+    ensures room { length addresses.new.items + vec_len removed.new ≤ vec_capacity removed.new }
+    ensures capacity { deque_capacity bank.new ≡ deque_capacity bank.old }
+{
+    let address = take_address(entry, addresses);
+    let method = take_box(entry, bank);
+    let out = core.redo(entry, address, method);
+    let Some(method) = out else {
+        return;
+    };
+    let Answer::Removed(id) = entry.answer else {
+        unreachable!()
+    };
+    removed.push_reserved((id, method));
+}
+
+/// Plays the entries of a history again, on a server that has played none.
+fn redo_all<M: Method>(
+    core: &mut Core<M>,
+    entries: Entries<'_>,
+    addresses: &mut VecDeque<Address>,
+    bank: &mut VecDeque<M>,
+    removed: &mut Vec<(u32, M)>,
+)
+    requires legal { Legal core.old.performance.caps (unplaced (entries_left entries)) }
+    requires empty { (core.old.performance.history ≡ [])
+        × (told M.keep M.heard core.old.boxes.items ≡ []) × (removed.old.items ≡ []) }
+    requires addresses { addresses.old.items ≡ addresses_in (unplaced (entries_left entries)) }
+    requires bank { added_in (unplaced (entries_left entries)) ≤ length bank.old.items }
+    requires room { length addresses.old.items ≤ vec_capacity removed.old }
+    ensures redone { IsRedone M.keep M.heard core.old.performance.caps
+        (unplaced (entries_left entries.entry)) bank.old.items [] core.new.performance
+        (told M.keep M.heard core.new.boxes.items) addresses.new.items bank.new.items
+        removed.new.items }
+    ensures capacity { deque_capacity bank.new ≡ deque_capacity bank.old }
+{
+    for entry in entries {
+        redo_one(core, &entry, addresses, bank, removed);
+    }
+}
+
+/// All boxes, in the order of the bank: so many of them were taken from it.
+fn put_back<M: Method>(
+    core: Core<M>,
+    mut removed: Vec<(u32, M)>,
+    mut bank: VecDeque<M>,
+    taken: u32,
+) -> Vec<M>
+    ensures { (whole : List M) → IsOut M.keep M.heard whole
+        (told M.keep M.heard core.boxes.items) removed.items bank.items taken
+        (deque_capacity bank) → marks M.keep M.heard result.items ≡ marks M.keep M.heard whole }
+{
+    let mut kept = core.close().kept;
+    let mut id = taken;
+    while id > 0 {
+        id -= 1;
+        let method = take_either(&mut kept, &mut removed, id);
+        put_first(&mut bank, method);
+    }
+    bank.into_vec()
+}
+
+/// Puts a box before the others, if there is one and room for it.
+fn put_first<M: Method>(bank: &mut VecDeque<M>, method: Option<M>)
+    ensures items { length bank.old.items < deque_capacity bank.old
+        → bank.new.items ≡ option_to_list method ++ bank.old.items }
+    ensures capacity { deque_capacity bank.old ≤ deque_capacity bank.new }
+{
+    if let Some(method) = method {
+        let _ = bank.push_front(method);
+    }
+}
+
+/// Takes the box of an id out of boxes, or else out of others, where it is among them.
+fn take_either<M: Method>(
+    boxes: &mut Vec<(u32, M)>,
+    others: &mut Vec<(u32, M)>,
+    id: u32,
+) -> Option<M>
+    ensures { TakesEither id boxes.old.items boxes.new.items others.old.items others.new.items result }
+{
+    match take_of(boxes, id) {
+        Some(method) => Some(method),
+        None => take_of(others, id),
+    }
+}
+
+/// Takes the box of an id out of boxes, where it is among them.
+fn take_of<M: Method>(boxes: &mut Vec<(u32, M)>, id: u32) -> Option<M>
+    ensures { TakesOut id boxes.old.items boxes.new.items result }
+{
+    let mut place = boxes.len();
+    while place > 0 {
+        place -= 1;
+        if boxes[place].0 == id {
+            return Some(boxes.remove(place).1);
+        }
+    }
+    None
+}

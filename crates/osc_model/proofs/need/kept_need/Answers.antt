@@ -1,0 +1,18 @@
+use Rattle.std.proofs.Common.{length, arith}
+use Rattle.osc_packet.specs.Reading.{units_read}
+use Rattle.osc_model.proofs.Queues.{kept_few}
+use Rattle.osc_model.proofs.Needs.{places_fit, blocks_fit}
+use Rattle.osc_model.proofs.need.kept_need.Goals as goal
+
+pub with_unit-need-requires-clause-places : goal.with_unit-need-requires-clause-places
+with_unit-need-requires-clause-places c =
+    places_fit c.args.late c.args.clock c.loop-unit.need.places c.in-Some.unit c.next.new.self c.loop-unit.unit-iterator (units_read c.args.packet.now)
+    c.in-Some.ensures.steps c.loop-unit.invariant.places c.units-unit-items.ensures.few
+
+pub with_unit-need-requires-clause-blocks : goal.with_unit-need-requires-clause-blocks
+with_unit-need-requires-clause-blocks c =
+    blocks_fit c.args.late c.args.clock c.loop-unit.need.blocks c.in-Some.unit c.next.new.self c.loop-unit.unit-iterator (units_read c.args.packet.now)
+    c.in-Some.ensures.steps c.loop-unit.invariant.blocks c.requires
+
+pub returns-clause-few : goal.returns-clause-few
+returns-clause-few c = omega (arith, c.loop-unit.invariant.places, kept_few c.args.late c.args.clock (units_read c.args.packet.now))

@@ -1,0 +1,86 @@
+// Which units of a packet are kept, and what they need.
+ghost use Rattle.std.specs.Prelude.{◌≡◌, ◌+◌, ◌<◌, ◌≤◌, ◌^◌, ◌∷◌, [], length};
+ghost use Rattle.osc_packet.specs.Reading.{units_read};
+ghost use Rattle.osc_packet.specs.Units.{blocks_of};
+ghost use Rattle.osc_model.specs.Step.{is_late, is_kept, kept};
+
+use crate::late::Late;
+use osc_packet::{Packet, Unit};
+
+/// How many places units take in the queue, and how many blocks their messages.
+#[derive(Clone, Copy, Debug, PartialEq, Eq)]
+pub struct Need {
+    pub places: u32,
+    pub blocks: u32,
+}
+
+impl Late {
+    ghost use Rattle.std.specs.Prelude.{◌≡◌, ◌≤◌, length};
+    ghost use Rattle.osc_packet.specs.Reading.{units_read};
+    ghost use Rattle.osc_packet.specs.Units.{blocks_of};
+    ghost use Rattle.osc_model.specs.Step.{is_kept, kept};
+
+    /// Whether a unit is kept that is submitted at this clock.
+    pub fn keeps(self, clock: u64, unit: &Unit<'_>) -> bool
+        ensures { result ≡ is_kept self clock unit.now }
+    {
+        match self {
+            Late::Deliver => true,
+            Late::Discard => !is_late(clock, unit),
+        }
+    }
+
+    /// What the units of a packet need that are kept at this clock.
+    pub fn need(self, clock: u64, packet: &Packet<'_>) -> Need
+        ensures places { result.places ≡ length (kept self clock (units_read packet.now)) }
+        ensures blocks { result.blocks ≡ blocks_of (kept self clock (units_read packet.now)) }
+        ensures few { result.places ≤ length (units_read packet.now) }
+    {
+        let places = packet.count();
+        let blocks = packet.blocks();
+        match self {
+            Late::Deliver => Need { places, blocks },
+            Late::Discard => kept_need(self, clock, packet),
+        }
+    }
+}
+
+/// Whether a unit is late at a clock.
+fn is_late(clock: u64, unit: &Unit<'_>) -> bool
+    ensures { result ≡ is_late clock unit.now }
+{
+    unit.tag() != 1 && unit.tag() < clock
+}
+
+fn kept_need(late: Late, clock: u64, packet: &Packet<'_>) -> Need
+    requires { blocks_of (units_read packet.now) < 2 ^ 32 }
+    ensures places { result.places ≡ length (kept late clock (units_read packet.now)) }
+    ensures blocks { result.blocks ≡ blocks_of (kept late clock (units_read packet.now)) }
+    ensures few { result.places ≤ length (units_read packet.now) }
+{
+    let mut need = Need {
+        places: 0,
+        blocks: 0,
+    };
+    for unit in packet.units() {
+        need = with_unit(need, late, clock, &unit);
+    }
+    need
+}
+
+/// What is needed where a unit joins that may be kept.
+fn with_unit(need: Need, late: Late, clock: u64, unit: &Unit<'_>) -> Need
+    requires places { need.places + length (kept late clock (unit.now ∷ [])) < 2 ^ 32 }
+    requires blocks { need.blocks + blocks_of (kept late clock (unit.now ∷ [])) < 2 ^ 32 }
+    ensures places { result.places ≡ need.places + length (kept late clock (unit.now ∷ [])) }
+    ensures blocks { result.blocks ≡ need.blocks + blocks_of (kept late clock (unit.now ∷ [])) }
+{
+    if late.keeps(clock, unit) {
+        Need {
+            places: need.places + 1,
+            blocks: need.blocks + unit.blocks(),
+        }
+    } else {
+        need
+    }
+}

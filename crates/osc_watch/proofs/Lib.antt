@@ -1,0 +1,7 @@
+mod Begun
+mod EntriesRead
+mod PartsRead
+mod Places
+mod Publishings
+mod ServerReads
+mod Waits
