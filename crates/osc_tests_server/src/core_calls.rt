@@ -117,7 +117,7 @@ static SCRIPTS: &[Script] = &[
 ];
 
 /// A server with these limits: of units, blocks, methods, nodes and callers, and of the recording's bytes.
-fn open<M: Method>(alloc: Global, caps: [u32; 6]) -> Result<Core<M>, Fail> {
+pub(crate) fn open<M: Method>(alloc: Global, caps: [u32; 6]) -> Result<Core<M>, Fail> {
     let caps = Caps::new(
         caps[0],
         caps[1],
@@ -130,7 +130,7 @@ fn open<M: Method>(alloc: Global, caps: [u32; 6]) -> Result<Core<M>, Fail> {
     Ok(Core::open(alloc, caps.ok().ok_or("limits")?)?)
 }
 
-fn enrol<M: Method>(core: &mut Core<M>) -> Answer {
+pub(crate) fn enrol<M: Method>(core: &mut Core<M>) -> Answer {
     let _ = core.callers();
     match core.enrol(0) {
         Enrolled::Number(number) => Answer::Number(number),
@@ -156,7 +156,7 @@ fn submit<M: Method>(core: &mut Core<M>, bytes: &[u8]) -> Answer {
     }
 }
 
-fn release<M: Method>(core: &mut Core<M>) -> Releasing {
+pub(crate) fn release<M: Method>(core: &mut Core<M>) -> Releasing {
     let _ = core.callers();
     core.release(0)
 }
@@ -169,7 +169,7 @@ fn release_none<M: Method>(core: &mut Core<M>) -> Answer {
     }
 }
 
-fn add<M: Method>(
+pub(crate) fn add<M: Method>(
     core: &mut Core<M>,
     alloc: Global,
     address: &[u8],
@@ -180,7 +180,7 @@ fn add<M: Method>(
     Ok(core.add(0, address, method))
 }
 
-fn remove<M: Method>(
+pub(crate) fn remove<M: Method>(
     core: &mut Core<M>,
     alloc: Global,
     address: &[u8],
@@ -190,7 +190,7 @@ fn remove<M: Method>(
     Ok(core.remove(0, &address))
 }
 
-fn tick<M: Method>(core: &mut Core<M>, now: u64) -> Ticking {
+pub(crate) fn tick<M: Method>(core: &mut Core<M>, now: u64) -> Ticking {
     let _ = core.callers();
     core.tick(0, now)
 }

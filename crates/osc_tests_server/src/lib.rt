@@ -10,4 +10,6 @@ mod live_calls;
 #[cfg(test)]
 mod live_threads;
 #[cfg(test)]
+mod tables;
+#[cfg(test)]
 mod tokens;
