@@ -113,3 +113,86 @@ fn no_bytes_need_no_block(rt: HostRuntime) -> Result<(), Fail> {
     assert_eq!(rt; pool.free(), 0);
     Ok(())
 }
+
+/// Three chains of a block each.
+#[derive(Drop)]
+struct Three {
+    one: Chain,
+    two: Chain,
+    three: Chain,
+}
+
+/// Fills a pool of three free blocks.
+fn fill<R: Abort>(rt: &R, alloc: Global, pool: &mut Pool) -> Result<Three, Fail>
+    ensures one { IfOk result (λ filled. IsLive filled.one pool.new) }
+    ensures two { IfOk result (λ filled. IsLive filled.two pool.new) }
+    ensures three { IfOk result (λ filled. IsLive filled.three pool.new) }
+    ensures second { IfOk result (λ filled. AreApart filled.two filled.one) }
+    ensures third { IfOk result (λ filled. AreApart filled.three filled.one) }
+    ensures last { IfOk result (λ filled. AreApart filled.three filled.two) }
+{
+    let texts = [
+        counting(alloc, 1, 64)?,
+        counting(alloc, 70, 33)?,
+        counting(alloc, 120, 1)?,
+    ];
+    let Ok(one) = pool.store(&texts[0]) else {
+        return Err(Fail::new("the first is refused"));
+    };
+    let Ok(two) = pool.store(&texts[1]) else {
+        return Err(Fail::new("the second is refused"));
+    };
+    let Ok(three) = pool.store(&texts[2]) else {
+        return Err(Fail::new("the third is refused"));
+    };
+    assert_eq!(rt; pool.free(), 0);
+    assert_reads(rt, alloc, pool, &one, &texts[0])?;
+    assert_reads(rt, alloc, pool, &two, &texts[1])?;
+    assert_reads(rt, alloc, pool, &three, &texts[2])?;
+    Ok(Three { one, two, three })
+}
+
+/// Gives three chains in this order, and fills the pool again.
+fn give_and_fill<R: Abort>(
+    rt: &R,
+    alloc: Global,
+    pool: &mut Pool,
+    first: Chain,
+    second: Chain,
+    third: Chain,
+) -> Result<Three, Fail>
+    requires first { IsLive first pool.old }
+    requires second { IsLive second pool.old }
+    requires third { IsLive third pool.old }
+    requires two { AreApart second first }
+    requires three { AreApart third first }
+    requires last { AreApart third second }
+    ensures one { IfOk result (λ filled. IsLive filled.one pool.new) }
+    ensures two { IfOk result (λ filled. IsLive filled.two pool.new) }
+    ensures three { IfOk result (λ filled. IsLive filled.three pool.new) }
+    ensures second { IfOk result (λ filled. AreApart filled.two filled.one) }
+    ensures third { IfOk result (λ filled. AreApart filled.three filled.one) }
+    ensures last { IfOk result (λ filled. AreApart filled.three filled.two) }
+{
+    pool.give(first);
+    pool.give(second);
+    pool.give(third);
+    assert_eq!(rt; pool.free(), 3);
+    fill(rt, alloc, pool)
+}
+
+#[test]
+fn a_pool_is_filled_again_whatever_the_order_in_which_it_was_emptied(
+    rt: HostRuntime,
+) -> Result<(), Fail> {
+    let alloc = rt.alloc();
+    let mut pool = Pool::open(alloc, 3)?;
+    let Three { one, two, three } = fill(&rt, alloc, &mut pool)?;
+    let Three { one, two, three } = give_and_fill(&rt, alloc, &mut pool, one, two, three)?;
+    let Three { one, two, three } = give_and_fill(&rt, alloc, &mut pool, one, three, two)?;
+    let Three { one, two, three } = give_and_fill(&rt, alloc, &mut pool, two, one, three)?;
+    let Three { one, two, three } = give_and_fill(&rt, alloc, &mut pool, two, three, one)?;
+    let Three { one, two, three } = give_and_fill(&rt, alloc, &mut pool, three, one, two)?;
+    give_and_fill(&rt, alloc, &mut pool, three, two, one)?;
+    Ok(())
+}

@@ -2,6 +2,8 @@
 #![tactic(auto)]
 
 #[cfg(test)]
+mod busy;
+#[cfg(test)]
 mod core_calls;
 #[cfg(test)]
 mod late;

@@ -19,7 +19,7 @@ use std::thread::{Threads, join};
 const LOOKS: u32 = 100_000_000;
 
 /// Looks at the flag until it is set.
-fn await_flag(flag: &AtomicBool) {
+pub(crate) fn await_flag(flag: &AtomicBool) {
     for _ in 0..LOOKS {
         if flag.load(Ordering::SeqCst) {
             return;
@@ -27,7 +27,7 @@ fn await_flag(flag: &AtomicBool) {
     }
 }
 
-type Flag = Arc<AtomicBool, Global>;
+pub(crate) type Flag = Arc<AtomicBool, Global>;
 
 /// A method that tells that a call has begun, and then waits until it may end.
 #[derive(Drop)]
@@ -57,18 +57,18 @@ impl Method for Gate {
     }
 }
 
-fn flag(alloc: Global) -> Option<Flag> {
+pub(crate) fn flag(alloc: Global) -> Option<Flag> {
     Arc::new(alloc, AtomicBool::new(false)).ok()
 }
 
 /// What caller 0 is answered while another call makes its calls.
 #[derive(Drop, Debug, PartialEq, Eq)]
-struct Meanwhile {
-    submitted: Result<Submitted, Busy>,
-    released: Result<Releasing, Busy>,
+pub(crate) struct Meanwhile {
+    pub(crate) submitted: Result<Submitted, Busy>,
+    pub(crate) released: Result<Releasing, Busy>,
 }
 
-const MESSAGE: &[u8] = b"/a\0\0";
+pub(crate) const MESSAGE: &[u8] = b"/a\0\0";
 
 fn try_submit<M: Method>(
     live: &Live<M>,
@@ -86,7 +86,7 @@ fn try_submit<M: Method>(
 }
 
 /// Tries both calls while the other call has begun and may not end, and then lets it end.
-fn try_meanwhile<M: Method>(
+pub(crate) fn try_meanwhile<M: Method>(
     live: &Live<M>,
     caller: Caller,
     begun: &Flag,

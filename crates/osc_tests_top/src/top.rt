@@ -405,20 +405,42 @@ fn the_program_has_8192_boxes_of_64_bytes(rt: HostRuntime) -> Result<(), Fail> {
     Ok(())
 }
 
+/// Which call of the source, and which of the sink, fails in a run of the first script, 0 for none, and the status. The run
+/// calls its source twice, the second time to find its end, and its sink once.
+const FAILS: [(u32, u32, u8); 6] = [
+    (1, 0, 4),
+    (2, 0, 4),
+    (3, 0, 0),
+    (0, 1, 5),
+    (0, 2, 0),
+    (0, 0, 0),
+];
+
 #[test]
 fn edges_that_fail_end_the_run(rt: HostRuntime) -> Result<(), Fail> {
     let alloc = rt.alloc();
-    let script = FIRST_LIGHT.as_bytes();
-    let no_source = Setting {
-        source_fails: 1,
-        ..SETTING
-    };
-    writes(&rt, alloc, "run", script, no_source, (4, b""))?;
-    let no_sink = Setting {
-        sink_fails: 1,
-        ..SETTING
-    };
-    writes(&rt, alloc, "run", script, no_sink, (5, b""))
+    for (source_fails, sink_fails, status) in FAILS {
+        let setting = Setting {
+            source_fails,
+            sink_fails,
+            ..SETTING
+        };
+        let outcome = perform(&rt, alloc, "run", FIRST_LIGHT.as_bytes(), setting)?;
+        assert_eq!(rt; outcome.status, status);
+        assert_eq!(rt; outcome.written.is_empty(), status != 0);
+    }
+    Ok(())
+}
+
+/// The pattern of a slash and 64,999 stars, without tags.
+#[test]
+fn the_longest_pattern_calls_what_it_matches(rt: HostRuntime) -> Result<(), Fail> {
+    let alloc = rt.alloc();
+    let stars = "2a".repeat(alloc, 64_999)?;
+    let script = format!(in alloc; "add /a\nsend 2f{stars}00000000\npump\n")?;
+    let text = "add 0 /a id 0\nsubmit 0 queued 0 1\nrelease 0 0 1\ncall 0 0 0 /a -\n";
+    let expected = (0, text.as_bytes());
+    writes(&rt, alloc, "run", script.as_bytes(), SETTING, expected)
 }
 
 /// A sink takes at most 4,096 bytes a call, and the text of this script is longer: its one argument has 2,100 bytes.

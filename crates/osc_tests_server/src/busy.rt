@@ -1,0 +1,121 @@
+// Calls that don't wait, while another caller's add is in its box's reset.
+ghost use Rattle.std.specs.Prelude.{◌≡◌, None};
+ghost use Rattle.osc_live.specs.Seen.{IsTokenOf};
+
+use crate::live_threads::{Flag, MESSAGE, Meanwhile, await_flag, flag, try_meanwhile};
+use crate::tokens::{enrolled, open};
+use osc_core::Adding;
+use osc_live::{Busy, Caller, Live};
+use osc_method::{Call, Method};
+use osc_packet::{MAX_PACKET, Packet};
+use osc_pattern::Address;
+use std::alloc::Global;
+use std::sync::atomic::Ordering;
+use std::sync::{Arc, Wait};
+use std::test::Fail;
+use std::thread::{Threads, join};
+
+/// A method that tells that its reset has begun, and then waits until it may end.
+#[derive(Drop)]
+struct Slow {
+    begun: Flag,
+    may_end: Flag,
+}
+
+impl Method for Slow {
+    ghost keep = { λ _. 0 };
+
+    ghost heard = { λ _. None };
+
+    fn reset(&mut self) {
+        self.begun.store(true, Ordering::SeqCst);
+        await_flag(&self.may_end);
+    }
+
+    fn invoke(&mut self, _call: &Call<'_>) {}
+
+    fn told(&self) -> Option<u32> {
+        None
+    }
+
+    fn byte(&self, _k: u32) -> u8 {
+        0
+    }
+}
+
+/// One thread adds, and the other tries its calls meanwhile.
+fn at_once<R: Threads + Wait + Sync>(
+    rt: &R,
+    live: &Live<Slow>,
+    new: Caller,
+    caller: Caller,
+    address: Address,
+    method: Slow,
+    flags: (&Flag, &Flag),
+) -> (Option<u32>, Option<Meanwhile>)
+    requires new { IsTokenOf live.now.turn live.now.caps new.pass }
+    requires ours { IsTokenOf live.now.turn live.now.caps caller.pass }
+{
+    let (begun, may_end) = flags;
+    join(
+        rt,
+        || -> Option<u32>
+            requires { IsTokenOf live.now.turn live.now.caps new.pass }
+        {
+            let (_, added) = live.add(rt, new, address, method);
+            match added {
+                Adding::Added(id) => Some(id),
+                Adding::Refused { .. } => None,
+            }
+        },
+        || -> Option<Meanwhile>
+            requires { IsTokenOf live.now.turn live.now.caps caller.pass }
+        { try_meanwhile(live, caller, begun, may_end).1 },
+    )
+}
+
+/// Submits so often, so that there are as many entries more.
+fn submit<R: Wait>(rt: &R, live: &Live<Slow>, caller: Caller, times: u32) -> Caller
+    requires ours { IsTokenOf live.now.turn live.now.caps caller.pass }
+    ensures ours { IsTokenOf live.now.turn live.now.caps result.pass }
+{
+    let Ok(packet) = Packet::check(MESSAGE, MAX_PACKET) else {
+        return caller;
+    };
+    let mut caller = caller;
+    for _ in 0..times {
+        let (back, _) = live.submit(rt, caller, &packet);
+        caller = back;
+    }
+    caller
+}
+
+/// The second caller adds behind its enrolment and so many submits, and caller 0 tries its calls meanwhile.
+fn hold<R: Threads + Wait + Sync>(rt: &R, alloc: Global, submits: u32) -> Option<Meanwhile> {
+    let begun = flag(alloc)?;
+    let may_end = flag(alloc)?;
+    let method = Slow {
+        begun: Arc::try_clone(&begun).ok()?,
+        may_end: Arc::try_clone(&may_end).ok()?,
+    };
+    let (live, caller) = open(alloc)?;
+    let (caller, new) = enrolled(rt, &live, caller)?;
+    let caller = submit(rt, &live, caller, submits);
+    let address = Address::read(alloc, b"/a").ok()?;
+    let flags = (&begun, &may_end);
+    let (added, meanwhile) = at_once(rt, &live, new, caller, address, method, flags);
+    added?;
+    meanwhile
+}
+
+#[test]
+fn a_try_is_busy_while_a_box_is_reset(rt: HostRuntime) -> Result<(), Fail> {
+    for (submits, found) in [(0, 3), (1, 5)] {
+        let busy = Meanwhile {
+            submitted: Err(Busy { found }),
+            released: Err(Busy { found }),
+        };
+        assert_eq!(rt; hold(&rt, rt.alloc(), submits), Some(busy));
+    }
+    Ok(())
+}
