@@ -130,7 +130,7 @@ pub(crate) fn open<M: Method>(alloc: Global, caps: [u32; 6]) -> Result<Core<M>, 
     Ok(Core::open(alloc, caps.ok().ok_or("limits")?)?)
 }
 
-pub(crate) fn enrol<M: Method>(core: &mut Core<M>) -> Answer {
+fn enrol<M: Method>(core: &mut Core<M>) -> Answer {
     let _ = core.callers();
     match core.enrol(0) {
         Enrolled::Number(number) => Answer::Number(number),

@@ -1,7 +1,7 @@
 // The tables of the sequential server, each filled to its limit, and the recording, filled to its last byte.
 ghost use Rattle.std.specs.Prelude.{◌<◌};
 
-use crate::core_calls::{add, enrol, open, release, remove, tick};
+use crate::core_calls::{add, open, release, remove, tick};
 use osc_core::{AddRefusal, Adding, Core, Enrolled, Releasing, Removing, Submitted, Ticking};
 use osc_method::Mute;
 use osc_packet::{MAX_PACKET, Packet};
