@@ -8,6 +8,7 @@ use Rattle.osc_words.specs.declared.command.Capacities.{Capacities}
 use Rattle.osc_words.specs.declared.command.Output.TheVariants as output
 use Rattle.osc_words.specs.declared.command.Reading.TheVariants.{Run, Replay}
 use Rattle.osc_words.specs.declared.command.PlainCommand.TheVariants.{Gen}
+use Rattle.osc_words.specs.declared.command.Transport.TheVariants.{Udp, Tcp}
 use Rattle.osc_words.specs.declared.command.LiveCommand.TheVariants.{Lanes, Serve}
 use Rattle.osc_words.specs.declared.command.Command.TheVariants.{Plain, Live}
 
@@ -96,9 +97,26 @@ unfolding clap_on_literals command_of found_by
 hyphen_file = refl
 
 serve : command_of (codes "serve" ∷ codes "--port" ∷ codes "65528" ∷ codes "--links" ∷ codes "8" ∷ codes "--count" ∷ codes "3" ∷ codes "out.rec" ∷ [])
-    ≡ Some (Live (Serve 65528 8 3 1000000 defaults))
+    ≡ Some (Live (Serve Udp 65528 8 3 1000000 defaults))
 unfolding clap_on_literals command_of found_by
 serve = refl
+
+serve_streams : command_of (codes "serve" ∷ codes "--links" ∷ codes "2" ∷ codes "--tcp" ∷ codes "out.rec" ∷ [])
+    ≡ Some (Live (Serve Tcp 9000 2 1000000 1000000 defaults))
+unfolding clap_on_literals command_of found_by
+serve_streams = refl
+
+streams_twice : command_of (codes "serve" ∷ codes "--tcp" ∷ codes "--tcp" ∷ codes "out.rec" ∷ []) ≡ None
+unfolding clap_on_literals command_of found_by
+streams_twice = refl
+
+streams_of_a_value : command_of (codes "serve" ∷ codes "--tcp=yes" ∷ codes "out.rec" ∷ []) ≡ None
+unfolding clap_on_literals command_of found_by
+streams_of_a_value = refl
+
+streams_of_lanes : command_of (codes "lanes" ∷ codes "--tcp" ∷ codes "out.rec" ∷ []) ≡ None
+unfolding clap_on_literals command_of found_by
+streams_of_lanes = refl
 
 no_last_port : command_of (codes "serve" ∷ codes "--port" ∷ codes "65529" ∷ codes "--links" ∷ codes "8" ∷ codes "out.rec" ∷ []) ≡ None
 unfolding clap_on_literals command_of found_by

@@ -1,5 +1,5 @@
 -- What the words of the command line say.
-use Rattle.std.specs.Prelude.{ℕ, ◌+◌, Bool, false, nat_le, if◌then◌else◌, List, [], ◌∷◌, Option}
+use Rattle.std.specs.Prelude.{ℕ, ◌+◌, Bool, true, false, nat_le, if◌then◌else◌, List, [], ◌∷◌, Option}
 use Rattle.std.specs.Prelude.{Some, None, option_map, option_and_then, codes}
 use Rattle.std.specs.Option.{option_map_or}
 use Rattle.std.specs.Str.{bytes_eq}
@@ -11,7 +11,7 @@ use Rattle.osc_words.specs.Options.{flag_name, late_name, row_of}
 use Rattle.osc_words.specs.Reading.{found_by}
 use Rattle.osc_words.specs.Verbs as verbs
 use Rattle.osc_words.specs.declared.options.Flag.{Flag}
-use Rattle.osc_words.specs.declared.options.Flag.TheVariants.{Bytes}
+use Rattle.osc_words.specs.declared.options.Flag.TheVariants.{Bytes, Tcp}
 use Rattle.osc_words.specs.declared.options.Quantity.{Quantity}
 use Rattle.osc_words.specs.declared.options.Quantity.TheVariants.{Units, Blocks, Methods, Nodes}
 use Rattle.osc_words.specs.declared.options.Quantity.TheVariants.{Recording, Seed, Lines, Port}
@@ -25,6 +25,8 @@ use Rattle.osc_words.specs.declared.command.Reading.{Reading}
 use Rattle.osc_words.specs.declared.command.Reading.TheVariants.{Run, Replay, Dump}
 use Rattle.osc_words.specs.declared.command.PlainCommand.{PlainCommand}
 use Rattle.osc_words.specs.declared.command.PlainCommand.TheVariants.{Read, Gen}
+use Rattle.osc_words.specs.declared.command.Transport.{Transport}
+use Rattle.osc_words.specs.declared.command.Transport.TheVariants as transport
 use Rattle.osc_words.specs.declared.command.LiveCommand.{LiveCommand}
 use Rattle.osc_words.specs.declared.command.LiveCommand.TheVariants.{Lanes, Serve}
 use Rattle.osc_words.specs.declared.command.Command.{Command}
@@ -81,17 +83,22 @@ gen_from _ _ = None
 abbrev pub gen_of : List Row → Option Command
 gen_of rows = gen_from (number_of Seed rows) (number_of Lines rows)
 
+-- what carries packets to the links
+abbrev pub transport_of : List Row → Transport
+transport_of rows = if is_given Tcp rows then transport.Tcp else transport.Udp
+
 -- each link has a port of its own, from the first one on, and the last is a port too
-abbrev pub serve_from : Option ℕ → Option ℕ → Option ℕ → Option ℕ → Option Capacities
+abbrev pub serve_from : Transport → Option ℕ → Option ℕ → Option ℕ → Option ℕ → Option Capacities
     → Option Command
-serve_from (Some port) (Some links) (Some count) (Some idle) (Some caps) =
-    if nat_le (port + links) 65536 then Some (Live (Serve port links count idle caps)) else None
-serve_from _ _ _ _ _ = None
+serve_from carried (Some port) (Some links) (Some count) (Some idle) (Some caps) =
+    if nat_le (port + links) 65536 then Some (Live (Serve carried port links count idle caps))
+    else None
+serve_from _ _ _ _ _ _ = None
 
 abbrev pub serve_of : List Row → Option Command
 serve_of rows =
-    serve_from (number_of Port rows) (number_of Links rows) (number_of Count rows)
-    (number_of Idle rows) (caps_of rows)
+    serve_from (transport_of rows) (number_of Port rows) (number_of Links rows)
+    (number_of Count rows) (number_of Idle rows) (caps_of rows)
 
 abbrev pub to_read : Reading → Command
 to_read reading = Plain (Read reading)
@@ -138,3 +145,12 @@ reading_of words = option_and_then reading_in (plain_command_of words)
 -- the command of `oscd` that the words say
 abbrev pub live_command_of : List (List ℕ) → Option LiveCommand
 live_command_of words = option_and_then live_in (command_of words)
+
+abbrev pub is_over_tcp : LiveCommand → Bool
+is_over_tcp (Lanes caps) = false
+is_over_tcp (Serve transport.Udp port links count idle caps) = false
+is_over_tcp (Serve transport.Tcp port links count idle caps) = true
+
+-- whether the words say to serve links over TCP
+abbrev pub wants_tcp : List (List ℕ) → Bool
+wants_tcp words = option_map_or is_over_tcp (live_command_of words) false

@@ -3,7 +3,7 @@ use Rattle.std.specs.Prelude.{ℕ, ◌≤◌, true, List, Some, codes}
 use Rattle.clap.specs.Words.{Rule, new_rule}
 use Rattle.clap.specs.declared.builder.action.ArgAction.TheVariants.{SetTrue}
 use Rattle.osc_words.specs.declared.options.Flag.{Flag}
-use Rattle.osc_words.specs.declared.options.Flag.TheVariants.{Bytes}
+use Rattle.osc_words.specs.declared.options.Flag.TheVariants.{Bytes, Tcp}
 use Rattle.osc_words.specs.declared.options.Quantity.{Quantity}
 use Rattle.osc_words.specs.declared.options.Quantity.TheVariants.{Units, Blocks, Methods, Nodes}
 use Rattle.osc_words.specs.declared.options.Quantity.TheVariants.{Recording, Seed, Lines, Port}
@@ -43,13 +43,14 @@ IsInRange quantity number = ((row_of quantity).least ≤ number) × (number ≤ 
 
 abbrev pub flag_name : Flag → List ℕ
 flag_name Bytes = codes "bytes"
+flag_name Tcp = codes "tcp"
 
 -- the option that says what becomes of late units
 abbrev pub late_name : List ℕ
 late_name = codes "late"
 
--- how each is told to clap: a flag, a number and a policy by a long name, and the file as a word that has to
--- stand, and behind which no option is read and no other word may stand
+-- how each is told to clap: a flag, a number and a policy by a long name, and the file as a word
+-- that has to stand, and behind which no option is read and no other word may stand
 abbrev pub rule_for : Parameter → Rule
 rule_for (parameter.Flag flag) =
     record (new_rule (flag_name flag)) { long = Some (flag_name flag); action = Some SetTrue }

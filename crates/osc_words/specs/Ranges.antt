@@ -42,7 +42,7 @@ IsLawfulPlain (Gen seed lines) = IsInRange Lines lines
 
 abbrev pub IsLawfulLive : LiveCommand → Type 0
 IsLawfulLive (Lanes caps) = AreInRange caps
-IsLawfulLive (Serve port links count idle caps) = IsServable port links count idle caps
+IsLawfulLive (Serve transport port links count idle caps) = IsServable port links count idle caps
 
 abbrev pub IsLawful : Command → Type 0
 IsLawful (Plain command) = IsLawfulPlain command

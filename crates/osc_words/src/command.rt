@@ -61,6 +61,15 @@ pub enum PlainCommand {
     Gen { seed: u64, lines: u32 },
 }
 
+/// What carries the packets of a link.
+#[derive(Clone, Copy, Debug, PartialEq, Eq)]
+pub enum Transport {
+    /// Datagrams, a packet each.
+    Udp,
+    /// A stream, on which each packet follows its size.
+    Tcp,
+}
+
 /// A command of `oscd`.
 #[derive(Clone, Copy, Debug, PartialEq, Eq)]
 pub enum LiveCommand {
@@ -68,9 +77,10 @@ pub enum LiveCommand {
     Lanes {
         caps: Capacities,
     },
-    /// To serve so many links, whose ports ascend by one from the first, each up to `count` datagrams or `idle` quiets
-    /// in a row.
+    /// To serve so many links, whose ports ascend by one from the first, each up to `count` packets or `idle` quiets in
+    /// a row.
     Serve {
+        transport: Transport,
         port: u16,
         links: u32,
         count: u32,

@@ -10,6 +10,7 @@ use std::alloc::Global;
 #[derive(Clone, Copy, Debug, PartialEq, Eq)]
 pub(crate) enum Flag {
     Bytes,
+    Tcp,
 }
 
 /// An option that takes a number.
@@ -53,6 +54,7 @@ impl Flag {
     {
         match self {
             Flag::Bytes => "bytes",
+            Flag::Tcp => "tcp",
         }
     }
 }

@@ -6,7 +6,7 @@ ghost use Rattle.osc_words.specs.Commands as commands;
 ghost use Rattle.osc_words.specs.Commands.{caps_of, gen_of, is_given, number_of, said_by, serve_of};
 ghost use Rattle.osc_words.specs.Ranges.{AreInRange, IsLawful, IsLawfulPlain, IsLawfulLive};
 
-use crate::command::{Capacities, Command, LiveCommand, Output, PlainCommand, Reading};
+use crate::command::{Capacities, Command, LiveCommand, Output, PlainCommand, Reading, Transport};
 use crate::number::number_within;
 use crate::options::{Flag, Quantity};
 use crate::reading::read;
@@ -139,12 +139,23 @@ fn serve_in(found: &ArgMatches<'_>) -> Option<Command>
         return None;
     }
     Some(Command::Live(LiveCommand::Serve {
+        transport: transport_in(found),
         port: port as u16,
         links: links as u32,
         count: count as u32,
         idle: idle as u32,
         caps,
     }))
+}
+
+fn transport_in(found: &ArgMatches<'_>) -> Transport
+    ensures { result ≡ commands.transport_of (rows_of (found_of found.now)) }
+{
+    if flag(found, Flag::Tcp) {
+        Transport::Tcp
+    } else {
+        Transport::Udp
+    }
 }
 
 fn flag(found: &ArgMatches<'_>, flag: Flag) -> bool

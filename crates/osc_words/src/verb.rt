@@ -40,7 +40,8 @@ static LANES: [Parameter; 7] = [
     Parameter::File,
 ];
 
-static SERVE: [Parameter; 11] = [
+static SERVE: [Parameter; 12] = [
+    Parameter::Flag(Flag::Tcp),
     Parameter::Number(Quantity::Port),
     Parameter::Number(Quantity::Links),
     Parameter::Number(Quantity::Count),
