@@ -116,7 +116,8 @@ first_step old piece mid first held is made =
           let same : first_word mid ≡ first_word old = ap first_word made ∙ word_stays old (take first piece) long in
           let wants : wanted old ≡ cond (is_length (first_word old)) (4 + first_word old - length old) 0 =
           cond-false (ltb (length old) 4) _ _ (le-ltb (length old) 4 long) in
-          let is2 : first ≡ min (cond (is_length (first_word old)) (4 + first_word old - length old) 0) (length piece) = is ∙ ap (λ n. min n (length piece)) wants in
+          let is2 : first ≡ min (cond (is_length (first_word old)) (4 + first_word old - length old) 0) (length piece) = is
+          ∙ ap (λ n. min n (length piece)) wants in
           inr (subst (λ w. Fits (is_length w) (length mid) w) (sym same) (still_fits (is_length (first_word old)) (length old) (length mid) (first_word old)
           first (length piece) fits size is2))
     ]

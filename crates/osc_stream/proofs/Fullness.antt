@@ -10,7 +10,8 @@ not_full : (first stream : StreamView) → (2 ^ 63 ≤ taken first → stream �
 not_full first stream same less full = omega (arith, full, ap taken (same full), ltb-true (taken stream) (2 ^ 63) less)
 
 -- while bytes can be taken the stream wasn't full at first
-pub full_same : (first stream new : StreamView) → (2 ^ 63 ≤ taken first → stream ≡ first) → nat_lt (taken stream) (2 ^ 63) ≡ true → 2 ^ 63 ≤ taken first → new ≡ first
+pub full_same : (first stream new : StreamView) → (2 ^ 63 ≤ taken first → stream ≡ first) → nat_lt (taken stream) (2 ^ 63) ≡ true → 2 ^ 63 ≤ taken first
+    → new ≡ first
 full_same first stream new same less full = absurd (not_full first stream same less full)
 
 pub full_state : (first stream : StreamView) (found : StreamState) → (2 ^ 63 ≤ taken first → stream ≡ first) → nat_lt (taken stream) (2 ^ 63) ≡ true

@@ -5,3 +5,4 @@ mod ReadLaws
 mod RunLaws
 mod Written
 mod Fullness
+mod Counted

@@ -1,5 +1,6 @@
 -- What one read more makes of the frames that are left.
-use Rattle.std.proofs.Common.{◌≡◌, ℕ, ◌+◌, ◌-◌, ◌^◌, ◌≤◌, ◌<◌, Bool, true, false, ltb, leb, List, [], ◌++◌, length, take, drop, Option, Some, None, refl, sym, ap}
+use Rattle.std.proofs.Common.{◌≡◌, ℕ, ◌+◌, ◌-◌, ◌^◌, ◌≤◌, ◌<◌, Bool, true, false, ltb, leb, List, [], ◌++◌, length, take, drop, Option, Some, None, refl, sym}
+use Rattle.std.proofs.Common.{ap}
 use Rattle.std.proofs.Common.{◌∙◌, subst, arith, append_assoc, length-append, length-take, length-drop, inl, inr}
 use Rattle.std.proofs.lemmas.Bool.{ltb-true, ltb-false, lt-ltb, le-ltb, leb-true, and_parts, cond-true, cond-false, cases_lt}
 use Rattle.std.proofs.lemmas.List.{take_all, take-append-drop}
@@ -79,7 +80,8 @@ joined held left piece count is = ap (λ (l : List ℕ). held ++ l) (sym (take-a
     ∙ ap (λ (p : List ℕ). held ++ (p ++ drop count left)) (sym is) ∙ sym (append_assoc held piece (drop count left))
 
 -- a relation of frames by lists is one by what is told
-by_told : (f : Framing → Framing) (old new : StreamView) (before after : Option (List ℕ)) (count : ℕ) (into : List ℕ) → TakesFront before after (Bytes count) into
+by_told : (f : Framing → Framing) (old new : StreamView) (before after : Option (List ℕ)) (count : ℕ) (into : List ℕ)
+    → TakesFront before after (Bytes count) into
     → ((left : List ℕ) → take count into ≡ take count left → frames old.place (old.held ++ left) ≡ f (frames new.place (new.held ++ drop count left)))
     → frames_left old before ≡ option_map f (frames_left new after)
 by_told f old new None after count into takes same = ap (λ a. option_map f (frames_left new a)) (sym takes)

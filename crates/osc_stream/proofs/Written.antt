@@ -7,8 +7,8 @@ use Rattle.std.specs.Prelude.{IsTrue, ◌==◌, ◌%◌}
 use Rattle.std.specs.Int.{w32, from_be_bytes}
 use Rattle.osc_atoms.specs.Atoms.{word}
 use Rattle.osc_stream.specs.declared.front.Front.TheVariants.{Whole}
-use Rattle.osc_stream.specs.Frames.{frame, front, frames, first_word, is_length, with_packet}
-use Rattle.osc_stream.specs.Written.{written, are_lawful, with_packets}
+use Rattle.osc_stream.specs.Frames.{frame, front, frames, first_word, is_length, with_packet, with_packets}
+use Rattle.osc_stream.specs.Written.{written, are_lawful}
 use Rattle.osc_stream.proofs.FrameLaws.{frames_whole}
 
 whole_from : (bytes : List ℕ) (size : ℕ) → first_word bytes ≡ size → is_length size ≡ true → 4 + size ≤ length bytes → front bytes ≡ Whole size

@@ -1,6 +1,6 @@
 -- What a stream knows, and what taking bytes comes to.
-use Rattle.std.specs.Prelude.{◌≡◌, ℕ, ◌+◌, ◌≤◌, Bool, nat_le, ◌==◌, true, false, List, [], ◌++◌, length, take, drop}
-use Rattle.std.specs.Prelude.{Option, Some, None}
+use Rattle.std.specs.Prelude.{◌≡◌, ℕ, ◌+◌, ◌≤◌, Bool, nat_le, ◌==◌, true, false, List, [], ◌++◌}
+use Rattle.std.specs.Prelude.{length, take, drop, Option, Some, None}
 use Rattle.osc_stream.specs.declared.fed.Fed.{Fed}
 use Rattle.osc_stream.specs.declared.fed.Fed.TheVariants.{More, Ready, Broken}
 use Rattle.osc_stream.specs.declared.front.Front.{Front}
@@ -54,8 +54,8 @@ pub record HasFilled (front_found : Front) (count : ℕ) (piece old new : List �
   pub found : front_found ≡ front new
   pub size : has_filled front_found count (length piece) (length new)
 
--- What taking so many bytes of a piece comes to. What was held and what was taken, together, are what
--- is held now, or one size and its packet.
+-- What taking so many bytes of a piece comes to. What was held and what was taken, together, are
+-- what is held now, or one size and its packet.
 abbrev pub IsFed : Fed → ℕ → List ℕ → StreamView → StreamView → Type 0
 IsFed More count piece old new =
     (count ≡ length piece) × (front (old.held ++ piece) ≡ Short)

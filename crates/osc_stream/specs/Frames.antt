@@ -55,6 +55,11 @@ abbrev pub with_packet : List ℕ → Framing → Framing
 with_packet packet framing =
     record { packets = packet ∷ framing.packets; ending = framing.ending }
 
+-- packets more, before the others
+abbrev pub with_packets : List (List ℕ) → Framing → Framing
+with_packets [] others = others
+with_packets (packet ∷ packets) others = with_packet packet (with_packets packets others)
+
 -- the end at a place from which less than a frame is left
 abbrev pub rest_ending : ℕ → List ℕ → Ending
 rest_ending at [] = Clean

@@ -1,6 +1,6 @@
 -- What a link over a stream has left to give, and what its calls do.
-use Rattle.std.specs.Prelude.{◌≡◌, ℕ, ◌+◌, ◌^◌, ◌<◌, ◌≤◌, Bool, true, false, nat_lt, IsTrue, List, [], ◌∷◌, ◌++◌, length, take, map}
-use Rattle.std.specs.Prelude.{Option, Some, None, option_map}
+use Rattle.std.specs.Prelude.{◌≡◌, ℕ, ◌+◌, ◌^◌, ◌<◌, ◌≤◌, Bool, true, false, nat_lt, IsTrue, List}
+use Rattle.std.specs.Prelude.{[], ◌∷◌, ◌++◌, length, take, map, Option, Some, None, option_map}
 use Rattle.osc_edge.specs.declared.link.Datagram.{Datagram}
 use Rattle.osc_edge.specs.declared.link.Datagram.TheVariants.{Got, Quiet, End, Failed}
 use Rattle.osc_edge.specs.Faults.{Rose}
@@ -9,7 +9,8 @@ use Rattle.osc_stream.specs.declared.fed.Fed.TheVariants.{More, Ready, Broken as
 use Rattle.osc_stream.specs.declared.front.Front.{Front}
 use Rattle.osc_stream.specs.declared.front.Front.TheVariants.{Short, Whole, Bad}
 use Rattle.osc_stream.specs.declared.state.StreamState.{StreamState}
-use Rattle.osc_stream.specs.declared.state.StreamState.TheVariants.{Going, Clean, Cut, Broken, SourceFailed}
+use Rattle.osc_stream.specs.declared.state.StreamState.TheVariants.{Going, Clean, Cut, Broken}
+use Rattle.osc_stream.specs.declared.state.StreamState.TheVariants.{SourceFailed}
 use Rattle.osc_stream.specs.Frames.{Framing, ends, with_packet, front, frames}
 use Rattle.osc_stream.specs.Frames.{Clean as CleanEnd, Cut as CutEnd, Broken as BrokenEnd}
 use Rattle.osc_stream.specs.Feeding.{StreamView, taken}
@@ -59,9 +60,10 @@ is_sound (Cut at) held = true
 is_sound (Broken at size) held = true
 is_sound SourceFailed held = is_short (front held)
 
--- What reading to the end of a frame finds, by the frames left before and after: a packet is in hand,
--- or the source failed and all frames are left, or they end.
-abbrev pub HasFound : StreamState → StreamView → StreamView → Option (List ℕ) → Option (List ℕ) → Type 0
+-- What reading to the end of a frame finds, by the frames left before and after: a packet is in
+-- hand, or the source failed and all frames are left, or they end.
+abbrev pub HasFound : StreamState → StreamView → StreamView → Option (List ℕ) → Option (List ℕ)
+    → Type 0
 HasFound Going old new before after = (packet : List ℕ) × (new.packet ≡ Some packet)
     × (length packet ≤ 65504)
     × (frames_left old before ≡ option_map (with_packet packet) (frames_left new after))
@@ -102,7 +104,8 @@ IsSourceCause (Broken at size) new before now = now ≡ before
 IsSourceCause SourceFailed new before now = HasSourceCause new before now
 
 -- what one read comes to: more of the frame, or what was found
-abbrev pub HasRead : Option StreamState → StreamView → StreamView → Option (List ℕ) → Option (List ℕ) → Type 0
+abbrev pub HasRead : Option StreamState → StreamView → StreamView → Option (List ℕ)
+    → Option (List ℕ) → Type 0
 HasRead None old new before after = (frames_left old before ≡ frames_left new after)
     × (front new.held ≡ Short) × (length old.held < length new.held)
 HasRead (Some found) old new before after =
@@ -120,8 +123,8 @@ own_faults (Cut at) = 1
 own_faults (Broken at size) = 1
 own_faults SourceFailed = 0
 
--- The frames left before and after a call, where the source tells: a packet is the first of them, and
--- any other answer leaves all, of which a link that has ended has only the end.
+-- The frames left before and after a call, where the source tells: a packet is the first of them,
+-- and any other answer leaves all, of which a link that has ended has only the end.
 abbrev pub TakesFrame : Option Framing → Option Framing → Datagram → List ℕ → Type 0
 TakesFrame before after (Got count) into =
     before ≡ option_map (with_packet (take count into)) after

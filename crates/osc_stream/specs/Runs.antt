@@ -2,11 +2,10 @@
 use Rattle.std.specs.Prelude.{◌≡◌, ℕ, List, [], ◌∷◌, ◌++◌, take, Option, Some, None}
 use Rattle.osc_stream.specs.declared.fed.Fed.{Fed}
 use Rattle.osc_stream.specs.declared.fed.Fed.TheVariants.{More, Ready, Broken}
-use Rattle.osc_stream.specs.Frames.{Framing, with_packet}
 use Rattle.osc_stream.specs.Feeding.{StreamView, IsFed}
 
 -- a call that takes bytes: the piece, how many bytes of it were taken, the answer, and what the
--- stream knows then
+-- stream knows then; bytes that weren't taken may come again in the next piece
 pub record Feed : Type 0 where
   pub piece : List ℕ
   pub count : ℕ
@@ -24,14 +23,15 @@ abbrev pub bytes_taken : List Feed → List ℕ
 bytes_taken [] = []
 bytes_taken (feed ∷ feeds) = take feed.count feed.piece ++ bytes_taken feeds
 
--- the packet in hand, where the answer was `Ready`, before the others
-abbrev pub with_ready : Fed → Option (List ℕ) → Framing → Framing
-with_ready More packet others = others
-with_ready Ready None others = others
-with_ready Ready (Some packet) others = with_packet packet others
-with_ready (Broken at size) packet others = others
+-- the packet in hand, where the answer was `Ready`
+abbrev pub ready_packets : Fed → Option (List ℕ) → List (List ℕ)
+ready_packets More packet = []
+ready_packets Ready None = []
+ready_packets Ready (Some packet) = packet ∷ []
+ready_packets (Broken at size) packet = []
 
--- the packets that they answered, before the others
-abbrev pub with_run : List Feed → Framing → Framing
-with_run [] others = others
-with_run (feed ∷ feeds) others = with_ready feed.fed feed.next.packet (with_run feeds others)
+-- the packets that they answered, in a row
+abbrev pub packets_answered : List Feed → List (List ℕ)
+packets_answered [] = []
+packets_answered (feed ∷ feeds) =
+    ready_packets feed.fed feed.next.packet ++ packets_answered feeds

@@ -1,16 +1,18 @@
 //! Laws of the definitions that the contracts cite. A call takes no time and gives nothing: its clauses are the law.
 ghost use Rattle.std.specs.Prelude.{◌≡◌, ℕ, List, [], ◌∷◌, ◌++◌, length, IsTrue};
-ghost use Rattle.osc_stream.specs.Frames.{Frames, frames, Broken, Cut, Clean};
+ghost use Rattle.osc_stream.specs.Frames.{Frames, frames, with_packets, Broken, Cut, Clean};
 ghost use Rattle.osc_stream.specs.Feeding.{StreamView, at_start};
-ghost use Rattle.osc_stream.specs.Runs.{Feed, IsRun, bytes_taken, with_run};
-ghost use Rattle.osc_stream.specs.Written.{written, are_lawful, with_packets};
+ghost use Rattle.osc_stream.specs.Runs.{Feed, IsRun, bytes_taken, packets_answered};
+ghost use Rattle.osc_stream.specs.Written.{written, are_lawful};
 
-/// However bytes are cut into pieces, the packets that a stream answers are those of the bytes' frames, and what is left
-/// of the frames is what is held and what comes.
+/// However bytes are cut into pieces, a stream answers exactly the packets of the bytes' frames. Whatever comes then,
+/// the frames go on with what is held and what comes.
 pub fn any_pieces()
-    ensures { (feeds : List Feed) (stream : StreamView) (more : List ℕ) → IsRun at_start feeds stream
-        → Frames (bytes_taken feeds ++ more)
-        ≡ with_run feeds (frames stream.place (stream.held ++ more)) }
+    ensures packets { (feeds : List Feed) (stream : StreamView) → IsRun at_start feeds stream
+        → packets_answered feeds ≡ (Frames (bytes_taken feeds)).packets }
+    ensures frames { (feeds : List Feed) (stream : StreamView) (more : List ℕ)
+        → IsRun at_start feeds stream → Frames (bytes_taken feeds ++ more)
+        ≡ with_packets (packets_answered feeds) (frames stream.place (stream.held ++ more)) }
 {}
 
 /// Packets that are written one behind the other, each after its size, are the first packets of the frames.
@@ -32,8 +34,11 @@ pub fn some_frames()
         } }
     ensures broken { Frames (0 ∷ 0 ∷ 0 ∷ 4 ∷ 47 ∷ 97 ∷ 0 ∷ 0 ∷ 0 ∷ 0 ∷ 0 ∷ 3 ∷ [])
         ≡ record { packets = (47 ∷ 97 ∷ 0 ∷ 0 ∷ []) ∷ []; ending = Broken 8 3 } }
-    ensures great { Frames (0 ∷ 0 ∷ 255 ∷ 228 ∷ []) ≡ record { packets = []; ending = Broken 0 65508 } }
-    ensures greatest { Frames (0 ∷ 0 ∷ 255 ∷ 224 ∷ []) ≡ record { packets = []; ending = Cut 0 } }
-    ensures empty { Frames (0 ∷ 0 ∷ 0 ∷ 0 ∷ 0 ∷ []) ≡ record { packets = [] ∷ []; ending = Cut 4 } }
+    ensures great { Frames (0 ∷ 0 ∷ 255 ∷ 228 ∷ [])
+        ≡ record { packets = []; ending = Broken 0 65508 } }
+    ensures greatest { Frames (0 ∷ 0 ∷ 255 ∷ 224 ∷ [])
+        ≡ record { packets = []; ending = Cut 0 } }
+    ensures empty { Frames (0 ∷ 0 ∷ 0 ∷ 0 ∷ 0 ∷ [])
+        ≡ record { packets = [] ∷ []; ending = Cut 4 } }
     ensures nothing { Frames [] ≡ record { packets = []; ending = Clean } }
 {}

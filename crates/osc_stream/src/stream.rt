@@ -1,5 +1,6 @@
 // A stream of packets, which takes its bytes in any pieces.
-ghost use Rattle.std.specs.Prelude.{◌≡◌, ◌≤◌, ◌<◌, ◌^◌, length, IfOk, IsTrue, is_some, Some, nat_lt};
+ghost use Rattle.std.specs.Prelude.{◌≡◌, ◌≤◌, ◌<◌, ◌+◌, ◌^◌, length, IfOk, IsTrue, is_some};
+ghost use Rattle.std.specs.Prelude.{Some, nat_lt};
 ghost use Rattle.osc_stream.specs.Frames.{wanted};
 ghost use Rattle.osc_stream.specs.Feeding.{at_start, taken, IsFed};
 
@@ -47,10 +48,12 @@ impl Stream {
 
     /// Takes bytes from the front of `piece`, up to the end of a packet, and says how many. Where the size isn't one of
     /// a packet, just the word is held, and later calls take nothing and answer the same.
+    #[tactic(auto, using(crate::proofs::Counted::taken_counted))]
     pub fn take(&mut self, piece: &[u8]) -> (usize, Fed)
         requires { taken self.old < 2 ^ 63 }
         ensures within { result.0 ≤ length piece.now }
         ensures fed { IsFed result.1 result.0 piece.now self.old self.new }
+        ensures counted { taken self.new ≡ taken self.old + result.0 }
     {
         if self.ready {
             self.bytes.clear();

@@ -25,8 +25,8 @@ impl<S: Source + Drop> StreamLink<S> {
     ghost use Rattle.osc_stream.specs.Frames.{Frames};
     ghost use Rattle.osc_stream.specs.Links.{turns_of};
 
-    /// A link over the source, which is yet to be read. The `Err` means that there is no memory for a size and a packet.
-    /// A source that tells has fewer than 2^63 bytes left.
+    /// A link over the source, which is yet to be read. The `Err` means that there is no memory for a size and a
+    /// packet. A source that tells has fewer than 2^63 bytes left.
     pub fn open(alloc: Global, source: S) -> Result<StreamLink<S>, AllocError>
         requires { IsTrue (is_below at_start (S.left source)) }
         ensures source { IfOk result (λ link. link.source ≡ source) }
@@ -34,7 +34,8 @@ impl<S: Source + Drop> StreamLink<S> {
         ensures stream { IfOk result (λ link. link.stream ≡ at_start) }
         ensures left { IfOk result (λ link. ⟦<StreamLink<S> as Link>⟧.left link
             ≡ option_map (λ bytes. turns_of (Frames bytes)) (S.left source)) }
-        ensures faults { IfOk result (λ link. ⟦<StreamLink<S> as Link>⟧.faults link ≡ S.faults source) }
+        ensures faults { IfOk result
+            (λ link. ⟦<StreamLink<S> as Link>⟧.faults link ≡ S.faults source) }
     {
         Ok(StreamLink {
             stream: Stream::open(alloc)?,
