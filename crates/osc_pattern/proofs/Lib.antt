@@ -1,4 +1,5 @@
 mod Sets
+pub mod Below
 pub mod Cutting
 mod Readings
 mod Openings

@@ -1,11 +1,10 @@
 -- Sets of places as bits: two joined, one moved on by a byte, and the places that a choice or a run of stars reaches.
-use Rattle.std.proofs.Common.{◌≡◌, ℕ, zero, suc, ◌+◌, ◌-◌, ◌*◌, ◌/◌, ◌%◌, ◌^◌, ◌<◌, ◌≤◌, max, min, Bool, true, false, ◌||◌, ◌&&◌, ◌==◌, nat_lt, Some, List, [], ◌∷◌, ◌++◌}
-use Rattle.std.proofs.Common.{length, take, drop, refl, arith, sym, ap, subst, ◌∙◌, w64}
+use Rattle.std.proofs.Common.{◌≡◌, ℕ, zero, suc, ◌+◌, ◌-◌, ◌*◌, ◌/◌, ◌%◌, ◌^◌, ◌<◌, ◌≤◌, max, min, Bool, true, false, ◌||◌, ◌&&◌, ◌==◌, nat_lt, List, [], ◌∷◌}
+use Rattle.std.proofs.Common.{length, take, drop, refl, arith, sym, ap, subst, ◌∙◌}
 use Rattle.std.specs.Prelude.{if◌then◌else◌, set, replicate}
 use Rattle.std.specs.Int.{bit_at}
 use Rattle.std.specs.Int.RustNames.{bit_or, bit_and}
 use Rattle.std.specs.List.{list_any, flat_map}
-use Rattle.std.specs.Str.{bytes_eq}
 use Rattle.std.proofs.Math.ListN.{get_or}
 use Rattle.std.proofs.lemmas.List.{get_or-set_same, get_or-set_other, get_or-replicate, take_rest}
 use Rattle.std.proofs.lemmas.List.Folds.{list_any-append}
@@ -13,11 +12,10 @@ use Rattle.std.proofs.lemmas.Nat.Bits.{bit_at_or, bit_at_and, bit_at-suc, bit_at
 use Rattle.std.proofs.lemmas.Bool.{and_parts}
 use Rattle.std.proofs.lemmas.Bool.Decides.{nat_tests}
 use Rattle.osc_pattern.specs.Items.{Item, star, plain, choice, is_comma, is_choice_end}
-use Rattle.osc_pattern.specs.Cuts.{rests, after_byte, after_text, any_rest}
-use Rattle.osc_pattern.specs.Reading.{first_item, match_part}
-use Rattle.osc_pattern.specs.Views.{begins_twice, begins_empty}
+use Rattle.osc_pattern.specs.Cuts.{rests, has_byte, after_byte, after_text, any_rest}
+use Rattle.osc_pattern.specs.Reading.{match_part}
+use Rattle.osc_pattern.specs.Views.{idle_bytes, begins_empty}
 use Rattle.std.specs.Prelude.{option_map}
-use Rattle.std.specs.List.{slice_split}
 use Rattle.std.proofs.lemmas.List.Splits.{slice_split_none}
 use Rattle.osc_pattern.proofs.Cutting.{cut_at-first}
 use Rattle.osc_pattern.proofs.Matches.{match_part-item}
@@ -242,25 +240,27 @@ one_byte true true test name = sym (or_false (test name))
 one_byte true false test name = refl
 one_byte false t test name = refl
 
-moved : (test : List ℕ → Bool) (old new : ℕ → Bool) (own at : ℕ) (name : List ℕ)
-    → ((k : ℕ) → k < length name → new (at + k + 1) ≡ (old (at + k) && get_or name k 0 == own))
-    → any_rest test new at name ≡ ((new at && test name) || any_rest (λ rest. list_any test (after_byte (plain own) rest)) old at name)
-moved test old new own at [] h = rw (and_false (old at)) (sym (or_false (new at && test [])))
-moved test old new own at (byte ∷ name) h =
+moved : (item : Item) (test : List ℕ → Bool) (old new : ℕ → Bool) (at : ℕ) (name : List ℕ)
+    → ((k : ℕ) → k < length name → new (at + k + 1) ≡ (old (at + k) && has_byte item (get_or name k 0)))
+    → any_rest test new at name ≡ ((new at && test name) || any_rest (λ rest. list_any test (after_byte item rest)) old at name)
+moved item test old new at [] h = rw (and_false (old at)) (sym (or_false (new at && test [])))
+moved item test old new at (byte ∷ name) h =
     let none : at + 0 ≡ at = omega arith in
-    let first : new (at + 1) ≡ (old at && byte == own) = subst (λ n. new (n + 1) ≡ (old n && byte == own)) none (h 0 (omega arith)) in
-    let others : (k : ℕ) → k < length name → new (at + 1 + k + 1) ≡ (old (at + 1 + k) && get_or name k 0 == own) =
-    λ k below. (let e : at + suc k ≡ at + 1 + k = omega arith in subst (λ n. new (n + 1) ≡ (old n && get_or name k 0 == own)) e (h (suc k) (omega arith))) in
+    let first : new (at + 1) ≡ (old at && has_byte item byte) = subst (λ n. new (n + 1) ≡ (old n && has_byte item byte)) none (h 0 (omega arith)) in
+    let others : (k : ℕ) → k < length name → new (at + 1 + k + 1) ≡ (old (at + 1 + k) && has_byte item (get_or name k 0)) =
+    λ k below. (let e : at + suc k ≡ at + 1 + k = omega arith in subst (λ n. new (n + 1) ≡ (old n && has_byte item (get_or name k 0))) e (h (suc k) (omega arith))) in
     ap (λ r. (new at && test (byte ∷ name)) || r)
-    (moved test old new own (at + 1) name others
-    ∙ ap (λ t. t || any_rest (λ rest. list_any test (after_byte (plain own) rest)) old (at + 1) name) (ap (λ n. n && test name) first ∙ one_byte (old at) (byte == own) test name))
+    (moved item test old new (at + 1) name others
+    ∙ ap (λ t. t || any_rest (λ rest. list_any test (after_byte item rest)) old (at + 1) name)
+    (ap (λ n. n && test name) first ∙ one_byte (old at) (has_byte item byte) test name))
 
--- the places right behind a byte
-pub any_rest-behind : (test : List ℕ → Bool) (old new : ℕ → Bool) (own : ℕ) (name : List ℕ) → new 0 ≡ false
-    → ((k : ℕ) → k < length name → new (k + 1) ≡ (old k && get_or name k 0 == own))
-    → any_rest test new 0 name ≡ any_rest (λ rest. list_any test (after_byte (plain own) rest)) old 0 name
-any_rest-behind test old new own name none h =
-    moved test old new own 0 name (λ k below. (let e : k ≡ 0 + k = omega arith in subst (λ n. new (n + 1) ≡ (old n && get_or name k 0 == own)) e (h k below)))
+-- the places right behind a byte that is a text of the item
+pub any_rest-behind : (item : Item) (test : List ℕ → Bool) (old new : ℕ → Bool) (name : List ℕ) → new 0 ≡ false
+    → ((k : ℕ) → k < length name → new (k + 1) ≡ (old k && has_byte item (get_or name k 0)))
+    → any_rest test new 0 name ≡ any_rest (λ rest. list_any test (after_byte item rest)) old 0 name
+any_rest-behind item test old new name none h =
+    moved item test old new 0 name
+    (λ k below. (let e : k ≡ 0 + k = omega arith in subst (λ n. new (n + 1) ≡ (old n && has_byte item (get_or name k 0))) e (h k below)))
     ∙ rw none refl
 
 -- a text: its first byte, and then the others
@@ -295,7 +295,7 @@ choice_end test places name n n' a d whole e cut so_far =
 
 -- ---- stars
 
-same_any : (f g : List ℕ → Bool) → ((x : List ℕ) → f x ≡ g x) → (xs : List (List ℕ)) → list_any f xs ≡ list_any g xs
+pub same_any : (f g : List ℕ → Bool) → ((x : List ℕ) → f x ≡ g x) → (xs : List (List ℕ)) → list_any f xs ≡ list_any g xs
 same_any f g same [] = refl
 same_any f g same (x ∷ xs) = rw (same x, same_any f g same xs) refl
 
@@ -310,15 +310,6 @@ star_again more name =
     ∙ sym (rests_again (match_part more) name)
     ∙ sym (same_any (match_part (42 ∷ more)) (λ left. list_any (match_part more) (rests left)) (λ left. match_part-item (42 ∷ more) star more left refl) (rests name))
     ∙ sym (match_part-item (42 ∷ 42 ∷ more) star (42 ∷ more) name refl)
-
-pub star_twice : (part name : List ℕ) → begins_twice part ≡ true → match_part (take (length part - 1) (drop 1 part)) name ≡ match_part part name
-star_twice [] name e = cc
-star_twice (a ∷ []) name e = cc
-star_twice (a ∷ b ∷ more) name e =
-    let both = and_parts (a == 42) (b == 42) e in
-    let first : a ≡ 42 = grind (arith, nat_tests, both.0) in
-    let second : b ≡ 42 = grind (arith, nat_tests, both.1) in
-    ap (λ xs. match_part xs name) (take_rest (a ∷ b ∷ more) 1) ∙ rw (first, second) (star_again more name)
 
 pub rows_less : (places some more : ℕ) → some ≤ more → places * some ≤ places * more
 rows_less places some more h =
@@ -340,3 +331,42 @@ empty_twice (a ∷ b ∷ more) name e =
     let first : a ≡ 123 = grind (arith, nat_tests, both.0) in
     let second : b ≡ 125 = grind (arith, nat_tests, both.1) in
     ap (λ xs. match_part xs name) (take_rest (a ∷ b ∷ more) 2) ∙ rw (first, second) (empty_choice more name)
+
+-- behind a star, a choice of nothing but the empty text adds nothing
+star_empty : (more name : List ℕ) → match_part (42 ∷ more) name ≡ match_part (42 ∷ 123 ∷ 125 ∷ more) name
+star_empty more name =
+    match_part-item (42 ∷ more) star more name refl
+    ∙ same_any (match_part more) (match_part (123 ∷ 125 ∷ more)) (empty_choice more) (rests name)
+    ∙ sym (match_part-item (42 ∷ 123 ∷ 125 ∷ more) star (123 ∷ 125 ∷ more) name refl)
+
+-- behind a star, stars and empty choices add nothing
+pub star_idle : (part name : List ℕ) → match_part (42 ∷ drop (idle_bytes part) part) name ≡ match_part (42 ∷ part) name
+star_idle [] name = refl
+star_idle (a ∷ []) name = go (a == 42) refl where
+  go : (t : Bool) → (a == 42) ≡ t → match_part (42 ∷ drop (if t then 1 else 0) (a ∷ [])) name ≡ match_part (42 ∷ a ∷ []) name
+  go true e = (let first : a ≡ 42 = grind (arith, nat_tests) in rw first (star_again [] name))
+  go false e = refl
+star_idle (a ∷ b ∷ more) name = go (a == 42) refl where
+  other : (t : Bool) → (a == 123 && b == 125) ≡ t → match_part (42 ∷ drop (if t then 2 else 0) (a ∷ b ∷ more)) name ≡ match_part (42 ∷ a ∷ b ∷ more) name
+  other true e =
+      let both = and_parts (a == 123) (b == 125) e in
+      let first : a ≡ 123 = grind (arith, nat_tests, both.0) in
+      let second : b ≡ 125 = grind (arith, nat_tests, both.1) in
+      rw (first, second) (star_empty more name)
+  other false e = refl
+
+  go : (t : Bool) → (a == 42) ≡ t
+      → match_part (42 ∷ drop (if t then 1 else if a == 123 && b == 125 then 2 else 0) (a ∷ b ∷ more)) name ≡ match_part (42 ∷ a ∷ b ∷ more) name
+  go true e = (let first : a ≡ 42 = grind (arith, nat_tests) in rw first (star_again (b ∷ more) name))
+  go false e = other (a == 123 && b == 125) refl
+
+-- what follows an item, shortened
+pub star_behind : (short others name : List ℕ) → match_part (42 ∷ short) name ≡ match_part (42 ∷ others) name
+    → list_any (match_part short) (rests name) ≡ list_any (match_part others) (rests name)
+star_behind short others name same =
+    sym (match_part-item (42 ∷ short) star short name refl) ∙ same ∙ match_part-item (42 ∷ others) star others name refl
+
+pub idle_rest : (part : List ℕ) (idle : ℕ) (name : List ℕ) → idle ≡ idle_bytes part
+    → match_part (42 ∷ take (length part - idle) (drop idle part)) name ≡ match_part (42 ∷ part) name
+idle_rest part idle name e =
+    ap (λ xs. match_part (42 ∷ xs) name) (take_rest part idle) ∙ ap (λ n. match_part (42 ∷ drop n part) name) e ∙ star_idle part name

@@ -11,7 +11,7 @@ use Rattle.std.proofs.lemmas.List.Folds.{list_any-append}
 use native.Mathlib.Nat.{add-mul, mul-add}
 use Rattle.std.proofs.lemmas.Nat.Bits.{bit_at_set_same, bit_at_set_other}
 use Rattle.std.proofs.lemmas.Bool.Decides.{nat_tests}
-use Rattle.osc_pattern.specs.Items.{Item, star, item_text}
+use Rattle.osc_pattern.specs.Items.{Item, item_text}
 use Rattle.osc_pattern.specs.Cuts.{rests, has_byte, after_byte, after_text, after_item, any_rest}
 use Rattle.osc_pattern.specs.Reading.{first_item, match_part}
 use Rattle.osc_pattern.proofs.Readings.{FirstItem, first_item-found}

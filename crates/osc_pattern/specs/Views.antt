@@ -1,6 +1,6 @@
 -- Inside the crate: how the code's items stand for items, and its sets for places of a name.
 use Rattle.std.specs.Prelude.{◌≡◌, ℕ, ◌<◌, Bool, true, false, ◌==◌, ◌&&◌, List, [], ◌∷◌, length}
-use Rattle.std.specs.Prelude.{get_or}
+use Rattle.std.specs.Prelude.{get_or, ◌≤◌, nat_lt, if◌then◌else◌}
 use Rattle.std.specs.Int.{bit_at}
 use Rattle.osc_pattern.specs.declared.item.Item.{Item as Borrowed}
 use Rattle.osc_pattern.specs.declared.item.Item.TheVariants.{Any, Star, Set, Choice, Plain}
@@ -23,11 +23,12 @@ is_choice (Set list) = false
 is_choice (Choice texts) = true
 is_choice (Plain byte) = false
 
--- whether a part begins with two stars
-abbrev pub begins_twice : List ℕ → Bool
-begins_twice [] = false
-begins_twice (first ∷ []) = false
-begins_twice (first ∷ second ∷ rest) = first == 42 && second == 42
+-- how many bytes a star or an empty choice takes that a part begins with
+abbrev pub idle_bytes : List ℕ → ℕ
+idle_bytes [] = 0
+idle_bytes (first ∷ []) = if first == 42 then 1 else 0
+idle_bytes (first ∷ second ∷ rest) =
+    if first == 42 then 1 else if first == 123 && second == 125 then 2 else 0
 
 -- whether a part begins with a choice of nothing but the empty text
 abbrev pub begins_empty : List ℕ → Bool
@@ -47,3 +48,8 @@ passes test places name = any_rest test (is_place_of places) 0 name
 abbrev pub AreMarks : List ℕ → List ℕ → Type 0
 AreMarks marks name = (byte place : ℕ) → byte < 256 → place < length name
     → (bit_at (get_or marks byte 0) place == 1) ≡ (get_or name place 0 == byte)
+
+-- for each bound, the places that stand right before a byte below it are marked
+abbrev pub AreBelow : List ℕ → List ℕ → Type 0
+AreBelow below name = (bound place : ℕ) → bound ≤ 256 → place < length name
+    → (bit_at (get_or below bound 0) place == 1) ≡ nat_lt (get_or name place 0) bound

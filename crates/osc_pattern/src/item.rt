@@ -68,7 +68,7 @@ fn stands_for<L: Ledger>(list: &[u8], byte: u8, steps: &mut Steps<L>) -> bool
 }
 
 /// The ends of the first range of a list, and what follows it. A byte that begins no range is both ends.
-fn first_range(list: &[u8]) -> Option<((u8, u8), &[u8])>
+pub(crate) fn first_range(list: &[u8]) -> Option<((u8, u8), &[u8])>
     ensures { option_map (λ found. (found.0, found.1.now)) result ≡ first_range list.now }
 {
     match list {

@@ -12,6 +12,7 @@ mod marks;
 mod matcher;
 mod pattern;
 mod places;
+mod ranges;
 mod steps;
 
 pub use address::Address;

@@ -1,18 +1,19 @@
 //! The matcher: one item of a part after another, and the places of the name that they reach.
 ghost use Rattle.osc_pattern.specs.declared.limits.TheConstants.{MAX_NAME};
-ghost use Rattle.std.specs.Prelude.{◌≡◌, ◌≤◌, ◌<◌, ◌+◌, ◌*◌, ℕ, Bool, false, List, length};
+ghost use Rattle.std.specs.Prelude.{◌≡◌, ◌≤◌, ◌<◌, ◌+◌, ◌*◌, ℕ, Bool, false, List, ◌∷◌, length};
 ghost use Rattle.std.specs.Prelude.{IsTrue};
 ghost use Rattle.std.specs.List.{flat_map, list_any, slice_split};
-ghost use Rattle.osc_pattern.specs.Items.{is_comma, item_text};
+ghost use Rattle.osc_pattern.specs.Items.{is_comma, item_text, set};
 ghost use Rattle.osc_pattern.specs.Cuts.{rests, after_text, after_byte, after_item};
 ghost use Rattle.osc_pattern.specs.Reading.{match_part};
-ghost use Rattle.osc_pattern.specs.Views.{item_of, passes, is_choice, begins_twice, begins_empty};
+ghost use Rattle.osc_pattern.specs.Views.{item_of, passes, is_choice, idle_bytes, begins_empty};
 ghost use Rattle.osc_pattern.specs.Views.{AreMarks};
 
 use crate::cut::first_piece;
 use crate::item::{Item, first_item, has_byte};
-use crate::marks::marks_of;
+use crate::marks::{below_of, marks_of};
 use crate::places::Places;
+use crate::ranges::places_in_set;
 use crate::steps::Steps;
 use std::sync::ledger::Ledger;
 
@@ -57,7 +58,7 @@ fn match_places<L: Ledger>(part: &[u8], name: &[u8], steps: &mut Steps<L>) -> bo
     ensures bounded { steps.new ≤ steps.old + (length name.now + 1) * length part.now }
 {
     let mut reached = first_place();
-    let mut part = last_star(part);
+    let mut part = part;
     while let Some((item, others)) = first_item(part) {
         if reached.is_empty() {
             return false;
@@ -66,7 +67,7 @@ fn match_places<L: Ledger>(part: &[u8], name: &[u8], steps: &mut Steps<L>) -> bo
             return match_choices(part, &reached, name, steps);
         }
         reached = places_after(item, &reached, name, steps);
-        part = last_star(without_empty(others));
+        part = behind(item, others);
     }
     part.is_empty() && reached.has(name.len())
 }
@@ -87,7 +88,7 @@ fn match_choices<L: Ledger>(part: &[u8], from: &Places, name: &[u8], steps: &mut
             return false;
         }
         reached = places_after_any(item, &reached, &marks, name, steps);
-        part = last_star(without_empty(others));
+        part = behind(item, others);
     }
     part.is_empty() && reached.has(name.len())
 }
@@ -101,26 +102,44 @@ fn first_place() -> Places
     first
 }
 
-/// The part from the last of the stars on that it begins with. The others add nothing.
-fn last_star(part: &[u8]) -> &[u8]
-    ensures same { (name : List ℕ) → match_part result.now name ≡ match_part part.now name }
+/// What follows an item, without what adds nothing there.
+fn behind<'a>(item: Item<'_>, others: &'a [u8]) -> &'a [u8]
+    ensures same { (name : List ℕ)
+        → list_any (match_part result.now) (after_item (item_of item.entry) name)
+        ≡ list_any (match_part others.now) (after_item (item_of item.entry) name) }
+    ensures shorter { length result.now ≤ length others.now }
+{
+    match item {
+        Item::Star => without_idle(others),
+        Item::Any | Item::Set(_) | Item::Choice(_) | Item::Plain(_) => without_empty(others),
+    }
+}
+
+/// The part behind each star and each `{}` that it begins with. Behind a star they add nothing.
+fn without_idle(part: &[u8]) -> &[u8]
+    ensures same { (name : List ℕ) → match_part (42 ∷ result.now) name
+        ≡ match_part (42 ∷ part.now) name }
     ensures shorter { length result.now ≤ length part.now }
 {
     let mut rest = part;
-    while begins_twice(rest) {
-        rest = &rest[1..];
+    loop {
+        let idle = idle_bytes(rest);
+        if idle == 0 {
+            return rest;
+        }
+        rest = &rest[idle..];
     }
-    rest
 }
 
-/// Whether a part begins with two stars.
-fn begins_twice(part: &[u8]) -> bool
-    ensures value { result ≡ begins_twice part.now }
-    ensures long { IsTrue result → 2 ≤ length part.now }
+/// How many bytes a star or a `{}` takes that the part begins with.
+fn idle_bytes(part: &[u8]) -> usize
+    ensures value { result ≡ idle_bytes part.now }
+    ensures within { result ≤ length part.now }
 {
     match part {
-        [first, second, ..] => *first == b'*' && *second == b'*',
-        _ => false,
+        [b'*', ..] => 1,
+        [b'{', b'}', ..] => 2,
+        _ => 0,
     }
 }
 
@@ -200,8 +219,26 @@ fn places_after<L: Ledger>(
     match item {
         Item::Star => after_star(reached, name, steps),
         Item::Choice(_) => unreachable!(),
-        Item::Any | Item::Set(_) | Item::Plain(_) => after_byte(item, reached, name, steps),
+        Item::Set(list) => after_set(list, reached, name, steps),
+        Item::Any | Item::Plain(_) => after_byte(item, reached, name, steps),
     }
+}
+
+/// The places that stand one byte after one of these, where the set matches the byte. A long list is read once for all
+/// places.
+fn after_set<L: Ledger>(list: &[u8], reached: &Places, name: &[u8], steps: &mut Steps<L>) -> Places
+    requires { length name.now ≤ MAX_NAME }
+    ensures value { (test : List ℕ → Bool) → passes test result name.now
+        ≡ passes (λ rest. list_any test (after_byte (set list.now) rest)) reached.now name.now }
+    ensures counted { steps.old ≤ steps.new }
+    ensures bounded { steps.new
+        ≤ steps.old + (length name.now + 1) * length (item_text (set list.now)) }
+{
+    if list.len() <= 128 / (name.len() + 1) {
+        return after_byte(Item::Set(list), reached, name, steps);
+    }
+    let below = below_of(&marks_of(name));
+    reached.behind(places_in_set(list, &below, steps))
 }
 
 /// The places that stand one byte after one of these, where the byte is a text of the item.

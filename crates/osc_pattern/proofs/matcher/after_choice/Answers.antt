@@ -1,4 +1,4 @@
-use Rattle.std.proofs.Common.{◌≡◌, ◌+◌, ◌||◌, ℕ, Bool, List, [], ◌∷◌, length, sym, ap, ◌∙◌, arith, rules}
+use Rattle.std.proofs.Common.{◌≡◌, ◌+◌, ◌||◌, [], ◌∷◌, length, ap, ◌∙◌, arith, rules}
 use Rattle.std.specs.List.{list_any, flat_map, slice_split}
 use Rattle.osc_pattern.specs.Items.{is_comma}
 use Rattle.osc_pattern.specs.Cuts.{after_text}

@@ -1,4 +1,4 @@
-use Rattle.std.proofs.Common.{◌&&◌, ◌∷◌, ◌<◌, length, take, drop, ◌-◌, sym, ap, ◌∙◌, arith}
+use Rattle.std.proofs.Common.{◌&&◌, ◌<◌, length, take, drop, ◌-◌, sym, ap, ◌∙◌, arith}
 use Rattle.std.specs.List.{list_any}
 use Rattle.std.proofs.Math.ListN.{get_or}
 use Rattle.osc_pattern.specs.Items.{plain}
@@ -36,7 +36,7 @@ loop-text-preserved g c =
     let so_far = c.loop-text.invariant in
     let ticked = c.tick.ensures in (
       λ name test short marked.
-          any_rest-behind (λ rest. list_any test (after_text rest more)) old new byte name c.behind-places.ensures.first
+          any_rest-behind (plain byte) (λ rest. list_any test (after_text rest more)) old new name c.behind-places.ensures.first
           (λ k below. c.behind-places.ensures.others k (omega arith) ∙ ap (λ t. old k && t) (marked byte k small below))
           ∙ sym (any_rest-same (λ rest. list_any test (after_text rest text)) (λ rest. list_any (λ left. list_any test (after_text left more)) (after_byte (plain byte) rest))
           (λ rest. ap (λ t. list_any test (after_text rest t)) spelled ∙ text_byte test byte more rest) old 0 name)

@@ -1,5 +1,7 @@
 use Rattle.std.proofs.Common.{◌&&◌, ◌+◌, length, sym, ap, ◌∙◌, arith}
+use Rattle.std.specs.List.{list_any}
 use Rattle.osc_pattern.specs.Items.{item_text}
+use Rattle.osc_pattern.specs.Cuts.{after_item}
 use Rattle.osc_pattern.specs.Views.{item_of, is_place_of}
 use Rattle.osc_pattern.specs.Reading.{match_part}
 use Rattle.osc_pattern.proofs.Reaches.{any_rest-none, any_rest-same, any_rest-item, any_rest-end, first_item-size, rows_split}
@@ -16,16 +18,18 @@ loop-item-preserved g c =
     let item = item_of c.in-Some.item in
     let part = c.loop-item.part.now in
     let others = c.in-Some.others.now in
-    let left = c.last_star-part.result.now in
+    let left = c.behind-part.result.now in
     let name = c.args.name.now in
     let found = sym c.in-Some.ensures.value in
     let more = c.places_after_any-reached.ensures.counted in
     let most = c.places_after_any-reached.ensures.bounded in
     let rows = rows_split (length name + 1) (length (item_text item)) (length others) (length part) (first_item-size part item others found) in
-    let less = rows_less (length name + 1) (length left) (length others) (omega (arith, c.last_star-part.ensures.shorter, c.without_empty.ensures.shorter)) in
+    let less = rows_less (length name + 1) (length left) (length others) c.behind-part.ensures.shorter in
     let so_far = c.loop-item.invariant in (
-      any_rest-same (match_part left) (match_part others) (λ n. c.last_star-part.ensures.same n ∙ c.without_empty.ensures.same n) (is_place_of c.places_after_any-reached.result) 0 name
-          ∙ c.places_after_any-reached.ensures.value (match_part others) ∙ sym (any_rest-item part item others (is_place_of c.loop-item.reached) name found)
+      c.places_after_any-reached.ensures.value (match_part left)
+          ∙ any_rest-same (λ rest. list_any (match_part left) (after_item item rest)) (λ rest. list_any (match_part others) (after_item item rest))
+          (λ rest. c.behind-part.ensures.same rest) (is_place_of c.loop-item.reached) 0 name
+          ∙ sym (any_rest-item part item others (is_place_of c.loop-item.reached) name found)
           ∙ so_far.0,
       omega arith,
       omega arith,

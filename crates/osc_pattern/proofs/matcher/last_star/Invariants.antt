@@ -1,9 +1,0 @@
-use Rattle.std.proofs.Common.{◌≡◌, ◌≤◌, ℕ, List, length}
-use Rattle.osc_pattern.specs.Reading.{match_part}
-use Rattle.osc_pattern.proofs.matcher.last_star.Given as goal
-
-abbrev pub invariant-loop-rest : goal.invariant-loop-rest
-invariant-loop-rest l = ((name : List ℕ) → match_part l.rest name ≡ match_part l.part name) × (length l.rest ≤ length l.part)
-
-abbrev pub decreases-loop-rest : goal.decreases-loop-rest
-decreases-loop-rest l = length l.rest
