@@ -1,5 +1,6 @@
 -- The units that a history drops are those that were late where late units are discarded.
-use Rattle.std.proofs.Common.{◌≡◌, ◌≢◌, ◌⊎◌, ◌↔◌, inl, inr, ℕ, zero, suc, ◌+◌, ◌<◌, ◌==◌, ◌&&◌, Bool, true, false, not, nat_lt, List, [], ◌∷◌, ◌++◌, map, filter}
+use Rattle.std.proofs.Common.{◌≡◌, ◌≢◌, ◌⊎◌, ◌↔◌, inl, inr, ℕ, zero, suc, ◌+◌, ◌<◌, ◌==◌, ◌&&◌, Bool, true, false, not, nat_lt, List, [], ◌∷◌, ◌++◌, map}
+use Rattle.std.proofs.Common.{filter}
 use Rattle.std.proofs.Common.{length, slice_get, Some, refl, sym, ap, subst, ◌∙◌, arith, eq-eqb, eqb-true, ltb-true, lt-ltb}
 use Rattle.std.specs.List.{AllByRecursion, Contains}
 use Rattle.std.proofs.lemmas.Bool.{and_parts}
@@ -222,7 +223,8 @@ discarded_from caps history item legal held =
         subst (λ (a : Answer). Contains (dropped_by a state entry.event) item) (sym split.1.3) here in
         let drop = drop_of state entry.event entry.answer item told in
         let first : drop.first ≡ state.next_unit = gives_first state entry.event drop.first drop.count drop.dropped (sym split.1.3 ∙ drop.answer_is) in
-        let parts = passed (λ (other : Queued). not (is_kept state.caps.late state.clock other.2)) (numbered state.clock state.next_unit (units_read drop.packet)) item
+        let parts = passed (λ (other : Queued). not (is_kept state.caps.late state.clock other.2))
+        (numbered state.clock state.next_unit (units_read drop.packet)) item
         drop.held in
         let of = numbered_is state.clock state.next_unit (units_read drop.packet) item parts.0 in
         let dropped = drops_is state.caps.late state.clock of.unit

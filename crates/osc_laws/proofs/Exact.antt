@@ -152,7 +152,8 @@ taken_exactly of caps before later caller number hits legal taken =
     let number_is : number ≡ unit_of taken.unit = cc in
     let hits_is : hits ≡ hits_of calls = cc in
     let invoked : (step state release).invocations ≡ invocations_of number calls = taken.invoked ∙ ap (λ (n : ℕ). invocations_of n calls) (sym number_is) in
-    let only = only_here before later caller number hits (released_once caps.late (before ++ entry ∷ later) _ (all_once caps (before ++ entry ∷ later) legal)) in
+    let only = only_here before later caller number hits
+    (released_once caps.late (before ++ entry ∷ later) _ (all_once caps (before ++ entry ∷ later) legal)) in
     let made = calls_there (opening caps) before later caller number hits calls legal.1 only invoked in
     let waits = taken_waits before state (step state release) taken (units_are caps before begun) in
     subst (CallsExactly before number hits) (sym made)
@@ -193,4 +194,5 @@ all_exact of caps history legal before later number hits (caller, place) =
 pub all_consecutive : OfServer → (caps : Limits) (history : List Entry) → Legal caps history → AreConsecutive (invocations (opening caps) history)
 all_consecutive of caps history legal =
     are_consecutive (invocations (opening caps) history)
-    (history_runs of.exactly of.ascends of.stays (opening caps) history legal.1 (of.opens caps legal.0) (released_once caps.late history _ (all_once caps history legal)))
+    (history_runs of.exactly of.ascends of.stays (opening caps) history legal.1 (of.opens caps legal.0)
+    (released_once caps.late history _ (all_once caps history legal)))

@@ -1,7 +1,8 @@
 -- Bundles of messages: what their bytes stand for, and that they are packets of one unit.
 use Rattle.osc_packet.specs.declared.limits.TheConstants.{MAX_PACKET}
 use Rattle.osc_atoms.specs.declared.limits.TheConstants.{MAX_BYTES}
-use Rattle.std.proofs.Common.{◌≡◌, ℕ, ◌+◌, ◌<◌, ◌≤◌, ◌^◌, max, true, List, [], ◌∷◌, ◌++◌, length, map, Result, Ok, Err, is_ok, None, refl, sym, ap, ◌∙◌, subst, arith}
+use Rattle.std.proofs.Common.{◌≡◌, ℕ, ◌+◌, ◌<◌, ◌≤◌, ◌^◌, max, true, List, [], ◌∷◌, ◌++◌, length, map, Result, Ok, Err, is_ok, None, refl, sym, ap, ◌∙◌, subst}
+use Rattle.std.proofs.Common.{arith}
 use Rattle.std.proofs.Common.{append_assoc, append-nil, length-append}
 use Rattle.std.specs.Prelude.{is_none}
 use Rattle.std.specs.Result.{result_err}
@@ -12,7 +13,8 @@ use Rattle.osc_atoms.specs.declared.fault.Fault.{Fault}
 use Rattle.osc_atoms.specs.Atoms.{AreBytes, word, tag}
 use Rattle.osc_message.specs.Messages.{Form, message_text}
 use Rattle.osc_message.specs.Reading.{is_message, limited_read}
-use Rattle.osc_packet.specs.Packets.{Packet, Elements, message, bundle, none, more, packet_text, elements_text, elements_depth, AreLawfulIn, bundle_word, IsValid, IsPacket}
+use Rattle.osc_packet.specs.Packets.{Packet, Elements, message, bundle, none, more, packet_text, elements_text, elements_depth, AreLawfulIn, bundle_word}
+use Rattle.osc_packet.specs.Packets.{IsValid, IsPacket}
 use Rattle.osc_packet.specs.Units.{TimedUnit, own_messages, enclosed_units}
 use Rattle.osc_packet.specs.Reading.{bundle_tag, elements_in, is_packet, units_read, after_first}
 use Rattle.osc_packet.specs.Bundling.{Bundling, with_message, sized, bundled, elements_of, bundling_of, IsSpelled, IsBundling}

@@ -24,7 +24,8 @@ module _ {S : Type 0} (stands : S → List (List ℕ) → Type 0) (kind_of : S �
     keeps,
     tt,
     stays stands kind_of opened s r 1 id me.1 me.0
-        (view_changes stands kind_of opened s.homes s.views r.log r.kind r.holder (get_or s.words 0 0) (get_or s.words 1 0) r.standing id me.0 me.0 at f refl refl),
+        (view_changes stands kind_of opened s.homes s.views r.log r.kind r.holder (get_or s.words 0 0) (get_or s.words 1 0) r.standing id me.0 me.0 at f
+        refl refl),
     (
       refl,
       λ p. sym (f.first p),

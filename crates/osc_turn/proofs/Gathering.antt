@@ -85,8 +85,8 @@ gathered_whole v w others a e g made = (
 carries : (w : View) (p : Pass) → Absorbs w (view p) → Carries w.seen p
 carries w p a = (a.0.0, a.0.1 (number p) (omega (arith, times_one (number p) (view p).numbers p.rests.0)))
 
-pub closes : {S : Type 0} (stands : S → List (List ℕ) → Type 0) (opened : List (List ℕ)) (x : S) (passes : List Pass) (p : Pass) (others : List Pass) (w : View) → passes ≡ p ∷ others
-    → Gathers (view p) others w → stands x (texts w.seen)
+pub closes : {S : Type 0} (stands : S → List (List ℕ) → Type 0) (opened : List (List ℕ)) (x : S) (passes : List Pass) (p : Pass) (others : List Pass) (w : View)
+    → passes ≡ p ∷ others → Gathers (view p) others w → stands x (texts w.seen)
     → All (λ e. times e.number w.numbers ≡ 1) w.seen → StartsWith w.seen (entries_of opened) → Closes stands opened x passes
 closes stands opened x passes p others w is g stands_now each begins = subst (Closes stands opened x) (sym is) record {
   history = w.seen;

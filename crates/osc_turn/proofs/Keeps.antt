@@ -301,7 +301,8 @@ module _ {S : Type 0} (stands : S → List (List ℕ) → Type 0) (kind_of : S �
         (subst (λ hs. Stands hs (set s.views id (given v (r.log ++ added))) (r.log ++ added) r.kind r.holder new (get_or s.words 1 0)) (sym back)
         (given_stands s.homes s.views r.log r.kind r.holder (get_or s.words 0 0) (get_or s.words 1 0) r.standing id v at held added mine x
         (subst (λ l. stands x (texts (l ++ added))) o.1 stands_now)
-        (alike ∙ ap (λ (z : List ℕ × ℕ). z.0) (alive r.log r.kind (get_or s.words 0 0) (get_or s.words 1 0) v f o.2)) new (is ∙ ap (λ l. 2 * length (l ++ added)) o.1))),
+        (alike ∙ ap (λ (z : List ℕ × ℕ). z.0) (alive r.log r.kind (get_or s.words 0 0) (get_or s.words 1 0) v f o.2)) new
+        (is ∙ ap (λ l. 2 * length (l ++ added)) o.1))),
     subst (λ (z : List Entry × List (ℕ × Option S)). Q (given v (z.0 ++ added), z.1)) (λ k. (o.1 k, sym (ap rest at_hand) k)) q,
   )
     where

@@ -27,8 +27,8 @@ abbrev pub IsOwnOfOne : List Pass → Entry → Type 0
 IsOwnOfOne passes e = times e.number (map number passes) ≡ 1
 
 -- The value stands for a history that carries each pass, and each entry of it is an own one of
--- exactly one of them. It begins with the entries that the value had when the turn was opened, which
--- are the first pass's.
+-- exactly one of them. It begins with the entries that the value had when the turn was opened,
+-- which are the first pass's.
 pub record Closes {S : Type 0} (stands : S → List (List ℕ) → Type 0) (opened : List (List ℕ))
     (value : S) (passes : List Pass) : Type 0 where
   pub history : List Entry

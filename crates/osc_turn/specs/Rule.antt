@@ -90,8 +90,8 @@ pub record Fits (log : List Entry) (kind : List ℕ × ℕ) (turn drawn : ℕ) (
 -- what holds of the value's slot and of all views, where this is the history, these are the two
 -- words, and this seat holds the turn, if one does
 pub record Standing {S : Type 0} (stands : S → List (List ℕ) → Type 0) (kind_of : S → List ℕ)
-    (homes : List (maybe.Option (Option S))) (views : List View) (log : List Entry) (kind : List ℕ × ℕ)
-    (holder turn drawn : ℕ) : Type 0 where
+    (homes : List (maybe.Option (Option S))) (views : List View) (log : List Entry)
+    (kind : List ℕ × ℕ) (holder turn drawn : ℕ) : Type 0 where
   pub counted : turn / 2 ≡ length log
   -- the value of a free turn stands for the history; the slot of a taken one is empty
   pub at_home : turn % 2 ≡ 0 → (x : S) × (homes ≡ some (Some x) ∷ []) × stands x (texts log)
@@ -108,8 +108,8 @@ pub record Standing {S : Type 0} (stands : S → List (List ℕ) → Type 0) (ki
   -- entries are under numbers that were drawn
   pub named : (n : ℕ) → drawn ≤ n → own n log ≡ []
 
--- the rule of a turn whose value had these entries when the turn was opened: the history begins with
--- them, under the first pass's number
+-- the rule of a turn whose value had these entries when the turn was opened: the history begins
+-- with them, under the first pass's number
 pub record Turns {S : Type 0} (stands : S → List (List ℕ) → Type 0) (kind_of : S → List ℕ)
     (opened : List (List ℕ)) (s : State (Option S) View) : Type 0 where
   pub log : List Entry

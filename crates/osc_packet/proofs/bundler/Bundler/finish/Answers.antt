@@ -4,7 +4,8 @@ use Rattle.osc_packet.proofs.bundler.Bundler.finish.Goals as goal
 
 pub returns-clause-packet : goal.returns-clause-packet
 returns-clause-packet c =
-    let is : IsOneUnit c.args.self.now = subst IsOneUnit c.self.view_is (kept_unit c.of_messages.ensures c.self.inside.bytes.items c.self.invariant) in is.packet
+    let is : IsOneUnit c.args.self.now = subst IsOneUnit c.self.view_is (kept_unit c.of_messages.ensures c.self.inside.bytes.items c.self.invariant) in
+    is.packet
 
 pub returns-clause-read : goal.returns-clause-read
 returns-clause-read c =

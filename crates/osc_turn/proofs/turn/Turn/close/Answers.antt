@@ -50,8 +50,8 @@ returns-clause-closes g c =
     let all = gathered c.args.passes.items c.remove.result c.remove.new.self.items c.into_seat-seat.result.me c.count-made.new.seat.me c.count-made.result
     c.gather.new.seat.me.0 is c.requires.first c.into_seat-seat.ensures.1
     c.count-made.ensures.counts (search rules) c.gather.ensures.gathers in
-    closes g.S.Kept.stands (g.S.Kept.history (opened_with c.args.self)) c.into_value.result c.args.passes.items c.remove.result c.remove.new.self.items c.gather.new.seat.me.0 is all.gathers
-    c.into_value.ensures.stands c.into_value.ensures.each c.into_value.ensures.begins
+    closes g.S.Kept.stands (g.S.Kept.history (opened_with c.args.self)) c.into_value.result c.args.passes.items c.remove.result c.remove.new.self.items
+    c.gather.new.seat.me.0 is all.gathers c.into_value.ensures.stands c.into_value.ensures.each c.into_value.ensures.begins
 
 pub returns-clause-all_in : goal.returns-clause-all_in
 returns-clause-all_in g c =

@@ -14,5 +14,5 @@ returns-clause-first g c = if_ok _ _ c.reopen.result
 
 pub returns-clause-empty : goal.returns-clause-empty
 returns-clause-empty g c = if_ok _ _ c.reopen.result
-    (λ t p. ap g.S.Kept.history p ∙ none_long (g.S.Kept.history c.args.state) (g.met.S.Kept.one_length c.args.state _ [] c.reopen.ensures.stands c.requires.empty))
-    c.reopen.ensures.opened
+    (λ t p. ap g.S.Kept.history p
+    ∙ none_long (g.S.Kept.history c.args.state) (g.met.S.Kept.one_length c.args.state _ [] c.reopen.ensures.stands c.requires.empty)) c.reopen.ensures.opened
