@@ -3,14 +3,13 @@ use Rattle.std.proofs.Common.{◌≡◌, ℕ, true, false, List, Option, Some, N
 use Rattle.osc_tree.specs.Registry.{id_at}
 use Rattle.osc_tree.specs.Adding.{Refusal, add_refusal}
 use Rattle.osc_model.specs.State.{State, registry}
-use Rattle.osc_model.specs.Events.{Answer, add, remove, added, removed, adds_entry}
+use Rattle.osc_model.specs.Events.{Answer, add, remove, added, removed, adds_entry, is_added, is_removed}
 use Rattle.osc_model.specs.Refusals.{IsRefusal}
 use Rattle.osc_model.specs.Step.{Stepped, step, add_at, remove_at}
 use Rattle.osc_model.proofs.Onward.{entered}
 use Rattle.osc_record.specs.declared.event.Answer.{Answer as Recorded}
 use Rattle.osc_record.specs.declared.event.Answer.TheVariants as recorded
 use Rattle.osc_record.specs.Shown.{answer_of}
-use Rattle.osc_core.specs.Redoing.{is_added, is_removed}
 
 -- a recorded answer is one that adds an entry
 pub answers_add : (answer : Recorded) → adds_entry (answer_of answer) ≡ true

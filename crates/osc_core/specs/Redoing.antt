@@ -1,27 +1,19 @@
 -- How an entry of a history is played again on the server after the entries before it.
-use Rattle.std.specs.Prelude.{◌≡◌, ℕ, Bool, true, false, List, [], ◌∷◌, ◌++◌, Option, Some, None}
+use Rattle.std.specs.Prelude.{◌≡◌, ℕ, List, [], ◌∷◌, ◌++◌, Option, Some, None}
 use Rattle.std.specs.Prelude.{MatchBool, IsSome, IfSome, IsSomeAnd}
 use Rattle.std.specs.List.{Contains}
 use Rattle.osc_model.specs.Events.{Event, enrol, submit, add, remove, tick, release, Answer, added}
-use Rattle.osc_model.specs.Events.{removed, Entry, Invocation}
+use Rattle.osc_model.specs.Events.{removed, is_added, is_removed, Entry, Invocation}
 use Rattle.osc_model.specs.Heard.{Told, reset, all_hear, without_id}
 use Rattle.osc_model.specs.History.{Performance}
-
-abbrev pub is_added : Answer → Bool
-is_added (added id) = true
-is_added _ = false
-
-abbrev pub is_removed : Answer → Bool
-is_removed (removed id) = true
-is_removed _ = false
 
 -- one entry more
 abbrev pub with_entry : Performance → Entry → Performance
 with_entry performance entry =
     record performance { history = performance.history ++ entry ∷ [] }
 
--- what is handed in with an entry: with a method that was added its address and a box, with one that
--- was removed its address, and nothing else
+-- what is handed in with an entry: with a method that was added its address and a box, with one
+-- that was removed its address, and nothing else
 abbrev pub HandsIn : {M : Type 0} → Event → Answer → Option (List ℕ) → Option M → Type 0
 HandsIn (add bytes) answer address method =
     MatchBool (is_added answer) ((address ≡ Some bytes) × IsSome method)

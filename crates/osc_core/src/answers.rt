@@ -16,7 +16,8 @@ pub enum Enrolled {
 /// What a submit is answered.
 #[derive(Clone, Copy, Debug, PartialEq, Eq)]
 pub enum Submitted {
-    /// So many units were numbered, the first of which has this number. All wait but those that are late and aren't kept.
+    /// So many units were numbered, the first of which has this number. All wait but `late` of them, which are late
+    /// and aren't kept.
     Queued { first: u64, count: u32, late: u32 },
     /// The entry has more bytes than the recording has left.
     RecordFull(Room),

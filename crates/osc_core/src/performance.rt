@@ -1,6 +1,7 @@
 // The server with its recording, but for its boxes.
-ghost use Rattle.std.specs.Prelude.{◌≡◌, ◌≢◌, ◌+◌, ◌<◌, ◌≤◌, ◌++◌, ◌∷◌, [], length, map, All, Contains};
-ghost use Rattle.std.specs.Prelude.{IsTrue, IfOk, IfErr, OnOk, IfSome, IfNone, vec_capacity};
+ghost use Rattle.std.specs.Prelude.{◌≡◌, ◌≢◌, ◌+◌, ◌<◌, ◌≤◌, ◌++◌, ◌∷◌, [], length, map, All};
+ghost use Rattle.std.specs.Prelude.{Contains, IsTrue, IfOk, IfErr, OnOk, IfSome, IfNone};
+ghost use Rattle.std.specs.Prelude.{vec_capacity};
 ghost use Rattle.osc_tree.specs.Adding.{refusal_of as tree_refusal_of};
 ghost use Rattle.osc_model.specs.Events.{enrol, submit, add, remove, tick, release, added, removed};
 ghost use Rattle.osc_model.specs.Recordings.{record_text};

@@ -34,7 +34,8 @@ impl<M: Method> Core<M> {
             ≡ onward self.old.performance entry.now.caller (event_of entry.now.event) }
         ensures entry { self.new.performance
             ≡ with_entry self.old.performance (placed_of entry.now).entry }
-        ensures boxes { Redoes M.keep M.heard (event_of entry.now.event) (answer_of entry.now.answer)
+        ensures boxes { Redoes M.keep M.heard (event_of entry.now.event)
+            (answer_of entry.now.answer)
             (stepped_in self.old.performance (event_of entry.now.event)).invocations method
             (told M.keep M.heard self.old.boxes.items) (told M.keep M.heard self.new.boxes.items)
             result }

@@ -1,6 +1,6 @@
 //! The server with its recording and its boxes, one event after another.
-ghost use Rattle.std.specs.Prelude.{◌≡◌, ◌≢◌, ◌<◌, ◌≤◌, ◌++◌, ◌∷◌, [], length, map, IsTrue, ℕ, List};
-ghost use Rattle.std.specs.Prelude.{Contains, vec_capacity, IfOk};
+ghost use Rattle.std.specs.Prelude.{◌≡◌, ◌≢◌, ◌<◌, ◌≤◌, ◌++◌, ◌∷◌, [], length, map, IsTrue, ℕ};
+ghost use Rattle.std.specs.Prelude.{List, Contains, vec_capacity, IfOk};
 ghost use Rattle.osc_model.specs.Events.{enrol, submit, add, remove, tick, release};
 ghost use Rattle.osc_model.specs.Recordings.{record_text};
 ghost use Rattle.osc_model.specs.Heard.{Told, reset, all_hear, without_id};

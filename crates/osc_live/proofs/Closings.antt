@@ -1,5 +1,6 @@
 -- The history of a server that is closed.
-use Rattle.std.proofs.Common.{◌≡◌, ℕ, zero, suc, ◌+◌, ◌<◌, ◌==◌, Bool, true, false, cond, ◌&&◌, List, [], ◌∷◌, ◌++◌, length, map, drop, get_or, All, Contains, inl}
+use Rattle.std.proofs.Common.{◌≡◌, ℕ, zero, suc, ◌+◌, ◌<◌, ◌==◌, Bool, true, false, cond, ◌&&◌, List, [], ◌∷◌, ◌++◌, length, map, drop, get_or, All, Contains}
+use Rattle.std.proofs.Common.{inl}
 use Rattle.std.proofs.Common.{inr, ◌⊎◌, refl, sym, ap, subst, ◌∙◌, arith, eq-eqb, ne_eqb}
 use Rattle.std.specs.List.{list_all, insert}
 use Rattle.std.proofs.lemmas.Bool.{eqb-true}
@@ -105,7 +106,8 @@ alike turn_of opened (p ∷ passes) ours some first = λ k d within.
 since_of : (opened : List (List ℕ)) (history since : List Seen) (v : View) → history ≡ entries_of opened ++ since → v.opened_at ≡ length opened
     → own (number_of v) history ≡ own (number_of v) v.seen → own_since v ≡ own (number_of v) since
 since_of opened history since v begins count mine =
-    (λ i. drop (cond (number_of v == 0) (count i) 0) (sym mine i)) ∙ ap (λ (l : List Seen). drop (cond (number_of v == 0) (length opened) 0) (own (number_of v) l)) begins
+    (λ i. drop (cond (number_of v == 0) (count i) 0) (sym mine i))
+    ∙ ap (λ (l : List Seen). drop (cond (number_of v == 0) (length opened) 0) (own (number_of v) l)) begins
     ∙ own_later (number_of v) opened since
 
 none_since : (v : View) → own (number_of v) v.seen ≡ [] → own_since v ≡ []
@@ -181,26 +183,27 @@ pub closes : (caps : Limits) (performance : Performance) (boxes kept : List Told
     → performance.caps ≡ caps → history ≡ entries_of opened ++ since → AreAlike opened passes → StartsAtZero callers
     → All (Carries history) passes → All (IsOwnOfOne passes) history → bytes ≡ record_text performance.caps performance.history
     → KeepsTheLaws performance.caps performance.history → kept ≡ boxes → Closes caps opened (known callers) (views_of callers guests) bytes kept
-closes caps performance boxes kept bytes callers guests passes opened history since all stands limits begins counts starts carried once recorded laws is = record {
-  history = history;
-  since = since;
-  begins = begins;
-  legal = subst (λ (l : Limits). Legal l (history_in (texts history))) limits (subst (Legal performance.caps) (sym stands.read) stands.legal);
-  laws = subst (λ (l : Limits). KeepsTheLaws l (history_in (texts history))) limits (subst (KeepsTheLaws performance.caps) (sym stands.read) laws);
-  recorded = recorded ∙ (λ i. record_text (limits i) (sym stands.read i));
-  carried = subst (λ (l : List View). All (λ v. StartsWith history v.seen) l) (ap (map view) all ∙ views_same callers guests)
-      (All-map (λ (v : View). StartsWith history v.seen) view passes (λ k d within. (carried k d within).0));
-  owned = subst (λ (l : List View). All (λ v. own (number_of v) history ≡ own (number_of v) v.seen) l) (ap (map view) all ∙ views_same callers guests)
-      (All-map (λ (v : View). own (number_of v) history ≡ own (number_of v) v.seen) view passes (λ k d within. (carried k d within).1));
-  each_once = λ k d within. ap (λ (l : List ℕ). times (get_or history k d).number l)
-      (sym (numbers_same passes ∙ ap (map number_of) (ap (map view) all ∙ views_same callers guests))) ∙ once k d within;
-  first = first_of callers opened starts;
-  named = named callers guests opened history since begins (subst (AreAlike opened) all counts) (subst (All (Carries history)) all carried)
-      (All-behind (IsOwnOfOne (passes_of callers guests)) (entries_of opened) since
-      (subst (λ (l : List Seen). All (IsOwnOfOne (passes_of callers guests)) l) begins (subst (λ (l : List Pass). All (IsOwnOfOne l) history) all once)));
-  heard = subst (HaveHeard (performance_in caps (texts history))) (sym is) (subst (λ (p : Performance). HaveHeard p boxes) whole stands.heard);
-  marked = subst (λ (l : List Told). AreMarked (texts history) l) (sym is) stands.marked;
-}
+closes caps performance boxes kept bytes callers guests passes opened history since all stands limits begins counts starts carried once recorded laws
+    is = record {
+      history = history;
+      since = since;
+      begins = begins;
+      legal = subst (λ (l : Limits). Legal l (history_in (texts history))) limits (subst (Legal performance.caps) (sym stands.read) stands.legal);
+      laws = subst (λ (l : Limits). KeepsTheLaws l (history_in (texts history))) limits (subst (KeepsTheLaws performance.caps) (sym stands.read) laws);
+      recorded = recorded ∙ (λ i. record_text (limits i) (sym stands.read i));
+      carried = subst (λ (l : List View). All (λ v. StartsWith history v.seen) l) (ap (map view) all ∙ views_same callers guests)
+          (All-map (λ (v : View). StartsWith history v.seen) view passes (λ k d within. (carried k d within).0));
+      owned = subst (λ (l : List View). All (λ v. own (number_of v) history ≡ own (number_of v) v.seen) l) (ap (map view) all ∙ views_same callers guests)
+          (All-map (λ (v : View). own (number_of v) history ≡ own (number_of v) v.seen) view passes (λ k d within. (carried k d within).1));
+      each_once = λ k d within. ap (λ (l : List ℕ). times (get_or history k d).number l)
+          (sym (numbers_same passes ∙ ap (map number_of) (ap (map view) all ∙ views_same callers guests))) ∙ once k d within;
+      first = first_of callers opened starts;
+      named = named callers guests opened history since begins (subst (AreAlike opened) all counts) (subst (All (Carries history)) all carried)
+          (All-behind (IsOwnOfOne (passes_of callers guests)) (entries_of opened) since
+          (subst (λ (l : List Seen). All (IsOwnOfOne (passes_of callers guests)) l) begins (subst (λ (l : List Pass). All (IsOwnOfOne l) history) all once)));
+      heard = subst (HaveHeard (performance_in caps (texts history))) (sym is) (subst (λ (p : Performance). HaveHeard p boxes) whole stands.heard);
+      marked = subst (λ (l : List Told). AreMarked (texts history) l) (sym is) stands.marked;
+    }
   where
     whole : performance ≡ performance_in caps (texts history)
     whole = λ i. record { caps = limits i; history = sym stands.read i }
@@ -249,8 +252,8 @@ kind_is turn_of caps kind callers others one back guests passes is ours same all
     kinds ∙ ap (λ (l : List Pass). (turn.first_view l).kind) all ∙ ap (λ (v : View). v.kind) same
     ∙ (subst (λ (l : List Caller). All (λ caller. IsTokenOf turn_of caps caller.pass) l) is ours 0 one (omega arith)).1
 
-pub closes_still : (caps : Limits) (opened : List (List ℕ)) (callers others : List Caller) (one back : Caller) (guests : List Guest) (bytes : List ℕ) (kept : List Told)
-    → callers ≡ one ∷ others → back.number ≡ one.number → view back.pass ≡ view one.pass
+pub closes_still : (caps : Limits) (opened : List (List ℕ)) (callers others : List Caller) (one back : Caller) (guests : List Guest) (bytes : List ℕ)
+    (kept : List Told) → callers ≡ one ∷ others → back.number ≡ one.number → view back.pass ≡ view one.pass
     → Closes caps opened (known (back ∷ others)) (views_of (back ∷ others) guests) bytes kept
     → Closes caps opened (known callers) (views_of callers guests) bytes kept
 closes_still caps opened callers others one back guests bytes kept is number same closed =

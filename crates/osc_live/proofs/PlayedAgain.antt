@@ -1,5 +1,6 @@
 -- Entries that are played again, one after another.
-use Rattle.std.proofs.Common.{◌≢◌, ◌⊎◌, inl, inr, ne_eqb, ◌≡◌, ℕ, zero, suc, ◌+◌, ◌<◌, ◌≤◌, ◌==◌, Bool, true, false, not, cond, List, [], ◌∷◌, ◌++◌, length, map, drop, filter, Option, Some, None}
+use Rattle.std.proofs.Common.{◌≢◌, ◌⊎◌, inl, inr, ne_eqb, ◌≡◌, ℕ, zero, suc, ◌+◌, ◌<◌, ◌≤◌, ◌==◌, Bool, true, false, not, cond, List, [], ◌∷◌, ◌++◌, length}
+use Rattle.std.proofs.Common.{map, drop, filter, Option, Some, None}
 use Rattle.std.proofs.Common.{append_assoc, refl, sym, ap, subst, ◌∙◌, arith, is_some}
 use Rattle.std.specs.Prelude.{slice_get, option_to_list}
 use Rattle.std.proofs.lemmas.List.Sums.{sum_by-cons, sum_by-append, sum_by_push}
@@ -13,7 +14,7 @@ use Rattle.osc_method.specs.Heard.{after_call}
 use Rattle.osc_model.specs.Limits.{Limits}
 use Rattle.osc_model.specs.State.{State, opening}
 use Rattle.osc_model.specs.Events.{Event, enrol, submit, add, remove, tick, release, Answer, number, queued, added, removed, ticked, record_full, Entry}
-use Rattle.osc_model.specs.Events.{Invocation}
+use Rattle.osc_model.specs.Events.{Invocation, is_added, is_removed}
 use Rattle.osc_model.specs.Heard.{Told, bytes_of, reset, hear, hear_all, all_hear, without_id}
 use Rattle.osc_packet.specs.Reading.{units_read}
 use Rattle.osc_model.specs.Refusals.{IsRefusal}
@@ -23,7 +24,7 @@ use Rattle.osc_model.proofs.Boxes.{same_id}
 use Rattle.osc_model.proofs.Onward.{legal_split, after_more}
 use Rattle.osc_model.proofs.Stepping.{step_so, decided_so}
 use Rattle.osc_tree.proofs.Lists.{all_filter}
-use Rattle.osc_core.specs.Redoing.{is_added, is_removed, Redoes, HandsIn, with_entry, told_as}
+use Rattle.osc_core.specs.Redoing.{Redoes, HandsIn, with_entry, told_as}
 use Rattle.osc_core.specs.Standing.{mark_of}
 use Rattle.osc_live.specs.Resuming.{needed_by, takes_box, added_in, removed_id, removed_in, addresses_in, HasMarkOf}
 use Rattle.osc_live.specs.Redone.{Takes, Moves, TellsMarkOf, HeardTill, IsRedone}
@@ -128,7 +129,8 @@ plain state then event answer calls same none takes out left = record {
 }
 
 refusal_plain : (state : State) (event : Event) (answer : Answer) → IsRefusal answer → IsGiven state event (leaves state answer)
-refusal_plain state event answer is = plain state state event answer [] refl (not_added answer is) (none_taken event answer (not_added answer is)) (none_out answer is)
+refusal_plain state event answer is =
+    plain state state event answer [] refl (not_added answer is) (none_taken event answer (not_added answer is)) (none_out answer is)
     (none_given event answer (none_out answer is))
   where
     not_added : (answer : Answer) → IsRefusal answer → is_added answer ≡ false

@@ -1,6 +1,6 @@
 -- A history that is legal within a recording is legal within a larger one.
-use Rattle.std.proofs.Common.{◌≡◌, ℕ, ◌+◌, ◌-◌, ◌≤◌, ◌==◌, Bool, true, false, cond, nat_le, nat_lt, max, List, [], ◌∷◌, ◌++◌, length, Option, Some, None, refl, sym, ap, subst, ◌∙◌}
-use Rattle.std.proofs.Common.{arith}
+use Rattle.std.proofs.Common.{◌≡◌, ℕ, ◌+◌, ◌-◌, ◌≤◌, ◌==◌, Bool, true, false, cond, nat_le, nat_lt, max, List, [], ◌∷◌, ◌++◌, length, Option, Some, None, refl}
+use Rattle.std.proofs.Common.{sym, ap, subst, ◌∙◌, arith}
 use Rattle.osc_packet.specs.Reading.{units_read}
 use Rattle.osc_packet.specs.Units.{TimedUnit, blocks_of}
 use Rattle.osc_queue.specs.Timed.{due_of}
@@ -13,6 +13,7 @@ use Rattle.osc_model.specs.Events.{Event, enrol, submit, add, remove, tick, rele
 use Rattle.osc_model.specs.Events.{ticked, clock_back, nothing_due, adds_entry}
 use Rattle.osc_model.specs.Recordings.{entry_size, entry_text}
 use Rattle.osc_record.specs.Reading.{Placed, placed_from, unplaced}
+use Rattle.osc_record.proofs.Kept.{unplaced_from}
 use Rattle.osc_core.proofs.Played.{few_entries}
 use Rattle.osc_live.specs.Resuming.{roomier}
 use Rattle.std.proofs.Math.Nat.{le-max_left, max-le}
@@ -117,11 +118,6 @@ legal_roomier caps room history few legal =
       legal_wide (max caps.recording room) (opening caps) history (le-max_left caps.recording room) legal.1,
     )
 
-unplaced_from : (place : ℕ) (history : List Entry) → unplaced (placed_from place history) ≡ history
-unplaced_from place [] = refl
-unplaced_from place (entry ∷ history) =
-    ap (λ (l : List Entry). entry ∷ l) (unplaced_from (place + length (entry_text entry.caller entry.event entry.answer)) history)
-
 -- what a recording's reader has is what was recorded, and legal with that room
 pub record IsPast (limits : Limits) (entries : List Placed) (caps : Limits) (room : ℕ) (history : List Entry) : Type 0 where
   pub limits_are : limits ≡ roomier caps room
@@ -150,6 +146,7 @@ pub few_in : ((caps : Limits) (history : List Entry) → Legal caps history → 
     (history : List Entry) → Legal limits history → length history ≤ 1073741824
 few_in counted limits history legal =
     let within : (after (opening limits) history).recorded ≤ limits.recording =
-    subst (λ (l : Limits). (after (opening limits) history).recorded ≤ l.recording) (after_caps (opening limits) history) (counted limits history legal).within in
+    subst (λ (l : Limits). (after (opening limits) history).recorded ≤ l.recording) (after_caps (opening limits) history)
+    (counted limits history legal).within in
     let most = legal.0.recording.below in
     omega (arith, few_entries (opening limits) history legal.1, within, most)

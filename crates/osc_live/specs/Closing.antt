@@ -47,9 +47,10 @@ IsOfFirst callers one = (caller : ℕ × View) × Contains callers caller
 
 -- There is one history: it is legal, keeps the four laws and is what was recorded; it begins with
 -- what each token has seen, which holds all own entries of the token; each entry is an own one of
--- exactly one token. The history begins with the entries of the texts `opened`, which were there when
--- the turn was opened: they are of caller 0's token. An entry since then is of the token of the caller
--- whom it names. And the boxes have heard the history, each with the mark of its id's entry.
+-- exactly one token. The history begins with the entries of the texts `opened`, which were there
+-- when the turn was opened: they are of caller 0's token. An entry since then is of the token of
+-- the caller whom it names. And the boxes have heard the history, each with the mark of its id's
+-- entry.
 pub record Closes (caps : Limits) (opened : List (List ℕ)) (callers : List (ℕ × View))
     (views : List View) (bytes : List ℕ) (kept : List Told) : Type 0 where
   pub history : List Seen

@@ -1,9 +1,11 @@
 -- Inside the crate: what is left of addresses and boxes where entries are played again.
-use Rattle.std.specs.Prelude.{◌≡◌, ◌⊎◌, ℕ, ◌+◌, ◌<◌, ◌≤◌, Bool, true, List, [], ◌∷◌, ◌++◌, Option, Some, None, is_some}
+use Rattle.std.specs.Prelude.{◌≡◌, ◌⊎◌, ℕ, ◌+◌, ◌<◌, ◌≤◌, Bool, true, List, [], ◌∷◌, ◌++◌, Option}
+use Rattle.std.specs.Prelude.{Some, None, is_some}
 use Rattle.std.specs.Prelude.{MatchBool, length, map, drop, slice_get}
 use Rattle.std.specs.List.{AllByRecursion, Contains}
 use Rattle.osc_model.specs.Limits.{Limits}
-use Rattle.osc_model.specs.Events.{Event, add, remove, release, Answer, added, removed, Entry, Invocation}
+use Rattle.osc_model.specs.Events.{Event, add, remove, release, Answer, added, removed, Entry}
+use Rattle.osc_model.specs.Events.{Invocation}
 use Rattle.osc_model.specs.Heard.{Told, reset, all_hear, without_id}
 use Rattle.osc_model.specs.State.{opening}
 use Rattle.osc_model.specs.History.{Performance, HasHeard, invocations}
@@ -87,8 +89,8 @@ module _ {M : Type 0} (keep : M → ℕ) (heard : M → Option (List ℕ)) where
     pub out_marks : AllByRecursion (HasMarkOf keep heard bank) out
     pub out_heard : AllByRecursion (HeardTill caps before) out
 
-  -- so many boxes were taken from the bank: each stands under its id among the boxes or among those that
-  -- were removed, with its mark; and there is room for them where the rest is
+  -- so many boxes were taken from the bank: each stands under its id among the boxes or among those
+  -- that were removed, with its mark; and there is room for them where the rest is
   pub record IsOut (whole : List M) (boxes : List Told) (out : List (ℕ × M)) (rest : List M)
       (taken room : ℕ) : Type 0 where
     pub counted : length whole ≡ taken + length rest

@@ -1,17 +1,18 @@
 -- What a server is that goes on from a recording.
 use Rattle.std.specs.Prelude.{◌≡◌, ℕ, zero, suc, ◌+◌, ◌≤◌, max, List, [], ◌∷◌, length, map, drop}
-use Rattle.std.specs.Prelude.{slice_get, count_by, if◌then◌else◌, Bool, false, Option, Some, None, All}
+use Rattle.std.specs.Prelude.{slice_get, count_by, if◌then◌else◌, Bool, false, Option, Some, None}
+use Rattle.std.specs.Prelude.{All}
 use Rattle.std.specs.List.{filter_map, Contains}
 use Rattle.osc_turn.specs.declared.view.View.{View}
 use Rattle.osc_turn.specs.Rule.{reopening}
 use Rattle.osc_turn.specs.Passes.{guest_of}
 use Rattle.osc_model.specs.Limits.{Limits}
 use Rattle.osc_model.specs.State.{opening}
-use Rattle.osc_model.specs.Events.{Event, Answer, add, remove, removed, Entry}
+use Rattle.osc_model.specs.Events.{Event, Answer, add, remove, removed, Entry, is_added, is_removed}
 use Rattle.osc_model.specs.Enrolled.{callers_in}
 use Rattle.osc_model.specs.Recordings.{header_text, record_text}
 use Rattle.osc_model.specs.History.{Legal, HasHeard, after, invocations}
-use Rattle.osc_core.specs.Redoing.{is_added, is_removed, told_as}
+use Rattle.osc_core.specs.Redoing.{told_as}
 use Rattle.osc_core.specs.Standing.{mark_of, AreTexts, history_in, CarriesMark}
 
 -- the bytes are the recording of a legal history
@@ -57,7 +58,8 @@ CanResume bytes boxes =
 abbrev pub roomier : Limits → ℕ → Limits
 roomier caps room = record caps { recording = max caps.recording room }
 
--- what caller 0's token knows: it has the entries that were there, and knows how many tokens were made
+-- what caller 0's token knows: it has the entries that were there, and knows how many tokens were
+-- made
 abbrev pub first_resumed : Limits → List (List ℕ) → ℕ → View
 first_resumed caps opened made =
     record (reopening (header_text caps) opened) { made = made }
@@ -92,17 +94,19 @@ module _ {M : Type 0} (keep : M → ℕ) (heard : M → Option (List ℕ)) where
   -- the boxes of removed methods have heard what the history says
   abbrev pub HaveHeardAll : Limits → List Entry → List (ℕ × M) → Type 0
   HaveHeardAll limits history out =
-      All (λ one. HasHeard (invocations (opening limits) history) (told_as keep heard one.0 one.1)) out
+      All (λ one. HasHeard (invocations (opening limits) history)
+      (told_as keep heard one.0 one.1)) out
 
   -- A server that goes on from the recording of a history: the limits are the old ones, with the
-  -- greater of the old room and the new one; the entries that were there when its turn was opened are
-  -- the history's; each caller of the history has a token, ascending, which has seen them, and knows
-  -- nothing else; where a method is still registered, its entry carries the mark of the box that
-  -- stood in the place of its id; the removed methods' boxes come out in the order of their removal,
-  -- each with the mark that it had; and the boxes that no added method got come out as they were.
-  pub record Resumes (caps : Limits) (history : List Entry) (room : ℕ) (bank : List M) (limits : Limits)
-      (opened : List (List ℕ)) (callers : List (ℕ × View)) (out : List (ℕ × M)) (left : List M)
-      : Type 0 where
+  -- greater of the old room and the new one; the entries that were there when its turn was opened
+  -- are the history's; each caller of the history has a token, ascending, which has seen them, and
+  -- knows nothing else; where a method is still registered, its entry carries the mark of the box
+  -- that stood in the place of its id; the removed methods' boxes come out in the order of their
+  -- removal, each with the mark that it had; and the boxes that no added method got come out as
+  -- they were.
+  pub record Resumes (caps : Limits) (history : List Entry) (room : ℕ) (bank : List M)
+      (limits : Limits) (opened : List (List ℕ)) (callers : List (ℕ × View)) (out : List (ℕ × M))
+      (left : List M) : Type 0 where
     pub limits_are : limits ≡ roomier caps room
     pub legal : Legal limits history
     pub read : history_in opened ≡ history

@@ -17,3 +17,12 @@ pub struct Caller {
     ghost named: { IsTrue (names_own number (view pass)) },
     ghost first: { number ≡ 0 → number_of (view pass) ≡ 0 },
 }
+
+impl Caller {
+    /// The caller's number.
+    pub fn number(&self) -> u32
+        ensures { result ≡ self.now.number }
+    {
+        self.number
+    }
+}

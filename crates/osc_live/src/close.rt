@@ -67,7 +67,8 @@ impl<M: Method> Live<M> {
         requires few { length callers.items + length guests.items ≤ 65536 }
         ensures all_in { OnOk result
             (made_by callers.items ≡ length callers.items + length guests.items) }
-        ensures closes { IfOk result (λ closed. Closes self.caps (past_of self.turn) (known callers.items)
+        ensures closes { IfOk result
+            (λ closed. Closes self.caps (past_of self.turn) (known callers.items)
             (views_of callers.items guests.items) closed.bytes.items
             (told M.keep M.heard closed.kept.items)) }
         ensures made { IfErr result (λ out. TellsMade out callers.items guests.items) }

@@ -15,7 +15,8 @@ use std::sync::Wait;
 
 impl<M: Method> Live<M> {
     /// Waits for the turn, and writes the bytes of the recording from the place on, as many as there are and fit. It
-    /// adds no entry and takes no memory. Answers the number of bytes, which is 0 where the place is the end or past it.
+    /// adds no entry and takes no memory. Answers the number of bytes, which is 0 where the place is the end or past
+    /// it.
     pub fn read<W: Wait>(
         &self,
         rt: &W,

@@ -201,7 +201,8 @@ fn set_stage<M: Method>(
     reader: &Reader<'_>,
     caps: Caps,
 ) -> Result<Stage<M>, AllocError>
-    ensures core { IfOk result (λ stage. (stage.core.performance ≡ record { caps = caps; history = [] })
+    ensures core { IfOk result
+        (λ stage. (stage.core.performance ≡ record { caps = caps; history = [] })
         × (told M.keep M.heard stage.core.boxes.items ≡ [])) }
     ensures addresses { IfOk result
         (λ stage. stage.addresses.items ≡ addresses_in (unplaced reader.now.entries)) }
@@ -265,7 +266,8 @@ fn box_needed(entry: &Entry<'_>) -> bool
 /// The address that an entry needs, which is the first of those that are left.
 fn take_address(entry: &Entry<'_>, addresses: &mut VecDeque<Address>) -> Option<Address>
     requires { (rest : List (List ℕ)) × (addresses.old.items
-        ≡ option_to_list (needed_by (event_of entry.now.event) (answer_of entry.now.answer)) ++ rest) }
+        ≡ option_to_list (needed_by (event_of entry.now.event) (answer_of entry.now.answer))
+        ++ rest) }
     ensures address { result ≡ needed_by (event_of entry.now.event) (answer_of entry.now.answer) }
     ensures rest { addresses.old.items
         ≡ option_to_list (needed_by (event_of entry.now.event) (answer_of entry.now.answer))
@@ -304,7 +306,8 @@ fn redo_one<M: Method>(
     requires answer { answer_of entry.now.answer
         ≡ (stepped_in core.old.performance (event_of entry.now.event)).answer }
     requires address { (rest : List (List ℕ)) × (addresses.old.items
-        ≡ option_to_list (needed_by (event_of entry.now.event) (answer_of entry.now.answer)) ++ rest) }
+        ≡ option_to_list (needed_by (event_of entry.now.event) (answer_of entry.now.answer))
+        ++ rest) }
     requires method { IsTrue (takes_box (event_of entry.now.event) (answer_of entry.now.answer))
         → 0 < length bank.old.items }
     requires room { length addresses.old.items + vec_len removed.old ≤ vec_capacity removed.old }
@@ -395,7 +398,8 @@ fn take_either<M: Method>(
     others: &mut Vec<(u32, M)>,
     id: u32,
 ) -> Option<M>
-    ensures { TakesEither id boxes.old.items boxes.new.items others.old.items others.new.items result }
+    ensures { TakesEither id boxes.old.items boxes.new.items others.old.items others.new.items
+        result }
 {
     match take_of(boxes, id) {
         Some(method) => Some(method),

@@ -1,5 +1,6 @@
 -- What a server answers fits into the messages of its recording.
-use Rattle.std.proofs.Common.{◌≡◌, ◌↔◌, ℕ, ◌+◌, ◌-◌, ◌*◌, ◌<◌, ◌≤◌, ◌/◌, ◌^◌, ◌==◌, ◌&&◌, Bool, true, false, not, cond, nat_le, nat_lt, IsTrue, pos, List, [], ◌∷◌}
+use Rattle.std.proofs.Common.{◌≡◌, ◌↔◌, ℕ, ◌+◌, ◌-◌, ◌*◌, ◌<◌, ◌≤◌, ◌/◌, ◌^◌, ◌==◌, ◌&&◌, Bool, true, false, not, cond, nat_le, nat_lt, IsTrue, pos, List, []}
+use Rattle.std.proofs.Common.{◌∷◌}
 use Rattle.std.proofs.Common.{◌++◌, length, find, Option, Some, None, is_none, refl, sym, ap, ◌∙◌, arith, eqb-true}
 use Rattle.std.specs.Prelude.{IfSome, FitsSigned}
 use Rattle.std.specs.Option.{option_map, option_or}
@@ -33,7 +34,8 @@ use Rattle.osc_model.specs.Counts.{queued_blocks, free_places, free_blocks, free
 use Rattle.osc_model.specs.Recordings.{IsHit, IsRecordable, IsSound as IsSoundAnswer, entry_size, refusing, submit_row}
 use Rattle.osc_model.specs.Events.{Event, enrol, submit, add, remove, tick, release, number, callers_full, queued, units_full, pool_full, refused, ticked}
 use Rattle.osc_model.specs.Events.{clock_back, nothing_due, adds_entry, Call}
-use Rattle.osc_model.specs.Step.{decided, leaves, kept_units, submit_kept, after_submit, add_at, remove_at, releases, release_first, calls_of_unit, hits_of, invocations_of}
+use Rattle.osc_model.specs.Step.{decided, leaves, kept_units, submit_kept, after_submit, add_at, remove_at, releases, release_first, calls_of_unit, hits_of}
+use Rattle.osc_model.specs.Step.{invocations_of}
 use Rattle.osc_model.specs.History.{IsLawful, IsSound, IsCounted}
 use Rattle.osc_model.proofs.Calls.{MatchesExactly, all_more, unit_calls}
 use Rattle.osc_model.proofs.Blocks.{packet_few}
@@ -141,8 +143,8 @@ submit_fits caller state packet few small lawful =
       cases false is false fits =
           let units_given = (given state small).units in
           record {
-            fits = submit_row_fits caller packet 0 state.next_unit (length units) (length units - length keeps) few short (omega arith) (omega arith) (omega arith)
-                (omega arith);
+            fits = submit_row_fits caller packet 0 state.next_unit (length units) (length units - length keeps) few short (omega arith) (omega arith)
+                (omega arith) (omega arith);
             sound = omega arith;
           }
 

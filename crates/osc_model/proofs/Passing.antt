@@ -14,7 +14,8 @@ use Rattle.osc_model.specs.Events.{released, nothing_due, record_full, Entry}
 use Rattle.osc_model.specs.Refusals.{IsRefusal}
 use Rattle.osc_model.specs.Step.{Stepped, step, decided, leaves, is_kept, numbered, kept_numbered, enter_all}
 use Rattle.osc_model.specs.History.{after}
-use Rattle.osc_model.specs.Passing.{queued_by, dropped_by, released_by, entering, dropping, leaving, all_entering, all_leaving, numbers_from, queued_in, released_in}
+use Rattle.osc_model.specs.Passing.{queued_by, dropped_by, released_by, entering, dropping, leaving, all_entering, all_leaving, numbers_from, queued_in}
+use Rattle.osc_model.specs.Passing.{released_in}
 use Rattle.osc_model.proofs.Queues.{all_joined}
 use Rattle.osc_model.proofs.Stepping.{step_so, decided_so}
 
@@ -32,15 +33,20 @@ record MovesNone (answer : Answer) (state : State) (event : Event) : Type 0 wher
   pub none_queued_in : queued_in answer ≡ []
   pub none_released_in : released_in answer ≡ []
 
+moves_none : {answer : Answer} {state : State} {event : Event} → queued_by answer state event ≡ [] → dropped_by answer state event ≡ []
+    → released_by answer state.queue ≡ [] → queued_in answer ≡ [] → released_in answer ≡ [] → MovesNone answer state event
+moves_none queues drops releases given taken =
+    record { none_queued = queues; none_dropped = drops; none_released = releases; none_queued_in = given; none_released_in = taken }
+
 refusal_moves : (answer : Answer) (state : State) (event : Event) → IsRefusal answer → MovesNone answer state event
-refusal_moves callers_full state event is = record { none_queued = refl; none_dropped = refl; none_released = refl; none_queued_in = refl; none_released_in = refl }
-refusal_moves (units_full room) state event is = record { none_queued = refl; none_dropped = refl; none_released = refl; none_queued_in = refl; none_released_in = refl }
-refusal_moves (pool_full room) state event is = record { none_queued = refl; none_dropped = refl; none_released = refl; none_queued_in = refl; none_released_in = refl }
-refusal_moves (refused why) state event is = record { none_queued = refl; none_dropped = refl; none_released = refl; none_queued_in = refl; none_released_in = refl }
-refusal_moves not_there state event is = record { none_queued = refl; none_dropped = refl; none_released = refl; none_queued_in = refl; none_released_in = refl }
-refusal_moves (clock_back clock) state event is = record { none_queued = refl; none_dropped = refl; none_released = refl; none_queued_in = refl; none_released_in = refl }
-refusal_moves (nothing_due next) state event is = record { none_queued = refl; none_dropped = refl; none_released = refl; none_queued_in = refl; none_released_in = refl }
-refusal_moves (record_full room) state event is = record { none_queued = refl; none_dropped = refl; none_released = refl; none_queued_in = refl; none_released_in = refl }
+refusal_moves callers_full state event is = moves_none refl refl refl refl refl
+refusal_moves (units_full room) state event is = moves_none refl refl refl refl refl
+refusal_moves (pool_full room) state event is = moves_none refl refl refl refl refl
+refusal_moves (refused why) state event is = moves_none refl refl refl refl refl
+refusal_moves not_there state event is = moves_none refl refl refl refl refl
+refusal_moves (clock_back clock) state event is = moves_none refl refl refl refl refl
+refusal_moves (nothing_due next) state event is = moves_none refl refl refl refl refl
+refusal_moves (record_full room) state event is = moves_none refl refl refl refl refl
 refusal_moves (number n) state event is = absurd is
 refusal_moves (queued first count late) state event is = absurd is
 refusal_moves (added id) state event is = absurd is
@@ -159,7 +165,8 @@ decided_tells state event =
       added = λ address. record { told_in = IsPermutation-refl []; told_out = refl };
       removed = λ address id. record { told_in = IsPermutation-refl []; told_out = refl };
       ticked = λ now later. record { told_in = IsPermutation-refl []; told_out = refl };
-      released = λ unit units first. record { told_in = IsPermutation-refl []; told_out = ap (λ (l : List Queued). map (λ (unit : Queued). unit_of unit) (take 1 l)) first };
+      released = λ unit units first.
+          record { told_in = IsPermutation-refl []; told_out = ap (λ (l : List Queued). map (λ (unit : Queued). unit_of unit) (take 1 l)) first };
     })
 
 step_tells : (state : State) (event : Event) → Tells state event (step state event)

@@ -1,5 +1,6 @@
 -- Units that enter the queue.
-use Rattle.std.proofs.Common.{◌≡◌, ◌≢◌, ℕ, suc, ◌+◌, ◌<◌, ◌≤◌, Bool, true, false, cond, filter, List, [], ◌∷◌, ◌++◌, length, length-append, sum_by, refl, sym, ap, ◌∙◌, subst, arith}
+use Rattle.std.proofs.Common.{◌≡◌, ◌≢◌, ℕ, suc, ◌+◌, ◌<◌, ◌≤◌, Bool, true, false, cond, filter, List, [], ◌∷◌, ◌++◌, length, length-append, sum_by, refl, sym}
+use Rattle.std.proofs.Common.{ap, ◌∙◌, subst, arith}
 use Rattle.std.specs.List.Sorted.{IsPermutation}
 use Rattle.std.proofs.lemmas.List.Sums.{sum_by-cons}
 use Rattle.std.proofs.lemmas.List.Sorted.{IsPermutation-refl, IsPermutation-sym, IsPermutation-trans, IsPermutation-middle, IsPermutation-append_right}
@@ -12,7 +13,7 @@ use Rattle.osc_model.specs.Counts.{queued_blocks}
 use Rattle.osc_model.proofs.Blocks.{blocks_joined}
 use Rattle.osc_model.specs.Step.{waiting, numbered, is_kept, kept, kept_numbered, late_count, enter_all}
 use Rattle.osc_model.specs.declared.late.Late.{Late}
-use Rattle.osc_model.specs.declared.late.Late.TheVariants.{Deliver, Discard}
+use Rattle.osc_model.specs.declared.late.Late.TheVariants.{Deliver}
 use Rattle.std.proofs.lemmas.List.Elements.{filter-append}
 
 -- the units join the others, none of which is lost
@@ -200,6 +201,7 @@ all_numbered late clock next [] queue below = let same : next ≡ next + 0 = ome
 all_numbered late clock next (unit ∷ units) queue below =
     let same : next + 1 + length units ≡ next + suc (length units) = omega arith in
     subst (λ (n : ℕ). AreNumbered n (enter_all (kept_numbered late clock next (unit ∷ units)) queue)) same
-    (entered_or_not (AreNumbered (next + 1 + length units)) (is_kept late clock unit) (waiting clock next unit) (kept_numbered late clock (next + 1) units) queue
+    (entered_or_not (AreNumbered (next + 1 + length units)) (is_kept late clock unit) (waiting clock next unit)
+    (kept_numbered late clock (next + 1) units) queue
     (all_numbered late clock (next + 1) units (enter (waiting clock next unit) queue) (one_numbered clock next unit queue below))
     (all_numbered late clock (next + 1) units queue (numbered_later next queue below)))

@@ -25,7 +25,7 @@ pub record Hit : Type 0 where
 pub data Answer : Type 0 where
   number : ℕ → Answer
   callers_full : Answer
-  queued : ℕ → ℕ → ℕ → Answer  -- the first unit's number, how many, and how many late ones are dropped
+  queued : ℕ → ℕ → ℕ → Answer  -- the first unit's number, how many, and how many are dropped
   units_full : Room → Answer
   pool_full : Room → Answer
   added : ℕ → Answer
@@ -49,6 +49,16 @@ abbrev pub adds_entry : Answer → Bool
 adds_entry (nothing_due next) = false
 adds_entry (record_full room) = false
 adds_entry _ = true
+
+-- whether an answer says that a method was added
+abbrev pub is_added : Answer → Bool
+is_added (added id) = true
+is_added _ = false
+
+-- whether it says that one was removed
+abbrev pub is_removed : Answer → Bool
+is_removed (removed id) = true
+is_removed _ = false
 
 -- a call of a method: which message of the unit, the method, and the message
 pub record Call : Type 0 where

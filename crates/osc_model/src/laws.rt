@@ -12,7 +12,7 @@ ghost use Rattle.osc_queue.specs.Timed.{unit_of, enter, IsInOrder, IsNewUnit};
 ghost use Rattle.osc_tree.specs.Registry.{Registry, IsLawful as IsLawfulRegistry, IsNewId, without};
 ghost use Rattle.osc_tree.specs.Registry.{address_by_id};
 ghost use Rattle.osc_tree.specs.Adding.{IsAddable, add_refusal};
-ghost use Rattle.osc_model.specs.Limits.{Limits, AreInRange};
+ghost use Rattle.osc_model.specs.Limits.{Limits, limits_of, AreInRange};
 ghost use Rattle.osc_model.specs.State.{State, Queued, AreNumbered, opening};
 ghost use Rattle.osc_model.specs.Counts.{queued_blocks, free_bytes};
 ghost use Rattle.osc_model.specs.Recordings.{IsRecordable, entry_size, record_text};
@@ -21,13 +21,15 @@ ghost use Rattle.osc_model.specs.Events.{removed, record_full, adds_entry, numbe
 ghost use Rattle.osc_model.specs.Events.{units_full, pool_full, ticked, clock_back, Invocation};
 ghost use Rattle.osc_model.specs.Events.{Entry};
 ghost use Rattle.osc_model.specs.Enrolled.{callers_in};
-ghost use Rattle.osc_model.specs.Step.{step, decided, leaves, waiting, numbered, kept, kept_numbered};
+ghost use Rattle.osc_model.specs.Step.{step, decided, leaves, waiting, numbered, kept};
+ghost use Rattle.osc_model.specs.Step.{kept_numbered};
 ghost use Rattle.osc_model.specs.Step.{late_count, enter_all};
 ghost use Rattle.osc_model.specs.declared.late.Late.{Late};
 ghost use Rattle.osc_model.specs.declared.late.Late.TheVariants.{Deliver, Discard};
 ghost use Rattle.osc_model.specs.Releases.{ReleasesLeast, InvokesRegistered};
 ghost use Rattle.osc_model.specs.Refusals.{IsRefusal};
-ghost use Rattle.osc_model.specs.Passing.{entering, dropping, leaving, all_entering, all_leaving, queued_in};
+ghost use Rattle.osc_model.specs.Passing.{entering, dropping, leaving, all_entering, all_leaving};
+ghost use Rattle.osc_model.specs.Passing.{queued_in};
 ghost use Rattle.osc_model.specs.Passing.{released_in};
 ghost use Rattle.osc_model.specs.Heard.{Told, reset, hear_all, all_hear, without_id, heard_of};
 ghost use Rattle.osc_model.specs.Heard.{calls_bytes, IsWithin};
@@ -153,8 +155,8 @@ pub fn a_release_takes_the_least_unit()
 }
 
 /// No unit is lost, and none is released twice: those that waited and those that are queued are, each once, those that
-/// are released and those that wait then. The answers tell their numbers: each that is given is once that of a unit that is
-/// queued, or of one that is dropped.
+/// are released and those that wait then. The answers tell their numbers: each that is given is once that of a unit
+/// that is queued, or of one that is dropped.
 pub fn no_unit_is_lost()
     ensures step { (state : State) (event : Event)
         → IsPermutation (state.queue ++ entering state event)
@@ -354,24 +356,24 @@ pub fn callers_are_counted()
 /// message alone is queued where there is a place for it and blocks for its bytes, of which 64 take two.
 pub fn examples()
     ensures early { (step (opening
-        (record { units = 1; blocks = 1; methods = 1; nodes = 1; callers = 1; recording = 200; late = Deliver }))
+        (limits_of 1 1 1 1 1 200 Deliver))
         (tick 0)).answer ≡ clock_back 1 }
     ensures on { (step (opening
-        (record { units = 1; blocks = 1; methods = 1; nodes = 1; callers = 1; recording = 200; late = Deliver }))
+        (limits_of 1 1 1 1 1 200 Deliver))
         (tick 5)).answer ≡ ticked }
     ensures full { (step (opening
-        (record { units = 1; blocks = 1; methods = 1; nodes = 1; callers = 1; recording = 200; late = Deliver }))
+        (limits_of 1 1 1 1 1 200 Deliver))
         enrol).answer ≡ callers_full }
     ensures no_place { (step (step (opening
-        (record { units = 1; blocks = 1; methods = 1; nodes = 1; callers = 1; recording = 200; late = Deliver }))
+        (limits_of 1 1 1 1 1 200 Deliver))
         (submit (codes "/a" ++ 0 ∷ 0 ∷ []))).state (submit (codes "/a" ++ 0 ∷ 0 ∷ []))).answer
         ≡ units_full (record { need = 1; free = 0 }) }
     ensures no_block { (step (opening
-        (record { units = 1; blocks = 1; methods = 1; nodes = 1; callers = 1; recording = 200; late = Deliver }))
+        (limits_of 1 1 1 1 1 200 Deliver))
         (submit (codes "/a" ++ 0 ∷ 0 ∷ codes ",b"
         ++ 0 ∷ 0 ∷ 0 ∷ 0 ∷ 0 ∷ 52 ∷ replicate 52 0))).answer
         ≡ pool_full (record { need = 2; free = 1 }) }
     ensures second { (step (opening
-        (record { units = 1; blocks = 1; methods = 1; nodes = 1; callers = 2; recording = 200; late = Deliver }))
+        (limits_of 1 1 1 1 2 200 Deliver))
         enrol).answer ≡ number 1 }
 {}

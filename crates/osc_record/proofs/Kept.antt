@@ -10,7 +10,7 @@ use Rattle.osc_model.specs.Events.{Event, Answer}
 use Rattle.osc_model.specs.Limits.{Limits}
 use Rattle.osc_model.specs.Events.{Entry as Recorded}
 use Rattle.osc_model.specs.Recordings.{Row, row_of, row_text, sized, entry_text, FitsRow, IsHit, IsRecordable, hits_in, record_text, header_text}
-use Rattle.osc_record.specs.Reading.{Placed, entry_first, entries_read, entries_after}
+use Rattle.osc_record.specs.Reading.{Placed, placed_from, unplaced, entry_first, entries_read, entries_after}
 use Rattle.osc_record.specs.Writing.{Begun, begun_text, recording_text, appended, entries_of, entries_in, begun_in, recording_of, AreWhole, IsKept}
 use Rattle.osc_record.proofs.Again.{entry_first_again, entries_more}
 
@@ -24,6 +24,12 @@ entry_some caller event answer fits = go (row_of caller event answer) fits where
 map_more : (xs : List Placed) (x : Placed) → map (λ (p : Placed). p.entry) (xs ++ x ∷ []) ≡ map (λ (p : Placed). p.entry) xs ++ x.entry ∷ []
 map_more [] x = refl
 map_more (y ∷ xs) x = ap (λ (l : List Recorded). y.entry ∷ l) (map_more xs x)
+
+-- entries at their places are these entries
+pub unplaced_from : (place : ℕ) (entries : List Recorded) → unplaced (placed_from place entries) ≡ entries
+unplaced_from place [] = refl
+unplaced_from place (entry ∷ entries) =
+    ap (λ (l : List Recorded). entry ∷ l) (unplaced_from (place + length (entry_text entry.caller entry.event entry.answer)) entries)
 
 texts_more : (xs : List Recorded) (x : Recorded)
     → flat_map (λ (e : Recorded). entry_text e.caller e.event e.answer) (xs ++ x ∷ [])

@@ -14,7 +14,8 @@ use Rattle.osc_model.specs.Events.{Entry as Recorded}
 use Rattle.osc_model.specs.declared.late.Late.{Late}
 use Rattle.osc_model.specs.declared.late.Late.TheVariants.{Deliver, Discard}
 use Rattle.osc_model.specs.Recordings.{late_code, row_text, header_row, header_text, entry_text, record_text, IsRecordable}
-use Rattle.osc_record.specs.Reading.{entry_first, Placed, onto_read, before_read, entries_read, late_told, lawful_limits, limits_read, header_of, header_read, with_entries, record_read}
+use Rattle.osc_record.specs.Reading.{entry_first, Placed, onto_read, before_read, entries_read, late_told, lawful_limits, limits_read, header_of, header_read}
+use Rattle.osc_record.specs.Reading.{with_entries, record_read}
 use Rattle.osc_record.specs.Reading.{placed_from, IsRecord}
 use Rattle.osc_record.proofs.Lawful.{rec_address, balanced}
 use Rattle.osc_record.proofs.Again.{drop_front, message_again, entry_first_again}

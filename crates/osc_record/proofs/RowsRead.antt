@@ -56,7 +56,8 @@ submit_told : (code first second third : ℕ) (answer : Answer) → submit_answe
     → SubmitTold code first second third answer
 submit_told code first second third answer is =
     chosen_if told (code == 0) (nat_le third second) (queued first second third)
-    (cond (code == 1) (answer_if (nat_lt second first && third == 0) units) (cond (code == 2) (answer_if (nat_lt second first && third == 0) pool) None)) answer is
+    (cond (code == 1) (answer_if (nat_lt second first && third == 0) units) (cond (code == 2) (answer_if (nat_lt second first && third == 0) pool) None))
+    answer is
     (λ c u. ((λ i. Some (sym (eqb-true code 0 c) i, first, second, third)), leb-true third second u)) (λ is1.
     chosen_if told (code == 1) (nat_lt second first && third == 0) units (cond (code == 2) (answer_if (nat_lt second first && third == 0) pool) None) answer is1
     (λ c u. full 1 c (and_parts (nat_lt second first) (third == 0) u)) (λ is2.

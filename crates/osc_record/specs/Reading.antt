@@ -127,8 +127,8 @@ submit_read arguments =
     at_end third.1
     (option_map (λ a. record { caller = caller.0; event = submit packet.0; answer = a })
     (submit_answer code.0 first.0 second.0 third.0)))
-    (int_first second.1)) (int_first first.1)) (long_first code.1)) (int_first packet.1)) (content_first caller.1))
-    (int_first arguments)
+    (int_first second.1)) (int_first first.1)) (long_first code.1)) (int_first packet.1))
+    (content_first caller.1)) (int_first arguments)
 
 abbrev pub add_read : List Argument → Option Recorded
 add_read arguments =
@@ -285,8 +285,8 @@ limits_read arguments =
       recording = recording.0;
       late = policy;
     })) (late_told late.0) else None))
-    (int_first recording.1)) (int_first callers.1)) (int_first nodes.1)) (int_first methods.1)) (int_first blocks.1))
-    (int_first units.1)) (int_first version.1)) (int_first arguments)
+    (int_first recording.1)) (int_first callers.1)) (int_first nodes.1)) (int_first methods.1))
+    (int_first blocks.1)) (int_first units.1)) (int_first version.1)) (int_first arguments)
 
 -- the limits that a message is the header of
 abbrev pub header_of : List ℕ → Option Limits

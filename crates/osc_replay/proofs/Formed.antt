@@ -1,7 +1,7 @@
 -- Recordings whose packets and addresses are lawful, read entry by entry.
 use Rattle.std.proofs.Common.{◌≡◌, ℕ, ◌+◌, ◌<◌, ◌≤◌, ◌^◌, true, false, List, [], ◌∷◌, ◌++◌, length, drop, Option, Some, None, inl, inr, refl, sym, ap, subst}
 use Rattle.std.proofs.Common.{◌∙◌, arith, length-append, append_assoc, lt-ltb}
-use Rattle.std.specs.Prelude.{IfSome, IfNone}
+use Rattle.std.specs.Prelude.{IfSome, IfNone, Result, Ok, Err, IfOk, IfErr, IsOkAnd}
 use Rattle.std.proofs.lemmas.Bool.{ltb-true}
 use Rattle.std.proofs.lemmas.Grind.{flat_map-append}
 use Rattle.std.proofs.lemmas.List.{append-nil}
@@ -11,10 +11,10 @@ use Rattle.osc_model.specs.Events.{Event, enrol, submit, add, remove, tick, rele
 use Rattle.osc_model.specs.Recordings.{IsRecordable, entry_text, header_text, record_text}
 use Rattle.osc_model.specs.History.{IsLawful}
 use Rattle.osc_model.proofs.Sizes.{header_size}
-use Rattle.osc_record.specs.Reading.{Placed, entry_first, header_read}
+use Rattle.osc_record.specs.Reading.{Placed, ReadRecord, placed_from, unplaced, entry_first, header_read}
 use Rattle.osc_record.specs.Unread.{Remaining, HasHeader, Reads, HasNoNext}
 use Rattle.osc_record.proofs.Again.{drop_front, entry_first_again}
-use Rattle.osc_record.proofs.Kept.{record_more}
+use Rattle.osc_record.proofs.Kept.{record_more, unplaced_from}
 use Rattle.osc_record.proofs.Readings.{header_again}
 use Rattle.osc_record.specs.Shown.{event_of}
 use Rattle.osc_replay.specs.declared.row.Row.{Row}
@@ -30,6 +30,11 @@ of_some P o x is holds = subst (λ o. IfSome o P) is holds
 pub of_none : {X P : Type 0} (o : Option X) → ((x : X) → o ≡ Some x → ⊥) → IfNone o P → P
 of_none None none holds = holds
 of_none (Some x) none holds = absurd (none x refl)
+
+-- what is there is no error
+pub never_err : {X E : Type 0} (P : E → Type 0) (Q : X → Type 0) (r : Result X E) → IsOkAnd r Q → IfErr r P
+never_err P Q (Ok x) is = tt
+never_err P Q (Err e) is = absurd is
 
 -- the test says what is lawful
 
@@ -140,6 +145,17 @@ pub nothing_left : (left : Remaining) → left.rest ≡ [] → EndsFormed left
 nothing_left left none bytes caps before is =
     let all = append-nil before in
     ([], subst (IsFormed caps) (sym all) is.formed, formed_all bytes caps before left is none ∙ ap (record_text caps) (sym all))
+
+-- what is read of a recording whose packets and addresses are lawful
+pub read_formed : {E : Type 0} (bytes : List ℕ) (caps : Limits) (entries : List Entry) (r : Result ReadRecord E) → IsFormed caps entries
+    → bytes ≡ record_text caps entries → IsOkAnd r (λ reader. (reader.caps ≡ caps) × (reader.entries ≡ placed_from 60 entries))
+    → IfOk r (λ reader. IsFormed reader.caps (unplaced reader.entries) × (bytes ≡ record_text reader.caps (unplaced reader.entries)))
+read_formed bytes caps entries (Ok reader) formed text same =
+    let own : unplaced reader.entries ≡ entries = ap unplaced same.1 ∙ unplaced_from 60 entries in (
+      subst (λ (l : Limits). IsFormed l (unplaced reader.entries)) (sym same.0) (subst (IsFormed caps) (sym own) formed),
+      text ∙ ap (record_text caps) (sym own) ∙ ap (λ (l : Limits). record_text l (unplaced reader.entries)) (sym same.0),
+    )
+read_formed bytes caps entries (Err e) formed text same = tt
 
 -- no entry is next, or one that isn't lawful
 pub none_lawful : (left : Remaining) (at : ℕ) → HasNoNext left at → HasNoLawful left at

@@ -175,8 +175,8 @@ stops_not_malformed X (Malformed at) number kept computed holds differs = absurd
 stops_not_malformed X (Disagrees entry own given) number kept computed holds differs = tt
 stops_not_malformed X NoMemory number kept computed holds differs = tt
 
-pub stops_disagreeing : (X : Type 0) (bytes : List ℕ) (left rest : Remaining) (placed : Placed) (state : State) (text : List ℕ) (number : ℕ) (fault : ReplayFault)
-    → IsPlayed bytes left state text number → Reads left placed rest → IsLawful placed.entry.event → EndsFormed rest
+pub stops_disagreeing : (X : Type 0) (bytes : List ℕ) (left rest : Remaining) (placed : Placed) (state : State) (text : List ℕ) (number : ℕ)
+    (fault : ReplayFault) → IsPlayed bytes left state text number → Reads left placed rest → IsLawful placed.entry.event → EndsFormed rest
     → Differs fault number (entry_text placed.entry.caller placed.entry.event placed.entry.answer) (computed_text state placed.entry.caller placed.entry.event)
     → OnDisagrees {X = X} (Err fault) (λ entry kept computed. DisagreesAt bytes entry kept computed)
 stops_disagreeing X bytes left rest placed state text number (Malformed at) is reads lawful ends differs = tt

@@ -7,7 +7,7 @@ use Rattle.std.specs.List.{AllByRecursion}
 use Rattle.std.proofs.lemmas.List.Sums.{count_by-le-length, sum_by-cons}
 use Rattle.osc_model.specs.Limits.{Limits}
 use Rattle.osc_model.specs.State.{State, opening}
-use Rattle.osc_model.specs.Events.{Event, enrol, submit, add, remove, tick, release, Answer, released, Entry}
+use Rattle.osc_model.specs.Events.{Event, enrol, submit, add, remove, tick, release, Answer, released, Entry, is_added, is_removed}
 use Rattle.osc_model.specs.Refusals.{IsRefusal}
 use Rattle.osc_model.specs.Recordings.{FitsRow, row_of, entry_text, entry_size}
 use Rattle.osc_model.specs.Step.{Stepped, step, decided, calls_of_unit}
@@ -15,9 +15,10 @@ use Rattle.osc_model.specs.History.{LegalFrom, invocations}
 use Rattle.osc_model.proofs.Stepping.{step_so, decided_so}
 use Rattle.osc_model.proofs.Sizes.{sizes_are}
 use Rattle.osc_record.specs.Reading.{Placed, placed_from, unplaced}
+use Rattle.osc_record.proofs.Kept.{unplaced_from}
 use Rattle.osc_replay.specs.declared.counts.Counts.{Counts}
 use Rattle.osc_replay.specs.Disagreeing.{IsRecordingOf}
-use Rattle.osc_replay.specs.Counted.{is_submit, is_queued, is_added, is_removed, is_ticked, is_released, hit_count, counts_of, counts_text, summary, one_more}
+use Rattle.osc_replay.specs.Counted.{is_submit, is_queued, is_ticked, is_released, hit_count, counts_of, counts_text, summary, one_more}
 use Rattle.osc_replay.specs.Counted.{more_counted, no_counts, weight, IsAtMost}
 use Rattle.osc_replay.proofs.Formed.{texts, Recordable, record_length}
 use Rattle.osc_replay.proofs.Reached.{StaysWithin}
@@ -163,11 +164,6 @@ all_many state (entry ∷ history) legal =
       sum_by-cons (λ (e : Entry). hit_count e.answer) entry history,
     )
 
-without_places : (place : ℕ) (entries : List Entry) → unplaced (placed_from place entries) ≡ entries
-without_places place [] = refl
-without_places place (e ∷ entries) =
-    ap (λ (l : List Entry). e ∷ l) (without_places (place + length (entry_text e.caller e.event e.answer)) entries)
-
 -- a recording is short, and its entries and hits are few
 pub is_short : StaysWithin → (bytes : List ℕ) (caps : Limits) (history : List Entry) → IsRecordingOf bytes caps history → length bytes ≤ 1073741824
 is_short within bytes caps history is =
@@ -176,11 +172,11 @@ is_short within bytes caps history is =
 pub is_light : AllFit → StaysWithin → (bytes : List ℕ) (placed : List Placed) (caps : Limits) (history : List Entry) → IsRecordingOf bytes caps history
     → placed ≡ placed_from 60 history → weight (unplaced placed) ≤ 2 ^ 62
 is_light fit within bytes placed caps history is same =
-    let own = ap weight (ap unplaced same ∙ without_places 60 history) in
+    let own = ap weight (ap unplaced same ∙ unplaced_from 60 history) in
     omega (arith, own, light history (fit caps history is.legal), record_length caps history, ap length is.text, is_short within bytes caps history is)
 
 pub summed : (bytes text : List ℕ) (placed : List Placed) (caps : Limits) (history : List Entry) → IsRecordingOf bytes caps history
     → placed ≡ placed_from 60 history → text ≡ counts_text (more_counted no_counts (unplaced placed)) (length bytes) → text ≡ summary caps history
 summed bytes text placed caps history is same text_is =
-    text_is ∙ ap (λ (l : List Entry). counts_text (more_counted no_counts l) (length bytes)) (ap unplaced same ∙ without_places 60 history)
+    text_is ∙ ap (λ (l : List Entry). counts_text (more_counted no_counts l) (length bytes)) (ap unplaced same ∙ unplaced_from 60 history)
     ∙ ap₂ counts_text (all_counted history ∙ ap (λ (n : ℕ). counts_of n history) (sym (all_many (opening caps) history is.legal.1))) (ap length is.text)

@@ -1,5 +1,6 @@
 -- Recordings that are checked up to an entry.
-use Rattle.std.proofs.Common.{◌≡◌, ℕ, zero, suc, ◌+◌, ◌≤◌, Bool, true, false, cond, List, [], ◌∷◌, ◌++◌, length, length-append, Result, Ok, Err, OnOk, Option, refl, sym, ap}
+use Rattle.std.proofs.Common.{◌≡◌, ℕ, zero, suc, ◌+◌, ◌≤◌, Bool, true, false, cond, List, [], ◌∷◌, ◌++◌, length, length-append, Result, Ok, Err, OnOk, Option}
+use Rattle.std.proofs.Common.{refl, sym, ap}
 use Rattle.std.proofs.Common.{subst, ◌∙◌, arith}
 use Rattle.std.specs.Prelude.{count_by}
 use Rattle.std.proofs.lemmas.List.Sums.{count_by-le-length, sum_by_push}
@@ -7,7 +8,7 @@ use Rattle.std.specs.List.{flat_map}
 use Rattle.osc_print.specs.Entries.{event_line, invocation_text}
 use Rattle.osc_model.specs.Limits.{Limits}
 use Rattle.osc_model.specs.State.{State, opening}
-use Rattle.osc_model.specs.Events.{Entry, Answer, adds_entry}
+use Rattle.osc_model.specs.Events.{Entry, Answer, adds_entry, is_added}
 use Rattle.osc_model.specs.Step.{step}
 use Rattle.osc_model.specs.History.{IsLawful, after}
 use Rattle.osc_model.proofs.Onward.{adds_is}
@@ -15,7 +16,6 @@ use Rattle.osc_record.specs.Reading.{Placed}
 use Rattle.osc_record.specs.Unread.{Remaining, HasHeader, Reads}
 use Rattle.osc_record.proofs.Readings.{texts_differ}
 use Rattle.osc_replay.specs.Answers.{IsTextUnlessShort}
-use Rattle.osc_replay.specs.Counted.{is_added}
 use Rattle.osc_replay.specs.Checking.{IsCheckOf, IsCheckedUnlessShort, lines_of}
 use Rattle.osc_replay.specs.Disagreeing.{IsRecordingOf}
 use Rattle.osc_replay.specs.Playing.{Goes}
@@ -52,7 +52,11 @@ pub record IsCheckedTo (bytes : List ℕ) (left : Remaining) (state : State) (nu
   pub adds_are : adds ≡ count_by (λ entry. is_added entry.answer) played.before
 
 pub checked_none : (bytes : List ℕ) (left : Remaining) → HasHeader bytes left → IsCheckedTo bytes left (opening left.caps) 0 0
-checked_none bytes left is = record { text = []; played = played_none bytes left is; adds_are = ap (count_by (λ (e : Entry). is_added e.answer)) (sym (none_before bytes left is)) }
+checked_none bytes left is = record {
+  text = [];
+  played = played_none bytes left is;
+  adds_are = ap (count_by (λ (e : Entry). is_added e.answer)) (sym (none_before bytes left is));
+}
 
 pub checked_more : (bytes : List ℕ) (left rest : Remaining) (placed : Placed) (state new : State) (number adds : ℕ) → IsCheckedTo bytes left state number adds
     → Reads left placed rest → IsLawful placed.entry.event → Goes placed.entry state new [] (lines_of state placed.entry)
@@ -91,8 +95,8 @@ checked_all bytes left state number adds checked is caps entries added callers =
 pub one_checked : AllFit → StaysWithin → (bytes : List ℕ) (checked : Checked) (caps other : Limits) (history others : List Entry)
     → IsRecordingOf bytes caps history → IsCheckOf checked caps history → IsRecordingOf bytes other others → IsCheckOf checked other others
 one_checked fit within bytes checked caps other history others one is two =
-    let same = texts_differ caps other history others (formed_of fit within caps history one.legal).record_ (formed_of fit within other others two.legal).record_
-    (sym one.text ∙ two.text) in
+    let same = texts_differ caps other history others (formed_of fit within caps history one.legal).record_
+    (formed_of fit within other others two.legal).record_ (sym one.text ∙ two.text) in
     subst (λ (l : Limits). IsCheckOf checked l others) same.0 (subst (IsCheckOf checked caps) same.1 is)
 
 -- a fault that is no answer to a legal history's recording but for want of memory

@@ -4,14 +4,13 @@ use Rattle.osc_print.specs.Entries.{event_line, invocation_text}
 use Rattle.std.specs.List.{flat_map}
 use Rattle.osc_model.specs.Limits.{Limits}
 use Rattle.osc_model.specs.State.{State, opening}
-use Rattle.osc_model.specs.Events.{Entry}
+use Rattle.osc_model.specs.Events.{Entry, is_added}
 use Rattle.osc_model.specs.Step.{step}
 use Rattle.osc_model.specs.History.{after}
 use Rattle.std.specs.Prelude.{◌++◌}
 use Rattle.osc_replay.specs.declared.checking.Checked.{Checked}
 use Rattle.osc_replay.specs.declared.fault.ReplayFault.{ReplayFault}
 use Rattle.osc_replay.specs.declared.fault.ReplayFault.TheVariants.{NoMemory}
-use Rattle.osc_replay.specs.Counted.{is_added}
 
 -- the limits, how many entries there are, how many of them added a method, and how many callers are
 -- enrolled after them

@@ -5,8 +5,8 @@ use Rattle.osc_print.specs.Lines.{line}
 use Rattle.osc_print.specs.Entries.{named}
 use Rattle.osc_model.specs.Limits.{Limits}
 use Rattle.osc_model.specs.State.{opening}
-use Rattle.osc_model.specs.Events.{Event, submit, Answer, queued, added, removed, ticked, released}
-use Rattle.osc_model.specs.Events.{Entry}
+use Rattle.osc_model.specs.Events.{Event, submit, Answer, queued, is_added, is_removed, ticked}
+use Rattle.osc_model.specs.Events.{released, Entry}
 use Rattle.osc_model.specs.History.{invocations}
 use Rattle.osc_model.specs.Recordings.{record_text}
 use Rattle.osc_replay.specs.declared.counts.Counts.{Counts}
@@ -18,14 +18,6 @@ is_submit _ = false
 abbrev pub is_queued : Answer → Bool
 is_queued (queued first count late) = true
 is_queued _ = false
-
-abbrev pub is_added : Answer → Bool
-is_added (added id) = true
-is_added _ = false
-
-abbrev pub is_removed : Answer → Bool
-is_removed (removed id) = true
-is_removed _ = false
 
 abbrev pub is_ticked : Answer → Bool
 is_ticked ticked = true

@@ -1,5 +1,6 @@
 //! Recordings, checked and not printed.
-ghost use Rattle.std.specs.Prelude.{◌≡◌, ◌≤◌, ◌<◌, ◌+◌, ◌^◌, if◌then◌else◌, [], List, length, IfOk, IfErr, OnOk};
+ghost use Rattle.std.specs.Prelude.{◌≡◌, ◌≤◌, ◌<◌, ◌+◌, ◌^◌, if◌then◌else◌, [], List, length, IfOk};
+ghost use Rattle.std.specs.Prelude.{IfErr, OnOk};
 ghost use Rattle.osc_model.specs.Limits.{Limits, max_recording};
 ghost use Rattle.osc_model.specs.Events.{Entry as Recorded};
 ghost use Rattle.osc_model.specs.Recordings.{IsRecordable, entry_text};

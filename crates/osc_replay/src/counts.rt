@@ -4,6 +4,7 @@ ghost use Rattle.osc_model.specs.Recordings.{hits_in};
 ghost use Rattle.osc_record.specs.Shown.{event_of, answer_of};
 ghost use Rattle.osc_record.specs.Left.{placed_of, entries_left};
 ghost use Rattle.osc_record.specs.Reading.{unplaced};
+ghost use Rattle.osc_model.specs.Events;
 ghost use Rattle.osc_replay.specs.Counted;
 ghost use Rattle.osc_replay.specs.Counted.{no_counts, one_more, more_counted, weight, IsAtMost};
 
@@ -85,13 +86,13 @@ fn is_queued(answer: Answer<'_>) -> bool
 }
 
 pub(crate) fn is_added(answer: Answer<'_>) -> bool
-    ensures { result ≡ Counted.is_added (answer_of answer.entry) }
+    ensures { result ≡ Events.is_added (answer_of answer.entry) }
 {
     matches!(answer, Answer::Added(_))
 }
 
 fn is_removed(answer: Answer<'_>) -> bool
-    ensures { result ≡ Counted.is_removed (answer_of answer.entry) }
+    ensures { result ≡ Events.is_removed (answer_of answer.entry) }
 {
     matches!(answer, Answer::Removed(_))
 }

@@ -1,9 +1,14 @@
 // Whether the packets and addresses of a recording are lawful.
-ghost use Rattle.std.specs.Prelude.{◌≡◌, [], IfOk, IfErr, IfSome, IfNone, true, false};
+ghost use Rattle.std.specs.Prelude.{◌≡◌, ◌≤◌, [], List, length, IfOk, IfErr, IsOkAnd, IfSome, IfNone};
+ghost use Rattle.std.specs.Prelude.{true, false};
+ghost use Rattle.osc_model.specs.Limits.{Limits, header_size, max_recording};
+ghost use Rattle.osc_model.specs.Events.{Entry as Recorded};
+ghost use Rattle.osc_model.specs.Recordings.{record_text};
+ghost use Rattle.osc_record.specs.Reading.{placed_from, unplaced};
 ghost use Rattle.osc_record.specs.Left.{placed_of};
 ghost use Rattle.osc_record.specs.Shown.{event_of};
 ghost use Rattle.osc_record.specs.Unread.{Reads};
-ghost use Rattle.osc_replay.specs.Formed.{HasNoLawful, EndsFormed, IsStuckAt};
+ghost use Rattle.osc_replay.specs.Formed.{IsFormed, IsUnformedAt, HasNoLawful, EndsFormed, IsStuckAt};
 ghost use Rattle.osc_replay.specs.Lawful.{is_lawful};
 ghost use Rattle.osc_replay.specs.Events.{event_in};
 
@@ -11,7 +16,28 @@ use crate::event::LawfulEvent;
 use crate::row::Row;
 use osc_packet::{MAX_PACKET, Packet};
 use osc_pattern::Address;
-use osc_record::{Event, Malformed, Unread};
+use osc_record::{Event, Malformed, Reader, Unread};
+
+/// Accepts exactly a recording whose packets are valid and whose addresses are lawful, and borrows it. Else tells the
+/// first malformed place (docs/FORMATS.md, "The recording"). Takes no memory.
+pub fn well_formed(bytes: &[u8]) -> Result<Reader<'_>, Malformed>
+    requires { length bytes.now ≤ max_recording }
+    ensures ok { IfOk result
+        (λ reader. IsFormed reader.caps (unplaced reader.entries)
+        × (bytes.now ≡ record_text reader.caps (unplaced reader.entries))) }
+    ensures first { IfErr result (λ malformed. IsUnformedAt bytes.now malformed.at) }
+    ensures complete { (limits : Limits) (entries : List Recorded) → IsFormed limits entries
+        → bytes.now ≡ record_text limits entries
+        → IsOkAnd result
+        (λ reader. (reader.caps ≡ limits)
+        × (reader.entries ≡ placed_from header_size entries)) }
+{
+    let unread = Unread::open(bytes)?;
+    match first_malformed(unread) {
+        Some(at) => Err(Malformed { at }),
+        None => Reader::check(bytes),
+    }
+}
 
 /// Reads the next entry, whose packet or address has to be lawful.
 pub(crate) fn next_row<'a>(unread: &mut Unread<'a>) -> Result<Option<Row<'a>>, Malformed>

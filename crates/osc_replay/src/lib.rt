@@ -21,5 +21,6 @@ mod units;
 pub use checking::{Checked, check};
 pub use dumping::{DumpFault, dump};
 pub use fault::ReplayFault;
+pub use forming::well_formed;
 pub use replaying::replay;
 pub use summing::summary;

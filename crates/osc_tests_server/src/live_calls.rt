@@ -11,6 +11,7 @@ use std::test::Fail;
 /// What a server of two callers comes to, on which one method is added, called and handed out.
 #[derive(Drop)]
 struct Round<M> {
+    numbers: (u32, u32),
     fronts: (u64, u64),
     released: (u32, u64),
     closed: Closed<M>,
@@ -36,8 +37,10 @@ fn play_round<M: Method, W: Wait>(
     };
     let (new, pumped) = live.pump(rt, new);
     let (new, front) = live.front(new);
+    let numbers = (caller.number(), new.number());
     let closed = close_both(alloc, live, caller, new)?;
     Some(Round {
+        numbers,
         fronts: (enrolled, front),
         released: (pumped.released, pumped.calls),
         closed,
@@ -59,6 +62,7 @@ fn two_callers_share_one_history(rt: HostRuntime) -> Result<(), Fail> {
     let packet = packet().ok_or("a packet")?;
     let trace = Trace::open(rt.alloc(), 64)?;
     let round = play_round(&rt, rt.alloc(), trace, &packet).ok_or("memory")?;
+    assert_eq!(rt; round.numbers, (0, 1));
     assert_eq!(rt; round.fronts, (1, 4));
     assert_eq!(rt; round.released, (1, 1));
     assert_eq!(rt; told(&round), Some(20));

@@ -174,7 +174,7 @@ fn the_first_malformed_place_is_told(rt: HostRuntime) -> Result<(), AllocError> 
             "{entry:?}"
         );
     }
-    // A header of the first version, and one with no policy.
+    // A header of the first version, and one whose late field is 2.
     let first =
         b"\0\0\0\x34/osc/rec\0\0\0\0,iiiiiii\0\0\0\0\0\0\0\x01\0\0\0\x01\0\0\0\x01\0\0\0\x01\0\0\0\x01\0\0\0\x01\0\0\0\xc8";
     let third =

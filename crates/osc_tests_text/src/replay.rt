@@ -4,7 +4,8 @@ use std::alloc::{AllocError, Global};
 use std::process::Abort;
 use std::test::*;
 
-/// The header of 1 unit, 1 block, 1 method, 1 node, 1 caller and up to 255 bytes, but for the last byte of the limit and what follows it.
+/// The header of 1 unit, 1 block, 1 method, 1 node, 1 caller and up to 255 bytes, but for the last byte of the limit and
+/// what follows it.
 const HEADER: [u8; 55] =
     *b"\0\0\0\x38/osc/rec\0\0\0\0,iiiiiiii\0\0\0\0\0\0\x02\0\0\0\x01\0\0\0\x01\0\0\0\x01\0\0\0\x01\0\0\0\x01\0\0\0";
 
@@ -52,6 +53,7 @@ fn recording(
 fn a_recording_is_printed(rt: HostRuntime) -> Result<(), AllocError> {
     let bytes = recording(rt.alloc(), 212, &ADD, &SUBMIT, &RELEASE)?;
     assert!(rt; bytes.len() <= 212);
+    assert!(rt; well_formed(&bytes).is_ok());
     let Ok(text) = replay(rt.alloc(), &bytes) else {
         panic!(rt; "refused");
     };
@@ -110,11 +112,19 @@ fn the_first_malformed_place_is_told(rt: HostRuntime) -> Result<(), AllocError> 
     for (first, second, place) in PLACES {
         let bytes = recording(rt.alloc(), 212, first, second, b"")?;
         assert!(rt; bytes.len() <= 212);
+        assert_eq!(rt;
+            well_formed(&bytes).err().map(|malformed| malformed.at),
+            Some(place)
+        );
         match replay(rt.alloc(), &bytes) {
             Err(ReplayFault::Malformed { at }) => assert_eq!(rt; at, place),
             _ => panic!(rt; "accepted"),
         }
     }
+    assert_eq!(rt;
+        well_formed(b"").err().map(|malformed| malformed.at),
+        Some(0)
+    );
     match replay(rt.alloc(), b"") {
         Err(ReplayFault::Malformed { at }) => assert_eq!(rt; at, 0),
         _ => panic!(rt; "accepted"),
@@ -170,6 +180,7 @@ fn a_recording_is_dumped_as_it_stands(rt: HostRuntime) -> Result<(), AllocError>
     // No server gives the second entry, and a dump prints no call of the third.
     let bytes = recording(rt.alloc(), 212, &ADD, &STRANGER, &OTHER)?;
     assert!(rt; bytes.len() <= 212);
+    assert!(rt; well_formed(&bytes).is_ok());
     match dump(rt.alloc(), &bytes) {
         Ok(text) => assert_eq!(rt;
             text.bytes(),

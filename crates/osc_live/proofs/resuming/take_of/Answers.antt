@@ -45,6 +45,8 @@ pub returns : goal.returns
 returns g c =
     let inv = c.loop-place.invariant in
     let none : c.loop-place.place ≡ 0 = search rules in
-    let items = ap (λ b. b.items) inv.same in
-    (none_out c.args.id c.args.boxes.now.items (subst (λ l. AllByRecursion (λ one. one.0 ≢ c.args.id) l) items
-    (subst (λ (n : ℕ). AllByRecursion (λ one. one.0 ≢ c.args.id) (drop n c.loop-place.boxes.items)) none inv.none)), items)
+    let items = ap (λ b. b.items) inv.same in (
+      none_out c.args.id c.args.boxes.now.items (subst (λ l. AllByRecursion (λ one. one.0 ≢ c.args.id) l) items
+          (subst (λ (n : ℕ). AllByRecursion (λ one. one.0 ≢ c.args.id) (drop n c.loop-place.boxes.items)) none inv.none)),
+      items,
+    )

@@ -1,4 +1,4 @@
-use Rattle.std.proofs.Common.{length, arith}
+use Rattle.std.proofs.Common.{arith}
 use Rattle.osc_packet.specs.Reading.{units_read}
 use Rattle.osc_model.proofs.Queues.{kept_few}
 use Rattle.osc_model.proofs.Needs.{places_fit, blocks_fit}

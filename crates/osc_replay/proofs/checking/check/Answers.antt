@@ -7,7 +7,7 @@ use Rattle.osc_replay.specs.declared.fault.ReplayFault.TheVariants.{Malformed}
 use Rattle.osc_replay.proofs.Formed.{of_some, of_none, row_lawful}
 use Rattle.osc_replay.specs.Printed.{printed}
 use Rattle.osc_replay.specs.declared.checking.Checked.{Checked}
-use Rattle.osc_replay.specs.Counted.{is_added}
+use Rattle.osc_model.specs.Events.{is_added}
 use Rattle.osc_replay.proofs.Tallying.{IsCheckedTo, checked_none, checked_more, few_added, checked_all, one_checked, short_so}
 use Rattle.osc_replay.proofs.Replayed.{reached, few_played, played_all, stops_disagreeing, stops_short, next_unformed}
 use Rattle.osc_replay.proofs.Replayed.{later_unformed, none_malformed}
@@ -31,8 +31,8 @@ pub returns-in_err-row-clause-malformed : goal.returns-in_err-row-clause-malform
 returns-in_err-row-clause-malformed c =
     let at = c.in_err-row.field-0.0.at in
     let same : c.from_residual-in_err-row.result ≡ Err (Malformed at) = search rules in
-    rw same (next_unformed c.args.recording.now c.loop-calls.unread c.loop-calls.server c.loop-calls.invariant.checked.text c.loop-calls.entries at c.loop-calls.invariant.checked.played
-    c.in_err-row.ensures.err)
+    rw same (next_unformed c.args.recording.now c.loop-calls.unread c.loop-calls.server c.loop-calls.invariant.checked.text c.loop-calls.entries at
+    c.loop-calls.invariant.checked.played c.in_err-row.ensures.err)
 
 pub returns-in_err-row-clause-complete : goal.returns-in_err-row-clause-complete
 returns-in_err-row-clause-complete c =
@@ -40,13 +40,14 @@ returns-in_err-row-clause-complete c =
     let same : c.from_residual-in_err-row.result ≡ Err (Malformed at) = search rules in
     λ caps history is. rw same
     (none_malformed c.a_legal_history_is_recordable.ensures.all c.a_legal_history_is_recordable.ensures.within c.args.recording.now at caps history
-    (next_unformed c.args.recording.now c.loop-calls.unread c.loop-calls.server c.loop-calls.invariant.checked.text c.loop-calls.entries at c.loop-calls.invariant.checked.played
-    c.in_err-row.ensures.err)
+    (next_unformed c.args.recording.now c.loop-calls.unread c.loop-calls.server c.loop-calls.invariant.checked.text c.loop-calls.entries at
+    c.loop-calls.invariant.checked.played c.in_err-row.ensures.err)
     is)
 
 pub check_row-requires-clause-reached : goal.check_row-requires-clause-reached
 check_row-requires-clause-reached c =
-    reached c.args.recording.now c.loop-calls.unread c.loop-calls.server c.loop-calls.invariant.checked.text c.loop-calls.entries c.loop-calls.invariant.checked.played
+    reached c.args.recording.now c.loop-calls.unread c.loop-calls.server c.loop-calls.invariant.checked.text c.loop-calls.entries
+    c.loop-calls.invariant.checked.played
 
 pub returns-in-Some-first_malformed-clause-malformed : goal.returns-in-Some-first_malformed-clause-malformed
 returns-in-Some-first_malformed-clause-malformed c =
@@ -54,8 +55,8 @@ returns-in-Some-first_malformed-clause-malformed c =
     let reads = of_some (λ (row : Row). Reads c.loop-calls.unread (placed_of row.entry) c.next_row.new.unread) c.in_ok-row.field-0 c.in-Some.row c.in-Some.is
     c.in_ok-row.ensures.read in
     later_unformed c.args.recording.now c.loop-calls.unread c.next_row.new.unread
-    (placed_of row.entry) c.loop-calls.server c.loop-calls.invariant.checked.text c.loop-calls.entries c.in-Some-first_malformed.at c.loop-calls.invariant.checked.played reads
-    (row_lawful row) c.in-Some-first_malformed.ensures.some
+    (placed_of row.entry) c.loop-calls.server c.loop-calls.invariant.checked.text c.loop-calls.entries c.in-Some-first_malformed.at
+    c.loop-calls.invariant.checked.played reads (row_lawful row) c.in-Some-first_malformed.ensures.some
 
 pub returns-in-Some-first_malformed-clause-complete : goal.returns-in-Some-first_malformed-clause-complete
 returns-in-Some-first_malformed-clause-complete c = λ caps history is.
@@ -65,8 +66,8 @@ returns-in-Some-first_malformed-clause-complete c = λ caps history is.
     none_malformed c.a_legal_history_is_recordable.ensures.all c.a_legal_history_is_recordable.ensures.within c.args.recording.now c.in-Some-first_malformed.at
     caps history
     (later_unformed c.args.recording.now c.loop-calls.unread c.next_row.new.unread
-    (placed_of row.entry) c.loop-calls.server c.loop-calls.invariant.checked.text c.loop-calls.entries c.in-Some-first_malformed.at c.loop-calls.invariant.checked.played reads
-    (row_lawful row) c.in-Some-first_malformed.ensures.some) is)
+    (placed_of row.entry) c.loop-calls.server c.loop-calls.invariant.checked.text c.loop-calls.entries c.in-Some-first_malformed.at
+    c.loop-calls.invariant.checked.played reads (row_lawful row) c.in-Some-first_malformed.ensures.some) is)
 
 pub returns-in-Err-clause-disagrees : goal.returns-in-Err-clause-disagrees
 returns-in-Err-clause-disagrees c =
@@ -74,8 +75,8 @@ returns-in-Err-clause-disagrees c =
     let reads = of_some (λ (row : Row). Reads c.loop-calls.unread (placed_of row.entry) c.next_row.new.unread) c.in_ok-row.field-0 c.in-Some.row c.in-Some.is
     c.in_ok-row.ensures.read in
     stops_disagreeing Checked c.args.recording.now c.loop-calls.unread c.next_row.new.unread
-    (placed_of row.entry) c.loop-calls.server c.loop-calls.invariant.checked.text c.loop-calls.entries c.in-Err.fault c.loop-calls.invariant.checked.played reads
-    (row_lawful row) c.in_default-first_malformed.ensures.none c.in-Err.ensures.differs
+    (placed_of row.entry) c.loop-calls.server c.loop-calls.invariant.checked.text c.loop-calls.entries c.in-Err.fault
+    c.loop-calls.invariant.checked.played reads (row_lawful row) c.in_default-first_malformed.ensures.none c.in-Err.ensures.differs
 
 pub returns-in-Err-clause-complete : goal.returns-in-Err-clause-complete
 returns-in-Err-clause-complete c = λ caps history is.

@@ -48,5 +48,7 @@ returns c =
     (enrolled_in s.recorder c.args.self.now c.args.caller c.self.view_is c.requires.caller) c.requires.lawful
     (subst (λ (p : Performance). answer ≡ (stepped_in p event).answer) (sym c.self.view_is) c.requires.answer) c.requires.refusal
     (answers_add c.args.answer) in
-    record { performance = (plays s.server s.recorder s.entries c.args.caller event answer s.server c.put.new.self c.args.self.now refused.0 c.self.view_is (sym refused.1)
-    c.put.ensures).performance }
+    record {
+      performance = (plays s.server s.recorder s.entries c.args.caller event answer s.server c.put.new.self c.args.self.now refused.0 c.self.view_is
+          (sym refused.1) c.put.ensures).performance;
+    }

@@ -11,8 +11,8 @@ returns-clause-read g c =
     let new = c.act-pass.new.job in
     subst (λ (l : Limits). Reads l c.args.job.now.from c.args.job.now.into.now new.into.now new.count (view c.args.pass) (view c.act-pass.result.0))
     c.requires.asked.1
-    (reads c.args.job.now.caps c.args.job.now.from c.args.job.now.into.now new.into.now new.count c.act-pass.result.1 (view c.args.pass) (view c.act-pass.result.0)
-    turn.seen turn.once turn.counted turn.ran turn.ran.did_so.1)
+    (reads c.args.job.now.caps c.args.job.now.from c.args.job.now.into.now new.into.now new.count c.act-pass.result.1 (view c.args.pass)
+    (view c.act-pass.result.0) turn.seen turn.once turn.counted turn.ran turn.ran.did_so.1)
 
 pub returns-clause-same_reference : goal.returns-clause-same_reference
 returns-clause-same_reference g c = c.act-pass.ensures.ran.did_so.0

@@ -8,7 +8,7 @@ use Rattle.osc_record.specs.Left.{entries_left}
 use Rattle.osc_record.specs.Reading.{IsRecord, placed_from, unplaced}
 use Rattle.osc_core.specs.Standing.{history_in, texts_of, StandsFor}
 use Rattle.osc_core.specs.Telling.{told}
-use Rattle.osc_core.specs.Redoing.{is_added}
+use Rattle.osc_model.specs.Events.{is_added}
 use Rattle.std.proofs.lemmas.List.{append-nil, length-drop}
 use Rattle.std.proofs.lemmas.List.Sums.{count_by-le-length}
 use Rattle.osc_live.specs.Seen.{past_of}
@@ -171,7 +171,8 @@ hand_tokens-callers-requires-clause-enrolled g c =
     c.callers-count.ensures.value ∙ ap (λ (p : Performance). (state_of p).callers) whole in
     let opened : past_of c.in-Ok-reopen.turn ≡ texts_of boxes core.performance.history =
     ap (λ x. texts_of (told keep heard x.boxes.items) x.performance.history) c.in-Ok-reopen.ensures.opened in
-    let stands : StandsFor core.performance boxes (past_of c.in-Ok-reopen.turn) = subst (StandsFor core.performance boxes) (sym opened) c.reopen.ensures.stands in
+    let stands : StandsFor core.performance boxes (past_of c.in-Ok-reopen.turn) =
+    subst (StandsFor core.performance boxes) (sym opened) c.reopen.ensures.stands in
     let read : history_in (past_of c.in-Ok-reopen.turn) ≡ can.1 = stands.read ∙ ap (λ (p : Performance). p.history) whole in
     omega (arith, count, c.callers_are_counted.ensures.after limits can.1 past.legal, ap callers_in read)
 
@@ -207,7 +208,8 @@ returns-in-Ok-reopen-clause-resumes g c caps history records =
     c.callers-count.ensures.value ∙ ap (λ (p : Performance). (state_of p).callers) whole in
     let opened : past_of c.in-Ok-reopen.turn ≡ texts_of boxes core.performance.history =
     ap (λ x. texts_of (told keep heard x.boxes.items) x.performance.history) c.in-Ok-reopen.ensures.opened in
-    let stands : StandsFor core.performance boxes (past_of c.in-Ok-reopen.turn) = subst (StandsFor core.performance boxes) (sym opened) c.reopen.ensures.stands in
+    let stands : StandsFor core.performance boxes (past_of c.in-Ok-reopen.turn) =
+    subst (StandsFor core.performance boxes) (sym opened) c.reopen.ensures.stands in
     resumed keep heard caps limits c.args.room history bank core.performance boxes c.redo_all.new.addresses.items c.redo_all.new.bank.items
     c.into_vec.result.items c.redo_all.new.removed.items (past_of c.in-Ok-reopen.turn) _ c.callers-count.result past.limits_are past.legal redone stands
     c.hand_tokens-callers.ensures.tokens (count ∙ c.callers_are_counted.ensures.after limits history past.legal) c.into_vec.ensures.items

@@ -9,7 +9,8 @@ use Rattle.osc_replay.proofs.server.Server.submit.Goals as goal
 pub invariant_of-self : goal.invariant_of-self
 invariant_of-self c =
     let s = c.self.inside in
-    let copies = ap (λ (units : List TimedUnit). queued_blocks (enter_all (kept_numbered s.late s.clock s.next_unit units) s.queue.items)) c.units.ensures.value in
+    let copies = ap (λ (units : List TimedUnit). queued_blocks (enter_all (kept_numbered s.late s.clock s.next_unit units) s.queue.items))
+    c.units.ensures.value in
     record {
       room = c.self.invariant.room;
       counted = omega (
