@@ -16,7 +16,8 @@ use Rattle.osc_pattern.specs.Cuts.{rests, has_byte, after_byte, after_text, any_
 use Rattle.osc_pattern.specs.Reading.{match_part}
 use Rattle.osc_pattern.specs.Views.{idle_bytes, begins_empty}
 use Rattle.std.specs.Prelude.{option_map}
-use Rattle.std.proofs.lemmas.List.Splits.{slice_split_none}
+use Rattle.std.specs.List.{slice_split, onto_first}
+use Rattle.std.proofs.lemmas.List.Splits.{slice_split_none, slice_split-cons_yes, slice_split-cons_no, length-slice_split}
 use Rattle.osc_pattern.proofs.Cutting.{cut_at-first}
 use Rattle.osc_pattern.proofs.Matches.{match_part-item}
 use Rattle.osc_pattern.proofs.Reaches.{bits-added, any_rest-same, any_rest-never, rows_split}
@@ -285,13 +286,87 @@ choice_texts test places name text texts more cut =
     (λ rest. ap (λ all. list_any test (flat_map (after_text rest) all)) cut ∙ list_any-append test (after_text rest text) (flat_map (after_text rest) more)) places 0 name
     ∙ any_rest-or (λ rest. list_any test (after_text rest text)) (λ rest. list_any test (flat_map (after_text rest) more)) places 0 name
 
-pub choice_next : (n n' a c d whole : Bool) → n' ≡ (n || a) → d ≡ (a || c) → (n || d) ≡ whole → (n' || c) ≡ whole
-choice_next n n' a c d whole e cut so_far = ap (λ t. t || c) e ∙ or_assoc n a c ∙ ap (λ t. n || t) (sym cut) ∙ so_far
+-- what is left of a choice: the rest of the text that was begun, from the places that it has come to, and the other texts
+abbrev pub texts_left : (List ℕ → Bool) → (ℕ → Bool) → (ℕ → Bool) → List (List ℕ) → List ℕ → Bool
+texts_left test places all [] name = false
+texts_left test places all (text ∷ texts) name =
+    any_rest (λ rest. list_any test (after_text rest text)) places 0 name || any_rest (λ rest. list_any test (flat_map (after_text rest) texts)) all 0 name
 
-pub choice_end : (test : List ℕ → Bool) (places : ℕ → Bool) (name : List ℕ) (n n' a d whole : Bool) → n' ≡ (n || a)
-    → d ≡ (a || any_rest (λ rest. list_any test (flat_map (after_text rest) [])) places 0 name) → (n || d) ≡ whole → n' ≡ whole
-choice_end test places name n n' a d whole e cut so_far =
-    sym (or_false n') ∙ choice_next n n' a false d whole e (cut ∙ ap (λ t. a || t) (any_rest-never places 0 name)) so_far
+some_text : (xs : List ℕ) → 1 ≤ length (slice_split is_comma xs)
+some_text xs = omega (arith, length-slice_split is_comma xs)
+
+all_texts : (test : List ℕ → Bool) (all : ℕ → Bool) (texts : List (List ℕ)) (name : List ℕ) → 1 ≤ length texts
+    → texts_left test all all texts name ≡ any_rest (λ rest. list_any test (flat_map (after_text rest) texts)) all 0 name
+all_texts test all [] name some = absurd (omega arith)
+all_texts test all (text ∷ more) name some = sym (choice_texts test all name text (text ∷ more) more refl)
+
+-- the start of a choice
+pub choice_start : (test : List ℕ → Bool) (all : ℕ → Bool) (texts name : List ℕ) (n : Bool) → n ≡ false
+    → (n || texts_left test all all (slice_split is_comma texts) name)
+    ≡ any_rest (λ rest. list_any test (flat_map (after_text rest) (slice_split is_comma texts))) all 0 name
+choice_start test all texts name n none =
+    ap (λ t. t || texts_left test all all (slice_split is_comma texts) name) none ∙ all_texts test all (slice_split is_comma texts) name (some_text texts)
+
+no_text : (test : List ℕ → Bool) (places : ℕ → Bool) (name : List ℕ)
+    → any_rest (λ rest. list_any test (after_text rest [])) places 0 name ≡ any_rest test places 0 name
+no_text test places name = any_rest-same (λ rest. list_any test (after_text rest [])) test (λ rest. text_end test rest) places 0 name
+
+-- a comma ends a text
+pub choice_comma : (test : List ℕ → Bool) (places all : ℕ → Bool) (rest others name : List ℕ) (byte : ℕ) (n more whole : Bool) → rest ≡ byte ∷ others
+    → byte ≡ 44 → more ≡ (n || any_rest test places 0 name)
+    → (n || texts_left test places all (slice_split is_comma rest) name) ≡ whole
+    → (more || texts_left test all all (slice_split is_comma others) name) ≡ whole
+choice_comma test places all rest others name byte n more whole spelled is e so_far =
+    let comma : (byte == 44) ≡ true = grind (arith, nat_tests, is) in
+    let texts = slice_split is_comma others in
+    let ended = any_rest test places 0 name in
+    let cut : slice_split is_comma rest ≡ [] ∷ texts = ap (slice_split is_comma) spelled ∙ slice_split-cons_yes is_comma byte others comma in
+    ap (λ t. t || texts_left test all all texts name) e
+    ∙ or_assoc n ended (texts_left test all all texts name)
+    ∙ ap (λ t. n || (ended || t)) (all_texts test all texts name (some_text others))
+    ∙ ap (λ t. n || (t || any_rest (λ left. list_any test (flat_map (after_text left) texts)) all 0 name)) (sym (no_text test places name))
+    ∙ sym (ap (λ xs. n || texts_left test places all xs name) cut)
+    ∙ so_far
+
+byte_left : (test : List ℕ → Bool) (old new all : ℕ → Bool) (byte : ℕ) (texts : List (List ℕ)) (name : List ℕ) → 1 ≤ length texts → new 0 ≡ false
+    → ((k : ℕ) → k < length name → new (k + 1) ≡ (old k && get_or name k 0 == byte))
+    → texts_left test new all texts name ≡ texts_left test old all (onto_first byte texts) name
+byte_left test old new all byte [] name some none moves = absurd (omega arith)
+byte_left test old new all byte (text ∷ more) name some none moves =
+    ap (λ t. t || any_rest (λ rest. list_any test (flat_map (after_text rest) more)) all 0 name)
+    (any_rest-behind (plain byte) (λ rest. list_any test (after_text rest text)) old new name none moves
+    ∙ sym (any_rest-same (λ rest. list_any test (after_text rest (byte ∷ text)))
+    (λ rest. list_any (λ left. list_any test (after_text left text)) (after_byte (plain byte) rest)) (λ rest. text_byte test byte text rest) old 0 name))
+
+no_comma : (byte : ℕ) → (byte ≡ 44 → ⊥) → (byte == 44) ≡ false
+no_comma byte differs = go (byte == 44) refl where
+  go : (t : Bool) → (byte == 44) ≡ t → t ≡ false
+  go true e = absurd (differs (grind (arith, nat_tests, e)))
+  go false e = refl
+
+-- another byte takes the places of the text on
+pub choice_byte : (test : List ℕ → Bool) (old new all : ℕ → Bool) (rest others name : List ℕ) (byte : ℕ) (n whole : Bool) → rest ≡ byte ∷ others
+    → (byte ≡ 44 → ⊥) → new 0 ≡ false → ((k : ℕ) → k < length name → new (k + 1) ≡ (old k && get_or name k 0 == byte))
+    → (n || texts_left test old all (slice_split is_comma rest) name) ≡ whole
+    → (n || texts_left test new all (slice_split is_comma others) name) ≡ whole
+choice_byte test old new all rest others name byte n whole spelled differs none moves so_far =
+    let other : (byte == 44) ≡ false = no_comma byte differs in
+    let texts = slice_split is_comma others in
+    let cut : slice_split is_comma rest ≡ onto_first byte texts = ap (slice_split is_comma) spelled ∙ slice_split-cons_no is_comma byte others other in
+    ap (λ t. n || t) (byte_left test old new all byte texts name (some_text others) none moves)
+    ∙ sym (ap (λ xs. n || texts_left test old all xs name) cut)
+    ∙ so_far
+
+-- the end of a choice ends its last text
+pub choice_end : (test : List ℕ → Bool) (places all : ℕ → Bool) (rest name : List ℕ) (n more whole : Bool) → rest ≡ []
+    → more ≡ (n || any_rest test places 0 name)
+    → (n || texts_left test places all (slice_split is_comma rest) name) ≡ whole → more ≡ whole
+choice_end test places all rest name n more whole spelled e so_far =
+    e
+    ∙ ap (λ t. n || t) (sym (no_text test places name) ∙ sym (or_false (any_rest (λ left. list_any test (after_text left [])) places 0 name))
+    ∙ ap (λ t. any_rest (λ left. list_any test (after_text left [])) places 0 name || t) (sym (any_rest-never all 0 name)))
+    ∙ sym (ap (λ xs. n || texts_left test places all (slice_split is_comma xs) name) spelled)
+    ∙ so_far
 
 -- ---- stars
 

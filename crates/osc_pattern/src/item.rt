@@ -50,7 +50,7 @@ fn is_in_set<L: Ledger>(list: &[u8], byte: u8, steps: &mut Steps<L>) -> bool
     }
 }
 
-/// Whether the byte is one of those that the list stands for. It takes a step for each range.
+/// Whether the byte is one of those that the list stands for. A range counts as one byte, so it takes one step.
 fn stands_for<L: Ledger>(list: &[u8], byte: u8, steps: &mut Steps<L>) -> bool
     ensures value { result ≡ stands_for list.now byte }
     ensures counted { steps.old ≤ steps.new }

@@ -9,7 +9,6 @@ ghost use Rattle.osc_pattern.specs.Reading.{match_part};
 ghost use Rattle.osc_pattern.specs.Views.{item_of, passes, is_choice, idle_bytes, begins_empty};
 ghost use Rattle.osc_pattern.specs.Views.{AreMarks};
 
-use crate::cut::first_piece;
 use crate::item::{Item, first_item, has_byte};
 use crate::marks::{below_of, marks_of};
 use crate::places::Places;
@@ -298,7 +297,7 @@ fn after_star<L: Ledger>(reached: &Places, name: &[u8], steps: &mut Steps<L>) ->
     }
 }
 
-/// The places that stand after one of the texts from one of these.
+/// The places that stand after one of the texts from one of these. Each byte is tried at all places at once.
 fn after_choice<L: Ledger>(
     texts: &[u8],
     reached: &Places,
@@ -314,40 +313,20 @@ fn after_choice<L: Ledger>(
     ensures bounded { steps.new ≤ steps.old + (length texts.now + 1) }
 {
     let mut next = Places::none();
+    let mut places = reached.again();
     let mut texts = texts;
     loop {
         steps.tick();
-        let (text, others) = first_piece(texts, b',');
-        next.join(&after_text(text, reached, marks, steps));
-        match others {
-            Some(others) => texts = others,
-            None => return next,
+        let [byte, others @ ..] = texts else {
+            next.join(&places);
+            return next;
+        };
+        if *byte == b',' {
+            next.join(&places);
+            places = reached.again();
+        } else {
+            places = places.behind(marks[*byte as usize]);
         }
+        texts = others;
     }
-}
-
-/// The places that stand after the text from one of these.
-fn after_text<L: Ledger>(
-    text: &[u8],
-    reached: &Places,
-    marks: &[u64; 256],
-    steps: &mut Steps<L>,
-) -> Places
-    ensures value { (name : List ℕ) (test : List ℕ → Bool) → length name ≤ MAX_NAME
-        → AreMarks marks.now name → passes test result name
-        ≡ passes (λ rest. list_any test (after_text rest text.now)) reached.now name }
-    ensures counted { steps.old ≤ steps.new }
-    ensures bounded { steps.new ≤ steps.old + length text.now }
-{
-    let mut places = reached.again();
-    let mut text = text;
-    while let [byte, more @ ..] = text {
-        if places.is_empty() {
-            return places;
-        }
-        steps.tick();
-        places = places.behind(marks[*byte as usize]);
-        text = more;
-    }
-    places
 }

@@ -94,9 +94,20 @@ impl<'a> Pattern<'a> {
         count(self.bytes, b'/') as u32
     }
 
+    /// The part at this place, counted from 0. It reads the pattern up to the part's end.
+    #[tactic(auto, using(crate::proofs::PatternLaws::laws))]
+    pub fn part(&self, place: u32) -> &'a [u8]
+        requires { place < length (parts_of self.now) }
+        ensures { result.now ≡ part_at self.now place }
+    {
+        nth_part(after_slash(self.bytes), place)
+    }
+
     /// Whether the part at this place, counted from 0, matches the name. It takes no memory.
     ///
-    /// A step is to examine one byte of the part, a range of a list or the part's end, for one place of the name.
+    /// A step is to examine one byte of the part, or its end, for one place of the name or for all of them at once. A
+    /// range of a list counts as one byte. To look for the end of a part or of a bracket, and to pass stars and `{}` that
+    /// add nothing, takes none.
     #[tactic(auto, using(crate::proofs::PatternLaws::laws))]
     pub fn matches_part<L: Ledger>(&self, part: u32, name: &[u8], steps: &mut Steps<L>) -> bool
         requires part { part < length (parts_of self.now) }
@@ -108,7 +119,29 @@ impl<'a> Pattern<'a> {
         ensures bounded { steps.new
             ≤ steps.old + (length (part_at self.now part) + 1) * (length name.now + 1) }
     {
-        match_part(nth_part(after_slash(self.bytes), part), name, steps)
+        self.matches_found(part, self.part(part), name, steps)
+    }
+
+    /// The same, for a part that `part` found before, so that it isn't looked for again for each name.
+    #[tactic(auto, using(crate::proofs::PatternLaws::laws))]
+    pub fn matches_found<L: Ledger>(
+        &self,
+        part: u32,
+        found: &[u8],
+        name: &[u8],
+        steps: &mut Steps<L>,
+    ) -> bool
+        requires part { part < length (parts_of self.now) }
+        requires found { found.now ≡ part_at self.now part }
+        requires name { length name.now ≤ MAX_NAME }
+        ensures exact { IsTrue result ↔ MatchesName (part_at self.now part) name.now }
+        ensures test { result ≡ match_part (part_at self.now part) name.now }
+        ensures counted { steps.old ≤ steps.new }
+        ensures begun { 0 < length (part_at self.now part) → steps.old < steps.new }
+        ensures bounded { steps.new
+            ≤ steps.old + (length (part_at self.now part) + 1) * (length name.now + 1) }
+    {
+        match_part(found, name, steps)
     }
 
     /// Whether the pattern matches the address: both have as many parts, and each part matches the name at its

@@ -23,7 +23,7 @@ pub(crate) fn places_in_set<L: Ledger>(list: &[u8], below: &[u64; 257], steps: &
     }
 }
 
-/// The places right before a byte that the list stands for. It takes a step for each range.
+/// The places right before a byte that the list stands for. A range takes one step, for all places at once.
 fn places_of<L: Ledger>(list: &[u8], below: &[u64; 257], steps: &mut Steps<L>) -> u64
     ensures value { (name : List ℕ) (place : ℕ) → AreBelow below.now name → place < length name
         → (bit_at result place == 1) ≡ stands_for list.now (get_or name place 0) }
