@@ -1,11 +1,11 @@
 -- The places of a name whose byte is below a bound, and those whose byte a list stands for, as bits.
-use Rattle.std.proofs.Common.{◌≡◌, ℕ, zero, suc, ◌+◌, ◌-◌, ◌%◌, ◌<◌, ◌≤◌, Bool, true, false, ◌||◌, ◌&&◌, ◌==◌, not, nat_lt, nat_le, List, [], ◌∷◌, length, take, drop, refl, arith, sym, ap, ◌∙◌}
+use Rattle.std.proofs.Common.{◌≡◌, ℕ, zero, suc, ◌+◌, ◌-◌, ◌%◌, ◌<◌, ◌≤◌, Bool, true, false, ◌||◌, ◌&&◌, ◌==◌, not, nat_lt, nat_le, List, [], ◌∷◌, length, take, drop, refl, arith, sym, ap, ◌∙◌, w64}
 use Rattle.std.specs.Prelude.{if◌then◌else◌, set, replicate}
 use Rattle.std.specs.Int.{bit_at}
 use Rattle.std.specs.Int.RustNames.{bit_or, bit_xor}
 use Rattle.std.proofs.Math.ListN.{get_or}
 use Rattle.std.proofs.lemmas.List.{get_or-set_same, get_or-set_other, get_or-replicate, take_rest}
-use Rattle.std.proofs.lemmas.Nat.Bits.{bit_at_xor, bit_at-zero, bit_at-lt}
+use Rattle.std.proofs.lemmas.Nat.Bits.{bit_at_xor, bit_at_not, bit_at-zero, bit_at-lt}
 use Rattle.std.proofs.lemmas.Bool.Decides.{nat_tests}
 use Rattle.osc_pattern.specs.Items.{stands_for, is_in_set}
 use Rattle.osc_pattern.specs.Views.{AreMarks, AreBelow}
@@ -90,3 +90,8 @@ in_others [] byte some e = absurd (omega arith)
 in_others (first ∷ rest) byte some e =
     let is : (first == 33) ≡ true = grind (arith, nat_tests, e) in
     rw is (ap (λ xs. not (stands_for xs byte)) (sym (take_rest (first ∷ rest) 1)))
+
+-- a word whose bits are all set
+pub all_bits : (place : ℕ) → place < 64 → (bit_at 18446744073709551615 place == 1) ≡ true
+all_bits place within =
+    ap (λ bit. bit == 1) (bit_at_not w64 0 place (omega arith) within) ∙ ap (λ bit. 1 - bit == 1) (bit_at-zero place)

@@ -7,6 +7,7 @@ mod Cuts
 mod Matches
 mod Reaches
 mod Moves
+mod Onward
 pub mod PatternLaws
 mod AddressLaws
 pub mod Parts

@@ -135,7 +135,7 @@ and_bits x (suc (suc y)) a b = absurd (omega arith)
 pub bits-joined : (a b place : ℕ) → (bit_at (bit_or a b) place == 1) ≡ (bit_at b place == 1 || bit_at a place == 1)
 bits-joined a b place = ap (λ bit. bit == 1) (bit_at_or a b place) ∙ or_bits (bit_at a place) (bit_at b place) (bit_at-lt a place) (bit_at-lt b place)
 
-low_bit : (n i : ℕ) → i < 64 → bit_at (n % 2 ^ 64) i ≡ bit_at n i
+pub low_bit : (n i : ℕ) → i < 64 → bit_at (n % 2 ^ 64) i ≡ bit_at n i
 low_bit n i within =
     let whole : n / 2 ^ 64 * 2 ^ 64 + n % 2 ^ 64 ≡ n = omega arith in
     sym (bit_at_cat_low (n / 2 ^ 64) 64 (n % 2 ^ 64) i within) ∙ ap (λ x. bit_at x i) whole

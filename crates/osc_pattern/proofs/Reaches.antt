@@ -3,16 +3,14 @@ use Rattle.std.proofs.Common.{◌≡◌, ℕ, ◌+◌, ◌*◌, ◌-◌, ◌^◌
 use Rattle.std.proofs.Common.{length, take, drop, refl, arith, sym, ap, subst, ◌∙◌, w64}
 use Rattle.std.specs.Int.{bit_at}
 use Rattle.std.specs.Int.RustNames.{bit_or}
-use Rattle.std.specs.List.{list_any, flat_map}
-use Rattle.std.specs.Str.{bytes_eq}
+use Rattle.std.specs.List.{list_any}
 use Rattle.std.proofs.Math.ListN.{get_or, length-append}
-use Rattle.std.proofs.lemmas.List.{length-take-le, take-append-drop, take_rest, drop-drop, length-drop}
-use Rattle.std.proofs.lemmas.List.Folds.{list_any-append}
+use Rattle.std.proofs.lemmas.List.{length-take-le, take-append-drop, take_rest, drop-drop}
 use native.Mathlib.Nat.{add-mul, mul-add}
 use Rattle.std.proofs.lemmas.Nat.Bits.{bit_at_set_same, bit_at_set_other}
 use Rattle.std.proofs.lemmas.Bool.Decides.{nat_tests}
 use Rattle.osc_pattern.specs.Items.{Item, item_text}
-use Rattle.osc_pattern.specs.Cuts.{rests, has_byte, after_byte, after_text, after_item, any_rest}
+use Rattle.osc_pattern.specs.Cuts.{has_byte, after_byte, after_item, any_rest}
 use Rattle.osc_pattern.specs.Reading.{first_item, match_part}
 use Rattle.osc_pattern.proofs.Readings.{FirstItem, first_item-found}
 use Rattle.osc_pattern.proofs.Matches.{match_part-item, match_part-stuck}
@@ -190,13 +188,7 @@ pub first_and_rest : (xs : List ℕ) (d : ℕ) → 1 ≤ length xs → xs ≡ ge
 first_and_rest [] d some = absurd (omega arith)
 first_and_rest (x ∷ xs) d some = ap (λ rest. x ∷ rest) (sym (take_rest (x ∷ xs) 1))
 
--- a star goes on from the first place
-pub star_place : (test : List ℕ → Bool) (old new : ℕ → Bool) (begun : Bool) (place : ℕ) (name rest : List ℕ) → drop place name ≡ rest
-    → place ≤ length name → begun ≡ true → Added place old new
-    → any_rest test new 0 name ≡ (any_rest test old 0 name || (begun && test rest))
-star_place test old new begun place name rest left within e added = any_rest-added test old new place name added within ∙ rw (e, left) refl
-
-by_star : (n t l m b r : Bool) → ((n || ((b || r) && t)) || (((b || r) && l) || m)) ≡ (n || ((b && (t || l)) || ((r && (t || l)) || m)))
+pub by_star : (n t l m b r : Bool) → ((n || ((b || r) && t)) || (((b || r) && l) || m)) ≡ (n || ((b && (t || l)) || ((r && (t || l)) || m)))
 by_star true t l m b r = refl
 by_star false true l m true r = refl
 by_star false true l m false true = refl
@@ -207,68 +199,6 @@ by_star false false false m true false = refl
 by_star false false true m false true = refl
 by_star false false false m false true = refl
 by_star false false l m false false = refl
-
--- what a star's loop keeps: the places that are gone through, and what is left from this one on
-abbrev pub StarLeft : (List ℕ → Bool) → (ℕ → Bool) → Bool → Bool → ℕ → List ℕ → Bool → Type 0
-StarLeft test places done begun at rest whole =
-    (done || ((begun && list_any test (rests rest)) || any_rest (λ left. list_any test (rests left)) places at rest)) ≡ whole
-
-pub star_next : (test : List ℕ → Bool) (places : ℕ → Bool) (at : ℕ) (rest : List ℕ) (byte : ℕ) (after : List ℕ) (n b n' b' whole : Bool)
-    → rest ≡ byte ∷ after → b' ≡ (b || places at) → n' ≡ (n || (b' && test rest)) → StarLeft test places n b at rest whole
-    → StarLeft test places n' b' (at + 1) after whole
-star_next test places at rest byte after n b n' b' whole spelled eb en so_far =
-    rw (en, eb, spelled)
-    (by_star n (test (byte ∷ after)) (list_any test (rests after)) (any_rest (λ left. list_any test (rests left)) places (at + 1) after) b (places at)
-    ∙ subst (λ left. StarLeft test places n b at left whole) spelled so_far)
-
-pub star_end : (test : List ℕ → Bool) (places : ℕ → Bool) (at : ℕ) (rest : List ℕ) (n b n' b' whole : Bool)
-    → rest ≡ [] → b' ≡ (b || places at) → n' ≡ (n || (b' && test rest)) → StarLeft test places n b at rest whole → n' ≡ whole
-star_end test places at rest n b n' b' whole empty eb en so_far =
-    rw (en, eb, empty) (go n (test []) b (places at) ∙ subst (λ left. StarLeft test places n b at left whole) empty so_far)
-  where
-    go : (n t b r : Bool) → (n || ((b || r) && t)) ≡ (n || ((b && (t || false)) || (r && (t || false))))
-    go true t b r = refl
-    go false true true r = refl
-    go false true false r = refl
-    go false false true true = refl
-    go false false true false = refl
-    go false false false true = refl
-    go false false false false = refl
-
--- a text that the rest of the name begins with
-text_place : (test : List ℕ → Bool) (old new : ℕ → Bool) (place : ℕ) (name text : List ℕ) → place ≤ length name → Added (place + length text) old new
-    → length text ≤ length (drop place name) → bytes_eq (take (length text) (drop place name)) text ≡ true
-    → any_rest test new 0 name ≡ (any_rest test old 0 name || list_any test (after_text (drop place name) text))
-text_place test old new place name text within added fits begins =
-    any_rest-added test old new (place + length text) name added (omega (arith, length-drop place name))
-    ∙ rw begins (rw (drop-drop (length text) place name) (ap (λ t. any_rest test old 0 name || t) (sym (or_false (test (drop (place + length text) name))))))
-
-pub own_text : (test : List ℕ → Bool) (old new : ℕ → Bool) (place : ℕ) (name text left : List ℕ) → left ≡ drop place name → place ≤ length name
-    → Added (place + length text) old new
-    → length text ≤ length left → bytes_eq (take (length text) left) text ≡ true
-    → any_rest test new 0 name ≡ (any_rest test old 0 name || list_any test (after_text left text))
-own_text test old new place name text left whole within added =
-    subst (λ rest. length text ≤ length rest → bytes_eq (take (length text) rest) text ≡ true
-    → any_rest test new 0 name ≡ (any_rest test old 0 name || list_any test (after_text rest text))) (sym whole)
-    (text_place test old new place name text within added)
-
-pub other_text : (test : List ℕ → Bool) (done : Bool) (left text : List ℕ) → bytes_eq (take (length text) left) text ≡ false
-    → done ≡ (done || list_any test (after_text left text))
-other_text test done left text begins = rw begins (sym (or_false done))
-
-pub texts_next : (test : List ℕ → Bool) (left text : List ℕ) (texts more : List (List ℕ)) (n n' whole : Bool) → texts ≡ text ∷ more
-    → n' ≡ (n || list_any test (after_text left text)) → (n || list_any test (flat_map (after_text left) texts)) ≡ whole
-    → (n' || list_any test (flat_map (after_text left) more)) ≡ whole
-texts_next test left text texts more n n' whole cut e so_far =
-    ap (λ t. t || list_any test (flat_map (after_text left) more)) e
-    ∙ sym (or_assoc n (list_any test (after_text left text)) (list_any test (flat_map (after_text left) more)))
-    ∙ ap (λ t. n || t) (sym (list_any-append test (after_text left text) (flat_map (after_text left) more)))
-    ∙ sym (ap (λ all. n || list_any test (flat_map (after_text left) all)) cut)
-    ∙ so_far
-
-pub texts_end : (test : List ℕ → Bool) (left text : List ℕ) (texts : List (List ℕ)) (n n' whole : Bool) → texts ≡ text ∷ []
-    → n' ≡ (n || list_any test (after_text left text)) → (n || list_any test (flat_map (after_text left) texts)) ≡ whole → n' ≡ whole
-texts_end test left text texts n n' whole cut e so_far = sym (or_false n') ∙ texts_next test left text texts [] n n' whole cut e so_far
 
 pub reached : (n n' here more : Bool) → here ≡ true → n' ≡ (n || more) → n' ≡ (n || (here && more))
 reached n n' here more there e = rw there e

@@ -1,6 +1,6 @@
 -- Inside the crate: how the code's items stand for items, and its sets for places of a name.
 use Rattle.std.specs.Prelude.{◌≡◌, ℕ, ◌<◌, Bool, true, false, ◌==◌, ◌&&◌, List, [], ◌∷◌, length}
-use Rattle.std.specs.Prelude.{get_or, ◌≤◌, nat_lt, if◌then◌else◌}
+use Rattle.std.specs.Prelude.{get_or, zero, suc, ◌+◌, ◌||◌, ◌≤◌, nat_lt, if◌then◌else◌}
 use Rattle.std.specs.Int.{bit_at}
 use Rattle.osc_pattern.specs.declared.item.Item.{Item as Borrowed}
 use Rattle.osc_pattern.specs.declared.item.Item.TheVariants.{Any, Star, Set, Choice, Plain}
@@ -39,6 +39,11 @@ begins_empty (first ∷ second ∷ rest) = first == 123 && second == 125
 -- whether the place is one of the set
 abbrev pub is_place_of : Places → ℕ → Bool
 is_place_of places place = bit_at places.bits place == 1
+
+-- whether it has begun before a place, or at one of the places from there on to so many behind it
+abbrev pub reached_from : Bool → (ℕ → Bool) → ℕ → ℕ → Bool
+reached_from begun places at zero = begun || places at
+reached_from begun places at (suc more) = reached_from (begun || places at) places (at + 1) more
 
 -- whether what is left of the name passes the test at one of the places
 abbrev pub passes : (List ℕ → Bool) → Places → List ℕ → Bool

@@ -3,7 +3,7 @@ ghost use Rattle.osc_pattern.specs.declared.limits.TheConstants.{MAX_NAME};
 ghost use Rattle.std.specs.Prelude.{◌≡◌, ◌≤◌, ◌<◌, ◌+◌, ◌*◌, ℕ, Bool, false, List, ◌∷◌, length};
 ghost use Rattle.std.specs.Prelude.{IsTrue};
 ghost use Rattle.std.specs.List.{flat_map, list_any, slice_split};
-ghost use Rattle.osc_pattern.specs.Items.{is_comma, item_text, set};
+ghost use Rattle.osc_pattern.specs.Items.{is_comma, item_text, any, set, plain};
 ghost use Rattle.osc_pattern.specs.Cuts.{rests, after_text, after_byte, after_item};
 ghost use Rattle.osc_pattern.specs.Reading.{match_part};
 ghost use Rattle.osc_pattern.specs.Views.{item_of, passes, is_choice, idle_bytes, begins_empty};
@@ -49,7 +49,10 @@ pub(crate) fn match_part<L: Ledger>(part: &[u8], name: &[u8], steps: &mut Steps<
     }
 }
 
-/// Whether a part matches a name, by the places that its items reach, up to the first choice.
+/// A part with more bytes than this is worth noting at which places of the name each byte stands.
+const SHORT_PART: usize = 64;
+
+/// Whether a part matches a name, by the places that its items reach, up to the first choice. A long part isn't begun.
 fn match_places<L: Ledger>(part: &[u8], name: &[u8], steps: &mut Steps<L>) -> bool
     requires { length name.now ≤ MAX_NAME }
     ensures value { result ≡ match_part part.now name.now }
@@ -62,7 +65,7 @@ fn match_places<L: Ledger>(part: &[u8], name: &[u8], steps: &mut Steps<L>) -> bo
         if reached.is_empty() {
             return false;
         }
-        if is_choice(item) {
+        if part.len() > SHORT_PART || is_choice(item) {
             return match_choices(part, &reached, name, steps);
         }
         reached = places_after(item, &reached, name, steps);
@@ -193,9 +196,8 @@ fn places_after_any<L: Ledger>(
 {
     match item {
         Item::Choice(texts) => after_choice(texts, reached, marks, steps),
-        Item::Any | Item::Star | Item::Set(_) | Item::Plain(_) => {
-            places_after(item, reached, name, steps)
-        }
+        Item::Plain(own) => after_plain(own, reached, marks, steps),
+        Item::Any | Item::Star | Item::Set(_) => places_after(item, reached, name, steps),
     }
 }
 
@@ -216,11 +218,41 @@ fn places_after<L: Ledger>(
         ≤ steps.old + (length name.now + 1) * length (item_text (item_of item.entry)) }
 {
     match item {
-        Item::Star => after_star(reached, name, steps),
+        Item::Star => after_star(reached, steps),
         Item::Choice(_) => unreachable!(),
         Item::Set(list) => after_set(list, reached, name, steps),
-        Item::Any | Item::Plain(_) => after_byte(item, reached, name, steps),
+        Item::Any => after_any(reached, steps),
+        Item::Plain(_) => after_byte(item, reached, name, steps),
     }
+}
+
+/// The places that stand one byte after one of these.
+fn after_any<L: Ledger>(reached: &Places, steps: &mut Steps<L>) -> Places
+    ensures value { (name : List ℕ) (test : List ℕ → Bool) → length name ≤ MAX_NAME
+        → passes test result name
+        ≡ passes (λ rest. list_any test (after_byte any rest)) reached.now name }
+    ensures counted { steps.old ≤ steps.new }
+    ensures bounded { steps.new ≤ steps.old + 1 }
+{
+    steps.tick();
+    reached.behind(u64::MAX)
+}
+
+/// The places that stand one byte after one of these, where it is this byte.
+fn after_plain<L: Ledger>(
+    own: u8,
+    reached: &Places,
+    marks: &[u64; 256],
+    steps: &mut Steps<L>,
+) -> Places
+    ensures value { (name : List ℕ) (test : List ℕ → Bool) → length name ≤ MAX_NAME
+        → AreMarks marks.now name → passes test result name
+        ≡ passes (λ rest. list_any test (after_byte (plain own) rest)) reached.now name }
+    ensures counted { steps.old ≤ steps.new }
+    ensures bounded { steps.new ≤ steps.old + 1 }
+{
+    steps.tick();
+    reached.behind(marks[own as usize])
 }
 
 /// The places that stand one byte after one of these, where the set matches the byte. A long list is read once for all
@@ -272,29 +304,15 @@ fn after_byte<L: Ledger>(
 }
 
 /// The first of the places, and all after it.
-fn after_star<L: Ledger>(reached: &Places, name: &[u8], steps: &mut Steps<L>) -> Places
-    requires { length name.now ≤ MAX_NAME }
-    ensures value { (test : List ℕ → Bool) → passes test result name.now
-        ≡ passes (λ rest. list_any test (rests rest)) reached.now name.now }
+fn after_star<L: Ledger>(reached: &Places, steps: &mut Steps<L>) -> Places
+    ensures value { (name : List ℕ) (test : List ℕ → Bool) → length name ≤ MAX_NAME
+        → passes test result name
+        ≡ passes (λ rest. list_any test (rests rest)) reached.now name }
     ensures counted { steps.old ≤ steps.new }
-    ensures bounded { steps.new ≤ steps.old + (length name.now + 1) }
+    ensures bounded { steps.new ≤ steps.old + 1 }
 {
-    let mut next = Places::none();
-    let mut place = 0;
-    let mut rest = name;
-    let mut begun = false;
-    loop {
-        steps.tick();
-        begun = begun || reached.has(place);
-        if begun {
-            next.add(place);
-        }
-        let [_, after @ ..] = rest else {
-            return next;
-        };
-        place += 1;
-        rest = after;
-    }
+    steps.tick();
+    reached.onward()
 }
 
 /// The places that stand after one of the texts from one of these. Each byte is tried at all places at once.

@@ -1,7 +1,7 @@
 //! Sets of places of a name.
 ghost use Rattle.std.specs.Prelude.{◌≡◌, ◌<◌, ◌+◌, ◌||◌, ◌&&◌, ◌==◌, ℕ, false, IsTrue};
 ghost use Rattle.std.specs.Int.{bit_at};
-ghost use Rattle.osc_pattern.specs.Views.{is_place_of};
+ghost use Rattle.osc_pattern.specs.Views.{is_place_of, reached_from};
 
 /// Places of a name, from 0 to 63. Place 0 stands before the first byte.
 #[derive(Drop)]
@@ -64,6 +64,18 @@ impl Places {
     {
         Places {
             bits: (self.bits & marks) << 1,
+        }
+    }
+    /// The first of the places, and all behind it.
+    pub(crate) fn onward(&self) -> Places
+        ensures { (place : ℕ) → place < 64 → is_place_of result place
+            ≡ reached_from false (is_place_of self.now) 0 place }
+    {
+        if self.bits == 0 {
+            return Places::none();
+        }
+        Places {
+            bits: u64::MAX << self.bits.trailing_zeros(),
         }
     }
 }

@@ -16,6 +16,7 @@ mod Found
 pub mod Alike
 pub mod Charges
 pub mod Walks
+mod Tables
 pub mod Apart
 pub mod Neighbours
 pub mod Searches

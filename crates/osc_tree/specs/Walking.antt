@@ -82,3 +82,8 @@ pub record IsWalked (pattern : List ℕ) (methods : List Method) (at : ℕ) (ids
 pub record IsSorted (methods : List Method) : Type 0 where
   pub list : IsMethodList methods
   pub ascending : IsAscending methods
+
+-- each part of the pattern stands at its place in the list
+abbrev pub AreParts : List (List ℕ) → List ℕ → Type 0
+AreParts found pattern = (place : ℕ) → place < length (parts_of pattern)
+    → get_or found place [] ≡ part_at pattern place

@@ -12,6 +12,7 @@ mod matching;
 mod names;
 mod nodes;
 mod order;
+mod parts;
 mod refusals;
 mod registered;
 mod search;

@@ -13,12 +13,13 @@ ghost use Rattle.osc_tree.specs.Matching.{matching_ids};
 ghost use Rattle.osc_tree.specs.Order.{IsOrder};
 ghost use Rattle.osc_tree.specs.Views.{method_at, methods_of, methods_at};
 ghost use Rattle.osc_tree.specs.Walking.{most_steps, shared, agreeing, part_steps, spent, known_at};
-ghost use Rattle.osc_tree.specs.Walking.{IsWalked, IsSorted};
+ghost use Rattle.osc_tree.specs.Walking.{IsWalked, IsSorted, AreParts};
 
 use crate::beginning::beginning_with;
 use crate::literal::first_special;
 use crate::lookup::id_at;
 use crate::names::{count_names, first_name, names_of, shared_names};
+use crate::parts::find_parts;
 use crate::registered::Registered;
 use osc_pattern::laws::{plain_pattern, tests_are_exact};
 use osc_pattern::{MAX_NAMES, Pattern, Steps};
@@ -52,7 +53,8 @@ pub(crate) fn find_ids<L: Ledger>(
     match first_special(text) {
         Some(end) => {
             let near = beginning_with(methods, places, &text[..end]);
-            walk(methods, near, pattern, parts, ids, steps);
+            let found = find_parts(pattern, parts);
+            walk(methods, near, pattern, parts, &found, ids, steps);
         }
         None => add_spelled(methods, places, pattern, ids),
     }
@@ -82,10 +84,13 @@ fn walk<L: Ledger>(
     near: &[u32],
     pattern: &Pattern<'_>,
     parts: u32,
+    found: &[&[u8]; 16],
     ids: &mut Vec<u32>,
     steps: &mut Steps<L>,
 )
     requires parts { parts ≡ length (parts_of pattern.now) }
+    requires few { parts ≤ 16 }
+    requires found { AreParts (map (λ part. part.now) found.now) pattern.now }
     requires within { All (λ place. place < length methods.now) near.now }
     requires sorted { IsSorted (methods_at methods.now near.now) }
     requires empty { ids.old.items ≡ [] }
@@ -100,7 +105,7 @@ fn walk<L: Ledger>(
 {
     let mut at = 0;
     while at < near.len() {
-        at = visit(methods, near, at, pattern, parts, ids, steps);
+        at = visit(methods, near, at, pattern, parts, found, ids, steps);
     }
 }
 
@@ -112,10 +117,13 @@ fn visit<L: Ledger>(
     at: usize,
     pattern: &Pattern<'_>,
     parts: u32,
+    found: &[&[u8]; 16],
     ids: &mut Vec<u32>,
     steps: &mut Steps<L>,
 ) -> usize
     requires parts { parts ≡ length (parts_of pattern.now) }
+    requires few { parts ≤ 16 }
+    requires found { AreParts (map (λ part. part.now) found.now) pattern.now }
     requires within { All (λ place. place < length methods.now) places.now }
     requires sorted { IsSorted (methods_at methods.now places.now) }
     requires at { at < length places.now }
@@ -132,7 +140,7 @@ fn visit<L: Ledger>(
     let method = &methods[places[at] as usize];
     let names = names_of(&method.address);
     let known = known_at(methods, places, at);
-    let matching = count_matching(pattern, parts, known, names, steps);
+    let matching = count_matching(pattern, parts, found, known, names, steps);
     if is_whole(matching, parts, names) {
         add_id(method.id, ids);
         return at + 1;
@@ -159,11 +167,14 @@ fn known_at(methods: &[Registered], places: &[u32], at: usize) -> usize
 fn count_matching<L: Ledger>(
     pattern: &Pattern<'_>,
     parts: u32,
+    found: &[&[u8]; 16],
     known: usize,
     names: &[u8],
     steps: &mut Steps<L>,
 ) -> u32
     requires parts { parts ≡ length (parts_of pattern.now) }
+    requires few { parts ≤ 16 }
+    requires found { AreParts (map (λ part. part.now) found.now) pattern.now }
     requires short { All (λ name. length name ≤ MAX_NAME) (slice_split is_slash names.now) }
     requires known { known ≤ agreeing (parts_of pattern.now) (slice_split is_slash names.now) }
     ensures count { result ≡ agreeing (parts_of pattern.now) (slice_split is_slash names.now) }
@@ -176,7 +187,7 @@ fn count_matching<L: Ledger>(
     while place < parts {
         let (name, more) = first_name(rest);
         let left = known.saturating_sub(place as usize);
-        if !is_matching(pattern, place, left, name, steps) {
+        if !is_matching(pattern, place, found[place as usize], left, name, steps) {
             return place;
         }
         place += 1;
@@ -192,11 +203,13 @@ fn count_matching<L: Ledger>(
 fn is_matching<L: Ledger>(
     pattern: &Pattern<'_>,
     place: u32,
+    part: &[u8],
     known: usize,
     name: &[u8],
     steps: &mut Steps<L>,
 ) -> bool
     requires place { place < length (parts_of pattern.now) }
+    requires part { part.now ≡ part_at pattern.now place }
     requires name { length name.now ≤ MAX_NAME }
     requires known { 0 < known → match_part (part_at pattern.now place) name.now ≡ true }
     ensures test { result ≡ match_part (part_at pattern.now place) name.now }
@@ -204,7 +217,7 @@ fn is_matching<L: Ledger>(
     ensures bounded { steps.new
         ≤ steps.old + part_steps known (part_at pattern.now place) }
 {
-    known > 0 || pattern.matches_part(place, name, steps)
+    known > 0 || pattern.matches_found(place, part, name, steps)
 }
 
 /// Whether so many are all parts and all names.

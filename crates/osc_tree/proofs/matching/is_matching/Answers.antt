@@ -9,8 +9,8 @@ returns-else-known-gt0-clause-bounded g c =
     let part = part_at c.args.pattern.now c.args.place in
     let name = c.args.name.now in
     let short = c.requires.name in
-    let bounded = c.matches_part.ensures.bounded in
+    let bounded = c.matches_found.ensures.bounded in
     let none : c.args.known ≡ 0 = omega arith in
     let most : (length part + 1) * (length name + 1) ≤ (length part + 1) * 64 =
     mul-le (length part + 1) (length name + 1) (length part + 1) 64 (omega arith) (omega arith) in
-    subst (λ n. c.matches_part.new.steps ≤ c.args.steps.now + part_steps n part) (sym none) (omega arith)
+    subst (λ n. c.matches_found.new.steps ≤ c.args.steps.now + part_steps n part) (sym none) (omega arith)
