@@ -1,8 +1,8 @@
 -- The units that a history drops are those that were late where late units are discarded.
-use Rattle.std.proofs.Common.{◌≡◌, ◌≢◌, ◌⊎◌, ◌↔◌, inl, inr, ℕ, zero, suc, ◌+◌, ◌<◌, ◌==◌, ◌&&◌, Bool, true, false, not, nat_lt, List, [], ◌∷◌, ◌++◌, map}
+use Rattle.std.proofs.Common.{◌≡◌, ◌⊎◌, ◌↔◌, inl, inr, ℕ, zero, suc, ◌+◌, ◌==◌, Bool, true, false, not, nat_lt, List, [], ◌∷◌, ◌++◌, map}
 use Rattle.std.proofs.Common.{filter}
-use Rattle.std.proofs.Common.{length, slice_get, Some, refl, sym, ap, subst, ◌∙◌, arith, eq-eqb, eqb-true, ltb-true, lt-ltb}
-use Rattle.std.specs.List.{AllByRecursion, Contains}
+use Rattle.std.proofs.Common.{slice_get, Some, refl, sym, ap, subst, ◌∙◌, arith, eq-eqb, eqb-true, ltb-true, lt-ltb}
+use Rattle.std.specs.List.{Contains}
 use Rattle.std.proofs.lemmas.Bool.{and_parts}
 use Rattle.std.proofs.lemmas.List.Elements.{All-contains, All-from_recursion, Contains-append_left, Contains-append_right, Contains-append_cases}
 use Rattle.osc_tree.proofs.Lists.{contains_later}
@@ -16,13 +16,13 @@ use Rattle.osc_model.specs.State.{State, Queued, opening}
 use Rattle.osc_model.specs.Events.{Event, enrol, submit, add, remove, tick, release, Answer, number, callers_full, queued, units_full, pool_full, added}
 use Rattle.osc_model.specs.Events.{refused, removed, not_there, ticked, clock_back, released, nothing_due, record_full, Entry}
 use Rattle.osc_model.specs.Refusals.{IsRefusal}
-use Rattle.osc_model.specs.Step.{Stepped, step, waiting, numbered, is_late, is_kept}
+use Rattle.osc_model.specs.Step.{step, waiting, numbered, is_late, is_kept}
 use Rattle.osc_model.specs.Passing.{dropped_by, dropping, all_dropping}
 use Rattle.osc_model.specs.History.{LegalFrom, Legal, after}
 use Rattle.osc_model.proofs.Stepping.{step_so, decided_so}
 use Rattle.osc_model.proofs.Onward.{legal_split}
 use Rattle.osc_model.proofs.Recordable.{after_caps}
-use Rattle.osc_laws.specs.Facts.{clock_in, IsUnitOf, IsLate, IsDiscarded}
+use Rattle.osc_laws.specs.Facts.{IsLate, IsDiscarded}
 use Rattle.osc_laws.proofs.Members.{head_in, none_in, passed, passes, sent, sent_from}
 use Rattle.osc_laws.proofs.ReadOff.{clock_is}
 use Rattle.osc_laws.proofs.Units.{each_numbered}

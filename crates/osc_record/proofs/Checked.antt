@@ -2,7 +2,7 @@
 use Rattle.std.proofs.Common.{◌≡◌, ℕ, List, drop, true, Some, None, Ok, Err, Result, Option, refl, sym, ap, ◌∙◌}
 use Rattle.std.specs.Prelude.{IsTrue, is_ok, ⊤}
 use Rattle.std.specs.List.{flat_map}
-use Rattle.osc_model.specs.Limits.{Limits}
+use Rattle.osc_model.specs.Limits.{Limits, header_size}
 use Rattle.osc_model.specs.Events.{Entry as Recorded}
 use Rattle.osc_model.specs.Recordings.{entry_text, record_text}
 use Rattle.osc_record.specs.Reading.{Placed, entries_at, entries_after, outcome, placed_in, header_read, with_entries, record_read, placed_from, IsRecord}
@@ -15,7 +15,7 @@ ok_entries limits (Ok entries) is = refl
 ok_entries limits (Err at) is = absurd (cc)
 
 -- the entries are read where a walk ends well
-pub read_after : (limits : Limits) (bytes : List ℕ) → Ok tt ≡ outcome (entries_at limits.recording 60 (drop 60 bytes))
+pub read_after : (limits : Limits) (bytes : List ℕ) → Ok tt ≡ outcome (entries_at limits.recording header_size (drop header_size bytes))
     → IsTrue (is_ok (entries_after limits bytes))
 read_after limits bytes is = ok_entries limits (entries_after limits bytes) (is ∙ sym (ap outcome (after_is limits bytes)))
 
@@ -26,7 +26,7 @@ err_entries at (Err place) is = same at place is where
   same a b e = cc
 
 -- the place where a walk ends
-pub err_after : (limits : Limits) (bytes : List ℕ) (at : ℕ) → Err at ≡ outcome (entries_at limits.recording 60 (drop 60 bytes))
+pub err_after : (limits : Limits) (bytes : List ℕ) (at : ℕ) → Err at ≡ outcome (entries_at limits.recording header_size (drop header_size bytes))
     → entries_after limits bytes ≡ Err at
 err_after limits bytes at is = err_entries at (entries_after limits bytes) (is ∙ sym (ap outcome (after_is limits bytes)))
 
@@ -35,7 +35,8 @@ read_at : (bytes : List ℕ) (limits : Limits) → header_read bytes ≡ Some li
 read_at bytes limits header r is =
     ap (with_entries bytes) header ∙ ap (λ (e : Result (List Placed) ℕ). elim e [ Ok entries ↦ Ok (limits, entries) | Err at ↦ Err at ]) is
 
-pub record_ok : (bytes : List ℕ) (limits : Limits) → header_read bytes ≡ Some limits → Ok tt ≡ outcome (entries_at limits.recording 60 (drop 60 bytes))
+pub record_ok : (bytes : List ℕ) (limits : Limits) → header_read bytes ≡ Some limits
+    → Ok tt ≡ outcome (entries_at limits.recording header_size (drop header_size bytes))
     → record_read bytes ≡ Ok (limits, placed_in (entries_after limits bytes))
 record_ok bytes limits header is = go (entries_after limits bytes) refl (is ∙ sym (ap outcome (after_is limits bytes))) where
   go : (r : Result (List Placed) ℕ) → entries_after limits bytes ≡ r → Ok tt ≡ outcome r
@@ -44,7 +45,7 @@ record_ok bytes limits header is = go (entries_after limits bytes) refl (is ∙ 
   go (Err at) e o = absurd (cc)
 
 pub record_err : (bytes : List ℕ) (limits : Limits) (at : ℕ) → header_read bytes ≡ Some limits
-    → Err at ≡ outcome (entries_at limits.recording 60 (drop 60 bytes)) → record_read bytes ≡ Err at
+    → Err at ≡ outcome (entries_at limits.recording header_size (drop header_size bytes)) → record_read bytes ≡ Err at
 record_err bytes limits at header is = go (entries_after limits bytes) refl (is ∙ sym (ap outcome (after_is limits bytes))) where
   go : (r : Result (List Placed) ℕ) → entries_after limits bytes ≡ r → Err at ≡ outcome r → record_read bytes ≡ Err at
   go (Ok entries) e o = absurd (cc)
@@ -54,15 +55,15 @@ record_err bytes limits at header is = go (entries_after limits bytes) refl (is 
 
 -- a recording is read as itself
 pub complete_ok : (bytes : List ℕ) (caps : Limits) (placed : List Placed) → record_read bytes ≡ Ok (caps, placed) → (limits : Limits) (entries : List Recorded)
-    → IsRecord limits entries → bytes ≡ record_text limits entries → (caps ≡ limits) × (placed ≡ placed_from 60 entries)
+    → IsRecord limits entries → bytes ≡ record_text limits entries → (caps ≡ limits) × (placed ≡ placed_from header_size entries)
 complete_ok bytes caps placed read limits entries is same =
-    let both = ok_is (caps, placed) (limits, placed_from 60 entries) (sym read ∙ ap record_read same ∙ record_again limits entries is) in
+    let both = ok_is (caps, placed) (limits, placed_from header_size entries) (sym read ∙ ap record_read same ∙ record_again limits entries is) in
     (ap (λ (p : Limits × List Placed). p.0) both, ap (λ (p : Limits × List Placed). p.1) both)
 
 pub complete_err : (bytes : List ℕ) (at : ℕ) → record_read bytes ≡ Err at → (limits : Limits) (entries : List Recorded) → IsRecord limits entries
     → bytes ≡ record_text limits entries → ⊥
 complete_err bytes at read limits entries is same =
-    clash (limits, placed_from 60 entries) (sym read ∙ ap record_read same ∙ record_again limits entries is) where
+    clash (limits, placed_from header_size entries) (sym read ∙ ap record_read same ∙ record_again limits entries is) where
       clash : (x : Limits × List Placed) → ◌≡◌ {A = Result (Limits × List Placed) ℕ} (Err at) (Ok x) → ⊥
       clash x e = cc
 

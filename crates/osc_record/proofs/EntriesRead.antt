@@ -16,7 +16,7 @@ use Rattle.osc_atoms.proofs.Bytes.{front_bytes, rest_bytes}
 use Rattle.osc_message.specs.Messages.{tag_of, atom_of, tag_string}
 use Rattle.osc_message.specs.Reading.{is_message, pattern_of}
 use Rattle.osc_message.specs.Arguments.{message_arguments}
-use Rattle.osc_model.specs.Limits.{Limits, IsWithin, AreInRange, is_within, limit_fault}
+use Rattle.osc_model.specs.Limits.{Limits, IsWithin, AreInRange, is_within, limit_fault, header_size}
 use Rattle.osc_model.specs.Events.{Entry as Recorded}
 use Rattle.osc_model.specs.Recordings.{Row, row_text, sized, entry_text, header_text, record_text, FitsRow, IsRecordable}
 use Rattle.osc_record.specs.Reading.{row_read, entry_of, bytes_of_size, message_first, entry_first, Placed, onto_read, before_read, entries_read, entries_after}
@@ -156,7 +156,7 @@ fault_step false o k is = absurd (cc)
 -- limits without a fault are in their ranges
 pub no_fault_range : (limits : Limits) → limit_fault limits ≡ None → AreInRange limits
 no_fault_range limits is =
-    let r6 : Option ℕ = cond (is_within 60 1073741824 limits.recording) None (Some 6) in
+    let r6 : Option ℕ = cond (is_within header_size 1073741824 limits.recording) None (Some 6) in
     let r5 : Option ℕ = cond (is_within 1 1024 limits.callers) r6 (Some 5) in
     let r4 : Option ℕ = cond (is_within 1 1048576 limits.nodes) r5 (Some 4) in
     let r3 : Option ℕ = cond (is_within 1 65536 limits.methods) r4 (Some 3) in
@@ -166,20 +166,20 @@ no_fault_range limits is =
     let s3 = fault_step (is_within 1 65536 limits.methods) r4 3 s2.1 in
     let s4 = fault_step (is_within 1 1048576 limits.nodes) r5 4 s3.1 in
     let s5 = fault_step (is_within 1 1024 limits.callers) r6 5 s4.1 in
-    let s6 = fault_step (is_within 60 1073741824 limits.recording) None 6 s5.1 in
+    let s6 = fault_step (is_within header_size 1073741824 limits.recording) None 6 s5.1 in
     record {
       units = within_is 1 1048576 limits.units s1.0;
       blocks = within_is 1 1048576 limits.blocks s2.0;
       methods = within_is 1 65536 limits.methods s3.0;
       nodes = within_is 1 1048576 limits.nodes s4.0;
       callers = within_is 1 1024 limits.callers s5.0;
-      recording = within_is 60 1073741824 limits.recording s6.0;
+      recording = within_is header_size 1073741824 limits.recording s6.0;
     }
 
 -- a header that is read stands before what follows it
 pub record HeaderWas (bytes : List ℕ) (limits : Limits) : Type 0 where
   pub range : AreInRange limits
-  pub text : bytes ≡ header_text limits ++ drop 60 bytes
+  pub text : bytes ≡ header_text limits ++ drop header_size bytes
 
 pub header_first_was : (bytes : List ℕ) (limits : Limits) → AreBytes bytes → header_read bytes ≡ Some limits → HeaderWas bytes limits
 header_first_was bytes limits small is = go (message_first bytes) refl is where
@@ -188,7 +188,7 @@ header_first_was bytes limits small is = go (message_first bytes) refl is where
   go (Some message) found is =
       let was = header_was message limits (message_bytes bytes message small found) is in
       let size : length message ≡ 56 = ap length was.0 in
-      let place : 4 + length message ≡ 60 = omega arith in
+      let place : 4 + length message ≡ header_size = omega arith in
       record {
         range = no_fault_range limits was.1;
         text = first_was bytes message small found ∙ (λ i. sized (was.0 i) ++ drop (place i) bytes);
@@ -207,14 +207,14 @@ record_was bytes limits small header read = go (entries_after limits bytes) refl
   go (Ok xs) e ok =
       let first = header_first_was bytes limits small header in
       let above = first.range.recording.above in
-      let were = entries_were (length bytes) limits.recording 60 (drop 60 bytes) xs (rest_bytes 60 bytes small) above e in
+      let were = entries_were (length bytes) limits.recording header_size (drop header_size bytes) xs (rest_bytes header_size bytes small) above e in
       let text : bytes ≡ record_text limits (map (λ (p : Placed). p.entry) xs) = first.text ∙ ap (λ l. header_text limits ++ l) were.text in
       let within = were.within in
       record {
         lawful = record {
           lawful = first.range;
           all = were.all;
-          fits = omega (arith, sym (ap length text), ap length first.text, length-append (header_text limits) (drop 60 bytes));
+          fits = omega (arith, sym (ap length text), ap length first.text, length-append (header_text limits) (drop header_size bytes));
         };
         text = text;
       }

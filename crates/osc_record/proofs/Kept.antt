@@ -7,7 +7,7 @@ use Rattle.std.specs.List.{flat_map, AllByRecursion}
 use Rattle.std.specs.Option.{option_map_or}
 use Rattle.std.proofs.lemmas.List.{take_all, drop_all, drop-append-le}
 use Rattle.osc_model.specs.Events.{Event, Answer}
-use Rattle.osc_model.specs.Limits.{Limits}
+use Rattle.osc_model.specs.Limits.{Limits, header_size}
 use Rattle.osc_model.specs.Events.{Entry as Recorded}
 use Rattle.osc_model.specs.Recordings.{Row, row_of, row_text, sized, entry_text, FitsRow, IsHit, IsRecordable, hits_in, record_text, header_text}
 use Rattle.osc_record.specs.Reading.{Placed, placed_from, unplaced, entry_first, entries_read, entries_after}
@@ -57,19 +57,19 @@ whole_more limits bytes entry whole is fits small = go (entries_after limits byt
   go (Err at) read ok = absurd (cc)
   go (Ok xs) read ok =
       let text : List ℕ = entry_text entry.caller entry.event entry.answer in
-      let rest : List ℕ = drop 60 bytes in
+      let rest : List ℕ = drop header_size bytes in
       let header = whole.header in
       let some : 0 < length text = entry_some entry.caller entry.event entry.answer is.fits in
-      let place : 60 + length rest ≡ length bytes = omega (arith, length-drop 60 bytes) in
-      let first : entry_first limits.recording (60 + length rest) text ≡ Some (entry, length text) =
-      subst (λ (l : List ℕ). entry_first limits.recording (60 + length rest) l ≡ Some (entry, length text)) (append-nil text)
-      (entry_first_again entry.caller entry.event entry.answer [] limits.recording (60 + length rest) is (omega arith) small) in
+      let place : header_size + length rest ≡ length bytes = omega (arith, length-drop header_size bytes) in
+      let first : entry_first limits.recording (header_size + length rest) text ≡ Some (entry, length text) =
+      subst (λ (l : List ℕ). entry_first limits.recording (header_size + length rest) l ≡ Some (entry, length text)) (append-nil text)
+      (entry_first_again entry.caller entry.event entry.answer [] limits.recording (header_size + length rest) is (omega arith) small) in
       let fewer : length bytes < length (bytes ++ text) = omega (arith, length-append bytes text) in
-      let new : entries_after limits (bytes ++ text) ≡ Ok (xs ++ record { at = 60 + length rest; entry = entry } ∷ []) =
-      ap (entries_read (length (bytes ++ text)) limits.recording 60) (drop-append-le 60 bytes text header)
-      ∙ entries_more (length bytes) (length (bytes ++ text)) limits.recording 60 rest text xs entry read fewer first some in
+      let new : entries_after limits (bytes ++ text) ≡ Ok (xs ++ record { at = header_size + length rest; entry = entry } ∷ []) =
+      ap (entries_read (length (bytes ++ text)) limits.recording header_size) (drop-append-le header_size bytes text header)
+      ∙ entries_more (length bytes) (length (bytes ++ text)) limits.recording header_size rest text xs entry read fewer first some in
       let entries : entries_in limits (bytes ++ text) ≡ entries_in limits bytes ++ entry ∷ [] =
-      ap entries_of new ∙ map_more xs (record { at = 60 + length rest; entry = entry })
+      ap entries_of new ∙ map_more xs (record { at = header_size + length rest; entry = entry })
       ∙ ap (λ (l : List Recorded). l ++ entry ∷ []) (sym (ap entries_of read)) in
       record {
         whole = record {

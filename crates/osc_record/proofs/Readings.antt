@@ -9,7 +9,7 @@ use Rattle.osc_message.specs.Messages.{known, IsLawful, AllFit}
 use Rattle.osc_message.specs.Reading.{is_message}
 use Rattle.osc_message.proofs.MessageLaws.{limited_again}
 use Rattle.osc_message.proofs.TextLaws.{pattern_again, known_arguments_again}
-use Rattle.osc_model.specs.Limits.{Limits, IsWithin, AreInRange, is_within, limit_fault}
+use Rattle.osc_model.specs.Limits.{Limits, IsWithin, AreInRange, is_within, limit_fault, header_size}
 use Rattle.osc_model.specs.Events.{Entry as Recorded}
 use Rattle.osc_model.specs.declared.late.Late.{Late}
 use Rattle.osc_model.specs.declared.late.Late.TheVariants.{Deliver, Discard}
@@ -19,7 +19,7 @@ use Rattle.osc_record.specs.Reading.{with_entries, record_read}
 use Rattle.osc_record.specs.Reading.{placed_from, IsRecord}
 use Rattle.osc_record.proofs.Lawful.{rec_address, balanced}
 use Rattle.osc_record.proofs.Again.{drop_front, message_again, entry_first_again}
-use Rattle.osc_record.proofs.Kept.{entry_some}
+use Rattle.osc_record.proofs.Kept.{entry_some, unplaced_from}
 
 within_true : (least most n : ℕ) → IsWithin least most n → is_within least most n ≡ true
 within_true least most n is = let above = is.above in let below = is.below in rw (le-leb least n above, le-leb n most below) refl
@@ -34,7 +34,7 @@ no_limit_fault limits is =
       within_true 1
           1048576 limits.nodes is.nodes,
       within_true 1 1024 limits.callers is.callers,
-      within_true 60 1073741824 limits.recording is.recording,
+      within_true header_size 1073741824 limits.recording is.recording,
     )
     refl
 
@@ -117,30 +117,26 @@ entries_again (e ∷ entries) (suc most) limit place all few within small =
     ∙ ap (onto_read (record { at = place; entry = e })) (entries_again entries most limit (place + length text) all.1 (omega arith) (omega arith) small)
 
 pub record_again : (limits : Limits) (entries : List Recorded) → IsRecord limits entries
-    → record_read (record_text limits entries) ≡ Ok (limits, placed_from 60 entries)
+    → record_read (record_text limits entries) ≡ Ok (limits, placed_from header_size entries)
 record_again limits entries is =
     let rest : List ℕ = flat_map (λ (e : Recorded). entry_text e.caller e.event e.answer) entries in
     let small = is.lawful.recording.below in
     let fits = is.fits in
     ap (with_entries (record_text limits entries)) (header_again limits rest is.lawful)
-    ∙ ap (finished limits) (entries_again entries (length (record_text limits entries)) limits.recording 60 is.all (omega arith) (omega arith) small)
+    ∙ ap (finished limits) (entries_again entries (length (record_text limits entries)) limits.recording header_size is.all (omega arith) (omega arith) small)
   where
     finished : Limits → Result (List Placed) ℕ → Result (Limits × List Placed) ℕ
     finished limits (Ok entries) = Ok (limits, entries)
     finished limits (Err at) = Err at
 
-entries_of_placed : (place : ℕ) (entries : List Recorded) → map (λ (p : Placed). p.entry) (placed_from place entries) ≡ entries
-entries_of_placed place [] = refl
-entries_of_placed place (e ∷ entries) = ap (λ (l : List Recorded). e ∷ l) (entries_of_placed (place + length (entry_text e.caller e.event e.answer)) entries)
-
 pub texts_differ : (limits other : Limits) (entries others : List Recorded) → IsRecord limits entries → IsRecord other others
     → record_text limits entries ≡ record_text other others → (limits ≡ other) × (entries ≡ others)
 texts_differ limits other entries others one two same =
-    let both = value_is (limits, placed_from 60 entries) (other, placed_from 60 others)
+    let both = value_is (limits, placed_from header_size entries) (other, placed_from header_size others)
     (sym (record_again limits entries one) ∙ ap record_read same ∙ record_again other others two) in (
       ap (λ (p : Limits × List Placed). p.0) both,
-      sym (entries_of_placed 60 entries) ∙ ap (λ (p : Limits × List Placed). map (λ (x : Placed). x.entry) p.1) both
-          ∙ entries_of_placed 60 others,
+      sym (unplaced_from header_size entries) ∙ ap (λ (p : Limits × List Placed). map (λ (x : Placed). x.entry) p.1) both
+          ∙ unplaced_from header_size others,
     )
   where
     value_is : (x y : Limits × List Placed) → ◌≡◌ {A = Result (Limits × List Placed) ℕ} (Ok x) (Ok y) → x ≡ y

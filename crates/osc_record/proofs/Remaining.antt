@@ -3,7 +3,7 @@ use Rattle.std.proofs.Common.{◌≡◌, ℕ, ◌+◌, ◌<◌, ◌≤◌, List,
 use Rattle.std.proofs.lemmas.Option.{none-some}
 use Rattle.osc_atoms.specs.Atoms.{AreBytes}
 use Rattle.osc_atoms.proofs.Bytes.{rest_bytes}
-use Rattle.osc_model.specs.Limits.{Limits}
+use Rattle.osc_model.specs.Limits.{Limits, header_size}
 use Rattle.osc_model.specs.Events.{Entry as Recorded}
 use Rattle.osc_model.specs.Recordings.{entry_text, header_text}
 use Rattle.osc_record.specs.Reading.{entry_first, header_read}
@@ -15,8 +15,8 @@ abbrev pub from : Limits → ℕ → List ℕ → Remaining
 from caps at rest = record { caps = caps; at = at; rest = rest }
 
 -- the header is read
-pub opened : (bytes : List ℕ) (caps : Limits) (rest : List ℕ) → AreBytes bytes → header_read bytes ≡ Some caps → rest ≡ drop 60 bytes
-    → HasHeader bytes (from caps 60 rest)
+pub opened : (bytes : List ℕ) (caps : Limits) (rest : List ℕ) → AreBytes bytes → header_read bytes ≡ Some caps → rest ≡ drop header_size bytes
+    → HasHeader bytes (from caps header_size rest)
 opened bytes caps rest small header is =
     let first = header_first_was bytes caps small header in
     record { lawful = first.range; text = first.text ∙ ap (λ (l : List ℕ). header_text caps ++ l) (sym is); at_is = refl }

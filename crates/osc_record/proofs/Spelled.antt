@@ -14,7 +14,7 @@ use Rattle.osc_message.specs.Reading.{limited_read, is_message, pattern_of}
 use Rattle.osc_message.specs.Arguments.{message_arguments}
 use Rattle.osc_message.proofs.Checks.{exact_of}
 use Rattle.osc_message.proofs.TextLaws.{pattern_again, bare_arguments, known_arguments_again, unknown_arguments_again}
-use Rattle.osc_model.specs.Limits.{Limits, limit_fault}
+use Rattle.osc_model.specs.Limits.{Limits, limit_fault, header_size}
 use Rattle.osc_model.specs.declared.late.Late.{Late}
 use Rattle.osc_model.specs.declared.late.Late.TheVariants.{Deliver, Discard}
 use Rattle.osc_model.specs.Recordings.{int, late_code, row_text, header_row}
@@ -134,9 +134,9 @@ header_was message limits small is =
       no_arguments e = cc
 
 -- the header that bytes begin with is one, so they are long enough for it
-pub header_long : (bytes : List ℕ) (limits : Limits) → AreBytes bytes → header_read bytes ≡ Some limits → 60 ≤ length bytes
+pub header_long : (bytes : List ℕ) (limits : Limits) → AreBytes bytes → header_read bytes ≡ Some limits → header_size ≤ length bytes
 header_long bytes limits small is = go (message_first bytes) refl is where
-  go : (o : Option (List ℕ)) → message_first bytes ≡ o → option_and_then header_of o ≡ Some limits → 60 ≤ length bytes
+  go : (o : Option (List ℕ)) → message_first bytes ≡ o → option_and_then header_of o ≡ Some limits → header_size ≤ length bytes
   go None found e = absurd (none-some limits e)
   go (Some message) found e =
       let was = header_was message limits (message_bytes bytes message small found) e in

@@ -5,7 +5,7 @@ use Rattle.std.proofs.lemmas.Option.{none-some}
 use Rattle.std.specs.List.{flat_map, AllByRecursion}
 use Rattle.osc_atoms.specs.Atoms.{AreBytes}
 use Rattle.osc_atoms.proofs.Bytes.{rest_bytes}
-use Rattle.osc_model.specs.Limits.{Limits}
+use Rattle.osc_model.specs.Limits.{Limits, header_size}
 use Rattle.osc_model.specs.Events.{Entry as Recorded}
 use Rattle.osc_model.specs.Recordings.{entry_text, header_text, IsRecordable}
 use Rattle.osc_record.specs.Reading.{entry_first, Placed, onto_read, before_read, entries_read, entries_after, header_read, HasNoHeader, HasNoEntry}
@@ -80,7 +80,8 @@ no_entry bytes limits at small header read =
     let first = header_first_was bytes limits small header in
     let above = first.range.recording.above in
     let below = first.range.recording.below in
-    let stop = stops (length bytes) limits.recording 60 (drop 60 bytes) at (rest_bytes 60 bytes small) (omega (arith, length-drop 60 bytes)) above read in
+    let stop = stops (length bytes) limits.recording header_size (drop header_size bytes) at (rest_bytes header_size bytes small)
+    (omega (arith, length-drop header_size bytes)) above read in
     let end = stop.end in
     let within = stop.within in
     record {

@@ -6,7 +6,7 @@ use Rattle.std.proofs.lemmas.List.{drop-drop, take_all}
 use Rattle.osc_model.specs.Events.{Entry as Recorded}
 use Rattle.osc_record.specs.Reading.{entry_first, Placed, onto_read, before_read, entries_read, entries_at, entries_after, outcome, placed_in}
 use Rattle.osc_record.proofs.Again.{first_more}
-use Rattle.osc_model.specs.Limits.{Limits}
+use Rattle.osc_model.specs.Limits.{Limits, header_size}
 
 -- no more is read than there are bytes
 pub enough : (most more limit place : ℕ) (bytes : List ℕ) → length bytes ≤ most → length bytes ≤ more
@@ -48,8 +48,10 @@ at_none limit place (byte ∷ bytes) some is =
     ap (λ o. before_read place o (λ size. entries_read (length bytes) limit (place + size) (drop size (byte ∷ bytes)))) is
 
 -- those after a header
-pub after_is : (limits : Limits) (bytes : List ℕ) → entries_after limits bytes ≡ entries_at limits.recording 60 (drop 60 bytes)
-after_is limits bytes = enough (length bytes) (length (drop 60 bytes)) limits.recording 60 (drop 60 bytes) (omega (arith, length-drop 60 bytes)) (omega arith)
+pub after_is : (limits : Limits) (bytes : List ℕ) → entries_after limits bytes ≡ entries_at limits.recording header_size (drop header_size bytes)
+after_is limits bytes =
+    enough (length bytes) (length (drop header_size bytes)) limits.recording header_size (drop header_size bytes) (omega (arith, length-drop header_size bytes))
+    (omega arith)
 
 outcome_of : (first : Placed) (r : Result (List Placed) ℕ) → outcome (onto_read first r) ≡ outcome r
 outcome_of first (Ok entries) = refl

@@ -6,11 +6,11 @@ use Rattle.std.proofs.lemmas.Bool.{ltb-true}
 use Rattle.std.proofs.lemmas.Grind.{flat_map-append}
 use Rattle.std.proofs.lemmas.List.{append-nil}
 use Rattle.std.specs.List.{flat_map, AllByRecursion}
-use Rattle.osc_model.specs.Limits.{Limits}
+use Rattle.osc_model.specs.Limits.{Limits, header_size}
 use Rattle.osc_model.specs.Events.{Event, enrol, submit, add, remove, tick, release, Entry}
 use Rattle.osc_model.specs.Recordings.{IsRecordable, entry_text, header_text, record_text}
 use Rattle.osc_model.specs.History.{IsLawful}
-use Rattle.osc_model.proofs.Sizes.{header_size}
+use Rattle.osc_model.proofs.Sizes.{header_size as length-header}
 use Rattle.osc_record.specs.Reading.{Placed, ReadRecord, placed_from, unplaced, entry_first, header_read}
 use Rattle.osc_record.specs.Unread.{Remaining, HasHeader, Reads, HasNoNext}
 use Rattle.osc_record.proofs.Again.{drop_front, entry_first_again}
@@ -82,8 +82,8 @@ record_split limits front more =
     ap (λ (l : List ℕ). header_text limits ++ l) (flat_map-append (λ (e : Entry). entry_text e.caller e.event e.answer) front more)
     ∙ sym (append_assoc (header_text limits) (texts front) (texts more))
 
-pub record_length : (limits : Limits) (entries : List Entry) → length (record_text limits entries) ≡ 60 + length (texts entries)
-record_length limits entries = omega (arith, header_size limits, length-append (header_text limits) (texts entries))
+pub record_length : (limits : Limits) (entries : List Entry) → length (record_text limits entries) ≡ header_size + length (texts entries)
+record_length limits entries = omega (arith, length-header limits, length-append (header_text limits) (texts entries))
 
 -- two entries that some bytes begin with are one
 pub same_first : (limit place : ℕ) (one two : Entry) (after behind : List ℕ) → Recordable one → Recordable two
@@ -148,10 +148,10 @@ nothing_left left none bytes caps before is =
 
 -- what is read of a recording whose packets and addresses are lawful
 pub read_formed : {E : Type 0} (bytes : List ℕ) (caps : Limits) (entries : List Entry) (r : Result ReadRecord E) → IsFormed caps entries
-    → bytes ≡ record_text caps entries → IsOkAnd r (λ reader. (reader.caps ≡ caps) × (reader.entries ≡ placed_from 60 entries))
+    → bytes ≡ record_text caps entries → IsOkAnd r (λ reader. (reader.caps ≡ caps) × (reader.entries ≡ placed_from header_size entries))
     → IfOk r (λ reader. IsFormed reader.caps (unplaced reader.entries) × (bytes ≡ record_text reader.caps (unplaced reader.entries)))
 read_formed bytes caps entries (Ok reader) formed text same =
-    let own : unplaced reader.entries ≡ entries = ap unplaced same.1 ∙ unplaced_from 60 entries in (
+    let own : unplaced reader.entries ≡ entries = ap unplaced same.1 ∙ unplaced_from header_size entries in (
       subst (λ (l : Limits). IsFormed l (unplaced reader.entries)) (sym same.0) (subst (IsFormed caps) (sym own) formed),
       text ∙ ap (record_text caps) (sym own) ∙ ap (λ (l : Limits). record_text l (unplaced reader.entries)) (sym same.0),
     )
@@ -244,7 +244,7 @@ no_place bytes at caps history formed same (inr is) =
     sym (drop_front (header_text is.limits) (texts is.entries ++ is.rest)) ∙ ap (drop (length (header_text is.limits))) (sym split ∙ same)
     ∙ ap (λ (l : List ℕ). drop (length l) (header_text caps ++ texts history)) header ∙ drop_front (header_text caps) (texts history) in
     let limit = ap (λ (l : Limits). l.recording) one in
-    never caps.recording 60 at is.entries history is.rest is.formed.record_.all formed.record_.all formed.lawful
+    never caps.recording header_size at is.entries history is.rest is.formed.record_.all formed.record_.all formed.lawful
     (omega (arith, formed.record_.fits, record_length caps history)) formed.record_.lawful.recording.below
     (is.place ∙ record_length is.limits is.entries) is.some
     (λ entry more recordable lawful fits rest. is.none entry more recordable lawful (omega (arith, fits, limit)) rest) behind

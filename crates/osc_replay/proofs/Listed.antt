@@ -4,7 +4,7 @@ use Rattle.std.proofs.lemmas.List.{append-nil}
 use Rattle.std.proofs.lemmas.Grind.{flat_map-append}
 use Rattle.std.specs.List.{flat_map}
 use Rattle.osc_print.specs.Dumps.{limits_text, placed_text, dumped}
-use Rattle.osc_model.specs.Limits.{Limits}
+use Rattle.osc_model.specs.Limits.{Limits, header_size}
 use Rattle.osc_model.specs.Events.{Entry}
 use Rattle.osc_model.specs.Recordings.{entry_text, record_text}
 use Rattle.osc_model.specs.History.{IsLawful}
@@ -43,16 +43,17 @@ placed_more place (y ∷ xs) x =
     (placed_more (place + length own) xs x ∙ ap (λ (n : ℕ). placed_from (place + length own) xs ++ record { at = n; entry = x } ∷ []) far)
 
 -- the dump of some entries and of one more
-dumped_more : (caps : Limits) (before : List Entry) (placed : Placed) → placed.at ≡ 60 + length (texts before)
+dumped_more : (caps : Limits) (before : List Entry) (placed : Placed) → placed.at ≡ header_size + length (texts before)
     → dumped caps before ++ placed_text placed ≡ dumped caps (before ++ placed.entry ∷ [])
 dumped_more caps before placed at =
-    let lines : List ℕ = flat_map placed_text (placed_from 60 before) in
+    let lines : List ℕ = flat_map placed_text (placed_from header_size before) in
     let here : ℕ → Placed = λ n. record { at = n; entry = placed.entry } in
     append_assoc (limits_text caps) lines (placed_text placed)
     ∙ ap (λ (n : ℕ). limits_text caps ++ (lines ++ placed_text (here n))) at
-    ∙ ap (λ (l : List ℕ). limits_text caps ++ (lines ++ l)) (sym (append-nil (placed_text (here (60 + length (texts before))))))
-    ∙ ap (λ (l : List ℕ). limits_text caps ++ l) (sym (flat_map-append placed_text (placed_from 60 before) (here (60 + length (texts before)) ∷ [])))
-    ∙ ap (λ (l : List Placed). limits_text caps ++ flat_map placed_text l) (sym (placed_more 60 before placed.entry))
+    ∙ ap (λ (l : List ℕ). limits_text caps ++ (lines ++ l)) (sym (append-nil (placed_text (here (header_size + length (texts before))))))
+    ∙ ap (λ (l : List ℕ). limits_text caps ++ l)
+    (sym (flat_map-append placed_text (placed_from header_size before) (here (header_size + length (texts before)) ∷ [])))
+    ∙ ap (λ (l : List Placed). limits_text caps ++ flat_map placed_text l) (sym (placed_more header_size before placed.entry))
 
 -- one more entry is dumped
 pub listed_more : (bytes : List ℕ) (left rest : Remaining) (placed : Placed) (text more : List ℕ) → IsListed bytes left text → Reads left placed rest

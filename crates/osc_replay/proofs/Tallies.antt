@@ -5,7 +5,7 @@ use Rattle.std.proofs.lemmas.List.{length-map}
 use Rattle.std.specs.Prelude.{fold, sum_by, not, ◌&&◌}
 use Rattle.std.specs.List.{AllByRecursion}
 use Rattle.std.proofs.lemmas.List.Sums.{count_by-le-length, sum_by-cons}
-use Rattle.osc_model.specs.Limits.{Limits}
+use Rattle.osc_model.specs.Limits.{Limits, header_size}
 use Rattle.osc_model.specs.State.{State, opening}
 use Rattle.osc_model.specs.Events.{Event, enrol, submit, add, remove, tick, release, Answer, released, Entry, is_added, is_removed}
 use Rattle.osc_model.specs.Refusals.{IsRefusal}
@@ -170,13 +170,13 @@ is_short within bytes caps history is =
     omega (arith, ap length is.text, within caps history is.legal, is.legal.0.recording.below)
 
 pub is_light : AllFit → StaysWithin → (bytes : List ℕ) (placed : List Placed) (caps : Limits) (history : List Entry) → IsRecordingOf bytes caps history
-    → placed ≡ placed_from 60 history → weight (unplaced placed) ≤ 2 ^ 62
+    → placed ≡ placed_from header_size history → weight (unplaced placed) ≤ 2 ^ 62
 is_light fit within bytes placed caps history is same =
-    let own = ap weight (ap unplaced same ∙ unplaced_from 60 history) in
+    let own = ap weight (ap unplaced same ∙ unplaced_from header_size history) in
     omega (arith, own, light history (fit caps history is.legal), record_length caps history, ap length is.text, is_short within bytes caps history is)
 
 pub summed : (bytes text : List ℕ) (placed : List Placed) (caps : Limits) (history : List Entry) → IsRecordingOf bytes caps history
-    → placed ≡ placed_from 60 history → text ≡ counts_text (more_counted no_counts (unplaced placed)) (length bytes) → text ≡ summary caps history
+    → placed ≡ placed_from header_size history → text ≡ counts_text (more_counted no_counts (unplaced placed)) (length bytes) → text ≡ summary caps history
 summed bytes text placed caps history is same text_is =
-    text_is ∙ ap (λ (l : List Entry). counts_text (more_counted no_counts l) (length bytes)) (ap unplaced same ∙ unplaced_from 60 history)
+    text_is ∙ ap (λ (l : List Entry). counts_text (more_counted no_counts l) (length bytes)) (ap unplaced same ∙ unplaced_from header_size history)
     ∙ ap₂ counts_text (all_counted history ∙ ap (λ (n : ℕ). counts_of n history) (sym (all_many (opening caps) history is.legal.1))) (ap length is.text)

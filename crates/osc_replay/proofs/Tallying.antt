@@ -1,16 +1,14 @@
 -- Recordings that are checked up to an entry.
-use Rattle.std.proofs.Common.{◌≡◌, ℕ, zero, suc, ◌+◌, ◌≤◌, Bool, true, false, cond, List, [], ◌∷◌, ◌++◌, length, length-append, Result, Ok, Err, OnOk, Option}
+use Rattle.std.proofs.Common.{◌≡◌, ℕ, ◌+◌, ◌≤◌, cond, List, [], ◌++◌, Result, Err, OnOk}
 use Rattle.std.proofs.Common.{refl, sym, ap}
 use Rattle.std.proofs.Common.{subst, ◌∙◌, arith}
 use Rattle.std.specs.Prelude.{count_by}
 use Rattle.std.proofs.lemmas.List.Sums.{count_by-le-length, sum_by_push}
-use Rattle.std.specs.List.{flat_map}
-use Rattle.osc_print.specs.Entries.{event_line, invocation_text}
 use Rattle.osc_model.specs.Limits.{Limits}
 use Rattle.osc_model.specs.State.{State, opening}
 use Rattle.osc_model.specs.Events.{Entry, Answer, adds_entry, is_added}
 use Rattle.osc_model.specs.Step.{step}
-use Rattle.osc_model.specs.History.{IsLawful, after}
+use Rattle.osc_model.specs.History.{IsLawful}
 use Rattle.osc_model.proofs.Onward.{adds_is}
 use Rattle.osc_record.specs.Reading.{Placed}
 use Rattle.osc_record.specs.Unread.{Remaining, HasHeader, Reads}

@@ -1,6 +1,6 @@
 // Whether the packets and addresses of a recording are lawful.
-ghost use Rattle.std.specs.Prelude.{◌≡◌, ◌≤◌, [], List, length, IfOk, IfErr, IsOkAnd, IfSome, IfNone};
-ghost use Rattle.std.specs.Prelude.{true, false};
+ghost use Rattle.std.specs.Prelude.{◌≡◌, ◌≤◌, [], List, length, IfOk, IfErr, IsOkAnd, IfSome};
+ghost use Rattle.std.specs.Prelude.{IfNone, true, false};
 ghost use Rattle.osc_model.specs.Limits.{Limits, header_size, max_recording};
 ghost use Rattle.osc_model.specs.Events.{Entry as Recorded};
 ghost use Rattle.osc_model.specs.Recordings.{record_text};
@@ -8,7 +8,8 @@ ghost use Rattle.osc_record.specs.Reading.{placed_from, unplaced};
 ghost use Rattle.osc_record.specs.Left.{placed_of};
 ghost use Rattle.osc_record.specs.Shown.{event_of};
 ghost use Rattle.osc_record.specs.Unread.{Reads};
-ghost use Rattle.osc_replay.specs.Formed.{IsFormed, IsUnformedAt, HasNoLawful, EndsFormed, IsStuckAt};
+ghost use Rattle.osc_replay.specs.Formed.{IsFormed, IsUnformedAt, HasNoLawful, EndsFormed};
+ghost use Rattle.osc_replay.specs.Formed.{IsStuckAt};
 ghost use Rattle.osc_replay.specs.Lawful.{is_lawful};
 ghost use Rattle.osc_replay.specs.Events.{event_in};
 

@@ -1,4 +1,4 @@
-use Rattle.std.proofs.Common.{◌≤◌, ℕ}
+use Rattle.std.proofs.Common.{◌≤◌}
 use Rattle.osc_pool.proofs.Opened.{opened_laid, opened_view}
 use Rattle.osc_pool.proofs.pool.Pool.open.Goals as goal
 

@@ -1,4 +1,5 @@
 use Rattle.std.proofs.Common.{◌≡◌, ℕ, Ok, Err, inl, inr, ◌∙◌, sym, ap, drop, arith}
+use Rattle.osc_model.specs.Limits.{header_size}
 use Rattle.osc_record.specs.Reading.{entries_at, entries_after, outcome, placed_in, record_read}
 use Rattle.osc_record.proofs.Checked.{read_after, err_after, record_ok, record_err, complete_ok, complete_err, complete_header}
 use Rattle.osc_record.proofs.Spelled.{header_long}
@@ -12,8 +13,8 @@ returns-in_default-clause-complete c = λ limits entries is same. complete_heade
 pub check_entries-requires-clause-long : goal.check_entries-requires-clause-long
 check_entries-requires-clause-long c = header_long c.args.bytes.now c.in-Some.caps (λ i. omega (arith, c.type_inv.bytes i)) (sym c.in-Some.ensures)
 
-walked : (c : goal.In-Ok) → Ok tt ≡ outcome (entries_at c.in-Some.caps.recording 60 (drop 60 c.args.bytes.now))
-walked c = c.in-Ok.ensures ∙ ap (λ (n : ℕ). outcome (entries_at n 60 (drop 60 c.args.bytes.now))) c.recording.ensures.value
+walked : (c : goal.In-Ok) → Ok tt ≡ outcome (entries_at c.in-Some.caps.recording header_size (drop header_size c.args.bytes.now))
+walked c = c.in-Ok.ensures ∙ ap (λ (n : ℕ). outcome (entries_at n header_size (drop header_size c.args.bytes.now))) c.recording.ensures.value
 
 pub invariant_of-result : goal.invariant_of-result
 invariant_of-result c = record {
@@ -39,7 +40,7 @@ returns-in-Ok-clause-complete c =
 
 failed : (c : goal.In-Err) → record_read c.args.bytes.now ≡ Err c.in-Err.at
 failed c = record_err c.args.bytes.now c.in-Some.caps c.in-Err.at (sym c.in-Some.ensures)
-    (c.in-Err.ensures ∙ ap (λ (n : ℕ). outcome (entries_at n 60 (drop 60 c.args.bytes.now))) c.recording.ensures.value)
+    (c.in-Err.ensures ∙ ap (λ (n : ℕ). outcome (entries_at n header_size (drop header_size c.args.bytes.now))) c.recording.ensures.value)
 
 pub returns-in-Err-clause-err : goal.returns-in-Err-clause-err
 returns-in-Err-clause-err c = failed c
@@ -51,7 +52,7 @@ pub returns-in-Err-clause-first : goal.returns-in-Err-clause-first
 returns-in-Err-clause-first c =
     inr (no_entry c.args.bytes.now c.in-Some.caps c.in-Err.at (λ i. omega (arith, c.type_inv.bytes i)) (sym c.in-Some.ensures)
     (err_after c.in-Some.caps c.args.bytes.now c.in-Err.at
-    (c.in-Err.ensures ∙ ap (λ (n : ℕ). outcome (entries_at n 60 (drop 60 c.args.bytes.now))) c.recording.ensures.value)))
+    (c.in-Err.ensures ∙ ap (λ (n : ℕ). outcome (entries_at n header_size (drop header_size c.args.bytes.now))) c.recording.ensures.value)))
 
 pub returns-in_default-clause-first : goal.returns-in_default-clause-first
 returns-in_default-clause-first c = inl (no_header c.args.bytes.now (sym c.in_default.ensures))

@@ -1,4 +1,5 @@
 use Rattle.std.proofs.Common.{length, ap, sym, arith, length-drop}
+use Rattle.osc_model.specs.Limits.{header_size}
 use Rattle.osc_record.proofs.Spelled.{header_long}
 use Rattle.osc_record.proofs.Stops.{no_header}
 use Rattle.osc_record.proofs.Remaining.{opened, rest_kept}
@@ -12,11 +13,11 @@ split_at-requires c = header_long c.args.bytes.now c.in-Some.caps (λ i. omega (
 
 pub invariant_of-result : goal.invariant_of-result
 invariant_of-result c = record {
-  bytes = rest_kept 60 c.args.bytes.now c.split_at.result.1.now (λ i. omega (arith, c.type_inv.bytes i)) c.split_at.ensures.back;
+  bytes = rest_kept header_size c.args.bytes.now c.split_at.result.1.now (λ i. omega (arith, c.type_inv.bytes i)) c.split_at.ensures.back;
   small = omega (
     arith,
     ap length c.split_at.ensures.back,
-    length-drop 60 c.args.bytes.now,
+    length-drop header_size c.args.bytes.now,
     c.requires,
     header_long c.args.bytes.now c.in-Some.caps
         (λ i. omega (arith, c.type_inv.bytes i)) (sym c.in-Some.ensures),
