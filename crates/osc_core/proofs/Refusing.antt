@@ -3,7 +3,7 @@ use Rattle.std.proofs.Common.{◌≡◌, ℕ, true, false, List, Option, Some, N
 use Rattle.osc_tree.specs.Registry.{id_at}
 use Rattle.osc_tree.specs.Adding.{Refusal, add_refusal}
 use Rattle.osc_model.specs.State.{State, registry}
-use Rattle.osc_model.specs.Events.{Answer, add, remove, added, removed, adds_entry, is_added, is_removed}
+use Rattle.osc_model.specs.Events.{Answer, add, remove, adds_entry, is_added, is_removed}
 use Rattle.osc_model.specs.Refusals.{IsRefusal}
 use Rattle.osc_model.specs.Step.{Stepped, step, add_at, remove_at}
 use Rattle.osc_model.proofs.Onward.{entered}

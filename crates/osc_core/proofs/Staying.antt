@@ -7,7 +7,7 @@ use Rattle.osc_model.specs.History.{Performance, state_of, HaveHeard}
 use Rattle.osc_model.specs.Heard.{Told}
 use Rattle.osc_model.specs.State.{State}
 use Rattle.osc_model.specs.Events.{Event}
-use Rattle.osc_model.specs.Step.{Stepped, step, leaves}
+use Rattle.osc_model.specs.Step.{Stepped, step}
 use Rattle.osc_model.proofs.Stepping.{step_so, decided_so}
 use Rattle.osc_core.specs.declared.answers.AddRefusal.{AddRefusal}
 use Rattle.osc_core.specs.declared.answers.AddRefusal.TheVariants as adding

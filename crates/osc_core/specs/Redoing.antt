@@ -2,7 +2,7 @@
 use Rattle.std.specs.Prelude.{◌≡◌, ℕ, List, [], ◌∷◌, ◌++◌, Option, Some, None}
 use Rattle.std.specs.Prelude.{MatchBool, IsSome, IfSome, IsSomeAnd}
 use Rattle.std.specs.List.{Contains}
-use Rattle.osc_model.specs.Events.{Event, enrol, submit, add, remove, tick, release, Answer, added}
+use Rattle.osc_model.specs.Events.{Event, add, remove, release, Answer, added}
 use Rattle.osc_model.specs.Events.{removed, is_added, is_removed, Entry, Invocation}
 use Rattle.osc_model.specs.Heard.{Told, reset, all_hear, without_id}
 use Rattle.osc_model.specs.History.{Performance}

@@ -1,5 +1,5 @@
 -- Boxes that are put back.
-use Rattle.std.proofs.Common.{◌≢◌, ◌⊎◌, inl, inr, ◌≡◌, ℕ, zero, suc, ◌+◌, ◌<◌, ◌≤◌, List, [], ◌∷◌, ◌++◌, length, length-append, map, drop, get_or, remove}
+use Rattle.std.proofs.Common.{◌≢◌, ◌⊎◌, inl, inr, ◌≡◌, ℕ, zero, suc, ◌+◌, ◌<◌, ◌≤◌, List, [], ◌∷◌, ◌++◌, length, map, drop, get_or, remove}
 use Rattle.std.proofs.Common.{Option, Some, None}
 use Rattle.std.proofs.Common.{refl, sym, ap, subst, ◌∙◌, arith}
 use Rattle.std.specs.Prelude.{slice_get, option_to_list}
@@ -7,10 +7,9 @@ use Rattle.std.specs.List.{AllByRecursion, Contains}
 use Rattle.std.proofs.lemmas.List.{map-append}
 use Rattle.std.proofs.lemmas.Simd.{map-map}
 use Rattle.std.proofs.lemmas.List.Elements.{Contains-append_left, Contains-append_right, Contains-append_cases}
-use Rattle.osc_laws.proofs.Members.{none_in, sent_from}
+use Rattle.osc_laws.proofs.Members.{sent_from}
 use Rattle.osc_model.specs.Heard.{Told}
 use Rattle.osc_core.specs.Redoing.{told_as}
-use Rattle.osc_core.specs.Standing.{mark_of}
 use Rattle.osc_core.specs.Telling.{told}
 use Rattle.osc_live.specs.Resuming.{HasMarkOf, marks}
 use Rattle.osc_live.specs.Redone.{TakesOut, TakesEither, TellsMarkOf, IsOut, IsBack}

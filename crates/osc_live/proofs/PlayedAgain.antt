@@ -21,12 +21,12 @@ use Rattle.osc_model.specs.Refusals.{IsRefusal}
 use Rattle.osc_model.specs.Step.{Stepped, step, leaves, late_count, after_submit}
 use Rattle.osc_model.specs.History.{IsLawful, LegalFrom, Legal, Performance, after, state_of, stepped_in, invoked_in, HasHeard, HaveHeard}
 use Rattle.osc_model.proofs.Boxes.{same_id}
-use Rattle.osc_model.proofs.Onward.{legal_split, after_more}
+use Rattle.osc_model.proofs.Onward.{legal_split}
 use Rattle.osc_model.proofs.Stepping.{step_so, decided_so}
 use Rattle.osc_tree.proofs.Lists.{all_filter}
 use Rattle.osc_core.specs.Redoing.{Redoes, HandsIn, with_entry, told_as}
 use Rattle.osc_core.specs.Standing.{mark_of}
-use Rattle.osc_live.specs.Resuming.{needed_by, takes_box, added_in, removed_id, removed_in, addresses_in, HasMarkOf}
+use Rattle.osc_live.specs.Resuming.{needed_by, takes_box, added_in, removed_id, addresses_in, HasMarkOf}
 use Rattle.osc_live.specs.Redone.{Takes, Moves, TellsMarkOf, HeardTill, IsRedone}
 
 -- What is handed in.

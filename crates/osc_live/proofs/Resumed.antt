@@ -1,6 +1,6 @@
 -- What a server is that goes on from a recording.
 use Rattle.std.proofs.Common.{◌≡◌, ℕ, zero, suc, ◌+◌, ◌≢◌, ◌<◌, ◌≤◌, ◌==◌, Bool, true, cond, All, ne_eqb, List, [], ◌∷◌, ◌++◌, length, map, drop, Option, Some}
-use Rattle.std.proofs.Common.{None, refl, sym, ap, subst, ◌∙◌, arith}
+use Rattle.std.proofs.Common.{refl, sym, ap, subst, ◌∙◌, arith}
 use Rattle.std.proofs.lemmas.List.{append-nil, map-append}
 use Rattle.std.proofs.lemmas.List.Elements.{All-from_recursion, recursion_from_All, filter-append}
 use Rattle.std.specs.Prelude.{slice_get, Result, Ok, Err, IfOk, OnOk, IsOkAnd}

@@ -1,17 +1,17 @@
 -- A history that is legal within a recording is legal within a larger one.
-use Rattle.std.proofs.Common.{◌≡◌, ℕ, ◌+◌, ◌-◌, ◌≤◌, ◌==◌, Bool, true, false, cond, nat_le, nat_lt, max, List, [], ◌∷◌, ◌++◌, length, Option, Some, None, refl}
+use Rattle.std.proofs.Common.{◌≡◌, ℕ, ◌+◌, ◌-◌, ◌≤◌, ◌==◌, Bool, true, false, cond, nat_le, nat_lt, max, List, [], ◌∷◌, length, Option, Some, None, refl}
 use Rattle.std.proofs.Common.{sym, ap, subst, ◌∙◌, arith}
 use Rattle.osc_packet.specs.Reading.{units_read}
 use Rattle.osc_packet.specs.Units.{TimedUnit, blocks_of}
 use Rattle.osc_queue.specs.Timed.{due_of}
 use Rattle.osc_tree.specs.Registry.{id_at}
 use Rattle.osc_tree.specs.Adding.{Refusal, add_refusal}
-use Rattle.osc_model.specs.Limits.{Limits, AreInRange, header_size}
+use Rattle.osc_model.specs.Limits.{Limits, header_size}
 use Rattle.osc_model.specs.State.{State, Queued, opening, registry}
-use Rattle.osc_model.specs.Counts.{free_places, free_blocks, free_bytes}
-use Rattle.osc_model.specs.Events.{Event, enrol, submit, add, remove, tick, release, Answer, Entry, number, callers_full, queued, units_full, pool_full}
+use Rattle.osc_model.specs.Counts.{free_places, free_blocks}
+use Rattle.osc_model.specs.Events.{Event, enrol, submit, add, remove, tick, release, Entry, number, callers_full, queued, units_full, pool_full}
 use Rattle.osc_model.specs.Events.{ticked, clock_back, nothing_due, adds_entry}
-use Rattle.osc_model.specs.Recordings.{entry_size, entry_text}
+use Rattle.osc_model.specs.Recordings.{entry_size}
 use Rattle.osc_record.specs.Reading.{Placed, placed_from, unplaced}
 use Rattle.osc_record.proofs.Kept.{unplaced_from}
 use Rattle.osc_core.proofs.Played.{few_entries}

@@ -11,7 +11,7 @@ use Rattle.osc_model.specs.State.{opening}
 use Rattle.osc_model.specs.History.{Performance, HasHeard, invocations}
 use Rattle.osc_core.specs.Redoing.{told_as}
 use Rattle.osc_core.specs.Standing.{mark_of}
-use Rattle.osc_live.specs.Resuming.{needed_by, added_in, removed_in, addresses_in, HasMarkOf, marks}
+use Rattle.osc_live.specs.Resuming.{added_in, removed_in, addresses_in, HasMarkOf, marks}
 
 -- a box is taken from the bank, or none
 abbrev pub Takes : {M : Type 0} → Bool → Option M → List M → List M → Type 0

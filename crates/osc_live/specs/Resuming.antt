@@ -1,5 +1,5 @@
 -- What a server is that goes on from a recording.
-use Rattle.std.specs.Prelude.{◌≡◌, ℕ, zero, suc, ◌+◌, ◌≤◌, max, List, [], ◌∷◌, length, map, drop}
+use Rattle.std.specs.Prelude.{◌≡◌, ℕ, zero, suc, ◌+◌, ◌≤◌, max, List, [], ◌∷◌, map, drop}
 use Rattle.std.specs.Prelude.{slice_get, count_by, if◌then◌else◌, Bool, false, Option, Some, None}
 use Rattle.std.specs.Prelude.{All}
 use Rattle.std.specs.List.{filter_map, Contains}

@@ -5,7 +5,7 @@ ghost use Rattle.std.specs.Prelude.{vec_len, vec_capacity};
 ghost use Rattle.std.specs.VecDeque.{deque_capacity};
 ghost use Rattle.osc_turn.specs.Passes.{view};
 ghost use Rattle.osc_turn.specs.Rule.{reopening};
-ghost use Rattle.osc_model.specs.Limits.{Limits, max_recording};
+ghost use Rattle.osc_model.specs.Limits.{Limits, header_size, max_recording};
 ghost use Rattle.osc_model.specs.Events.{Entry as Recorded};
 ghost use Rattle.osc_model.specs.Enrolled.{callers_in};
 ghost use Rattle.osc_model.specs.Recordings.{header_text};
@@ -63,7 +63,7 @@ impl<M: Method> Live<M> {
         bank: Vec<M>,
     ) -> Result<LiveResumed<M>, (AllocError, Vec<M>)>
         requires recording { CanResume recording.now (length bank.items) }
-        requires room { (60 ≤ room) × (room ≤ max_recording) }
+        requires room { (header_size ≤ room) × (room ≤ max_recording) }
         ensures resumes { IfOk result
             (λ resumed. (caps : Limits) (history : List Recorded)
             → Records recording.now caps history

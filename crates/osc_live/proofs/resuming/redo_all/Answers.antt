@@ -1,4 +1,4 @@
-use Rattle.std.proofs.Common.{rules, ◌≡◌, ◌≤◌, List, ◌∷◌, ◌+◌, vec_len, vec_capacity, length, ap, subst, refl, sym, ◌∙◌, arith}
+use Rattle.std.proofs.Common.{rules, ◌≡◌, ◌≤◌, List, ◌∷◌, length, ap, subst, refl, sym, ◌∙◌, arith}
 use Rattle.osc_model.specs.Events.{Entry as Recorded}
 use Rattle.osc_model.specs.History.{Legal}
 use Rattle.osc_record.specs.Left.{placed_of, entries_left}

@@ -1,4 +1,4 @@
-use Rattle.std.proofs.Common.{rules, ◌≡◌, ◌≢◌, ℕ, ◌+◌, ◌-◌, ◌<◌, ◌≤◌, List, ◌∷◌, length, get_or, remove, drop, refl, sym, ap, subst, ◌∙◌, arith, vec_len, Some}
+use Rattle.std.proofs.Common.{rules, ◌≡◌, ◌≢◌, ℕ, ◌-◌, ◌<◌, length, get_or, drop, refl, sym, ap, subst, ◌∙◌, arith, Some}
 use Rattle.osc_live.specs.Redone.{TakesOut}
 use Rattle.std.specs.List.{AllByRecursion}
 use Rattle.osc_live.proofs.Backs.{taken_out, none_out, all_dropped, none_more, default_free}

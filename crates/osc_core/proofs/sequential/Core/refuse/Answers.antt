@@ -1,4 +1,4 @@
-use Rattle.std.proofs.Common.{sym, subst}
+use Rattle.std.proofs.Common.{subst}
 use Rattle.osc_model.specs.Refusals.{IsRefusal}
 use Rattle.osc_model.specs.History.{onward}
 use Rattle.osc_record.specs.Shown.{event_of}

@@ -1,4 +1,4 @@
-use Rattle.std.proofs.Common.{◌≡◌, List, ℕ, subst}
+use Rattle.std.proofs.Common.{subst}
 use Rattle.osc_model.specs.Limits.{Limits}
 use Rattle.osc_turn.specs.Passes.{view}
 use Rattle.osc_live.specs.Reads.{Reads}

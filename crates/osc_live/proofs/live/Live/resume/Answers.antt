@@ -1,18 +1,18 @@
-use Rattle.std.proofs.Common.{◌≡◌, ℕ, ◌≤◌, ◌⊎◌, ◌-◌, List, [], length, map, drop, sym, ap, subst, ◌∙◌, arith}
+use Rattle.std.proofs.Common.{◌≡◌, ℕ, ◌⊎◌, ◌-◌, List, [], length, map, drop, sym, ap, subst, ◌∙◌, arith}
 use Rattle.osc_model.specs.Limits.{Limits}
 use Rattle.osc_model.specs.State.{opening}
 use Rattle.osc_model.specs.Events.{Entry as Recorded}
 use Rattle.osc_model.specs.Enrolled.{callers_in}
 use Rattle.osc_model.specs.History.{Legal, Performance, state_of, after}
 use Rattle.osc_record.specs.Left.{entries_left}
-use Rattle.osc_record.specs.Reading.{IsRecord, placed_from, unplaced}
+use Rattle.osc_record.specs.Reading.{IsRecord, unplaced}
 use Rattle.osc_core.specs.Standing.{history_in, texts_of, StandsFor}
 use Rattle.osc_core.specs.Telling.{told}
 use Rattle.osc_model.specs.Events.{is_added}
 use Rattle.std.proofs.lemmas.List.{append-nil, length-drop}
 use Rattle.std.proofs.lemmas.List.Sums.{count_by-le-length}
 use Rattle.osc_live.specs.Seen.{past_of}
-use Rattle.osc_live.specs.Resuming.{Records, added_in}
+use Rattle.osc_live.specs.Resuming.{added_in}
 use Rattle.std.specs.List.{AllByRecursion, Contains}
 use Rattle.osc_model.specs.Heard.{Told}
 use Rattle.osc_live.specs.Redone.{TellsMarkOf, IsRedone}
