@@ -10,7 +10,10 @@ use std::test::Fail;
 use std::time::{SystemTime, UNIX_EPOCH};
 
 /// What the link answers, and the first five bytes of a slice that was full of ones.
-fn next<L: Link>(alloc: Global, link: &mut L) -> Result<(Datagram, Vec<u8>), AllocError> {
+pub(crate) fn next<L: Link>(
+    alloc: Global,
+    link: &mut L,
+) -> Result<(Datagram, Vec<u8>), AllocError> {
     let mut into = vec![in alloc; 1u8; MAX_DATAGRAM]?;
     let datagram = link.next(&mut into);
     into.truncate(5);

@@ -1,5 +1,9 @@
 // Packets over a stream, from pieces, from memory and from a connection.
-use osc_edge::{Datagram, Link, MAX_DATAGRAM, MemorySource, Source, Taken, TcpSource};
+ghost use Rattle.std.specs.Prelude.{◌≡◌, ◌+◌, ◌≤◌, ◌<◌, ◌^◌, length, IfOk};
+ghost use Rattle.osc_stream.specs.Feeding.{taken};
+
+use crate::edges::next;
+use osc_edge::{Datagram, MemorySource, Source, Taken, TcpSource};
 use osc_stream::{Fed, Stream, StreamLink, StreamState};
 use std::alloc::{AllocError, Global};
 use std::io::{ErrorKind, Write};
@@ -14,17 +18,14 @@ const TWO: [u8; 20] = *b"\0\0\0\x04/a\0\0\0\0\0\x08/a\0\0,\0\0\0";
 #[test]
 fn a_stream_is_ready_at_the_last_byte_of_each_packet(rt: HostRuntime) -> Result<(), Fail> {
     let mut stream = Stream::open(rt.alloc())?;
-    let mut at = 0u64;
-    for byte in TWO {
-        at += 1;
-        let expected = if at == 8 || at == 20 {
+    for at in 0..TWO.len() {
+        let expected = if at == 7 || at == 19 {
             Fed::Ready
         } else {
             Fed::More
         };
-        assert_eq!(rt; stream.take(&[byte]), (1, expected));
+        assert_eq!(rt; stream.take(&TWO[at..at + 1]), (1, expected));
     }
-    assert_eq!(rt; stream.packet(), b"/a\0\0,\0\0\0".as_slice());
     assert_eq!(rt; stream.place(), 20);
     assert_eq!(rt;
         stream.take(b"\0\0\0\x03\0"),
@@ -58,6 +59,67 @@ fn a_stream_leaves_what_is_behind_a_packet(rt: HostRuntime) -> Result<(), Fail> 
     Ok(())
 }
 
+/// Hands in a piece, of which a packet may be taken, and puts that behind those before. Says how many bytes were taken.
+fn feed(stream: &mut Stream, piece: &[u8], packets: &mut Vec<u8>) -> Result<usize, AllocError>
+    requires { taken stream.old < 2 ^ 63 }
+    ensures within { IfOk result (λ count. count ≤ length piece.now) }
+    ensures counted { IfOk result (λ count. taken stream.new ≡ taken stream.old + count) }
+{
+    let (count, fed) = stream.take(piece);
+    if let Fed::Ready = fed {
+        packets.extend_from_slice(stream.packet())?;
+        packets.extend_from_slice(b"|")?;
+    }
+    Ok(count)
+}
+
+/// Hands in a piece that has two packets at most.
+fn feed_all(stream: &mut Stream, piece: &[u8], packets: &mut Vec<u8>) -> Result<(), AllocError>
+    requires { taken stream.old + length piece.now < 2 ^ 63 }
+    ensures { IfOk result (λ _. taken stream.new ≤ taken stream.old + length piece.now) }
+{
+    let first = feed(stream, piece, packets)?;
+    let rest = &piece[first..];
+    let second = feed(stream, rest, packets)?;
+    feed(stream, &rest[second..], packets)?;
+    Ok(())
+}
+
+/// The packets of the pieces, a bar behind each.
+fn packets_of(
+    alloc: Global,
+    first: &[u8],
+    second: &[u8],
+    third: &[u8],
+) -> Result<Vec<u8>, AllocError>
+    requires first { length first.now ≤ 20 }
+    requires second { length second.now ≤ 20 }
+    requires third { length third.now ≤ 20 }
+{
+    let mut stream = Stream::open(alloc)?;
+    let mut packets = Vec::new(alloc);
+    feed_all(&mut stream, first, &mut packets)?;
+    feed_all(&mut stream, second, &mut packets)?;
+    feed_all(&mut stream, third, &mut packets)?;
+    Ok(packets)
+}
+
+#[test]
+fn however_bytes_are_cut_their_packets_are_the_same(rt: HostRuntime) -> Result<(), Fail> {
+    for first in 0..=TWO.len() {
+        for second in first..=TWO.len() {
+            let packets = packets_of(
+                rt.alloc(),
+                &TWO[..first],
+                &TWO[first..second],
+                &TWO[second..],
+            )?;
+            assert_eq!(rt; packets.as_slice(), b"/a\0\0|/a\0\0,\0\0\0|".as_slice());
+        }
+    }
+    Ok(())
+}
+
 /// What a link over the bytes answers at so many calls, and how it stands then.
 fn answers(
     alloc: Global,
@@ -67,10 +129,9 @@ fn answers(
 ) -> Result<(Vec<Datagram>, StreamState), AllocError> {
     let source = MemorySource::open(Vec::from_slice(alloc, bytes)?, fails);
     let mut link = StreamLink::open(alloc, source)?;
-    let mut into = vec![in alloc; 1u8; MAX_DATAGRAM]?;
     let mut answers = Vec::new(alloc);
     for _ in 0..calls {
-        answers.push(link.next(&mut into))?;
+        answers.push(next(alloc, &mut link)?.0)?;
     }
     Ok((answers, link.state()))
 }
@@ -147,14 +208,13 @@ fn a_link_gives_the_packets_of_a_connection(rt: HostRuntime) -> Result<(), Fail>
     let port = free_port(&rt)?;
     let sender = thread::spawn(&rt, move || send(&rt, port))?;
     let mut link = StreamLink::open(alloc, TcpSource::at(&rt, port))?;
-    let mut into = vec![in alloc; 1u8; MAX_DATAGRAM]?;
     for expected in [
         Datagram::Got(4),
         Datagram::Got(8),
         Datagram::End,
         Datagram::End,
     ] {
-        assert_eq!(rt; link.next(&mut into), expected);
+        assert_eq!(rt; next(alloc, &mut link)?.0, expected);
     }
     sender.join(&rt)?;
     assert_eq!(rt; link.state(), StreamState::Clean);
