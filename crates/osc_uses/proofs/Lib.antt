@@ -1,4 +1,7 @@
+mod Crossing
+pub mod Enrolments
 pub mod FirstCaller
+pub mod Gathered
 pub mod LastBytes
 pub mod NotEarly
 pub mod Playing

@@ -1,13 +1,17 @@
 -- What three callers of one server do, where `v` is what a caller's token knew before and `w` what
 -- it knows then.
-use Rattle.std.specs.Prelude.{◌≡◌, ℕ, List, [], ◌∷◌, Result, Ok, Err}
+use Rattle.std.specs.Prelude.{◌≡◌, ℕ, List, [], ◌∷◌, ◌++◌, Some, Result, Ok, Err}
 use Rattle.osc_atoms.specs.declared.fault.Fault.{Fault}
 use Rattle.osc_packet.specs.declared.limits.TheConstants.{MAX_PACKET}
 use Rattle.osc_packet.specs.Wants.{FirstFault}
+use Rattle.osc_turn.specs.declared.view.Entry.{Entry as Seen}
 use Rattle.osc_turn.specs.declared.view.View.{View}
+use Rattle.osc_turn.specs.History.{own}
+use Rattle.osc_turn.specs.Rule.{number_of}
 use Rattle.osc_model.specs.Limits.{Limits}
-use Rattle.osc_model.specs.Events.{Answer, add, remove, submit, tick}
+use Rattle.osc_model.specs.Events.{Answer, add, enrol, number, remove, submit, tick}
 use Rattle.osc_model.specs.Heard.{Told}
+use Rattle.osc_record.specs.Reading.{entry_in}
 use Rattle.osc_core.specs.declared.answers.Submitted.{Submitted}
 use Rattle.osc_core.specs.Answers.{submitted_of, adding_of, removing_of, ticking_of}
 use Rattle.osc_method.specs.declared.method.Method.{Ghosts}
@@ -28,6 +32,25 @@ use Rattle.osc_uses.specs.declared.live_server.Unfinished.TheVariants.{Open}
 abbrev pub AreTokensOf : {S : Type 0} → Turn S → Limits → Callers → Type 0
 AreTokensOf turn caps callers = IsTokenOf turn caps callers.first.pass
     × IsTokenOf turn caps callers.second.pass × IsTokenOf turn caps callers.third.pass
+
+-- the entries that the token itself made
+abbrev pub own_entries : View → List Seen
+own_entries v = own (number_of v) v.seen
+
+-- the entry is caller 0's enrolment of the caller with the number
+abbrev pub IsEnrolment : ℕ → Seen → Type 0
+IsEnrolment caller one =
+    entry_in one.text ≡ Some (record { caller = 0; event = enrol; answer = number caller })
+
+-- caller 0's token made one entry more, by which it enrolled a caller
+abbrev pub Enrols : ℕ → View → View → Type 0
+Enrols caller v w =
+    (one : Seen) × IsEnrolment caller one × (own_entries w ≡ own_entries v ++ one ∷ [])
+
+-- caller 0's token made two entries, by which it enrolled two callers
+abbrev pub HasEnrolled : ℕ → ℕ → View → Type 0
+HasEnrolled second third v = (one two : Seen) × IsEnrolment second one × IsEnrolment third two
+    × (own_entries v ≡ one ∷ two ∷ [])
 
 -- a caller adds a method at the address, and then removes the one there
 pub record ComesAndGoes (caps : Limits) (caller : ℕ) (address : List ℕ) (added removed : Answer)
@@ -50,9 +73,9 @@ pub record Ticks (caps : Limits) (caller moment : ℕ) (ticked : Answer) (pumped
   pub pumps : Pumps caps caller pumped between w
 
 -- Three callers share one history, which is recorded, keeps the four laws and is heard by the
--- boxes. It begins with what
--- each of their tokens knows, and so each of their calls is answered by the rules at its place
--- there.
+-- boxes. It begins with what each of their tokens knows, and so each of their calls is answered by
+-- the rules at its place there. It has no entries but two enrolments and those of these calls: the
+-- first caller's token had made the enrolments alone before, and the other two had made none.
 pub record AreOneHistory {M : Type 0} (caps : Limits) (address bytes : List ℕ) (moment : ℕ)
     (run : LiveRun M) (kept : List Told) : Type 0 where
   pub second : ℕ
@@ -62,10 +85,11 @@ pub record AreOneHistory {M : Type 0} (caps : Limits) (address bytes : List ℕ)
   pub three : View
   pub closes : Closes caps [] ((0, one) ∷ (second, two) ∷ (third, three) ∷ [])
       (one ∷ two ∷ three ∷ []) run.closed.bytes.items kept
-  pub comes : (v : View)
+  pub comes : (v : View) × HasEnrolled second third v
       × ComesAndGoes caps 0 address (adding_of run.added) (removing_of run.removed) v one
-  pub sends : (v : View) × Sends caps second bytes run.sent v two
-  pub ticks : (v : View) × Ticks caps third moment (ticking_of run.ticked) run.pumped v three
+  pub sends : (v : View) × (own_entries v ≡ []) × Sends caps second bytes run.sent v two
+  pub ticks : (v : View) × (own_entries v ≡ [])
+      × Ticks caps third moment (ticking_of run.ticked) run.pumped v three
 
 module _ {M : Type 0} {G : Ghosts M} where
   -- where the server comes back open, this holds of what comes back

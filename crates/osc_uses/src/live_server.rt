@@ -8,7 +8,7 @@ ghost use Rattle.osc_live.specs.Seen.{IsTokenOf, past_of};
 ghost use Rattle.osc_live.specs.Outs.{AreOurs, live_back};
 ghost use Rattle.osc_live.specs.Closing.{Closes};
 ghost use Rattle.osc_uses.specs.Live.{ComesAndGoes, Sends, Ticks, AreOneHistory, AreTokensOf};
-ghost use Rattle.osc_uses.specs.Live.{OnOpen, IsShort};
+ghost use Rattle.osc_uses.specs.Live.{Enrols, HasEnrolled, own_entries, OnOpen, IsShort};
 
 use osc_atoms::Fault;
 use osc_core::{Adding, Closed, Removing, Submitted, Ticking};
@@ -58,6 +58,7 @@ struct Callers {
 }
 
 /// Enrols a guest.
+#[tactic(auto, using(crate::proofs::Enrolments::enrolments))]
 fn enrolled<M: Method, W: Wait>(
     rt: &W,
     live: &Live<M>,
@@ -69,6 +70,9 @@ fn enrolled<M: Method, W: Wait>(
     ensures ours { IfOk result (λ both. IsTokenOf live.now.turn live.now.caps both.0.pass) }
     ensures new_ours { IfOk result (λ both. IsTokenOf live.now.turn live.now.caps both.1.pass) }
     ensures first { IfOk result (λ both. both.0.number ≡ 0) }
+    ensures enrols { IfOk result
+        (λ both. Enrols both.1.number (view first.pass) (view both.0.pass)) }
+    ensures no_entries { IfOk result (λ both. own_entries (view both.1.pass) ≡ []) }
     ensures made { IfOk result (λ both. (view both.0.pass).made ≡ (view first.pass).made + 1) }
 {
     let (first, guest) = live.guest(first);
@@ -81,6 +85,7 @@ fn enrolled<M: Method, W: Wait>(
 }
 
 /// Opens a server with these limits, and enrols two guests.
+#[tactic(auto, using(crate::proofs::Enrolments::enrolments))]
 fn open_three<M: Method, W: Wait>(
     rt: &W,
     alloc: Global,
@@ -90,6 +95,10 @@ fn open_three<M: Method, W: Wait>(
     ensures empty { IfOk result (λ opened. past_of opened.0.turn ≡ []) }
     ensures ours { IfOk result (λ opened. AreTokensOf opened.0.turn opened.0.caps opened.1) }
     ensures first { IfOk result (λ opened. opened.1.first.number ≡ 0) }
+    ensures enrolled { IfOk result (λ opened. HasEnrolled opened.1.second.number
+        opened.1.third.number (view opened.1.first.pass)) }
+    ensures second_new { IfOk result (λ opened. own_entries (view opened.1.second.pass) ≡ []) }
+    ensures third_new { IfOk result (λ opened. own_entries (view opened.1.third.pass) ≡ []) }
     ensures made { IfOk result (λ opened. (view opened.1.first.pass).made ≡ 3) }
     ensures open { IfErr result (λ unfinished. OnOpen unfinished (λ _. ⊥)) }
 {
