@@ -1,5 +1,6 @@
 -- Beginnings of one list, and the step that adds to it.
-use Rattle.std.proofs.Common.{◌≡◌, ℕ, zero, suc, ◌+◌, ◌<◌, ◌≤◌, ◌==◌, Bool, true, false, nat_lt, cond, List, [], ◌∷◌, ◌++◌, length, refl, ap, sym, ◌∙◌, subst, arith, inl, length-append, append_assoc, None}
+use Rattle.std.proofs.Common.{◌≡◌, ℕ, zero, suc, ◌+◌, ◌<◌, ◌≤◌, ◌==◌, Bool, true, false, nat_lt, cond, List, [], ◌∷◌, ◌++◌, length, refl, ap, sym, ◌∙◌, subst}
+use Rattle.std.proofs.Common.{arith, inl, length-append, append_assoc, None}
 use Rattle.std.proofs.lemmas.List.{append-nil}
 use Rattle.std.proofs.lemmas.Bool.{ltb-true, ltb-false}
 use Rattle.std.proofs.lemmas.Bool.Decides.{nat_tests}
@@ -41,8 +42,16 @@ pub compared : (one other : Reached) (all : List Edit) → IsPrefix one.seen.log
 compared one other all p q = go (nat_lt one.edits other.edits) refl where
   go : (t : Bool) → nat_lt one.edits other.edits ≡ t
       → StartsWith (cond t other one).seen.log one.seen.log × StartsWith (cond t other one).seen.log other.seen.log
-  go true is = (shorter one.seen.log other.seen.log all p q (let less = ltb-true _ _ is in omega (arith, less, one.counted, other.counted)), self other.seen.log)
-  go false is = (self one.seen.log, shorter other.seen.log one.seen.log all q p (let less = ltb-false _ _ is in omega (arith, less, one.counted, other.counted)))
+  go true is = (
+    shorter one.seen.log other.seen.log all p q (let less = ltb-true _ _ is in
+        omega (arith, less, one.counted, other.counted)),
+    self other.seen.log,
+  )
+  go false is = (
+    self one.seen.log,
+    shorter other.seen.log one.seen.log all q p (let less = ltb-false _ _ is in
+        omega (arith, less, one.counted, other.counted)),
+  )
 
 abbrev pub shown : List Edit → List Edit
 shown log = []
@@ -52,7 +61,10 @@ moved xs ys n = Unit {0}
 
 adds_goes : (log v : List Edit) (e : Edit) (old : ℕ) → length v ≡ old → IsPrefix v log
     → (b : Bool) → (length log == old) ≡ b
-    → Goes IsCounted shown moved 0 (v, (no_nib, None)) (λ n. either (n == old) (old + 1) n) (Adds (step 0 old (old + 1) e) (v, (no_nib, None))) ((length log, true) ∷ (0, true) ∷ []) log
+    → Goes IsCounted shown moved 0 (v, (no_nib, None)) (λ n. either (n == old) (old + 1) n) (Adds (step 0 old (old + 1) e) (v, (no_nib, None))) ((
+      length log,
+      true,
+    ) ∷ (0, true) ∷ []) log
 adds_goes log v e old len pre true is =
     let here : length log ≡ old = grind (arith, nat_tests) in
     let same : v ≡ log = whole v log pre (omega arith) in
@@ -81,7 +93,8 @@ adds_goes log v e old len pre false is =
 pub adds_moves : (v : List Edit) (e : Edit) (old : ℕ) → length v ≡ old
     → Moves IsCounted shown moved 0 (v, (no_nib, None)) (λ n. either (n == old) (old + 1) n) (Adds (step 0 old (old + 1) e) (v, (no_nib, None)))
 adds_moves v e old len cs log kept pre away =
-    let P : List Cell → Type 0 = λ c. (0 < length c) × ((cell c 0).1 ≡ true) × Goes IsCounted shown moved 0 (v, (no_nib, None)) (λ n. either (n == old) (old + 1) n) (Adds (step 0 old (old + 1) e) (v, (no_nib, None))) c log in
+    let P : List Cell → Type 0 = λ c. (0 < length c) × ((cell c 0).1 ≡ true) × Goes IsCounted shown moved 0 (v, (no_nib, None)) (λ n. either (n == old) (old +
+    1) n) (Adds (step 0 old (old + 1) e) (v, (no_nib, None))) c log in
     subst P (sym kept.words) (omega arith, refl, adds_goes log v e old len pre (length log == old) refl)
 
 same_length : (xs ys : List Edit) → StartsWith xs ys → length xs ≡ length ys → ys ≡ xs

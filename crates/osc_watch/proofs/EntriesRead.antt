@@ -1,5 +1,6 @@
 -- Entries that are read one after another, of a text that goes on.
-use Rattle.std.proofs.Common.{◌≡◌, ℕ, ◌+◌, ◌<◌, ◌≤◌, List, [], ◌∷◌, ◌++◌, length, drop, Option, Some, None, length-append, append_assoc, refl, sym, ap, subst, ◌∙◌, arith}
+use Rattle.std.proofs.Common.{◌≡◌, ℕ, ◌+◌, ◌<◌, ◌≤◌, List, [], ◌∷◌, ◌++◌, length, drop, Option, Some, None, length-append, append_assoc, refl, sym, ap, subst}
+use Rattle.std.proofs.Common.{◌∙◌, arith}
 use Rattle.std.specs.List.{AllByRecursion}
 use Rattle.std.proofs.lemmas.List.{append-nil, append_cancel_left}
 use Rattle.std.proofs.lemmas.List.Elements.{filter_map-append}
@@ -24,7 +25,8 @@ abbrev pub edit_in : Entry → Option Edit
 edit_in entry = edit_by entry.event entry.answer
 
 abbrev pub ReadAgain : Type 0
-ReadAgain = (caller : ℕ) (event : Event) (answer : Answer) (rest : List ℕ) → IsRecordable caller event answer → length (entry_text caller event answer) ≤ max_recording
+ReadAgain = (caller : ℕ) (event : Event) (answer : Answer) (rest : List ℕ) → IsRecordable caller event answer
+    → length (entry_text caller event answer) ≤ max_recording
     → entry_in (entry_text caller event answer ++ rest) ≡ Some (record { caller = caller; event = event; answer = answer })
 
 -- so far these entries were read, and their edits noted
@@ -38,7 +40,8 @@ pub record Sofar (more : List Entry) (tail all : List ℕ) (noted then : List Ed
   pub rest_is : unread.rest ++ tail ≡ text_of left
 
 abbrev pub Looks : List ℕ → List Edit → List Edit → Remaining → Type 0
-Looks all noted then unread = (more : List Entry) (tail : List ℕ) → AreReadable more → drop header_size all ++ tail ≡ text_of more → Sofar more tail all noted then unread
+Looks all noted then unread = (more : List Entry) (tail : List ℕ) → AreReadable more → drop header_size all ++ tail ≡ text_of more
+    → Sofar more tail all noted then unread
 
 at_split : {X : Type 0} (P : X → Type 0) (xs : List X) (y : X) (ys : List X) → AllByRecursion P (xs ++ y ∷ ys) → P y
 at_split P [] y ys all = all.0
@@ -49,7 +52,8 @@ pub begins : (all : List ℕ) (noted : List Edit) (unread : Remaining) → HasHe
 begins all noted unread header sized more tail readable is =
     let size = sized unread.caps in
     let dropped : drop header_size all ≡ unread.rest =
-    ap (drop header_size) header.text ∙ (ap (λ (n : ℕ). drop n (header_text unread.caps ++ unread.rest)) (sym size) ∙ drop-append_seam (header_text unread.caps) unread.rest) in
+    ap (drop header_size) header.text ∙ (ap (λ (n : ℕ). drop n (header_text unread.caps ++ unread.rest)) (sym size)
+    ∙ drop-append_seam (header_text unread.caps) unread.rest) in
     record {
       read = [];
       left = more;
@@ -86,7 +90,8 @@ goes_on again more tail all noted then after old new placed readable reads now s
     let rest : new.rest ++ tail ≡ text_of es =
     append_cancel_left (one_text e) (new.rest ++ tail) (text_of es) (ap (λ (x : Entry). one_text x ++ (new.rest ++ tail)) (sym same) ∙ texts) in
     let size : length (text_of (s.read ++ e ∷ [])) ≡ length (text_of s.read) + length (one_text e) =
-    omega (arith, ap length (flat_map-append one_text s.read (e ∷ [])), length-append (text_of s.read) (text_of (e ∷ [])), ap length (append-nil (one_text e))) in
+    omega (arith, ap length (flat_map-append one_text s.read (e ∷ [])), length-append (text_of s.read) (text_of (e ∷ [])), ap length (append-nil (one_text e)))
+    in
     let moved : new.at ≡ old.at + length (one_text e) = reads.moved ∙ ap (λ (x : Entry). old.at + length (one_text x)) same in
     record {
       read = s.read ++ e ∷ [];
@@ -107,7 +112,8 @@ reads_on again all noted then after old new looks (placed, reads, now) more tail
     let s = looks more tail readable is in
     goes_on again more tail all noted then after old new placed readable reads now s s.left refl
 
-pub stops : (all : List ℕ) (noted then after : List Edit) (old new : Remaining) (stop : Stop) → Looks all noted then old → NotesNext old new then after (Some stop)
+pub stops : (all : List ℕ) (noted then after : List Edit) (old new : Remaining) (stop : Stop) → Looks all noted then old
+    → NotesNext old new then after (Some stop)
     → Notes all noted after stop
 stops all noted then after old new AtEnd looks (none, now) more tail readable is =
     let s = looks more tail readable is in record {
@@ -150,7 +156,8 @@ no_header all noted then same more tail readable is = record {
 pub read_low : (old new : Remaining) (placed : Placed) → Reads old placed new → header_size ≤ old.at → header_size ≤ new.at
 read_low old new placed reads low = omega (arith, reads.moved, low)
 
-pub read_total : (all : List ℕ) (old new : Remaining) (placed : Placed) → Reads old placed new → old.at + length old.rest ≡ length all → new.at + length new.rest ≡ length all
+pub read_total : (all : List ℕ) (old new : Remaining) (placed : Placed) → Reads old placed new → old.at + length old.rest ≡ length all
+    → new.at + length new.rest ≡ length all
 read_total all old new placed reads total = omega (arith, reads.moved, total, ap length reads.text, length-append (one_text placed.entry) new.rest)
 
 pub stop_place : (all : List ℕ) (then after : List Edit) (old new : Remaining) (stop : Stop) → header_size ≤ old.at → old.at + length old.rest ≡ length all

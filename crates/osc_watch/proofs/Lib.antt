@@ -4,4 +4,5 @@ mod PartsRead
 mod Places
 mod Publishings
 mod ServerReads
+mod Unread
 mod Waits

@@ -1,5 +1,6 @@
 -- A part of a recording that goes on from what a board has read.
-use Rattle.std.proofs.Common.{◌≡◌, ℕ, ◌+◌, ◌-◌, ◌<◌, ◌≤◌, List, [], ◌∷◌, ◌++◌, length, take, drop, nat_lt, true, length-append, append_assoc, refl, sym, ap, subst, ◌∙◌, arith}
+use Rattle.std.proofs.Common.{◌≡◌, ℕ, ◌+◌, ◌-◌, ◌<◌, ◌≤◌, List, [], ◌∷◌, ◌++◌, length, take, drop, nat_lt, true, length-append, append_assoc, refl, sym, ap}
+use Rattle.std.proofs.Common.{subst, ◌∙◌, arith}
 use Rattle.std.specs.List.{AllByRecursion}
 use Rattle.std.proofs.lemmas.Bool.{ltb-true}
 use Rattle.std.proofs.lemmas.List.{append-nil, take-append-drop, length-take, length-drop}
@@ -46,7 +47,8 @@ no_part part from noted place more tail readable text = record {
 }
 
 abbrev pub Sized : Type 0
-Sized = (caller : ℕ) (event : Event) (answer : Answer) → FitsRow (row_of caller event answer) → length (entry_text caller event answer) ≡ entry_size event answer
+Sized = (caller : ℕ) (event : Event) (answer : Answer) → FitsRow (row_of caller event answer)
+    → length (entry_text caller event answer) ≡ entry_size event answer
 
 some : (event : Event) (answer : Answer) → 0 < entry_size event answer
 some enrol answer = omega arith
@@ -56,7 +58,8 @@ some (remove address) answer = omega arith
 some (tick moment) answer = omega arith
 some release answer = omega arith
 
-readable : Sized → (entries : List Entry) → AllByRecursion (λ entry. IsRecordable entry.caller entry.event entry.answer) entries → length (text_of entries) ≤ max_recording
+readable : Sized → (entries : List Entry) → AllByRecursion (λ entry. IsRecordable entry.caller entry.event entry.answer) entries
+    → length (text_of entries) ≤ max_recording
     → AreReadable entries
 readable sized [] all small = tt
 readable sized (e ∷ es) all small =
@@ -111,7 +114,13 @@ part_read sized caps h seen at to noted then old chunk count stop are stands (mo
       begins = (n.left, split);
       whole = λ ends short.
           let count_is : count ≡ length (take (length old) (text_of more)) = writes.counted ∙ ap length here in
-          let tail : drop (length old) (text_of more) ≡ [] = nothing (length old) (text_of more) (omega (arith, count_is, short, length-take (length old) (text_of more))) in
+          let tail : drop (length old) (text_of more) ≡ [] = nothing (length old) (text_of more) (omega (
+            arith,
+            count_is,
+            short,
+            length-take (length old)
+                (text_of more),
+          )) in
           let left : drop (length old) (text_of more) ≡ text_of n.left = subst (λ (s : Stop). AllIn s (drop (length old) (text_of more)) n.left) ends n.whole in
           let gone : n.left ≡ [] = none_left n.left
           (later (λ entry. IsRecordable entry.caller entry.event entry.answer × (0 < length (entry_text entry.caller entry.event entry.answer))

@@ -53,7 +53,8 @@ pub forks : (seat : ℕ) (v : View) → Forks IsPublished seat v v v
 forks seat v x views h at =
     let here = known_set x views seat v h (h.known seat v at) in record {
       listed = h.listed;
-      known = λ j u e. ⊎_elim (here.known j u) (λ (same : v ≡ u). subst (λ (z : View). Knows z x.reached) same (h.known seat v at)) (at_snoc (set views seat v) v u j e);
+      known = λ j u e. ⊎_elim (here.known j u) (λ (same : v ≡ u). subst (λ (z : View). Knows z x.reached) same (h.known seat v at)) (at_snoc (set views seat v)
+          v u j e);
     }
 
 pub merges : (seat : ℕ) (v : View) (other : ℕ) (w : View) → Merges IsPublished seat v other w w None

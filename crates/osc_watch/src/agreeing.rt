@@ -7,8 +7,8 @@ use crate::reaching::compare;
 use crate::watcher::Watcher;
 
 impl Board {
-    /// Whether the watcher has read or was told of exactly the edits that the board has read. Takes no memory, and enters
-    /// nothing.
+    /// Whether the watcher has read or was told of exactly the edits that the board has read. Takes no memory, and
+    /// enters nothing.
     pub fn agrees(&self, watcher: &Watcher) -> bool
         requires ours { IsWatcherOf self.now watcher.now }
         ensures same { result ≡ true → watched watcher.now ≡ noted self.now }

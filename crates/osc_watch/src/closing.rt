@@ -9,7 +9,8 @@ use std::sync::Wait;
 impl Board {
     /// Ends the board and its watchers. Takes no memory.
     pub fn close<W: Wait>(self, rt: &W, watchers: Vec<Watcher>)
-        requires all { (length watchers.items ≡ self.watchers) × All (IsWatcherOf self) watchers.items }
+        requires all { (length watchers.items ≡ self.watchers)
+            × All (IsWatcherOf self) watchers.items }
     {
         drop(watchers);
         let Board {

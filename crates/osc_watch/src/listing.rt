@@ -1,7 +1,9 @@
 //! The rows in ascending byte order of their addresses, as edits change them.
-ghost use Rattle.std.specs.Prelude.{◌≡◌, ◌≤◌, length, not, position, insert, is_ok, if◌then◌else◌, IfOk};
+ghost use Rattle.std.specs.Prelude.{◌≡◌, ◌≤◌, length, not, position, insert, is_ok, if◌then◌else◌};
+ghost use Rattle.std.specs.Prelude.{IfOk};
 ghost use Rattle.std.specs.List.{remove};
-ghost use Rattle.osc_watch.specs.Listing.{is_before, is_row, place_for, place_of, entered, left, edited, edit_of};
+ghost use Rattle.osc_watch.specs.Listing.{is_before, is_row, place_for, place_of, entered, left};
+ghost use Rattle.osc_watch.specs.Listing.{edited, edit_of};
 
 use crate::row::{MethodRow, RowEdit};
 use osc_message::Bytes;
@@ -23,7 +25,8 @@ pub(crate) fn enter(
     rows: &mut Vec<MethodRow>,
     row: &MethodRow,
 ) -> Result<(), AllocError>
-    ensures { rows.new.items ≡ (if is_ok result then entered rows.old.items row.now else rows.old.items) }
+    ensures { rows.new.items
+        ≡ (if is_ok result then entered rows.old.items row.now else rows.old.items) }
 {
     let at = place_for(rows.as_slice(), row.address.as_slice());
     let row = copied(alloc, row)?;
@@ -95,7 +98,8 @@ pub(crate) fn change(
     rows: &mut Vec<MethodRow>,
     edit: &RowEdit,
 ) -> Result<(), AllocError>
-    ensures { rows.new.items ≡ (if is_ok result then edited rows.old.items (edit_of edit.now) else rows.old.items) }
+    ensures { rows.new.items
+        ≡ (if is_ok result then edited rows.old.items (edit_of edit.now) else rows.old.items) }
 {
     if edit.enters {
         enter(alloc, rows, &edit.row)

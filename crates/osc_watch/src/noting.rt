@@ -1,5 +1,6 @@
 //! How edits are noted, and published.
-ghost use Rattle.std.specs.Prelude.{◌≡◌, ◌<◌, ◌^◌, ◌++◌, ◌∷◌, [], drop, None, length, OnOk, IfOk, MatchResult};
+ghost use Rattle.std.specs.Prelude.{◌≡◌, ◌<◌, ◌^◌, ◌++◌, ◌∷◌, [], drop, None, length, OnOk, IfOk};
+ghost use Rattle.std.specs.Prelude.{MatchResult};
 ghost use Rattle.osc_watch.specs.Listing.{edit_of};
 ghost use Rattle.osc_watch.specs.Waiting.{held_list};
 ghost use Rattle.osc_watch.specs.Watching.{noted, published, noticed, IsNoticeOf, IsSameBoard};

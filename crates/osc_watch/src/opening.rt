@@ -1,7 +1,9 @@
 //! How a board is opened.
-ghost use Rattle.std.specs.Prelude.{◌≡◌, ◌≤◌, [], length, All, Some, IfOk};
+ghost use Rattle.std.specs.Prelude.{◌≡◌, ◌≤◌, List, [], length, All, Some, IfOk};
 ghost use Rattle.left_right.specs.Sides.{view};
-ghost use Rattle.osc_model.specs.Limits.{header_size};
+ghost use Rattle.osc_model.specs.Limits.{Limits, header_size};
+ghost use Rattle.osc_model.specs.Events.{Entry};
+ghost use Rattle.osc_watch.specs.Refreshing.{HasReadPart};
 ghost use Rattle.osc_watch.specs.Watching.{noted, published, watched, IsWatcherOf};
 
 use crate::board::Board;
@@ -18,6 +20,7 @@ use std::sync::Wait;
 
 impl Board {
     /// A board that has read nothing, and so many watchers. The `Err` means that there is no memory for them.
+    #[tactic(auto, using(crate::proofs::Unread::nothing_read))]
     pub fn open<W: Wait>(
         rt: &W,
         alloc: Global,
@@ -27,10 +30,15 @@ impl Board {
         ensures noted { IfOk result (λ opened. noted opened.0 ≡ []) }
         ensures published { IfOk result (λ opened. published opened.0 ≡ []) }
         ensures at { IfOk result (λ opened. opened.0.at ≡ header_size) }
-        ensures as_many { IfOk result (λ opened. (length opened.1.items ≡ watchers) × (opened.0.watchers ≡ watchers)) }
+        ensures unread { IfOk result (λ opened. (caps : Limits) (history : List Entry)
+            → HasReadPart caps opened.0 history) }
+        ensures as_many { IfOk result (λ opened. (length opened.1.items ≡ watchers)
+            × (opened.0.watchers ≡ watchers)) }
         ensures ours { IfOk result (λ opened. All (IsWatcherOf opened.0) opened.1.items) }
-        ensures watched { IfOk result (λ opened. All (λ watcher. watched watcher ≡ []) opened.1.items) }
+        ensures watched { IfOk result
+            (λ opened. All (λ watcher. watched watcher ≡ []) opened.1.items) }
     {
+        osc_record::laws::sizes();
         let (head, reached) = begin();
         let first = Sheet {
             alloc,
@@ -77,7 +85,8 @@ fn deal(alloc: Global, writer: &mut SheetWriter, watchers: u32) -> Result<Vec<Wa
     ensures behind { writer.new.behind ≡ writer.old.behind }
     ensures view { view writer.new.desk.place ≡ view writer.old.desk.place }
     ensures as_many { IfOk result (λ dealt. length dealt.items ≡ watchers) }
-    ensures told { IfOk result (λ dealt. All (λ watcher. watcher.told.reached ≡ writer.old.desk.shown.value.reached) dealt.items) }
+    ensures told { IfOk result (λ dealt. All
+        (λ watcher. watcher.told.reached ≡ writer.old.desk.shown.value.reached) dealt.items) }
 {
     let mut dealt = Vec::with_capacity(alloc, watchers as usize)?;
     for _ in 0..watchers {

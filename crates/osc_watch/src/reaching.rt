@@ -52,22 +52,13 @@ impl Reached {
         *self = Reached { seen, edits };
         true
     }
-
-    /// The longer of two beginnings, which the other begins.
-    pub(crate) fn take_longer(&mut self, other: Reached)
-        requires { other.seen.book ≡ self.old.seen.book }
-        ensures longer { self.new ≡ longer self.old other }
-    {
-        if self.edits < other.edits {
-            *self = other;
-        }
-    }
 }
 
 /// Of two beginnings of the list the longer one begins with the other.
 pub(crate) fn compare(one: &Reached, other: &Reached)
     requires { other.now.seen.book ≡ one.now.seen.book }
-    ensures { StartsWith (longer one.now other.now).seen.log one.now.seen.log × StartsWith (longer one.now other.now).seen.log other.now.seen.log }
+    ensures { StartsWith (longer one.now other.now).seen.log one.now.seen.log
+        × StartsWith (longer one.now other.now).seen.log other.now.seen.log }
 {
     let mut both = one.seen.again();
     both.learn(&other.seen);
@@ -78,7 +69,8 @@ fn enters_log(head: &Head, seen: &mut Seen<Edit, u64, Law>, edits: u64, edit: &R
     requires counted { edits ≡ length seen.old.log }
     requires room { edits + 1 < 2 ^ 64 }
     ensures book { seen.new.book ≡ seen.old.book }
-    ensures log { MatchBool result (seen.new.log ≡ seen.old.log ++ edit_of edit.now ∷ []) (Unit {0}) }
+    ensures log { MatchBool result (seen.new.log ≡ seen.old.log ++ edit_of edit.now ∷ [])
+        (Unit {0}) }
 {
     let mut offer: Offer<Edit, u64, Law, Nothing> = seen.plain::<Nothing, RowEdit, Add>(edit);
     let mut pen = seen.no_pen();

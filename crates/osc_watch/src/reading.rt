@@ -2,7 +2,8 @@
 ghost use Rattle.std.specs.Prelude.{◌≡◌, length, IfOk};
 ghost use Rattle.osc_turn.specs.History.{StartsWith};
 ghost use Rattle.osc_watch.specs.Listing.{listing};
-ghost use Rattle.osc_watch.specs.Watching.{watched, noticed, IsOfOneBoard, IsForWatcher, longer_edits};
+ghost use Rattle.osc_watch.specs.Watching.{watched, noticed, IsOfOneBoard, IsForWatcher};
+ghost use Rattle.osc_watch.specs.Watching.{longer_edits};
 
 use crate::listing::copied_rows;
 use crate::notice::Notice;
@@ -53,7 +54,8 @@ fn read(told: Told, alloc: Global) -> (Told, Result<Methods, AllocError>)
     ensures board { told.reached.seen.book ≡ result.0.reached.seen.book }
     ensures goes_on { StartsWith result.0.reached.seen.log told.reached.seen.log }
     ensures edits { IfOk result.1 (λ methods. methods.edits ≡ length result.0.reached.seen.log) }
-    ensures rows { IfOk result.1 (λ methods. methods.rows.items ≡ listing result.0.reached.seen.log) }
+    ensures rows { IfOk result.1
+        (λ methods. methods.rows.items ≡ listing result.0.reached.seen.log) }
 {
     let Told { reader, reached } = told;
     match reader.enter_as::<Sees>() {

@@ -1,5 +1,6 @@
 //! How a board reads what is new in a recording, and publishes it.
-ghost use Rattle.std.specs.Prelude.{◌≡◌, ◌≤◌, ◌<◌, ◌+◌, ◌++◌, true, length, IfOk, OnOk, MatchResult};
+ghost use Rattle.std.specs.Prelude.{◌≡◌, ◌≤◌, ◌<◌, ◌+◌, ◌++◌, true, length, IfOk, OnOk};
+ghost use Rattle.std.specs.Prelude.{MatchResult};
 ghost use Rattle.osc_turn.specs.History.{StartsWith};
 ghost use Rattle.osc_model.specs.Limits.{header_size, max_recording};
 ghost use Rattle.osc_watch.specs.Edits.{edits_of};
@@ -23,12 +24,16 @@ pub struct Fresh {
     pub edits: u64,
 }
 
-/// All that was there is read; or more may be there; or a larger part has to be read; or there was no memory.
+/// What reading a part of the recording came to.
 #[derive(Clone, Copy)]
 pub enum Part {
+    /// All that was there is read.
     Whole,
+    /// More may be there.
     More,
+    /// The next entry needs a larger part.
     Larger,
+    /// There was no memory.
     NoMemory,
 }
 
@@ -193,7 +198,8 @@ fn note_part(board: &mut Board, header: &[u8], part: &[u8]) -> Stop
     requires small { board.old.at + length part.now ≤ max_recording }
     ensures board { IsOneBoard board.old board.new }
     ensures published { published board.new ≡ published board.old }
-    ensures part { PartNotes part.now board.old.at board.new.at (noted board.old) (noted board.new) result }
+    ensures part { PartNotes part.now board.old.at board.new.at (noted board.old)
+        (noted board.new) result }
 {
     let Ok(bytes) = joined(board.alloc, header, part) else {
         return Stop::NoMemory(HEADER_SIZE);

@@ -1,9 +1,12 @@
-// Where reading entries stopped.
+// Where a board stops reading.
 
-/// All bytes were read; or the entry at the place isn't whole; or there was no memory for its edit.
+/// Where reading entries stopped.
 #[derive(Clone, Copy)]
 pub enum Stop {
+    /// All bytes were read.
     AtEnd,
+    /// The entry at the place isn't whole.
     At(u32),
+    /// There was no memory for the edit of the entry at the place.
     NoMemory(u32),
 }

@@ -23,7 +23,8 @@ returns-in-Some-clause-notes c =
 
 pub returns-in-Some-clause-place : goal.returns-in-Some-clause-place
 returns-in-Some-clause-place c =
-    stop_place c.args.bytes.now _ _ c.loop-stop.unread c.note_next.new.unread c.in-Some.stop c.loop-stop.invariant.low c.loop-stop.invariant.total c.in-Some.ensures.notes
+    stop_place c.args.bytes.now _ _ c.loop-stop.unread c.note_next.new.unread c.in-Some.stop c.loop-stop.invariant.low c.loop-stop.invariant.total
+    c.in-Some.ensures.notes
 
 pub loop-stop-smaller : goal.loop-stop-smaller
 loop-stop-smaller c = c.in-None.ensures.notes.1.shorter
@@ -38,5 +39,6 @@ loop-stop-preserved c =
       published = c.in-None.ensures.published ∙ before.published;
       low = read_low _ _ _ reads before.low;
       total = read_total c.args.bytes.now _ _ _ reads before.total;
-      looks = reads_on c.a_written_entry_is_read_again.ensures c.args.bytes.now _ _ _ c.loop-stop.unread c.note_next.new.unread before.looks c.in-None.ensures.notes;
+      looks = reads_on c.a_written_entry_is_read_again.ensures c.args.bytes.now _ _ _ c.loop-stop.unread c.note_next.new.unread before.looks
+          c.in-None.ensures.notes;
     }

@@ -8,7 +8,8 @@ returns-clause-goes_on g c = goes_on (view c.args.token.pass) (view c.read.resul
 
 pub returns-clause-recorded : goal.returns-clause-recorded
 returns-clause-recorded g c =
-    recorded c.args.self.now.caps (history_of (view c.read.result.0.pass)) c.a_legal_history_is_recordable.ensures.all c.a_legal_history_is_recordable.ensures.within
+    recorded c.args.self.now.caps (history_of (view c.read.result.0.pass)) c.a_legal_history_is_recordable.ensures.all
+    c.a_legal_history_is_recordable.ensures.within
     c.read.ensures.read.legal
 
 pub returns-clause-writes : goal.returns-clause-writes
