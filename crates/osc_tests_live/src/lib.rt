@@ -11,3 +11,5 @@ mod loopback;
 mod program;
 #[cfg(test)]
 mod serve;
+#[cfg(test)]
+mod streams;

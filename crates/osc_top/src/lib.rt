@@ -21,6 +21,7 @@ mod serving;
 mod staging;
 mod status;
 mod top;
+mod transport;
 mod whole;
 mod writing;
 
@@ -29,3 +30,4 @@ pub use link_ports::ports;
 pub use live::live_top;
 pub use name::recording_name;
 pub use top::{Ended, plain_top};
+pub use transport::wants_tcp;

@@ -1,12 +1,14 @@
 // An Open Sound Control server that plays the lanes of a script, or serves links, beside each other.
 #![tactic(auto)]
 
-ghost use Rattle.std.specs.Prelude.{◌≤◌, length, IfOk};
+ghost use Rattle.std.specs.Prelude.{◌≡◌, ◌≤◌, length, map, string_bytes, IfOk};
+ghost use Rattle.osc_top.specs.Commands.{ports_of};
 
-use osc_edge::{FileSink, StdSink, StdSource, SystemClock, UdpLink, command_words};
+use osc_edge::{FileSink, Link, StdSink, StdSource, SystemClock, TcpSource, UdpLink, command_words};
 use osc_lanes::OpenGate;
 use osc_method::Method;
-use osc_top::{live_top, ports, recording_name, traces};
+use osc_stream::StreamLink;
+use osc_top::{live_top, ports, recording_name, traces, wants_tcp};
 use std::alloc::AllocError;
 use std::process::ExitCode;
 use std::sync::Wait;
@@ -23,32 +25,66 @@ fn main(rt: HostRuntime) -> ExitCode {
 
 /// `threads` is the runtime too, which starts threads and waits only where `main` hands it on.
 fn run<W: Threads + Wait + Sync>(rt: &HostRuntime, threads: &W) -> Result<u8, AllocError> {
-    let alloc = rt.alloc();
     let words = command_words(rt)?;
+    if wants_tcp(rt.alloc(), &words)? {
+        play(rt, threads, &words, stream_links(rt, &words)?)
+    } else {
+        play(rt, threads, &words, datagram_links(rt, &words)?)
+    }
+}
+
+/// Does what the words say, with these links: the status.
+fn play<W: Threads + Wait + Sync, L: Link + Send + Drop>(
+    rt: &HostRuntime,
+    threads: &W,
+    words: &[String],
+    links: Vec<L>,
+) -> Result<u8, AllocError>
+    requires { length links.items ≤ 16 }
+{
+    let alloc = rt.alloc();
     let mut bank: Vec<Box<dyn Method + Send>> = Vec::new(alloc);
     for trace in traces(alloc)? {
         bank.push(Box::new(alloc, trace)?)?;
     }
-    let name = recording_name(&words).unwrap_or("");
+    let name = recording_name(words).unwrap_or("");
     let mut rec = FileSink::at(rt, String::from_str(alloc, name)?);
     let mut input = StdSource::open(rt);
     let mut out = StdSink::open(rt);
     let mut clock = SystemClock::open(rt);
-    let links = links(rt, &words)?;
     let (ended, _links) = live_top(
-        threads, alloc, &words, &mut input, &mut out, &mut rec, links, &mut clock, bank, &OpenGate,
+        threads, alloc, words, &mut input, &mut out, &mut rec, links, &mut clock, bank, &OpenGate,
     );
     Ok(ended.status)
 }
 
-/// A link for each port that the words say to serve.
-fn links(rt: &HostRuntime, words: &[String]) -> Result<Vec<UdpLink>, AllocError>
-    ensures { IfOk result (λ links. length links.items ≤ 16) }
+/// A link over UDP for each port that the words say to serve.
+fn datagram_links(rt: &HostRuntime, words: &[String]) -> Result<Vec<UdpLink>, AllocError>
+    ensures each { IfOk result
+        (λ links. length links.items ≡ length (ports_of (map string_bytes words.now))) }
+    ensures few { IfOk result (λ links. length links.items ≤ 16) }
 {
     let ports = ports(rt.alloc(), words)?;
     let mut links = Vec::with_capacity(rt.alloc(), ports.len())?;
     for port in ports {
         links.push(UdpLink::at(rt, port))?;
+    }
+    Ok(links)
+}
+
+/// A link over TCP for each port that the words say to serve.
+fn stream_links(
+    rt: &HostRuntime,
+    words: &[String],
+) -> Result<Vec<StreamLink<TcpSource>>, AllocError>
+    ensures each { IfOk result
+        (λ links. length links.items ≡ length (ports_of (map string_bytes words.now))) }
+    ensures few { IfOk result (λ links. length links.items ≤ 16) }
+{
+    let ports = ports(rt.alloc(), words)?;
+    let mut links = Vec::with_capacity(rt.alloc(), ports.len())?;
+    for port in ports {
+        links.push(StreamLink::open(rt.alloc(), TcpSource::at(rt, port))?)?;
     }
     Ok(links)
 }
