@@ -23,3 +23,4 @@ pub mod Turning
 pub mod Unstopped
 pub mod Weights
 pub mod Zipping
+mod Crossing
