@@ -1,9 +1,10 @@
 #!/bin/sh
-# Sends patterns that are long or ambiguous to a method whose name has 63 letters, and prints what each costs.
+# Sends messages whose patterns are long or ambiguous to 1,000 methods, and prints how many instructions each takes.
 #
 #     bench/hostile.sh
 #
-# It needs awk, valgrind and what bin/osc needs.
+# The methods have names of 63 letters below the root, which is called wide, or stand in ten groups, which is called deep.
+# There the pattern's part stands behind `/*`. It needs awk, valgrind and what bin/osc needs.
 set -eu
 top=$(cd "$(dirname "$0")/.." && pwd)
 work=$(mktemp -d)
@@ -11,63 +12,97 @@ trap 'rm -rf "$work"' EXIT
 "$top/bin/osc" run < /dev/null > /dev/null # builds it
 program="$top/crates/osc/out/osc"
 
-# A slash, a piece so many times, and an end, as the hexadecimal digits of an OSC string.
-pattern() { # PIECE COUNT END
-    awk -v piece="$1" -v count="$2" -v end="$3" 'BEGIN {
-        for (code = 32; code < 127; code++) digits[sprintf("%c", code)] = sprintf("%02x", code)
-        text = "/"
-        for (k = 0; k < count; k++) text = text piece
-        text = text end
-        for (k = 1; k <= length(text); k++) printf "%s", digits[substr(text, k, 1)]
-        for (zeros = 4 - length(text) % 4; zeros > 0; zeros--) printf "00"
-        print ""
+methods() { # LAYOUT
+    awk -v layout="$1" 'BEGIN {
+        for (k = 0; k < 60; k++) letters = letters "a"
+        for (k = 0; k < 1000; k++)
+            if (layout == "wide") printf "add /%s%03d\n", letters, k
+            else printf "add /g%d/n%d\n", k / 100, k % 100
     }'
 }
 
-script() { # PIECE COUNT END, or nothing for a script without the send
-    printf 'add /'
-    awk 'BEGIN { for (k = 0; k < 63; k++) printf "a"; print "" }'
-    if [ $# = 3 ]; then echo "send $(pattern "$@")"; fi
-    echo pump
+# A front, a piece so many times, and an end; `-` stands for nothing. The piece `TEXT,` is another text each time.
+part() { # FRONT PIECE COUNT END
+    awk -v front="$1" -v piece="$2" -v count="$3" -v end="$4" 'BEGIN {
+        letters = "abcdefghijklmnopqrstuvwxyzABCDEFGHIJKLMNOPQRSTUVWXYZ"
+        if (front != "-") printf "%s", front
+        for (k = 0; k < count; k++)
+            if (piece == "TEXT,")
+                printf "%s%s%s,", substr(letters, int(k / 2704) + 1, 1), substr(letters, int(k / 52) % 52 + 1, 1), substr(letters, k % 52 + 1, 1)
+            else printf "%s", piece
+        if (end != "-") printf "%s", end
+    }'
 }
 
-instructions() {
+# The hexadecimal digits of a message with the pattern that stands in a file, without arguments.
+message() { # FILE
+    od -An -v -tx1 < "$1" | tr -d ' \n'
+    size=$(wc -c < "$1")
+    for zero in $(seq $((4 - size % 4))); do printf 00; done
+}
+
+# The digits of a bundle for the clock's moment with the message so many times.
+bundle() { # DIGITS COUNT
+    printf '2362756e646c65000000000000000001'
+    for k in $(seq "$2"); do printf '%08x%s' $((${#1} / 2)) "$1"; done
+}
+
+instructions() { # SCRIPT
     valgrind --tool=callgrind --callgrind-out-file=/dev/null "$program" run --bytes < "$1" 2>&1 > "$work/out" |
         sed -n 's/.*Collected : //p'
 }
 
-stack() {
-    valgrind --tool=massif --stacks=yes --heap=no --massif-out-file="$work/massif" "$program" run --bytes < "$1" > "$work/out" 2>&1
-    awk -F= '/^mem_stacks_B/ && $2 > most { most = $2 } END { print most }' "$work/massif"
+script() { # LAYOUT DIGITS
+    methods "$1"
+    if [ -n "$2" ]; then echo "send $2"; fi
+    echo pump
 }
 
-milliseconds() {
-    least=
-    for try in 1 2 3 4 5; do
-        begin=$(date +%s%N)
-        "$program" run --bytes < "$1" > "$work/out"
-        took=$((($(date +%s%N) - begin) / 1000000))
-        if [ -z "$least" ] || [ "$took" -lt "$least" ]; then least=$took; fi
-    done
-    echo "$least"
+for layout in wide deep; do
+    script $layout '' > "$work/script"
+    instructions "$work/script" > "$work/none.$layout"
+done
+
+# What a send takes: the script with it less the script without it.
+send() { # LAYOUT DIGITS
+    script "$1" "$2" > "$work/script"
+    echo $(($(instructions "$work/script") - $(cat "$work/none.$1")))
 }
 
-script > "$work/none"
-base=$(instructions "$work/none")
-echo "| pattern behind the slash | bytes | instructions | ms of the whole run | stack bytes |"
-echo "|---|---|---|---|---|"
-while read -r piece count end; do
-    script "$piece" "$count" "$end" > "$work/script"
-    bytes=$((1 + ${#piece} * count + ${#end}))
-    echo "| $count times \`$piece\`, then \`$end\` | $bytes | $(($(instructions "$work/script") - base)) | $(milliseconds "$work/script") | $(stack "$work/script") |"
-done <<'PATTERNS'
-*a 6 b
-*a 31 b
-* 64998 a
-{} 32499 b
-{,a} 16249 b
-{a,aa} 10832 b
-*[a-b] 10832 c
-[!b] 16249 b
-? 64998 b
-PATTERNS
+echo "| part | bytes | wide | deep |"
+echo "|---|---|---|---|"
+while read -r front piece count end; do
+    part "$front" "$piece" "$count" "$end" > "$work/part"
+    (printf / && cat "$work/part") > "$work/wide"
+    (printf '/*/' && cat "$work/part") > "$work/deep"
+    told=
+    if [ "$front" != - ]; then told="\`$front\`, "; fi
+    told="$told$count times \`$piece\`"
+    if [ "$end" != - ]; then told="$told, \`$end\`"; fi
+    wide=$(send wide "$(message "$work/wide")")
+    deep=$(send deep "$(message "$work/deep")")
+    echo "| $told | $(wc -c < "$work/part") | $wide | $deep |"
+done <<'PARTS'
+- * 64990 b
+- ?* 32490 -
+- *a 32490 -
+- [!b]* 12990 -
+- {a,aa} 10830 b
+- {} 32490 b
+- *{} 21660 b
+- {a,} 16240 b
+- {,a}{,b} 8120 c
+*{ a, 32490 a}
+*{ TEXT, 16200 b}
+*[ b 64980 ]
+*[ b-c 21660 ]
+[ b 64980 ]
+* / 64980 -
+*/ * 64980 a
+- a 64990 -
+PARTS
+
+printf '/*/x' > "$work/star"
+for layout in wide deep; do
+    echo "$layout: a bundle of 5,457 messages /*/x takes $(send $layout "$(bundle "$(message "$work/star")" 5457)")"
+done
