@@ -12,6 +12,8 @@ use std::test::Fail;
 #[derive(Drop)]
 struct Round<M> {
     numbers: (u32, u32),
+    header: [u8; 12],
+    read: (usize, usize),
     fronts: (u64, u64),
     released: (u32, u64),
     closed: Closed<M>,
@@ -38,9 +40,14 @@ fn play_round<M: Method, W: Wait>(
     let (new, pumped) = live.pump(rt, new);
     let (new, front) = live.front(new);
     let numbers = (caller.number(), new.number());
+    let mut header = [0; 12];
+    let (new, begun) = live.read(rt, new, 0, &mut header);
+    let (new, behind) = live.read(rt, new, 4096, &mut header);
     let closed = close_both(alloc, live, caller, new)?;
     Some(Round {
         numbers,
+        header,
+        read: (begun, behind),
         fronts: (enrolled, front),
         released: (pumped.released, pumped.calls),
         closed,
@@ -63,6 +70,8 @@ fn two_callers_share_one_history(rt: HostRuntime) -> Result<(), Fail> {
     let trace = Trace::open(rt.alloc(), 64)?;
     let round = play_round(&rt, rt.alloc(), trace, &packet).ok_or("memory")?;
     assert_eq!(rt; round.numbers, (0, 1));
+    assert_eq!(rt; round.header, *b"\0\0\0\x38/osc/rec");
+    assert_eq!(rt; round.read, (12, 0));
     assert_eq!(rt; round.fronts, (1, 4));
     assert_eq!(rt; round.released, (1, 1));
     assert_eq!(rt; told(&round), Some(20));
