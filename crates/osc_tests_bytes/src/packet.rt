@@ -1,8 +1,9 @@
 // Vectors of packets, each with its first fault or the number of its units.
 ghost use Rattle.std.specs.Prelude.{◌≤◌};
 
-use osc_atoms::{put_string, put_tag, put_word};
-use osc_packet::{MAX_PACKET, Packet};
+use osc_atoms::{MAX_BYTES, put_string, put_tag, put_word};
+use osc_message::Message;
+use osc_packet::{Bundler, MAX_PACKET, Packet};
 use std::alloc::{AllocError, Global};
 
 /// A bundle of `/a`, a bundle of `/b`, and `/c`, both tags 2.
@@ -139,4 +140,18 @@ fn units_stand_in_the_order_of_the_bytes(rt: HostRuntime) {
         assert_eq!(rt; units.next().expect(&rt, "more").tag(), tag);
     }
     assert!(rt; units.next().is_none());
+}
+
+#[test]
+fn a_bundle_is_built_message_by_message(rt: HostRuntime) -> Result<(), AllocError> {
+    let mut bundler = Bundler::open(rt.alloc(), 2)?;
+    for bytes in [b"/a\0\0", b"/b\0\0"] {
+        let message = Message::check(bytes, MAX_BYTES).expect(&rt, "a message");
+        assert_eq!(rt; bundler.push(&message), Ok(()));
+    }
+    assert_eq!(rt;
+        bundler.finish()?.as_slice(),
+        b"#bundle\0\0\0\0\0\0\0\0\x02\0\0\0\x04/a\0\0\0\0\0\x04/b\0\0".as_slice()
+    );
+    Ok(())
 }

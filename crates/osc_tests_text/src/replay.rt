@@ -61,6 +61,18 @@ fn a_recording_is_printed(rt: HostRuntime) -> Result<(), AllocError> {
     Ok(())
 }
 
+#[test]
+fn a_recording_is_checked_without_being_printed(rt: HostRuntime) -> Result<(), AllocError> {
+    let bytes = recording(rt.alloc(), 212, &ADD, &SUBMIT, &RELEASE)?;
+    assert!(rt; bytes.len() <= 212);
+    let Ok(checked) = check(rt.alloc(), &bytes) else {
+        panic!(rt; "refused");
+    };
+    assert_eq!(rt; (checked.entries, checked.adds, checked.callers), (3, 1, 1));
+    assert_eq!(rt; checked.caps.recording(), 212);
+    Ok(())
+}
+
 /// What stands behind a header, in two parts, and the first malformed place.
 const PLACES: [(&[u8], &[u8], u32); 9] = [
     // A tick without its last byte.
