@@ -108,7 +108,7 @@ fn no_lane_is_started_where_an_enrolment_finds_no_room(rt: HostRuntime) -> Resul
     assert_eq!(rt; (room.need, room.free), (28, 0));
     assert_eq!(rt;
         (done.bytes.len(), done.kept.len(), done.lanes.len()),
-        (84, 0, 2)
+        (88, 0, 2)
     );
     let boxes = [1, 0];
     for (lane, count) in done.lanes.iter().zip(boxes) {

@@ -158,8 +158,12 @@ const NO_BOXES: Setting = Setting {
 
 const ONE_TICK: &str = "0 tick 0000000000000005\n";
 
+/// A bundle whose tag is below the clock.
+const LATE: &str =
+    "0 tick 0000000000000005\n0 send 2362756e646c6500 0000000000000003 00000004 2f610000\n0 pump\n";
+
 /// Words, a script and a setting where no box is used: the status, what is printed, and how many bytes are recorded.
-const ENDS: [(&str, &str, Setting, u8, &str, usize); 16] = [
+const ENDS: [(&str, &str, Setting, u8, &str, usize); 18] = [
     ("", TWO_LANES, SETTING, 2, "usage\n", 0),
     ("lanes", TWO_LANES, SETTING, 2, "usage\n", 0),
     ("lanes f g", TWO_LANES, SETTING, 2, "usage\n", 0),
@@ -173,21 +177,22 @@ const ENDS: [(&str, &str, Setting, u8, &str, usize); 16] = [
         0,
     ),
     ("lanes --help f", TWO_LANES, SETTING, 2, "usage\n", 0),
+    ("lanes --late never f", LATE, SETTING, 2, "usage\n", 0),
     ("run", TWO_LANES, SETTING, 2, "usage\n", 0),
     (
         "lanes --recording 100 f",
         TWO_LANES,
         SETTING,
         6,
-        "enrol 0 1\nrecording-full 28 16\n",
-        84,
+        "enrol 0 1\nrecording-full 28 12\n",
+        88,
     ),
     ("serve f", "pump\n", SETTING, 1, "script 1 8\n", 0),
     ("lanes f", "add /a\n", SETTING, 1, "script 1 7\n", 0),
     ("lanes f", TWO_LANES, NO_SOURCE, 4, "", 0),
     ("lanes f", TWO_LANES, NO_BOXES, 8, "bank-short 1 0\n", 0),
     ("lanes f", ONE_TICK, NO_RECORDING, 5, "", 0),
-    ("lanes f", ONE_TICK, NO_SINK, 5, "", 132),
+    ("lanes f", ONE_TICK, NO_SINK, 5, "", 136),
     ("lanes f", "", SETTING, 0, "", 60),
     (
         "lanes f",
@@ -195,7 +200,15 @@ const ENDS: [(&str, &str, Setting, u8, &str, usize); 16] = [
         SETTING,
         0,
         "enrol 0 1\nfault 1 1 0\n",
-        84,
+        88,
+    ),
+    (
+        "lanes --late discard f",
+        LATE,
+        SETTING,
+        0,
+        "enrol 0 1\ntick 1 0000000000000005 ticked\nsubmit 1 queued 0 1 late 1\n",
+        212,
     ),
 ];
 

@@ -201,7 +201,7 @@ const UNPLAYED: [(Given, u8, &str, (usize, usize)); 7] = [
     (
         ("serve --recording 150 f", ADD, 8, &[]),
         6,
-        "recording-full 28 14",
+        "recording-full 28 10",
         (1, 7),
     ),
 ];
@@ -245,15 +245,15 @@ const PLAYED: [(Given, u8, &str, &[Datagram], u64); 10] = [
     ),
     // Nothing fits behind the enrolments.
     (
-        ("serve --recording 164 f", ADD, 8, &[]),
+        ("serve --recording 168 f", ADD, 8, &[]),
         6,
-        "recording-full 68 0",
+        "recording-full 72 0",
         &[Datagram::Got(30)],
         7,
     ),
     (
         (
-            "serve --links 2 --recording 192 f",
+            "serve --links 2 --recording 196 f",
             ADD,
             8,
             &[Failing::SecondLink],
@@ -299,7 +299,7 @@ const PLAYED: [(Given, u8, &str, &[Datagram], u64); 10] = [
         7,
     ),
     (
-        ("serve --recording 164 f", ADD, 8, &[Failing::Sink]),
+        ("serve --recording 168 f", ADD, 8, &[Failing::Sink]),
         5,
         "",
         &[Datagram::Got(30)],
