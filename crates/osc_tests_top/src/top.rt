@@ -1,7 +1,7 @@
 // Worked scripts and recordings, run over sources and sinks in memory.
 use osc_edge::{MemorySink, MemorySource};
-use osc_message::Builder;
-use osc_method::{Method, Trace};
+use osc_message::{Builder, Message};
+use osc_method::{Call, Method, Trace};
 use osc_top::{plain_top, traces};
 use std::alloc::{AllocError, Global};
 use std::process::Abort;
@@ -398,10 +398,25 @@ fn boxes_come_back_by_the_ids_of_their_methods(rt: HostRuntime) -> Result<(), Fa
     Ok(())
 }
 
+/// A call of which a box may tell 68 bytes: 16, and those of the message.
+fn long_call() -> Result<Call<'static>, Fail> {
+    let bytes = b"/aaaaaaaaaaaaaaaaaaaaaaaaaaaaaaaaaaaaaaaaaaaaaaaaaa\0";
+    let message = Message::check(bytes, 65_504).ok().ok_or("a message")?;
+    Ok(Call {
+        unit: 0,
+        index: 0,
+        message,
+    })
+}
+
 #[test]
 fn the_program_has_8192_boxes_of_64_bytes(rt: HostRuntime) -> Result<(), Fail> {
-    let traces = traces(rt.alloc())?;
+    let mut traces = traces(rt.alloc())?;
     assert_eq!(rt; traces.len(), 8192);
+    for trace in &mut traces {
+        trace.invoke(&long_call()?);
+        assert_eq!(rt; trace.told(), Some(64));
+    }
     Ok(())
 }
 
@@ -495,8 +510,12 @@ fn other_words_are_refused(rt: HostRuntime) -> Result<(), Fail> {
 const LATE: &str =
     "add /a\ntick 0000000000000005\nsend 2362756e646c6500 0000000000000003 00000004 2f610000\nsend 2362756e646c6500 0000000000000005 00000004 2f610000\npump\n";
 
+/// What is printed of them where late bundles are delivered.
+const DELIVERED: &str =
+    "add 0 /a id 0\ntick 0 0000000000000005 ticked\nsubmit 0 queued 0 1\nsubmit 0 queued 1 1\nrelease 0 0 1\ncall 0 0 0 /a -\nrelease 0 1 1\ncall 1 0 0 /a -\n";
+
 /// Words with limits, a script, the status, and what is written.
-const LIMITED: [(&str, &str, u8, &str); 12] = [
+const LIMITED: [(&str, &str, u8, &str); 13] = [
     (
         "run --blocks 1",
         "send 2f610000 2c690000 00000001\nsend 2f610000 2c690000 00000001\npump\nsend 2f610000 2c690000 00000001\n",
@@ -545,12 +564,8 @@ const LIMITED: [(&str, &str, u8, &str); 12] = [
         0,
         "add 0 /a id 0\ntick 0 0000000000000005 ticked\nsubmit 0 queued 0 1 late 1\nsubmit 0 queued 1 1\nrelease 0 1 1\ncall 1 0 0 /a -\n",
     ),
-    (
-        "run --late deliver",
-        LATE,
-        0,
-        "add 0 /a id 0\ntick 0 0000000000000005 ticked\nsubmit 0 queued 0 1\nsubmit 0 queued 1 1\nrelease 0 0 1\ncall 0 0 0 /a -\nrelease 0 1 1\ncall 1 0 0 /a -\n",
-    ),
+    ("run", LATE, 0, DELIVERED),
+    ("run --late deliver", LATE, 0, DELIVERED),
     (
         "run --late discard",
         "tick 0000000000000005\nsend 2362756e646c6500 0000000000000003 00000010 2362756e646c6500 0000000000000009\n",
