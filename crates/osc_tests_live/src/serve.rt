@@ -21,9 +21,9 @@ pub(crate) const FADER_CALL: &str = "call 0 0 0 /1/fader1 ,f f:3f000000";
 
 pub(crate) const ADD: &str = "add /1/fader1\n";
 
-/// An edge of the program that fails at its first call.
+/// An edge of the program.
 #[derive(Clone, Copy, PartialEq, Eq)]
-enum Failing {
+enum Edge {
     Source,
     Sink,
     Recording,
@@ -31,6 +31,9 @@ enum Failing {
     SecondLink,
     Clock,
 }
+
+/// An edge that fails, and at which of its calls, counted from 1.
+type Failing = (Edge, u32);
 
 /// What the program came to.
 #[derive(Drop)]
@@ -45,11 +48,13 @@ struct Outcome {
     moment: Moment,
 }
 
-/// The calls that fail of an edge: the first one or none.
-fn fails(alloc: Global, failing: &[Failing], edge: Failing) -> Result<Vec<u32>, AllocError> {
+/// The calls that fail of an edge.
+fn fails(alloc: Global, failing: &[Failing], edge: Edge) -> Result<Vec<u32>, AllocError> {
     let mut calls = Vec::new(alloc);
-    if failing.contains(&edge) {
-        calls.push(1)?;
+    for (failed, call) in failing {
+        if *failed == edge {
+            calls.push(*call)?;
+        }
     }
     Ok(calls)
 }
@@ -59,7 +64,7 @@ fn first_link(alloc: Global, failing: &[Failing]) -> Result<MemoryLink, AllocErr
     let mut turns = Vec::new(alloc);
     turns.push(Some(Bytes::copied(alloc, FADER)?))?;
     turns.push(Some(Bytes::copied(alloc, &[0; 30])?))?;
-    let fails = fails(alloc, failing, Failing::FirstLink)?;
+    let fails = fails(alloc, failing, Edge::FirstLink)?;
     Ok(MemoryLink::open(turns, fails))
 }
 
@@ -70,7 +75,7 @@ fn second_link(alloc: Global, failing: &[Failing]) -> Result<MemoryLink, AllocEr
     turns.push(None)?;
     turns.push(None)?;
     turns.push(Some(Bytes::copied(alloc, FADER)?))?;
-    let fails = fails(alloc, failing, Failing::SecondLink)?;
+    let fails = fails(alloc, failing, Edge::SecondLink)?;
     Ok(MemoryLink::open(turns, fails))
 }
 
@@ -106,11 +111,11 @@ fn perform<R: Threads + Wait + Sync>(
         links.push_reserved(second_link(alloc, failing)?);
     }
     let moments = Vec::from_array(alloc, [5, 7])?;
-    let mut clock = MemoryClock::open(moments, fails(alloc, failing, Failing::Clock)?);
+    let mut clock = MemoryClock::open(moments, fails(alloc, failing, Edge::Clock)?);
     let script = Vec::from_slice(alloc, script.as_bytes())?;
-    let mut source = MemorySource::open(script, fails(alloc, failing, Failing::Source)?);
-    let mut out = MemorySink::open(alloc, fails(alloc, failing, Failing::Sink)?);
-    let mut rec = MemorySink::open(alloc, fails(alloc, failing, Failing::Recording)?);
+    let mut source = MemorySource::open(script, fails(alloc, failing, Edge::Source)?);
+    let mut out = MemorySink::open(alloc, fails(alloc, failing, Edge::Sink)?);
+    let mut rec = MemorySink::open(alloc, fails(alloc, failing, Edge::Recording)?);
     let mut bank: Vec<Box<dyn Method + Send>> = Vec::new(alloc);
     for _ in 0..boxes {
         bank.push(Box::new(alloc, Trace::open(alloc, 64)?)?)?;
@@ -181,9 +186,11 @@ const SERVED: &[Datagram] = &[Datagram::End];
 type Given = (&'static str, &'static str, usize, &'static [Failing]);
 
 /// Where nothing is served: the status, the last line, and how many boxes have an id and how many are left.
-const UNPLAYED: [(Given, u8, &str, (usize, usize)); 7] = [
+const UNPLAYED: [(Given, u8, &str, (usize, usize)); 8] = [
     (("serve --links 9 f", ADD, 8, &[]), 2, "usage", (0, 8)),
-    ((USUAL, ADD, 8, &[Failing::Source]), 4, "", (0, 8)),
+    // The source is called once more behind its last bytes, to find its end.
+    ((USUAL, ADD, 8, &[(Edge::Source, 1)]), 4, "", (0, 8)),
+    ((USUAL, ADD, 8, &[(Edge::Source, 2)]), 4, "", (0, 8)),
     ((USUAL, "pump\n", 8, &[]), 1, "script 1 8", (0, 8)),
     ((USUAL, ADD, 0, &[]), 8, "bank-short 1 0", (0, 0)),
     (
@@ -227,7 +234,7 @@ fn links_and_clock_are_as_they_were_where_nothing_is_served(rt: HostRuntime) -> 
 }
 
 /// Where links are served: the status, the last line, and what the links and the clock answer then.
-const PLAYED: [(Given, u8, &str, &[Datagram], u64); 10] = [
+const PLAYED: [(Given, u8, &str, &[Datagram], u64); 12] = [
     // The second link is idle, before its packet or not.
     (
         (TWO_LINKS, ADD, 8, &[]),
@@ -256,50 +263,75 @@ const PLAYED: [(Given, u8, &str, &[Datagram], u64); 10] = [
             "serve --links 2 --recording 196 f",
             ADD,
             8,
-            &[Failing::SecondLink],
+            &[(Edge::SecondLink, 1)],
         ),
         7,
         "link-fault 1",
         &[Datagram::Got(30), Datagram::Quiet],
         7,
     ),
+    // No edge is called so often but the link, by this test.
     (
-        (USUAL, ADD, 8, &[Failing::FirstLink]),
+        (
+            USUAL,
+            ADD,
+            8,
+            &[
+                (Edge::Source, 3),
+                (Edge::Sink, 2),
+                (Edge::Recording, 2),
+                (Edge::FirstLink, 3),
+            ],
+        ),
+        0,
+        "fault link 0 datagram 2 2 30",
+        &[Datagram::Failed],
+        7,
+    ),
+    (
+        (USUAL, ADD, 8, &[(Edge::FirstLink, 1)]),
         7,
         "link-fault 0",
         UNSERVED,
         7,
     ),
     (
-        (USUAL, ADD, 8, &[Failing::Clock]),
+        (USUAL, ADD, 8, &[(Edge::FirstLink, 2)]),
+        7,
+        "link-fault 0",
+        &[Datagram::Got(30)],
+        7,
+    ),
+    (
+        (USUAL, ADD, 8, &[(Edge::Clock, 1)]),
         7,
         "clock-fault",
         SERVED,
         5,
     ),
     (
-        (USUAL, ADD, 8, &[Failing::FirstLink, Failing::Clock]),
+        (USUAL, ADD, 8, &[(Edge::FirstLink, 1), (Edge::Clock, 1)]),
         7,
         "link-fault 0",
         UNSERVED,
         5,
     ),
     (
-        (USUAL, ADD, 8, &[Failing::Sink, Failing::FirstLink]),
+        (USUAL, ADD, 8, &[(Edge::Sink, 1), (Edge::FirstLink, 1)]),
         5,
         "",
         UNSERVED,
         7,
     ),
     (
-        (USUAL, ADD, 8, &[Failing::Recording, Failing::FirstLink]),
+        (USUAL, ADD, 8, &[(Edge::Recording, 1), (Edge::FirstLink, 1)]),
         5,
         "",
         UNSERVED,
         7,
     ),
     (
-        ("serve --recording 168 f", ADD, 8, &[Failing::Sink]),
+        ("serve --recording 168 f", ADD, 8, &[(Edge::Sink, 1)]),
         5,
         "",
         &[Datagram::Got(30)],
