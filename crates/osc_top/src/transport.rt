@@ -10,10 +10,12 @@ pub fn wants_tcp(alloc: Global, words: &[String]) -> Result<bool, AllocError>
     ensures { IfOk result (λ wanted. wanted ≡ said.wants_tcp (map string_bytes words.now)) }
 {
     match live_command_of(alloc, words)? {
-        Some(LiveCommand::Serve {
-            transport: Transport::Tcp,
-            ..
-        }) => Ok(true),
+        Some(
+            LiveCommand::Serve {
+                transport: Transport::Tcp,
+                ..
+            },
+        ) => Ok(true),
         _ => Ok(false),
     }
 }

@@ -4,7 +4,9 @@
 ghost use Rattle.std.specs.Prelude.{◌≡◌, ◌≤◌, length, map, string_bytes, IfOk};
 ghost use Rattle.osc_top.specs.Commands.{ports_of};
 
-use osc_edge::{FileSink, Link, StdSink, StdSource, SystemClock, TcpSource, UdpLink, command_words};
+use osc_edge::{
+    FileSink, Link, StdSink, StdSource, SystemClock, TcpSource, UdpLink, command_words,
+};
 use osc_lanes::OpenGate;
 use osc_method::Method;
 use osc_stream::StreamLink;
