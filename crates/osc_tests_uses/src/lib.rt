@@ -1,4 +1,4 @@
-//! Tests of the pages of `osc_uses`. Each module is named after the page that it tries.
+//! Tests of the pages of `osc_uses`, each in a module named after the page, and of watchers.
 #![tactic(auto)]
 
 #[cfg(test)]
@@ -15,3 +15,5 @@ mod refused_packet;
 mod servers;
 #[cfg(test)]
 mod timed_bundle;
+#[cfg(test)]
+mod watching;
