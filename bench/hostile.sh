@@ -90,6 +90,8 @@ done <<'PARTS'
 - {a,aa} 10830 b
 - {} 32490 b
 - *{} 21660 b
+- [!bcdefghijklmnopqrstuvwxyz]* 63 -
+{ , 64980 }b
 - {a,} 16240 b
 - {,a}{,b} 8120 c
 *{ a, 32490 a}
