@@ -15,3 +15,4 @@ mod Dealt
 mod Staged
 mod Unstopped
 mod LiveEnds
+mod Edges

@@ -1,7 +1,8 @@
 -- How a program ends that plays a script on many threads, from how its parts end.
-use Rattle.std.proofs.Common.{◌≡◌, ◌⊎◌, inl, inr, ⊎_elim, ℕ, ◌<◌, ◌≤◌, ◌==◌, Bool, true, false, ◌||◌, List, [], length, Option, Some, None, IfSome}
-use Rattle.std.proofs.Common.{IsOkAnd, IsErrAnd, Result, Ok, Err, refl, sym, ap, subst, ◌∙◌, arith}
+use Rattle.std.proofs.Common.{◌≡◌, ◌⊎◌, inl, inr, ⊎_elim, ℕ, ◌+◌, ◌<◌, ◌≤◌, ◌==◌, Bool, true, false, ◌||◌, List, [], length, replicate, Option, Some}
+use Rattle.std.proofs.Common.{None, IfSome, IsOkAnd, IsErrAnd, Result, Ok, Err, refl, sym, ap, subst, ◌∙◌, arith}
 use Rattle.std.specs.Option.{option_or}
+use Rattle.std.proofs.lemmas.List.{length-replicate}
 use Rattle.osc_model.specs.Events.{Room}
 use Rattle.osc_model.specs.Limits.{Limits}
 use Rattle.osc_lanes.specs.declared.served.Bounds.{Bounds}
@@ -16,6 +17,7 @@ use Rattle.osc_script.specs.Scripts.{script_of}
 use Rattle.osc_words.specs.declared.command.Capacities.{Capacities}
 use Rattle.osc_words.specs.declared.command.LiveCommand.{LiveCommand}
 use Rattle.osc_words.specs.declared.command.LiveCommand.TheVariants as live
+use Rattle.osc_words.specs.declared.command.Transport.{Transport}
 use Rattle.osc_top.specs.declared.outcome.Outcome.{Outcome}
 use Rattle.osc_top.specs.declared.outcome.Outcome.TheVariants.{Done, Full, LinkFailed, ClockFailed}
 use Rattle.osc_top.specs.Commands.{mode_of}
@@ -187,6 +189,19 @@ module _ (mode : Mode) (plays : List Line → List ℕ → List ℕ → Outcome 
     go (Ok lines) all = (all.7.1, all.6.1)
     go (Err fault) all = absurd all
 
+  -- what was played, where all was written
+  pub written_of : (status : ℕ) → Ends status → IsWritten status
+      → (lines : List Line) × (recording : List ℕ) × (text : List ℕ) × (outcome : Outcome) × (status ≡ status_of outcome)
+      × plays lines recording text outcome × GainsAll rec recording × GainsAll out text
+  written_of status ends written = go (script_of mode script) (ends.written written) where
+    go : (read : Result (List Line) ScriptFault)
+        → IsOkAnd read (λ lines. (count_adds lines ≤ have) × (recording : List ℕ) × (text : List ℕ) × (outcome : Outcome) × (status ≡ status_of outcome)
+        × plays lines recording text outcome × GainsAll rec recording × GainsAll out text)
+        → (lines : List Line) × (recording : List ℕ) × (text : List ℕ) × (outcome : Outcome) × (status ≡ status_of outcome)
+        × plays lines recording text outcome × GainsAll rec recording × GainsAll out text
+    go (Ok lines) all = (lines, all.1, all.2, all.3, all.4, all.5, all.6, all.7)
+    go (Err fault) all = absurd all
+
 not_both : (read : Result (List Line) ScriptFault) (P : List Line → Type 0) (Q : ScriptFault → Type 0) → IsOkAnd read P → IsErrAnd read Q → ⊥
 not_both (Ok lines) P Q ok err = absurd err
 not_both (Err fault) P Q ok err = absurd ok
@@ -216,10 +231,10 @@ written_or_short mode plays script have rec out status ends lawful out_sound rec
 
 pub may_end_short : (status : ℕ) (command : LiveCommand) → status ≡ 3 → MayEnd command status
 may_end_short status (live.Lanes caps) three = inr (inl three)
-may_end_short status (live.Serve port ports count idle caps) three = inr (inl three)
+may_end_short status (live.Serve transport port ports count idle caps) three = inr (inl three)
 
 -- lanes have no link and no clock that fails
-not_failed : (status : ℕ) (outcome : Outcome) (stop : Option Room) → status ≡ status_of outcome → outcome ≡ stopped stop → status ≡ 7 → ⊥
+pub not_failed : (status : ℕ) (outcome : Outcome) (stop : Option Room) → status ≡ status_of outcome → outcome ≡ stopped stop → status ≡ 7 → ⊥
 not_failed status outcome None is so seven = absurd (omega (arith, is, ap status_of so, seven))
 not_failed status outcome (Some room) is so seven = absurd (omega (arith, is, ap status_of so, seven))
 
@@ -249,8 +264,9 @@ module _ {M L : Type 0} (keep : M → ℕ) (heard : M → Option (List ℕ)) (le
         go (inl (inr (inl six))) = inr (inr six)
         go (inl (inr (inr seven))) = absurd (none_failed (script_of Lanes script) (ends.written (inr (inr seven))) seven)
         go (inr three) = inr (inl three)
-  live_complete (live.Serve port ports count idle caps) script ends lawful out_sound rec_sound =
-      go (written_or_short Serve (plays_of keep heard left faults (live.Serve port ports count idle caps) bank added rest links links_after clock) script
+  live_complete (live.Serve transport port ports count idle caps) script ends lawful out_sound rec_sound =
+      go (written_or_short Serve
+      (plays_of keep heard left faults (live.Serve transport port ports count idle caps) bank added rest links links_after clock) script
       (length bank) rec out status ends lawful out_sound rec_sound) where
         go : IsWritten status ⊎ (status ≡ 3) → (status ≡ 0) ⊎ (status ≡ 3) ⊎ (status ≡ 6) ⊎ (status ≡ 7)
         go (inl (inl zero_is)) = inl zero_is
@@ -319,12 +335,13 @@ module _ {M L : Type 0} (keep : M → ℕ) (heard : M → Option (List ℕ)) (le
       (subst (λ (l : Limits). PlaysLanes keep heard l bank played kept lines recording text outcome) limits_so plays)))) staged) enough both
 
   -- links
-  pub links_end : (port ports count idle : ℕ) (caps : Capacities) → command ≡ live.Serve port ports count idle caps → limits ≡ live_limits caps
+  pub links_end : (transport : Transport) (port ports count idle : ℕ) (caps : Capacities)
+      → command ≡ live.Serve transport port ports count idle caps → limits ≡ live_limits caps
       → (staged : IsStaged (PlaysLinks keep heard left faults limits (record { count = count; idle = idle }) bank links clock played kept links_after lines)
       limits recording said outcome)
       → EndsBoth (status_of outcome) status recording (recorded_text limits staged.history said outcome) rec out
       → EndsCommand keep heard left faults command status script bank added rest links links_after clock rec out
-  links_end port ports count idle caps serve limits_so staged both =
+  links_end transport port ports count idle caps serve limits_so staged both =
       let bounds : Bounds = record { count = count; idle = idle } in
       ends_played (mode_of command) PlaysSo script (length bank) rec out lines is limits recording said outcome status
       (staged_so (PlaysLinks keep heard left faults limits bounds bank links clock played kept links_after lines) (PlaysSo lines) limits recording said outcome
@@ -349,6 +366,28 @@ pub long_so : (left now : Option (List ℕ)) (P : List ℕ → Type 0)
     → IfSome left P
 long_so None now P long holds = tt
 long_so (Some all) now P long holds = holds all long.0
+
+-- some script, which is what was left, where that is told
+abbrev IsOfScript : Option (List ℕ) → (List ℕ → Type 0) → Type 0
+IsOfScript left P = (script : List ℕ) × IfSome left (λ all. script ≡ all) × P script
+
+pub whole_script : (left now : Option (List ℕ)) (bytes : List ℕ) (P : List ℕ → Type 0) → IfSome left (λ all. (bytes ≡ all) × (now ≡ Some [])) → P bytes
+    → IsOfScript left P
+whole_script None now bytes P whole holds = (bytes, tt, holds)
+whole_script (Some all) now bytes P whole holds = (bytes, whole.0, holds)
+
+longer : (most : ℕ) → (script : List ℕ) × (most < length script)
+longer most = (replicate (most + 1) 0, omega (arith, length-replicate {A = ℕ} (most + 1) 0))
+
+pub long_script : (left now : Option (List ℕ)) (P : List ℕ → Type 0)
+    → IfSome left (λ all. (MAX_SCRIPT < length all) × (now ≡ Some (left_behind MAX_SCRIPT all))) → ((all : List ℕ) → MAX_SCRIPT < length all → P all)
+    → IsOfScript left P
+long_script None now P long holds = let script = longer MAX_SCRIPT in (script.0, tt, holds script.0 script.1)
+long_script (Some all) now P long holds = (all, refl, holds all long.0)
+
+pub any_script : (left : Option (List ℕ)) (P : List ℕ → Type 0) → ((script : List ℕ) → P script) → IsOfScript left P
+any_script None P holds = ([], tt, holds [])
+any_script (Some all) P holds = (all, refl, holds all)
 
 -- a script that is refused isn't lawful
 pub not_lawful : (mode : Mode) (script : List ℕ) (decided : ℕ) (P : List Line → Type 0) (Q : ScriptFault → Type 0) → (decided ≡ 1) ⊎ (decided ≡ 3)

@@ -30,17 +30,17 @@ most_bytes Dump = max_recording
 -- the mode of the script that a command of many threads reads
 abbrev pub mode_of : LiveCommand → Mode
 mode_of (live.Lanes caps) = Lanes
-mode_of (live.Serve port links count idle caps) = Serve
+mode_of (live.Serve transport port links count idle caps) = Serve
 
 -- the capacities of the server on which a command of many threads plays
 abbrev pub capacities_of : LiveCommand → Capacities
 capacities_of (live.Lanes caps) = caps
-capacities_of (live.Serve port links count idle caps) = caps
+capacities_of (live.Serve transport port links count idle caps) = caps
 
 -- the ports of a `serve`, one for each link, ascending by one
 abbrev pub ports_in : LiveCommand → List ℕ
 ports_in (live.Lanes caps) = []
-ports_in (live.Serve port links count idle caps) =
+ports_in (live.Serve transport port links count idle caps) =
     map (λ link. port + link) (range_with_len 0 links)
 
 -- the ports of the links that the words say to serve; none where they say no `serve`

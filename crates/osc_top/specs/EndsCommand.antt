@@ -24,8 +24,8 @@ abbrev pub plays_of : {M L : Type 0} → (M → ℕ) → (M → Option (List ℕ
 plays_of keep heard left faults (live.Lanes caps) bank added rest links links_after clock lines
     recording text outcome =
     PlaysLanes keep heard (live_limits caps) bank added rest lines recording text outcome
-plays_of keep heard left faults (live.Serve port ports count idle caps) bank added rest links
-    links_after clock lines recording text outcome =
+plays_of keep heard left faults (live.Serve transport port ports count idle caps) bank added rest
+    links links_after clock lines recording text outcome =
     PlaysLinks keep heard left faults (live_limits caps) (record { count = count; idle = idle })
     bank links clock added rest links_after lines recording text outcome
 
@@ -43,7 +43,7 @@ EndsCommand keep heard left faults command status script bank added rest links l
 abbrev pub MayEnd : LiveCommand → ℕ → Type 0
 MayEnd (live.Lanes caps) status =
     (status ≡ DONE) ⊎ (status ≡ NO_MEMORY) ⊎ (status ≡ RECORDING_FULL)
-MayEnd (live.Serve port links count idle caps) status =
+MayEnd (live.Serve transport port links count idle caps) status =
     (status ≡ DONE) ⊎ (status ≡ NO_MEMORY) ⊎ (status ≡ RECORDING_FULL)
     ⊎ (status ≡ EDGE_FAILED)
 

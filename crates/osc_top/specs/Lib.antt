@@ -3,6 +3,7 @@ pub mod Plain
 pub mod Printing
 pub mod Bank
 pub mod Commands
+pub mod Edges
 pub mod Ends
 pub mod EndsCommand
 pub mod EndsPlain

@@ -2,6 +2,7 @@
 ghost use Rattle.osc_top.specs.declared.status.TheConstants.{
   BANK_SHORT,
   DONE,
+  EDGE_FAILED,
   NO_MEMORY,
   REFUSED,
   SINK_FAILED,
@@ -24,6 +25,7 @@ ghost use Rattle.std.specs.Prelude.{
   Ok,
   List,
   [],
+  ◌++◌,
   length,
   map,
   string_bytes,
@@ -31,9 +33,13 @@ ghost use Rattle.std.specs.Prelude.{
 ghost use Rattle.osc_edge.specs.Faults.{Rose};
 ghost use Rattle.osc_core.specs.Ids.{is_ascending};
 ghost use Rattle.osc_lanes.specs.Ticks.{clock_read};
+ghost use Rattle.osc_laws.specs.Laws.{KeepsTheLaws};
 ghost use Rattle.osc_model.specs.Limits.{Limits};
 ghost use Rattle.osc_model.specs.Events.{Entry};
+ghost use Rattle.osc_model.specs.History.{Legal};
+ghost use Rattle.osc_model.specs.Recordings.{record_text};
 ghost use Rattle.osc_replay.specs.Disagreeing.{IsRecordingOf};
+ghost use Rattle.osc_replay.specs.Printed.{printed};
 ghost use Rattle.osc_script.specs.declared.script.TheConstants.{MAX_SCRIPT};
 ghost use Rattle.osc_script.specs.declared.mode.Mode.TheVariants.{Lanes};
 ghost use Rattle.osc_script.specs.Scripts.{script_of, AreOf};
@@ -43,15 +49,17 @@ ghost use Rattle.osc_words.specs.declared.command.Capacities.{Capacities};
 ghost use Rattle.osc_words.specs.declared.command.LiveCommand.TheVariants as live;
 ghost use Rattle.osc_top.specs.Commands as commands;
 ghost use Rattle.osc_top.specs.Commands.{mode_of};
+ghost use Rattle.osc_top.specs.Edges.{TellsEdge};
 ghost use Rattle.osc_top.specs.EndsCommand.{EndsCommand, LeavesAlone, MayEnd};
 ghost use Rattle.osc_top.specs.EndsPlain.{HandsBack};
 ghost use Rattle.osc_top.specs.Plain.{count_adds};
 ghost use Rattle.osc_top.specs.Printing.{usage_text, refusal_text};
 ghost use Rattle.osc_top.specs.Ends.{left_behind, IsUnplayed};
+ghost use Rattle.osc_top.specs.Live.{IsWritten};
 ghost use Rattle.osc_top.specs.Enough.{enough_lanes};
 ghost use Rattle.osc_top.specs.Outcomes.{status_of};
 ghost use Rattle.osc_top.specs.Recorded.{EndsBoth, recorded_text};
-ghost use Rattle.osc_top.specs.Sinks.{sink_change, Fails, IsSteady, GainsUnless};
+ghost use Rattle.osc_top.specs.Sinks.{sink_change, Fails, IsSteady, Gains, GainsUnless};
 
 use crate::caps::live_limits;
 use crate::counting::count_adds;
@@ -129,14 +137,25 @@ pub fn live_top<
         S.left input.new ≡ Some (left_behind MAX_SCRIPT all))) }
 
     // Then a script that is refused, or that adds more methods than there are boxes, or what its lanes or the links
-    // came to, with sinks that took all of it or failed.
+    // came to, with sinks that took all of it or failed. The script is what the source had left, where it tells.
     ensures ends { IfSome (said.live_command_of (map string_bytes words.now))
-        (λ command. IfSome (S.left input.old) (λ script. result.0.status ≢ SOURCE_FAILED →
-        EndsCommand (λ box. keep box) (λ box. heard box) L.left L.faults command
+        (λ command. result.0.status ≢ SOURCE_FAILED → (script : List ℕ)
+        × IfSome (S.left input.old) (λ all. script ≡ all)
+        × EndsCommand (λ box. keep box) (λ box. heard box) L.left L.faults command
         result.0.status script bank.items result.0.heard.items result.0.left.items links.items
         result.1.items (clock_read C.left C.faults clock.old clock.new)
         (sink_change R.held R.faults rec.old rec.new)
-        (sink_change O.held O.faults out.old out.new))) }
+        (sink_change O.held O.faults out.old out.new)) }
+
+    // Where all was written, `osc replay` prints from the recording what begins the text.
+    ensures one_history { IsWritten result.0.status
+        → (caps : Limits) × (history : List Entry) × (rest : List ℕ)
+        × Legal caps history × KeepsTheLaws caps history
+        × Gains (sink_change R.held R.faults rec.old rec.new) (record_text caps history)
+        × Gains (sink_change O.held O.faults out.old out.new) (printed caps history ++ rest) }
+    ensures edge { result.0.status ≡ EDGE_FAILED → TellsEdge L.faults links.items
+        result.1.items (clock_read C.left C.faults clock.old clock.new)
+        (sink_change O.held O.faults out.old out.new) }
     ensures sink { result.0.status ≡ SINK_FAILED
         → Fails (sink_change O.held O.faults out.old out.new)
         ⊎ Fails (sink_change R.held R.faults rec.old rec.new) }
@@ -151,6 +170,9 @@ pub fn live_top<
     ensures steady { result.0.status ≡ DONE
         → IsSteady (sink_change O.held O.faults out.old out.new)
         × IsSteady (sink_change R.held R.faults rec.old rec.new) }
+    ensures still { result.0.status ≡ DONE
+        → (map L.faults result.1.items ≡ map L.faults links.items)
+        × (C.faults clock.new ≡ C.faults clock.old) }
     ensures ended { result.0.status ≡ DONE
         → IfSome (S.left input.old) (λ all. S.left input.new ≡ Some []) }
 

@@ -1,12 +1,14 @@
-use Rattle.std.proofs.Common.{◌≡◌, Some, inr, map, string_bytes, ◌∙◌, rules}
+use Rattle.std.proofs.Common.{◌≡◌, Some, inr, map, string_bytes, ap, ◌∙◌, rules}
 use Rattle.osc_script.specs.declared.mode.Mode.TheVariants.{Lanes}
 use Rattle.osc_script.specs.declared.script.TheConstants.{MAX_SCRIPT}
 use Rattle.osc_words.specs.Commands as said
 use Rattle.osc_words.specs.declared.command.LiveCommand.TheVariants as live
 use Rattle.osc_top.specs.Commands.{mode_of}
 use Rattle.osc_top.specs.Plain.{live_limits}
-use Rattle.osc_top.proofs.LiveEnds.{whole_so, long_so, ends_refused, cut_fails, done_steady, may_end_short, live_complete, live_enough, not_lawful}
-use Rattle.osc_top.proofs.Said.{of_said}
+use Rattle.osc_top.proofs.Edges.{live_history, live_edge, live_still}
+use Rattle.osc_top.proofs.LiveEnds.{whole_so, long_so, whole_script, long_script, any_script, ends_refused, ends_short_of_memory, cut_fails, done_steady}
+use Rattle.osc_top.proofs.LiveEnds.{may_end_short, live_complete, live_enough, not_lawful}
+use Rattle.osc_top.proofs.Said.{of_said, of_any}
 use Rattle.osc_top.proofs.Transfers.{left_whole}
 use Rattle.osc_top.proofs.live.live_top.Goals as goal
 
@@ -19,16 +21,30 @@ returns-in-Whole-clause-read g c =
 pub returns-in-Whole-clause-ends : goal.returns-in-Whole-clause-ends
 returns-in-Whole-clause-ends g c =
     let said : Some c.in-Ok-Some.command ≡ said.live_command_of (map string_bytes c.args.words.now) = search rules in
-    of_said _ _ c.in-Ok-Some.command said (whole_so _ _ c.in-Whole.bytes.items _ c.in-Whole.ensures.0 (λ read. c.play_script.ensures.ends))
+    of_said _ _ c.in-Ok-Some.command said (λ read. whole_script _ _ c.in-Whole.bytes.items _ c.in-Whole.ensures.0 c.play_script.ensures.ends)
 
 pub returns-in-TooLong-clause-ends : goal.returns-in-TooLong-clause-ends
 returns-in-TooLong-clause-ends g c =
     let said : Some c.in-Ok-Some.command ≡ said.live_command_of (map string_bytes c.args.words.now) = search rules in
     let mode = mode_of c.in-Ok-Some.command in
     of_said _ _ c.in-Ok-Some.command said
-    (long_so _ _ _ c.in-TooLong.ensures.0
-    (λ all long read. ends_refused mode _ all _ _ _ _ _ c.unplayed-in-TooLong.ensures.status c.refuse_long.ensures.known
+    (λ read. long_script _ _ _ c.in-TooLong.ensures.0
+    (λ all long. ends_refused mode _ all _ _ _ _ _ c.unplayed-in-TooLong.ensures.status c.refuse_long.ensures.known
     (c.refuse_long.ensures.refused mode all long)))
+
+pub returns-in-Whole-clause-one_history : goal.returns-in-Whole-clause-one_history
+returns-in-Whole-clause-one_history g c =
+    live_history _ _ _ _ _ _ _ _ _ _ _ _ _ c.in-Ok-Some.command c.in-Whole.bytes.items c.play_script.ensures.ends
+
+pub returns-in-Whole-clause-edge : goal.returns-in-Whole-clause-edge
+returns-in-Whole-clause-edge g c =
+    live_edge _ _ _ _ _ _ _ _ _ _ _ _ _ c.in-Ok-Some.command c.in-Whole.bytes.items c.play_script.ensures.ends
+
+pub returns-in-Whole-clause-still : goal.returns-in-Whole-clause-still
+returns-in-Whole-clause-still g c =
+    live_still _ _ _ _ _ _ _ _ _ _ _ _ _ c.in-Ok-Some.command c.in-Whole.bytes.items c.play_script.ensures.ends
+    (λ caps lanes. let same = c.play_script.ensures.alone.lanes_serve_none caps lanes in
+    (ap (map g.L.Link.faults) same.0, ap g.C.Clock.faults same.1))
 
 pub returns-in-Whole-clause-sink : goal.returns-in-Whole-clause-sink
 returns-in-Whole-clause-sink g c = cut_fails _ _ _ _ _ _ _ c.play_script.ensures.ends
@@ -70,3 +86,15 @@ returns-in-TooLong-clause-enough g c = λ caps is.
     long_so _ _ _ c.in-TooLong.ensures.0
     (λ all long enough source out_sound rec_sound. inr (c.unplayed-in-TooLong.ensures.status
     ∙ not_lawful Lanes all _ _ _ c.refuse_long.ensures.known (c.refuse_long.ensures.refused Lanes all long) enough))
+
+-- Where nothing was played.
+
+pub returns-in-Err-clause-ends : goal.returns-in-Err-clause-ends
+returns-in-Err-clause-ends g c =
+    of_any _ _
+    (λ command read. any_script _ _ (λ script. ends_short_of_memory (mode_of command) _ script _ _ _ _ c.unplayed-in-Err.ensures.status))
+
+pub returns-in-NoMemory-clause-ends : goal.returns-in-NoMemory-clause-ends
+returns-in-NoMemory-clause-ends g c =
+    of_any _ _
+    (λ command read. any_script _ _ (λ script. ends_short_of_memory (mode_of command) _ script _ _ _ _ c.unplayed-in-NoMemory.ensures.status))

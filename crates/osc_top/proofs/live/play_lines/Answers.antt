@@ -28,7 +28,7 @@ returns-in-Ok-stage_links-clause-ends g c = λ script is.
     let end = c.end-in-Ok-stage_links.ensures in
     let limits = c.live_limits-caps.result in
     links_end _ _ _ _ c.args.command limits _ script _ _ _ _ _ _ _ _ _ _ c.args.lines.items _ _ _ is end.heard end.left enough
-    c.in-Serve.port c.in-Serve.links c.in-Serve.count c.in-Serve.idle c.in-Serve.caps c.in-Serve.is c.live_limits-caps.ensures staged
+    c.in-Serve.transport c.in-Serve.port c.in-Serve.links c.in-Serve.count c.in-Serve.idle c.in-Serve.caps c.in-Serve.is c.live_limits-caps.ensures staged
     (end.ends limits staged.history staged.recording_of)
 
 pub returns-in-Ok-clause-back : goal.returns-in-Ok-clause-back
@@ -76,6 +76,8 @@ returns-in-Ok-stage_links-clause-alone g c =
       unrecorded = λ unplayed. absurd (both_played _ _ _ _ _ _ both unplayed);
       unserved = λ unplayed. absurd (both_played _ _ _ _ _ _ both unplayed);
       lanes_serve_none =
-          λ caps lanes. let clash : live.Serve c.in-Serve.port c.in-Serve.links c.in-Serve.count c.in-Serve.idle c.in-Serve.caps ≡ live.Lanes caps =
-          sym c.in-Serve.is ∙ lanes in absurd (cc);
+          λ caps lanes.
+          let clash : live.Serve c.in-Serve.transport c.in-Serve.port c.in-Serve.links c.in-Serve.count c.in-Serve.idle c.in-Serve.caps ≡ live.Lanes caps =
+          sym c.in-Serve.is ∙ lanes in
+          absurd (cc);
     }

@@ -1,0 +1,277 @@
+-- From how a program ends to what became of its links and its clock.
+use Rattle.std.proofs.Common.{◌≡◌, ◌⊎◌, inl, inr, ℕ, suc, ◌+◌, ◌<◌, Bool, true, false, List, [], ◌∷◌, ◌++◌, map, length, Option, Some, None}
+use Rattle.std.proofs.Common.{if◌then◌else◌, refl, sym, ap, subst, ◌∙◌, append_assoc, arith}
+use Rattle.std.specs.Prelude.{MatchOption}
+use Rattle.std.specs.Option.{option_map, option_or}
+use Rattle.osc_edge.specs.Faults.{Rose}
+use Rattle.osc_atoms.specs.declared.room.Room.{Room as CodeRoom}
+use Rattle.osc_model.specs.Events.{Entry, Room}
+use Rattle.osc_model.specs.History.{Legal}
+use Rattle.osc_model.specs.Limits.{Limits}
+use Rattle.osc_model.specs.Recordings.{record_text}
+use Rattle.osc_laws.specs.Laws.{KeepsTheLaws}
+use Rattle.osc_record.specs.Shown.{room_of}
+use Rattle.osc_core.specs.Standing.{history_in}
+use Rattle.osc_turn.specs.declared.view.Entry.{Entry as Seen}
+use Rattle.osc_turn.specs.History.{own, texts}
+use Rattle.osc_lanes.specs.declared.hosting.Hosted.{Hosted}
+use Rattle.osc_lanes.specs.declared.link_plan.LinkEnd.{LinkEnd}
+use Rattle.osc_lanes.specs.declared.link_plan.Over.{Over}
+use Rattle.osc_lanes.specs.declared.link_plan.Over.TheVariants.{Count, Idle, End, Failed, Full as OverFull}
+use Rattle.osc_lanes.specs.declared.served.Bounds.{Bounds}
+use Rattle.osc_lanes.specs.declared.served.TickerEnd.{TickerEnd}
+use Rattle.osc_lanes.specs.declared.served.TickerEnd.TheVariants.{Done as TickerDone, ClockFailed as TickerFailed, Full as TickerFull}
+use Rattle.osc_lanes.specs.Hosts.{IsServed, IsUnserved, ServesAll, Hosts}
+use Rattle.osc_lanes.specs.Links.{Turn, HasEndCause}
+use Rattle.osc_lanes.specs.Performs.{Part, Numbered, HasNoRoomToEnrol, player_at}
+use Rattle.osc_lanes.specs.Serves.{failed_from, has_failed, is_clock_failed, link_in, seen_in}
+use Rattle.osc_lanes.specs.Shares.{Player}
+use Rattle.osc_lanes.specs.Ticks.{ClockRead, EndsTicks}
+use Rattle.osc_replay.specs.Printed.{printed}
+use Rattle.osc_script.specs.declared.line.Line.{Line}
+use Rattle.osc_words.specs.declared.command.Capacities.{Capacities}
+use Rattle.osc_words.specs.declared.command.LiveCommand.{LiveCommand}
+use Rattle.osc_words.specs.declared.command.LiveCommand.TheVariants as live
+use Rattle.osc_top.specs.declared.outcome.Outcome.{Outcome}
+use Rattle.osc_top.specs.declared.outcome.Outcome.TheVariants.{Done, Full, LinkFailed, ClockFailed}
+use Rattle.osc_top.specs.Commands.{mode_of}
+use Rattle.osc_top.specs.Edges.{HasLinkRisen, HasRisen, TellsEdge}
+use Rattle.osc_top.specs.EndsCommand.{EndsCommand, plays_of}
+use Rattle.osc_top.specs.Lanes.{PlaysLanes, first_stop, lane_faults}
+use Rattle.osc_top.specs.Live.{IsWritten}
+use Rattle.osc_top.specs.Outcomes.{served, stopped, status_of}
+use Rattle.osc_top.specs.Plain.{live_limits}
+use Rattle.osc_top.specs.Printing.{last_text}
+use Rattle.osc_top.specs.Served.{PlaysLinks, adds_part, link_faults}
+use Rattle.osc_top.specs.Sinks.{SinkChange, Gains, GainsAll}
+use Rattle.osc_top.proofs.LiveEnds.{not_failed, written_of}
+
+-- What a count of faults does, by how a link or the ticker ended.
+
+over_still : (over : Over) (left : Option (List Turn)) (before now : ℕ) → HasEndCause over left before now → has_failed over ≡ false → now ≡ before
+over_still Count left before now cause is = cause
+over_still Idle left before now cause is = cause
+over_still End left before now cause is = cause.1
+over_still Failed left before now cause is = absurd (cc)
+over_still (OverFull room) left before now cause is = cause
+
+over_risen : (over : Over) (left : Option (List Turn)) (before now : ℕ) → HasEndCause over left before now → has_failed over ≡ true → Rose before now
+over_risen Count left before now cause is = absurd (cc)
+over_risen Idle left before now cause is = absurd (cc)
+over_risen End left before now cause is = absurd (cc)
+over_risen Failed left before now cause is = cause
+over_risen (OverFull room) left before now cause is = absurd (cc)
+
+module _ {M : Type 0} (keep : M → ℕ) (heard : M → Option (List ℕ)) where
+  ticks_still : (player : Player) (last : Option ℕ) (tokens : List (List Seen)) (before : Option (List ℕ)) (clock : ClockRead) (end : TickerEnd)
+      (here there : List Seen) → EndsTicks keep heard player last tokens before clock end here there → is_clock_failed end ≡ false → clock.now ≡ clock.faults
+  ticks_still player last tokens before clock TickerDone here there ends is = ends.0
+  ticks_still player last tokens before clock TickerFailed here there ends is = absurd (cc)
+  ticks_still player last tokens before clock (TickerFull room) here there ends is = ends.0
+
+  ticks_risen : (player : Player) (last : Option ℕ) (tokens : List (List Seen)) (before : Option (List ℕ)) (clock : ClockRead) (end : TickerEnd)
+      (here there : List Seen) → EndsTicks keep heard player last tokens before clock end here there → is_clock_failed end ≡ true
+      → Rose clock.faults clock.now
+  ticks_risen player last tokens before clock TickerDone here there ends is = absurd (cc)
+  ticks_risen player last tokens before clock TickerFailed here there ends is = ends.0
+  ticks_risen player last tokens before clock (TickerFull room) here there ends is = absurd (cc)
+
+-- An outcome by what failed.
+
+done_so : (outcome : Outcome) → status_of outcome ≡ 0 → outcome ≡ Done
+done_so Done is = refl
+done_so (Full need free) is = absurd (omega (arith, is))
+done_so (LinkFailed link) is = absurd (omega (arith, is))
+done_so ClockFailed is = absurd (omega (arith, is))
+
+none_failed : (failed : Option ℕ) (clock_failed : Bool) (stop : Option Room) → served failed clock_failed stop ≡ Done
+    → (failed ≡ None) × (clock_failed ≡ false)
+none_failed (Some link) clock_failed stop is = absurd (cc)
+none_failed None true stop is = absurd (cc)
+none_failed None false stop is = (refl, refl)
+
+module _ {M L : Type 0} (left : L → Option (List Turn)) (faults : L → ℕ) (keep : M → ℕ) (heard : M → Option (List ℕ)) (caps : Limits) (bounds : Bounds) where
+  module _ (history : List Seen) where
+    abbrev AreServed : ℕ → List L → List (LinkEnd L) → Type 0
+    AreServed number links ends = Numbered (IsServed left faults keep heard caps bounds history) number links ends
+
+    -- no link failed
+    links_still : (number first : ℕ) (links : List L) (ends : List (LinkEnd L)) → AreServed number links ends → failed_from first ends ≡ None
+        → map faults (map link_in ends) ≡ map faults links
+    links_still number first [] [] shares none = refl
+    links_still number first [] (end ∷ ends) shares none = absurd shares
+    links_still number first (link ∷ links) [] shares none = absurd shares
+    links_still number first (link ∷ links) (end ∷ ends) shares none =
+        go (has_failed end.over) refl none (links_still (number + 1) (first + 1) links ends shares.1) where
+          go : (test : Bool) → has_failed end.over ≡ test → (if test then Some first else failed_from (first + 1) ends) ≡ None
+              → (failed_from (first + 1) ends ≡ None → map faults (map link_in ends) ≡ map faults links)
+              → faults end.from ∷ map faults (map link_in ends) ≡ faults link ∷ map faults links
+          go true is none rest = absurd (cc)
+          go false is none rest =
+              ap (λ (n : ℕ). n ∷ map faults (map link_in ends)) (over_still end.over (left end.from) (faults link) (faults end.from) shares.0.cause is)
+              ∙ ap (λ (l : List ℕ). faults link ∷ l) (rest none)
+
+    -- the place of the link that is told, among those from this one on
+    abbrev RisenFrom : ℕ → ℕ → List L → List (LinkEnd L) → Type 0
+    RisenFrom first link links ends = (place : ℕ) × (link ≡ first + place) × HasLinkRisen faults place links (map link_in ends)
+
+    link_risen : (number first link : ℕ) (links : List L) (ends : List (LinkEnd L)) → AreServed number links ends → failed_from first ends ≡ Some link
+        → RisenFrom first link links ends
+    link_risen number first link [] [] shares is = absurd (cc)
+    link_risen number first link [] (end ∷ ends) shares is = absurd shares
+    link_risen number first link (one ∷ links) [] shares is = absurd shares
+    link_risen number first link (one ∷ links) (end ∷ ends) shares is =
+        go (has_failed end.over) refl is (link_risen (number + 1) (first + 1) link links ends shares.1) where
+          same : Some first ≡ Some link → link ≡ first + 0
+          same told = let equal : first ≡ link = cc in omega (arith, equal)
+
+          go : (test : Bool) → has_failed end.over ≡ test → (if test then Some first else failed_from (first + 1) ends) ≡ Some link
+              → (failed_from (first + 1) ends ≡ Some link → RisenFrom (first + 1) link links ends) → RisenFrom first link (one ∷ links) (end ∷ ends)
+          go true failed told rest = (0, same told, over_risen end.over (left end.from) (faults one) (faults end.from) shares.0.cause failed)
+          go false failed told rest = let behind = rest told in (suc behind.0, omega (arith, behind.1), behind.2)
+
+  module _ (part : Part M) (links : List L) (clock : ClockRead) (hosted : Hosted M L)
+      (hosts : Hosts left faults keep heard caps bounds part links clock hosted) where
+    abbrev Serving : Type 0
+    Serving = ServesAll left faults keep heard caps bounds hosts.history links clock hosted.links
+
+    served_or_not : Serving ⊎ IsUnserved links clock hosted.links
+    served_or_not = go hosted.opening.stop hosted.unenrolled hosts.shares where
+      go : (stop unenrolled : Option CodeRoom)
+          → MatchOption stop
+          (MatchOption unenrolled ((hosts.callers ≡ length links + 1) × Serving)
+          (λ room. (hosts.callers < length links + 1) × HasNoRoomToEnrol caps hosts.history (room_of room) × IsUnserved links clock hosted.links))
+          (λ room. (hosts.callers ≡ 0) × (hosted.unenrolled ≡ None) × (own 0 hosts.history ≡ hosts.history) × IsUnserved links clock hosted.links)
+          → Serving ⊎ IsUnserved links clock hosted.links
+      go None None shares = inl shares.1
+      go None (Some room) shares = inr shares.2
+      go (Some room) unenrolled shares = inr shares.3
+
+    pub hosts_still : hosted.links.failed ≡ None → hosted.links.clock_failed ≡ false
+        → (map faults hosted.links.links.items ≡ map faults links) × (clock.now ≡ clock.faults)
+    hosts_still none sound = go served_or_not where
+      go : Serving ⊎ IsUnserved links clock hosted.links → (map faults hosted.links.links.items ≡ map faults links) × (clock.now ≡ clock.faults)
+      go (inr unserved) = (ap (map faults) unserved.links_are, unserved.clock_is.1)
+      go (inl serves) = (
+        ap (map faults) serves.links_are ∙ links_still hosts.history 1 0 links serves.ends serves.shares (sym serves.failed_is ∙ none),
+        ticks_still keep heard (player_at caps (length links + 1)) serves.ticks.3.last (map seen_in serves.ends) serves.ticks.3.between clock serves.ticker_end
+            serves.ticks.3.place serves.ticks.1 serves.ticks.3.ends (sym serves.clock_failed_is ∙ sound),
+      )
+
+    pub hosts_link_risen : (link : ℕ) → hosted.links.failed ≡ Some link → HasLinkRisen faults link links hosted.links.links.items
+    hosts_link_risen link is = go served_or_not where
+      go : Serving ⊎ IsUnserved links clock hosted.links → HasLinkRisen faults link links hosted.links.links.items
+      go (inr unserved) = let none : None ≡ Some link = sym unserved.failed_is ∙ is in absurd (cc)
+      go (inl serves) =
+          let risen = link_risen hosts.history 1 0 link links serves.ends serves.shares (sym serves.failed_is ∙ is) in
+          let same : risen.0 ≡ link = omega (arith, risen.1) in
+          subst (λ (l : List L). HasLinkRisen faults link links l) (sym serves.links_are)
+          (subst (λ (n : ℕ). HasLinkRisen faults n links (map link_in serves.ends)) same risen.2)
+
+    pub hosts_clock_risen : hosted.links.clock_failed ≡ true → Rose clock.faults clock.now
+    hosts_clock_risen is = go served_or_not where
+      go : Serving ⊎ IsUnserved links clock hosted.links → Rose clock.faults clock.now
+      go (inr unserved) = let none : false ≡ true = sym unserved.clock_failed_is ∙ is in absurd (cc)
+      go (inl serves) =
+          ticks_risen keep heard (player_at caps (length links + 1)) serves.ticks.3.last (map seen_in serves.ends) serves.ticks.3.between clock
+          serves.ticker_end serves.ticks.3.place serves.ticks.1 serves.ticks.3.ends (sym serves.clock_failed_is ∙ is)
+
+-- The same of a program's end, and its history.
+
+-- one history was recorded and printed
+abbrev HasOneHistory : SinkChange → SinkChange → Type 0
+HasOneHistory rec out =
+    (caps : Limits) × (history : List Entry) × (rest : List ℕ) × Legal caps history × KeepsTheLaws caps history × Gains rec (record_text caps history)
+    × Gains out (printed caps history ++ rest)
+
+risen_by : {L : Type 0} (faults : L → ℕ) (links links_after : List L) (clock : ClockRead) (failed : Option ℕ) (clock_failed : Bool) (stop : Option Room)
+    → status_of (served failed clock_failed stop) ≡ 7 → ((link : ℕ) → failed ≡ Some link → HasLinkRisen faults link links links_after)
+    → (clock_failed ≡ true → Rose clock.faults clock.now) → HasRisen faults (served failed clock_failed stop) links links_after clock
+risen_by faults links links_after clock (Some link) clock_failed stop seven link_risen clock_risen = link_risen link refl
+risen_by faults links links_after clock None true stop seven link_risen clock_risen = clock_risen refl
+risen_by faults links links_after clock None false None seven link_risen clock_risen = absurd (omega (arith, seven))
+risen_by faults links links_after clock None false (Some room) seven link_risen clock_risen = absurd (omega (arith, seven))
+
+module _ {M L : Type 0} (keep : M → ℕ) (heard : M → Option (List ℕ)) (left : L → Option (List Turn)) (faults : L → ℕ) (status : ℕ) (bank : List M)
+    (added : List (ℕ × M)) (rest : List M) (links links_after : List L) (clock : ClockRead) (rec out : SinkChange) where
+  abbrev EndsSo : LiveCommand → List ℕ → Type 0
+  EndsSo command script = EndsCommand keep heard left faults command status script bank added rest links links_after clock rec out
+
+  abbrev PlaysIn : LiveCommand → List Line → List ℕ → List ℕ → Outcome → Type 0
+  PlaysIn command = plays_of keep heard left faults command bank added rest links links_after clock
+
+  written_by : (command : LiveCommand) (script : List ℕ) → EndsSo command script → IsWritten status
+      → (lines : List Line) × (recording : List ℕ) × (text : List ℕ) × (outcome : Outcome) × (status ≡ status_of outcome)
+      × PlaysIn command lines recording text outcome × GainsAll rec recording × GainsAll out text
+  written_by command script ends written = written_of (mode_of command) (PlaysIn command) script (length bank) rec out status ends written
+
+  -- no count of faults rose
+  abbrev AreStill : Type 0
+  AreStill = (map faults links_after ≡ map faults links) × (clock.now ≡ clock.faults)
+
+  module _ (limits : Limits) (bounds : Bounds) (lines : List Line) (recording text : List ℕ) (outcome : Outcome)
+      (plays : PlaysLinks keep heard left faults limits bounds bank links clock added rest links_after lines recording text outcome) where
+    abbrev stop : Option Room
+    stop = option_map room_of (option_or plays.hosted.opening.stop (option_or plays.hosted.unenrolled plays.hosted.links.stop))
+
+    played_still : status_of outcome ≡ 0 → AreStill
+    played_still zero_is =
+        let none = none_failed plays.hosted.links.failed plays.hosted.links.clock_failed stop (sym plays.outcome_is ∙ done_so outcome zero_is) in
+        let still = hosts_still left faults keep heard limits bounds (adds_part lines bank) links clock plays.hosted plays.hosts none.0 none.1 in
+        (ap (map faults) plays.links_are ∙ still.0, still.1)
+
+    played_risen : status_of outcome ≡ 7 → HasRisen faults outcome links links_after clock
+    played_risen seven =
+        let told = plays.hosted.links in
+        subst (λ (o : Outcome). HasRisen faults o links links_after clock) (sym plays.outcome_is)
+        (subst (λ (l : List L). HasRisen faults (served told.failed told.clock_failed stop) links l clock) (sym plays.links_are)
+        (risen_by faults links told.links.items clock told.failed told.clock_failed stop (sym (ap status_of plays.outcome_is) ∙ seven)
+        (hosts_link_risen left faults keep heard limits bounds (adds_part lines bank) links clock plays.hosted plays.hosts)
+        (hosts_clock_risen left faults keep heard limits bounds (adds_part lines bank) links clock plays.hosted plays.hosts)))
+
+  pub live_still : (command : LiveCommand) (script : List ℕ) → EndsSo command script
+      → ((caps : Capacities) → command ≡ live.Lanes caps → AreStill) → status ≡ 0 → AreStill
+  live_still (live.Lanes caps) script ends lanes zero_is = lanes caps refl
+  live_still (live.Serve transport port ports count idle caps) script ends lanes zero_is =
+      let all = written_by (live.Serve transport port ports count idle caps) script ends (inl zero_is) in
+      played_still (live_limits caps) (record { count = count; idle = idle }) all.0 all.1 all.2 all.3 all.5 (sym all.4 ∙ zero_is)
+
+  pub live_edge : (command : LiveCommand) (script : List ℕ) → EndsSo command script → status ≡ 7 → TellsEdge faults links links_after clock out
+  live_edge (live.Lanes caps) script ends seven =
+      let all = written_by (live.Lanes caps) script ends (inr (inr seven)) in
+      absurd (not_failed status all.3 (option_or all.5.unenrolled (first_stop all.5.accounts)) all.4 all.5.outcome_is seven)
+  live_edge (live.Serve transport port ports count idle caps) script ends seven =
+      let all = written_by (live.Serve transport port ports count idle caps) script ends (inr (inr seven)) in
+      let plays = all.5 in
+      let front = printed (live_limits caps) (history_in (texts plays.hosts.history)) in
+      let said = link_faults plays.hosted.links.faults.items in
+      record {
+        outcome = all.3;
+        text = front ++ said;
+        risen = played_risen (live_limits caps) (record { count = count; idle = idle }) all.0 all.1 all.2 all.3 plays (sym all.4 ∙ seven);
+        told = subst (Gains out) (plays.text_is ∙ sym (append_assoc front said (last_text all.3))) all.7.0;
+      }
+
+  pub live_history : (command : LiveCommand) (script : List ℕ) → EndsSo command script → IsWritten status → HasOneHistory rec out
+  live_history (live.Lanes caps) script ends written =
+      let all = written_by (live.Lanes caps) script ends written in
+      let performs = all.5.performs in (
+        live_limits caps,
+        history_in (texts performs.history),
+        lane_faults all.5.accounts ++ last_text all.3,
+        performs.stage.legal,
+        performs.stage.laws,
+        subst (Gains rec) performs.closed.recorded all.6.0,
+        subst (Gains out) all.5.text_is all.7.0,
+      )
+  live_history (live.Serve transport port ports count idle caps) script ends written =
+      let all = written_by (live.Serve transport port ports count idle caps) script ends written in
+      let hosts = all.5.hosts in (
+        live_limits caps,
+        history_in (texts hosts.history),
+        link_faults all.5.hosted.links.faults.items ++ last_text all.3,
+        hosts.stage.legal,
+        hosts.stage.laws,
+        subst (Gains rec) (all.5.recorded ∙ hosts.closed.recorded) all.6.0,
+        subst (Gains out) all.5.text_is all.7.0,
+      )
