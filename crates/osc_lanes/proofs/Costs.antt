@@ -25,8 +25,8 @@ use Rattle.osc_model.specs.Counts.{free_places, free_blocks}
 use Rattle.osc_model.specs.Recordings.{entry_size}
 use Rattle.osc_model.specs.Events.{Event, enrol, submit, add, remove, tick, release, Answer, number, callers_full, queued, units_full, pool_full, refused}
 use Rattle.osc_model.specs.Events.{not_there, ticked, clock_back, nothing_due, record_full, adds_entry, Room, Hit, Call, Entry}
-use Rattle.osc_model.specs.Step.{Stepped, step, decided, leaves, waiting, is_kept, kept_numbered, kept_units, late_count, enter_all, after_submit, add_at, remove_at, matching_calls, calls_of}
-use Rattle.osc_model.specs.Step.{calls_from, calls_of_unit, hits_of, releases, release_first}
+use Rattle.osc_model.specs.Step.{Stepped, step, decided, leaves, waiting, is_kept, kept_numbered, kept_units, late_count, enter_all, after_submit}
+use Rattle.osc_model.specs.Step.{add_at, remove_at, matching_calls, calls_of, calls_from, calls_of_unit, hits_of, releases, release_first}
 use Rattle.osc_model.specs.History.{after}
 use Rattle.osc_model.proofs.Queues.{all_joined}
 use Rattle.osc_model.proofs.Refusals.{decided_none}

@@ -5,7 +5,8 @@ use mir.Syntax.{Ty}
 use denote.Exit.{no}
 use denote.RattleType.{RattleType}
 use denote.Param.{param, arg}
-use denote.Param.Send.{IsSend, IsSync, AllSend, AllSync, sendable, param_send, param_sync, arg_send, arg_sync, recorded_send, recorded_sync, struct_send, struct_sync}
+use denote.Param.Send.{IsSend, IsSync, AllSend, AllSync, sendable, param_send, param_sync, arg_send, arg_sync, recorded_send}
+use denote.Param.Send.{recorded_sync, struct_send, struct_sync}
 use denote.Struct.Declared.{shape}
 use denote.Struct.Struct.{Struct}
 use denote.Struct.Tuple.{TupleAt, type_at}

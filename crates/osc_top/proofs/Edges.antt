@@ -1,7 +1,7 @@
 -- From how a program ends to what became of its links and its clock.
-use Rattle.std.proofs.Common.{◌≡◌, ◌⊎◌, inl, inr, ℕ, suc, ◌+◌, ◌<◌, Bool, true, false, List, [], ◌∷◌, ◌++◌, map, length, Option, Some, None}
+use Rattle.std.proofs.Common.{◌≡◌, ◌≢◌, ◌⊎◌, inl, inr, ℕ, suc, ◌+◌, ◌<◌, Bool, true, false, List, [], ◌∷◌, ◌++◌, map, length, Option, Some, None}
 use Rattle.std.proofs.Common.{if◌then◌else◌, refl, sym, ap, subst, ◌∙◌, append_assoc, arith}
-use Rattle.std.specs.Prelude.{MatchOption}
+use Rattle.std.specs.Prelude.{IfSome, MatchOption}
 use Rattle.std.specs.Option.{option_map, option_or}
 use Rattle.osc_edge.specs.Faults.{Rose}
 use Rattle.osc_atoms.specs.declared.room.Room.{Room as CodeRoom}
@@ -44,7 +44,7 @@ use Rattle.osc_top.specs.Plain.{live_limits}
 use Rattle.osc_top.specs.Printing.{last_text}
 use Rattle.osc_top.specs.Served.{PlaysLinks, adds_part, link_faults}
 use Rattle.osc_top.specs.Sinks.{SinkChange, Gains, GainsAll}
-use Rattle.osc_top.proofs.LiveEnds.{not_failed, written_of}
+use Rattle.osc_top.proofs.LiveEnds.{IsOfScript, any_script, ends_short_of_memory, not_failed, written_of}
 
 -- What a count of faults does, by how a link or the ticker ended.
 
@@ -204,6 +204,14 @@ module _ {M L : Type 0} (keep : M → ℕ) (heard : M → Option (List ℕ)) (le
       → (lines : List Line) × (recording : List ℕ) × (text : List ℕ) × (outcome : Outcome) × (status ≡ status_of outcome)
       × PlaysIn command lines recording text outcome × GainsAll rec recording × GainsAll out text
   written_by command script ends written = written_of (mode_of command) (PlaysIn command) script (length bank) rec out status ends written
+
+  -- want of memory ends any script of any command
+  pub live_short : (said : Option LiveCommand) (source : Option (List ℕ)) → status ≡ 3
+      → IfSome said (λ command. status ≢ 4 → IsOfScript source (EndsSo command))
+  live_short None source is = tt
+  live_short (Some command) source is =
+      λ read. any_script source (EndsSo command)
+      (λ script. ends_short_of_memory (mode_of command) (PlaysIn command) script (length bank) rec out status is)
 
   -- no count of faults rose
   abbrev AreStill : Type 0

@@ -368,7 +368,7 @@ long_so None now P long holds = tt
 long_so (Some all) now P long holds = holds all long.0
 
 -- some script, which is what was left, where that is told
-abbrev IsOfScript : Option (List ℕ) → (List ℕ → Type 0) → Type 0
+abbrev pub IsOfScript : Option (List ℕ) → (List ℕ → Type 0) → Type 0
 IsOfScript left P = (script : List ℕ) × IfSome left (λ all. script ≡ all) × P script
 
 pub whole_script : (left now : Option (List ℕ)) (bytes : List ℕ) (P : List ℕ → Type 0) → IfSome left (λ all. (bytes ≡ all) × (now ≡ Some [])) → P bytes

@@ -13,5 +13,8 @@ pub join_mut-ticker-requires-send-F : goal.join_mut-ticker-requires-send-F
 join_mut-ticker-requires-send-F g c κs within =
     let live = live_sync (param 0 g.row.M) g.M.Method c.type_bounds.send-M in
     closure_send _ _ _
-    (ShrRef _ _ (param 1 g.row.W) ∷ ShrRef _ _ (Live.the_row (param 0 g.row.M) g.M.Method) ∷ MutRef _ _ (Option.the_row Caller.the_row) ∷ MutRef _ _ (param 3 g.row.C) ∷ ShrRef _ _ AtomicU64.the_row ∷ [])
-    (shr_send _ _ _ c.type_bounds.sync-W, (shr_send _ _ _ live, (mut_send _ _ _ token_send, (mut_send _ _ _ c.type_bounds.send-C, (shr_send _ _ _ word_sync, tt)))))
+    (ShrRef _ _ (param 1 g.row.W) ∷ ShrRef _ _ (Live.the_row (param 0 g.row.M) g.M.Method) ∷ MutRef _ _ (Option.the_row Caller.the_row)
+    ∷ MutRef _ _ (param 3 g.row.C) ∷ ShrRef _ _ AtomicU64.the_row ∷ []) (
+      shr_send _ _ _ c.type_bounds.sync-W,
+      (shr_send _ _ _ live, (mut_send _ _ _ token_send, (mut_send _ _ _ c.type_bounds.send-C, (shr_send _ _ _ word_sync, tt)))),
+    )

@@ -5,10 +5,10 @@ use Rattle.osc_words.specs.Commands as said
 use Rattle.osc_words.specs.declared.command.LiveCommand.TheVariants as live
 use Rattle.osc_top.specs.Commands.{mode_of}
 use Rattle.osc_top.specs.Plain.{live_limits}
-use Rattle.osc_top.proofs.Edges.{live_history, live_edge, live_still}
-use Rattle.osc_top.proofs.LiveEnds.{whole_so, long_so, whole_script, long_script, any_script, ends_refused, ends_short_of_memory, cut_fails, done_steady}
+use Rattle.osc_top.proofs.Edges.{live_history, live_edge, live_short, live_still}
+use Rattle.osc_top.proofs.LiveEnds.{whole_so, long_so, whole_script, long_script, ends_refused, cut_fails, done_steady}
 use Rattle.osc_top.proofs.LiveEnds.{may_end_short, live_complete, live_enough, not_lawful}
-use Rattle.osc_top.proofs.Said.{of_said, of_any}
+use Rattle.osc_top.proofs.Said.{of_said}
 use Rattle.osc_top.proofs.Transfers.{left_whole}
 use Rattle.osc_top.proofs.live.live_top.Goals as goal
 
@@ -91,10 +91,8 @@ returns-in-TooLong-clause-enough g c = λ caps is.
 
 pub returns-in-Err-clause-ends : goal.returns-in-Err-clause-ends
 returns-in-Err-clause-ends g c =
-    of_any _ _
-    (λ command read. any_script _ _ (λ script. ends_short_of_memory (mode_of command) _ script _ _ _ _ c.unplayed-in-Err.ensures.status))
+    live_short _ _ _ _ _ _ _ _ _ _ _ _ _ _ _ c.unplayed-in-Err.ensures.status
 
 pub returns-in-NoMemory-clause-ends : goal.returns-in-NoMemory-clause-ends
 returns-in-NoMemory-clause-ends g c =
-    of_any _ _
-    (λ command read. any_script _ _ (λ script. ends_short_of_memory (mode_of command) _ script _ _ _ _ c.unplayed-in-NoMemory.ensures.status))
+    live_short _ _ _ _ _ _ _ _ _ _ _ _ _ _ _ c.unplayed-in-NoMemory.ensures.status
