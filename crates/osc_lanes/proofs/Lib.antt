@@ -23,4 +23,3 @@ pub mod Turning
 pub mod Unstopped
 pub mod Weights
 pub mod Zipping
-mod Crossing

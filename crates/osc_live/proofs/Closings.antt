@@ -99,8 +99,8 @@ pub alike : {S : Type 0} (turn_of : Turn S) (opened : List (List ℕ)) (passes :
     → 0 < length passes → (turn.first_view passes).opened_at ≡ length opened → AreAlike opened passes
 alike turn_of opened [] ours some first = absurd (omega arith)
 alike turn_of opened (p ∷ passes) ours some first = λ k d within.
-    let here : (view (get_or (p ∷ passes) k d)).opened_at ≡ turn_of.opened_at.value = (ours k d within).1 in
-    let there : (view p).opened_at ≡ turn_of.opened_at.value = (ours 0 p (omega arith)).1 in
+    let here : (view (get_or (p ∷ passes) k d)).opened_at ≡ turn_of.table.shared.key.value.1 = (ours k d within).1 in
+    let there : (view p).opened_at ≡ turn_of.table.shared.key.value.1 = (ours 0 p (omega arith)).1 in
     here ∙ (sym there ∙ first)
 
 since_of : (opened : List (List ℕ)) (history since : List Seen) (v : View) → history ≡ entries_of opened ++ since → v.opened_at ≡ length opened

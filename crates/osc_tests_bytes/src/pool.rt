@@ -1,4 +1,5 @@
 // A pool of three blocks, whose chains come and go.
+ghost use Rattle.std.specs.Prelude.{IfOk};
 ghost use Rattle.osc_pool.specs.Holding.{AreApart, IsLive};
 
 use osc_atoms::Room;

@@ -12,12 +12,12 @@ view p = slice_index_or p.badge.views 0 spent
 
 -- the value as it was when the turn was opened
 abbrev pub opened_with : {S : Type 0} → Turn S → S
-opened_with turn = turn.table.shared.key.value
+opened_with turn = turn.table.shared.key.value.0
 
 -- the pass is one of this turn's, and knows how many entries its history had when it was opened
 abbrev pub IsPassOf : {S : Type 0} → Turn S → Pass → Type 0
 IsPassOf turn p = (p.badge.table_id ≡ turn.table.shared.table_id)
-    × ((view p).opened_at ≡ turn.opened_at.value)
+    × ((view p).opened_at ≡ turn.table.shared.key.value.1)
 
 -- the first pass once it has made another
 abbrev pub one_more : View → View

@@ -53,13 +53,14 @@ impl<S: Kept> Turn<S> {
         ensures stands { S.stands state (S.history state) }
         ensures err { IfErr result (λ refused. refused.1 ≡ state) }
     {
-        let about = Snapshot::of(&state);
         let entries = state.entries();
         let word = 2 * entries;
-        let opened_at = Snapshot::of(&entries);
+        let opened = (state, entries);
+        let about = Snapshot::of(&opened);
+        let (state, _) = opened;
         let slots = one_slot(alloc, state)?;
         match Table::new(alloc, &[word, 1], slots, &about) {
-            Ok((table, seat)) => Ok((Turn { table, opened_at }, Pass::of(seat))),
+            Ok((table, seat)) => Ok((Turn { table }, Pass::of(seat))),
             Err(Refused { slots }) => Err((AllocError, only_state(slots))),
         }
     }

@@ -14,10 +14,10 @@ pub struct Law<S> {
     value: PhantomData<S>,
 }
 
-impl<S: Kept> TableRule<Option<S>, View, Snapshot<S>> for Law<S> {
-    ghost holds = { λ about. Turns S.stands S.kind (S.history about.value) };
+impl<S: Kept> TableRule<Option<S>, View, Snapshot<(S, u64)>> for Law<S> {
+    ghost holds = { λ about. Turns S.stands S.kind (S.history about.value.0) };
 
-    ghost first = { λ about. reopening (S.kind about.value) (S.history about.value) };
+    ghost first = { λ about. reopening (S.kind about.value.0) (S.history about.value.0) };
 }
 
 /// The turn's word is read.

@@ -11,8 +11,7 @@ use std::snapshot::Snapshot;
 /// A value that one call at a time changes, and a word that counts the entries of its history.
 #[derive(Drop)]
 pub struct Turn<S: Kept> {
-    pub(crate) table: Table<Option<S>, View, Snapshot<S>, Law<S>, Global>,
-    // How many entries the history had when the turn was opened. It has no bytes.
-    pub(crate) opened_at: Snapshot<u64>,
+    // Its key, which has no bytes, is the value when the turn was opened, and how many entries its history had then.
+    pub(crate) table: Table<Option<S>, View, Snapshot<(S, u64)>, Law<S>, Global>,
     ghost sized: { (table.shared.table_id.words ≡ 2) × (table.shared.table_id.slots ≡ 1) },
 }

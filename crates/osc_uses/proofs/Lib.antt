@@ -1,4 +1,3 @@
-mod Crossing
 pub mod Enrolments
 pub mod FirstCaller
 pub mod Gathered

@@ -1,17 +1,10 @@
-use mathlib.Core.List.{[], ◌∷◌}
-use denote.Ref.{ShrRef}
-use denote.Param.{param}
-use denote.Param.Send.{shr_sync}
 use Rattle.std.proofs.Common.{◌≡◌, length, arith}
-use Rattle.std.specs.contracts.alloc.Global as Global
 use Rattle.std.specs.List.{AllZip, AllByRecursion}
 use Rattle.osc_live.specs.Seen.{IsTokenOf}
 use Rattle.osc_lanes.specs.declared.plan.LanePlan.{LanePlan}
 use Rattle.osc_lanes.specs.declared.plan.LaneEnd.{LaneEnd}
 use Rattle.osc_lanes.specs.Ends.{seen_by, player_of, account_of, IsEndOf}
 use Rattle.osc_lanes.specs.Shares.{IsRemovedAt}
-use Rattle.osc_live.specs.contracts.live.Live as Live
-use Rattle.osc_lanes.proofs.Crossing.{live_sync, global_sync, closure_sync}
 use Rattle.osc_lanes.proofs.Staying.{removed_then}
 use Rattle.osc_lanes.proofs.Zipping.{zipped_jobs, all_of_zip, weaker_zip}
 use Rattle.osc_lanes.proofs.playing.play.Goals as goal
@@ -48,10 +41,3 @@ returns-clause-removed g c =
     plan.boxes.items
     (account_of end) (seen_by plan.caller) (seen_by end.caller) p.1.plays) _ _
     (each_end g (goal.at.returns-clause-removed g c).In_ok-all)
-
-pub map_vec-requires-sync-F : goal.map_vec-requires-sync-F
-map_vec-requires-sync-F g c κs within =
-    let live = live_sync (param 0 g.row.M) g.M.Method c.type_bounds.send-M in
-    closure_sync _ _ _
-    (ShrRef _ _ (param 1 g.row.W) ∷ ShrRef _ _ Global.the_row ∷ ShrRef _ _ (Live.the_row (param 0 g.row.M) g.M.Method) ∷ ShrRef _ _ (param 2 g.row.G) ∷ [])
-    (shr_sync _ _ _ c.type_bounds.sync-W, (shr_sync _ _ _ global_sync, (shr_sync _ _ _ live, (shr_sync _ _ _ c.type_bounds.sync-G, tt))))

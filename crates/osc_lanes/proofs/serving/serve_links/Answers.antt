@@ -1,17 +1,9 @@
-use mathlib.Core.List.{[], ◌∷◌}
-use denote.Ref.{ShrRef}
-use denote.Param.{param}
-use denote.Param.Send.{shr_sync}
 use Rattle.std.proofs.Common.{◌≡◌, length, arith}
-use Rattle.std.specs.contracts.alloc.Global as Global
 use Rattle.std.specs.List.{AllZip}
 use Rattle.osc_live.specs.Seen.{IsTokenOf}
 use Rattle.osc_lanes.specs.declared.link_plan.LinkPlan.{LinkPlan}
 use Rattle.osc_lanes.specs.declared.link_plan.LinkEnd.{LinkEnd}
 use Rattle.osc_lanes.specs.Links.{IsLinkEnd}
-use Rattle.osc_live.specs.contracts.live.Live as Live
-use Rattle.osc_lanes.specs.contracts.served.Bounds as Bounds
-use Rattle.osc_lanes.proofs.Crossing.{live_sync, global_sync, bounds_sync, closure_sync}
 use Rattle.osc_lanes.proofs.Zipping.{zipped_jobs, all_of_zip, weaker_zip}
 use Rattle.osc_lanes.proofs.serving.serve_links.Goals as goal
 use Rattle.osc_lanes.proofs.serving.serve_links.Goals.{In_ok-all}
@@ -37,19 +29,3 @@ pub returns-clause-ours : goal.returns-clause-ours
 returns-clause-ours g c =
     all_of_zip _ (λ end. IsTokenOf c.args.live.now.turn c.args.live.now.caps end.caller.pass) (λ plan end p. p.0) _ _
     (each_end g (goal.at.returns-clause-ours g c).In_ok-all)
-
-pub map_vec-requires-sync-F : goal.map_vec-requires-sync-F
-map_vec-requires-sync-F g c κs within =
-    let live = live_sync (param 0 g.row.M) g.M.Method c.type_bounds.send-M in
-    closure_sync _ _ _
-    (ShrRef _ _ (param 1 g.row.W) ∷ ShrRef _ _ Global.the_row ∷ ShrRef _ _ (Live.the_row (param 0 g.row.M) g.M.Method) ∷ ShrRef _ _ Bounds.the_row
-    ∷ ShrRef _ _ (param 3 g.row.G) ∷ []) (
-      shr_sync _ _ _ c.type_bounds.sync-W,
-      (
-        shr_sync _ _ _ global_sync,
-        (
-          shr_sync _ _ _ live,
-          (shr_sync _ _ _ bounds_sync, (shr_sync _ _ _ c.type_bounds.sync-G, tt)),
-        ),
-      ),
-    )
