@@ -1,10 +1,16 @@
 #!/bin/sh
-# Sends datagrams over loopback to `oscd serve` and to a liblo server, one after another, and prints the table of README.md.
+# Sends datagrams over loopback to `oscd serve` and to a liblo server, one after another, and prints the table of README.md;
+# with --tcp it sends packets over one connection of TCP, each after its size.
 #
-#     bench/datagrams.sh [RATES [SECONDS [PORT]]]        as bench/datagrams.sh "10000 50000" 5 9000
+#     bench/datagrams.sh [--tcp] [RATES [SECONDS [PORT]]]        as bench/datagrams.sh "10000 50000" 5 9000
 #
 # It needs cc, liblo-dev and time, and what bin/oscd and bin/osc need, and at least three processors that are idle.
 set -eu
+over=udp flag=
+if [ "${1:-}" = --tcp ]; then
+    over=tcp flag=--tcp
+    shift
+fi
 rates=${1:-10000 50000 100000}
 seconds=${2:-5}
 port=${3:-9000}
@@ -22,17 +28,18 @@ oscd="$top/crates/oscd/out/oscd"
 
 awk 'BEGIN { for (k = 0; k < 1000; k++) printf "add /g%d/n%d\n", k / 100, k % 100 }' > "$work/adds"
 
-# Ends once a program has bound the port.
+# Ends once a program has bound the port, and over TCP listens to it.
 await_port() {
-    digits=$(printf ':%04X ' "$port")
-    until grep -q "$digits" /proc/net/udp /proc/net/udp6; do sleep 0.01; done
+    digits=$(printf ':%04X 0*:0000 ' "$port")
+    until grep -q "$digits" "/proc/net/$over" "/proc/net/${over}6"; do sleep 0.01; done
 }
 
-# A server of the port, which ends after so many datagrams or two seconds without one; its time goes to $work/time.
+# A server of the port, which ends after so many packets, or two seconds without one, or with the connection; its time goes
+# to $work/time.
 serve() { # NAME COUNT
     case $1 in
-    liblo) /usr/bin/time -f '%U %S' -o "$work/time" "$work/lo_server" "$port" "$2" > "$work/out" ;;
-    osc) /usr/bin/time -f '%U %S' -o "$work/time" "$oscd" serve --port "$port" --count "$2" --idle 40 \
+    liblo) /usr/bin/time -f '%U %S' -o "$work/time" "$work/lo_server" "$over" "$port" "$2" > "$work/out" ;;
+    osc) /usr/bin/time -f '%U %S' -o "$work/time" "$oscd" serve $flag --port "$port" --count "$2" --idle 40 \
         --recording 1073741824 "$work/recording" < "$work/adds" > "$work/out" ;;
     esac
 }
@@ -56,27 +63,27 @@ printing() { # NAME
     processor_time
 }
 
-echo "Calls of datagrams that were sent at so many a second, for $seconds seconds, in three runs, and microseconds of processor"
-echo "time for each call, the least of the three:"
+echo "Calls of packets that were sent over $over at so many a second, for $seconds seconds, in three runs, the milliseconds that"
+echo "sending took, and microseconds of processor time for each call, the least of the three:"
 echo
-echo "| a second | program | sent | called | microseconds | with printing |"
-echo "|---|---|---|---|---|---|"
+echo "| a second | program | sent | called | milliseconds | microseconds | with printing |"
+echo "|---|---|---|---|---|---|---|"
 for rate in $rates; do
     count=$((rate * seconds))
     for name in liblo osc; do
-        called= least= whole=
+        called= sending= least= whole=
         for try in 1 2 3; do
             serve "$name" "$count" &
             await_port
-            "$work/send_datagrams" "$port" 0 "$count" "$rate" > "$work/sent"
+            "$work/send_datagrams" "$over" "$port" 0 "$count" "$rate" > "$work/sent"
             wait
             got=$(calls "$name")
             took=$(processor_time)
             served=$((took - $(printing "$name")))
-            called="$called $got"
+            called="$called $got" sending="$sending $(cut -d ' ' -f 1 "$work/sent")"
             least=$(awk -v a="$least" -v b="$served" -v n="$got" 'BEGIN { b /= n; print a == "" || b < a ? b : a }')
             whole=$(awk -v a="$whole" -v b="$took" -v n="$got" 'BEGIN { b /= n; print a == "" || b < a ? b : a }')
         done
-        echo "| $rate | $name | $count |$called | $(printf %.2f "$least") | $(printf %.2f "$whole") |"
+        echo "| $rate | $name | $count |$called |$sending | $(printf %.2f "$least") | $(printf %.2f "$whole") |"
     done
 done

@@ -1,12 +1,12 @@
 /* Serves a port with liblo, with a method at each address of the workload, which counts its calls. Ends after COUNT
-   datagrams, or after two seconds without one, and prints the number of calls.
+   packets, or after two seconds without one, and prints the number of calls.
 
-       lo_server PORT COUNT */
+       lo_server udp|tcp PORT COUNT */
 #include "workload.h"
 #include <lo/lo.h>
 #include <stdlib.h>
 
-enum { IDLE_MILLISECONDS = 2000 };
+enum { WAIT_MILLISECONDS = 20, IDLE_WAITS = 100 };
 
 static unsigned long calls;
 
@@ -26,11 +26,11 @@ static void print_fault(int number, const char *text, const char *where) {
 }
 
 int main(int count_of_words, char **words) {
-    if (count_of_words != 3) {
-        fputs("lo_server PORT COUNT\n", stderr);
+    if (count_of_words != 4) {
+        fputs("lo_server udp|tcp PORT COUNT\n", stderr);
         return 2;
     }
-    lo_server server = lo_server_new_with_proto(words[1], LO_UDP, print_fault);
+    lo_server server = lo_server_new_with_proto(words[2], strcmp(words[1], "tcp") ? LO_UDP : LO_TCP, print_fault);
     if (!server) return 1;
     for (int group = 0; group < GROUPS; group++)
         for (int name = 0; name < NAMES; name++) {
@@ -38,8 +38,13 @@ int main(int count_of_words, char **words) {
             snprintf(address, sizeof address, "/g%d/n%d", group, name);
             lo_server_add_method(server, address, NULL, count_call, NULL);
         }
-    long count = atol(words[2]);
-    while (count > 0 && lo_server_recv_noblock(server, IDLE_MILLISECONDS) > 0) count--;
+    long count = atol(words[3]);
+    int idle = 0; /* waits in a row; over TCP a read that ends within a packet counts as one */
+    while (count > 0 && idle < IDLE_WAITS) {
+        int got = lo_server_recv_noblock(server, WAIT_MILLISECONDS) > 0;
+        count -= got;
+        idle = got ? 0 : idle + 1;
+    }
     printf("%lu\n", calls);
     return 0;
 }

@@ -2,7 +2,7 @@
 # Plays the same scripts on osc and on a program over liblo, one after another, and prints the tables of README.md.
 #
 #     bench/run.sh [KINDS [LENGTHS]]        as bench/run.sh "0 2" "10 100"; all of them by default
-#     bench/run.sh datagrams [..]           datagrams over loopback: datagrams.sh
+#     bench/run.sh datagrams [..]           datagrams over loopback, or with --tcp a stream: datagrams.sh
 #
 # It needs cc, liblo-dev, valgrind and time, and what bin/osc needs.
 set -eu

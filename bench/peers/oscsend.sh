@@ -1,7 +1,7 @@
 #!/bin/sh
-# Sends messages by oscsend: oscsend.sh PORT
+# Sends messages by oscsend: oscsend.sh URL
 set -eu
-to="127.0.0.1 $1"
+to=$1
 oscsend $to /1/fader1 f 0.5
 oscsend $to /light/dim i 7
 oscsend $to /cue/name s "act two"
