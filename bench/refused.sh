@@ -22,7 +22,7 @@ run() {
     shift 2
     rm -f "$work/rec"
     status=0
-    (cd "$work" && REFUSE=$refused COUNTED=$work/counted LD_PRELOAD=$work/refuse.so timeout 60 \
+    (cd "$work" && timeout 60 env REFUSE="$refused" COUNTED="$work/counted" LD_PRELOAD="$work/refuse.so" \
         "$top/crates/$program/out/$program" "$@" < "$work/input" > "$work/out" 2> "$work/errors") || status=$?
 }
 
