@@ -8,7 +8,7 @@
 set -eu
 over=udp flag=
 if [ "${1:-}" = --tcp ]; then
-    over=tcp flag=--tcp
+    over=tcp flag="--tcp --units 65536 --blocks 65536" # what a connection held back comes at once
     shift
 fi
 rates=${1:-10000 50000 100000}
@@ -51,6 +51,12 @@ calls() { # NAME
     esac
 }
 
+# The packets that had no place among the units or the blocks.
+refusals() { # NAME
+    [ "$1" = liblo ] && echo 0 && return
+    grep -c '^submit [0-9]* [a-z]*-full ' "$work/out" || true
+}
+
 # The microseconds of processor time that the last run of a server took.
 processor_time() {
     awk '{ printf "%d\n", ($1 + $2) * 1000000 }' "$work/time"
@@ -63,27 +69,28 @@ printing() { # NAME
     processor_time
 }
 
-echo "Calls of packets that were sent over $over at so many a second, for $seconds seconds, in three runs, the milliseconds that"
-echo "sending took, and microseconds of processor time for each call, the least of the three:"
+echo "Packets that were sent over $over at so many a second, for $seconds seconds, in three runs: how many were called and refused,"
+echo "the milliseconds that sending took, and microseconds of processor time for each call, the least of the three:"
 echo
-echo "| a second | program | sent | called | milliseconds | microseconds | with printing |"
-echo "|---|---|---|---|---|---|---|"
+echo "| a second | program | sent | called | refused | milliseconds | microseconds | with printing |"
+echo "|---|---|---|---|---|---|---|---|"
 for rate in $rates; do
     count=$((rate * seconds))
     for name in liblo osc; do
-        called= sending= least= whole=
+        called= refused= sending= least= whole=
         for try in 1 2 3; do
             serve "$name" "$count" &
             await_port
             "$work/send_datagrams" "$over" "$port" 0 "$count" "$rate" > "$work/sent"
             wait
             got=$(calls "$name")
+            refused="$refused $(refusals "$name")"
             took=$(processor_time)
             served=$((took - $(printing "$name")))
             called="$called $got" sending="$sending $(cut -d ' ' -f 1 "$work/sent")"
             least=$(awk -v a="$least" -v b="$served" -v n="$got" 'BEGIN { b /= n; print a == "" || b < a ? b : a }')
             whole=$(awk -v a="$whole" -v b="$took" -v n="$got" 'BEGIN { b /= n; print a == "" || b < a ? b : a }')
         done
-        echo "| $rate | $name | $count |$called |$sending | $(printf %.2f "$least") | $(printf %.2f "$whole") |"
+        echo "| $rate | $name | $count |$called |$refused |$sending | $(printf %.2f "$least") | $(printf %.2f "$whole") |"
     done
 done
