@@ -1,6 +1,6 @@
 pub mod Positions
 pub mod Outcomes
-pub mod Bytes
+pub mod AllBytes
 pub mod Numbers
 pub mod Paddings
 pub mod Strings

@@ -11,7 +11,7 @@ use Rattle.osc_atoms.specs.Faults.{short}
 use Rattle.osc_atoms.specs.Reading.{word_read, tag_read}
 use Rattle.osc_atoms.specs.Standing.{StartsWithWord, StartsWithTag, NamesShort}
 use Rattle.osc_atoms.proofs.Outcomes.{Outcome}
-use Rattle.osc_atoms.proofs.Bytes.{front_bytes, rest_bytes}
+use Rattle.osc_atoms.proofs.AllBytes.{front_bytes, rest_bytes}
 
 pub word_stands : (bytes : List ℕ) (at number : ℕ) → AreBytes bytes → at + 4 ≤ length bytes → number ≡ from_be_bytes w32 (take 4 (drop at bytes))
     → StartsWithWord bytes at number

@@ -3,6 +3,7 @@
 
 mod appending;
 mod blob;
+mod bytes;
 mod fault;
 pub mod laws;
 mod limits;
@@ -17,6 +18,7 @@ pub use appending::{
     append_blob, append_string, append_tag, append_word, put_blob, put_string, put_tag, put_word,
 };
 pub use blob::{blob_at, known_blob_at};
+pub use bytes::Bytes;
 pub use fault::Fault;
 pub use limits::MAX_BYTES;
 pub use number::{known_tag_at, known_word_at, tag_at, word_at};

@@ -1,5 +1,5 @@
 -- What the calls' answers stand for.
-use Rattle.std.specs.Prelude.{◌≡◌, ℕ, List, length}
+use Rattle.std.specs.Prelude.{◌≡◌, ℕ, List, [], ◌∷◌, length}
 use Rattle.osc_tree.specs.Adding.{taken, under_method, is_container, methods_full, nodes_full}
 use Rattle.osc_model.specs.Events.{Answer, Hit, number, callers_full, queued, units_full}
 use Rattle.osc_model.specs.Events.{pool_full, added, refused, removed, not_there, ticked}
@@ -58,6 +58,11 @@ module _ {M : Type 0} where
   OnRefused (Added id) holds = Unit {0}
   OnRefused (Refused why address method) holds = holds address method
 
+  -- the box of an add that was refused
+  abbrev pub handed_back : Adding M → List M
+  handed_back (Added id) = []
+  handed_back (Refused why address method) = method ∷ []
+
   -- the answer to a removal
   abbrev pub removing_of : Removing M → Answer
   removing_of (removing.Removed id method) = removed id
@@ -68,6 +73,11 @@ module _ {M : Type 0} where
   abbrev pub OnRemoved : Removing M → (ℕ → M → Type 0) → Type 0
   OnRemoved (removing.Removed id method) holds = holds id method
   OnRemoved _ holds = Unit {0}
+
+  -- the box of a method that was removed, with its id
+  abbrev pub handed_out : Removing M → List (ℕ × M)
+  handed_out (removing.Removed id method) = (id, method) ∷ []
+  handed_out _ = []
 
   -- where nothing is removed, this holds
   abbrev pub OnKept : Removing M → Type 0 → Type 0

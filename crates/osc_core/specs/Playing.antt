@@ -1,7 +1,7 @@
 -- How the parts of a performance fit together.
 use Rattle.std.specs.Prelude.{◌≡◌, ℕ, ◌+◌, ◌≤◌, [], length, None}
 use Rattle.osc_model.specs.State.{State, AreNumbered}
-use Rattle.osc_model.specs.Limits.{max_recording}
+use Rattle.osc_model.specs.Limits.{max_methods, max_recording}
 use Rattle.osc_model.specs.Events.{Event, enrol, submit, tick, Answer, record_full}
 use Rattle.osc_model.specs.Recordings.{IsRecordable, entry_text}
 use Rattle.osc_model.specs.Step.{decided}
@@ -30,7 +30,7 @@ pub record AreSmall (server : State) (count : ℕ) : Type 0 where
   pub units : server.next_unit ≤ max_recording
   pub numbers : AreNumbered server.next_unit server.queue
   pub callers : server.callers ≤ 1024
-  pub methods : server.caps.methods ≤ 65536
+  pub methods : server.caps.methods ≤ max_methods
   pub few : count ≤ max_recording
 
 -- an event for whose entry there is no room

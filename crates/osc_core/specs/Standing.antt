@@ -53,8 +53,7 @@ abbrev pub AreMarked : List (List ℕ) → List Told → Type 0
 AreMarked texts boxes = AllByRecursion (λ told. CarriesMark texts told.id (mark_of told)) boxes
 
 -- The texts are those of a server's history, which is legal and which its boxes have heard, and
--- each box has the mark of
--- its id's entry; and there are so few that the turn can count them.
+-- each box has the mark of its id's entry; and there are so few that the turn can count them.
 pub record StandsFor (performance : Performance) (boxes : List Told)
     (texts : List (List ℕ)) : Type 0 where
   pub legal : Legal performance.caps performance.history

@@ -1,4 +1,5 @@
 -- Inside the crate: how the messages of queued units are stored, each unit's in a chain of its own.
+use Rattle.osc_packet.specs.declared.limits.TheConstants.{MAX_STORED}
 use Rattle.osc_atoms.specs.declared.limits.TheConstants.{MAX_BYTES}
 use Rattle.std.specs.Prelude.{◌≡◌, ℕ, ◌≤◌, IsTrue, List, [], ◌∷◌}
 use Rattle.std.specs.List.{AllByRecursion, list_all}
@@ -22,7 +23,7 @@ pub record IsStored (held : List (List ℕ)) (stored : Stored) : Type 0 where
   pub live : IsLive stored.chain held
   pub holds : held_by stored.chain held ≡ framed messages
   pub read : IsTrue (list_all (is_message MAX_BYTES) messages)
-  pub small : stored_size messages ≤ 65508
+  pub small : stored_size messages ≤ MAX_STORED
 
 -- each unit is stored, and no two have one chain
 abbrev pub AreStored : List (List ℕ) → List (Item Stored) → Type 0

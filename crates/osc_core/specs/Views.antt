@@ -1,4 +1,5 @@
 -- Inside the crate: what the parts of a server stand for.
+use Rattle.osc_packet.specs.declared.limits.TheConstants.{MAX_STORED}
 use Rattle.std.specs.Prelude.{◌≡◌, ℕ, ◌<◌, ◌≤◌, List, map, All}
 use Rattle.std.specs.List.{AllByRecursion}
 use Rattle.osc_pool.specs.Holding.{used_blocks}
@@ -41,4 +42,4 @@ pub record IsRunning (tree : Registry) (hits : HitList) (held : List (List ℕ))
   pub methods : AreRegistered tree hits next_id
   pub units : AreQueued held queue.items next_unit
   pub few_callers : callers ≤ caller_limit
-  pub reserved : 65508 ≤ bytes_room
+  pub reserved : MAX_STORED ≤ bytes_room

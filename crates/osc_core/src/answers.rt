@@ -1,4 +1,17 @@
 //! What the calls of the server answer.
+ghost use Rattle.std.specs.Prelude.{◌≡◌};
+ghost use Rattle.std.specs.Option.{option_map};
+ghost use Rattle.osc_model.specs.Events.{room_in};
+ghost use Rattle.osc_record.specs.Shown.{room_of};
+ghost use Rattle.osc_core.specs.Answers.{
+  enrolled_of,
+  submitted_of,
+  refusal_of,
+  adding_of,
+  removing_of,
+  ticking_of,
+};
+
 use osc_atoms::Room;
 use osc_pattern::Address;
 
@@ -13,6 +26,18 @@ pub enum Enrolled {
     CallersFull,
 }
 
+impl Enrolled {
+    /// How much the entry needs and how much is free, where the recording had no room for it.
+    pub fn stop(&self) -> Option<Room>
+        ensures { option_map room_of result ≡ room_in (enrolled_of self.now) }
+    {
+        match self {
+            Enrolled::RecordFull(room) => Some(*room),
+            Enrolled::Number(_) | Enrolled::CallersFull => None,
+        }
+    }
+}
+
 /// What a submit is answered.
 #[derive(Clone, Copy, Debug, PartialEq, Eq)]
 pub enum Submitted {
@@ -25,6 +50,18 @@ pub enum Submitted {
     UnitsFull(Room),
     /// The packet's units that are kept take more blocks of 64 bytes than are free.
     PoolFull(Room),
+}
+
+impl Submitted {
+    /// How much the entry needs and how much is free, where the recording had no room for it.
+    pub fn stop(&self) -> Option<Room>
+        ensures { option_map room_of result ≡ room_in (submitted_of self.now) }
+    {
+        match self {
+            Submitted::RecordFull(room) => Some(*room),
+            Submitted::Queued { .. } | Submitted::UnitsFull(_) | Submitted::PoolFull(_) => None,
+        }
+    }
 }
 
 /// Why a method isn't added: the first of these that applies.
@@ -44,6 +81,22 @@ pub enum AddRefusal {
     NodesFull(Room),
 }
 
+impl AddRefusal {
+    /// How much the entry needs and how much is free, where the recording had no room for it.
+    pub fn stop(&self) -> Option<Room>
+        ensures { option_map room_of result ≡ room_in (refusal_of self.now) }
+    {
+        match self {
+            AddRefusal::RecordFull(room) => Some(*room),
+            AddRefusal::Taken(_)
+            | AddRefusal::UnderMethod(_)
+            | AddRefusal::IsContainer
+            | AddRefusal::MethodsFull(_)
+            | AddRefusal::NodesFull(_) => None,
+        }
+    }
+}
+
 /// What an add is answered.
 #[derive(Drop)]
 pub enum Adding<M> {
@@ -57,6 +110,18 @@ pub enum Adding<M> {
     },
 }
 
+impl<M> Adding<M> {
+    /// How much the entry needs and how much is free, where the recording had no room for it.
+    pub fn stop(&self) -> Option<Room>
+        ensures { option_map room_of result ≡ room_in (adding_of self.now) }
+    {
+        match self {
+            Adding::Added(_) => None,
+            Adding::Refused { why, .. } => why.stop(),
+        }
+    }
+}
+
 /// What a removal is answered.
 #[derive(Drop)]
 pub enum Removing<M> {
@@ -68,6 +133,18 @@ pub enum Removing<M> {
     NotThere,
 }
 
+impl<M> Removing<M> {
+    /// How much the entry needs and how much is free, where the recording had no room for it.
+    pub fn stop(&self) -> Option<Room>
+        ensures { option_map room_of result ≡ room_in (removing_of self.now) }
+    {
+        match self {
+            Removing::RecordFull(room) => Some(*room),
+            Removing::Removed { .. } | Removing::NotThere => None,
+        }
+    }
+}
+
 /// What a tick is answered.
 #[derive(Clone, Copy, Debug, PartialEq, Eq)]
 pub enum Ticking {
@@ -77,6 +154,18 @@ pub enum Ticking {
     RecordFull(Room),
     /// The moment is before the clock, which stays at this one.
     ClockBack(u64),
+}
+
+impl Ticking {
+    /// How much the entry needs and how much is free, where the recording had no room for it.
+    pub fn stop(&self) -> Option<Room>
+        ensures { option_map room_of result ≡ room_in (ticking_of self.now) }
+    {
+        match self {
+            Ticking::RecordFull(room) => Some(*room),
+            Ticking::Ticked | Ticking::ClockBack(_) => None,
+        }
+    }
 }
 
 /// What a release is answered.

@@ -1,4 +1,5 @@
 // The calls that a release makes.
+ghost use Rattle.osc_model.specs.Limits.{max_methods, release_head};
 ghost use Rattle.std.specs.Prelude.{◌≡◌, ◌+◌, ◌*◌, ◌<◌, ◌≤◌, ◌^◌, ℕ, List, length, map, take, Some};
 ghost use Rattle.std.specs.Prelude.{None, IsTrue, IfOk, IfErr, OnOk, OnErr, vec_capacity};
 ghost use Rattle.osc_pattern.specs.Methods.{Method};
@@ -33,7 +34,7 @@ pub(crate) fn release_unit<M: Called>(
 ) -> Result<u32, Room>
     requires limit { tree.now.method_limit ≤ hits.old.limit }
     requires few { length messages < 2 ^ 32 }
-    requires few_methods { tree.now.method_limit ≤ 65536 }
+    requires few_methods { tree.now.method_limit ≤ max_methods }
     requires caller { caller < 2 ^ 31 }
     requires unit { unit < 2 ^ 63 }
     requires whole { recorder.old.begun ≡ None }
@@ -76,10 +77,10 @@ fn start_release(recorder: &mut Recorder, caller: u32, unit: u64, calls: u64) ->
     requires whole { recorder.old.begun ≡ None }
     requires small { recorder.old.caps.recording < 2 ^ 32 }
     ensures count { IfOk result (λ count. count ≡ calls) }
-    ensures fits { OnOk result (length (recording_text recorder.old) + (44 + 8 * calls)
+    ensures fits { OnOk result (length (recording_text recorder.old) + (release_head + 8 * calls)
         ≤ recorder.old.caps.recording) }
     ensures begun { OnOk result (recorder.new ≡ with_release recorder.old caller unit calls) }
-    ensures full { IfErr result (λ room. TellsRoom (Some room) recorder.old (44 + 8 * calls)) }
+    ensures full { IfErr result (λ room. TellsRoom (Some room) recorder.old (release_head + 8 * calls)) }
     ensures same { OnErr result (recorder.new ≡ recorder.old) }
 {
     if let Some(room) = shortage(recorder, release_size(calls)) {
@@ -94,7 +95,7 @@ fn start_release(recorder: &mut Recorder, caller: u32, unit: u64, calls: u64) ->
 fn count_calls(tree: &Tree, hits: &mut Hits, messages: Messages<'_>) -> u64
     requires limit { tree.now.method_limit ≤ hits.old.limit }
     requires few { length messages < 2 ^ 32 }
-    requires few_methods { tree.now.method_limit ≤ 65536 }
+    requires few_methods { tree.now.method_limit ≤ max_methods }
     ensures count { result ≡ length (calls_from tree.now.methods 0 messages.entry) }
     ensures small { result < 2 ^ 48 }
     ensures limit { hits.new.limit ≡ hits.old.limit }

@@ -1,4 +1,5 @@
 // The tables of the server: all but its boxes and its recording.
+ghost use Rattle.osc_model.specs.Limits.{max_methods};
 ghost use Rattle.std.specs.Prelude.{◌≡◌, ◌+◌, ◌<◌, ◌≤◌, ◌^◌, ◌++◌, ◌∷◌, [], length, map, All};
 ghost use Rattle.std.specs.Prelude.{Contains, IfOk, IfErr, OnOk, OnErr, IsTrue, None, Some, IsSome};
 ghost use Rattle.std.specs.Prelude.{vec_capacity};
@@ -20,7 +21,7 @@ ghost use Rattle.osc_core.specs.Playing.{tables};
 use crate::answers::{Enrolled, Releasing, Removing, Submitted, Ticking};
 use crate::calls::release_unit;
 use crate::messages::Messages;
-use crate::store::{MAX_STORED, Store, Stored};
+use crate::store::{Store, Stored};
 use crate::units::{enter_all, take_first};
 use osc_atoms::Room;
 use osc_method::Method;
@@ -95,7 +96,7 @@ impl Server {
             hits: Hits::open(alloc, caps.methods())?,
             queue: Queue::open(alloc, caps.units())?,
             store: Store::open(alloc, caps.blocks())?,
-            bytes: Vec::with_capacity(alloc, MAX_STORED)?,
+            bytes: Vec::with_capacity(alloc, MAX_STORED as usize)?,
             clock: 1,
             next_id: 0,
             next_unit: 0,
@@ -125,8 +126,8 @@ impl Server {
         ensures entry { IsTrue (adds_entry (submitted_of result)) }
         ensures state { self.new ≡ (decided self.old (submit packet.now)).state }
     {
-        let count = packet.count();
         let Need {
+            count,
             places: keeps,
             blocks: need,
         } = self.late.need(self.clock, packet);
@@ -230,7 +231,7 @@ impl Server {
         recorder: &mut Recorder,
         boxes: &mut Vec<(u32, M)>,
     ) -> Releasing
-        requires methods { self.old.caps.methods ≤ 65536 }
+        requires methods { self.old.caps.methods ≤ max_methods }
         requires caller { caller < 2 ^ 31 }
         requires units { self.old.next_unit < 2 ^ 63 }
         requires whole { recorder.old.begun ≡ None }

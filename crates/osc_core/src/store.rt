@@ -1,4 +1,5 @@
 // The messages of the queued units, in blocks that are reserved at opening.
+ghost use Rattle.osc_packet.specs.declared.limits.TheConstants.{MAX_STORED};
 ghost use Rattle.osc_atoms.specs.declared.limits.TheConstants.{MAX_BYTES};
 ghost use Rattle.std.specs.Prelude.{◌≡◌, ◌+◌, ◌<◌, ◌≤◌, ◌^◌, ◌++◌, [], length, replicate, IsTrue};
 ghost use Rattle.std.specs.Prelude.{IfOk, vec_len, vec_capacity};
@@ -11,13 +12,10 @@ ghost use Rattle.osc_pool.specs.Holding.{KeepsOthers};
 ghost use Rattle.osc_core.specs.Frames.{framed, messages_in, AreFramed};
 ghost use Rattle.osc_core.specs.Stored.{unit_in, IsStored};
 
-use osc_packet::{Unit, UnitMessages};
+use osc_packet::{MAX_STORED, Unit, UnitMessages};
 use osc_pool::{Chain, Pool};
 use std::alloc::{AllocError, Global};
 use std::marker::Model;
-
-/// How many bytes the messages of one unit take at most, each after its length.
-pub(crate) const MAX_STORED: usize = 65_508;
 
 /// A unit whose messages are in a store.
 #[derive(Drop)]
@@ -40,12 +38,13 @@ pub(crate) struct Store {
 
 impl Model for Store {
     ghost use Rattle.std.specs.Prelude.{ℕ, ◌≤◌, List, vec_capacity};
+    ghost use Rattle.osc_packet.specs.declared.limits.TheConstants.{MAX_STORED};
 
     ghost Value = { List (List ℕ) };
 
     ghost view = { λ s. s.pool };
 
-    ghost invariant = { λ s. 65508 ≤ vec_capacity s.bytes };
+    ghost invariant = { λ s. MAX_STORED ≤ vec_capacity s.bytes };
 }
 
 impl Store {
@@ -56,7 +55,7 @@ impl Store {
     {
         Ok(Store {
             pool: Pool::open(alloc, blocks)?,
-            bytes: Vec::with_capacity(alloc, MAX_STORED)?,
+            bytes: Vec::with_capacity(alloc, MAX_STORED as usize)?,
         })
     }
 
@@ -91,7 +90,7 @@ impl Store {
     /// Reads the messages of a unit into a list of bytes that has room for them.
     pub(crate) fn read(&self, stored: &Stored, bytes: &mut Vec<u8>)
         requires stored { IsStored self.now stored.now }
-        requires room { 65508 ≤ vec_capacity bytes.old }
+        requires room { MAX_STORED ≤ vec_capacity bytes.old }
         ensures framed { AreFramed bytes.new.items }
         ensures messages { messages_in bytes.new.items
             ≡ (unit_in self.now stored.now).messages }
@@ -114,13 +113,13 @@ impl Store {
 
 /// Writes the messages of a unit, each after its length, in place of what was there.
 fn spell(bytes: &mut Vec<u8>, unit: &Unit<'_>)
-    requires { 65508 ≤ vec_capacity bytes.old }
+    requires { MAX_STORED ≤ vec_capacity bytes.old }
     ensures items { bytes.new.items ≡ framed unit.now.messages }
-    ensures small { stored_size unit.now.messages ≤ 65508 }
+    ensures small { stored_size unit.now.messages ≤ MAX_STORED }
     ensures read { IsTrue (list_all (is_message MAX_BYTES) unit.now.messages) }
     ensures capacity { vec_capacity bytes.old ≤ vec_capacity bytes.new }
 {
-    prove!(unit.stored() as usize <= MAX_STORED);
+    prove!(unit.stored() <= MAX_STORED);
     bytes.clear();
     append(bytes, unit.messages());
 }

@@ -4,7 +4,7 @@ ghost use Rattle.osc_edge.specs.Link.{IsShortTurn};
 
 use crate::calls::Calls;
 use crate::{Datagram, Link};
-use osc_message::Bytes;
+use osc_atoms::Bytes;
 
 /// Turns in memory, one a call: a datagram's bytes, or `None` for a quiet. The end follows them. Calls whose numbers,
 /// from 1, stand in a list fail.

@@ -10,8 +10,7 @@ abbrev pub IsBelow : List ℕ → List ℕ → Type 0
 IsBelow one other = IsTrue (is_lt (slice_cmp nat_cmp one other))
 
 -- of two calls of a unit the one comes before the other: its message does, or it is the same
--- message and its method has
--- the lower address
+-- message and its method has the lower address
 abbrev pub ComesBefore : Call → Call → Type 0
 ComesBefore one other = (one.index < other.index)
     ⊎ ((one.index ≡ other.index) × IsBelow one.address other.address)
@@ -23,8 +22,7 @@ StandBetween all one between other =
     × (all ≡ before ++ one ∷ (between ++ other ∷ later))
 
 -- Between two invocations of a unit stand only that unit's. The messages of a unit are called in
--- their order, and the
--- methods that one message calls in ascending order of their addresses.
+-- their order, and the methods that one message calls in ascending order of their addresses.
 pub record AreConsecutive (all : List Invocation) : Type 0 where
   pub together : (one other : Invocation) (between : List Invocation)
       → StandBetween all one between other → one.unit ≡ other.unit

@@ -31,8 +31,8 @@ pub record IsInTime (history : List Entry) (invocation : Invocation) : Type 0 wh
   pub in_time : unit.tag ≤ clock_in before
 
 -- A call that a unit has to make where it is released after these entries: the message at its index
--- has no unknown tag,
--- a method with its id and address is registered, and the message's pattern matches that address.
+-- has no unknown tag, a method with its id and address is registered, and the message's pattern
+-- matches that address.
 pub record IsCallOf (history : List Entry) (unit : TimedUnit) (call : Call) : Type 0 where
   pub message : slice_get unit.messages call.index ≡ Some call.message
   pub known : unknown_of call.message ≡ None
@@ -51,8 +51,7 @@ calls_of_number number invocations =
     (filter (λ invocation. invocation.unit == number) invocations)
 
 -- A unit that is released after these entries, not before its tag, makes exactly the calls that it
--- has to make, each
--- once, and the entry tells their hits.
+-- has to make, each once, and the entry tells their hits.
 pub record CallsExactly (before : List Entry) (number : ℕ) (hits : List Hit)
     (calls : List Call) : Type 0 where
   pub unit : TimedUnit

@@ -10,9 +10,8 @@ use Rattle.osc_laws.specs.Exactly.{IsInTime, AreExact}
 use Rattle.osc_laws.specs.Once.{AreReleasedOnce}
 
 -- What a musician can rely on. The messages of a bundle are called one after another and in order;
--- none before its tag by
--- the clock that was handed in; on exactly the methods that match when it is released; and each
--- accepted unit once.
+-- none before its tag by the clock that was handed in; on exactly the methods that match when it is
+-- released; and each accepted unit once.
 pub record KeepsTheLaws (caps : Limits) (history : List Entry) : Type 0 where
   pub consecutive : AreConsecutive (invocations (opening caps) history)
   pub in_time : AllByRecursion (IsInTime history) (invocations (opening caps) history)

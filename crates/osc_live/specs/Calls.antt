@@ -22,8 +22,7 @@ pub record AddsText (one : Entry) (before after : List (List ℕ)) : Type 0 wher
   pub read : entry_in text ≡ Some one
 
 -- A caller's event was answered by the rules after the entries of these texts, and its entry, if
--- the answer adds one, was
--- added to them. They are the texts of a legal history.
+-- the answer adds one, was added to them. They are the texts of a legal history.
 pub record Plays (caps : Limits) (caller : ℕ) (event : Event) (answer : Answer)
     (before after : List (List ℕ)) : Type 0 where
   pub legal : Legal caps (history_in after)
@@ -34,8 +33,8 @@ pub record Plays (caps : Limits) (caller : ℕ) (event : Event) (answer : Answer
       (after ≡ before)
 
 -- The last entry that is seen is the call's, under the token's number, and the answer is by the
--- rules after the entries
--- before it. The token's own entries are the earlier ones and this one, each once.
+-- rules after the entries before it. The token's own entries are the earlier ones and this one,
+-- each once.
 pub record EndsWith (caps : Limits) (caller : ℕ) (event : Event) (answer : Answer)
     (v w : View) : Type 0 where
   pub before : List Seen
@@ -63,10 +62,9 @@ abbrev pub TakesTurn : View → View → Type 0
 TakesTurn v w = w ≡ record v { seen = w.seen; olds = w.olds; words = w.words; taken = v.taken + 1 }
 
 -- A caller's event took the turn once and was answered: what is seen goes on from what was seen,
--- and is the texts of a
--- legal history; the answer is by the rules there, and its entry is the last one that is seen; the
--- last word that was found is even, and
--- half of it is the number of entries before.
+-- and is the texts of a legal history; the answer is by the rules there, and its entry is the last
+-- one that is seen; the last word that was found is even, and half of it is the number of entries
+-- before.
 pub record Calls (caps : Limits) (caller : ℕ) (event : Event) (answer : Answer)
     (v w : View) : Type 0 where
   pub goes_on : StartsWith w.seen v.seen
@@ -77,8 +75,8 @@ pub record Calls (caps : Limits) (caller : ℕ) (event : Event) (answer : Answer
   pub counted : FindsFree (adds_entry answer) v w
 
 -- A call found this word, by which the turn was another's, and did nothing: what is seen goes on
--- from what was seen, to half
--- as many entries as the word; the token didn't take the turn, and has no further own entry.
+-- from what was seen, to half as many entries as the word; the token didn't take the turn, and has
+-- no further own entry.
 pub record IsBusy (word : ℕ) (v w : View) : Type 0 where
   pub goes_on : StartsWith w.seen v.seen
   pub not_taken : TakesNone v w
@@ -87,8 +85,8 @@ pub record IsBusy (word : ℕ) (v w : View) : Type 0 where
   pub none_added : KeepsOwn v w
 
 -- A look at the turn: one word was found, and half of it is the number of entries that are seen
--- then. What is seen goes on
--- from what was seen; the token didn't take the turn, and has no further own entry.
+-- then. What is seen goes on from what was seen; the token didn't take the turn, and has no further
+-- own entry.
 pub record Looks (entries : ℕ) (v w : View) : Type 0 where
   pub goes_on : StartsWith w.seen v.seen
   pub not_taken : TakesNone v w

@@ -99,8 +99,7 @@ AllFit [] = Unit {0}
 AllFit (argument ∷ arguments) = Fits argument × AllFit arguments
 
 -- A pattern alone; a pattern with arguments, each under its tag; or a pattern with tags of which at
--- least one is
--- unknown, and a rest that isn't read.
+-- least one is unknown, and a rest that isn't read.
 pub data Form : Type 0 where
   bare : List ℕ → Form
   known : List ℕ → List Argument → Form
@@ -118,8 +117,7 @@ message_text (known pattern arguments) =
 message_text (unknown pattern tags rest) = string pattern ++ (tag_string tags ++ rest)
 
 -- The pattern is an address pattern. Arguments fit their atoms, and the array brackets among them
--- balance. Where a tag
--- is unknown, the rest is any bytes, four by four.
+-- balance. Where a tag is unknown, the rest is any bytes, four by four.
 abbrev pub IsLawful : Form → Type 0
 IsLawful (bare pattern) = IsPattern pattern
 IsLawful (known pattern arguments) =

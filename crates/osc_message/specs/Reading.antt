@@ -28,8 +28,8 @@ begins byte [] = false
 begins byte (first ∷ rest) = first == byte
 
 -- The first `]` that closes nothing, or else the first `[` that is never closed. So many brackets
--- are open before the
--- tags, the outermost of them at a place; the tags stand from a second place on.
+-- are open before the tags, the outermost of them at a place; the tags stand from a second place
+-- on.
 abbrev pub brackets_read : ℕ → ℕ → List ℕ → ℕ → Result ⊤ Fault
 brackets_read depth outer [] place = if depth == 0 then Ok tt else Err (brackets outer)
 brackets_read depth outer (tag ∷ tags) place =

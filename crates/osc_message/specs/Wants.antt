@@ -14,8 +14,7 @@ use Rattle.osc_atoms.specs.Faults.{empty, not_four, too_long, start}
 use Rattle.osc_message.specs.Faults.{of_pattern, no_tags, brackets, left_over}
 
 -- One check, with its place and what it is about. A message that stands within other bytes is read
--- from its place to
--- the end of the bytes that are given.
+-- from its place to the end of the bytes that are given.
 pub data Want : Type 0 where
   -- there is a byte, among at most so many
   some_byte : ℕ → Want

@@ -1,12 +1,12 @@
 -- The units of a packet take no more blocks than it has bytes.
 use Rattle.std.proofs.Common.{◌≡◌, ℕ, zero, suc, ◌+◌, ◌-◌, ◌/◌, ◌<◌, ◌≤◌, Bool, true, false, not, cond, List, [], ◌∷◌, ◌++◌, length, length-drop, drop, filter}
-use Rattle.std.proofs.Common.{Option, Some, None, inl, inr, refl, ap, subst, ◌∙◌, arith}
+use Rattle.std.proofs.Common.{Option, Some, None, is_none, IsTrue, inl, inr, refl, ap, subst, ◌∙◌, arith}
 use Rattle.std.specs.List.{flat_map}
 use Rattle.std.proofs.lemmas.Bool.{cases_lt}
 use Rattle.std.proofs.lemmas.List.{length-take-le, append-nil}
 use Rattle.osc_packet.specs.Packets.{effective_tag}
 use Rattle.osc_packet.specs.Units.{TimedUnit, stored_size, blocks_of}
-use Rattle.osc_packet.specs.Reading.{is_bundle, bundle_tag, packet_fault, element_fault, body_fault, first_size, first_element, after_first, elements_in}
+use Rattle.osc_packet.specs.Reading.{is_bundle, is_packet, bundle_tag, packet_fault, element_fault, body_fault, first_size, first_element, after_first, elements_in}
 use Rattle.osc_packet.specs.Reading.{messages_in, bundle_read, enclosed_read, units_read}
 use Rattle.osc_packet.proofs.Steps.{bundle_step}
 use Rattle.osc_packet.proofs.Bodies.{silent_step, messages_step, messages_end}
@@ -91,3 +91,14 @@ packet_few bytes silent = go (is_bundle bytes) refl where
   go : (test : Bool) → is_bundle bytes ≡ test → blocks_of (cond test (bundle_read 16 None bytes) (record { tag = 1; messages = bytes ∷ [] } ∷ [])) ≤ 65508
   go true is = omega (arith, bundle_few 16 None 0 bytes whole.silent is, whole.short)
   go false is = omega (arith, whole.short, blocks_few (4 + length bytes + 0))
+
+-- where a packet is valid, it has no fault
+pub no_fault : (packet : List ℕ) → IsTrue (is_packet 65504 packet) → packet_fault 65504 packet ≡ None
+no_fault packet lawful = go (packet_fault 65504 packet) lawful where
+  go : {F : Type 0} (o : Option F) → is_none o ≡ true → o ≡ None
+  go None is = refl
+  go (Some fault) is = absurd (cc)
+
+-- a valid packet's units take few blocks
+pub valid_few : (packet : List ℕ) → IsTrue (is_packet 65504 packet) → blocks_of (units_read packet) ≤ 65508
+valid_few packet lawful = packet_few packet (no_fault packet lawful)

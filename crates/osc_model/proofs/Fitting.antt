@@ -1,7 +1,7 @@
 -- What a server answers fits into the messages of its recording.
 use Rattle.std.proofs.Common.{◌≡◌, ◌↔◌, ℕ, ◌+◌, ◌-◌, ◌*◌, ◌<◌, ◌≤◌, ◌/◌, ◌^◌, ◌==◌, ◌&&◌, Bool, true, false, not, cond, nat_le, nat_lt, IsTrue, pos, List, []}
 use Rattle.std.proofs.Common.{◌∷◌}
-use Rattle.std.proofs.Common.{◌++◌, length, find, Option, Some, None, is_none, refl, sym, ap, ◌∙◌, arith, eqb-true}
+use Rattle.std.proofs.Common.{◌++◌, length, find, Option, Some, None, refl, sym, ap, ◌∙◌, arith, eqb-true}
 use Rattle.std.specs.Prelude.{IfSome, FitsSigned}
 use Rattle.std.specs.Option.{option_map, option_or}
 use Rattle.std.specs.Int.{w32, w64}
@@ -38,7 +38,7 @@ use Rattle.osc_model.specs.Step.{decided, leaves, kept_units, submit_kept, after
 use Rattle.osc_model.specs.Step.{invocations_of}
 use Rattle.osc_model.specs.History.{IsLawful, IsSound, IsCounted}
 use Rattle.osc_model.proofs.Calls.{MatchesExactly, all_more, unit_calls}
-use Rattle.osc_model.proofs.Blocks.{packet_few}
+use Rattle.osc_model.proofs.Blocks.{packet_few, no_fault}
 use Rattle.osc_model.proofs.Queues.{kept_few, kept_blocks_few}
 use Rattle.osc_model.specs.declared.late.Late.{Late}
 use Rattle.osc_model.proofs.Sizes.{length-hits_text}
@@ -85,12 +85,6 @@ enrol_fits caller state few many = go (state.callers == state.caps.callers) wher
 
 -- The answers to a packet.
 
-packet_silent : (packet : List ℕ) → IsTrue (is_packet 65504 packet) → packet_fault 65504 packet ≡ None
-packet_silent packet lawful = go (packet_fault 65504 packet) lawful where
-  go : {F : Type 0} (o : Option F) → is_none o ≡ true → o ≡ None
-  go None is = refl
-  go (Some fault) is = absurd (cc)
-
 submit_row_fits : (caller : ℕ) (packet : List ℕ) (code first count late : ℕ) → caller < 2 ^ 31 → length packet ≤ 65504 → code < 2 ^ 31 → first < 2 ^ 63
     → count < 2 ^ 31 → late < 2 ^ 31 → AllFit (submit_row caller packet (code, first, count, late)).arguments
 submit_row_fits caller packet code first count late few short small big fits last =
@@ -112,7 +106,7 @@ submit_fits caller state packet few small lawful =
     at_most a b c first second = omega arith
 
     silent : packet_fault 65504 packet ≡ None
-    silent = packet_silent packet lawful
+    silent = no_fault packet lawful
 
     short : length packet ≤ 65504
     short = (sound packet silent).short

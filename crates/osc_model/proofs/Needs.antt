@@ -1,10 +1,9 @@
 -- What the units of a packet need that are kept.
-use Rattle.std.proofs.Common.{◌≡◌, ℕ, ◌+◌, ◌<◌, ◌≤◌, ◌^◌, List, [], ◌∷◌, length, sym, ap, ◌∙◌, arith}
+use Rattle.std.proofs.Common.{◌≡◌, ℕ, ◌+◌, ◌<◌, ◌≤◌, ◌^◌, List, [], ◌∷◌, length, ap, arith}
 use Rattle.osc_packet.specs.Units.{TimedUnit, blocks_of}
 use Rattle.osc_model.specs.declared.late.Late.{Late}
-use Rattle.osc_model.specs.declared.late.Late.TheVariants.{Deliver}
 use Rattle.osc_model.specs.Step.{kept}
-use Rattle.osc_model.proofs.Queues.{kept_few, kept_blocks_few, length_first, blocks_first, all_kept}
+use Rattle.osc_model.proofs.Queues.{kept_few, kept_blocks_few, length_first, blocks_first}
 
 pub places_fit : (late : Late) (clock n : ℕ) (unit : TimedUnit) (rest left all : List TimedUnit) → left ≡ unit ∷ rest
     → n + length (kept late clock left) ≡ length (kept late clock all) → length all ≤ 65504 → n + length (kept late clock (unit ∷ [])) < 2 ^ 32
@@ -15,6 +14,3 @@ pub blocks_fit : (late : Late) (clock n : ℕ) (unit : TimedUnit) (rest left all
     → n + blocks_of (kept late clock left) ≡ blocks_of (kept late clock all) → blocks_of all < 2 ^ 32 → n + blocks_of (kept late clock (unit ∷ [])) < 2 ^ 32
 blocks_fit late clock n unit rest left all is same few =
     omega (arith, ap (λ (l : List TimedUnit). blocks_of (kept late clock l)) is, blocks_first late clock unit rest, kept_blocks_few late clock all)
-
-pub delivers_all : (late : Late) (clock : ℕ) (units : List TimedUnit) → late ≡ Deliver → units ≡ kept late clock units
-delivers_all late clock units is = sym (ap (λ (policy : Late). kept policy clock units) is ∙ all_kept clock units)

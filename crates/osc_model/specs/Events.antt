@@ -1,5 +1,5 @@
 -- What callers hand in and are answered.
-use Rattle.std.specs.Prelude.{ℕ, Bool, true, false, List, Option}
+use Rattle.std.specs.Prelude.{ℕ, Bool, true, false, List, Option, Some, None}
 use Rattle.osc_tree.specs.Adding.{Refusal}
 
 -- how much is needed, and how much is free
@@ -49,6 +49,11 @@ abbrev pub adds_entry : Answer → Bool
 adds_entry (nothing_due next) = false
 adds_entry (record_full room) = false
 adds_entry _ = true
+
+-- how much an entry needs, and how much is free, where an answer says that there is no room for it
+abbrev pub room_in : Answer → Option Room
+room_in (record_full room) = Some room
+room_in _ = None
 
 -- whether an answer says that a method was added
 abbrev pub is_added : Answer → Bool

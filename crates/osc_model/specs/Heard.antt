@@ -8,8 +8,7 @@ use Rattle.osc_method.specs.Heard.{last_of, after_call}
 use Rattle.osc_model.specs.Events.{Invocation}
 
 -- what is known of a boxed method: the id under which it is registered, how many bytes it keeps,
--- and the bytes that it
--- tells, where it tells
+-- and the bytes that it tells, where it tells
 pub record Told : Type 0 where
   pub id : ℕ
   pub keep : ℕ

@@ -34,8 +34,7 @@ AddsEntry (record_full room) = ⊥
 AddsEntry _ = Unit {0}
 
 -- from a state on, each entry is of a caller that is enrolled, and has the answer that the rules
--- give on the state
--- after those before it
+-- give on the state after those before it
 abbrev pub LegalFrom : State → List Entry → Type 0
 LegalFrom state [] = Unit {0}
 LegalFrom state (entry ∷ entries) =
@@ -59,10 +58,8 @@ invocations state (entry ∷ entries) =
     (step state entry.event).invocations ++ invocations (step state entry.event).state entries
 
 -- What holds of a server at every moment: the limits are in their ranges; the methods are a lawful
--- list within them,
--- whose ids were given; the units stand in order, with numbers that were given, within the limits;
--- and there is at
--- least one caller, and no more than there may be.
+-- list within them, whose ids were given; the units stand in order, with numbers that were given,
+-- within the limits; and there is at least one caller, and no more than there may be.
 pub record IsSound (state : State) : Type 0 where
   pub caps : AreInRange state.caps
   pub methods : IsLawfulRegistry (registry state)
@@ -74,8 +71,8 @@ pub record IsSound (state : State) : Type 0 where
   pub callers : (1 ≤ state.callers) × (state.callers ≤ state.caps.callers)
 
 -- What holds of the numbers of a server at every moment: the bytes that are recorded lie between
--- the header's and the
--- limit, and there are at least as many as ids and as units' numbers were given.
+-- the header's and the limit, and there are at least as many as ids and as units' numbers were
+-- given.
 pub record IsCounted (state : State) : Type 0 where
   pub header : header_size ≤ state.recorded
   pub within : state.recorded ≤ state.caps.recording
@@ -83,8 +80,7 @@ pub record IsCounted (state : State) : Type 0 where
   pub units : state.next_unit ≤ state.recorded
 
 -- An invocation of a history: at some place stands a release, and the invocation is a call of a
--- unit that was queued
--- then, in the state after the entries before that place.
+-- unit that was queued then, in the state after the entries before that place.
 pub record IsInvokedIn (state : State) (history : List Entry)
     (invocation : Invocation) : Type 0 where
   pub before : List Entry

@@ -3,8 +3,7 @@ use Rattle.std.specs.Prelude.{ℕ, ◌≤◌, Bool, ◌&&◌, nat_le, if◌then�
 use Rattle.osc_model.specs.declared.late.Late.{Late}
 
 -- queued units, blocks of 64 bytes for their messages, methods, nodes of the methods' addresses,
--- callers, and the bytes
--- of the recording; and what becomes of late units
+-- callers, and the bytes of the recording; and what becomes of late units
 pub record Limits : Type 0 where
   pub units : ℕ
   pub blocks : ℕ
@@ -41,6 +40,10 @@ max_callers = 1024
 -- how many bytes the header of a recording has
 abbrev pub header_size : ℕ
 header_size = 60
+
+-- how many bytes the entry of a release has ahead of its hits, which have 8 each
+abbrev pub release_head : ℕ
+release_head = 44
 
 -- the most bytes of a recording
 abbrev pub max_recording : ℕ

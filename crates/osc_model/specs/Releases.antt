@@ -1,5 +1,6 @@
 -- What a release does, in words: it takes the least unit that is due, or there is no room for its
 -- entry, or nothing is due.
+use Rattle.osc_model.specs.Limits.{release_head}
 use Rattle.std.specs.Prelude.{◌≡◌, ◌⊎◌, ℕ, ◌+◌, ◌*◌, ◌<◌, ◌≤◌, List, [], ◌∷◌, Option, Some, None}
 use Rattle.std.specs.Prelude.{slice_index_or, length}
 use Rattle.std.specs.List.{AllByRecursion, Contains}
@@ -15,12 +16,11 @@ use Rattle.osc_model.specs.Step.{Stepped, calls_of_unit, hits_of, invocations_of
 
 -- how many bytes the entry of a unit's release has in a state
 abbrev pub release_size : State → Queued → ℕ
-release_size state unit = 44 + 8 * length (calls_of_unit state.methods unit)
+release_size state unit = release_head + 8 * length (calls_of_unit state.methods unit)
 
 -- A unit that is due and the least by due moment and number leaves the queue, exactly the others
--- stay, its messages are
--- invoked on the methods of that state, and the entry's bytes, for which there was room, are
--- recorded.
+-- stay, its messages are invoked on the methods of that state, and the entry's bytes, for which
+-- there was room, are recorded.
 pub record TakesLeast (state : State) (stepped : Stepped) : Type 0 where
   pub unit : Queued
   pub due : due_of unit ≤ state.clock
@@ -69,8 +69,7 @@ ReleasesLeast state stepped = TakesLeast state stepped
     ⊎ (FindsNothingDue state stepped ⊎ HasNoRoom state stepped)
 
 -- An invocation of a unit in a state: the message is one of the unit's and has no unknown tag, the
--- method is registered
--- in the state, and the message's pattern matches its address.
+-- method is registered in the state, and the message's pattern matches its address.
 pub record IsCallIn (state : State) (unit : Queued) (invocation : Invocation) : Type 0 where
   pub of_unit : invocation.unit ≡ unit_of unit
   pub within : invocation.call.index < length unit.2.messages

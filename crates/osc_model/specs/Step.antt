@@ -188,8 +188,7 @@ recorded_as state size stepped =
     else record stepped { state = record stepped.state { recorded = state.recorded + size } }
 
 -- One event, on a state. The entry of an add, of a remove and of a submit has one size, whatever
--- the answer is. Where
--- nothing is due there is no entry.
+-- the answer is. Where nothing is due there is no entry.
 abbrev pub step : State → Event → Stepped
 step state event =
     let stepped = decided state event in

@@ -1,15 +1,16 @@
 // Which units of a packet are kept, and what they need.
-ghost use Rattle.std.specs.Prelude.{◌≡◌, ◌+◌, ◌<◌, ◌≤◌, ◌^◌, ◌∷◌, [], length};
-ghost use Rattle.osc_packet.specs.Reading.{units_read};
+ghost use Rattle.std.specs.Prelude.{◌≡◌, ◌+◌, ◌<◌, ◌^◌, ◌∷◌, [], length};
 ghost use Rattle.osc_packet.specs.Units.{blocks_of};
-ghost use Rattle.osc_model.specs.Step.{is_late, is_kept, kept};
+ghost use Rattle.osc_model.specs.Step.{is_late, kept};
 
 use crate::late::Late;
 use osc_packet::{Packet, Unit};
 
-/// How many places units take in the queue, and how many blocks their messages.
+/// How many units a packet has, how many places those of them take in the queue that are kept, and how many blocks
+/// their messages.
 #[derive(Clone, Copy, Debug, PartialEq, Eq)]
 pub struct Need {
+    pub count: u32,
     pub places: u32,
     pub blocks: u32,
 }
@@ -32,16 +33,22 @@ impl Late {
 
     /// What the units of a packet need that are kept at this clock.
     pub fn need(self, clock: u64, packet: &Packet<'_>) -> Need
+        ensures count { result.count ≡ length (units_read packet.now) }
         ensures places { result.places ≡ length (kept self clock (units_read packet.now)) }
         ensures blocks { result.blocks ≡ blocks_of (kept self clock (units_read packet.now)) }
         ensures few { result.places ≤ length (units_read packet.now) }
     {
-        let places = packet.count();
-        let blocks = packet.blocks();
-        match self {
-            Late::Deliver => Need { places, blocks },
-            Late::Discard => kept_need(self, clock, packet),
+        // The packet is valid, as it tells.
+        let _ = packet.bytes();
+        let mut need = Need {
+            count: 0,
+            places: 0,
+            blocks: 0,
+        };
+        for unit in packet.units() {
+            need = with_unit(need, self, clock, &unit);
         }
+        need
     }
 }
 
@@ -52,35 +59,23 @@ fn is_late(clock: u64, unit: &Unit<'_>) -> bool
     unit.tag() != 1 && unit.tag() < clock
 }
 
-fn kept_need(late: Late, clock: u64, packet: &Packet<'_>) -> Need
-    requires { blocks_of (units_read packet.now) < 2 ^ 32 }
-    ensures places { result.places ≡ length (kept late clock (units_read packet.now)) }
-    ensures blocks { result.blocks ≡ blocks_of (kept late clock (units_read packet.now)) }
-    ensures few { result.places ≤ length (units_read packet.now) }
-{
-    let mut need = Need {
-        places: 0,
-        blocks: 0,
-    };
-    for unit in packet.units() {
-        need = with_unit(need, late, clock, &unit);
-    }
-    need
-}
-
 /// What is needed where a unit joins that may be kept.
 fn with_unit(need: Need, late: Late, clock: u64, unit: &Unit<'_>) -> Need
+    requires count { need.count + 1 < 2 ^ 32 }
     requires places { need.places + length (kept late clock (unit.now ∷ [])) < 2 ^ 32 }
     requires blocks { need.blocks + blocks_of (kept late clock (unit.now ∷ [])) < 2 ^ 32 }
+    ensures count { result.count ≡ need.count + 1 }
     ensures places { result.places ≡ need.places + length (kept late clock (unit.now ∷ [])) }
     ensures blocks { result.blocks ≡ need.blocks + blocks_of (kept late clock (unit.now ∷ [])) }
 {
+    let count = need.count + 1;
     if late.keeps(clock, unit) {
         Need {
+            count,
             places: need.places + 1,
             blocks: need.blocks + unit.blocks(),
         }
     } else {
-        need
+        Need { count, ..need }
     }
 }

@@ -11,7 +11,7 @@ use Rattle.osc_message.specs.Reading.{message_fault}
 use Rattle.osc_packet.specs.Packets.{Packet, Elements, message, bundle, none, more, packet_text, elements_text, depth, elements_depth, bundle_word, IsLawfulIn}
 use Rattle.osc_packet.specs.Packets.{AreLawfulIn, IsPacket}
 use Rattle.osc_atoms.specs.Faults.{empty, not_four, too_long, start}
-use Rattle.osc_atoms.proofs.Bytes.{front_bytes, rest_bytes}
+use Rattle.osc_atoms.proofs.AllBytes.{front_bytes, rest_bytes}
 use Rattle.osc_packet.specs.Faults.{element_size, moved}
 use Rattle.osc_packet.specs.Wants.{IsSize}
 use Rattle.osc_packet.specs.Reading.{packet_fault, element_fault, body_fault, message_fault_at, fault_or, head_read, bundle_tag, first_size, first_element}

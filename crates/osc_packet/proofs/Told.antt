@@ -14,7 +14,7 @@ use Rattle.osc_message.specs.Messages.{IsMessage}
 use Rattle.osc_message.specs.Reading.{message_fault}
 use Rattle.osc_packet.specs.Packets.{bundle_word, effective_tag, IsInTime}
 use Rattle.osc_atoms.specs.Faults.{empty, too_long, not_four, start}
-use Rattle.osc_atoms.proofs.Bytes.{front_bytes, rest_bytes}
+use Rattle.osc_atoms.proofs.AllBytes.{front_bytes, rest_bytes}
 use Rattle.osc_packet.specs.Faults.{no_bundle_word, no_bundle_head, too_deep, tag_before, moved, element_size}
 use Rattle.osc_packet.specs.Wants.{Want, Element, Frame, some_byte, within, fourfold, begun, is_message, named_bundle, headed, shallow, in_time, sized, Stands}
 use Rattle.osc_packet.specs.Wants.{next_of, after, announced, opened, own_tag, tag_around, word_of, part, bytes_of, IsSize, Reaches, first, later, FirstFault}

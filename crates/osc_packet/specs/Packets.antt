@@ -40,8 +40,8 @@ abbrev mutual
   elements_depth (more packet elements) = max (depth packet) (elements_depth elements)
 
 -- The effective tag of a bundle with this own tag, by that of the enclosing bundle, if there is
--- one: an enclosed
--- bundle with tag 1, "immediately", has its encloser's, and every other bundle has its own.
+-- one: an enclosed bundle with tag 1, "immediately", has its encloser's, and every other bundle has
+-- its own.
 abbrev pub effective_tag : Option ℕ → ℕ → ℕ
 effective_tag None own = own
 effective_tag (Some outer) own = if own == 1 then outer else own

@@ -14,8 +14,7 @@ abbrev pub bundle_at : List OpenBundle → ℕ → OpenBundle
 bundle_at bundles depth = slice_index_or bundles depth (record { end = 0; tag = 0 })
 
 -- the units of the bundles that stand from a place on, so many bundles being open there: those in
--- the innermost one,
--- then those that follow it in the ones around it
+-- the innermost one, then those that follow it in the ones around it
 abbrev pub units_from : List ℕ → List OpenBundle → ℕ → ℕ → List TimedUnit
 units_from bytes bundles zero place = []
 units_from bytes bundles (suc depth) place =

@@ -10,7 +10,8 @@ ghost use Rattle.osc_atoms.specs.Atoms;
 use crate::BundleFault;
 use crate::laws::of_messages;
 use crate::limits::MAX_PACKET;
-use osc_message::{Bytes, Message};
+use osc_atoms::Bytes;
+use osc_message::Message;
 use std::alloc::{AllocError, Global};
 use std::marker::Model;
 

@@ -26,6 +26,7 @@ impl<'a> Model for Unit<'a> {
 
 impl<'a> Unit<'a> {
     ghost use Rattle.std.specs.Prelude.{◌≡◌, ◌≤◌, length};
+    ghost use Rattle.osc_packet.specs.declared.limits.TheConstants.{MAX_STORED};
     ghost use Rattle.osc_packet.specs.Units.{stored_size, blocks};
     ghost use Rattle.osc_packet.specs.Contents.{messages_of, IsSound};
 
@@ -60,7 +61,7 @@ impl<'a> Unit<'a> {
     /// How many bytes the messages take where they are kept, each after its length in 4 bytes.
     pub fn stored(&self) -> u32
         ensures size { result ≡ stored_size self.now.messages }
-        ensures small { result ≤ 65508 }
+        ensures small { result ≤ MAX_STORED }
     {
         let mut rest = self.content;
         let mut size = 0;
@@ -75,7 +76,7 @@ impl<'a> Unit<'a> {
     pub fn blocks(&self) -> u32
         ensures value { result ≡ blocks self.now }
         ensures few { result ≤ 1024 }
-        ensures small { stored_size self.now.messages ≤ 65508 }
+        ensures small { stored_size self.now.messages ≤ MAX_STORED }
     {
         self.stored().div_ceil(BLOCK_SIZE)
     }

@@ -1,4 +1,5 @@
 -- Inside the crate: how chains and the free blocks lie in the blocks of a pool.
+use Rattle.osc_pool.specs.declared.limits.TheConstants.{BLOCK_SIZE}
 use Rattle.std.specs.Prelude.{◌≡◌, ℕ, zero, suc, ◌+◌, ◌-◌, ◌<◌, ◌≤◌, ◌==◌, min, if◌then◌else◌, List}
 use Rattle.std.specs.Prelude.{[], ◌∷◌, ◌++◌, length, replicate, take, slice_index_or, slice_set}
 use Rattle.std.specs.List.{sum_by}
@@ -18,8 +19,8 @@ behind next (suc count) block = behind next count (slice_index_or next block 0)
 abbrev pub text : List (List ℕ) → List ℕ → ℕ → ℕ → ℕ → List ℕ
 text blocks next zero block size = []
 text blocks next (suc count) block size =
-    take (min 64 size) (slice_index_or blocks block [])
-    ++ text blocks next count (slice_index_or next block 0) (size - 64)
+    take (min BLOCK_SIZE size) (slice_index_or blocks block [])
+    ++ text blocks next count (slice_index_or next block 0) (size - BLOCK_SIZE)
 
 -- the blocks of each chain, from this block on, where a chain of so many bytes begins in each
 abbrev pub paths_from : List ℕ → ℕ → List ℕ → List (List ℕ)
@@ -51,11 +52,11 @@ uses next sizes first free block =
 -- each block has 64 bytes
 abbrev pub AreWhole : List (List ℕ) → Type 0
 AreWhole blocks =
-    (block : ℕ) → block < length blocks → length (slice_index_or blocks block []) ≡ 64
+    (block : ℕ) → block < length blocks → length (slice_index_or blocks block []) ≡ BLOCK_SIZE
 
 -- the bytes of a block that was never written
 abbrev pub zeros : List ℕ
-zeros = replicate 64 0
+zeros = replicate BLOCK_SIZE 0
 
 -- as many blocks as the limit, where those that were never reached have zeros
 abbrev pub filled_up : ℕ → List (List ℕ) → List (List ℕ)
@@ -67,7 +68,7 @@ pub record IsPut (limit : ℕ) (before after : List (List ℕ)) (block : ℕ)
   pub filled : List ℕ
   pub is : filled_up limit after ≡ slice_set (filled_up limit before) block filled
   pub taken : take (length piece) filled ≡ piece
-  pub long : length filled ≡ 64
+  pub long : length filled ≡ BLOCK_SIZE
   pub there : block < length after
   pub more : length before ≤ length after
   pub few : length after ≤ limit

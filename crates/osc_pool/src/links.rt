@@ -1,4 +1,5 @@
 // Blocks that follow one another by their links.
+ghost use Rattle.osc_pool.specs.declared.limits.TheConstants.{BLOCK_SIZE};
 ghost use Rattle.std.specs.Prelude.{◌≡◌, ◌-◌, ◌<◌, ◌≤◌, ◌^◌, ℕ, IfOk, length, max, replicate, take};
 ghost use Rattle.std.specs.Prelude.{vec_capacity};
 ghost use Rattle.std.specs.List.{range_with_len};
@@ -79,7 +80,7 @@ pub(crate) fn write(blocks: &mut Vec<Block>, next: &[u32], first: u32, bytes: &[
 /// Writes the piece over the beginning of a block.
 fn put(blocks: &mut Vec<Block>, block: usize, piece: &[u8])
     requires room { block < vec_capacity blocks.old }
-    requires small { length piece.now ≤ 64 }
+    requires small { length piece.now ≤ BLOCK_SIZE }
     ensures put { (limit : ℕ) → block < limit → length blocks.old.items ≤ limit →
         IsPut limit blocks.old.items blocks.new.items block piece.now }
     ensures capacity { vec_capacity blocks.old ≤ vec_capacity blocks.new }
@@ -107,9 +108,9 @@ fn reach(blocks: &mut Vec<Block>, count: usize)
 
 /// Writes the piece over the beginning of a block.
 fn fill(block: &mut Block, piece: &[u8])
-    requires { length piece.now ≤ 64 }
+    requires { length piece.now ≤ BLOCK_SIZE }
     ensures taken { take (length piece.now) block.new ≡ piece.now }
-    ensures whole { length block.new ≡ 64 }
+    ensures whole { length block.new ≡ BLOCK_SIZE }
 {
     block[..piece.len()].copy_from_slice(piece);
 }

@@ -2,7 +2,7 @@
 use Rattle.std.proofs.Common.{◌≡◌, ℕ, ◌+◌, ◌<◌, ◌≤◌, List, [], ◌∷◌, ◌++◌, length, drop, Some, None, false, ◌==◌, refl, sym, ap, subst, ◌∙◌, arith, length-drop}
 use Rattle.std.proofs.lemmas.Option.{none-some}
 use Rattle.osc_atoms.specs.Atoms.{AreBytes}
-use Rattle.osc_atoms.proofs.Bytes.{rest_bytes}
+use Rattle.osc_atoms.proofs.AllBytes.{rest_bytes}
 use Rattle.osc_model.specs.Limits.{Limits, header_size}
 use Rattle.osc_model.specs.Events.{Entry as Recorded}
 use Rattle.osc_model.specs.Recordings.{entry_text, header_text}

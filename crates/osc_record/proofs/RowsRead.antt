@@ -10,7 +10,7 @@ use Rattle.std.proofs.lemmas.Slice.Eq.{bytes_eq-Decides}
 use Rattle.std.proofs.lemmas.Bool.{and_parts}
 use Rattle.std.proofs.lemmas.Option.{same_Some, none-some}
 use Rattle.osc_atoms.specs.Atoms.{AreBytes, blob}
-use Rattle.osc_atoms.proofs.Bytes.{front_bytes, rest_bytes}
+use Rattle.osc_atoms.proofs.AllBytes.{front_bytes, rest_bytes}
 use Rattle.osc_message.specs.Messages.{Argument, integer, text, content, long, time, atom_of}
 use Rattle.osc_model.specs.Events.{enrol, submit, add, remove, tick, release, Answer, number, callers_full, queued, units_full, pool_full, added, refused}
 use Rattle.osc_model.specs.Events.{removed, not_there, ticked, clock_back, released}

@@ -8,7 +8,7 @@ use Rattle.std.proofs.lemmas.Slice.Eq.{bytes_eq-Decides}
 use Rattle.std.proofs.lemmas.Bool.{and_parts}
 use Rattle.std.proofs.lemmas.Option.{same_Some, none-some}
 use Rattle.osc_atoms.specs.Atoms.{AreBytes}
-use Rattle.osc_atoms.proofs.Bytes.{front_bytes, rest_bytes}
+use Rattle.osc_atoms.proofs.AllBytes.{front_bytes, rest_bytes}
 use Rattle.osc_message.specs.Messages.{Argument, Form, bare, known, unknown, IsLawful, IsMessage, message_text}
 use Rattle.osc_message.specs.Reading.{limited_read, is_message, pattern_of}
 use Rattle.osc_message.specs.Arguments.{message_arguments}

@@ -4,7 +4,7 @@ use Rattle.std.proofs.Common.{subst, arith, length-append, length-drop, append_a
 use Rattle.std.proofs.lemmas.Option.{none-some}
 use Rattle.std.specs.List.{flat_map, AllByRecursion}
 use Rattle.osc_atoms.specs.Atoms.{AreBytes}
-use Rattle.osc_atoms.proofs.Bytes.{rest_bytes}
+use Rattle.osc_atoms.proofs.AllBytes.{rest_bytes}
 use Rattle.osc_model.specs.Limits.{Limits, header_size}
 use Rattle.osc_model.specs.Events.{Entry as Recorded}
 use Rattle.osc_model.specs.Recordings.{entry_text, header_text, IsRecordable}

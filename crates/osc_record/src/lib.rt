@@ -30,5 +30,7 @@ pub use osc_model::Late;
 pub use reader::{Malformed, Reader};
 pub use recorder::Recorder;
 pub use sized_entry::entry_bytes;
-pub use sizes::{ENROL_SIZE, TICK_SIZE, add_size, release_size, remove_size, submit_size};
+pub use sizes::{
+    ENROL_SIZE, RELEASE_HEAD, TICK_SIZE, add_size, release_size, remove_size, submit_size,
+};
 pub use unread::Unread;

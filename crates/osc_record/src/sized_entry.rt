@@ -14,7 +14,8 @@ use crate::entries::append_entry;
 use crate::event::{Answer, Event};
 use crate::message::append_message;
 use crate::sizes::{ENROL_SIZE, TICK_SIZE, add_size, release_size, remove_size, submit_size};
-use osc_message::{Arg, Bytes};
+use osc_atoms::Bytes;
+use osc_message::Arg;
 use std::alloc::{AllocError, Global};
 
 /// The bytes of an entry, its size first (docs/FORMATS.md, "The recording"). An `Err` is want of memory.

@@ -1,4 +1,5 @@
 // How many bytes entries have.
+ghost use Rattle.osc_model.specs.Limits.{release_head};
 ghost use Rattle.std.specs.Prelude.{◌≡◌, ◌+◌, ◌*◌, ◌<◌, ◌^◌, length};
 ghost use Rattle.osc_atoms.specs.Atoms.{string, blob_end};
 
@@ -9,6 +10,9 @@ pub const ENROL_SIZE: u64 = 28;
 
 /// How many bytes the entry of a moment has.
 pub const TICK_SIZE: u64 = 48;
+
+/// How many bytes the entry of a release has ahead of its hits, which have 8 each.
+pub const RELEASE_HEAD: u64 = 44;
 
 /// How many bytes the entry of a submit of the packet has.
 pub fn submit_size(packet: &[u8]) -> u64
@@ -34,7 +38,7 @@ pub fn remove_size(address: &[u8]) -> u64
 /// How many bytes the entry of a release with so many hits has.
 pub fn release_size(hits: u64) -> u64
     requires { hits < 2 ^ 48 }
-    ensures { result ≡ 44 + 8 * hits }
+    ensures { result ≡ release_head + 8 * hits }
 {
-    44 + 8 * hits
+    RELEASE_HEAD + 8 * hits
 }

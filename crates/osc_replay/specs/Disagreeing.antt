@@ -9,8 +9,7 @@ use Rattle.osc_model.specs.History.{Legal, after}
 use Rattle.osc_replay.specs.Formed.{IsFormed}
 
 -- the bytes of the entry that a server gives a caller for an event; none where the caller isn't
--- enrolled or where the
--- event adds no entry
+-- enrolled or where the event adds no entry
 abbrev pub computed_text : State → ℕ → Event → List ℕ
 computed_text state caller event =
     let answer = (step state event).answer in
@@ -18,8 +17,8 @@ computed_text state caller event =
     then (if adds_entry answer then entry_text caller event answer else []) else []
 
 -- The bytes are a recording. The entries before this one, which is counted from 0, are a legal
--- history; the bytes that
--- are kept for it are these; and those that the server gives for its caller and event are others.
+-- history; the bytes that are kept for it are these; and those that the server gives for its caller
+-- and event are others.
 pub record DisagreesAt (bytes : List ℕ) (place : ℕ) (kept computed : List ℕ) : Type 0 where
   pub caps : Limits
   pub before : List Entry

@@ -14,8 +14,7 @@ pub record IsFormed (limits : Limits) (entries : List Entry) : Type 0 where
   pub lawful : AllByRecursion (λ entry. IsLawful entry.event) entries
 
 -- Up to a place the bytes are such a recording, and the bytes that follow there don't begin with an
--- entry that can be
--- recorded within the limit and whose packet or address is lawful.
+-- entry that can be recorded within the limit and whose packet or address is lawful.
 pub record HasUnformed (bytes : List ℕ) (at : ℕ) : Type 0 where
   pub limits : Limits
   pub entries : List Entry

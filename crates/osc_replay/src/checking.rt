@@ -20,7 +20,7 @@ use crate::outcome::Outcome;
 use crate::replaying::agreed;
 use crate::row::Row;
 use crate::server::Server;
-use osc_message::Bytes;
+use osc_atoms::Bytes;
 use osc_record::{Answer, Caps, Unread, entry_bytes};
 use std::alloc::Global;
 

@@ -3,7 +3,7 @@ ghost use Rattle.std.specs.Prelude.{◌≡◌};
 ghost use Rattle.osc_replay.specs.declared.fault.ReplayFault.TheVariants.{Malformed as MalformedAt};
 ghost use Rattle.osc_replay.specs.declared.fault.ReplayFault.TheVariants.{NoMemory};
 
-use osc_message::Bytes;
+use osc_atoms::Bytes;
 use osc_record::Malformed;
 use std::alloc::AllocError;
 

@@ -21,7 +21,7 @@ use crate::forming::{first_malformed, next_row};
 use crate::outcome::Outcome;
 use crate::row::Row;
 use crate::server::Server;
-use osc_message::Bytes;
+use osc_atoms::Bytes;
 use osc_print::{Text, entry_line};
 use osc_record::{Answer, Entry, Unread, entry_bytes};
 use std::alloc::Global;

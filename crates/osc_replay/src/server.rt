@@ -16,8 +16,8 @@ use osc_packet::Packet;
 use osc_pattern::Address;
 use osc_queue::Queue;
 use osc_record::{
-    Answer, Caps, ENROL_SIZE, HEADER_SIZE, TICK_SIZE, add_size, release_size, remove_size,
-    submit_size,
+    Answer, Caps, ENROL_SIZE, HEADER_SIZE, RELEASE_HEAD, TICK_SIZE, add_size, release_size,
+    remove_size, submit_size,
 };
 use osc_tree::{Hits, Tree, TreeRefusal};
 use std::alloc::{AllocError, Global};
@@ -189,8 +189,8 @@ impl<'a> Server<'a> {
         requires counted { IsCounted self.old }
         ensures { Decides result self.old (submit packet.now) self.new }
     {
-        let count = packet.count();
         let Need {
+            count,
             places: keeps,
             blocks: need,
         } = self.late.need(self.clock, packet);
@@ -267,7 +267,7 @@ impl<'a> Server<'a> {
         };
         self.used -= taken.blocks();
         find_calls(&self.tree, &mut self.hits, unit, &taken, calls)?;
-        let size = 44 + calls.hits.len();
+        let size = RELEASE_HEAD as usize + calls.hits.len();
         if size > (self.record_limit - self.recorded) as usize {
             return Ok(Outcome::Nothing);
         }

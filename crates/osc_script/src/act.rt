@@ -1,5 +1,5 @@
 // What a line says.
-use osc_message::Bytes;
+use osc_atoms::Bytes;
 use osc_pattern::Address;
 
 /// What a line says.

@@ -14,7 +14,7 @@ use crate::act::Act;
 use crate::fault::{LineRefusal, ScriptFault};
 use crate::words::next_word;
 use hex::{FromHex, FromHexError};
-use osc_message::Bytes;
+use osc_atoms::Bytes;
 use osc_pattern::{Address, AddressFault};
 use std::alloc::{AllocError, Global};
 

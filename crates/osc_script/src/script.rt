@@ -4,7 +4,7 @@ use crate::generating::script_of_seed;
 use crate::line::Line;
 use crate::line_reading::read_lines;
 use crate::mode::Mode;
-use osc_message::Bytes;
+use osc_atoms::Bytes;
 use std::alloc::{AllocError, Global};
 use std::marker::Model;
 

@@ -29,8 +29,8 @@ abbrev pub front : List ℕ → Front
 front bytes = if nat_lt (length bytes) 4 then Short
     else front_by (first_word bytes) (length bytes)
 
--- how many more bytes there have to be before more can be told of the front: those of the word,
--- or else of the packet
+-- how many more bytes there have to be before more can be told of the front: those of the word, or
+-- else of the packet
 abbrev pub wanted : List ℕ → ℕ
 wanted bytes = if nat_lt (length bytes) 4 then 4 - length bytes
     else (if is_length (first_word bytes) then 4 + first_word bytes - length bytes else 0)

@@ -1,4 +1,5 @@
 // A stream of packets, which takes its bytes in any pieces.
+ghost use Rattle.osc_stream.specs.declared.limits.TheConstants.{MAX_FRAME};
 ghost use Rattle.std.specs.Prelude.{◌≡◌, ◌≤◌, ◌<◌, ◌+◌, ◌^◌, length, IfOk, IsTrue, is_some};
 ghost use Rattle.std.specs.Prelude.{Some, nat_lt};
 ghost use Rattle.osc_stream.specs.Frames.{wanted};
@@ -24,13 +25,14 @@ pub struct Stream {
 
 impl Model for Stream {
     ghost use Rattle.std.specs.Prelude.{◌≤◌, vec_capacity, IsTrue};
+    ghost use Rattle.osc_stream.specs.declared.limits.TheConstants.{MAX_FRAME};
     ghost use Rattle.osc_stream.specs.Feeding.{StreamView, view_of, is_kept};
 
     ghost Value = { StreamView };
 
     ghost view = { λ s. view_of s.ready s.bytes.items s.place };
 
-    ghost invariant = { λ s. (65508 ≤ vec_capacity s.bytes)
+    ghost invariant = { λ s. (MAX_FRAME ≤ vec_capacity s.bytes)
         × IsTrue (is_kept s.ready s.bytes.items) };
 }
 

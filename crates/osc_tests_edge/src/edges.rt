@@ -1,8 +1,8 @@
 // Links and clocks, in memory and real.
+use osc_atoms::Bytes;
 use osc_edge::{
     Clock, Datagram, Link, MAX_DATAGRAM, MemoryClock, MemoryLink, Moment, SystemClock, UdpLink,
 };
-use osc_message::Bytes;
 use std::alloc::{AllocError, Global};
 use std::io;
 use std::net::UdpSocket;

@@ -3,8 +3,8 @@ ghost use Rattle.std.specs.Prelude.{◌≤◌, length, IfOk};
 ghost use Rattle.osc_lanes.specs.Shares.{count_adds};
 
 use crate::parts::{address, empty, push_add, push_line};
+use osc_atoms::Bytes;
 use osc_lanes::{LanePart, OpenGate, Performed, perform};
-use osc_message::Bytes;
 use osc_method::Mute;
 use osc_record::{Caps, Event, Late, Reader};
 use osc_replay::replay;

@@ -1,10 +1,10 @@
 // Scripts of adds, played by a server whose links and clock are in memory.
 use crate::program::{replayed, words};
+use osc_atoms::Bytes;
 use osc_edge::{
     Clock, Datagram, Link, MAX_DATAGRAM, MemoryClock, MemoryLink, MemorySink, MemorySource, Moment,
 };
 use osc_lanes::OpenGate;
-use osc_message::Bytes;
 use osc_method::{Method, Trace};
 use osc_top::{live_top, ports};
 use std::alloc::{AllocError, Global};

@@ -12,9 +12,8 @@ ghost use Rattle.osc_top.specs.Plain.{room_in, act_faults, fault_at, count_adds}
 ghost use Rattle.osc_top.specs.Tally.{adds_of, handed_back, handed_out};
 ghost use Rattle.osc_top.specs.Tallied.{PlaysAct, PlaysLines};
 
-use osc_atoms::Room;
+use osc_atoms::{Bytes, Room};
 use osc_core::{AddRefusal, Adding, Core, Releasing, Removing, Submitted, Ticking};
-use osc_message::Bytes;
 use osc_method::Method;
 use osc_model::laws::{a_box_hears_its_calls, invocations_are_of_registered_methods};
 use osc_packet::{MAX_PACKET, Packet};

@@ -9,6 +9,7 @@ use mathlib.Core.Option.{some, none}
 use mathlib.Core.Option as maybe
 use lib.ListN.{get_elem?}
 use Rattle.atomic_table.specs.Table.{State}
+use Rattle.osc_turn.specs.declared.limits.TheConstants.{MAX_PASSES}
 use Rattle.osc_turn.specs.declared.view.Entry.{Entry}
 use Rattle.osc_turn.specs.declared.view.Past.{Past}
 use Rattle.osc_turn.specs.declared.view.View.{View}
@@ -104,7 +105,7 @@ pub record Standing {S : Type 0} (stands : S → List (List ℕ) → Type 0) (ki
   -- however numbers are weighed, those in the views weigh what those below word 1 do: each stands
   -- in one view, once
   pub numbered : (h : ℕ → ℕ) → total (λ v. weigh h (numbers_of v)) views ≡ weigh_below h drawn
-  pub few : drawn ≤ 65536
+  pub few : drawn ≤ MAX_PASSES
   -- entries are under numbers that were drawn
   pub named : (n : ℕ) → drawn ≤ n → own n log ≡ []
 

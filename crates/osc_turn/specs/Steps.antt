@@ -4,6 +4,7 @@ use Rattle.std.specs.Prelude.{if◌then◌else◌, List, [], ◌∷◌, ◌++◌
 use mathlib.Core.Option.{some}
 use lib.ListN.{get_elem?}
 use Rattle.atomic_table.specs.Table.{Me}
+use Rattle.osc_turn.specs.declared.limits.TheConstants.{MAX_PASSES}
 use Rattle.osc_turn.specs.declared.view.Entry.{Entry}
 use Rattle.osc_turn.specs.declared.view.Past.{Past}
 use Rattle.osc_turn.specs.declared.view.View.{View}
@@ -82,7 +83,7 @@ drew v n = record v { spare = n ∷ []; made = n + 1 }
 module _ {S : Type 0} where
   -- the number of passes was read, and the first pass knew it
   abbrev pub Counts : Sat S → ℕ → Sat S → Type 0
-  Counts m r m' = (m' ≡ m) × (0 < times 0 m.0.numbers → r ≡ m.0.made) × (r ≤ 65536)
+  Counts m r m' = (m' ≡ m) × (0 < times 0 m.0.numbers → r ≡ m.0.made) × (r ≤ MAX_PASSES)
       × ((n : ℕ) → times n m.0.numbers ≤ 1) × Remembers m.0
 
   -- a number was drawn that no entry has

@@ -1,6 +1,7 @@
 //! How a turn is closed.
 ghost use Rattle.std.specs.Prelude.{◌≡◌, ◌≢◌, ℕ, ◌<◌, ◌≤◌, List, [], ◌∷◌, false, length, map, All};
 ghost use Rattle.std.specs.Prelude.{IfOk, OnOk, IfErr};
+ghost use Rattle.osc_turn.specs.declared.limits.TheConstants.{MAX_PASSES};
 ghost use Rattle.osc_turn.specs.History.{StartsWith, entries_of, texts};
 ghost use Rattle.osc_turn.specs.Numbers.{times};
 ghost use Rattle.osc_turn.specs.Rule.{number_of, Rests};
@@ -67,7 +68,7 @@ impl<S: Kept> Turn<S> {
     /// Gives the value out where all passes that were made are handed in, the first pass in the first place.
     pub fn close(self, mut passes: Vec<Pass>) -> Result<S, StillOut<S>>
         requires ours { All (IsPassOf self) passes.items }
-        requires few { (0 < length passes.items) × (length passes.items ≤ 65536) }
+        requires few { (0 < length passes.items) × (length passes.items ≤ MAX_PASSES) }
         requires first { number_of (first_view passes.items) ≡ 0 }
         ensures all_in { OnOk result ((first_view passes.items).made ≡ length passes.items) }
         ensures closes { IfOk result

@@ -1,5 +1,6 @@
 //! How further passes are made, and how what one pass has seen reaches another.
 ghost use Rattle.std.specs.Prelude.{◌≡◌, ◌<◌, [], OnOk, OnErr, IfOk, IfErr};
+ghost use Rattle.osc_turn.specs.declared.limits.TheConstants.{MAX_PASSES};
 ghost use Rattle.osc_turn.specs.History.{StartsWith, own};
 ghost use Rattle.osc_turn.specs.Rule.{number_of};
 ghost use Rattle.osc_turn.specs.Steps.{Counts, longer};
@@ -7,14 +8,12 @@ ghost use Rattle.osc_turn.specs.Passes.{view, IsPassOf, one_more, guest_of, met_
 ghost use Rattle.osc_turn.specs.Answers.{KeepsOwn};
 
 use crate::job::Kept;
+use crate::limits::MAX_PASSES;
 use crate::pass::Pass;
 use crate::plays::{Count, Cut, Draw, Glue};
 use crate::turn::Turn;
 use crate::view::View;
 use atomic_table::Seat;
-
-// The most passes that a turn makes.
-const MOST_PASSES: u32 = 65_536;
 
 /// Why no guest is made.
 #[derive(Clone, Copy, PartialEq, Eq, Debug)]
@@ -42,15 +41,15 @@ impl<S: Kept> Turn<S> {
         ensures guest { IfOk result.1 (λ guest. view guest ≡ guest_of (view pass)) }
         ensures no_entries { IfOk result.1
             (λ guest. own (number_of (view guest)) (view guest).seen ≡ []) }
-        ensures room { OnOk result.1 ((view pass).made < 65536) }
+        ensures room { OnOk result.1 ((view pass).made < MAX_PASSES) }
         ensures made { OnOk result.1 (view result.0 ≡ one_more (view pass)) }
         ensures full { IfErr result.1
-            (λ refusal. ((view pass).made ≡ 65536) × (refusal ≡ GuestRefusal.Full 65536)) }
+            (λ refusal. ((view pass).made ≡ MAX_PASSES) × (refusal ≡ GuestRefusal.Full MAX_PASSES)) }
         ensures none_made { OnErr result.1 (view result.0 ≡ view pass) }
     {
         let mut seat = pass.into_seat::<S>();
-        if self.count(&mut seat) >= u64::from(MOST_PASSES) {
-            let full = GuestRefusal::Full { limit: MOST_PASSES };
+        if self.count(&mut seat) >= u64::from(MAX_PASSES) {
+            let full = GuestRefusal::Full { limit: MAX_PASSES };
             return (Pass::of(seat), Err(full));
         }
         let shared = &self.table.shared;

@@ -7,6 +7,7 @@ mod close;
 mod guests;
 mod hold;
 mod job;
+mod limits;
 mod open;
 mod pass;
 mod plays;
@@ -18,6 +19,7 @@ mod view;
 
 pub use guests::GuestRefusal;
 pub use job::{Job, Kept};
+pub use limits::MAX_PASSES;
 pub use pass::Pass;
 pub use still_out::StillOut;
 pub use tried::Tried;

@@ -12,7 +12,7 @@ ghost use Rattle.osc_watch.specs.Notes.{NotesNext, Notes, IsPlaceIn};
 use crate::board::Board;
 use crate::row::{MethodRow, RowEdit};
 use crate::stop::Stop;
-use osc_message::Bytes;
+use osc_atoms::Bytes;
 use osc_record::{Answer, Entry, Event, HEADER_SIZE, Unread};
 use std::alloc::{AllocError, Global};
 

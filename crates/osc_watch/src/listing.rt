@@ -6,7 +6,7 @@ ghost use Rattle.osc_watch.specs.Listing.{is_before, is_row, place_for, place_of
 ghost use Rattle.osc_watch.specs.Listing.{edited, edit_of};
 
 use crate::row::{MethodRow, RowEdit};
-use osc_message::Bytes;
+use osc_atoms::Bytes;
 use std::alloc::{AllocError, Global};
 
 /// A copy of a row.

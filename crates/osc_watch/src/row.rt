@@ -1,5 +1,5 @@
 //! A row of the list of methods, and an edit of it.
-use osc_message::Bytes;
+use osc_atoms::Bytes;
 
 /// A method, by its id and its address.
 #[derive(Drop)]

@@ -19,8 +19,7 @@ unless_refused [] rows = Some rows
 unless_refused (kind ∷ kinds) rows = None
 
 -- what such a command finds in the words, of which the first is the command's name: a row for each
--- option; none where it
--- refuses the words
+-- option; none where it refuses the words
 unfoldable pub found_by : Verb → List (List ℕ) → Option (List Row)
 found_by verb words =
     unless_refused (fault_of (app_for verb) words) (matches_of (app_for verb) words)

@@ -1,13 +1,19 @@
-use Rattle.std.proofs.Common.{length, ap, ◌∙◌}
-use Rattle.osc_packet.specs.Units.{blocks_of}
+use Rattle.std.proofs.Common.{arith, length, ap}
 use Rattle.osc_packet.specs.Reading.{units_read}
-use Rattle.osc_model.proofs.Needs.{delivers_all}
+use Rattle.osc_model.proofs.Blocks.{valid_few}
+use Rattle.osc_model.proofs.Queues.{kept_few}
+use Rattle.osc_model.proofs.Needs.{places_fit, blocks_fit}
 use Rattle.osc_model.proofs.late.Late.need.Goals as goal
 
-pub returns-in-Deliver-clause-places : goal.returns-in-Deliver-clause-places
-returns-in-Deliver-clause-places c =
-    c.count-places.ensures.value ∙ ap length (delivers_all c.args.self c.args.clock (units_read c.args.packet.now) c.in-Deliver.is)
+pub with_unit-need-requires-clause-places : goal.with_unit-need-requires-clause-places
+with_unit-need-requires-clause-places c =
+    places_fit c.args.self c.args.clock c.loop-unit.need.places c.in-Some.unit c.next.new.self c.loop-unit.unit-iterator (units_read c.args.packet.now)
+    c.in-Some.ensures.steps c.loop-unit.invariant.places c.units-unit-items.ensures.few
 
-pub returns-in-Deliver-clause-blocks : goal.returns-in-Deliver-clause-blocks
-returns-in-Deliver-clause-blocks c =
-    c.blocks-blocks.ensures ∙ ap blocks_of (delivers_all c.args.self c.args.clock (units_read c.args.packet.now) c.in-Deliver.is)
+pub with_unit-need-requires-clause-blocks : goal.with_unit-need-requires-clause-blocks
+with_unit-need-requires-clause-blocks c =
+    blocks_fit c.args.self c.args.clock c.loop-unit.need.blocks c.in-Some.unit c.next.new.self c.loop-unit.unit-iterator (units_read c.args.packet.now)
+    c.in-Some.ensures.steps c.loop-unit.invariant.blocks (omega (arith, valid_few c.args.packet.now c.bytes.ensures.read))
+
+pub returns-clause-few : goal.returns-clause-few
+returns-clause-few c = omega (arith, c.loop-unit.invariant.places, kept_few c.args.self c.args.clock (units_read c.args.packet.now))
