@@ -1,5 +1,5 @@
 -- Inside the crate: what a release comes to.
-use Rattle.osc_model.specs.Limits.{release_head}
+use Rattle.osc_model.specs.Limits.{release_head_size}
 use Rattle.std.specs.Prelude.{◌≡◌, ℕ, ◌+◌, ◌*◌, ◌≤◌, List, [], length, map, Option, Some}
 use Rattle.osc_atoms.specs.declared.room.Room.{Room}
 use Rattle.osc_model.specs.State.{State}
@@ -21,7 +21,7 @@ pub record IsReleased (unit calls caller : ℕ) (old new : State)
   pub hits : List Hit
   pub due : IsDue old unit hits
   pub many : calls ≡ length hits
-  pub fits : length (recording_text before) + (release_head + 8 * calls) ≤ before.caps.recording
+  pub fits : length (recording_text before) + (release_head_size + 8 * calls) ≤ before.caps.recording
   pub state : new ≡ (decided old release).state
   pub recorder : after
       ≡ with_hits (with_release before caller unit calls)
@@ -32,7 +32,7 @@ pub record IsKeptBack (room : Room) (old new : State) (before after : Recording)
   pub unit : ℕ
   pub hits : List Hit
   pub due : IsDue old unit hits
-  pub wanting : TellsRoom (Some room) before (release_head + 8 * length hits)
+  pub wanting : TellsRoom (Some room) before (release_head_size + 8 * length hits)
   pub state : new ≡ old
   pub recorder : after ≡ before
 

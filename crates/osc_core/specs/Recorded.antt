@@ -1,5 +1,5 @@
 -- Inside the crate: the hits of a release that is being recorded.
-use Rattle.osc_model.specs.Limits.{release_head}
+use Rattle.osc_model.specs.Limits.{release_head_size}
 use Rattle.std.specs.Prelude.{ℕ, ◌+◌, ◌*◌, ◌≤◌, ◌≡◌, List, [], ◌∷◌, length, Option, Some, None}
 use Rattle.std.specs.Prelude.{Result, Ok, Err}
 use Rattle.osc_model.specs.Events.{Call, Hit}
@@ -31,7 +31,7 @@ TellsRoom (Some room) recording size =
 abbrev pub RecordsCalls : Result ℕ Room → ℕ → ℕ → List Call → Recording → Recording → Type 0
 RecordsCalls (Ok count) caller unit calls old new =
     (count ≡ length calls)
-    × (length (recording_text old) + (release_head + 8 * count) ≤ old.caps.recording)
+    × (length (recording_text old) + (release_head_size + 8 * count) ≤ old.caps.recording)
     × (new ≡ with_hits (with_release old caller unit count) (hits_of calls))
 RecordsCalls (Err room) caller unit calls old new =
-    TellsRoom (Some room) old (release_head + 8 * length calls) × (new ≡ old)
+    TellsRoom (Some room) old (release_head_size + 8 * length calls) × (new ≡ old)

@@ -1,5 +1,5 @@
 // The calls that a release makes.
-ghost use Rattle.osc_model.specs.Limits.{max_methods, release_head};
+ghost use Rattle.osc_model.specs.Limits.{max_methods, release_head_size};
 ghost use Rattle.std.specs.Prelude.{◌≡◌, ◌+◌, ◌*◌, ◌<◌, ◌≤◌, ◌^◌, ℕ, List, length, map, take, Some};
 ghost use Rattle.std.specs.Prelude.{None, IsTrue, IfOk, IfErr, OnOk, OnErr, vec_capacity};
 ghost use Rattle.osc_pattern.specs.Methods.{Method};
@@ -77,10 +77,11 @@ fn start_release(recorder: &mut Recorder, caller: u32, unit: u64, calls: u64) ->
     requires whole { recorder.old.begun ≡ None }
     requires small { recorder.old.caps.recording < 2 ^ 32 }
     ensures count { IfOk result (λ count. count ≡ calls) }
-    ensures fits { OnOk result (length (recording_text recorder.old) + (release_head + 8 * calls)
+    ensures fits { OnOk result (length (recording_text recorder.old) + (release_head_size + 8 * calls)
         ≤ recorder.old.caps.recording) }
     ensures begun { OnOk result (recorder.new ≡ with_release recorder.old caller unit calls) }
-    ensures full { IfErr result (λ room. TellsRoom (Some room) recorder.old (release_head + 8 * calls)) }
+    ensures full { IfErr result
+        (λ room. TellsRoom (Some room) recorder.old (release_head_size + 8 * calls)) }
     ensures same { OnErr result (recorder.new ≡ recorder.old) }
 {
     if let Some(room) = shortage(recorder, release_size(calls)) {

@@ -26,7 +26,7 @@ use crate::units::{enter_all, take_first};
 use osc_atoms::Room;
 use osc_method::Method;
 use osc_model::{Late, Need};
-use osc_packet::Packet;
+use osc_packet::{MAX_STORED, Packet};
 use osc_pattern::Address;
 use osc_queue::Queue;
 use osc_record::{Caps, Recorder};

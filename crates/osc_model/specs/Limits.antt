@@ -42,8 +42,8 @@ abbrev pub header_size : ℕ
 header_size = 60
 
 -- how many bytes the entry of a release has ahead of its hits, which have 8 each
-abbrev pub release_head : ℕ
-release_head = 44
+abbrev pub release_head_size : ℕ
+release_head_size = 44
 
 -- the most bytes of a recording
 abbrev pub max_recording : ℕ

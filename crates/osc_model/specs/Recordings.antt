@@ -14,7 +14,7 @@ use Rattle.osc_model.specs.Events.{Answer, number, callers_full, queued, units_f
 use Rattle.osc_model.specs.Events.{added, refused, removed, not_there, ticked, clock_back, released}
 use Rattle.osc_tree.specs.Adding.{Refusal, taken, under_method, is_container, methods_full}
 use Rattle.osc_tree.specs.Adding.{nodes_full}
-use Rattle.osc_model.specs.Limits.{Limits, release_head}
+use Rattle.osc_model.specs.Limits.{Limits, release_head_size}
 use Rattle.osc_model.specs.declared.late.Late.{Late}
 use Rattle.osc_model.specs.declared.late.Late.TheVariants.{Deliver, Discard}
 
@@ -201,4 +201,4 @@ entry_size (submit packet) answer = 52 + (length packet + blob_end (length packe
 entry_size (add address) answer = 40 + length (string address)
 entry_size (remove address) answer = 36 + length (string address)
 entry_size (tick moment) answer = 48
-entry_size release answer = release_head + 8 * length (option_map_or (λ r. r.1) (releasing answer) [])
+entry_size release answer = release_head_size + 8 * length (option_map_or (λ r. r.1) (releasing answer) [])

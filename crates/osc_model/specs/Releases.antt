@@ -1,6 +1,6 @@
 -- What a release does, in words: it takes the least unit that is due, or there is no room for its
 -- entry, or nothing is due.
-use Rattle.osc_model.specs.Limits.{release_head}
+use Rattle.osc_model.specs.Limits.{release_head_size}
 use Rattle.std.specs.Prelude.{◌≡◌, ◌⊎◌, ℕ, ◌+◌, ◌*◌, ◌<◌, ◌≤◌, List, [], ◌∷◌, Option, Some, None}
 use Rattle.std.specs.Prelude.{slice_index_or, length}
 use Rattle.std.specs.List.{AllByRecursion, Contains}
@@ -16,7 +16,7 @@ use Rattle.osc_model.specs.Step.{Stepped, calls_of_unit, hits_of, invocations_of
 
 -- how many bytes the entry of a unit's release has in a state
 abbrev pub release_size : State → Queued → ℕ
-release_size state unit = release_head + 8 * length (calls_of_unit state.methods unit)
+release_size state unit = release_head_size + 8 * length (calls_of_unit state.methods unit)
 
 -- A unit that is due and the least by due moment and number leaves the queue, exactly the others
 -- stay, its messages are invoked on the methods of that state, and the entry's bytes, for which

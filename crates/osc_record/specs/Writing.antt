@@ -7,7 +7,7 @@ use Rattle.std.specs.List.{AllByRecursion}
 use Rattle.osc_atoms.specs.Atoms.{word, tag, string}
 use Rattle.osc_message.specs.Messages.{tag_string}
 use Rattle.osc_model.specs.Events.{Hit, release, released}
-use Rattle.osc_model.specs.Limits.{Limits, header_size, max_recording, release_head}
+use Rattle.osc_model.specs.Limits.{Limits, header_size, max_recording, release_head_size}
 use Rattle.osc_model.specs.Events.{Entry as Recorded}
 use Rattle.osc_model.specs.Recordings.{IsHit, hits_text, hits_in, record_text}
 use Rattle.osc_record.specs.Reading.{Placed, entries_after}
@@ -98,7 +98,12 @@ entries_in limits bytes = entries_of (entries_after limits bytes)
 -- the release that is begun in bytes
 abbrev pub begun_in : ℕ → ℕ → ℕ → List ℕ → Option Begun
 begun_in caller unit owed bytes = if owed == 0 then None
-    else Some (record { caller = caller; unit = unit; hits = hits_in (drop release_head bytes); owed = owed })
+    else Some (record {
+      caller = caller;
+      unit = unit;
+      hits = hits_in (drop release_head_size bytes);
+      owed = owed;
+    })
 
 -- what kept bytes stand for, where a release that is owed hits begins at a place
 abbrev pub recording_of : Limits → List ℕ → ℕ → ℕ → ℕ → ℕ → Recording
@@ -120,7 +125,7 @@ pub record IsKept (limits : Limits) (bytes : List ℕ)
     (start caller unit owed capacity : ℕ) : Type 0 where
   pub whole : AreWhole limits (take start bytes)
   pub begun : drop start bytes ≡ begun_text (begun_in caller unit owed (drop start bytes))
-  pub hits : AllByRecursion IsHit (hits_in (drop release_head (drop start bytes)))
+  pub hits : AllByRecursion IsHit (hits_in (drop release_head_size (drop start bytes)))
   pub started : start ≤ length bytes
   pub room : length bytes + 8 * owed ≤ limits.recording
   pub small : limits.recording ≤ max_recording

@@ -1,5 +1,5 @@
 // A recording in the making.
-ghost use Rattle.osc_model.specs.Limits.{release_head};
+ghost use Rattle.osc_model.specs.Limits.{release_head_size};
 ghost use Rattle.std.specs.Prelude.{◌≡◌, ◌+◌, ◌*◌, ◌<◌, ◌≤◌, ◌^◌, ◌==◌, ◌++◌, length};
 ghost use Rattle.std.specs.Prelude.{if◌then◌else◌};
 ghost use Rattle.std.specs.Vec.{vec_len, vec_capacity};
@@ -105,7 +105,7 @@ impl Recorder {
     pub fn start_release(&mut self, caller: u32, unit: u64, hits: u32)
         requires caller { caller < 2 ^ 31 }
         requires unit { unit < 2 ^ 63 }
-        requires fits { length (recording_text self.old) + (release_head + 8 * hits)
+        requires fits { length (recording_text self.old) + (release_head_size + 8 * hits)
             ≤ self.old.caps.recording }
         requires none_owed { self.old.begun ≡ None }
         ensures { self.new ≡ with_release self.old caller unit hits }
@@ -154,7 +154,7 @@ fn settled_start(start: u32, end: usize, owed: u32) -> u32
 /// Appends what stands before the hits of a release.
 fn append_release_head(out: &mut Vec<u8>, caller: u32, unit: u64, hits: u32)
     requires small { hits ≤ 134217728 }
-    requires room { vec_len out.old + release_head ≤ vec_capacity out.old }
+    requires room { vec_len out.old + release_head_size ≤ vec_capacity out.old }
     ensures out { out.new.items ≡ out.old.items ++ release_head caller unit hits }
     ensures capacity { vec_capacity out.old ≤ vec_capacity out.new }
 {

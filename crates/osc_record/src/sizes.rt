@@ -1,5 +1,5 @@
 // How many bytes entries have.
-ghost use Rattle.osc_model.specs.Limits.{release_head};
+ghost use Rattle.osc_model.specs.Limits.{release_head_size};
 ghost use Rattle.std.specs.Prelude.{◌≡◌, ◌+◌, ◌*◌, ◌<◌, ◌^◌, length};
 ghost use Rattle.osc_atoms.specs.Atoms.{string, blob_end};
 
@@ -38,7 +38,7 @@ pub fn remove_size(address: &[u8]) -> u64
 /// How many bytes the entry of a release with so many hits has.
 pub fn release_size(hits: u64) -> u64
     requires { hits < 2 ^ 48 }
-    ensures { result ≡ release_head + 8 * hits }
+    ensures { result ≡ release_head_size + 8 * hits }
 {
     RELEASE_HEAD + 8 * hits
 }
