@@ -18,7 +18,7 @@ returns-then-size-self c =
     subst (λ (old : State). adds_entry (step old release).answer ≡ false) c.self.view_is
     (release_full old unit c.take_due.new.self.items c.find_calls.new.calls.hits.items c.in-Some.ensures.taken c.in-Some.ensures.due
     c.in_ok-find_calls.ensures.hits
-    (omega (arith, c.if-size-self.true, c.len-size.ensures)))
+    (omega (arith, c.if-size-self.true, c.len.ensures)))
 
 pub returns : goal.returns
 returns c =
@@ -29,14 +29,14 @@ returns c =
     let with : TimedQueue TimedUnit → ℕ
     → State = λ queue recorded. server_state s.tree queue s.blocks s.clock s.next_id s.next_unit s.callers s.caller_limit recorded s.record_limit s.late in
     let old = with s.queue s.recorded in
-    let long : c.len-size.result ≡ length hits = omega (arith, c.len-size.ensures) in
+    let long : c.len.result ≡ length hits = omega (arith, c.len.ensures) in
     let new = λ (n : ℕ). with c.take_due.new.self (s.recorded + (44 + n)) in
     let limited =
     λ (n : ℕ). record old { caps = record old.caps { units = n }; queue = c.take_due.new.self.items; recorded = s.recorded + (44 + length hits) } in
     let reached : IsReached old = subst IsReached (sym c.self.view_is) c.requires in
-    subst (λ (old : State). (length hits % 8 ≡ 0) × Enters (released c.in-Some.unit (hits_in hits)) calls.lines old release (new c.len-size.result))
+    subst (λ (old : State). (length hits % 8 ≡ 0) × Enters (released c.in-Some.unit (hits_in hits)) calls.lines old release (new c.len.result))
     c.self.view_is
-    (release_enters old (new c.len-size.result) unit c.take_due.new.self.items hits calls.lines c.in-Some.ensures.taken c.in-Some.ensures.due
+    (release_enters old (new c.len.result) unit c.take_due.new.self.items hits calls.lines c.in-Some.ensures.taken c.in-Some.ensures.due
     c.in_ok-find_calls.ensures.hits c.in_ok-find_calls.ensures.lines
     (hits_fit c.a_server_stays_sound.ensures.after c.a_legal_history_is_recordable.ensures.next old reached)
-    (omega (arith, c.if-size-self.false, c.len-size.ensures)) (ap new long ∙ ap limited c.in-Some.ensures.limit))
+    (omega (arith, c.if-size-self.false, c.len.ensures)) (ap new long ∙ ap limited c.in-Some.ensures.limit))
