@@ -8,6 +8,7 @@ mod Matches
 mod Reaches
 mod Moves
 mod Onward
+mod ReadOnce
 pub mod PatternLaws
 mod AddressLaws
 pub mod Parts

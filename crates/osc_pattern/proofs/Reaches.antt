@@ -1,6 +1,7 @@
 -- What is left of a name at the places that a pattern's items reach.
 use Rattle.std.proofs.Common.{◌≡◌, ℕ, ◌+◌, ◌*◌, ◌-◌, ◌^◌, ◌%◌, ◌<◌, ◌≤◌, Bool, true, false, ◌||◌, ◌&&◌, ◌==◌, Some, None, List, [], ◌∷◌, ◌++◌}
 use Rattle.std.proofs.Common.{length, take, drop, refl, arith, sym, ap, subst, ◌∙◌, w64}
+use Rattle.std.specs.Prelude.{if◌then◌else◌}
 use Rattle.std.specs.Int.{bit_at}
 use Rattle.std.specs.Int.RustNames.{bit_or}
 use Rattle.std.specs.List.{list_any}
@@ -165,20 +166,20 @@ or_false : (t : Bool) → (t || false) ≡ t
 or_false true = refl
 or_false false = refl
 
--- a byte that is a text of the item
-pub any_rest-byte : (item : Item) (test : List ℕ → Bool) (old new : ℕ → Bool) (here : Bool) (place : ℕ) (name : List ℕ) (byte : ℕ) (after : List ℕ)
+-- a byte that passes a test
+pub any_rest-byte : (has : Bool) (test : List ℕ → Bool) (old new : ℕ → Bool) (here : Bool) (place : ℕ) (name after : List ℕ)
     → drop (place + 1) name ≡ after → place + 1 ≤ length name
-    → here ≡ true → has_byte item byte ≡ true → Added (place + 1) old new
-    → any_rest test new 0 name ≡ (any_rest test old 0 name || (here && list_any test (after_byte item (byte ∷ after))))
-any_rest-byte item test old new here place name byte after left within reached has added =
+    → here ≡ true → has ≡ true → Added (place + 1) old new
+    → any_rest test new 0 name ≡ (any_rest test old 0 name || (here && list_any test (if has then after ∷ [] else [])))
+any_rest-byte has test old new here place name after left within reached is added =
     any_rest-added test old new (place + 1) name added within
-    ∙ rw (reached, has, left) (ap (λ t. any_rest test old 0 name || t) (sym (or_false (test after))))
+    ∙ rw (reached, is, left) (ap (λ t. any_rest test old 0 name || t) (sym (or_false (test after))))
 
-pub other_byte : (item : Item) (test : List ℕ → Bool) (done here : Bool) (byte : ℕ) (after : List ℕ) → has_byte item byte ≡ false
-    → done ≡ (done || (here && list_any test (after_byte item (byte ∷ after))))
-other_byte item test true here byte after e = refl
-other_byte item test false true byte after e = rw e refl
-other_byte item test false false byte after e = refl
+pub other_byte : (has : Bool) (test : List ℕ → Bool) (done here : Bool) (after : List ℕ) → has ≡ false
+    → done ≡ (done || (here && list_any test (if has then after ∷ [] else [])))
+other_byte has test true here after e = refl
+other_byte has test false true after e = rw e refl
+other_byte has test false false after e = refl
 
 pub next_row : (place size : ℕ) → (place + 1) * size ≡ place * size + size
 next_row place size = omega (arith, add-mul place 1 size)

@@ -6,5 +6,6 @@ pub mod Reading
 pub mod Patterns
 pub mod Addresses
 pub mod Methods
+pub mod ReadyParts
 -- Inside the crate.
 pub mod Views

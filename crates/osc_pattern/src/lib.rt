@@ -2,6 +2,7 @@
 #![tactic(auto)]
 
 mod address;
+mod bytes;
 mod check;
 mod cut;
 mod faults;
@@ -13,10 +14,12 @@ mod matcher;
 mod pattern;
 mod places;
 mod ranges;
+mod ready;
 mod steps;
 
 pub use address::Address;
 pub use faults::{AddressFault, PatternFault};
 pub use limits::{MAX_ADDRESS, MAX_NAME, MAX_NAMES, MAX_PATTERN};
 pub use pattern::Pattern;
+pub use ready::{Part, ReadyPart};
 pub use steps::Steps;

@@ -11,3 +11,6 @@ pub const MAX_ADDRESS: usize = 255;
 
 /// The most names of an address.
 pub const MAX_NAMES: usize = 16;
+
+/// The most items of a part that are made ready. What follows them is read anew for each name.
+pub(crate) const MOST_READY: usize = 128;

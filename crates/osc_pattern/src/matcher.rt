@@ -8,11 +8,15 @@ ghost use Rattle.osc_pattern.specs.Cuts.{rests, after_text, after_byte, after_it
 ghost use Rattle.osc_pattern.specs.Reading.{match_part};
 ghost use Rattle.osc_pattern.specs.Views.{item_of, passes, is_choice, idle_bytes, begins_empty};
 ghost use Rattle.osc_pattern.specs.Views.{AreMarks};
+ghost use Rattle.osc_pattern.specs.ReadyParts.{match_ready, all_ready_size, ready_size};
+ghost use Rattle.osc_pattern.specs.ReadyParts.{after_ready, after_one, is_as};
 
+use crate::bytes::ByteSet;
 use crate::item::{Item, first_item, has_byte};
 use crate::marks::{below_of, marks_of};
 use crate::places::Places;
 use crate::ranges::places_in_set;
+use crate::ready::{Part, Ready};
 use crate::steps::Steps;
 use std::sync::ledger::Ledger;
 
@@ -95,6 +99,31 @@ fn match_choices<L: Ledger>(part: &[u8], from: &Places, name: &[u8], steps: &mut
     part.is_empty() && reached.has(name.len())
 }
 
+/// Whether a part whose items were made ready matches a name.
+pub(crate) fn match_ready<L: Ledger>(part: Part<'_>, name: &[u8], steps: &mut Steps<L>) -> bool
+    requires { length name.now ≤ MAX_NAME }
+    ensures value { result ≡ match_ready part.entry.items.now part.entry.rest.now name.now }
+    ensures begun { steps.old < steps.new }
+    ensures bounded { steps.new ≤ steps.old + (length name.now + 1)
+        * (all_ready_size part.entry.items.now + length part.entry.rest.now) + 1 }
+{
+    if part.items.is_empty() {
+        return match_part(part.rest, name, steps);
+    }
+    steps.tick();
+    let marks = marks_of(name);
+    let mut reached = first_place();
+    let mut items = part.items;
+    while let [item, others @ ..] = items {
+        if reached.is_empty() {
+            return false;
+        }
+        reached = places_after_ready(item, &reached, &marks, name, steps);
+        items = others;
+    }
+    match_choices(part.rest, &reached, name, steps)
+}
+
 /// The first place alone.
 fn first_place() -> Places
     ensures { (test : List ℕ → Bool) (name : List ℕ) → passes test result name ≡ test name }
@@ -105,7 +134,7 @@ fn first_place() -> Places
 }
 
 /// What follows an item, without what adds nothing there.
-fn behind<'a>(item: Item<'_>, others: &'a [u8]) -> &'a [u8]
+pub(crate) fn behind<'a>(item: Item<'_>, others: &'a [u8]) -> &'a [u8]
     ensures same { (name : List ℕ)
         → list_any (match_part result.now) (after_item (item_of item.entry) name)
         ≡ list_any (match_part others.now) (after_item (item_of item.entry) name) }
@@ -146,7 +175,7 @@ fn idle_bytes(part: &[u8]) -> usize
 }
 
 /// The part behind each `{}` that it begins with. They match the empty text alone.
-fn without_empty(part: &[u8]) -> &[u8]
+pub(crate) fn without_empty(part: &[u8]) -> &[u8]
     ensures same { (name : List ℕ) → match_part result.now name ≡ match_part part.now name }
     ensures shorter { length result.now ≤ length part.now }
 {
@@ -174,6 +203,59 @@ fn is_choice(item: Item<'_>) -> bool
     match item {
         Item::Choice(_) => true,
         Item::Any | Item::Star | Item::Set(_) | Item::Plain(_) => false,
+    }
+}
+
+/// The places that stand after a text of the item from one of these.
+fn places_after_ready<L: Ledger>(
+    item: &Ready<'_>,
+    reached: &Places,
+    marks: &[u64; 256],
+    name: &[u8],
+    steps: &mut Steps<L>,
+) -> Places
+    requires short { length name.now ≤ MAX_NAME }
+    requires marks { AreMarks marks.now name.now }
+    ensures value { (test : List ℕ → Bool) → passes test result name.now
+        ≡ passes (λ rest. list_any test (after_ready item.now rest)) reached.now name.now }
+    ensures counted { steps.old ≤ steps.new }
+    ensures bounded { steps.new ≤ steps.old + (length name.now + 1) * ready_size item.now }
+{
+    match item {
+        Ready::OneOf(bytes) => after_one(bytes, true, reached, name, steps),
+        Ready::NoneOf(bytes) => after_one(bytes, false, reached, name, steps),
+        Ready::Other(item) => places_after_any(*item, reached, marks, name, steps),
+    }
+}
+
+/// The places that stand one byte after one of these, where the byte is in the set, or where it isn't.
+fn after_one<L: Ledger>(
+    bytes: &ByteSet,
+    within: bool,
+    reached: &Places,
+    name: &[u8],
+    steps: &mut Steps<L>,
+) -> Places
+    requires { length name.now ≤ MAX_NAME }
+    ensures value { (test : List ℕ → Bool) → passes test result name.now
+        ≡ passes (λ rest. list_any test (after_one (is_as bytes.now within) rest)) reached.now
+        name.now }
+    ensures counted { steps.old ≤ steps.new }
+    ensures bounded { steps.new ≤ steps.old + (length name.now + 1) }
+{
+    let mut next = Places::none();
+    let mut place = 0;
+    let mut rest = name;
+    loop {
+        steps.tick();
+        let [byte, after @ ..] = rest else {
+            return next;
+        };
+        if reached.has(place) && bytes.has(*byte) == within {
+            next.add(place + 1);
+        }
+        place += 1;
+        rest = after;
     }
 }
 

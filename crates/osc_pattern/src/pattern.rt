@@ -11,12 +11,14 @@ ghost use Rattle.osc_pattern.specs.Reading.{match_part};
 ghost use Rattle.osc_pattern.specs.Patterns.{IsPattern, IsFault, Match, begins_with_slash};
 ghost use Rattle.osc_pattern.specs.Patterns.{parts_of, part_at, is_pattern, pattern_fault, matches};
 ghost use Rattle.osc_pattern.specs.Patterns.{match_parts};
+ghost use Rattle.osc_pattern.specs.ReadyParts.{StandsFor};
 
 use crate::address::Address;
 use crate::check::first_fault;
 use crate::cut::{count, first_piece};
 use crate::faults::PatternFault;
-use crate::matcher::match_part;
+use crate::matcher::{match_part, match_ready};
+use crate::ready::Part;
 use crate::steps::Steps;
 use std::marker::Model;
 use std::sync::ledger::Ledger;
@@ -119,7 +121,7 @@ impl<'a> Pattern<'a> {
         ensures bounded { steps.new
             ≤ steps.old + (length (part_at self.now part) + 1) * (length name.now + 1) }
     {
-        self.matches_found(part, self.part(part), name, steps)
+        self.matches_found(part, Part::whole(self.part(part)), name, steps)
     }
 
     /// The same, for a part that `part` found before, so that it isn't looked for again for each name.
@@ -127,12 +129,12 @@ impl<'a> Pattern<'a> {
     pub fn matches_found<L: Ledger>(
         &self,
         part: u32,
-        found: &[u8],
+        found: Part<'_>,
         name: &[u8],
         steps: &mut Steps<L>,
     ) -> bool
         requires part { part < length (parts_of self.now) }
-        requires found { found.now ≡ part_at self.now part }
+        requires found { StandsFor found (part_at self.now part) }
         requires name { length name.now ≤ MAX_NAME }
         ensures exact { IsTrue result ↔ MatchesName (part_at self.now part) name.now }
         ensures test { result ≡ match_part (part_at self.now part) name.now }
@@ -141,7 +143,7 @@ impl<'a> Pattern<'a> {
         ensures bounded { steps.new
             ≤ steps.old + (length (part_at self.now part) + 1) * (length name.now + 1) }
     {
-        match_part(found, name, steps)
+        match_ready(found, name, steps)
     }
 
     /// Whether the pattern matches the address: both have as many parts, and each part matches the name at its

@@ -4,6 +4,9 @@ use Rattle.std.specs.Prelude.{List, [], ◌∷◌, length, take, filter, map, ge
 use Rattle.std.specs.Str.{bytes_eq}
 use Rattle.osc_pattern.specs.Patterns.{parts_of, part_at, matches}
 use Rattle.osc_pattern.specs.Reading.{match_part}
+use Rattle.osc_pattern.specs.ReadyParts.{StandsFor, IsReadOf}
+use Rattle.osc_pattern.specs.declared.ready.Part.{Part}
+use Rattle.osc_pattern.specs.declared.ready.ReadyPart.{ReadyPart}
 use Rattle.osc_pattern.specs.Methods.{Method, IsMethodList, prefixes_of, distinct}
 use Rattle.osc_tree.specs.Matching.{IsAscending}
 
@@ -83,7 +86,12 @@ pub record IsSorted (methods : List Method) : Type 0 where
   pub list : IsMethodList methods
   pub ascending : IsAscending methods
 
--- each part of the pattern stands at its place in the list
-abbrev pub AreParts : List (List ℕ) → List ℕ → Type 0
-AreParts found pattern = (place : ℕ) → place < length (parts_of pattern)
-    → get_or found place [] ≡ part_at pattern place
+-- what stands at each place of the list stands for the pattern's part there
+abbrev pub AreParts : List Part → List ℕ → Type 0
+AreParts found pattern = (place : ℕ) (d : Part) → place < length (parts_of pattern)
+    → StandsFor (get_or found place d) (part_at pattern place)
+
+-- what stands at each place of the list was read of the pattern's part there
+abbrev pub AreReadyParts : List ReadyPart → List ℕ → Type 0
+AreReadyParts read pattern = (place : ℕ) (d : ReadyPart) → place < length (parts_of pattern)
+    → IsReadOf (get_or read place d) (part_at pattern place)

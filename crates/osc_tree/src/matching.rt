@@ -9,6 +9,7 @@ ghost use Rattle.osc_pattern.specs.Items.{is_slash};
 ghost use Rattle.osc_pattern.specs.Methods.{IsMethodList};
 ghost use Rattle.osc_pattern.specs.Patterns.{parts_of, part_at, is_special, matches};
 ghost use Rattle.osc_pattern.specs.Reading.{match_part};
+ghost use Rattle.osc_pattern.specs.ReadyParts.{StandsFor};
 ghost use Rattle.osc_tree.specs.Matching.{matching_ids};
 ghost use Rattle.osc_tree.specs.Order.{IsOrder};
 ghost use Rattle.osc_tree.specs.Views.{method_at, methods_of, methods_at};
@@ -19,10 +20,10 @@ use crate::beginning::beginning_with;
 use crate::literal::first_special;
 use crate::lookup::id_at;
 use crate::names::{count_names, first_name, names_of, shared_names};
-use crate::parts::find_parts;
+use crate::parts::{find_parts, read_parts, ready_parts};
 use crate::registered::Registered;
 use osc_pattern::laws::{plain_pattern, tests_are_exact};
-use osc_pattern::{MAX_NAMES, Pattern, Steps};
+use osc_pattern::{MAX_NAMES, Part, Pattern, Steps};
 use std::sync::ledger::Ledger;
 
 /// Fills the list with the ids of the methods that the pattern matches, in ascending order of the address. A pattern
@@ -53,8 +54,7 @@ pub(crate) fn find_ids<L: Ledger>(
     match first_special(text) {
         Some(end) => {
             let near = beginning_with(methods, places, &text[..end]);
-            let found = find_parts(pattern, parts);
-            walk(methods, near, pattern, parts, &found, ids, steps);
+            walk(methods, near, pattern, parts, ids, steps);
         }
         None => add_spelled(methods, places, pattern, ids),
     }
@@ -78,19 +78,55 @@ fn add_spelled(methods: &[Registered], places: &[u32], pattern: &Pattern<'_>, id
     }
 }
 
+/// A pattern with more bytes than this is worth reading once for all names.
+const SHORT_PATTERN: usize = 256;
+
 /// Adds the ids of those of the methods at these places that the pattern matches.
 fn walk<L: Ledger>(
     methods: &[Registered],
     near: &[u32],
     pattern: &Pattern<'_>,
     parts: u32,
-    found: &[&[u8]; 16],
     ids: &mut Vec<u32>,
     steps: &mut Steps<L>,
 )
     requires parts { parts ≡ length (parts_of pattern.now) }
     requires few { parts ≤ 16 }
-    requires found { AreParts (map (λ part. part.now) found.now) pattern.now }
+    requires within { All (λ place. place < length methods.now) near.now }
+    requires sorted { IsSorted (methods_at methods.now near.now) }
+    requires empty { ids.old.items ≡ [] }
+    requires room { length near.now ≤ vec_capacity ids.old }
+    ensures ids { ids.new.items ≡ map (λ method. method.id)
+        (filter (λ method. matches pattern.now method.address) (methods_at methods.now near.now)) }
+    ensures len { vec_len ids.new ≤ length near.now }
+    ensures capacity { vec_capacity ids.old ≤ vec_capacity ids.new }
+    ensures counted { steps.old ≤ steps.new }
+    ensures bounded { steps.new
+        ≤ steps.old + most_steps pattern.now (methods_at methods.now near.now) }
+{
+    if pattern.bytes().len() > SHORT_PATTERN {
+        let read = read_parts(pattern, parts);
+        let found = ready_parts(pattern, parts, &read);
+        walk_found(methods, near, pattern, parts, &found, ids, steps);
+    } else {
+        let found = find_parts(pattern, parts);
+        walk_found(methods, near, pattern, parts, &found, ids, steps);
+    }
+}
+
+/// The same, for the parts that were found.
+fn walk_found<L: Ledger>(
+    methods: &[Registered],
+    near: &[u32],
+    pattern: &Pattern<'_>,
+    parts: u32,
+    found: &[Part<'_>; 16],
+    ids: &mut Vec<u32>,
+    steps: &mut Steps<L>,
+)
+    requires parts { parts ≡ length (parts_of pattern.now) }
+    requires few { parts ≤ 16 }
+    requires found { AreParts found.now pattern.now }
     requires within { All (λ place. place < length methods.now) near.now }
     requires sorted { IsSorted (methods_at methods.now near.now) }
     requires empty { ids.old.items ≡ [] }
@@ -117,13 +153,13 @@ fn visit<L: Ledger>(
     at: usize,
     pattern: &Pattern<'_>,
     parts: u32,
-    found: &[&[u8]; 16],
+    found: &[Part<'_>; 16],
     ids: &mut Vec<u32>,
     steps: &mut Steps<L>,
 ) -> usize
     requires parts { parts ≡ length (parts_of pattern.now) }
     requires few { parts ≤ 16 }
-    requires found { AreParts (map (λ part. part.now) found.now) pattern.now }
+    requires found { AreParts found.now pattern.now }
     requires within { All (λ place. place < length methods.now) places.now }
     requires sorted { IsSorted (methods_at methods.now places.now) }
     requires at { at < length places.now }
@@ -167,14 +203,14 @@ fn known_at(methods: &[Registered], places: &[u32], at: usize) -> usize
 fn count_matching<L: Ledger>(
     pattern: &Pattern<'_>,
     parts: u32,
-    found: &[&[u8]; 16],
+    found: &[Part<'_>; 16],
     known: usize,
     names: &[u8],
     steps: &mut Steps<L>,
 ) -> u32
     requires parts { parts ≡ length (parts_of pattern.now) }
     requires few { parts ≤ 16 }
-    requires found { AreParts (map (λ part. part.now) found.now) pattern.now }
+    requires found { AreParts found.now pattern.now }
     requires short { All (λ name. length name ≤ MAX_NAME) (slice_split is_slash names.now) }
     requires known { known ≤ agreeing (parts_of pattern.now) (slice_split is_slash names.now) }
     ensures count { result ≡ agreeing (parts_of pattern.now) (slice_split is_slash names.now) }
@@ -203,13 +239,13 @@ fn count_matching<L: Ledger>(
 fn is_matching<L: Ledger>(
     pattern: &Pattern<'_>,
     place: u32,
-    part: &[u8],
+    part: Part<'_>,
     known: usize,
     name: &[u8],
     steps: &mut Steps<L>,
 ) -> bool
     requires place { place < length (parts_of pattern.now) }
-    requires part { part.now ≡ part_at pattern.now place }
+    requires part { StandsFor part (part_at pattern.now place) }
     requires name { length name.now ≤ MAX_NAME }
     requires known { 0 < known → match_part (part_at pattern.now place) name.now ≡ true }
     ensures test { result ≡ match_part (part_at pattern.now place) name.now }

@@ -1,20 +1,50 @@
 // The parts of a pattern, found once for all methods.
-ghost use Rattle.std.specs.Prelude.{◌≡◌, ◌≤◌, length, map};
+ghost use Rattle.std.specs.Prelude.{◌≡◌, ◌≤◌, length};
 ghost use Rattle.osc_pattern.specs.Patterns.{parts_of};
-ghost use Rattle.osc_tree.specs.Walking.{AreParts};
+ghost use Rattle.osc_tree.specs.Walking.{AreParts, AreReadyParts};
 
-use osc_pattern::Pattern;
+use osc_pattern::{Part, Pattern, ReadyPart};
 
 /// The parts of a pattern that has no more of them than an address has names. The places behind them are empty.
-pub(crate) fn find_parts<'a>(pattern: &Pattern<'a>, count: u32) -> [&'a [u8]; 16]
+pub(crate) fn find_parts<'a>(pattern: &Pattern<'a>, count: u32) -> [Part<'a>; 16]
     requires count { count ≡ length (parts_of pattern.now) }
     requires few { count ≤ 16 }
-    ensures { AreParts (map (λ part. part.now) result) pattern.now }
+    ensures { AreParts result pattern.now }
 {
-    let none: &[u8] = b"";
-    let mut found = [none; 16];
+    let mut found = [Part::whole(b""); 16];
     for place in 0..count {
-        found[place as usize] = pattern.part(place);
+        found[place as usize] = Part::whole(pattern.part(place));
+    }
+    found
+}
+
+/// The same parts, each read once for all names.
+pub(crate) fn read_parts<'a>(pattern: &Pattern<'a>, count: u32) -> [ReadyPart<'a>; 16]
+    requires count { count ≡ length (parts_of pattern.now) }
+    requires few { count ≤ 16 }
+    ensures { AreReadyParts result pattern.now }
+{
+    let mut read = [ReadyPart::empty(); 16];
+    for place in 0..count {
+        read[place as usize] = ReadyPart::read(pattern.part(place));
+    }
+    read
+}
+
+/// The parts that were read, to be tried on names.
+pub(crate) fn ready_parts<'a>(
+    pattern: &Pattern<'_>,
+    count: u32,
+    read: &'a [ReadyPart<'a>; 16],
+) -> [Part<'a>; 16]
+    requires count { count ≡ length (parts_of pattern.now) }
+    requires few { count ≤ 16 }
+    requires read { AreReadyParts read.now pattern.now }
+    ensures { AreParts result pattern.now }
+{
+    let mut found = [Part::whole(b""); 16];
+    for place in 0..count {
+        found[place as usize] = read[place as usize].part();
     }
     found
 }

@@ -2,7 +2,7 @@ use Rattle.std.proofs.Common.{◌≡◌, ◌≤◌, ◌+◌, ◌||◌, ◌&&◌,
 use Rattle.std.proofs.Math.ListN.{get_or}
 use Rattle.std.specs.List.{list_any}
 use Rattle.osc_pattern.specs.Items.{item_text}
-use Rattle.osc_pattern.specs.Cuts.{after_byte}
+use Rattle.osc_pattern.specs.Cuts.{has_byte, after_byte}
 use Rattle.osc_pattern.specs.Views.{item_of, is_place_of, passes}
 use Rattle.osc_pattern.proofs.Reaches.{any_rest-none, any_rest-next, any_rest-byte, not_reached, other_byte, next_row, first_and_rest}
 use Rattle.osc_pattern.proofs.Reaches.{drop-next}
@@ -40,12 +40,12 @@ loop-rest-preserved g c =
     elim c.if-has.branch [
       | then-has+then-has_byte w ↦
           ap (λ p. passes test p name) w.next-is
-          ∙ any_rest-byte item test (is_place_of c.loop-rest.next) (is_place_of w.add.new.self) here place name byte after left within
+          ∙ any_rest-byte (has_byte item byte) test (is_place_of c.loop-rest.next) (is_place_of w.add.new.self) here place name after left within
           (sym c.has.ensures ∙ w.if-has.true) (sym w.has_byte.ensures.value ∙ w.if-has_byte.true) w.add.ensures
       | else-has w ↦
           ap (λ p. passes test p name) w.next-is
           ∙ elim w.else-has.branch [
-            | else-has-via-then-has+else-has_byte u ↦ other_byte item test (before test) here byte after (sym u.has_byte.ensures.value ∙ u.if-has_byte.false)
+            | else-has-via-then-has+else-has_byte u ↦ other_byte (has_byte item byte) test (before test) here after (sym u.has_byte.ensures.value ∙ u.if-has_byte.false)
             | else-has-via-else-has u ↦ not_reached (before test) here _ (sym c.has.ensures ∙ u.if-has.false)
           ]
     ] in

@@ -7,7 +7,6 @@ use Rattle.osc_pattern.specs.Reading.{match_part}
 use Rattle.osc_pattern.specs.Patterns.{parts_of, part_at}
 use Rattle.osc_tree.specs.Walking.{agreeing, part_steps, spent}
 use Rattle.osc_tree.proofs.Alike.{agree_here, spent_here, known_matches, none_left, first_piece_is}
-use Rattle.osc_tree.proofs.Tables.{found-part}
 use Rattle.osc_tree.proofs.matching.count_matching.Goals as goal
 
 pub is_matching-requires-clause-known : goal.is_matching-requires-clause-known
@@ -22,8 +21,7 @@ is_matching-requires-clause-known g c =
 
 pub is_matching-requires-clause-part : goal.is_matching-requires-clause-part
 is_matching-requires-clause-part g c =
-    let place = c.loop-place.place in
-    found-part c.args.found.now c.args.pattern.now place _ (omega (arith, c.requires.few)) (c.requires.found place (omega (arith, c.requires.parts)))
+    c.requires.found c.loop-place.place _ (omega (arith, c.requires.parts))
 
 pub returns-then-not-is_matching-clause-count : goal.returns-then-not-is_matching-clause-count
 returns-then-not-is_matching-clause-count g c =

@@ -1,7 +1,7 @@
 use Rattle.std.proofs.Common.{◌≤◌, ◌+◌, ◌-◌, length, take, vec_capacity}
 use Rattle.osc_tree.specs.Views.{methods_at}
 use Rattle.osc_tree.specs.Walking.{most_steps, IsWalked}
-use Rattle.osc_tree.proofs.matching.walk.Given as goal
+use Rattle.osc_tree.proofs.matching.walk_found.Given as goal
 
 abbrev pub invariant-loop-at : goal.invariant-loop-at
 invariant-loop-at g l = record {

@@ -6,7 +6,7 @@ use Rattle.osc_tree.specs.Views.{methods_at}
 use Rattle.osc_tree.specs.Walking.{most_steps}
 use Rattle.osc_tree.proofs.InOrder.{methods_at-length}
 use Rattle.osc_tree.proofs.Walks.{walked_few}
-use Rattle.osc_tree.proofs.matching.walk.Goals as goal
+use Rattle.osc_tree.proofs.matching.walk_found.Goals as goal
 
 pub returns-clause-ids : goal.returns-clause-ids
 returns-clause-ids g c =

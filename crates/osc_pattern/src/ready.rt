@@ -1,0 +1,100 @@
+//! Parts whose lists are read once for all names.
+ghost use Rattle.osc_pattern.specs.declared.limits.TheConstants.{MOST_READY};
+ghost use Rattle.std.specs.Prelude.{◌≡◌, ◌≤◌, ◌+◌, ℕ, List, length, take};
+ghost use Rattle.osc_pattern.specs.Items.{item_text};
+ghost use Rattle.osc_pattern.specs.Cuts.{after_item};
+ghost use Rattle.osc_pattern.specs.Views.{item_of};
+ghost use Rattle.osc_pattern.specs.ReadyParts.{after_ready, ready_size, IsReadOf, StandsFor};
+
+use crate::bytes::ByteSet;
+use crate::item::{Item, first_item};
+use crate::limits::MOST_READY;
+use crate::matcher::{behind, without_empty};
+
+/// An item whose list, if it is one, has been read.
+#[derive(Clone, Copy)]
+pub(crate) enum Ready<'a> {
+    OneOf(ByteSet),
+    NoneOf(ByteSet),
+    Other(Item<'a>),
+}
+
+/// Room for the items of a part, and what follows them.
+#[derive(Clone, Copy)]
+pub struct ReadyPart<'a> {
+    items: [Ready<'a>; MOST_READY],
+    count: usize,
+    rest: &'a [u8],
+}
+
+/// A part as it is tried on names: the items that were made ready, and the text behind them.
+#[derive(Clone, Copy)]
+pub struct Part<'a> {
+    pub(crate) items: &'a [Ready<'a>],
+    pub(crate) rest: &'a [u8],
+}
+
+impl<'a> ReadyPart<'a> {
+    /// The empty part.
+    pub fn empty() -> ReadyPart<'a> {
+        ReadyPart {
+            items: [Ready::Other(Item::Any); MOST_READY],
+            count: 0,
+            rest: b"",
+        }
+    }
+
+    /// Reads the part's lists, and leaves out what adds nothing.
+    pub fn read(part: &'a [u8]) -> ReadyPart<'a>
+        ensures { IsReadOf result part.now }
+    {
+        let mut items = [Ready::Other(Item::Any); MOST_READY];
+        let mut count = 0;
+        let mut rest = without_empty(part);
+        while count < MOST_READY {
+            let Some((item, others)) = first_item(rest) else {
+                break;
+            };
+            items[count] = ready_item(item);
+            count += 1;
+            rest = behind(item, others);
+        }
+        ReadyPart { items, count, rest }
+    }
+
+    /// The part, to be tried on names.
+    pub fn part(&self) -> Part<'_>
+        requires { self.now.count ≤ MOST_READY }
+        ensures items { result.items.now ≡ take self.now.count self.now.items }
+        ensures rest { result.rest.now ≡ self.now.rest.now }
+    {
+        Part {
+            items: &self.items[..self.count],
+            rest: self.rest,
+        }
+    }
+}
+
+impl<'a> Part<'a> {
+    /// The part as it stands.
+    pub fn whole(part: &'a [u8]) -> Part<'a>
+        ensures { StandsFor result part.now }
+    {
+        Part {
+            items: &[],
+            rest: part,
+        }
+    }
+}
+
+/// The item, with its list read.
+fn ready_item(item: Item<'_>) -> Ready<'_>
+    ensures same { (name : List ℕ) → after_ready result name ≡ after_item (item_of item.entry) name }
+    ensures size { ready_size result ≤ length (item_text (item_of item.entry)) }
+{
+    match item {
+        Item::Set([b'!', rest @ ..]) => Ready::NoneOf(ByteSet::of(rest)),
+        Item::Set(list) => Ready::OneOf(ByteSet::of(list)),
+        Item::Any | Item::Star | Item::Choice(_) | Item::Plain(_) => Ready::Other(item),
+    }
+}
