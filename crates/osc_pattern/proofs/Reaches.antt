@@ -11,7 +11,7 @@ use native.Mathlib.Nat.{add-mul, mul-add}
 use Rattle.std.proofs.lemmas.Nat.Bits.{bit_at_set_same, bit_at_set_other}
 use Rattle.std.proofs.lemmas.Bool.Decides.{nat_tests}
 use Rattle.osc_pattern.specs.Items.{Item, item_text}
-use Rattle.osc_pattern.specs.Cuts.{has_byte, after_byte, after_item, any_rest}
+use Rattle.osc_pattern.specs.Cuts.{after_item, any_rest}
 use Rattle.osc_pattern.specs.Reading.{first_item, match_part}
 use Rattle.osc_pattern.proofs.Readings.{FirstItem, first_item-found}
 use Rattle.osc_pattern.proofs.Matches.{match_part-item, match_part-stuck}

@@ -1,7 +1,7 @@
 -- Items whose lists are read once: the sets of their bytes, and what they match.
-use Rattle.std.proofs.Common.{◌≡◌, ℕ, zero, suc, ◌+◌, ◌*◌, ◌/◌, ◌%◌, ◌^◌, ◌<◌, ◌≤◌, Bool, true, false, ◌||◌, ◌&&◌, ◌==◌, nat_lt, nat_le, min, max, not}
+use Rattle.std.proofs.Common.{◌≡◌, ℕ, ◌+◌, ◌*◌, ◌/◌, ◌%◌, ◌^◌, ◌<◌, ◌≤◌, Bool, true, false, ◌||◌, ◌==◌, not}
 use Rattle.std.proofs.Common.{List, [], ◌∷◌, ◌++◌, ◌-◌, length, take, drop, refl, arith, sym, ap, ◌∙◌}
-use Rattle.std.specs.Prelude.{set}
+use Rattle.std.specs.Prelude.{if◌then◌else◌, set as with_set}
 use Rattle.std.specs.Bool.{beq}
 use Rattle.std.specs.Int.{bit_at}
 use Rattle.std.specs.Int.RustNames.{bit_or}
@@ -10,24 +10,25 @@ use Rattle.std.proofs.Math.ListN.{get_or}
 use Rattle.std.proofs.lemmas.List.{get_or-set_same, get_or-set_other, take_rest}
 use Rattle.std.proofs.lemmas.Bool.Decides.{nat_tests}
 use Rattle.std.proofs.Math.Nat.{mul_comm}
-use Rattle.osc_pattern.specs.Cuts.{any_rest}
+use Rattle.osc_pattern.specs.Items.{is_in_set, set}
+use Rattle.osc_pattern.specs.Cuts.{any_rest, after_byte}
 use Rattle.osc_pattern.specs.Reading.{match_part}
 use Rattle.osc_pattern.specs.declared.bytes.ByteSet.{ByteSet}
-use Rattle.osc_pattern.specs.ReadyParts.{is_one_of, is_as, after_ready, match_ready, ready_size, all_ready_size, IsReady}
+use Rattle.osc_pattern.specs.ReadyParts.{is_one_of, is_as, after_one, after_ready, match_ready, ready_size, all_ready_size, IsReady}
 use Rattle.osc_pattern.specs.declared.ready.Ready.{Ready}
 use Rattle.osc_pattern.proofs.Reaches.{bits-added, next_row, rows_split}
 use Rattle.osc_pattern.proofs.Moves.{same_any, rows_less}
 
 -- one byte is added
 pub one_added : (words : List ℕ) (byte : ℕ) → length words ≡ 4 → byte < 256 → (other : ℕ)
-    → (bit_at (get_or (set words (byte / 64) (bit_or (get_or words (byte / 64) 0) (1 * 2 ^ (byte % 64) % 2 ^ 64))) (other / 64) 0) (other % 64) == 1)
+    → (bit_at (get_or (with_set words (byte / 64) (bit_or (get_or words (byte / 64) 0) (1 * 2 ^ (byte % 64) % 2 ^ 64))) (other / 64) 0) (other % 64) == 1)
     ≡ (other == byte || bit_at (get_or words (other / 64) 0) (other % 64) == 1)
 one_added words byte size small other = go (other / 64 == byte / 64) refl where
   new : ℕ
   new = bit_or (get_or words (byte / 64) 0) (1 * 2 ^ (byte % 64) % 2 ^ 64)
 
   go : (t : Bool) → (other / 64 == byte / 64) ≡ t
-      → (bit_at (get_or (set words (byte / 64) (bit_or (get_or words (byte / 64) 0) (1 * 2 ^ (byte % 64) % 2 ^ 64))) (other / 64) 0) (other % 64) == 1)
+      → (bit_at (get_or (with_set words (byte / 64) (bit_or (get_or words (byte / 64) 0) (1 * 2 ^ (byte % 64) % 2 ^ 64))) (other / 64) 0) (other % 64) == 1)
       ≡ (other == byte || bit_at (get_or words (other / 64) 0) (other % 64) == 1)
   go true e =
       let same : other / 64 ≡ byte / 64 = grind (arith, nat_tests) in
@@ -97,3 +98,8 @@ ready_spent items first places rest old new most some spent bound =
     let size = first_size items first some in
     let rows = rows_split places own (others + rest) (all_ready_size items + rest) (omega arith) in
     omega arith
+
+-- what a set matches alone
+pub set_read : (own : ℕ → Bool) (list : List ℕ) → ((byte : ℕ) → own byte ≡ is_in_set list byte) → (name : List ℕ) → after_one own name ≡ after_byte (set list) name
+set_read own list same [] = refl
+set_read own list same (byte ∷ name) = ap (λ t. if t then name ∷ [] else []) (same byte)

@@ -7,7 +7,7 @@ use Rattle.std.specs.List.{list_any}
 use Rattle.osc_pattern.specs.declared.bytes.ByteSet.{ByteSet}
 use Rattle.osc_pattern.specs.declared.limits.TheConstants.{MOST_READY}
 use Rattle.osc_pattern.specs.declared.ready.Ready.{Ready}
-use Rattle.osc_pattern.specs.declared.ready.Ready.TheVariants.{OneOf, NoneOf, Other}
+use Rattle.osc_pattern.specs.declared.ready.Ready.TheVariants.{Set, Other}
 use Rattle.osc_pattern.specs.declared.ready.ReadyPart.{ReadyPart}
 use Rattle.osc_pattern.specs.declared.ready.Part.{Part}
 use Rattle.osc_pattern.specs.Items.{item_text}
@@ -31,8 +31,7 @@ after_one test (byte ∷ name) = if test byte then name ∷ [] else []
 
 -- what is left of a name after a text of an item that was made ready
 abbrev pub after_ready : Ready → List ℕ → List (List ℕ)
-after_ready (OneOf bytes) name = after_one (is_as bytes true) name
-after_ready (NoneOf bytes) name = after_one (is_as bytes false) name
+after_ready (Set set) name = after_one (is_as set.bytes set.within) name
 after_ready (Other item) name = after_item (item_of item) name
 
 -- whether the items match a name, and the text behind them
@@ -42,8 +41,7 @@ match_ready (item ∷ items) rest name = list_any (match_ready items rest) (afte
 
 -- how many bytes of a part an item takes at least
 abbrev pub ready_size : Ready → ℕ
-ready_size (OneOf bytes) = 1
-ready_size (NoneOf bytes) = 1
+ready_size (Set set) = 1
 ready_size (Other item) = length (item_text (item_of item))
 
 abbrev pub all_ready_size : List Ready → ℕ

@@ -1,6 +1,6 @@
 -- Inside the crate: how the code's items stand for items, and its sets for places of a name.
 use Rattle.std.specs.Prelude.{◌≡◌, ℕ, ◌<◌, Bool, true, false, ◌==◌, ◌&&◌, List, [], ◌∷◌, length}
-use Rattle.std.specs.Prelude.{get_or, zero, suc, ◌+◌, ◌||◌, ◌≤◌, nat_lt, if◌then◌else◌}
+use Rattle.std.specs.Prelude.{get_or, zero, suc, ◌+◌, ◌||◌, if◌then◌else◌}
 use Rattle.std.specs.Int.{bit_at}
 use Rattle.osc_pattern.specs.declared.item.Item.{Item as Borrowed}
 use Rattle.osc_pattern.specs.declared.item.Item.TheVariants.{Any, Star, Set, Choice, Plain}
@@ -53,8 +53,3 @@ passes test places name = any_rest test (is_place_of places) 0 name
 abbrev pub AreMarks : List ℕ → List ℕ → Type 0
 AreMarks marks name = (byte place : ℕ) → byte < 256 → place < length name
     → (bit_at (get_or marks byte 0) place == 1) ≡ (get_or name place 0 == byte)
-
--- for each bound, the places that stand right before a byte below it are marked
-abbrev pub AreBelow : List ℕ → List ℕ → Type 0
-AreBelow below name = (bound place : ℕ) → bound ≤ 256 → place < length name
-    → (bit_at (get_or below bound 0) place == 1) ≡ nat_lt (get_or name place 0) bound

@@ -1,7 +1,7 @@
 //! Sets of bytes.
 ghost use Rattle.std.specs.Prelude.{◌≡◌, ◌||◌, ◌&&◌, ◌==◌, ℕ, false, nat_lt, nat_le, min};
-ghost use Rattle.osc_pattern.specs.Items.{stands_for, is_between};
-ghost use Rattle.osc_pattern.specs.ReadyParts.{is_one_of};
+ghost use Rattle.osc_pattern.specs.Items.{stands_for, is_in_set, is_between};
+ghost use Rattle.osc_pattern.specs.ReadyParts.{is_one_of, is_as};
 
 use crate::item::first_range;
 
@@ -9,6 +9,31 @@ use crate::item::first_range;
 #[derive(Clone, Copy)]
 pub(crate) struct ByteSet {
     words: [u64; 4],
+}
+
+/// The bytes that a set matches: those of a list, or with a first `!` all but those of the rest of it.
+#[derive(Clone, Copy)]
+pub(crate) struct ReadSet {
+    pub(crate) bytes: ByteSet,
+    pub(crate) within: bool,
+}
+
+impl ReadSet {
+    /// The bytes that a set with this list matches.
+    pub(crate) fn of(list: &[u8]) -> ReadSet
+        ensures { (byte : ℕ) → is_as result.bytes result.within byte ≡ is_in_set list.now byte }
+    {
+        match list {
+            [b'!', rest @ ..] => ReadSet {
+                bytes: ByteSet::of(rest),
+                within: false,
+            },
+            _ => ReadSet {
+                bytes: ByteSet::of(list),
+                within: true,
+            },
+        }
+    }
 }
 
 impl ByteSet {

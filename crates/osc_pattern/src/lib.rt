@@ -13,7 +13,6 @@ mod marks;
 mod matcher;
 mod pattern;
 mod places;
-mod ranges;
 mod ready;
 mod steps;
 

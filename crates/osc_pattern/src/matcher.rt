@@ -11,11 +11,10 @@ ghost use Rattle.osc_pattern.specs.Views.{AreMarks};
 ghost use Rattle.osc_pattern.specs.ReadyParts.{match_ready, all_ready_size, ready_size};
 ghost use Rattle.osc_pattern.specs.ReadyParts.{after_ready, after_one, is_as};
 
-use crate::bytes::ByteSet;
+use crate::bytes::{ByteSet, ReadSet};
 use crate::item::{Item, first_item, has_byte};
-use crate::marks::{below_of, marks_of};
+use crate::marks::marks_of;
 use crate::places::Places;
-use crate::ranges::places_in_set;
 use crate::ready::{Part, Ready};
 use crate::steps::Steps;
 use std::sync::ledger::Ledger;
@@ -222,8 +221,7 @@ fn places_after_ready<L: Ledger>(
     ensures bounded { steps.new ≤ steps.old + (length name.now + 1) * ready_size item.now }
 {
     match item {
-        Ready::OneOf(bytes) => after_one(bytes, true, reached, name, steps),
-        Ready::NoneOf(bytes) => after_one(bytes, false, reached, name, steps),
+        Ready::Set(set) => after_one(&set.bytes, set.within, reached, name, steps),
         Ready::Other(item) => places_after_any(*item, reached, marks, name, steps),
     }
 }
@@ -337,8 +335,7 @@ fn after_plain<L: Ledger>(
     reached.behind(marks[own as usize])
 }
 
-/// The places that stand one byte after one of these, where the set matches the byte. A long list is read once for all
-/// places.
+/// The places that stand one byte after one of these, where the set matches the byte. The list is read once for all places.
 fn after_set<L: Ledger>(list: &[u8], reached: &Places, name: &[u8], steps: &mut Steps<L>) -> Places
     requires { length name.now ≤ MAX_NAME }
     ensures value { (test : List ℕ → Bool) → passes test result name.now
@@ -347,11 +344,8 @@ fn after_set<L: Ledger>(list: &[u8], reached: &Places, name: &[u8], steps: &mut 
     ensures bounded { steps.new
         ≤ steps.old + (length name.now + 1) * length (item_text (set list.now)) }
 {
-    if list.len() <= 128 / (name.len() + 1) {
-        return after_byte(Item::Set(list), reached, name, steps);
-    }
-    let below = below_of(&marks_of(name));
-    reached.behind(places_in_set(list, &below, steps))
+    let set = ReadSet::of(list);
+    after_one(&set.bytes, set.within, reached, name, steps)
 }
 
 /// The places that stand one byte after one of these, where the byte is a text of the item.

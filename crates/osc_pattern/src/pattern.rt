@@ -124,7 +124,8 @@ impl<'a> Pattern<'a> {
         self.matches_found(part, Part::whole(self.part(part)), name, steps)
     }
 
-    /// The same, for a part that `part` found before, so that it isn't looked for again for each name.
+    /// The same, for a part that `part` found before, so that it isn't looked for again for each name. Where
+    /// `ReadyPart::read` read it once for all names, that took no step.
     #[tactic(auto, using(crate::proofs::PatternLaws::laws))]
     pub fn matches_found<L: Ledger>(
         &self,

@@ -6,7 +6,7 @@ ghost use Rattle.osc_pattern.specs.Cuts.{after_item};
 ghost use Rattle.osc_pattern.specs.Views.{item_of};
 ghost use Rattle.osc_pattern.specs.ReadyParts.{after_ready, ready_size, IsReadOf, StandsFor};
 
-use crate::bytes::ByteSet;
+use crate::bytes::ReadSet;
 use crate::item::{Item, first_item};
 use crate::limits::MOST_READY;
 use crate::matcher::{behind, without_empty};
@@ -14,8 +14,7 @@ use crate::matcher::{behind, without_empty};
 /// An item whose list, if it is one, has been read.
 #[derive(Clone, Copy)]
 pub(crate) enum Ready<'a> {
-    OneOf(ByteSet),
-    NoneOf(ByteSet),
+    Set(ReadSet),
     Other(Item<'a>),
 }
 
@@ -93,8 +92,7 @@ fn ready_item(item: Item<'_>) -> Ready<'_>
     ensures size { ready_size result ≤ length (item_text (item_of item.entry)) }
 {
     match item {
-        Item::Set([b'!', rest @ ..]) => Ready::NoneOf(ByteSet::of(rest)),
-        Item::Set(list) => Ready::OneOf(ByteSet::of(list)),
+        Item::Set(list) => Ready::Set(ReadSet::of(list)),
         Item::Any | Item::Star | Item::Choice(_) | Item::Plain(_) => Ready::Other(item),
     }
 }

@@ -1,13 +1,17 @@
-use Rattle.std.proofs.Common.{◌&&◌, arith, ap, ◌∙◌}
+use Rattle.std.proofs.Common.{ap, ◌∙◌}
+use Rattle.std.specs.List.{list_any}
 use Rattle.osc_pattern.specs.Items.{set}
+use Rattle.osc_pattern.specs.Cuts.{after_byte}
 use Rattle.osc_pattern.specs.Views.{is_place_of}
-use Rattle.osc_pattern.proofs.Moves.{any_rest-behind}
+use Rattle.osc_pattern.specs.ReadyParts.{after_one, is_as}
+use Rattle.osc_pattern.proofs.Reaches.{any_rest-same}
+use Rattle.osc_pattern.proofs.ReadOnce.{set_read}
 use Rattle.osc_pattern.proofs.matcher.after_set.Goals as goal
 
 pub returns-clause-value : goal.returns-clause-value
 returns-clause-value g c test =
-    let name = c.args.name.now in
-    let reached = is_place_of c.args.reached.now in
-    let marked = c.below_of-below.ensures name c.marks_of.ensures in
-    any_rest-behind (set c.args.list.now) test reached (is_place_of c.behind.result) name c.behind.ensures.first
-    (λ k below. c.behind.ensures.others k (omega (arith, c.requires)) ∙ ap (λ t. reached k && t) (c.places_in_set.ensures.value name k c.requires marked below))
+    let list = c.args.list.now in
+    let own = is_as c.of-set.result.bytes c.of-set.result.within in
+    c.after_one.ensures.value test
+    ∙ any_rest-same (λ rest. list_any test (after_one own rest)) (λ rest. list_any test (after_byte (set list) rest))
+    (λ rest. ap (list_any test) (set_read own list c.of-set.ensures rest)) (is_place_of c.args.reached.now) 0 c.args.name.now

@@ -1,9 +1,7 @@
-use Rattle.std.proofs.Common.{◌≡◌, ◌+◌, ◌-◌, ◌*◌, ◌∷◌, length, take, drop, sym, ap, ◌∙◌, arith}
-use Rattle.std.proofs.Math.ListN.{get_or}
-use Rattle.std.specs.List.{list_any}
+use Rattle.std.proofs.Common.{◌+◌, ◌-◌, length, take, drop, sym, ◌∙◌, arith}
 use Rattle.osc_pattern.specs.Views.{is_place_of}
-use Rattle.osc_pattern.specs.ReadyParts.{after_ready, match_ready, ready_size, all_ready_size}
-use Rattle.osc_pattern.proofs.Reaches.{any_rest-none, any_rest-same, rows_split}
+use Rattle.osc_pattern.specs.ReadyParts.{match_ready, all_ready_size}
+use Rattle.osc_pattern.proofs.Reaches.{any_rest-none}
 use Rattle.osc_pattern.proofs.ReadOnce.{first_ready, ready_spent}
 use Rattle.osc_pattern.proofs.Moves.{rows_less}
 use Rattle.osc_pattern.proofs.matcher.match_ready.Goals as goal

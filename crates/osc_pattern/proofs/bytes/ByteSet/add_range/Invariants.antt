@@ -1,5 +1,4 @@
-use Rattle.std.proofs.Common.{◌≡◌, ◌||◌, ◌&&◌, ◌==◌, ℕ, false, nat_lt, nat_le, min, ◌+◌, ◌-◌, ◌*◌, ◌<◌, ◌≤◌, length}
-use Rattle.osc_pattern.specs.Items.{stands_for, is_between}
+use Rattle.std.proofs.Common.{◌≡◌, ◌||◌, ◌&&◌, ℕ, nat_lt, nat_le, min}
 use Rattle.osc_pattern.specs.ReadyParts.{is_one_of}
 use Rattle.osc_pattern.proofs.bytes.ByteSet.add_range.Given as goal
 

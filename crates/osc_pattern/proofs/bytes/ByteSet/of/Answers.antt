@@ -1,5 +1,5 @@
 use Rattle.std.proofs.Common.{◌||◌, sym, ap, subst, ◌∙◌, arith}
-use Rattle.osc_pattern.specs.Items.{stands_for, is_between}
+use Rattle.osc_pattern.specs.Items.{stands_for}
 use Rattle.osc_pattern.specs.ReadyParts.{is_one_of}
 use Rattle.osc_pattern.proofs.Sets.{GoesOn, first_range-goes_on}
 use Rattle.osc_pattern.proofs.Below.{one_range}

@@ -1,7 +1,5 @@
-use Rattle.std.proofs.Common.{◌≡◌, ◌+◌, ◌*◌, ◌≤◌, length, ◌∙◌, arith}
-use Rattle.std.proofs.lemmas.Nat.{mul-le}
+use Rattle.std.proofs.Common.{◌+◌, length, ◌∙◌, arith}
 use Rattle.osc_pattern.specs.Patterns.{part_at}
-use Rattle.osc_pattern.specs.Reading.{match_part}
 use Rattle.osc_pattern.specs.ReadyParts.{all_ready_size}
 use Rattle.osc_pattern.proofs.PatternLaws.{match_part-decides}
 use Rattle.osc_pattern.proofs.ReadOnce.{ready_rows}

@@ -1,7 +1,6 @@
-use Rattle.std.proofs.Common.{◌+◌, length, take, ap, sym, subst, ◌∙◌, arith}
+use Rattle.std.proofs.Common.{take, ap, sym, subst, ◌∙◌, arith}
 use Rattle.std.specs.List.{list_any}
 use Rattle.std.proofs.lemmas.List.{length-set, take_more_set}
-use Rattle.osc_pattern.specs.Items.{item_text}
 use Rattle.osc_pattern.specs.Reading.{match_part}
 use Rattle.osc_pattern.specs.Views.{item_of}
 use Rattle.osc_pattern.specs.ReadyParts.{IsReady}

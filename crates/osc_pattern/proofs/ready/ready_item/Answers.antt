@@ -1,0 +1,11 @@
+use Rattle.std.proofs.Common.{sym, ap, ◌∙◌}
+use Rattle.osc_pattern.specs.Cuts.{after_item}
+use Rattle.osc_pattern.specs.Views.{item_of}
+use Rattle.osc_pattern.specs.ReadyParts.{is_as}
+use Rattle.osc_pattern.proofs.ReadOnce.{set_read}
+use Rattle.osc_pattern.proofs.ready.ready_item.Goals as goal
+
+pub returns-in-Set-clause-same : goal.returns-in-Set-clause-same
+returns-in-Set-clause-same c name =
+    set_read (is_as c.of.result.bytes c.of.result.within) c.in-Set.list.now c.of.ensures name
+    ∙ sym (ap (λ i. after_item (item_of i) name) c.in-Set.is)
