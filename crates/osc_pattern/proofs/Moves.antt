@@ -194,7 +194,8 @@ marked-next marks name own end size small within is so_far byte place below = go
   here e = ap (λ k. get_or name k 0) e ∙ is
 
   go : (t : Bool) → (byte == own) ≡ t
-      → (bit_at (get_or (set marks own (bit_or (get_or marks own 0) (1 * 2 ^ end % 2 ^ 64))) byte 0) place == 1) ≡ (nat_lt place (end + 1) && get_or name place 0 == byte)
+      → (bit_at (get_or (set marks own (bit_or (get_or marks own 0) (1 * 2 ^ end % 2 ^ 64))) byte 0) place == 1)
+      ≡ (nat_lt place (end + 1) && get_or name place 0 == byte)
   go true e =
       let same : byte ≡ own = grind (arith, nat_tests) in
       rw same (ap (λ n. bit_at n place == 1) (get_or-set_same marks own new 0 (omega arith)) ∙ bits-added (get_or marks own 0) end within place
@@ -249,7 +250,8 @@ moved item test old new at (byte ∷ name) h =
     let none : at + 0 ≡ at = omega arith in
     let first : new (at + 1) ≡ (old at && has_byte item byte) = subst (λ n. new (n + 1) ≡ (old n && has_byte item byte)) none (h 0 (omega arith)) in
     let others : (k : ℕ) → k < length name → new (at + 1 + k + 1) ≡ (old (at + 1 + k) && has_byte item (get_or name k 0)) =
-    λ k below. (let e : at + suc k ≡ at + 1 + k = omega arith in subst (λ n. new (n + 1) ≡ (old n && has_byte item (get_or name k 0))) e (h (suc k) (omega arith))) in
+    λ k below. (let e : at + suc k ≡ at + 1 + k = omega arith
+    in subst (λ n. new (n + 1) ≡ (old n && has_byte item (get_or name k 0))) e (h (suc k) (omega arith))) in
     ap (λ r. (new at && test (byte ∷ name)) || r)
     (moved item test old new (at + 1) name others
     ∙ ap (λ t. t || any_rest (λ rest. list_any test (after_byte item rest)) old (at + 1) name)
@@ -269,7 +271,8 @@ pub text_byte : (test : List ℕ → Bool) (byte : ℕ) (text rest : List ℕ)
     → list_any test (after_text rest (byte ∷ text)) ≡ list_any (λ left. list_any test (after_text left text)) (after_byte (plain byte) rest)
 text_byte test byte text [] = refl
 text_byte test byte text (x ∷ rest) = go (x == byte) refl where
-  go : (t : Bool) → (x == byte) ≡ t → list_any test (after_text (x ∷ rest) (byte ∷ text)) ≡ list_any (λ left. list_any test (after_text left text)) (if t then rest ∷ [] else [])
+  go : (t : Bool) → (x == byte) ≡ t → list_any test (after_text (x ∷ rest) (byte ∷ text))
+      ≡ list_any (λ left. list_any test (after_text left text)) (if t then rest ∷ [] else [])
   go true e = rw e (sym (or_false (list_any test (after_text rest text))))
   go false e = rw e refl
 
@@ -279,11 +282,13 @@ text_end test rest = or_false (test rest)
 -- the texts of a choice: the first, and then the others
 pub choice_texts : (test : List ℕ → Bool) (places : ℕ → Bool) (name text : List ℕ) (texts more : List (List ℕ)) → texts ≡ text ∷ more
     → any_rest (λ rest. list_any test (flat_map (after_text rest) texts)) places 0 name
-    ≡ (any_rest (λ rest. list_any test (after_text rest text)) places 0 name || any_rest (λ rest. list_any test (flat_map (after_text rest) more)) places 0 name)
+    ≡ (any_rest (λ rest. list_any test (after_text rest text)) places 0 name
+    || any_rest (λ rest. list_any test (flat_map (after_text rest) more)) places 0 name)
 choice_texts test places name text texts more cut =
     any_rest-same (λ rest. list_any test (flat_map (after_text rest) texts))
     (λ rest. list_any test (after_text rest text) || list_any test (flat_map (after_text rest) more))
-    (λ rest. ap (λ all. list_any test (flat_map (after_text rest) all)) cut ∙ list_any-append test (after_text rest text) (flat_map (after_text rest) more)) places 0 name
+    (λ rest. ap (λ all. list_any test (flat_map (after_text rest) all)) cut
+    ∙ list_any-append test (after_text rest text) (flat_map (after_text rest) more)) places 0 name
     ∙ any_rest-or (λ rest. list_any test (after_text rest text)) (λ rest. list_any test (flat_map (after_text rest) more)) places 0 name
 
 -- what is left of a choice: the rest of the text that was begun, from the places that it has come to, and the other texts
@@ -383,7 +388,8 @@ pub star_again : (more name : List ℕ) → match_part (42 ∷ more) name ≡ ma
 star_again more name =
     match_part-item (42 ∷ more) star more name refl
     ∙ sym (rests_again (match_part more) name)
-    ∙ sym (same_any (match_part (42 ∷ more)) (λ left. list_any (match_part more) (rests left)) (λ left. match_part-item (42 ∷ more) star more left refl) (rests name))
+    ∙ sym (same_any (match_part (42 ∷ more)) (λ left. list_any (match_part more) (rests left))
+    (λ left. match_part-item (42 ∷ more) star more left refl) (rests name))
     ∙ sym (match_part-item (42 ∷ 42 ∷ more) star (42 ∷ more) name refl)
 
 pub rows_less : (places some more : ℕ) → some ≤ more → places * some ≤ places * more
@@ -394,7 +400,8 @@ rows_less places some more h =
 -- a choice of nothing but the empty text adds nothing
 pub empty_choice : (more name : List ℕ) → match_part more name ≡ match_part (123 ∷ 125 ∷ more) name
 empty_choice more name = sym
-    (match_part-item (123 ∷ 125 ∷ more) (choice []) more name (ap (option_map (λ cut. (choice cut.0, cut.1))) (cut_at-first is_choice_end [] 125 more refl refl))
+    (match_part-item (123 ∷ 125 ∷ more) (choice []) more name
+    (ap (option_map (λ cut. (choice cut.0, cut.1))) (cut_at-first is_choice_end [] 125 more refl refl))
     ∙ ap (λ texts. list_any (match_part more) (flat_map (after_text name) texts)) (slice_split_none is_comma [] (λ k d below. absurd (omega arith)))
     ∙ or_false (match_part more name))
 

@@ -1,5 +1,6 @@
 -- The places from the first of a set on, and what a star reaches.
-use Rattle.std.proofs.Common.{◌≡◌, ℕ, zero, suc, ◌+◌, ◌-◌, ◌*◌, ◌%◌, ◌^◌, ◌<◌, ◌≤◌, Bool, true, false, ◌||◌, ◌&&◌, ◌==◌, nat_le, List, [], ◌∷◌, length, refl, arith, sym, ap, ◌∙◌, w64, pow_pos}
+use Rattle.std.proofs.Common.{◌≡◌, ℕ, zero, suc, ◌+◌, ◌-◌, ◌*◌, ◌%◌, ◌^◌, ◌<◌, ◌≤◌, Bool, true, false, ◌||◌, ◌&&◌, ◌==◌, nat_le}
+use Rattle.std.proofs.Common.{List, [], ◌∷◌, length, refl, arith, sym, ap, ◌∙◌, w64, pow_pos}
 use Rattle.std.specs.Int.{bit_at, trailing_zeros}
 use Rattle.std.specs.List.{list_any}
 use Rattle.std.proofs.lemmas.Nat.Bits.{bit_at_cat_low, bit_at_cat_high, bit_at-zero, bit_at-trailing_zeros}
@@ -43,17 +44,18 @@ from_first places first is before at (suc more) order = go (at == first) refl (f
       ap (λ b. reached_from b places (at + 1) more) (before at below) ∙ others (omega arith) ∙ ap (nat_le first) size
 
 shifted : (first place : ℕ) → first < 64 → place < 64 → (bit_at (18446744073709551615 * 2 ^ first % 2 ^ 64) place == 1) ≡ nat_le first place
-shifted first place small within = ap (λ bit. bit == 1) (low_bit (18446744073709551615 * 2 ^ first) place within ∙ ap (λ n. bit_at n place) same) ∙ go (nat_le first place) refl where
-  same : 18446744073709551615 * 2 ^ first ≡ 18446744073709551615 * 2 ^ first + 0
-  same = omega arith
+shifted first place small within = ap (λ bit. bit == 1) (low_bit (18446744073709551615 * 2 ^ first) place within ∙ ap (λ n. bit_at n place) same)
+    ∙ go (nat_le first place) refl where
+      same : 18446744073709551615 * 2 ^ first ≡ 18446744073709551615 * 2 ^ first + 0
+      same = omega arith
 
-  go : (t : Bool) → nat_le first place ≡ t → (bit_at (18446744073709551615 * 2 ^ first + 0) place == 1) ≡ t
-  go true e =
-      let some : first ≤ place = grind (arith, nat_tests) in
-      ap (λ bit. bit == 1) (bit_at_cat_high 18446744073709551615 first 0 place (pow_pos first) some) ∙ all_bits (place - first) (omega arith)
-  go false e =
-      let none : place < first = grind (arith, nat_tests) in
-      ap (λ bit. bit == 1) (bit_at_cat_low 18446744073709551615 first 0 place none ∙ bit_at-zero place)
+      go : (t : Bool) → nat_le first place ≡ t → (bit_at (18446744073709551615 * 2 ^ first + 0) place == 1) ≡ t
+      go true e =
+          let some : first ≤ place = grind (arith, nat_tests) in
+          ap (λ bit. bit == 1) (bit_at_cat_high 18446744073709551615 first 0 place (pow_pos first) some) ∙ all_bits (place - first) (omega arith)
+      go false e =
+          let none : place < first = grind (arith, nat_tests) in
+          ap (λ bit. bit == 1) (bit_at_cat_low 18446744073709551615 first 0 place none ∙ bit_at-zero place)
 
 -- the bits from the lowest on
 pub bits-onward : (bits place : ℕ) → 0 < bits → bits < 2 ^ 64 → place < 64

@@ -100,6 +100,7 @@ ready_spent items first places rest old new most some spent bound =
     omega arith
 
 -- what a set matches alone
-pub set_read : (own : ℕ → Bool) (list : List ℕ) → ((byte : ℕ) → own byte ≡ is_in_set list byte) → (name : List ℕ) → after_one own name ≡ after_byte (set list) name
+pub set_read : (own : ℕ → Bool) (list : List ℕ) → ((byte : ℕ) → own byte ≡ is_in_set list byte)
+    → (name : List ℕ) → after_one own name ≡ after_byte (set list) name
 set_read own list same [] = refl
 set_read own list same (byte ∷ name) = ap (λ t. if t then name ∷ [] else []) (same byte)

@@ -18,7 +18,7 @@ mod steps;
 
 pub use address::Address;
 pub use faults::{AddressFault, PatternFault};
-pub use limits::{MAX_ADDRESS, MAX_NAME, MAX_NAMES, MAX_PATTERN};
+pub use limits::{MAX_ADDRESS, MAX_NAME, MAX_NAMES, MAX_PATTERN, MAX_PLACES};
 pub use pattern::Pattern;
 pub use ready::{Part, ReadyPart};
 pub use steps::Steps;

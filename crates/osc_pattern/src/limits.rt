@@ -9,6 +9,9 @@ pub const MAX_NAME: usize = 63;
 /// The most bytes of an address.
 pub const MAX_ADDRESS: usize = 255;
 
+/// The most places of a name: before each of its bytes, and at its end.
+pub const MAX_PLACES: usize = 64;
+
 /// The most names of an address.
 pub const MAX_NAMES: usize = 16;
 

@@ -1,5 +1,5 @@
 //! Patterns.
-ghost use Rattle.osc_pattern.specs.declared.limits.TheConstants.{MAX_NAME, MAX_PATTERN};
+ghost use Rattle.osc_pattern.specs.declared.limits.TheConstants.{MAX_NAME, MAX_PATTERN, MAX_PLACES};
 ghost use Rattle.std.specs.Prelude.{◌≡◌, ◌≤◌, ◌<◌, ◌+◌, ◌*◌, ◌↔◌, ℕ, length, count_by, nat_lt};
 ghost use Rattle.std.specs.Prelude.{false, IsTrue, IsOk, IfOk, IfErr, Err, slice_get, unwrap_or};
 ghost use Rattle.std.specs.Prelude.{is_ok, []};
@@ -156,7 +156,7 @@ impl<'a> Pattern<'a> {
         ensures exact { IsTrue result ↔ Match self.now address.now }
         ensures test { result ≡ matches self.now address.now }
         ensures counted { steps.old ≤ steps.new }
-        ensures bounded { steps.new ≤ steps.old + 64 * length self.now }
+        ensures bounded { steps.new ≤ steps.old + MAX_PLACES * length self.now }
     {
         match_parts(after_slash(self.bytes), after_slash(address.bytes()), steps)
     }
@@ -199,7 +199,7 @@ fn match_parts<L: Ledger>(parts: &[u8], names: &[u8], steps: &mut Steps<L>) -> b
     ensures value { result
         ≡ match_parts (slice_split is_slash parts.now) (slice_split is_slash names.now) }
     ensures counted { steps.old ≤ steps.new }
-    ensures bounded { steps.new ≤ steps.old + 64 * (length parts.now + 1) }
+    ensures bounded { steps.new ≤ steps.old + MAX_PLACES * (length parts.now + 1) }
 {
     let mut parts = parts;
     let mut names = names;

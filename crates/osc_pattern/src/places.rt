@@ -1,4 +1,5 @@
 //! Sets of places of a name.
+ghost use Rattle.osc_pattern.specs.declared.limits.TheConstants.{MAX_NAME, MAX_PLACES};
 ghost use Rattle.std.specs.Prelude.{◌≡◌, ◌<◌, ◌+◌, ◌||◌, ◌&&◌, ◌==◌, ℕ, false, IsTrue};
 ghost use Rattle.std.specs.Int.{bit_at};
 ghost use Rattle.osc_pattern.specs.Views.{is_place_of, reached_from};
@@ -19,7 +20,7 @@ impl Places {
 
     /// Whether the place is one of them.
     pub(crate) fn has(&self, place: usize) -> bool
-        requires { place < 64 }
+        requires { place < MAX_PLACES }
         ensures { result ≡ is_place_of self.now place }
     {
         (self.bits >> place) & 1 == 1
@@ -27,7 +28,7 @@ impl Places {
 
     /// Adds the place.
     pub(crate) fn add(&mut self, place: usize)
-        requires { place < 64 }
+        requires { place < MAX_PLACES }
         ensures { (other : ℕ) → is_place_of self.new other
             ≡ (other == place || is_place_of self.old other) }
     {
@@ -59,16 +60,17 @@ impl Places {
     /// The places right behind those that are marked.
     pub(crate) fn behind(&self, marks: u64) -> Places
         ensures first { is_place_of result 0 ≡ false }
-        ensures others { (place : ℕ) → place < 63 → is_place_of result (place + 1)
+        ensures others { (place : ℕ) → place < MAX_NAME → is_place_of result (place + 1)
             ≡ (is_place_of self.now place && bit_at marks place == 1) }
     {
         Places {
             bits: (self.bits & marks) << 1,
         }
     }
+
     /// The first of the places, and all behind it.
     pub(crate) fn onward(&self) -> Places
-        ensures { (place : ℕ) → place < 64 → is_place_of result place
+        ensures { (place : ℕ) → place < MAX_PLACES → is_place_of result place
             ≡ reached_from false (is_place_of self.now) 0 place }
     {
         if self.bits == 0 {

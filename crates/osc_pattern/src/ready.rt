@@ -88,7 +88,8 @@ impl<'a> Part<'a> {
 
 /// The item, with its list read.
 fn ready_item(item: Item<'_>) -> Ready<'_>
-    ensures same { (name : List ℕ) → after_ready result name ≡ after_item (item_of item.entry) name }
+    ensures same { (name : List ℕ)
+        → after_ready result name ≡ after_item (item_of item.entry) name }
     ensures size { ready_size result ≤ length (item_text (item_of item.entry)) }
 {
     match item {

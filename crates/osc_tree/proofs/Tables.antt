@@ -17,7 +17,8 @@ filled-next {X} Holds found end part within is so_far place d below = go (place 
   go : (t : Bool) → (place == end) ≡ t → Holds place (get_or (set found end part) place d)
   go true e =
       let same : place ≡ end = grind (arith, nat_tests) in
-      subst (λ x. Holds place x) (sym (ap (λ k. get_or (set found end part) k d) same ∙ get_or-set_same found end part d within)) (subst (λ k. Holds k part) (sym same) is)
+      subst (λ x. Holds place x) (sym (ap (λ k. get_or (set found end part) k d) same ∙ get_or-set_same found end part d within))
+      (subst (λ k. Holds k part) (sym same) is)
   go false e =
       let before : place < end = grind (arith, nat_tests) in
       subst (λ x. Holds place x) (sym (get_or-set_other found end place part d (λ same. (let h : (place == end) ≡ true = grind (arith, nat_tests) in cc))))

@@ -2,6 +2,7 @@
 use Rattle.std.specs.Prelude.{◌≡◌, ℕ, zero, suc, ◌+◌, ◌-◌, ◌*◌, ◌<◌, ◌≤◌, nat_lt, if◌then◌else◌}
 use Rattle.std.specs.Prelude.{List, [], ◌∷◌, length, take, filter, map, get_or, flat_map, sum_by}
 use Rattle.std.specs.Str.{bytes_eq}
+use Rattle.osc_pattern.specs.declared.limits.TheConstants.{MAX_PLACES}
 use Rattle.osc_pattern.specs.Patterns.{parts_of, part_at, matches}
 use Rattle.osc_pattern.specs.Reading.{match_part}
 use Rattle.osc_pattern.specs.ReadyParts.{StandsFor, IsReadOf}
@@ -14,12 +15,12 @@ use Rattle.osc_tree.specs.Matching.{IsAscending}
 abbrev pub node_list : List Method → List (List ℕ)
 node_list methods = distinct (flat_map (λ method. prefixes_of method.address) methods)
 
--- the steps that a node may cost: 64 for each byte of the pattern's part at the node's depth and
--- for the part's end, and none where the node is deeper than the pattern
+-- the steps that a node may cost: one at each place of a name, for each byte of the pattern's part
+-- at the node's depth and for the part's end, and none where the node is deeper than the pattern
 abbrev pub node_steps : List ℕ → List ℕ → ℕ
 node_steps pattern node =
     if nat_lt (length (parts_of pattern)) (length (parts_of node)) then 0
-    else 64 * (length (part_at pattern (length (parts_of node) - 1)) + 1)
+    else MAX_PLACES * (length (part_at pattern (length (parts_of node) - 1)) + 1)
 
 -- the steps that all nodes may cost
 abbrev pub most_steps : List ℕ → List Method → ℕ
@@ -53,7 +54,7 @@ agreeing (part ∷ parts) (name ∷ names) =
 
 -- the steps that a part may cost, which is none where it is known to match
 abbrev pub part_steps : ℕ → List ℕ → ℕ
-part_steps zero part = 64 * (length part + 1)
+part_steps zero part = MAX_PLACES * (length part + 1)
 part_steps (suc known) part = 0
 
 -- the steps that parts may cost which stand against names, but for the first that are known to

@@ -1,5 +1,5 @@
 // The methods that a pattern matches.
-ghost use Rattle.osc_pattern.specs.declared.limits.TheConstants.{MAX_NAME};
+ghost use Rattle.osc_pattern.specs.declared.limits.TheConstants.{MAX_NAME, MAX_NAMES};
 ghost use Rattle.std.specs.Prelude.{◌≡◌, ◌≤◌, ◌<◌, ◌+◌, ◌++◌, ◌∷◌, ◌==◌, ◌&&◌, [], not, nat_le};
 ghost use Rattle.std.specs.Prelude.{nat_lt, if◌then◌else◌, true, None, length, take, filter, map};
 ghost use Rattle.std.specs.Prelude.{position, All, vec_len, vec_capacity};
@@ -91,7 +91,7 @@ fn walk<L: Ledger>(
     steps: &mut Steps<L>,
 )
     requires parts { parts ≡ length (parts_of pattern.now) }
-    requires few { parts ≤ 16 }
+    requires few { parts ≤ MAX_NAMES }
     requires within { All (λ place. place < length methods.now) near.now }
     requires sorted { IsSorted (methods_at methods.now near.now) }
     requires empty { ids.old.items ≡ [] }
@@ -120,12 +120,12 @@ fn walk_found<L: Ledger>(
     near: &[u32],
     pattern: &Pattern<'_>,
     parts: u32,
-    found: &[Part<'_>; 16],
+    found: &[Part<'_>; MAX_NAMES],
     ids: &mut Vec<u32>,
     steps: &mut Steps<L>,
 )
     requires parts { parts ≡ length (parts_of pattern.now) }
-    requires few { parts ≤ 16 }
+    requires few { parts ≤ MAX_NAMES }
     requires found { AreParts found.now pattern.now }
     requires within { All (λ place. place < length methods.now) near.now }
     requires sorted { IsSorted (methods_at methods.now near.now) }
@@ -153,12 +153,12 @@ fn visit<L: Ledger>(
     at: usize,
     pattern: &Pattern<'_>,
     parts: u32,
-    found: &[Part<'_>; 16],
+    found: &[Part<'_>; MAX_NAMES],
     ids: &mut Vec<u32>,
     steps: &mut Steps<L>,
 ) -> usize
     requires parts { parts ≡ length (parts_of pattern.now) }
-    requires few { parts ≤ 16 }
+    requires few { parts ≤ MAX_NAMES }
     requires found { AreParts found.now pattern.now }
     requires within { All (λ place. place < length methods.now) places.now }
     requires sorted { IsSorted (methods_at methods.now places.now) }
@@ -203,13 +203,13 @@ fn known_at(methods: &[Registered], places: &[u32], at: usize) -> usize
 fn count_matching<L: Ledger>(
     pattern: &Pattern<'_>,
     parts: u32,
-    found: &[Part<'_>; 16],
+    found: &[Part<'_>; MAX_NAMES],
     known: usize,
     names: &[u8],
     steps: &mut Steps<L>,
 ) -> u32
     requires parts { parts ≡ length (parts_of pattern.now) }
-    requires few { parts ≤ 16 }
+    requires few { parts ≤ MAX_NAMES }
     requires found { AreParts found.now pattern.now }
     requires short { All (λ name. length name ≤ MAX_NAME) (slice_split is_slash names.now) }
     requires known { known ≤ agreeing (parts_of pattern.now) (slice_split is_slash names.now) }

@@ -14,7 +14,8 @@ loop-place-preserved c =
     let marks = c.loop-place.marks in
     let place = c.loop-place.place in
     let own = get_or c.args.name.now place 0 in
-    let next = marked-next marks c.args.name.now own place c.loop-place.invariant.0 (omega (arith, c.type_inv.name place)) (omega arith) refl c.loop-place.invariant.1 in (
+    let next = marked-next marks c.args.name.now own place c.loop-place.invariant.0
+    (omega (arith, c.type_inv.name place)) (omega arith) refl c.loop-place.invariant.1 in (
       length-set marks own (bit_or (get_or marks own 0) (1 * 2 ^ place % 2 ^ 64)) ∙ c.loop-place.invariant.0,
       next,
     )

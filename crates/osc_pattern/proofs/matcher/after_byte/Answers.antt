@@ -45,7 +45,8 @@ loop-rest-preserved g c =
       | else-has w ↦
           ap (λ p. passes test p name) w.next-is
           ∙ elim w.else-has.branch [
-            | else-has-via-then-has+else-has_byte u ↦ other_byte (has_byte item byte) test (before test) here after (sym u.has_byte.ensures.value ∙ u.if-has_byte.false)
+            | else-has-via-then-has+else-has_byte u ↦
+                other_byte (has_byte item byte) test (before test) here after (sym u.has_byte.ensures.value ∙ u.if-has_byte.false)
             | else-has-via-else-has u ↦ not_reached (before test) here _ (sym c.has.ensures ∙ u.if-has.false)
           ]
     ] in

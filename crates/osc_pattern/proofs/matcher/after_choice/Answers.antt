@@ -13,7 +13,8 @@ loop-texts-init g c =
     let texts = c.args.texts.now in (
       λ name test short marked.
           ap (λ p. passes test c.none-next.result name || texts_left test (is_place_of p) all (slice_split is_comma texts) name) c.again-places.ensures
-          ∙ choice_start test all texts name (passes test c.none-next.result name) (any_rest-none test (is_place_of c.none-next.result) c.none-next.ensures 0 name),
+          ∙ choice_start test all texts name (passes test c.none-next.result name)
+          (any_rest-none test (is_place_of c.none-next.result) c.none-next.ensures 0 name),
       omega arith,
       omega arith,
     )

@@ -40,11 +40,13 @@ loop-rest-preserved g c =
       | then-has+then-has-within w ↦
           ap (λ p. passes test p name) w.next-is
           ∙ any_rest-byte (own byte) test (is_place_of c.loop-rest.next) (is_place_of w.add.new.self) here place name after left within
-          (sym c.has.ensures ∙ w.if-has.true) (as_is c.args.bytes.now c.args.within byte w.has-then-has.result true w.has-then-has.ensures w.if-has-within.true) w.add.ensures
+          (sym c.has.ensures ∙ w.if-has.true)
+          (as_is c.args.bytes.now c.args.within byte w.has-then-has.result true w.has-then-has.ensures w.if-has-within.true) w.add.ensures
       | else-has w ↦
           ap (λ p. passes test p name) w.next-is
           ∙ elim w.else-has.branch [
-            | else-has-via-then-has+else-has-within u ↦ other_byte (own byte) test (before test) here after (as_is c.args.bytes.now c.args.within byte u.has-then-has.result false u.has-then-has.ensures u.if-has-within.false)
+            | else-has-via-then-has+else-has-within u ↦
+                other_byte (own byte) test (before test) here after (as_is c.args.bytes.now c.args.within byte u.has-then-has.result false u.has-then-has.ensures u.if-has-within.false)
             | else-has-via-else-has u ↦ not_reached (before test) here _ (sym c.has.ensures ∙ u.if-has.false)
           ]
     ] in

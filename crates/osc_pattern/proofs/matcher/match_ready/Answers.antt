@@ -29,7 +29,8 @@ loop-items-preserved g c =
     let more = c.places_after_ready-reached.ensures.counted in
     let most = c.places_after_ready-reached.ensures.bounded in
     let so_far = c.loop-items.invariant in (
-      c.places_after_ready-reached.ensures.value (match_ready others rest) ∙ sym (first_ready items _ rest name (is_place_of c.loop-items.reached) some) ∙ so_far.0,
+      c.places_after_ready-reached.ensures.value (match_ready others rest)
+          ∙ sym (first_ready items _ rest name (is_place_of c.loop-items.reached) some) ∙ so_far.0,
       omega arith,
       ready_spent items _ (length name + 1) (length rest) _ _ _ some most so_far.2,
     )

@@ -8,7 +8,8 @@ use Rattle.osc_pattern.proofs.matcher.places_after.Goals as goal
 
 pub returns-in-Star-clause-value : goal.returns-in-Star-clause-value
 returns-in-Star-clause-value g c = λ test.
-    c.after_star.ensures.value c.args.name.now test c.requires.short ∙ ap (λ i. passes (λ rest. list_any test (after_item (item_of i) rest)) c.args.reached.now c.args.name.now)
+    c.after_star.ensures.value c.args.name.now test c.requires.short
+    ∙ ap (λ i. passes (λ rest. list_any test (after_item (item_of i) rest)) c.args.reached.now c.args.name.now)
     (sym c.in-Star.is)
 
 pub returns-in-Set-clause-value : goal.returns-in-Set-clause-value

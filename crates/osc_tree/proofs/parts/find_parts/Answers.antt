@@ -11,6 +11,7 @@ loop-place-preserved c =
     let place = c.loop-place.place in
     let size = c.loop-place.invariant.0 in (
       length-set found place c.whole.result ∙ size,
-      filled-next (λ place part. StandsFor part (part_at c.args.pattern.now place)) found place c.whole.result (omega (arith, c.requires.few)) (subst (StandsFor c.whole.result) c.part.ensures c.whole.ensures)
+      filled-next (λ place part. StandsFor part (part_at c.args.pattern.now place)) found place c.whole.result (omega (arith, c.requires.few))
+          (subst (StandsFor c.whole.result) c.part.ensures c.whole.ensures)
           c.loop-place.invariant.1,
     )

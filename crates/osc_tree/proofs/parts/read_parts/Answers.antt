@@ -11,6 +11,7 @@ loop-place-preserved c =
     let place = c.loop-place.place in
     let size = c.loop-place.invariant.0 in (
       length-set read place c.read.result ∙ size,
-      filled-next (λ place part. IsReadOf part (part_at c.args.pattern.now place)) read place c.read.result (omega (arith, c.requires.few)) (subst (IsReadOf c.read.result) c.part.ensures c.read.ensures)
+      filled-next (λ place part. IsReadOf part (part_at c.args.pattern.now place)) read place c.read.result (omega (arith, c.requires.few))
+          (subst (IsReadOf c.read.result) c.part.ensures c.read.ensures)
           c.loop-place.invariant.1,
     )

@@ -11,7 +11,8 @@ loop-place-preserved c =
     let place = c.loop-place.place in
     let size = c.loop-place.invariant.0 in (
       length-set found place c.part.result ∙ size,
-      filled-next (λ place part. StandsFor part (part_at c.args.pattern.now place)) found place c.part.result (omega (arith, c.requires.few)) (stands c.part.result _ (part_at c.args.pattern.now place) c.part.ensures.items c.part.ensures.rest
+      filled-next (λ place part. StandsFor part (part_at c.args.pattern.now place)) found place c.part.result (omega (arith, c.requires.few))
+          (stands c.part.result _ (part_at c.args.pattern.now place) c.part.ensures.items c.part.ensures.rest
           (c.requires.read place _ (omega (arith, c.requires.count))))
           c.loop-place.invariant.1,
     )
