@@ -10,3 +10,5 @@ pub mod Going
 pub mod Inked
 pub mod Again
 pub mod DrawnAgain
+pub mod Costs
+pub mod Counts

@@ -8,3 +8,5 @@ pub mod Written
 pub mod Draws
 pub mod Generated
 pub mod Answers
+pub mod Adds
+pub mod Enough
