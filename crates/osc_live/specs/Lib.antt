@@ -7,6 +7,7 @@ pub mod Pumps
 pub mod Resuming
 pub mod Reads
 pub mod Seen
+pub mod Tokens
 -- Inside the crate.
 pub mod Asked
 pub mod Redone

@@ -7,7 +7,7 @@ use Rattle.osc_live.specs.declared.live.Live.{Live}
 use Rattle.osc_live.specs.declared.close.LiveOut.{LiveOut}
 use Rattle.osc_live.specs.declared.close.LiveOut.TheVariants.{NoMemory, StillOut}
 use Rattle.osc_model.specs.Limits.{Limits}
-use Rattle.osc_live.specs.Seen.{IsTokenOf}
+use Rattle.osc_live.specs.Tokens.{IsOurs, IsOurGuest}
 use Rattle.osc_live.specs.Closing.{made_by, StartsAtZero}
 
 module _ {M : Type 0} {G : Ghosts M} where
@@ -35,10 +35,8 @@ module _ {M : Type 0} {G : Ghosts M} where
   -- caller 0 is the first
   abbrev pub AreOurs : LiveOut M G → Limits → Type 0
   AreOurs (NoMemory live callers guests) caps = (live.caps ≡ caps)
-      × All (λ caller. IsTokenOf live.turn live.caps caller.pass) callers.items
-      × All (λ guest. IsTokenOf live.turn live.caps guest.pass) guests.items
+      × All (IsOurs live) callers.items × All (IsOurGuest live) guests.items
       × StartsAtZero callers.items
   AreOurs (StillOut made handed live callers guests) caps = (live.caps ≡ caps)
-      × All (λ caller. IsTokenOf live.turn live.caps caller.pass) callers.items
-      × All (λ guest. IsTokenOf live.turn live.caps guest.pass) guests.items
+      × All (IsOurs live) callers.items × All (IsOurGuest live) guests.items
       × StartsAtZero callers.items

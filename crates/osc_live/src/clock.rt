@@ -4,7 +4,7 @@ ghost use Rattle.osc_turn.specs.Passes.{view};
 ghost use Rattle.osc_turn.specs.Answers.{FindsTwice};
 ghost use Rattle.osc_model.specs.Events.{Answer, tick, release};
 ghost use Rattle.osc_core.specs.Answers.{ticking_of, TellsRelease};
-ghost use Rattle.osc_live.specs.Seen.{IsTokenOf};
+ghost use Rattle.osc_live.specs.Tokens.{IsOurs};
 ghost use Rattle.osc_live.specs.Calls.{Calls, IsBusy};
 ghost use Rattle.osc_live.specs.Pumps.{Pumps};
 
@@ -21,8 +21,8 @@ use std::sync::Wait;
 impl<M: Method> Live<M> {
     /// Sets the clock to the moment, unless it is before the clock.
     pub fn tick<W: Wait>(&self, rt: &W, caller: Caller, now: u64) -> (Caller, Ticking)
-        requires ours { IsTokenOf self.now.turn self.now.caps caller.pass }
-        ensures ours { IsTokenOf self.now.turn self.now.caps result.0.pass }
+        requires ours { IsOurs self.now caller }
+        ensures ours { IsOurs self.now result.0 }
         ensures number { result.0.number ≡ caller.number }
         ensures call { Calls self.now.caps caller.number (tick now) (ticking_of result.1)
             (view caller.pass) (view result.0.pass) }
@@ -32,8 +32,8 @@ impl<M: Method> Live<M> {
 
     /// Takes the unit that is least by due moment and number, if it is due, and makes its calls.
     pub fn release<W: Wait>(&self, rt: &W, caller: Caller) -> (Caller, Releasing)
-        requires ours { IsTokenOf self.now.turn self.now.caps caller.pass }
-        ensures ours { IsTokenOf self.now.turn self.now.caps result.0.pass }
+        requires ours { IsOurs self.now caller }
+        ensures ours { IsOurs self.now result.0 }
         ensures number { result.0.number ≡ caller.number }
         ensures call { (answer : Answer) × TellsRelease result.1 answer
             × Calls self.now.caps caller.number release answer (view caller.pass)
@@ -44,8 +44,8 @@ impl<M: Method> Live<M> {
 
     /// As `release`, if the turn is free: it takes one look at the turn, and tries once to take it.
     pub fn try_release(&self, caller: Caller) -> (Caller, Result<Releasing, Busy>)
-        requires ours { IsTokenOf self.now.turn self.now.caps caller.pass }
-        ensures ours { IsTokenOf self.now.turn self.now.caps result.0.pass }
+        requires ours { IsOurs self.now caller }
+        ensures ours { IsOurs self.now result.0 }
         ensures number { result.0.number ≡ caller.number }
         ensures call { IfOk result.1 (λ releasing. (answer : Answer) × TellsRelease releasing answer
             × Calls self.now.caps caller.number release answer (view caller.pass)
@@ -59,8 +59,8 @@ impl<M: Method> Live<M> {
 
     /// Releases until a release is answered otherwise.
     pub fn pump<W: Wait>(&self, rt: &W, caller: Caller) -> (Caller, Pumped)
-        requires ours { IsTokenOf self.now.turn self.now.caps caller.pass }
-        ensures ours { IsTokenOf self.now.turn self.now.caps result.0.pass }
+        requires ours { IsOurs self.now caller }
+        ensures ours { IsOurs self.now result.0 }
         ensures number { result.0.number ≡ caller.number }
         ensures calls { Pumps self.now.caps caller.number result.1 (view caller.pass)
             (view result.0.pass) }

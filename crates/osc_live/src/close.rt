@@ -2,8 +2,10 @@
 ghost use Rattle.std.specs.Prelude.{◌≡◌, ◌≢◌, ◌≤◌, ◌+◌, ◌++◌, length, map, All, OnOk, IfOk, IfErr};
 ghost use Rattle.std.specs.Prelude.{vec_len, vec_capacity};
 ghost use Rattle.osc_turn.specs.Passes.{view};
+ghost use Rattle.osc_turn.specs.declared.limits.TheConstants.{MAX_PASSES};
 ghost use Rattle.osc_core.specs.Telling.{told};
-ghost use Rattle.osc_live.specs.Seen.{IsTokenOf, past_of};
+ghost use Rattle.osc_live.specs.Seen.{past_of};
+ghost use Rattle.osc_live.specs.Tokens.{IsOurs, IsOurGuest};
 ghost use Rattle.osc_live.specs.Outs.{TellsMade, AreOurs, live_back, callers_back, guests_back};
 ghost use Rattle.osc_live.specs.Closing.{Closes, known, views_of, made_by, StartsAtZero};
 
@@ -39,9 +41,9 @@ pub enum LiveOut<M: Method> {
 impl<M: Method> Live<M> {
     /// How many tokens were made, as caller 0 knows.
     fn count(&self, caller: Caller) -> (Caller, u32)
-        requires ours { IsTokenOf self.now.turn self.now.caps caller.pass }
+        requires ours { IsOurs self.now caller }
         requires first { caller.number ≡ 0 }
-        ensures ours { IsTokenOf self.now.turn self.now.caps result.0.pass }
+        ensures ours { IsOurs self.now result.0 }
         ensures number { result.0.number ≡ caller.number }
         ensures same { view result.0.pass ≡ view caller.pass }
         ensures made { result.1 ≡ (view caller.pass).made }
@@ -59,12 +61,10 @@ impl<M: Method> Live<M> {
         mut callers: Vec<Caller>,
         guests: Vec<Guest>,
     ) -> Result<Closed<M>, LiveOut<M>>
-        requires callers_ours { All (λ caller. IsTokenOf self.turn self.caps caller.pass)
-            callers.items }
-        requires guests_ours { All (λ guest. IsTokenOf self.turn self.caps guest.pass)
-            guests.items }
+        requires callers_ours { All (IsOurs self) callers.items }
+        requires guests_ours { All (IsOurGuest self) guests.items }
         requires first { StartsAtZero callers.items }
-        requires few { length callers.items + length guests.items ≤ 65536 }
+        requires few { length callers.items + length guests.items ≤ MAX_PASSES }
         ensures all_in { OnOk result
             (made_by callers.items ≡ length callers.items + length guests.items) }
         ensures closes { IfOk result

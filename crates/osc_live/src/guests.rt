@@ -3,8 +3,9 @@ ghost use Rattle.std.specs.Prelude.{◌≡◌, ◌<◌, [], OnOk, OnErr, IfOk, I
 ghost use Rattle.osc_turn.specs.History.{StartsWith, own};
 ghost use Rattle.osc_turn.specs.Rule.{number_of};
 ghost use Rattle.osc_turn.specs.Passes.{view, one_more, guest_of};
+ghost use Rattle.osc_turn.specs.declared.limits.TheConstants.{MAX_PASSES};
 ghost use Rattle.osc_model.specs.Events.{enrol};
-ghost use Rattle.osc_live.specs.Seen.{IsTokenOf};
+ghost use Rattle.osc_live.specs.Tokens.{IsOurs, IsOurGuest};
 ghost use Rattle.osc_live.specs.Calls.{Calls};
 ghost use Rattle.osc_live.specs.Enrolments.{enrolment_of};
 
@@ -22,19 +23,18 @@ use std::sync::Wait;
 impl<M: Method> Live<M> {
     /// A guest's token. It has seen what caller 0 has seen, and has no entries of its own.
     pub fn guest(&self, caller: Caller) -> (Caller, Result<Guest, GuestRefusal>)
-        requires ours { IsTokenOf self.now.turn self.now.caps caller.pass }
+        requires ours { IsOurs self.now caller }
         requires first { caller.number ≡ 0 }
-        ensures ours { IsTokenOf self.now.turn self.now.caps result.0.pass }
+        ensures ours { IsOurs self.now result.0 }
         ensures number { result.0.number ≡ caller.number }
-        ensures guest_ours { IfOk result.1
-            (λ guest. IsTokenOf self.now.turn self.now.caps guest.pass) }
+        ensures guest_ours { IfOk result.1 (IsOurGuest self.now) }
         ensures guest { IfOk result.1 (λ guest. view guest.pass ≡ guest_of (view caller.pass)) }
         ensures no_entries { IfOk result.1
             (λ guest. own (number_of (view guest.pass)) (view guest.pass).seen ≡ []) }
-        ensures room { OnOk result.1 ((view caller.pass).made < 65536) }
+        ensures room { OnOk result.1 ((view caller.pass).made < MAX_PASSES) }
         ensures made { OnOk result.1 (view result.0.pass ≡ one_more (view caller.pass)) }
         ensures full { IfErr result.1 (λ refusal.
-            ((view caller.pass).made ≡ 65536) × (refusal ≡ GuestRefusal.Full 65536)) }
+            ((view caller.pass).made ≡ MAX_PASSES) × (refusal ≡ GuestRefusal.Full MAX_PASSES)) }
         ensures none_made { OnErr result.1 (view result.0.pass ≡ view caller.pass) }
     {
         let Caller { pass, number } = caller;
@@ -52,22 +52,21 @@ impl<M: Method> Live<M> {
         caller: Caller,
         guest: Guest,
     ) -> (Caller, Result<Caller, (EnrolRefusal, Guest)>)
-        requires ours { IsTokenOf self.now.turn self.now.caps caller.pass }
-        requires guest_ours { IsTokenOf self.now.turn self.now.caps guest.pass }
-        ensures ours { IsTokenOf self.now.turn self.now.caps result.0.pass }
+        requires ours { IsOurs self.now caller }
+        requires guest_ours { IsOurGuest self.now guest }
+        ensures ours { IsOurs self.now result.0 }
         ensures number { result.0.number ≡ caller.number }
         ensures call { Calls self.now.caps caller.number enrol (enrolment_of result.1)
             (view caller.pass) (view result.0.pass) }
         ensures told { StartsWith (view result.0.pass).seen (view guest.pass).seen }
-        ensures new_ours { IfOk result.1 (λ new. IsTokenOf self.now.turn self.now.caps new.pass) }
+        ensures new_ours { IfOk result.1 (IsOurs self.now) }
         ensures new_number { IfOk result.1
             (λ new. number_of (view new.pass) ≡ number_of (view guest.pass)) }
         ensures new_seen { IfOk result.1 (λ new. (view new.pass).seen ≡ (view result.0.pass).seen) }
         ensures no_entries { IfOk result.1
             (λ new. own (number_of (view new.pass)) (view new.pass).seen ≡ []) }
         ensures guest_back { IfErr result.1 (λ refused. view refused.1.pass ≡ view guest.pass) }
-        ensures back_ours { IfErr result.1
-            (λ refused. IsTokenOf self.now.turn self.now.caps refused.1.pass) }
+        ensures back_ours { IfErr result.1 (λ refused. IsOurGuest self.now refused.1) }
     {
         callers_are_counted();
         let Caller { pass, number } = caller;

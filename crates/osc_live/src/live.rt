@@ -3,7 +3,8 @@ ghost use Rattle.std.specs.Prelude.{◌≡◌, [], IfOk};
 ghost use Rattle.osc_turn.specs.Rule.{opening};
 ghost use Rattle.osc_turn.specs.Passes.{view};
 ghost use Rattle.osc_model.specs.Recordings.{header_text};
-ghost use Rattle.osc_live.specs.Seen.{IsTokenOf, past_of};
+ghost use Rattle.osc_live.specs.Seen.{past_of};
+ghost use Rattle.osc_live.specs.Tokens.{IsOurs};
 ghost use Rattle.osc_live.specs.Calls.{Looks};
 
 use crate::caller::Caller;
@@ -25,7 +26,7 @@ impl<M: Method> Live<M> {
     /// A server with these limits, and the token of caller 0. The `Err` means that there is no memory for it.
     pub fn open(alloc: Global, caps: Caps) -> Result<(Live<M>, Caller), AllocError>
         ensures limits { IfOk result (λ opened. opened.0.caps ≡ caps) }
-        ensures ours { IfOk result (λ opened. IsTokenOf opened.0.turn opened.0.caps opened.1.pass) }
+        ensures ours { IfOk result (λ opened. IsOurs opened.0 opened.1) }
         ensures empty { IfOk result (λ opened. past_of opened.0.turn ≡ []) }
         ensures number { IfOk result (λ opened. opened.1.number ≡ 0) }
         ensures first { IfOk result (λ opened. view opened.1.pass ≡ opening (header_text caps)) }
@@ -39,8 +40,8 @@ impl<M: Method> Live<M> {
 
     /// The number of entries that the caller has then seen, by one look at the turn.
     pub fn front(&self, caller: Caller) -> (Caller, u64)
-        requires ours { IsTokenOf self.now.turn self.now.caps caller.pass }
-        ensures ours { IsTokenOf self.now.turn self.now.caps result.0.pass }
+        requires ours { IsOurs self.now caller }
+        ensures ours { IsOurs self.now result.0 }
         ensures number { result.0.number ≡ caller.number }
         ensures look { Looks result.1 (view caller.pass) (view result.0.pass) }
     {

@@ -4,7 +4,7 @@ ghost use Rattle.osc_turn.specs.History.{StartsWith};
 ghost use Rattle.osc_turn.specs.Steps.{longer};
 ghost use Rattle.osc_turn.specs.Passes.{view, met_by};
 ghost use Rattle.osc_turn.specs.Answers.{KeepsOwn};
-ghost use Rattle.osc_live.specs.Seen.{IsTokenOf};
+ghost use Rattle.osc_live.specs.Tokens.{IsOurs};
 
 use crate::caller::Caller;
 use crate::live::Live;
@@ -14,10 +14,10 @@ use osc_model::laws::callers_are_counted;
 impl<M: Method> Live<M> {
     /// Tells `into` what `from` has seen. Of what the two have seen, one list begins with the other.
     pub fn meet(&self, from: Caller, into: Caller) -> (Caller, Caller)
-        requires from_ours { IsTokenOf self.now.turn self.now.caps from.pass }
-        requires into_ours { IsTokenOf self.now.turn self.now.caps into.pass }
-        ensures from_ours { IsTokenOf self.now.turn self.now.caps result.0.pass }
-        ensures into_ours { IsTokenOf self.now.turn self.now.caps result.1.pass }
+        requires from_ours { IsOurs self.now from }
+        requires into_ours { IsOurs self.now into }
+        ensures from_ours { IsOurs self.now result.0 }
+        ensures into_ours { IsOurs self.now result.1 }
         ensures numbers { (result.0.number ≡ from.number) × (result.1.number ≡ into.number) }
         ensures from { view result.0.pass ≡ view from.pass }
         ensures into { view result.1.pass ≡ met_by (view into.pass) (view from.pass) }

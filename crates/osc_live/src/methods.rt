@@ -6,7 +6,8 @@ ghost use Rattle.osc_model.specs.Events.{add, remove};
 ghost use Rattle.osc_model.specs.History.{HasHeard, invoked_in};
 ghost use Rattle.osc_core.specs.Answers.{adding_of, removing_of, OnAdded, OnRefused, OnRemoved};
 ghost use Rattle.osc_core.specs.Standing.{CarriesMark, mark_of};
-ghost use Rattle.osc_live.specs.Seen.{IsTokenOf, performance_in};
+ghost use Rattle.osc_live.specs.Seen.{performance_in};
+ghost use Rattle.osc_live.specs.Tokens.{IsOurs};
 ghost use Rattle.osc_live.specs.Calls.{Calls};
 
 use crate::adding::Add;
@@ -27,8 +28,8 @@ impl<M: Method> Live<M> {
         address: Address,
         method: M,
     ) -> (Caller, Adding<M>)
-        requires ours { IsTokenOf self.now.turn self.now.caps caller.pass }
-        ensures ours { IsTokenOf self.now.turn self.now.caps result.0.pass }
+        requires ours { IsOurs self.now caller }
+        ensures ours { IsOurs self.now result.0 }
         ensures number { result.0.number ≡ caller.number }
         ensures call { Calls self.now.caps caller.number (add address) (adding_of result.1)
             (view caller.pass) (view result.0.pass) }
@@ -47,8 +48,8 @@ impl<M: Method> Live<M> {
         caller: Caller,
         address: &Address,
     ) -> (Caller, Removing<M>)
-        requires ours { IsTokenOf self.now.turn self.now.caps caller.pass }
-        ensures ours { IsTokenOf self.now.turn self.now.caps result.0.pass }
+        requires ours { IsOurs self.now caller }
+        ensures ours { IsOurs self.now result.0 }
         ensures number { result.0.number ≡ caller.number }
         ensures call { Calls self.now.caps caller.number (remove address.now) (removing_of result.1)
             (view caller.pass) (view result.0.pass) }

@@ -2,6 +2,7 @@
 ghost use Rattle.std.specs.Prelude.{◌≡◌};
 ghost use Rattle.osc_turn.specs.Passes.{view};
 ghost use Rattle.osc_live.specs.Seen.{IsTokenOf};
+ghost use Rattle.osc_live.specs.Tokens.{IsOurs};
 ghost use Rattle.osc_live.specs.Reads.{Reads};
 
 use crate::caller::Caller;
@@ -24,8 +25,8 @@ impl<M: Method> Live<M> {
         from: u32,
         into: &mut [u8],
     ) -> (Caller, usize)
-        requires ours { IsTokenOf self.now.turn self.now.caps caller.pass }
-        ensures ours { IsTokenOf self.now.turn self.now.caps result.0.pass }
+        requires ours { IsOurs self.now caller }
+        ensures ours { IsOurs self.now result.0 }
         ensures number { result.0.number ≡ caller.number }
         ensures read { Reads self.now.caps from into.old into.new result.1 (view caller.pass)
             (view result.0.pass) }

@@ -5,6 +5,7 @@ ghost use Rattle.std.specs.Prelude.{vec_len, vec_capacity};
 ghost use Rattle.std.specs.VecDeque.{deque_capacity};
 ghost use Rattle.osc_turn.specs.Passes.{view};
 ghost use Rattle.osc_turn.specs.Rule.{reopening};
+ghost use Rattle.osc_turn.specs.declared.limits.TheConstants.{MAX_PASSES};
 ghost use Rattle.osc_model.specs.Limits.{Limits, header_size, max_recording};
 ghost use Rattle.osc_model.specs.Events.{Entry as Recorded};
 ghost use Rattle.osc_model.specs.Enrolled.{callers_in};
@@ -17,6 +18,7 @@ ghost use Rattle.osc_core.specs.Redoing.{with_entry};
 ghost use Rattle.osc_core.specs.Standing.{history_in};
 ghost use Rattle.osc_core.specs.Telling.{told};
 ghost use Rattle.osc_live.specs.Seen.{IsTokenOf, past_of};
+ghost use Rattle.osc_live.specs.Tokens.{IsOurs};
 ghost use Rattle.osc_live.specs.Closing.{known};
 ghost use Rattle.osc_live.specs.Resuming.{Records, CanResume, Resumes, roomier, needed_by};
 ghost use Rattle.osc_live.specs.Resuming.{takes_box, added_in, addresses_in, all_resumed};
@@ -73,9 +75,7 @@ impl<M: Method> Live<M> {
         ensures heard { IfOk result (λ resumed. (caps : Limits) (history : List Recorded)
             → Records recording.now caps history
             → HaveHeardAll M.keep M.heard resumed.live.caps history resumed.removed.items) }
-        ensures ours { IfOk result
-            (λ resumed. All (λ caller. IsTokenOf resumed.live.turn resumed.live.caps caller.pass)
-            resumed.callers.items) }
+        ensures ours { IfOk result (λ resumed. All (IsOurs resumed.live) resumed.callers.items) }
         ensures back { IfErr result
             (λ refused. marks M.keep M.heard refused.1.items ≡ marks M.keep M.heard bank.items) }
     {
@@ -134,12 +134,11 @@ impl<M: Method> Live<M> {
         requires none { callers.items ≡ [] }
         requires room { count ≤ vec_capacity callers }
         requires some { 1 ≤ count }
-        requires few { count ≤ 65536 }
+        requires few { count ≤ MAX_PASSES }
         requires enrolled { count ≤ callers_in (history_in (past_of self.now.turn)) }
         ensures tokens { known result.items
             ≡ all_resumed self.now.caps (past_of self.now.turn) count }
-        ensures ours { All (λ caller. IsTokenOf self.now.turn self.now.caps caller.pass)
-            result.items }
+        ensures ours { All (IsOurs self.now) result.items }
     {
         let mut callers = callers;
         let mut pass = pass;

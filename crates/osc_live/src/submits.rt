@@ -4,7 +4,7 @@ ghost use Rattle.osc_turn.specs.Passes.{view};
 ghost use Rattle.osc_turn.specs.Answers.{FindsTwice};
 ghost use Rattle.osc_model.specs.Events.{submit};
 ghost use Rattle.osc_core.specs.Answers.{submitted_of};
-ghost use Rattle.osc_live.specs.Seen.{IsTokenOf};
+ghost use Rattle.osc_live.specs.Tokens.{IsOurs};
 ghost use Rattle.osc_live.specs.Calls.{Calls, IsBusy};
 
 use crate::busy::Busy;
@@ -24,8 +24,8 @@ impl<M: Method> Live<M> {
         caller: Caller,
         packet: &Packet<'_>,
     ) -> (Caller, Submitted)
-        requires ours { IsTokenOf self.now.turn self.now.caps caller.pass }
-        ensures ours { IsTokenOf self.now.turn self.now.caps result.0.pass }
+        requires ours { IsOurs self.now caller }
+        ensures ours { IsOurs self.now result.0 }
         ensures number { result.0.number ≡ caller.number }
         ensures call { Calls self.now.caps caller.number (submit packet.now) (submitted_of result.1)
             (view caller.pass) (view result.0.pass) }
@@ -39,8 +39,8 @@ impl<M: Method> Live<M> {
         caller: Caller,
         packet: &Packet<'_>,
     ) -> (Caller, Result<Submitted, Busy>)
-        requires ours { IsTokenOf self.now.turn self.now.caps caller.pass }
-        ensures ours { IsTokenOf self.now.turn self.now.caps result.0.pass }
+        requires ours { IsOurs self.now caller }
+        ensures ours { IsOurs self.now result.0 }
         ensures number { result.0.number ≡ caller.number }
         ensures call { IfOk result.1
             (λ submitted. Calls self.now.caps caller.number (submit packet.now)

@@ -4,7 +4,7 @@ ghost use Rattle.osc_turn.specs.History.{texts};
 ghost use Rattle.osc_turn.specs.Passes.{view};
 ghost use Rattle.osc_turn.specs.Answers.{FindsTwice};
 ghost use Rattle.osc_model.specs.Events.{Answer};
-ghost use Rattle.osc_live.specs.Seen.{IsTokenOf};
+ghost use Rattle.osc_live.specs.Tokens.{IsOurs};
 ghost use Rattle.osc_live.specs.Calls.{Calls, IsBusy};
 
 use crate::ask::Ask;
@@ -26,8 +26,8 @@ impl<M: Method> Live<M> {
         caller: Caller,
         asked: A,
     ) -> (Caller, B)
-        requires ours { IsTokenOf self.now.turn self.now.caps caller.pass }
-        ensures ours { IsTokenOf self.now.turn self.now.caps result.0.pass }
+        requires ours { IsOurs self.now caller }
+        ensures ours { IsOurs self.now result.0 }
         ensures number { result.0.number ≡ caller.number }
         ensures call { (answer : Answer) × A.says result.1 answer
             × Calls self.now.caps caller.number (A.event asked) answer (view caller.pass)
@@ -53,8 +53,8 @@ impl<M: Method> Live<M> {
         caller: Caller,
         asked: A,
     ) -> (Caller, Result<B, Busy>)
-        requires ours { IsTokenOf self.now.turn self.now.caps caller.pass }
-        ensures ours { IsTokenOf self.now.turn self.now.caps result.0.pass }
+        requires ours { IsOurs self.now caller }
+        ensures ours { IsOurs self.now result.0 }
         ensures number { result.0.number ≡ caller.number }
         ensures call { IfOk result.1 (λ given. (answer : Answer) × A.says given answer
             × Calls self.now.caps caller.number (A.event asked) answer (view caller.pass)

@@ -1,6 +1,6 @@
 // Calls that don't wait, while another caller's add is in its box's reset.
 ghost use Rattle.std.specs.Prelude.{◌≡◌, None};
-ghost use Rattle.osc_live.specs.Seen.{IsTokenOf};
+ghost use Rattle.osc_live.specs.Tokens.{IsOurs};
 
 use crate::live_threads::{Flag, MESSAGE, Meanwhile, await_flag, flag, try_meanwhile};
 use crate::tokens::{enrolled, open};
@@ -53,14 +53,14 @@ fn at_once<R: Threads + Wait + Sync>(
     method: Slow,
     flags: (&Flag, &Flag),
 ) -> (Option<u32>, Option<Meanwhile>)
-    requires new { IsTokenOf live.now.turn live.now.caps new.pass }
-    requires ours { IsTokenOf live.now.turn live.now.caps caller.pass }
+    requires new { IsOurs live.now new }
+    requires ours { IsOurs live.now caller }
 {
     let (begun, may_end) = flags;
     join(
         rt,
         || -> Option<u32>
-            requires { IsTokenOf live.now.turn live.now.caps new.pass }
+            requires { IsOurs live.now new }
         {
             let (_, added) = live.add(rt, new, address, method);
             match added {
@@ -69,15 +69,15 @@ fn at_once<R: Threads + Wait + Sync>(
             }
         },
         || -> Option<Meanwhile>
-            requires { IsTokenOf live.now.turn live.now.caps caller.pass }
+            requires { IsOurs live.now caller }
         { try_meanwhile(live, caller, begun, may_end).1 },
     )
 }
 
 /// Submits a message, so that there is an entry more.
 fn submit<R: Wait>(rt: &R, live: &Live<Slow>, caller: Caller) -> Caller
-    requires ours { IsTokenOf live.now.turn live.now.caps caller.pass }
-    ensures ours { IsTokenOf live.now.turn live.now.caps result.pass }
+    requires ours { IsOurs live.now caller }
+    ensures ours { IsOurs live.now result }
 {
     let Ok(packet) = Packet::check(MESSAGE, MAX_PACKET) else {
         return caller;

@@ -1,6 +1,6 @@
 // Two threads that call one server.
 ghost use Rattle.std.specs.Prelude.{◌≡◌, None};
-ghost use Rattle.osc_live.specs.Seen.{IsTokenOf};
+ghost use Rattle.osc_live.specs.Tokens.{IsOurs};
 
 use crate::tokens::{close_both, enrolled, open};
 use osc_core::{Adding, Closed, Releasing, Submitted};
@@ -74,8 +74,8 @@ fn try_submit<M: Method>(
     live: &Live<M>,
     caller: Caller,
 ) -> (Caller, Option<Result<Submitted, Busy>>)
-    requires ours { IsTokenOf live.now.turn live.now.caps caller.pass }
-    ensures ours { IsTokenOf live.now.turn live.now.caps result.0.pass }
+    requires ours { IsOurs live.now caller }
+    ensures ours { IsOurs live.now result.0 }
     ensures number { result.0.number ≡ caller.number }
 {
     let Ok(packet) = Packet::check(MESSAGE, MAX_PACKET) else {
@@ -92,8 +92,8 @@ pub(crate) fn try_meanwhile<M: Method>(
     begun: &Flag,
     may_end: &Flag,
 ) -> (Caller, Option<Meanwhile>)
-    requires ours { IsTokenOf live.now.turn live.now.caps caller.pass }
-    ensures ours { IsTokenOf live.now.turn live.now.caps result.0.pass }
+    requires ours { IsOurs live.now caller }
+    ensures ours { IsOurs live.now result.0 }
     ensures number { result.0.number ≡ caller.number }
 {
     await_flag(begun);
@@ -118,23 +118,22 @@ fn at_once<M: Method + Send, R: Threads + Wait + Sync>(
     caller: Caller,
     flags: (&Flag, &Flag),
 ) -> ((Caller, Releasing), (Caller, Option<Meanwhile>))
-    requires new { IsTokenOf live.now.turn live.now.caps new.pass }
-    requires ours { IsTokenOf live.now.turn live.now.caps caller.pass }
-    ensures new { IsTokenOf live.now.turn live.now.caps result.0.0.pass }
-    ensures ours { IsTokenOf live.now.turn live.now.caps result.1.0.pass }
+    requires new { IsOurs live.now new }
+    requires ours { IsOurs live.now caller }
+    ensures new { IsOurs live.now result.0.0 }
+    ensures ours { IsOurs live.now result.1.0 }
     ensures number { result.1.0.number ≡ caller.number }
 {
     let (begun, may_end) = flags;
     join(
         rt,
         || -> (Caller, Releasing)
-            requires { IsTokenOf live.now.turn live.now.caps new.pass }
-            ensures { IsTokenOf live.entry.now.turn live.entry.now.caps result.0.pass }
+            requires { IsOurs live.now new }
+            ensures { IsOurs live.entry.now result.0 }
         { live.release(rt, new) },
         || -> (Caller, Option<Meanwhile>)
-            requires { IsTokenOf live.now.turn live.now.caps caller.pass }
-            ensures { IsTokenOf live.entry.now.turn live.entry.now.caps result.0.pass
-                × (result.0.number ≡ caller.number) }
+            requires { IsOurs live.now caller }
+            ensures { IsOurs live.entry.now result.0 × (result.0.number ≡ caller.number) }
         { try_meanwhile(live, caller, begun, may_end) },
     )
 }
@@ -210,8 +209,8 @@ fn submit_and_pump<M: Method, W: Wait>(
     live: &Live<M>,
     caller: Caller,
 ) -> (Caller, Option<u64>, u32)
-    requires ours { IsTokenOf live.now.turn live.now.caps caller.pass }
-    ensures ours { IsTokenOf live.now.turn live.now.caps result.0.pass }
+    requires ours { IsOurs live.now caller }
+    ensures ours { IsOurs live.now result.0 }
     ensures number { result.0.number ≡ caller.number }
 {
     let Ok(packet) = Packet::check(MESSAGE, MAX_PACKET) else {
@@ -231,8 +230,8 @@ fn submit_and_pump<M: Method, W: Wait>(
 }
 
 fn three_times<M: Method, W: Wait>(rt: &W, live: &Live<M>, caller: Caller) -> (Caller, Answered)
-    requires ours { IsTokenOf live.now.turn live.now.caps caller.pass }
-    ensures ours { IsTokenOf live.now.turn live.now.caps result.0.pass }
+    requires ours { IsOurs live.now caller }
+    ensures ours { IsOurs live.now result.0 }
     ensures number { result.0.number ≡ caller.number }
 {
     let (caller, one, first) = submit_and_pump(rt, live, caller);
@@ -251,22 +250,21 @@ fn both_three_times<M: Method + Send, R: Threads + Wait + Sync>(
     caller: Caller,
     new: Caller,
 ) -> ((Caller, Answered), (Caller, Answered))
-    requires ours { IsTokenOf live.now.turn live.now.caps caller.pass }
-    requires new { IsTokenOf live.now.turn live.now.caps new.pass }
-    ensures ours { IsTokenOf live.now.turn live.now.caps result.0.0.pass }
+    requires ours { IsOurs live.now caller }
+    requires new { IsOurs live.now new }
+    ensures ours { IsOurs live.now result.0.0 }
     ensures number { result.0.0.number ≡ caller.number }
-    ensures new { IsTokenOf live.now.turn live.now.caps result.1.0.pass }
+    ensures new { IsOurs live.now result.1.0 }
 {
     join(
         rt,
         || -> (Caller, Answered)
-            requires { IsTokenOf live.now.turn live.now.caps caller.pass }
-            ensures { IsTokenOf live.entry.now.turn live.entry.now.caps result.0.pass
-                × (result.0.number ≡ caller.number) }
+            requires { IsOurs live.now caller }
+            ensures { IsOurs live.entry.now result.0 × (result.0.number ≡ caller.number) }
         { three_times(rt, live, caller) },
         || -> (Caller, Answered)
-            requires { IsTokenOf live.now.turn live.now.caps new.pass }
-            ensures { IsTokenOf live.entry.now.turn live.entry.now.caps result.0.pass }
+            requires { IsOurs live.now new }
+            ensures { IsOurs live.entry.now result.0 }
         { three_times(rt, live, new) },
     )
 }

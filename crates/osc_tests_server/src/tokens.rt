@@ -1,6 +1,6 @@
 // Servers of two callers, and lists of tokens.
 ghost use Rattle.std.specs.Prelude.{◌≡◌, [], ◌∷◌, IfSome};
-ghost use Rattle.osc_live.specs.Seen.{IsTokenOf};
+ghost use Rattle.osc_live.specs.Tokens.{IsOurs, IsOurGuest};
 
 use osc_core::Closed;
 use osc_live::{Caller, Guest, Live, LiveOut};
@@ -10,7 +10,7 @@ use std::alloc::Global;
 use std::sync::Wait;
 
 pub(crate) fn open<M: Method>(alloc: Global) -> Option<(Live<M>, Caller)>
-    ensures ours { IfSome result (λ opened. IsTokenOf opened.0.turn opened.0.caps opened.1.pass) }
+    ensures ours { IfSome result (λ opened. IsOurs opened.0 opened.1) }
     ensures first { IfSome result (λ opened. opened.1.number ≡ 0) }
 {
     let caps = Caps::new(8, 8, 8, 8, 2, 4096, Late::Deliver).ok()?;
@@ -23,10 +23,10 @@ pub(crate) fn enrolled<M: Method, W: Wait>(
     live: &Live<M>,
     caller: Caller,
 ) -> Option<(Caller, Caller)>
-    requires ours { IsTokenOf live.now.turn live.now.caps caller.pass }
+    requires ours { IsOurs live.now caller }
     requires first { caller.number ≡ 0 }
-    ensures ours { IfSome result (λ both. IsTokenOf live.now.turn live.now.caps both.0.pass) }
-    ensures new_ours { IfSome result (λ both. IsTokenOf live.now.turn live.now.caps both.1.pass) }
+    ensures ours { IfSome result (λ both. IsOurs live.now both.0) }
+    ensures new_ours { IfSome result (λ both. IsOurs live.now both.1) }
     ensures first { IfSome result (λ both. both.0.number ≡ 0) }
 {
     let (caller, guest) = live.guest(caller);
@@ -62,8 +62,8 @@ pub(crate) fn close_both<M: Method>(
     first: Caller,
     second: Caller,
 ) -> Option<Closed<M>>
-    requires ours { IsTokenOf live.turn live.caps first.pass }
-    requires second_ours { IsTokenOf live.turn live.caps second.pass }
+    requires ours { IsOurs live first }
+    requires second_ours { IsOurs live second }
     requires first { first.number ≡ 0 }
 {
     let callers = both(alloc, first, second)?;
@@ -78,8 +78,8 @@ pub(crate) fn close_twice<M: Method>(
     caller: Caller,
     guest: Guest,
 ) -> Option<(u32, u32)>
-    requires ours { IsTokenOf live.turn live.caps caller.pass }
-    requires guest_ours { IsTokenOf live.turn live.caps guest.pass }
+    requires ours { IsOurs live caller }
+    requires guest_ours { IsOurGuest live guest }
     requires first { caller.number ≡ 0 }
 {
     let callers = only(alloc, caller)?;

@@ -2,7 +2,7 @@
 ghost use Rattle.std.specs.Prelude.{List};
 ghost use Rattle.osc_model.specs.Limits.{Limits};
 ghost use Rattle.osc_model.specs.Events.{Entry};
-ghost use Rattle.osc_live.specs.Seen.{IsTokenOf};
+ghost use Rattle.osc_live.specs.Tokens.{IsOurs};
 ghost use Rattle.osc_watch.specs.Watching.{IsOneBoard, IsOfOneBoard, IsWatcherOf};
 ghost use Rattle.osc_watch.specs.Refreshing.{HasReadPart};
 
@@ -39,7 +39,7 @@ fn looks<W: Wait>(
     board: &mut Board,
     watcher: &mut Watcher,
 ) -> [Look; 4]
-    requires ours { IsTokenOf live.now.turn live.now.caps caller.pass }
+    requires ours { IsOurs live.now caller }
     requires watches { IsWatcherOf board.old watcher.old }
     requires unread { (caps : Limits) (history : List Entry) → HasReadPart caps board.old history }
     ensures board { IsOneBoard board.old board.new }

@@ -18,8 +18,8 @@ use Rattle.osc_method.specs.declared.method.Method.{Ghosts}
 use Rattle.osc_live.specs.declared.pumped.Pumped.{Pumped}
 use Rattle.osc_live.specs.declared.close.LiveOut.{LiveOut}
 use Rattle.osc_live.specs.declared.close.LiveOut.TheVariants.{NoMemory, StillOut}
-use Rattle.osc_turn.specs.declared.turn.Turn.{Turn}
-use Rattle.osc_live.specs.Seen.{IsTokenOf}
+use Rattle.osc_live.specs.Tokens.{IsOurs}
+use Rattle.osc_live.specs.declared.live.Live.{Live}
 use Rattle.osc_live.specs.Calls.{Calls}
 use Rattle.osc_live.specs.Pumps.{Pumps}
 use Rattle.osc_live.specs.Closing.{Closes}
@@ -28,10 +28,10 @@ use Rattle.osc_uses.specs.declared.live_server.LiveRun.{LiveRun}
 use Rattle.osc_uses.specs.declared.live_server.Unfinished.{Unfinished}
 use Rattle.osc_uses.specs.declared.live_server.Unfinished.TheVariants.{Open}
 
--- the tokens of three callers are those of a server with these limits
-abbrev pub AreTokensOf : {S : Type 0} → Turn S → Limits → Callers → Type 0
-AreTokensOf turn caps callers = IsTokenOf turn caps callers.first.pass
-    × IsTokenOf turn caps callers.second.pass × IsTokenOf turn caps callers.third.pass
+-- the tokens of three callers are those of this server
+abbrev pub AreOurs : {M : Type 0} {G : Ghosts M} → Live M G → Callers → Type 0
+AreOurs live callers =
+    IsOurs live callers.first × IsOurs live callers.second × IsOurs live callers.third
 
 -- the entries that the token itself made
 abbrev pub own_entries : View → List Seen

@@ -4,10 +4,11 @@ ghost use Rattle.std.specs.Prelude.{◌≡◌, ◌<◌, ◌+◌, [], ◌∷◌, 
 ghost use Rattle.osc_turn.specs.Passes.{view};
 ghost use Rattle.osc_core.specs.Answers.{adding_of, removing_of, ticking_of};
 ghost use Rattle.osc_core.specs.Telling.{told};
-ghost use Rattle.osc_live.specs.Seen.{IsTokenOf, past_of};
+ghost use Rattle.osc_live.specs.Seen.{past_of};
+ghost use Rattle.osc_live.specs.Tokens.{IsOurs};
 ghost use Rattle.osc_live.specs.Outs.{AreOurs, live_back};
 ghost use Rattle.osc_live.specs.Closing.{Closes};
-ghost use Rattle.osc_uses.specs.Live.{ComesAndGoes, Sends, Ticks, AreOneHistory, AreTokensOf};
+ghost use Rattle.osc_uses.specs.Live.{ComesAndGoes, Sends, Ticks, AreOneHistory, AreOurs};
 ghost use Rattle.osc_uses.specs.Live.{Enrols, HasEnrolled, own_entries, OnOpen, IsShort};
 
 use osc_atoms::Fault;
@@ -64,11 +65,11 @@ fn enrolled<M: Method, W: Wait>(
     live: &Live<M>,
     first: Caller,
 ) -> Result<(Caller, Caller), EnrolRefusal>
-    requires ours { IsTokenOf live.now.turn live.now.caps first.pass }
+    requires ours { IsOurs live.now first }
     requires first { first.number ≡ 0 }
     requires room { (view first.pass).made < 65536 }
-    ensures ours { IfOk result (λ both. IsTokenOf live.now.turn live.now.caps both.0.pass) }
-    ensures new_ours { IfOk result (λ both. IsTokenOf live.now.turn live.now.caps both.1.pass) }
+    ensures ours { IfOk result (λ both. IsOurs live.now both.0) }
+    ensures new_ours { IfOk result (λ both. IsOurs live.now both.1) }
     ensures first { IfOk result (λ both. both.0.number ≡ 0) }
     ensures enrols { IfOk result
         (λ both. Enrols both.1.number (view first.pass) (view both.0.pass)) }
@@ -93,7 +94,7 @@ fn open_three<M: Method, W: Wait>(
 ) -> Result<(Live<M>, Callers), Unfinished<M>>
     ensures limits { IfOk result (λ opened. opened.0.caps ≡ caps) }
     ensures empty { IfOk result (λ opened. past_of opened.0.turn ≡ []) }
-    ensures ours { IfOk result (λ opened. AreTokensOf opened.0.turn opened.0.caps opened.1) }
+    ensures ours { IfOk result (λ opened. AreOurs opened.0 opened.1) }
     ensures first { IfOk result (λ opened. opened.1.first.number ≡ 0) }
     ensures enrolled { IfOk result (λ opened. HasEnrolled opened.1.second.number
         opened.1.third.number (view opened.1.first.pass)) }
@@ -130,9 +131,9 @@ fn add_and_remove<M: Method, W: Wait>(
     again: Address,
     method: M,
 ) -> (Caller, (Adding<M>, Removing<M>))
-    requires ours { IsTokenOf live.now.turn live.now.caps caller.pass }
+    requires ours { IsOurs live.now caller }
     requires again { again ≡ address }
-    ensures ours { IsTokenOf live.now.turn live.now.caps result.0.pass }
+    ensures ours { IsOurs live.now result.0 }
     ensures number { result.0.number ≡ caller.number }
     ensures calls { ComesAndGoes live.now.caps caller.number address (adding_of result.1.0)
         (removing_of result.1.1) (view caller.pass) (view result.0.pass) }
@@ -149,8 +150,8 @@ fn send<M: Method, W: Wait>(
     caller: Caller,
     bytes: &[u8],
 ) -> (Caller, Result<Submitted, Fault>)
-    requires ours { IsTokenOf live.now.turn live.now.caps caller.pass }
-    ensures ours { IsTokenOf live.now.turn live.now.caps result.0.pass }
+    requires ours { IsOurs live.now caller }
+    ensures ours { IsOurs live.now result.0 }
     ensures number { result.0.number ≡ caller.number }
     ensures calls { Sends live.now.caps caller.number bytes.now result.1
         (view caller.pass) (view result.0.pass) }
@@ -171,8 +172,8 @@ fn tick_and_pump<M: Method, W: Wait>(
     caller: Caller,
     moment: u64,
 ) -> (Caller, (Ticking, Pumped))
-    requires ours { IsTokenOf live.now.turn live.now.caps caller.pass }
-    ensures ours { IsTokenOf live.now.turn live.now.caps result.0.pass }
+    requires ours { IsOurs live.now caller }
+    ensures ours { IsOurs live.now result.0 }
     ensures number { result.0.number ≡ caller.number }
     ensures calls { Ticks live.now.caps caller.number moment (ticking_of result.1.0) result.1.1
         (view caller.pass) (view result.0.pass) }
@@ -194,13 +195,13 @@ fn send_and_tick<M: Method + Send, R: Threads + Wait + Sync>(
     (Caller, Result<Submitted, Fault>),
     (Caller, (Ticking, Pumped)),
 )
-    requires ours { IsTokenOf live.now.turn live.now.caps sender.pass }
-    requires ticker_ours { IsTokenOf live.now.turn live.now.caps ticker.pass }
-    ensures ours { IsTokenOf live.now.turn live.now.caps result.0.0.pass }
+    requires ours { IsOurs live.now sender }
+    requires ticker_ours { IsOurs live.now ticker }
+    ensures ours { IsOurs live.now result.0.0 }
     ensures number { result.0.0.number ≡ sender.number }
     ensures sends { Sends live.now.caps sender.number bytes.now result.0.1
         (view sender.pass) (view result.0.0.pass) }
-    ensures ticker_ours { IsTokenOf live.now.turn live.now.caps result.1.0.pass }
+    ensures ticker_ours { IsOurs live.now result.1.0 }
     ensures ticker_number { result.1.0.number ≡ ticker.number }
     ensures ticks { Ticks live.now.caps ticker.number moment (ticking_of result.1.1.0) result.1.1.1
         (view ticker.pass) (view result.1.0.pass) }
@@ -208,15 +209,15 @@ fn send_and_tick<M: Method + Send, R: Threads + Wait + Sync>(
     join(
         rt,
         || -> (Caller, Result<Submitted, Fault>)
-            requires { IsTokenOf live.now.turn live.now.caps sender.pass }
-            ensures ours { IsTokenOf live.entry.now.turn live.entry.now.caps result.0.pass }
+            requires { IsOurs live.now sender }
+            ensures ours { IsOurs live.entry.now result.0 }
             ensures number { result.0.number ≡ sender.number }
             ensures sends { Sends live.entry.now.caps sender.number bytes.entry.now result.1
                 (view sender.pass) (view result.0.pass) }
         { send(rt, live, sender, bytes) },
         || -> (Caller, (Ticking, Pumped))
-            requires { IsTokenOf live.now.turn live.now.caps ticker.pass }
-            ensures ours { IsTokenOf live.entry.now.turn live.entry.now.caps result.0.pass }
+            requires { IsOurs live.now ticker }
+            ensures ours { IsOurs live.entry.now result.0 }
             ensures number { result.0.number ≡ ticker.number }
             ensures ticks { Ticks live.entry.now.caps ticker.number moment (ticking_of result.1.0)
                 result.1.1 (view ticker.pass) (view result.0.pass) }
@@ -240,18 +241,18 @@ fn three_at_once<M: Method + Send, R: Threads + Wait + Sync>(
         (Caller, (Ticking, Pumped)),
     ),
 )
-    requires ours { AreTokensOf live.now.turn live.now.caps callers }
+    requires ours { AreOurs live.now callers }
     requires again { places.1 ≡ places.0 }
-    ensures ours { IsTokenOf live.now.turn live.now.caps result.0.0.pass }
+    ensures ours { IsOurs live.now result.0.0 }
     ensures number { result.0.0.number ≡ callers.first.number }
     ensures comes { ComesAndGoes live.now.caps callers.first.number places.0
         (adding_of result.0.1.0) (removing_of result.0.1.1)
         (view callers.first.pass) (view result.0.0.pass) }
-    ensures second_ours { IsTokenOf live.now.turn live.now.caps result.1.0.0.pass }
+    ensures second_ours { IsOurs live.now result.1.0.0 }
     ensures second_number { result.1.0.0.number ≡ callers.second.number }
     ensures sends { Sends live.now.caps callers.second.number bytes.now result.1.0.1
         (view callers.second.pass) (view result.1.0.0.pass) }
-    ensures third_ours { IsTokenOf live.now.turn live.now.caps result.1.1.0.pass }
+    ensures third_ours { IsOurs live.now result.1.1.0 }
     ensures third_number { result.1.1.0.number ≡ callers.third.number }
     ensures ticks { Ticks live.now.caps callers.third.number moment (ticking_of result.1.1.1.0)
         result.1.1.1.1 (view callers.third.pass) (view result.1.1.0.pass) }
@@ -265,9 +266,9 @@ fn three_at_once<M: Method + Send, R: Threads + Wait + Sync>(
     join(
         rt,
         || -> (Caller, (Adding<M>, Removing<M>))
-            requires ours { IsTokenOf live.now.turn live.now.caps first.pass }
+            requires ours { IsOurs live.now first }
             requires again { again ≡ address }
-            ensures ours { IsTokenOf live.entry.now.turn live.entry.now.caps result.0.pass }
+            ensures ours { IsOurs live.entry.now result.0 }
             ensures number { result.0.number ≡ first.number }
             ensures comes { ComesAndGoes live.entry.now.caps first.number address
                 (adding_of result.1.0) (removing_of result.1.1)
@@ -277,13 +278,13 @@ fn three_at_once<M: Method + Send, R: Threads + Wait + Sync>(
             (Caller, Result<Submitted, Fault>),
             (Caller, (Ticking, Pumped)),
         )
-            requires ours { IsTokenOf live.now.turn live.now.caps second.pass }
-            requires third_ours { IsTokenOf live.now.turn live.now.caps third.pass }
-            ensures ours { IsTokenOf live.entry.now.turn live.entry.now.caps result.0.0.pass }
+            requires ours { IsOurs live.now second }
+            requires third_ours { IsOurs live.now third }
+            ensures ours { IsOurs live.entry.now result.0.0 }
             ensures number { result.0.0.number ≡ second.number }
             ensures sends { Sends live.entry.now.caps second.number bytes.entry.now result.0.1
                 (view second.pass) (view result.0.0.pass) }
-            ensures third_ours { IsTokenOf live.entry.now.turn live.entry.now.caps result.1.0.pass }
+            ensures third_ours { IsOurs live.entry.now result.1.0 }
             ensures third_number { result.1.0.number ≡ third.number }
             ensures ticks { Ticks live.entry.now.caps third.number moment (ticking_of result.1.1.0)
                 result.1.1.1 (view third.pass) (view result.1.0.pass) }
@@ -298,7 +299,7 @@ fn close_three<M: Method>(
     callers: Callers,
 ) -> Result<Closed<M>, Unfinished<M>>
     requires empty { past_of live.turn ≡ [] }
-    requires ours { AreTokensOf live.turn live.caps callers }
+    requires ours { AreOurs live callers }
     requires first { callers.first.number ≡ 0 }
     requires made { (view callers.first.pass).made ≡ 3 }
     ensures closes { IfOk result (λ closed. Closes live.caps []

@@ -7,13 +7,14 @@ use std::sync::Wait;
 
 impl<M: Method> Recorded for Live<M> {
     ghost use Rattle.osc_turn.specs.Passes.{view};
-    ghost use Rattle.osc_live.specs.Seen.{IsTokenOf, history_of};
+    ghost use Rattle.osc_live.specs.Seen.{history_of};
+ghost use Rattle.osc_live.specs.Tokens.{IsOurs};
 
     type Token = Caller;
 
     ghost caps = { λ live. live.caps };
 
-    ghost ours = { λ live caller. IsTokenOf live.turn live.caps caller.pass };
+    ghost ours = { λ live caller. IsOurs live caller };
 
     ghost seen = { λ caller. history_of (view caller.pass) };
 
