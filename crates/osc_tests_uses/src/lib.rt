@@ -4,6 +4,8 @@
 #[cfg(test)]
 mod first_server;
 #[cfg(test)]
+mod live_calls;
+#[cfg(test)]
 mod live_server;
 #[cfg(test)]
 mod matched_addresses;

@@ -9,8 +9,8 @@ ghost use Rattle.osc_watch.specs.Refreshing.{HasReadPart};
 use crate::servers::{address, caps};
 use osc_live::{Caller, Live};
 use osc_pattern::Address;
-use osc_uses::Fader;
-use osc_watch::{Board, Watcher};
+use osc_uses::{Fader, refresh_display};
+use osc_watch::{Board, Methods, Watcher};
 use std::alloc::Global;
 use std::sync::Wait;
 use std::test::Fail;
@@ -18,10 +18,7 @@ use std::test::Fail;
 /// What a watcher lists: how many edits, and the addresses in a row.
 type Look = Option<(u64, Vec<u8>)>;
 
-fn look(alloc: Global, watcher: &mut Watcher) -> Look
-    ensures { IsOfOneBoard watcher.old watcher.new }
-{
-    let methods = watcher.list(alloc).ok()?;
+fn listed(alloc: Global, methods: &Methods) -> Look {
     let mut addresses = Vec::new(alloc);
     for row in &methods.rows {
         addresses.extend_from_slice(row.address.as_slice()).ok()?;
@@ -29,7 +26,13 @@ fn look(alloc: Global, watcher: &mut Watcher) -> Look
     Some((methods.edits, addresses))
 }
 
-/// What the watcher lists of a new server, after an add, after a refresh, and after it was told.
+fn look(alloc: Global, watcher: &mut Watcher) -> Look
+    ensures { IsOfOneBoard watcher.old watcher.new }
+{
+    listed(alloc, &watcher.list(alloc).ok()?)
+}
+
+/// What the watcher lists of a new server, after an add, and what a display of it shows and then goes on to show.
 fn looks<W: Wait>(
     rt: &W,
     alloc: Global,
@@ -48,12 +51,12 @@ fn looks<W: Wait>(
     let opened = look(alloc, watcher);
     let (caller, _) = live.add(rt, caller, place, Fader::new());
     let added = look(alloc, watcher);
-    let (_, _) = board.refresh(rt, live, caller);
-    let refreshed = look(alloc, watcher);
-    if let Ok(notice) = board.tell() {
-        watcher.learn(notice);
-    }
-    [opened, added, refreshed, look(alloc, watcher)]
+    let (_, shown) = refresh_display(rt, alloc, live, caller, board, watcher);
+    let shown = match shown {
+        Ok(methods) => listed(alloc, &methods),
+        Err(_) => None,
+    };
+    [opened, added, shown, look(alloc, watcher)]
 }
 
 /// What the watcher of a new board lists of a new server.

@@ -1,3 +1,4 @@
 pub mod Early
 pub mod Live
+pub mod LiveCalls
 pub mod Played

@@ -166,7 +166,7 @@ fn send<M: Method, W: Wait>(
 }
 
 /// Sets the clock to the moment, and releases until nothing is due.
-fn tick_and_pump<M: Method, W: Wait>(
+pub(crate) fn tick_and_pump<M: Method, W: Wait>(
     rt: &W,
     live: &Live<M>,
     caller: Caller,

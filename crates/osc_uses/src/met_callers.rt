@@ -1,0 +1,30 @@
+//! Two callers that meet, so that what the one does comes behind what the other has seen.
+ghost use Rattle.std.specs.Prelude.{◌≡◌};
+ghost use Rattle.osc_turn.specs.Passes.{view};
+ghost use Rattle.osc_live.specs.Seen.{IsTokenOf};
+ghost use Rattle.osc_uses.specs.LiveCalls.{PumpsBehind};
+
+use osc_live::{Caller, Live, Pumped};
+use osc_method::Method;
+use std::sync::Wait;
+
+/// Releases what is due, behind all that the other caller has seen: so behind each packet that it was told is queued.
+pub fn pump_behind<M: Method, W: Wait>(
+    rt: &W,
+    live: &Live<M>,
+    caller: Caller,
+    other: Caller,
+) -> (Caller, Caller, Pumped)
+    requires ours { IsTokenOf live.now.turn live.now.caps caller.pass }
+    requires other_ours { IsTokenOf live.now.turn live.now.caps other.pass }
+    ensures ours { IsTokenOf live.now.turn live.now.caps result.0.pass }
+    ensures other_ours { IsTokenOf live.now.turn live.now.caps result.1.pass }
+    ensures numbers { (result.0.number ≡ caller.number) × (result.1.number ≡ other.number) }
+    ensures other { view result.1.pass ≡ view other.pass }
+    ensures behind { PumpsBehind live.now.caps caller.number result.2
+        (view other.pass) (view caller.pass) (view result.0.pass) }
+{
+    let (other, caller) = live.meet(other, caller);
+    let (caller, pumped) = live.pump(rt, caller);
+    (caller, other, pumped)
+}
