@@ -1,6 +1,6 @@
-# Whether the clauses that a page names are there. In "`Call` .. (`name`, `other`)" each name is a clause of a call that stands
-# before it in its paragraph, or under "Of `Call`, ..:" of that one; where no call does, of any. Definitions, fields and functions
-# may stand there too. Reads the sources and definitions first, then the pages; see bin/quotes.
+# Whether the clauses that a page names are there. In "`Call` .. (`name`, and so `other`)" each name is a clause of a call that
+# stands before it in its paragraph, or under "Of `Call`, ..:" of that one; where no call does, of any. Definitions, fields and
+# functions may stand there too. Reads the sources and definitions first, then the pages; see bin/quotes.
 
 function owner_of(line,   name) {
     name = line
@@ -78,19 +78,21 @@ inside { next }
 { text = text " " $0; line = FNR; file = FILENAME }
 END { check(); exit failed }
 
-# the words in backticks and the parentheses of names alone, in their order
-function check(   rest, word, count, names, i) {
+# the words in backticks, and the parentheses that begin with a name, in their order
+function check(   rest, word) {
     rest = text
     text = ""
     count_of_calls = 0
     if (match(rest, /^ *Of `[A-Za-z_:]+`, .*:$/)) { subject = rest; sub(/^ *Of `/, "", subject); sub(/`.*$/, "", subject) }
     if (rest ~ /^ *#/) subject = ""
-    while (match(rest, /`[^`]*`|\((`[a-z_0-9]+`( of `[A-Za-z_:]+`( and `[A-Za-z_:]+`)?)?[,;]? ?)+\)/)) {
+    while (match(rest, /`[^`]*`|\(`[a-z_0-9]+`[^()]*\)/)) {
         word = substr(rest, RSTART, RLENGTH)
         rest = substr(rest, RSTART + RLENGTH)
         if (word ~ /^\(/) {
-            count = split(substr(word, 2, length(word) - 2), names, /[,;] /)
-            for (i = 1; i <= count; i++) judge(names[i])
+            while (match(word, /`[a-z_0-9]+`( of `[A-Za-z_:]+`)?/)) {
+                judge(substr(word, RSTART, RLENGTH))
+                word = substr(word, RSTART + RLENGTH)
+            }
             continue
         }
         gsub(/[`]/, "", word)
