@@ -12,9 +12,13 @@ use Rattle.osc_message.specs.Messages.{known}
 use Rattle.osc_message.proofs.MessageLaws.{text_fours, text_some}
 use Rattle.osc_model.specs.Events.{Event, Answer}
 use Rattle.osc_model.specs.Events.{Entry as Recorded}
-use Rattle.osc_model.specs.Recordings.{Row, row_of, row_text, sized, entry_text, FitsRow, IsRecordable}
+use Rattle.osc_model.specs.Recordings.{Row, row_text, sized, FitsRow, IsRecordable, entry_text}
+use Rattle.osc_record.specs.declared.version.Version.{Version}
+use Rattle.osc_record.specs.declared.version.Version.TheVariants.{Second}
+use Rattle.osc_record.specs.Versions.{row_in, text_in, IsRecordableIn}
 use Rattle.osc_record.specs.Reading.{entry_of, bytes_of_size, message_first, entry_in, entry_first, Placed, onto_read, before_read, entries_read}
-use Rattle.osc_record.proofs.Lawful.{LawfulRow, ReadAs, row_lawful, row_again, entry_again}
+use Rattle.osc_record.proofs.Lawful.{LawfulRow, ReadAs, row_again}
+use Rattle.osc_record.proofs.Written.{fits_in, lawful_in, again_in}
 
 pub take_front : (front back : List ℕ) → take (length front) (front ++ back) ≡ front
 take_front [] back = refl
@@ -52,15 +56,17 @@ pub sized_length : (message : List ℕ) → 4 + length message ≡ length (sized
 sized_length message = omega arith
 
 -- an entry that is written is read, whatever follows it
-pub entry_first_again : (caller : ℕ) (event : Event) (answer : Answer) (rest : List ℕ) (limit place : ℕ) → IsRecordable caller event answer
-    → place + length (entry_text caller event answer) ≤ limit → limit ≤ 1073741824
-    → entry_first limit place (entry_text caller event answer ++ rest)
-    ≡ Some (record { caller = caller; event = event; answer = answer }, length (entry_text caller event answer))
-entry_first_again caller event answer rest limit place is fits small =
-    go (row_of caller event answer) is.fits (row_lawful caller event answer is.fits) (entry_again caller event answer is.sound) fits where
-      go : (o : Option Row) → FitsRow o → LawfulRow o → ReadAs (record { caller = caller; event = event; answer = answer }) o
+pub entry_first_again : (version : Version) (caller : ℕ) (event : Event) (answer : Answer) (rest : List ℕ) (limit place : ℕ)
+    → IsRecordableIn version caller event answer
+    → place + length (text_in version caller event answer) ≤ limit → limit ≤ 1073741824
+    → entry_first version limit place (text_in version caller event answer ++ rest)
+    ≡ Some (record { caller = caller; event = event; answer = answer }, length (text_in version caller event answer))
+entry_first_again version caller event answer rest limit place is fits small =
+    go (row_in version caller event answer) (fits_in version caller event answer is) (lawful_in version caller event answer is)
+    (again_in version caller event answer is) fits where
+      go : (o : Option Row) → FitsRow o → LawfulRow o → ReadAs version (record { caller = caller; event = event; answer = answer }) o
           → place + length (option_map_or (λ row. sized (row_text row)) o []) ≤ limit
-          → entry_first limit place (option_map_or (λ row. sized (row_text row)) o [] ++ rest)
+          → entry_first version limit place (option_map_or (λ row. sized (row_text row)) o [] ++ rest)
           ≡ Some (record { caller = caller; event = event; answer = answer }, length (option_map_or (λ row. sized (row_text row)) o []))
       go None f l r within = absurd f
       go (Some row) f l r within =
@@ -68,8 +74,8 @@ entry_first_again caller event answer rest limit place is fits small =
           let some : 0 < length message = text_some (known row.address row.arguments) l in
           let four : length message % 4 ≡ 0 = text_fours (known row.address row.arguments) l in
           let most : length message ≤ 1073741824 = omega (arith, length-append (to_be_bytes w32 (length message)) message) in
-          let read : entry_of message ≡ Some (record { caller = caller; event = event; answer = answer }) = row_again row l most ∙ r in
-          ap (option_and_then (λ m. if nat_le (place + 4 + length m) limit then option_map (λ entry. (entry, 4 + length m)) (entry_of m) else None))
+          let read : entry_of version message ≡ Some (record { caller = caller; event = event; answer = answer }) = row_again version row l most ∙ r in
+          ap (option_and_then (λ m. if nat_le (place + 4 + length m) limit then option_map (λ entry. (entry, 4 + length m)) (entry_of version m) else None))
           (message_again message rest some four (omega arith))
           ∙ cond-true _ _ _ (le-leb (place + 4 + length message) limit (omega arith))
           ∙ ap (option_map (λ entry. (entry, 4 + length message))) read
@@ -101,18 +107,21 @@ message_more bytes next message is =
     )
 
 -- so is the entry
-pub first_more : (limit place : ℕ) (bytes next : List ℕ) (first : Recorded × ℕ) → entry_first limit place bytes ≡ Some first
-    → (entry_first limit place (bytes ++ next) ≡ Some first) × (first.1 ≤ length bytes) × (4 ≤ first.1)
-first_more limit place bytes next first is = go (message_first bytes) refl is where
+pub first_more : (version : Version) (limit place : ℕ) (bytes next : List ℕ) (first : Recorded × ℕ) → entry_first version limit place bytes ≡ Some first
+    → (entry_first version limit place (bytes ++ next) ≡ Some first) × (first.1 ≤ length bytes) × (4 ≤ first.1)
+first_more version limit place bytes next first is = go (message_first bytes) refl is where
   go : (o : Option (List ℕ)) → message_first bytes ≡ o
-      → option_and_then (λ m. if nat_le (place + 4 + length m) limit then option_map (λ entry. (entry, 4 + length m)) (entry_of m) else None) o ≡ Some first
-      → (entry_first limit place (bytes ++ next) ≡ Some first) × (first.1 ≤ length bytes) × (4 ≤ first.1)
+      → option_and_then (λ m. if nat_le (place + 4 + length m) limit then option_map (λ entry. (entry, 4 + length m))
+      (entry_of version m) else None) o ≡ Some first
+      → (entry_first version limit place (bytes ++ next) ≡ Some first) × (first.1 ≤ length bytes) × (4 ≤ first.1)
   go None found read = absurd (none-some first read)
   go (Some message) found read =
       let more = message_more bytes next message found in
-      let inner = cond_gives (nat_le (place + 4 + length message) limit) (option_map (λ entry. (entry, 4 + length message)) (entry_of message)) first read in
-      let size : 4 + length message ≡ first.1 = sized_by (entry_of message) inner.1 in (
-        ap (option_and_then (λ m. if nat_le (place + 4 + length m) limit then option_map (λ entry. (entry, 4 + length m)) (entry_of m) else None)) more.0
+      let inner = cond_gives (nat_le (place + 4 + length message) limit)
+          (option_map (λ entry. (entry, 4 + length message)) (entry_of version message)) first read in
+      let size : 4 + length message ≡ first.1 = sized_by (entry_of version message) inner.1 in (
+        ap (option_and_then (λ m. if nat_le (place + 4 + length m) limit then option_map (λ entry. (entry, 4 + length m))
+            (entry_of version m) else None)) more.0
             ∙ read,
         omega (arith, more.1),
         omega arith,
@@ -122,76 +131,81 @@ first_more limit place bytes next first is = go (message_first bytes) refl is wh
       sized_by None e = absurd (none-some first e)
       sized_by (Some entry) e = ap (λ (p : Recorded × ℕ). p.1) (same_Some (entry, 4 + length message) first e)
 
-read_none : (most limit place : ℕ) → entries_read most limit place [] ≡ Ok []
-read_none zero limit place = refl
-read_none (suc most) limit place = refl
+read_none : (version : Version) (most limit place : ℕ) → entries_read version most limit place [] ≡ Ok []
+read_none version zero limit place = refl
+read_none version (suc most) limit place = refl
 
 pub ok_is : {X : Type 0} (x y : X) → ◌≡◌ {A = Result X ℕ} (Ok x) (Ok y) → x ≡ y
 ok_is x y e = cc
 
 -- an entry alone is read
-read_one : (most limit place : ℕ) (next : List ℕ) (entry : Recorded) → 0 < most → 0 < length next → entry_first limit place next ≡ Some (entry, length next)
-    → entries_read most limit place next ≡ Ok (record { at = place; entry = entry } ∷ [])
-read_one most limit place [] entry some long first = absurd (omega arith)
-read_one zero limit place (byte ∷ next) entry some long first = absurd (omega arith)
-read_one (suc most) limit place (byte ∷ next) entry some long first =
+read_one : (version : Version) (most limit place : ℕ) (next : List ℕ) (entry : Recorded) → 0 < most → 0 < length next
+    → entry_first version limit place next ≡ Some (entry, length next)
+    → entries_read version most limit place next ≡ Ok (record { at = place; entry = entry } ∷ [])
+read_one version most limit place [] entry some long first = absurd (omega arith)
+read_one version zero limit place (byte ∷ next) entry some long first = absurd (omega arith)
+read_one version (suc most) limit place (byte ∷ next) entry some long first =
     let all : List ℕ = byte ∷ next in
     let none : drop (length all) all ≡ [] = ap (drop (length all)) (sym (append-nil all)) ∙ drop_front all [] in
-    ap (λ o. before_read place o (λ size. entries_read most limit (place + size) (drop size all))) first
-    ∙ ap (λ l. onto_read (record { at = place; entry = entry }) (entries_read most limit (place + length all) l)) none
-    ∙ ap (onto_read (record { at = place; entry = entry })) (read_none most limit (place + length all))
+    ap (λ o. before_read place o (λ size. entries_read version most limit (place + size) (drop size all))) first
+    ∙ ap (λ l. onto_read (record { at = place; entry = entry }) (entries_read version most limit (place + length all) l)) none
+    ∙ ap (onto_read (record { at = place; entry = entry })) (read_none version most limit (place + length all))
 
 -- what is read stays the same with one more entry behind it
-pub entries_more : (most more limit place : ℕ) (bytes next : List ℕ) (xs : List Placed) (entry : Recorded) → entries_read most limit place bytes ≡ Ok xs
+pub entries_more : (version : Version) (most more limit place : ℕ) (bytes next : List ℕ) (xs : List Placed) (entry : Recorded)
+    → entries_read version most limit place bytes ≡ Ok xs
     → most < more
-    → entry_first limit (place + length bytes) next ≡ Some (entry, length next) → 0 < length next
-    → entries_read more limit place (bytes ++ next) ≡ Ok (xs ++ record { at = place + length bytes; entry = entry } ∷ [])
-entries_more most zero limit place bytes next xs entry read fewer first some = absurd (omega arith)
-entries_more most (suc more) limit place [] next xs entry read fewer first some =
-    let none : [] ≡ xs = ok_is [] xs (sym (read_none most limit place) ∙ read) in
+    → entry_first version limit (place + length bytes) next ≡ Some (entry, length next) → 0 < length next
+    → entries_read version more limit place (bytes ++ next) ≡ Ok (xs ++ record { at = place + length bytes; entry = entry } ∷ [])
+entries_more version most zero limit place bytes next xs entry read fewer first some = absurd (omega arith)
+entries_more version most (suc more) limit place [] next xs entry read fewer first some =
+    let none : [] ≡ xs = ok_is [] xs (sym (read_none version most limit place) ∙ read) in
     let here : place + 0 ≡ place = omega arith in
-    read_one (suc more) limit place next entry (omega arith) some (subst (λ (p : ℕ). entry_first limit p next ≡ Some (entry, length next)) here first)
+    read_one version (suc more) limit place next entry (omega arith) some
+        (subst (λ (p : ℕ). entry_first version limit p next ≡ Some (entry, length next)) here first)
     ∙ (λ i. Ok (none i ++ record { at = sym here i; entry = entry } ∷ []))
-entries_more zero (suc more) limit place (byte ∷ bytes) next xs entry read fewer first some = absurd (cc)
-entries_more (suc most) (suc more) limit place (byte ∷ bytes) next xs entry read fewer first some =
-    go (entry_first limit place (byte ∷ bytes)) refl read
-    (λ size ys rest there. entries_more most more limit (place + size) (drop size (byte ∷ bytes)) next ys entry rest (omega arith) there some)
+entries_more version zero (suc more) limit place (byte ∷ bytes) next xs entry read fewer first some = absurd (cc)
+entries_more version (suc most) (suc more) limit place (byte ∷ bytes) next xs entry read fewer first some =
+    go (entry_first version limit place (byte ∷ bytes)) refl read
+    (λ size ys rest there. entries_more version most more limit (place + size) (drop size (byte ∷ bytes)) next ys entry rest (omega arith) there some)
   where
-    go : (o : Option (Recorded × ℕ)) → entry_first limit place (byte ∷ bytes) ≡ o
-        → before_read place o (λ size. entries_read most limit (place + size) (drop size (byte ∷ bytes))) ≡ Ok xs
-        → ((size : ℕ) (ys : List Placed) → entries_read most limit (place + size) (drop size (byte ∷ bytes)) ≡ Ok ys
-        → entry_first limit (place + size + length (drop size (byte ∷ bytes))) next ≡ Some (entry, length next)
-        → entries_read more limit (place + size) (drop size (byte ∷ bytes) ++ next)
+    go : (o : Option (Recorded × ℕ)) → entry_first version limit place (byte ∷ bytes) ≡ o
+        → before_read place o (λ size. entries_read version most limit (place + size) (drop size (byte ∷ bytes))) ≡ Ok xs
+        → ((size : ℕ) (ys : List Placed) → entries_read version most limit (place + size) (drop size (byte ∷ bytes)) ≡ Ok ys
+        → entry_first version limit (place + size + length (drop size (byte ∷ bytes))) next ≡ Some (entry, length next)
+        → entries_read version more limit (place + size) (drop size (byte ∷ bytes) ++ next)
         ≡ Ok (ys ++ record { at = place + size + length (drop size (byte ∷ bytes)); entry = entry } ∷ []))
-        → entries_read (suc more) limit place ((byte ∷ bytes) ++ next) ≡ Ok (xs ++ record { at = place + length (byte ∷ bytes); entry = entry } ∷ [])
+        → entries_read version (suc more) limit place ((byte ∷ bytes) ++ next) ≡ Ok (xs ++ record { at = place + length (byte ∷ bytes); entry = entry } ∷ [])
     go None found is again = absurd (cc)
-    go (Some head) found is again = inner (entries_read most limit (place + head.1) (drop head.1 (byte ∷ bytes))) refl is where
-      inner : (r : Result (List Placed) ℕ) → entries_read most limit (place + head.1) (drop head.1 (byte ∷ bytes)) ≡ r
+    go (Some head) found is again = inner (entries_read version most limit (place + head.1) (drop head.1 (byte ∷ bytes))) refl is where
+      inner : (r : Result (List Placed) ℕ) → entries_read version most limit (place + head.1) (drop head.1 (byte ∷ bytes)) ≡ r
           → onto_read (record { at = place; entry = head.0 }) r ≡ Ok xs
-          → entries_read (suc more) limit place ((byte ∷ bytes) ++ next) ≡ Ok (xs ++ record { at = place + length (byte ∷ bytes); entry = entry } ∷ [])
+          → entries_read version (suc more) limit place ((byte ∷ bytes) ++ next) ≡ Ok (xs ++ record { at = place + length (byte ∷ bytes); entry = entry } ∷ [])
       inner (Err at) rest e = absurd (cc)
       inner (Ok ys) rest e =
-          let more_is = first_more limit place (byte ∷ bytes) next head found in
+          let more_is = first_more version limit place (byte ∷ bytes) next head found in
           let size : head.1 ≤ length (byte ∷ bytes) = more_is.1 in
           let same : place + head.1 + length (drop head.1 (byte ∷ bytes)) ≡ place + length (byte ∷ bytes) = omega (arith, length-drop head.1 (byte ∷ bytes)) in
           let all : record { at = place; entry = head.0 } ∷ ys ≡ xs = ok_is (record { at = place; entry = head.0 } ∷ ys) xs e in
-          ap (λ o. before_read place o (λ size. entries_read more limit (place + size) (drop size ((byte ∷ bytes) ++ next)))) more_is.0
-          ∙ ap (λ l. onto_read (record { at = place; entry = head.0 }) (entries_read more limit (place + head.1) l))
+          ap (λ o. before_read place o (λ size. entries_read version more limit (place + size) (drop size ((byte ∷ bytes) ++ next)))) more_is.0
+          ∙ ap (λ l. onto_read (record { at = place; entry = head.0 }) (entries_read version more limit (place + head.1) l))
           (drop-append-le head.1 (byte ∷ bytes) next size)
           ∙ ap (onto_read (record { at = place; entry = head.0 }))
-          (again head.1 ys rest (subst (λ (p : ℕ). entry_first limit p next ≡ Some (entry, length next)) (sym same) first))
+          (again head.1 ys rest (subst (λ (p : ℕ). entry_first version limit p next ≡ Some (entry, length next)) (sym same) first))
           ∙ (λ i. Ok (all i ++ record { at = same i; entry = entry } ∷ []))
 
 -- the first entry is the one that the bytes begin with
-first_in : (limit place : ℕ) (bytes : List ℕ) (first : Recorded × ℕ) → entry_first limit place bytes ≡ Some first → entry_in bytes ≡ Some first.0
+first_in : (limit place : ℕ) (bytes : List ℕ) (first : Recorded × ℕ) → entry_first Second limit place bytes ≡ Some first → entry_in bytes ≡ Some first.0
 first_in limit place bytes first is = go (message_first bytes) refl is where
   go : (o : Option (List ℕ)) → message_first bytes ≡ o
-      → option_and_then (λ m. if nat_le (place + 4 + length m) limit then option_map (λ entry. (entry, 4 + length m)) (entry_of m) else None) o ≡ Some first
+      → option_and_then (λ m. if nat_le (place + 4 + length m) limit then option_map (λ entry. (entry, 4 + length m))
+      (entry_of Second m) else None) o ≡ Some first
       → entry_in bytes ≡ Some first.0
   go None found read = absurd (none-some first read)
   go (Some message) found read =
-      let inner = cond_gives (nat_le (place + 4 + length message) limit) (option_map (λ entry. (entry, 4 + length message)) (entry_of message)) first read in
-      ap (option_and_then entry_of) found ∙ by (entry_of message) inner.1
+      let inner = cond_gives (nat_le (place + 4 + length message) limit)
+          (option_map (λ entry. (entry, 4 + length message)) (entry_of Second message)) first read in
+      ap (option_and_then (entry_of Second)) found ∙ by (entry_of Second message) inner.1
     where
       by : (o : Option Recorded) → option_map (λ entry. (entry, 4 + length message)) o ≡ Some first → o ≡ Some first.0
       by None e = absurd (none-some first e)
@@ -203,4 +217,4 @@ pub entry_in_again : (caller : ℕ) (event : Event) (answer : Answer) (rest : Li
 entry_in_again caller event answer rest is small =
     first_in 1073741824 0 (entry_text caller event answer ++ rest)
     (record { caller = caller; event = event; answer = answer }, length (entry_text caller event answer))
-    (entry_first_again caller event answer rest 1073741824 0 is (omega arith) (omega arith))
+    (entry_first_again Second caller event answer rest 1073741824 0 is (omega arith) (omega arith))

@@ -18,6 +18,7 @@ use Rattle.osc_message.proofs.TextLaws.{pattern_again, known_arguments_again}
 use Rattle.osc_message.specs.Messages.{Argument, Fits, AllFit, tag_of, atom_of, tag_string, known, IsLawful}
 use Rattle.osc_model.specs.Events.{Entry as Recorded}
 use Rattle.osc_model.specs.Recordings.{Row, row_of, row_text, sized, entry_text, FitsRow, IsRecordable}
+use Rattle.osc_record.specs.declared.version.Version.TheVariants.{Second}
 use Rattle.osc_record.specs.Reading.{row_read}
 use Rattle.osc_record.proofs.Lawful.{LawfulRow, ReadAs, row_lawful, entry_again}
 
@@ -97,16 +98,16 @@ CanBeRecorded entry = IsRecordable entry.caller entry.event entry.answer
 
 -- the entry that stands behind a size, whatever the size is
 abbrev behind_size : List ℕ → Option Recorded
-behind_size text = row_read (pattern_of (drop 4 text)) (message_arguments (drop 4 text))
+behind_size text = row_read Second (pattern_of (drop 4 text)) (message_arguments (drop 4 text))
 
 text_again : (entry : Recorded) → CanBeRecorded entry → behind_size (text_of entry) ≡ Some entry
 text_again entry is =
     go (row_of entry.caller entry.event entry.answer) is.fits (row_lawful entry.caller entry.event entry.answer is.fits)
     (entry_again entry.caller entry.event entry.answer is.sound) where
-      go : (o : Option Row) → FitsRow o → LawfulRow o → ReadAs entry o → behind_size (option_map_or (λ row. sized (row_text row)) o []) ≡ Some entry
+      go : (o : Option Row) → FitsRow o → LawfulRow o → ReadAs Second entry o → behind_size (option_map_or (λ row. sized (row_text row)) o []) ≡ Some entry
       go None fits lawful read = absurd fits
       go (Some row) fits lawful read =
-          (λ i. row_read (pattern_again (known row.address row.arguments) lawful i) (known_arguments_again row.address row.arguments lawful i)) ∙ read
+          (λ i. row_read Second (pattern_again (known row.address row.arguments) lawful i) (known_arguments_again row.address row.arguments lawful i)) ∙ read
 
 pub one_text : (one other : Recorded) → CanBeRecorded one → CanBeRecorded other → text_of one ≡ text_of other → one ≡ other
 one_text one other is is_other same = same_Some one other (sym (text_again one is) ∙ ap behind_size same ∙ text_again other is_other)

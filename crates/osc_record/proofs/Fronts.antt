@@ -1,5 +1,5 @@
 -- Messages of a recording, by the address and the tags that they begin with.
-use Rattle.std.proofs.Common.{◌≡◌, ℕ, ◌+◌, ◌%◌, ◌<◌, ◌≤◌, Bool, true, false, cond, ◌==◌, ℤ, List, [], ◌∷◌, ◌++◌, length, drop, Option, Some, None, Ok, Err}
+use Rattle.std.proofs.Common.{◌≡◌, ℕ, ◌+◌, ◌%◌, ◌<◌, ◌≤◌, Bool, true, false, cond, ◌==◌, List, [], ◌∷◌, ◌++◌, length, drop, Option, Some, None, Ok, Err}
 use Rattle.std.proofs.Common.{Result, refl, sym, ap, ◌∙◌, subst, arith, codes, length-append, eqb-true, eq-eqb, le-leb}
 use Rattle.std.specs.Prelude.{⊤, option_map, is_ok, if◌then◌else◌}
 use Rattle.std.specs.List.{list_any, starts_with}
@@ -23,10 +23,14 @@ use Rattle.osc_message.specs.Reading.{limited_read, parts_of, pattern_of}
 use Rattle.osc_message.specs.Arguments.{arguments_in, message_arguments}
 use Rattle.osc_model.specs.Events.{Event, enrol, submit, add, remove, tick, release, Answer, Hit}
 use Rattle.osc_model.specs.Events.{Entry as Recorded}
-use Rattle.osc_model.specs.Recordings.{row_of, row_text, sized, entry_text, FitsRow, enrolled, submitted, adding, removing, ticking, releasing, hits_text}
+use Rattle.osc_model.specs.Recordings.{Row, row_of, row_text, sized, entry_text, FitsRow, enrolled, submitted, adding, removing, ticking, releasing, hits_text}
 use Rattle.osc_model.specs.Recordings.{enrol_row, submit_row, add_row, remove_row, tick_row, release_row}
-use Rattle.osc_record.specs.Reading.{row_read, entry_of}
+use Rattle.osc_record.specs.declared.version.Version.{Version}
+use Rattle.osc_record.specs.declared.version.Version.TheVariants.{First, Second}
+use Rattle.osc_record.specs.Versions.{old_submit_row, submit_front_in, submit_tags_in, row_in, text_in}
+use Rattle.osc_record.specs.Reading.{submit_read, row_read, entry_of}
 use Rattle.osc_record.proofs.Lawful.{enrol_address, submit_address, add_address, remove_address, tick_address, release_address}
+use Rattle.osc_record.proofs.Written.{fits_in}
 use Rattle.osc_record.proofs.EntriesRead.{entry_was}
 
 -- what is read of bytes that begin with an address and tags
@@ -63,15 +67,16 @@ front_read front address tags f rest four small =
       go false is = refl
 
 -- and as the entry of that address with these arguments
-front_is : (front address tags : List ℕ) → Front front address tags → (rest : List ℕ) → length (front ++ rest) % 4 ≡ 0 → length (front ++ rest) ≤ 1073741824
-    → entry_of (front ++ rest)
-    ≡ (if is_ok (arguments_read (front ++ rest) tags (length front)) then row_read address (arguments_of tags (front ++ rest) (length front)) else None)
-front_is front address tags f rest four small = go (arguments_read (front ++ rest) tags (length front)) refl where
+front_is : (version : Version) (front address tags : List ℕ) → Front front address tags → (rest : List ℕ) → length (front ++ rest) % 4 ≡ 0
+    → length (front ++ rest) ≤ 1073741824
+    → entry_of version (front ++ rest)
+    ≡ (if is_ok (arguments_read (front ++ rest) tags (length front)) then row_read version address (arguments_of tags (front ++ rest) (length front)) else None)
+front_is version front address tags f rest four small = go (arguments_read (front ++ rest) tags (length front)) refl where
   parts : Parts
   parts = record { pattern = address; tags = Some tags; place = length front }
 
   go : (r : Result ⊤ Fault) → arguments_read (front ++ rest) tags (length front) ≡ r
-      → entry_of (front ++ rest) ≡ cond (is_ok r) (row_read address (arguments_of tags (front ++ rest) (length front))) None
+      → entry_of version (front ++ rest) ≡ cond (is_ok r) (row_read version address (arguments_of tags (front ++ rest) (length front))) None
   go (Err fault) is =
       cond-false _ _ _ (ap is_ok (front_read front address tags f rest four small ∙ ap (λ (r : Result ⊤ Fault). and_then r (λ _. Ok parts)) is))
   go (Ok done) is =
@@ -80,31 +85,36 @@ front_is front address tags f rest four small = go (arguments_read (front ++ res
       let arguments : message_arguments (front ++ rest) ≡ arguments_of tags (front ++ rest) (length front) =
       ap (λ (o : Option Parts). option_map_or (arguments_in (front ++ rest)) o []) parted ∙ cond-false _ _ _ f.known in
       cond-true _ _ _ (ap is_ok (front_read front address tags f rest four small ∙ ap (λ (r : Result ⊤ Fault). and_then r (λ _. Ok parts)) is))
-      ∙ (λ i. row_read (f.pattern rest i) (arguments i))
+      ∙ (λ i. row_read version (f.pattern rest i) (arguments i))
 
 split : (bytes front : List ℕ) → starts_with ◌==◌ bytes front ≡ true → bytes ≡ front ++ drop (length front) bytes
 split bytes front is = (starts_is Decides-eqb bytes front (starts_with ◌==◌ bytes front) refl).0 is
 
-front_entry : (front address tags : List ℕ) → Front front address tags → (bytes : List ℕ) → starts_with ◌==◌ bytes front ≡ true → length bytes % 4 ≡ 0
+front_entry : (version : Version) (front address tags : List ℕ) → Front front address tags → (bytes : List ℕ) → starts_with ◌==◌ bytes front ≡ true
+    → length bytes % 4 ≡ 0
     → length bytes ≤ 1073741824
-    → entry_of bytes ≡ (if is_ok (arguments_read bytes tags (length front)) then row_read address (arguments_of tags bytes (length front)) else None)
-front_entry front address tags f bytes begins four small =
+    → entry_of version bytes ≡ (if is_ok (arguments_read bytes tags (length front)) then row_read version address
+    (arguments_of tags bytes (length front)) else None)
+front_entry version front address tags f bytes begins four small =
     let parts = split bytes front begins in
-    subst (λ (l : List ℕ). entry_of l ≡ (if is_ok (arguments_read l tags (length front)) then row_read address (arguments_of tags l (length front)) else None))
+    subst (λ (l : List ℕ). entry_of version l ≡ (if is_ok (arguments_read l tags (length front)) then row_read version address
+        (arguments_of tags l (length front)) else None))
     (sym parts)
-    (front_is front address tags f (drop (length front) bytes) (subst (λ (l : List ℕ). length l % 4 ≡ 0) parts four)
+    (front_is version front address tags f (drop (length front) bytes) (subst (λ (l : List ℕ). length l % 4 ≡ 0) parts four)
     (subst (λ (l : List ℕ). length l ≤ 1073741824) parts small))
 
 -- where the arguments are read, and where they aren't
-pub front_some : (front address tags : List ℕ) → Front front address tags → (bytes : List ℕ) → starts_with ◌==◌ bytes front ≡ true → length bytes % 4 ≡ 0
+pub front_some : (version : Version) (front address tags : List ℕ) → Front front address tags → (bytes : List ℕ) → starts_with ◌==◌ bytes front ≡ true
+    → length bytes % 4 ≡ 0
     → length bytes ≤ 1073741824
-    → is_ok (arguments_read bytes tags (length front)) ≡ true → entry_of bytes ≡ row_read address (arguments_of tags bytes (length front))
-front_some front address tags f bytes begins four small read = front_entry front address tags f bytes begins four small ∙ cond-true _ _ _ read
+    → is_ok (arguments_read bytes tags (length front)) ≡ true → entry_of version bytes ≡ row_read version address (arguments_of tags bytes (length front))
+front_some version front address tags f bytes begins four small read = front_entry version front address tags f bytes begins four small ∙ cond-true _ _ _ read
 
-pub front_none : (front address tags : List ℕ) → Front front address tags → (bytes : List ℕ) → starts_with ◌==◌ bytes front ≡ true → length bytes % 4 ≡ 0
+pub front_none : (version : Version) (front address tags : List ℕ) → Front front address tags → (bytes : List ℕ) → starts_with ◌==◌ bytes front ≡ true
+    → length bytes % 4 ≡ 0
     → length bytes ≤ 1073741824
-    → is_ok (arguments_read bytes tags (length front)) ≡ false → entry_of bytes ≡ None
-front_none front address tags f bytes begins four small read = front_entry front address tags f bytes begins four small ∙ cond-false _ _ _ read
+    → is_ok (arguments_read bytes tags (length front)) ≡ false → entry_of version bytes ≡ None
+front_none version front address tags f bytes begins four small read = front_entry version front address tags f bytes begins four small ∙ cond-false _ _ _ read
 
 -- a lawful pattern, and known tags behind it, under which arguments are read
 read_front : (address tags bytes : List ℕ) (end start : ℕ) → begins 47 (drop 0 bytes) ≡ true → StartsWithString bytes 0 address
@@ -132,9 +142,6 @@ read_front address tags bytes end start slash named ends lawful more comma liste
 abbrev pub enrol_bytes : List ℕ
 enrol_bytes = codes "/osc/enrol" ++ 0 ∷ 0 ∷ codes ",ii" ++ 0 ∷ []
 
-abbrev pub submit_bytes : List ℕ
-submit_bytes = codes "/osc/submit" ++ 0 ∷ codes ",ibihii" ++ 0 ∷ []
-
 abbrev pub add_bytes : List ℕ
 add_bytes = codes "/osc/add" ++ 0 ∷ 0 ∷ 0 ∷ 0 ∷ codes ",isiii" ++ 0 ∷ 0 ∷ []
 
@@ -158,11 +165,20 @@ enrol_front = record {
   some = omega arith;
 }
 
-pub submit_front : Front submit_bytes (codes "/osc/submit") (codes "ibihii")
-submit_front = record {
+pub submit_front : (version : Version) → Front (submit_front_in version) (codes "/osc/submit") (submit_tags_in version)
+submit_front First = record {
   reads = λ rest.
-      read_front (codes "/osc/submit") (codes "ibihii") (submit_bytes ++ rest) 12 20 refl
-      (record { no_zero = refl; written = record { rest = drop 12 (submit_bytes ++ rest); parts = refl } }) refl submit_address
+      read_front (codes "/osc/submit") (codes "ibihi") (submit_front_in First ++ rest) 12 20 refl
+      (record { no_zero = refl; written = record { rest = drop 12 (submit_front_in First ++ rest); parts = refl } }) refl submit_address
+      (omega arith) refl (record { no_zero = refl; written = record { rest = rest; parts = refl } }) refl refl refl;
+  pattern = λ rest. refl;
+  known = refl;
+  some = omega arith;
+}
+submit_front Second = record {
+  reads = λ rest.
+      read_front (codes "/osc/submit") (codes "ibihii") (submit_front_in Second ++ rest) 12 20 refl
+      (record { no_zero = refl; written = record { rest = drop 12 (submit_front_in Second ++ rest); parts = refl } }) refl submit_address
       (omega arith) refl (record { no_zero = refl; written = record { rest = rest; parts = refl } }) refl refl refl;
   pattern = λ rest. refl;
   known = refl;
@@ -213,61 +229,78 @@ release_front = record {
   some = omega arith;
 }
 
+-- the message of a submit, where its arguments are read, and where they aren't
+pub submit_some : (version : Version) (bytes : List ℕ)
+    → starts_with ◌==◌ bytes (submit_front_in version) ≡ true → length bytes % 4 ≡ 0 → length bytes ≤ 1073741824
+    → is_ok (arguments_read bytes (submit_tags_in version) 20) ≡ true
+    → entry_of version bytes ≡ submit_read version (arguments_of (submit_tags_in version) bytes 20)
+submit_some First bytes begins four small read =
+    front_some First (submit_front_in First) (codes "/osc/submit") (submit_tags_in First) (submit_front First) bytes begins four small read
+submit_some Second bytes begins four small read =
+    front_some Second (submit_front_in Second) (codes "/osc/submit") (submit_tags_in Second) (submit_front Second) bytes begins four small read
+
+pub submit_none : (version : Version) (bytes : List ℕ)
+    → starts_with ◌==◌ bytes (submit_front_in version) ≡ true → length bytes % 4 ≡ 0 → length bytes ≤ 1073741824
+    → is_ok (arguments_read bytes (submit_tags_in version) 20) ≡ false
+    → entry_of version bytes ≡ None
+submit_none First bytes begins four small read =
+    front_none First (submit_front_in First) (codes "/osc/submit") (submit_tags_in First) (submit_front First) bytes begins four small read
+submit_none Second bytes begins four small read =
+    front_none Second (submit_front_in Second) (codes "/osc/submit") (submit_tags_in Second) (submit_front Second) bytes begins four small read
+
 -- A message with none of them is no entry.
 
-begun : (bytes text front : List ℕ) → sized bytes ≡ sized text → starts_with ◌==◌ text front ≡ true → starts_with ◌==◌ bytes front ≡ true
-begun bytes text front same is = ap (λ (l : List ℕ). starts_with ◌==◌ (drop 4 l) front) same ∙ is
+-- a row whose message begins with a front isn't that of bytes that don't
+unlike : {X : Type 0} (bytes front : List ℕ) (make : X → Row) → ((x : X) → starts_with ◌==◌ (row_text (make x)) front ≡ true) → (o : Option X)
+    → starts_with ◌==◌ bytes front ≡ false → FitsRow (option_map make o)
+    → sized bytes ≡ option_map_or (λ row. sized (row_text row)) (option_map make o) [] → ⊥
+unlike bytes front make begins None none fits same = fits
+unlike bytes front make begins (Some x) none fits same =
+    both_ways (starts_with ◌==◌ bytes front) none (ap (λ (l : List ℕ). starts_with ◌==◌ (drop 4 l) front) same ∙ begins x)
 
 -- no front is that of the bytes
-pub record BeginsNone (bytes : List ℕ) : Type 0 where
+pub record BeginsNone (version : Version) (bytes : List ℕ) : Type 0 where
   pub enrol_none : starts_with ◌==◌ bytes enrol_bytes ≡ false
-  pub submit_none : starts_with ◌==◌ bytes submit_bytes ≡ false
+  pub submit_none : starts_with ◌==◌ bytes (submit_front_in version) ≡ false
   pub add_none : starts_with ◌==◌ bytes add_bytes ≡ false
   pub remove_none : starts_with ◌==◌ bytes remove_bytes ≡ false
   pub tick_none : starts_with ◌==◌ bytes tick_bytes ≡ false
   pub release_none : starts_with ◌==◌ bytes release_bytes ≡ false
 
-row_begins : (bytes : List ℕ) (caller : ℕ) (event : Event) (answer : Answer) → BeginsNone bytes → FitsRow (row_of caller event answer)
-    → sized bytes ≡ entry_text caller event answer → ⊥
-row_begins bytes caller enrol answer none fit same = go (enrolled answer) fit same where
-  go : (o : Option ℤ) → FitsRow (option_map (enrol_row caller) o)
-      → sized bytes ≡ option_map_or (λ row. sized (row_text row)) (option_map (enrol_row caller) o) [] → ⊥
-  go None f is = f
-  go (Some told) f is = both_ways (starts_with ◌==◌ bytes enrol_bytes) none.enrol_none (begun bytes (row_text (enrol_row caller told)) enrol_bytes is refl)
-row_begins bytes caller (submit packet) answer none fit same = go (submitted answer) fit same where
-  go : (o : Option (ℕ × ℕ × ℕ × ℕ)) → FitsRow (option_map (submit_row caller packet) o)
-      → sized bytes ≡ option_map_or (λ row. sized (row_text row)) (option_map (submit_row caller packet) o) [] → ⊥
-  go None f is = f
-  go (Some told) f is =
-      both_ways (starts_with ◌==◌ bytes submit_bytes) none.submit_none (begun bytes (row_text (submit_row caller packet told)) submit_bytes is refl)
-row_begins bytes caller (add address) answer none fit same = go (adding answer) fit same where
-  go : (o : Option (ℕ × ℕ × ℕ)) → FitsRow (option_map (add_row caller address) o)
-      → sized bytes ≡ option_map_or (λ row. sized (row_text row)) (option_map (add_row caller address) o) [] → ⊥
-  go None f is = f
-  go (Some told) f is = both_ways (starts_with ◌==◌ bytes add_bytes) none.add_none (begun bytes (row_text (add_row caller address told)) add_bytes is refl)
-row_begins bytes caller (remove address) answer none fit same = go (removing answer) fit same where
-  go : (o : Option (ℕ × ℕ)) → FitsRow (option_map (remove_row caller address) o)
-      → sized bytes ≡ option_map_or (λ row. sized (row_text row)) (option_map (remove_row caller address) o) [] → ⊥
-  go None f is = f
-  go (Some told) f is =
-      both_ways (starts_with ◌==◌ bytes remove_bytes) none.remove_none (begun bytes (row_text (remove_row caller address told)) remove_bytes is refl)
-row_begins bytes caller (tick moment) answer none fit same = go (ticking moment answer) fit same where
-  go : (o : Option (ℕ × ℕ)) → FitsRow (option_map (tick_row caller moment) o)
-      → sized bytes ≡ option_map_or (λ row. sized (row_text row)) (option_map (tick_row caller moment) o) [] → ⊥
-  go None f is = f
-  go (Some told) f is = both_ways (starts_with ◌==◌ bytes tick_bytes) none.tick_none (begun bytes (row_text (tick_row caller moment told)) tick_bytes is refl)
-row_begins bytes caller release answer none fit same = go (releasing answer) fit same where
-  go : (o : Option (ℕ × List Hit)) → FitsRow (option_map (λ r. release_row caller r.0 (hits_text r.1)) o)
-      → sized bytes ≡ option_map_or (λ row. sized (row_text row)) (option_map (λ r. release_row caller r.0 (hits_text r.1)) o) [] → ⊥
-  go None f is = f
-  go (Some told) f is =
-      both_ways (starts_with ◌==◌ bytes release_bytes) none.release_none
-      (begun bytes (row_text (release_row caller told.0 (hits_text told.1))) release_bytes is refl)
+other_begins : (version : Version) (bytes : List ℕ) (caller : ℕ) (event : Event) (answer : Answer) → ((packet : List ℕ) → event ≡ submit packet → ⊥)
+    → BeginsNone version bytes → FitsRow (row_of caller event answer) → sized bytes ≡ entry_text caller event answer → ⊥
+other_begins version bytes caller enrol answer other none = unlike bytes enrol_bytes (enrol_row caller) (λ z. refl) (enrolled answer) none.enrol_none
+other_begins version bytes caller (submit packet) answer other none = absurd (other packet refl)
+other_begins version bytes caller (add address) answer other none =
+    unlike bytes add_bytes (add_row caller address) (λ t. refl) (adding answer) none.add_none
+other_begins version bytes caller (remove address) answer other none =
+    unlike bytes remove_bytes (remove_row caller address) (λ t. refl) (removing answer) none.remove_none
+other_begins version bytes caller (tick moment) answer other none =
+    unlike bytes tick_bytes (tick_row caller moment) (λ t. refl) (ticking moment answer) none.tick_none
+other_begins version bytes caller release answer other none =
+    unlike {X = ℕ × List Hit} bytes release_bytes (λ r. release_row caller r.0 (hits_text r.1)) (λ r. refl) (releasing answer) none.release_none
 
-pub other_none : (bytes : List ℕ) → AreBytes bytes → BeginsNone bytes → None ≡ entry_of bytes
-other_none bytes all none = go (entry_of bytes) refl where
-  go : (o : Option Recorded) → entry_of bytes ≡ o → None ≡ o
+row_begins : (version : Version) (bytes : List ℕ) (caller : ℕ) (event : Event) (answer : Answer) → BeginsNone version bytes
+    → FitsRow (row_in version caller event answer) → sized bytes ≡ text_in version caller event answer → ⊥
+row_begins First bytes caller (submit packet) answer none =
+    unlike bytes (submit_front_in First) (old_submit_row caller packet) (λ t. refl) (submitted answer) none.submit_none
+row_begins Second bytes caller (submit packet) answer none =
+    unlike bytes (submit_front_in Second) (submit_row caller packet) (λ t. refl) (submitted answer) none.submit_none
+row_begins First bytes caller enrol answer none = other_begins First bytes caller enrol answer (λ packet same. cc) none
+row_begins First bytes caller (add address) answer none = other_begins First bytes caller (add address) answer (λ packet same. cc) none
+row_begins First bytes caller (remove address) answer none = other_begins First bytes caller (remove address) answer (λ packet same. cc) none
+row_begins First bytes caller (tick moment) answer none = other_begins First bytes caller (tick moment) answer (λ packet same. cc) none
+row_begins First bytes caller release answer none = other_begins First bytes caller release answer (λ packet same. cc) none
+row_begins Second bytes caller enrol answer none = other_begins Second bytes caller enrol answer (λ packet same. cc) none
+row_begins Second bytes caller (add address) answer none = other_begins Second bytes caller (add address) answer (λ packet same. cc) none
+row_begins Second bytes caller (remove address) answer none = other_begins Second bytes caller (remove address) answer (λ packet same. cc) none
+row_begins Second bytes caller (tick moment) answer none = other_begins Second bytes caller (tick moment) answer (λ packet same. cc) none
+row_begins Second bytes caller release answer none = other_begins Second bytes caller release answer (λ packet same. cc) none
+
+pub other_none : (version : Version) (bytes : List ℕ) → AreBytes bytes → BeginsNone version bytes → None ≡ entry_of version bytes
+other_none version bytes all none = go (entry_of version bytes) refl where
+  go : (o : Option Recorded) → entry_of version bytes ≡ o → None ≡ o
   go None is = refl
   go (Some e) is =
-      let was = entry_was bytes e all is in
-      absurd (row_begins bytes e.caller e.event e.answer none was.lawful.fits was.text)
+      let was = entry_was version bytes e all is in
+      absurd (row_begins version bytes e.caller e.event e.answer none (fits_in version e.caller e.event e.answer was.lawful) was.text)

@@ -10,7 +10,10 @@ use Rattle.osc_model.specs.Events.{Event, Answer}
 use Rattle.osc_model.specs.Limits.{Limits, header_size}
 use Rattle.osc_model.specs.Events.{Entry as Recorded}
 use Rattle.osc_model.specs.Recordings.{Row, row_of, row_text, sized, entry_text, FitsRow, IsHit, IsRecordable, hits_in, record_text, header_text}
-use Rattle.osc_record.specs.Reading.{Placed, placed_from, unplaced, entry_first, entries_read, entries_after}
+use Rattle.osc_record.specs.declared.version.Version.TheVariants.{Second}
+use Rattle.osc_record.specs.declared.version.Version.{Version}
+use Rattle.osc_record.specs.Versions.{text_in}
+use Rattle.osc_record.specs.Reading.{Placed, placed_by, placed_from, unplaced, entry_first, entries_read, entries_after}
 use Rattle.osc_record.specs.Writing.{Begun, begun_text, recording_text, appended, entries_of, entries_in, begun_in, recording_of, AreWhole, IsKept}
 use Rattle.osc_record.proofs.Again.{entry_first_again, entries_more}
 
@@ -26,10 +29,13 @@ map_more [] x = refl
 map_more (y ∷ xs) x = ap (λ (l : List Recorded). y.entry ∷ l) (map_more xs x)
 
 -- entries at their places are these entries
+pub unplaced_by : (version : Version) (place : ℕ) (entries : List Recorded) → unplaced (placed_by version place entries) ≡ entries
+unplaced_by version place [] = refl
+unplaced_by version place (entry ∷ entries) =
+    ap (λ (l : List Recorded). entry ∷ l) (unplaced_by version (place + length (text_in version entry.caller entry.event entry.answer)) entries)
+
 pub unplaced_from : (place : ℕ) (entries : List Recorded) → unplaced (placed_from place entries) ≡ entries
-unplaced_from place [] = refl
-unplaced_from place (entry ∷ entries) =
-    ap (λ (l : List Recorded). entry ∷ l) (unplaced_from (place + length (entry_text entry.caller entry.event entry.answer)) entries)
+unplaced_from place entries = unplaced_by Second place entries
 
 texts_more : (xs : List Recorded) (x : Recorded)
     → flat_map (λ (e : Recorded). entry_text e.caller e.event e.answer) (xs ++ x ∷ [])
@@ -52,8 +58,8 @@ pub record MoreWhole (limits : Limits) (bytes : List ℕ) (entry : Recorded) : T
 
 pub whole_more : (limits : Limits) (bytes : List ℕ) (entry : Recorded) → AreWhole limits bytes → IsRecordable entry.caller entry.event entry.answer
     → length bytes + length (entry_text entry.caller entry.event entry.answer) ≤ limits.recording → limits.recording ≤ 1073741824 → MoreWhole limits bytes entry
-whole_more limits bytes entry whole is fits small = go (entries_after limits bytes) refl whole.read where
-  go : (r : Result (List Placed) ℕ) → entries_after limits bytes ≡ r → IsTrue (is_ok r) → MoreWhole limits bytes entry
+whole_more limits bytes entry whole is fits small = go (entries_after Second limits bytes) refl whole.read where
+  go : (r : Result (List Placed) ℕ) → entries_after Second limits bytes ≡ r → IsTrue (is_ok r) → MoreWhole limits bytes entry
   go (Err at) read ok = absurd (cc)
   go (Ok xs) read ok =
       let text : List ℕ = entry_text entry.caller entry.event entry.answer in
@@ -61,13 +67,13 @@ whole_more limits bytes entry whole is fits small = go (entries_after limits byt
       let header = whole.header in
       let some : 0 < length text = entry_some entry.caller entry.event entry.answer is.fits in
       let place : header_size + length rest ≡ length bytes = omega (arith, length-drop header_size bytes) in
-      let first : entry_first limits.recording (header_size + length rest) text ≡ Some (entry, length text) =
-      subst (λ (l : List ℕ). entry_first limits.recording (header_size + length rest) l ≡ Some (entry, length text)) (append-nil text)
-      (entry_first_again entry.caller entry.event entry.answer [] limits.recording (header_size + length rest) is (omega arith) small) in
+      let first : entry_first Second limits.recording (header_size + length rest) text ≡ Some (entry, length text) =
+      subst (λ (l : List ℕ). entry_first Second limits.recording (header_size + length rest) l ≡ Some (entry, length text)) (append-nil text)
+      (entry_first_again Second entry.caller entry.event entry.answer [] limits.recording (header_size + length rest) is (omega arith) small) in
       let fewer : length bytes < length (bytes ++ text) = omega (arith, length-append bytes text) in
-      let new : entries_after limits (bytes ++ text) ≡ Ok (xs ++ record { at = header_size + length rest; entry = entry } ∷ []) =
-      ap (entries_read (length (bytes ++ text)) limits.recording header_size) (drop-append-le header_size bytes text header)
-      ∙ entries_more (length bytes) (length (bytes ++ text)) limits.recording header_size rest text xs entry read fewer first some in
+      let new : entries_after Second limits (bytes ++ text) ≡ Ok (xs ++ record { at = header_size + length rest; entry = entry } ∷ []) =
+      ap (entries_read Second (length (bytes ++ text)) limits.recording header_size) (drop-append-le header_size bytes text header)
+      ∙ entries_more Second (length bytes) (length (bytes ++ text)) limits.recording header_size rest text xs entry read fewer first some in
       let entries : entries_in limits (bytes ++ text) ≡ entries_in limits bytes ++ entry ∷ [] =
       ap entries_of new ∙ map_more xs (record { at = header_size + length rest; entry = entry })
       ∙ ap (λ (l : List Recorded). l ++ entry ∷ []) (sym (ap entries_of read)) in

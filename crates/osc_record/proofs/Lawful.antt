@@ -23,6 +23,8 @@ use Rattle.osc_model.specs.Events.{Entry as Recorded}
 use Rattle.osc_model.specs.Recordings.{Row, row_of, row_text, FitsRow, IsHit, IsSound, enrolled, submitted, adding, removing, ticking, releasing, hits_text}
 use Rattle.osc_model.specs.Recordings.{hits_in, enrol_row, submit_row, add_row, remove_row, tick_row, release_row}
 use Rattle.osc_model.proofs.Sizes.{length-hits_text}
+use Rattle.osc_record.specs.declared.version.Version.{Version}
+use Rattle.osc_record.specs.declared.version.Version.TheVariants.{Second}
 use Rattle.osc_record.specs.Reading.{row_read, entry_of}
 
 pub enrol_address : IsPattern (codes "/osc/enrol")
@@ -106,17 +108,17 @@ row_lawful caller release answer fit = go (releasing answer) fit where
   go (Some told) f = (release_address, f, balanced (105 ∷ 104 ∷ 98 ∷ []) refl)
 
 -- the entry that a lawful message stands for
-pub row_again : (row : Row) → IsLawful (known row.address row.arguments) → length (row_text row) ≤ 1073741824
-    → entry_of (row_text row) ≡ row_read row.address row.arguments
-row_again row lawful short =
+pub row_again : (version : Version) (row : Row) → IsLawful (known row.address row.arguments) → length (row_text row) ≤ 1073741824
+    → entry_of version (row_text row) ≡ row_read version row.address row.arguments
+row_again version row lawful short =
     let form = known row.address row.arguments in
     cond-true _ _ _ (ap is_ok (limited_again 1073741824 (row_text row) form lawful refl short))
-    ∙ (λ i. row_read (pattern_again form lawful i) (known_arguments_again row.address row.arguments lawful i))
+    ∙ (λ i. row_read version (pattern_again form lawful i) (known_arguments_again row.address row.arguments lawful i))
 
 -- what is read of an entry's message, if it has one
-abbrev pub ReadAs : Recorded → Option Row → Type 0
-ReadAs entry None = Unit {0}
-ReadAs entry (Some row) = row_read row.address row.arguments ≡ Some entry
+abbrev pub ReadAs : Version → Recorded → Option Row → Type 0
+ReadAs version entry None = Unit {0}
+ReadAs version entry (Some row) = row_read version row.address row.arguments ≡ Some entry
 
 self_eq : (n : ℕ) → (n == n) ≡ true
 self_eq n = eq-eqb n n refl
@@ -125,7 +127,7 @@ eighths : (hits : List Hit) → (length (hits_text hits) % 8 == 0) ≡ true
 eighths hits = eq-eqb (length (hits_text hits) % 8) 0 (omega (arith, length-hits_text hits))
 
 pub entry_again : (caller : ℕ) (event : Event) (answer : Answer) → IsSound answer
-    → ReadAs (record { caller = caller; event = event; answer = answer }) (row_of caller event answer)
+    → ReadAs Second (record { caller = caller; event = event; answer = answer }) (row_of caller event answer)
 entry_again caller enrol (number n) sound = refl
 entry_again caller enrol callers_full sound = refl
 entry_again caller (submit packet) (queued first count late) sound = rw (le-leb late count sound) refl

@@ -1,4 +1,5 @@
 pub mod Lawful
+pub mod Written
 pub mod Again
 pub mod Kept
 pub mod Releases
@@ -8,6 +9,7 @@ pub mod ArgumentsRead
 pub mod Checked
 pub mod Spelled
 pub mod RowsRead
+pub mod RowsIn
 pub mod EntriesRead
 pub mod Fronts
 pub mod Stops

@@ -4,26 +4,24 @@ use Rattle.std.proofs.Common.{None, refl, sym, ap, ◌∙◌, subst, arith, code
 use Rattle.std.specs.Prelude.{option_map, nat_lt, nat_le}
 use Rattle.std.specs.Int.{w32, to_be_bytes, from_be_bytes}
 use Rattle.std.specs.List.{flat_map, AllByRecursion}
-use Rattle.std.specs.Str.{bytes_eq}
 use Rattle.std.proofs.lemmas.Nat.{be_bytes_4}
-use Rattle.std.proofs.lemmas.Slice.Eq.{bytes_eq-Decides}
 use Rattle.std.proofs.lemmas.Bool.{and_parts}
 use Rattle.std.proofs.lemmas.Option.{same_Some, none-some}
 use Rattle.osc_atoms.specs.Atoms.{AreBytes, blob}
 use Rattle.osc_atoms.proofs.AllBytes.{front_bytes, rest_bytes}
 use Rattle.osc_message.specs.Messages.{Argument, integer, text, content, long, time, atom_of}
-use Rattle.osc_model.specs.Events.{enrol, submit, add, remove, tick, release, Answer, number, callers_full, queued, units_full, pool_full, added, refused}
+use Rattle.osc_model.specs.Events.{enrol, add, remove, tick, release, Answer, number, callers_full, queued, units_full, pool_full, added, refused}
 use Rattle.osc_model.specs.Events.{removed, not_there, ticked, clock_back, released}
 use Rattle.osc_tree.specs.Adding.{taken, under_method, is_container, methods_full, nodes_full}
 use Rattle.osc_model.specs.Events.{Entry as Recorded}
-use Rattle.osc_model.specs.Recordings.{int, enrolled, submitted, adding, removing, ticking, hits_text, hits_in, IsHit, IsSound, row_of, enrol_row, submit_row}
+use Rattle.osc_model.specs.Recordings.{int, enrolled, submitted, adding, removing, ticking, hits_text, hits_in, IsHit, IsSound, row_of, enrol_row}
 use Rattle.osc_model.specs.Recordings.{add_row, remove_row, tick_row, release_row}
 use Rattle.osc_record.specs.Reading.{int_first, signed_first, long_first, time_first, text_first, content_first, answer_if, enrol_answer, submit_answer}
-use Rattle.osc_record.specs.Reading.{add_answer, remove_answer, tick_answer, release_answer, enrol_read, submit_read, add_read, remove_read, tick_read}
-use Rattle.osc_record.specs.Reading.{release_read, row_read}
+use Rattle.osc_record.specs.Reading.{add_answer, remove_answer, tick_answer, release_answer, enrol_read, add_read, remove_read, tick_read}
+use Rattle.osc_record.specs.Reading.{release_read}
 use Rattle.osc_record.proofs.Again.{take_front, drop_front}
 use Rattle.osc_record.proofs.ArgumentsRead.{int_was, signed_was, long_was, time_was, text_was, content_was, end_was}
-use Rattle.osc_record.proofs.Spelled.{read_then}
+use Rattle.osc_record.proofs.Spelled.{read_then, mapped}
 
 -- an answer that is chosen by a test, or else by those after it
 chosen : (P : Answer → Type 0) (t : Bool) (a : Answer) (rest : Option Answer) (answer : Answer) → cond t (Some a) rest ≡ Some answer → (t ≡ true → P a)
@@ -52,7 +50,7 @@ enrol_told (negsuc (suc k)) answer is = absurd (none-some answer is)
 abbrev pub SubmitTold : ℕ → ℕ → ℕ → ℕ → Answer → Type 0
 SubmitTold code first second third answer = (submitted answer ≡ Some (code, first, second, third)) × IsSound answer
 
-submit_told : (code first second third : ℕ) (answer : Answer) → submit_answer code first second third ≡ Some answer
+pub submit_told : (code first second third : ℕ) (answer : Answer) → submit_answer code first second third ≡ Some answer
     → SubmitTold code first second third answer
 submit_told code first second third answer is =
     chosen_if told (code == 0) (nat_le third second) (queued first second third)
@@ -185,10 +183,6 @@ hits_back (a ∷ b ∷ c ∷ d ∷ e ∷ f ∷ g ∷ h ∷ bytes) all whole =
 abbrev pub Was : List ℕ → List Argument → Recorded → Type 0
 Was address arguments e = (row_of e.caller e.event e.answer ≡ Some (record { address = address; arguments = arguments })) × IsSound e.answer
 
-pub mapped : {X Y : Type 0} (f : X → Y) (o : Option X) (y : Y) → option_map f o ≡ Some y → (x : X) × ((o ≡ Some x) × (f x ≡ y))
-mapped f None y is = absurd (none-some y is)
-mapped f (Some x) y is = (x, (refl, same_Some (f x) y is))
-
 pub enrol_was : (arguments : List Argument) (e : Recorded) → enrol_read arguments ≡ Some e → Was (codes "/osc/enrol") arguments e
 enrol_was arguments e is =
     let caller = read_then _ (int_first arguments) e is in
@@ -202,34 +196,6 @@ enrol_was arguments e is =
     subst (Was (codes "/osc/enrol") arguments) found.1.1 (
       ap (option_map (enrol_row caller.0.0)) told.0
           ∙ ap (λ (l : List Argument). Some (record { address = codes "/osc/enrol"; arguments = l })) (sym same),
-      told.1,
-    )
-
-pub submit_was : (arguments : List Argument) (e : Recorded) → submit_read arguments ≡ Some e → Was (codes "/osc/submit") arguments e
-submit_was arguments e is =
-    let caller = read_then _ (int_first arguments) e is in
-    let packet = read_then _ (content_first caller.0.1) e caller.1.1 in
-    let code = read_then _ (int_first packet.0.1) e packet.1.1 in
-    let first = read_then _ (long_first code.0.1) e code.1.1 in
-    let second = read_then _ (int_first first.0.1) e first.1.1 in
-    let third = read_then _ (int_first second.0.1) e second.1.1 in
-    let last = end_was third.0.1
-    (option_map (λ a. record { caller = caller.0.0; event = submit packet.0.0; answer = a }) (submit_answer code.0.0 first.0.0 second.0.0 third.0.0)) e
-    third.1.1 in
-    let found = mapped (λ a. record { caller = caller.0.0; event = submit packet.0.0; answer = a })
-    (submit_answer code.0.0 first.0.0 second.0.0 third.0.0) e last.1 in
-    let told = submit_told code.0.0 first.0.0 second.0.0 third.0.0 found.0 found.1.0 in
-    let same = int_was arguments caller.0 caller.1.0
-    ∙ ap (λ (l : List Argument). int caller.0.0 ∷ l)
-    (content_was caller.0.1 packet.0 packet.1.0
-    ∙ ap (λ (l : List Argument). content packet.0.0 ∷ l)
-    (int_was packet.0.1 code.0 code.1.0 ∙ ap (λ (l : List Argument). int code.0.0 ∷ l)
-    (long_was code.0.1 first.0 first.1.0 ∙ ap (λ (l : List Argument). long (pos first.0.0) ∷ l)
-    (int_was first.0.1 second.0 second.1.0 ∙ ap (λ (l : List Argument). int second.0.0 ∷ l)
-    (int_was second.0.1 third.0 third.1.0 ∙ ap (λ (l : List Argument). int third.0.0 ∷ l) (last.0)))))) in
-    subst (Was (codes "/osc/submit") arguments) found.1.1 (
-      ap (option_map (submit_row caller.0.0 packet.0.0)) told.0
-          ∙ ap (λ (l : List Argument). Some (record { address = codes "/osc/submit"; arguments = l })) (sym same),
       told.1,
     )
 
@@ -332,29 +298,3 @@ release_was arguments e all is =
           ∙ ap (λ (l : List Argument). Some (record { address = codes "/osc/release"; arguments = l })) (sym same),
       back.1,
     )
-
--- what is read of a message to an address with these arguments
-pub row_was : (address : List ℕ) (arguments : List Argument) (e : Recorded) → AreBytes (flat_map atom_of arguments) → row_read address arguments ≡ Some e
-    → Was address arguments e
-row_was address arguments e all is =
-    go (bytes_eq address (codes "/osc/enrol")) (bytes_eq address (codes "/osc/submit")) (bytes_eq address (codes "/osc/add"))
-    (bytes_eq address (codes "/osc/remove")) (bytes_eq address (codes "/osc/tick"))
-    (bytes_eq address (codes "/osc/release")) refl refl refl refl refl refl is
-  where
-    named_as : (name : List ℕ) → bytes_eq address name ≡ true → Was name arguments e → Was address arguments e
-    named_as name t w = subst (λ (n : List ℕ). Was n arguments e) (sym ((bytes_eq-Decides address name).0 t)) w
-
-    go : (b1 b2 b3 b4 b5 b6 : Bool) → bytes_eq address (codes "/osc/enrol") ≡ b1 → bytes_eq address (codes "/osc/submit") ≡ b2
-        → bytes_eq address (codes "/osc/add") ≡ b3 → bytes_eq address (codes "/osc/remove") ≡ b4 → bytes_eq address (codes "/osc/tick") ≡ b5
-        → bytes_eq address (codes "/osc/release") ≡ b6
-        → cond b1 (enrol_read arguments)
-        (cond b2 (submit_read arguments)
-        (cond b3 (add_read arguments) (cond b4 (remove_read arguments) (cond b5 (tick_read arguments) (cond b6 (release_read arguments) None))))) ≡ Some e
-        → Was address arguments e
-    go true b2 b3 b4 b5 b6 p q r s t u i = named_as (codes "/osc/enrol") p (enrol_was arguments e i)
-    go false true b3 b4 b5 b6 p q r s t u i = named_as (codes "/osc/submit") q (submit_was arguments e i)
-    go false false true b4 b5 b6 p q r s t u i = named_as (codes "/osc/add") r (add_was arguments e i)
-    go false false false true b5 b6 p q r s t u i = named_as (codes "/osc/remove") s (remove_was arguments e i)
-    go false false false false true b6 p q r s t u i = named_as (codes "/osc/tick") t (tick_was arguments e i)
-    go false false false false false true p q r s t u i = named_as (codes "/osc/release") u (release_was arguments e all i)
-    go false false false false false false p q r s t u i = absurd (none-some e i)

@@ -1,7 +1,7 @@
 -- A message that is read as a header was written as one.
 use Rattle.std.proofs.Common.{◌≡◌, ◌⊎◌, ℕ, ◌%◌, ◌&&◌, ◌≤◌, Bool, true, false, cond, List, [], ◌∷◌, length, take, drop, Option, Some, None, refl, sym}
 use Rattle.std.proofs.Common.{ap, ◌∙◌, subst, inl, inr, arith, codes, eqb-true}
-use Rattle.std.specs.Prelude.{option_and_then, is_none, ◌==◌, nat_lt, nat_le}
+use Rattle.std.specs.Prelude.{option_and_then, option_map, is_none, ◌==◌, nat_lt, nat_le}
 use Rattle.std.specs.Str.{bytes_eq}
 use Rattle.std.specs.Int.{w32, from_be_bytes}
 use Rattle.std.proofs.lemmas.Slice.Eq.{bytes_eq-Decides}
@@ -14,13 +14,18 @@ use Rattle.osc_message.specs.Reading.{limited_read, is_message, pattern_of}
 use Rattle.osc_message.specs.Arguments.{message_arguments}
 use Rattle.osc_message.proofs.Checks.{exact_of}
 use Rattle.osc_message.proofs.TextLaws.{pattern_again, bare_arguments, known_arguments_again, unknown_arguments_again}
-use Rattle.osc_model.specs.Limits.{Limits, limit_fault, header_size}
+use Rattle.osc_model.specs.Limits.{Limits}
 use Rattle.osc_model.specs.declared.late.Late.{Late}
 use Rattle.osc_model.specs.declared.late.Late.TheVariants.{Deliver, Discard}
-use Rattle.osc_model.specs.Recordings.{int, late_code, row_text, header_row}
-use Rattle.osc_record.specs.Reading.{limits_read, late_told, lawful_limits, header_of, header_read, message_first, bytes_of_size, int_first}
+use Rattle.osc_model.specs.Recordings.{int, late_code, row_text}
+use Rattle.osc_record.specs.declared.version.Version.{Version}
+use Rattle.osc_record.specs.declared.version.Version.TheVariants.{First, Second}
+use Rattle.osc_record.specs.Versions.{version_number, header_size_of, header_row_in, header_text_in, limit_fault_in}
+use Rattle.osc_record.specs.Reading.{limits_told, late_told, lawful_limits, header_of, header_told, header_read, message_first, bytes_of_size, int_first}
+use Rattle.osc_record.specs.Reading.{later_first}
 use Rattle.osc_record.proofs.Again.{message_more, cond_gives}
 use Rattle.osc_record.proofs.ArgumentsRead.{int_was, end_was}
+use Rattle.osc_record.proofs.Written.{header_length}
 
 -- a message with arguments, which are those that are read
 pub record Spelled (message : List ℕ) : Type 0 where
@@ -55,9 +60,15 @@ pub read_then : {X Y : Type 0} (f : X → Option Y) (o : Option X) (y : Y) → o
 read_then f None y is = absurd (cc)
 read_then f (Some x) y is = (x, (refl, is))
 
-lawful_is : (limits read : Limits) → lawful_limits limits ≡ Some read → (limits ≡ read) × (limit_fault limits ≡ None)
-lawful_is limits read is = go (limit_fault limits) refl is where
-  go : (o : Option ℕ) → limit_fault limits ≡ o → cond (is_none o) (Some limits) None ≡ Some read → (limits ≡ read) × (limit_fault limits ≡ None)
+pub mapped : {X Y : Type 0} (f : X → Y) (o : Option X) (y : Y) → option_map f o ≡ Some y → (x : X) × ((o ≡ Some x) × (f x ≡ y))
+mapped f None y is = absurd (none-some y is)
+mapped f (Some x) y is = (x, (refl, same_Some (f x) y is))
+
+pub lawful_is : (version : Version) (limits read : Limits) → lawful_limits version limits ≡ Some read
+    → (limits ≡ read) × (limit_fault_in version limits ≡ None)
+lawful_is version limits read is = go (limit_fault_in version limits) refl is where
+  go : (o : Option ℕ) → limit_fault_in version limits ≡ o → cond (is_none o) (Some limits) None ≡ Some read
+      → (limits ≡ read) × (limit_fault_in version limits ≡ None)
   go None e i = (same_Some limits read i, e)
   go (Some field) e i = absurd (cc)
 
@@ -68,18 +79,52 @@ late_was code late is = go (code == 0) (code == 1) refl refl is where
   go false true e f i = eqb-true code 1 f ∙ ap late_code (same_Some Discard late i)
   go false false e f i = absurd (none-some late i)
 
+-- late units are delivered where the version can't tell
+abbrev pub Delivers : Version → Late → Type 0
+Delivers First late = late ≡ Deliver
+Delivers Second late = Unit {0}
+
+-- the arguments of a header before what becomes of late units
+abbrev fields : ℕ → ℕ → ℕ → ℕ → ℕ → ℕ → ℕ → List Argument → List Argument
+fields number units blocks methods nodes callers recording tail =
+    int number ∷ int units ∷ int blocks ∷ int methods ∷ int nodes ∷ int callers ∷ int recording ∷ tail
+
+-- the arguments of the header of some limits
+abbrev HeaderWere : Version → List Argument → Limits → Type 0
+HeaderWere version arguments limits = (arguments ≡ (header_row_in version limits).arguments) × Delivers version limits.late
+
+header_in : (version : Version) (arguments tail : List Argument) (number : ℕ) (limits : Limits) (late : ℕ × List Argument)
+    → arguments ≡ fields number limits.units limits.blocks limits.methods limits.nodes limits.callers limits.recording tail
+    → later_first version tail ≡ Some late → late.1 ≡ [] → number ≡ version_number version → late_told late.0 ≡ Some limits.late
+    → HeaderWere version arguments limits
+header_in First arguments tail number limits late same later none number_is told =
+    let both : (0, tail) ≡ late = same_Some (0, tail) late later in
+    let end : tail ≡ [] = ap (λ (p : ℕ × List Argument). p.1) both ∙ none in
+    let zero : late.0 ≡ 0 = sym (ap (λ (p : ℕ × List Argument). p.0) both) in (
+      same
+          ∙ (λ i. fields (number_is i) limits.units limits.blocks limits.methods limits.nodes limits.callers limits.recording (end i)),
+      sym (same_Some Deliver limits.late (sym (ap late_told zero) ∙ told)),
+    )
+header_in Second arguments tail number limits late same later none number_is told =
+    let end : tail ≡ int (late_code limits.late) ∷ [] =
+    int_was tail late later ∙ (λ i. int (late_was late.0 limits.late told i) ∷ none i) in (
+      same
+          ∙ (λ i. fields (number_is i) limits.units limits.blocks limits.methods limits.nodes limits.callers limits.recording (end i)),
+      tt,
+    )
+
 -- the arguments of a header
-pub limits_were : (arguments : List Argument) (limits : Limits) → limits_read arguments ≡ Some limits
-    → (arguments ≡ (header_row limits).arguments) × (limit_fault limits ≡ None)
-limits_were arguments limits is =
-    let version = read_then _ (int_first arguments) limits is in
-    let units = read_then _ (int_first version.0.1) limits version.1.1 in
+pub limits_were : (version : Version) (arguments : List Argument) (limits : Limits) → limits_told version arguments ≡ Some limits
+    → HeaderWere version arguments limits
+limits_were version arguments limits is =
+    let number = read_then _ (int_first arguments) limits is in
+    let units = read_then _ (int_first number.0.1) limits number.1.1 in
     let blocks = read_then _ (int_first units.0.1) limits units.1.1 in
     let methods = read_then _ (int_first blocks.0.1) limits blocks.1.1 in
     let nodes = read_then _ (int_first methods.0.1) limits methods.1.1 in
     let callers = read_then _ (int_first nodes.0.1) limits nodes.1.1 in
     let recording = read_then _ (int_first callers.0.1) limits callers.1.1 in
-    let late = read_then _ (int_first recording.0.1) limits recording.1.1 in
+    let late = read_then _ (later_first version recording.0.1) limits recording.1.1 in
     let told : Late → Limits = λ policy.
     record {
       units = units.0.0;
@@ -90,56 +135,59 @@ limits_were arguments limits is =
       recording = recording.0.0;
       late = policy;
     } in
-    let read : Option Limits = option_and_then (λ policy. lawful_limits (told policy)) (late_told late.0.0) in
-    let last = end_was late.0.1 (cond (version.0.0 == 2) read None) limits late.1.1 in
-    let first = cond_gives (version.0.0 == 2) read limits last.1 in
-    let two : version.0.0 ≡ 2 = eqb-true version.0.0 2 first.0 in
-    let policy = read_then (λ policy. lawful_limits (told policy)) (late_told late.0.0) limits first.1 in
-    let code : late.0.0 ≡ late_code policy.0 = late_was late.0.0 policy.0 policy.1.0 in
-    let lawful = lawful_is (told policy.0) limits policy.1.1 in (
-      int_was arguments version.0 version.1.0
-          ∙ ap (λ (l : List Argument). int version.0.0 ∷ l) (int_was version.0.1 units.0 units.1.0
-          ∙ ap (λ (l : List Argument). int units.0.0 ∷ l) (int_was units.0.1 blocks.0 blocks.1.0
-          ∙ ap (λ (l : List Argument). int blocks.0.0 ∷ l) (int_was blocks.0.1 methods.0 methods.1.0
-          ∙ ap (λ (l : List Argument). int methods.0.0 ∷ l) (int_was methods.0.1 nodes.0 nodes.1.0
-          ∙ ap (λ (l : List Argument). int nodes.0.0 ∷ l) (int_was nodes.0.1 callers.0 callers.1.0
-          ∙ ap (λ (l : List Argument). int callers.0.0 ∷ l) (int_was callers.0.1 recording.0 recording.1.0
-          ∙ ap (λ (l : List Argument). int recording.0.0 ∷ l) (int_was recording.0.1 late.0 late.1.0
-          ∙ ap (λ (l : List Argument). int late.0.0 ∷ l) last.0)))))))
-          ∙ (λ i. int (two i) ∷ int units.0.0 ∷ int blocks.0.0 ∷ int methods.0.0 ∷ int nodes.0.0 ∷ int callers.0.0 ∷ int recording.0.0 ∷ int (code i) ∷ [])
-          ∙ (λ i. int 2 ∷ (header_tail (lawful.0 i))),
-      ap limit_fault (sym lawful.0) ∙ lawful.1,
-    )
-  where
-    header_tail : Limits → List Argument
-    header_tail l = int l.units ∷ int l.blocks ∷ int l.methods ∷ int l.nodes ∷ int l.callers ∷ int l.recording ∷ int (late_code l.late) ∷ []
+    let read : Option Limits = option_map told (late_told late.0.0) in
+    let last = end_was late.0.1 (cond (number.0.0 == version_number version) read None) limits late.1.1 in
+    let first = cond_gives (number.0.0 == version_number version) read limits last.1 in
+    let number_is : number.0.0 ≡ version_number version = eqb-true number.0.0 (version_number version) first.0 in
+    let policy = mapped told (late_told late.0.0) limits first.1 in
+    let same : arguments ≡ fields number.0.0 units.0.0 blocks.0.0 methods.0.0 nodes.0.0 callers.0.0 recording.0.0 recording.0.1 =
+    int_was arguments number.0 number.1.0
+    ∙ ap (λ (l : List Argument). int number.0.0 ∷ l) (int_was number.0.1 units.0 units.1.0
+    ∙ ap (λ (l : List Argument). int units.0.0 ∷ l) (int_was units.0.1 blocks.0 blocks.1.0
+    ∙ ap (λ (l : List Argument). int blocks.0.0 ∷ l) (int_was blocks.0.1 methods.0 methods.1.0
+    ∙ ap (λ (l : List Argument). int methods.0.0 ∷ l) (int_was methods.0.1 nodes.0 nodes.1.0
+    ∙ ap (λ (l : List Argument). int nodes.0.0 ∷ l) (int_was nodes.0.1 callers.0 callers.1.0
+    ∙ ap (λ (l : List Argument). int callers.0.0 ∷ l) (int_was callers.0.1 recording.0 recording.1.0)))))) in
+    subst (HeaderWere version arguments) policy.1.1
+    (header_in version arguments recording.0.1 number.0.0 (told policy.0) late.0 same late.1.0 last.0 number_is policy.1.0)
 
 -- what is read as a header is one
-pub header_was : (message : List ℕ) (limits : Limits) → AreBytes message → header_of message ≡ Some limits
-    → (message ≡ row_text (header_row limits)) × (limit_fault limits ≡ None)
-header_was message limits small is =
+pub header_was : (version : Version) (message : List ℕ) (limits : Limits) → AreBytes message → header_of version message ≡ Some limits
+    → (message ≡ row_text (header_row_in version limits)) × Delivers version limits.late
+header_was version message limits small is =
     let inner = cond_gives (is_message 1073741824 message && bytes_eq (pattern_of message) (codes "/osc/rec"))
-    (limits_read (message_arguments message)) limits is in
+    (limits_told version (message_arguments message)) limits is in
     let tests = and_parts (is_message 1073741824 message) (bytes_eq (pattern_of message) (codes "/osc/rec")) inner.0 in
     let name : pattern_of message ≡ codes "/osc/rec" = (bytes_eq-Decides (pattern_of message) (codes "/osc/rec")).0 tests.1 in
-    let were = limits_were (message_arguments message) limits inner.1 in
+    let were = limits_were version (message_arguments message) limits inner.1 in
     go (spelled message small tests.0) name were
   where
-    go : Spelled message ⊎ (message_arguments message ≡ []) → pattern_of message ≡ codes "/osc/rec"
-        → (message_arguments message ≡ (header_row limits).arguments) × (limit_fault limits ≡ None)
-        → (message ≡ row_text (header_row limits)) × (limit_fault limits ≡ None)
-    go (inl s) name were = (s.text ∙ (λ i. message_text (known (name i) (were.0 i))), were.1)
-    go (inr none) name were = absurd (no_arguments (sym none ∙ were.0)) where
-      no_arguments : [] ≡ (header_row limits).arguments → ⊥
-      no_arguments e = cc
+    no_arguments : (version : Version) → [] ≡ (header_row_in version limits).arguments → ⊥
+    no_arguments First e = cc
+    no_arguments Second e = cc
+
+    named : (version : Version) → (header_row_in version limits).address ≡ codes "/osc/rec"
+    named First = refl
+    named Second = refl
+
+    go : Spelled message ⊎ (message_arguments message ≡ []) → pattern_of message ≡ codes "/osc/rec" → HeaderWere version (message_arguments message) limits
+        → (message ≡ row_text (header_row_in version limits)) × Delivers version limits.late
+    go (inl s) name were = (s.text ∙ (λ i. message_text (known ((name ∙ sym (named version)) i) (were.0 i))), were.1)
+    go (inr none) name were = absurd (no_arguments version (sym none ∙ were.0))
 
 -- the header that bytes begin with is one, so they are long enough for it
-pub header_long : (bytes : List ℕ) (limits : Limits) → AreBytes bytes → header_read bytes ≡ Some limits → header_size ≤ length bytes
-header_long bytes limits small is = go (message_first bytes) refl is where
-  go : (o : Option (List ℕ)) → message_first bytes ≡ o → option_and_then header_of o ≡ Some limits → header_size ≤ length bytes
-  go None found e = absurd (none-some limits e)
-  go (Some message) found e =
-      let was = header_was message limits (message_bytes bytes message small found) e in
-      let size : length message ≡ 56 = ap length was.0 in
-      let more = (message_more bytes [] message found).1 in
-      omega arith
+pub header_long : (version : Version) (bytes : List ℕ) (limits : Limits) → AreBytes bytes → header_read version bytes ≡ Some limits
+    → header_size_of version ≤ length bytes
+header_long version bytes limits small is =
+    let told = read_then (lawful_limits version) (header_told version bytes) limits is in
+    go (message_first bytes) refl told.0 told.1.0
+  where
+    go : (o : Option (List ℕ)) → message_first bytes ≡ o → (told : Limits) → option_and_then (header_of version) o ≡ Some told
+        → header_size_of version ≤ length bytes
+    go None found told e = absurd (none-some told e)
+    go (Some message) found told e =
+        let was = header_was version message told (message_bytes bytes message small found) e in
+        let size : length message ≡ length (row_text (header_row_in version told)) = ap length was.0 in
+        let whole : length (header_text_in version told) ≡ header_size_of version = header_length version told in
+        let more = (message_more bytes [] message found).1 in
+        omega arith

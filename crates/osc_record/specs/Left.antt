@@ -20,4 +20,5 @@ placed_of entry =
 -- those from the place on
 abbrev pub entries_left : Entries → List Placed
 entries_left entries =
-    placed_in (entries_at entries.limit entries.at (drop entries.at entries.bytes.now))
+    placed_in (entries_at entries.version entries.limit entries.at
+    (drop entries.at entries.bytes.now))

@@ -17,9 +17,13 @@ use Rattle.osc_model.specs.Events.{removed, not_there, ticked, clock_back, relea
 use Rattle.osc_tree.specs.Adding.{taken, under_method, is_container, methods_full, nodes_full}
 use Rattle.osc_model.specs.declared.late.Late.{Late}
 use Rattle.osc_model.specs.declared.late.Late.TheVariants.{Deliver, Discard}
-use Rattle.osc_model.specs.Limits.{AreInRange, Limits, header_size, limit_fault, max_recording}
+use Rattle.osc_model.specs.Limits.{Limits, max_recording}
 use Rattle.osc_model.specs.Events.{Entry as Recorded}
-use Rattle.osc_model.specs.Recordings.{IsRecordable, hits_in, header_text, entry_text, record_text}
+use Rattle.osc_model.specs.Recordings.{hits_in}
+use Rattle.osc_record.specs.declared.version.Version.{Version}
+use Rattle.osc_record.specs.declared.version.Version.TheVariants.{First, Second}
+use Rattle.osc_record.specs.Versions.{version_number, header_size_of, header_text_in, text_in}
+use Rattle.osc_record.specs.Versions.{record_text_in, limit_fault_in, AreInRangeIn, IsRecordableIn}
 
 -- a number that isn't negative
 abbrev pub natural_of : ℤ → Option ℕ
@@ -55,6 +59,11 @@ text_first _ = None
 abbrev pub content_first : List Argument → Option (List ℕ × List Argument)
 content_first (content bytes ∷ rest) = Some (bytes, rest)
 content_first _ = None
+
+-- a number that only the second version has, and those after it; in the first it is 0
+abbrev pub later_first : Version → List Argument → Option (ℕ × List Argument)
+later_first First arguments = Some (0, arguments)
+later_first Second arguments = int_first arguments
 
 -- what is read where no argument is left over
 abbrev pub at_end : {X : Type 0} → List Argument → Option X → Option X
@@ -116,8 +125,8 @@ enrol_read arguments =
     (enrol_answer answer.0)))
     (signed_first caller.1)) (int_first arguments)
 
-abbrev pub submit_read : List Argument → Option Recorded
-submit_read arguments =
+abbrev pub submit_read : Version → List Argument → Option Recorded
+submit_read version arguments =
     option_and_then (λ caller.
     option_and_then (λ packet.
     option_and_then (λ code.
@@ -127,8 +136,8 @@ submit_read arguments =
     at_end third.1
     (option_map (λ a. record { caller = caller.0; event = submit packet.0; answer = a })
     (submit_answer code.0 first.0 second.0 third.0)))
-    (int_first second.1)) (int_first first.1)) (long_first code.1)) (int_first packet.1))
-    (content_first caller.1)) (int_first arguments)
+    (later_first version second.1)) (int_first first.1)) (long_first code.1))
+    (int_first packet.1)) (content_first caller.1)) (int_first arguments)
 
 abbrev pub add_read : List Argument → Option Recorded
 add_read arguments =
@@ -176,19 +185,19 @@ release_read arguments =
     (content_first unit.1)) (long_first caller.1)) (int_first arguments)
 
 -- the entry of a message to an address with these arguments
-abbrev pub row_read : List ℕ → List Argument → Option Recorded
-row_read address arguments =
+abbrev pub row_read : Version → List ℕ → List Argument → Option Recorded
+row_read version address arguments =
     if bytes_eq address (codes "/osc/enrol") then enrol_read arguments else
-    if bytes_eq address (codes "/osc/submit") then submit_read arguments else
+    if bytes_eq address (codes "/osc/submit") then submit_read version arguments else
     if bytes_eq address (codes "/osc/add") then add_read arguments else
     if bytes_eq address (codes "/osc/remove") then remove_read arguments else
     if bytes_eq address (codes "/osc/tick") then tick_read arguments else
     if bytes_eq address (codes "/osc/release") then release_read arguments else None
 
 -- the entry that a message is
-abbrev pub entry_of : List ℕ → Option Recorded
-entry_of message = if is_message MAX_BYTES message
-    then row_read (pattern_of message) (message_arguments message) else None
+abbrev pub entry_of : Version → List ℕ → Option Recorded
+entry_of version message = if is_message MAX_BYTES message
+    then row_read version (pattern_of message) (message_arguments message) else None
 
 -- so many of the bytes, where that is a size: a positive multiple of 4, and no more than there are
 abbrev pub bytes_of_size : ℕ → List ℕ → Option (List ℕ)
@@ -202,16 +211,16 @@ message_first bytes = if nat_le 4 (length bytes)
 
 -- the entry that the bytes begin with and its size, where its place is given and it ends within a
 -- limit
-abbrev pub entry_first : ℕ → ℕ → List ℕ → Option (Recorded × ℕ)
-entry_first limit place bytes =
+abbrev pub entry_first : Version → ℕ → ℕ → List ℕ → Option (Recorded × ℕ)
+entry_first version limit place bytes =
     option_and_then (λ message.
     if nat_le (place + 4 + length message) limit
-    then option_map (λ entry. (entry, 4 + length message)) (entry_of message) else None)
+    then option_map (λ entry. (entry, 4 + length message)) (entry_of version message) else None)
     (message_first bytes)
 
 -- the entry that bytes begin with, whatever follows it
 abbrev pub entry_in : List ℕ → Option Recorded
-entry_in bytes = option_and_then entry_of (message_first bytes)
+entry_in bytes = option_and_then (entry_of Second) (message_first bytes)
 
 -- an entry at its place
 pub record Placed : Type 0 where
@@ -232,16 +241,16 @@ before_read place (Some first) next =
 
 -- the entries that stand one after another from a place on, or the first malformed place; at most
 -- so many are read
-abbrev pub entries_read : ℕ → ℕ → ℕ → List ℕ → Result (List Placed) ℕ
-entries_read most limit place [] = Ok []
-entries_read zero limit place (byte ∷ bytes) = Err place
-entries_read (suc most) limit place (byte ∷ bytes) =
-    before_read place (entry_first limit place (byte ∷ bytes))
-    (λ size. entries_read most limit (place + size) (drop size (byte ∷ bytes)))
+abbrev pub entries_read : Version → ℕ → ℕ → ℕ → List ℕ → Result (List Placed) ℕ
+entries_read version most limit place [] = Ok []
+entries_read version zero limit place (byte ∷ bytes) = Err place
+entries_read version (suc most) limit place (byte ∷ bytes) =
+    before_read place (entry_first version limit place (byte ∷ bytes))
+    (λ size. entries_read version most limit (place + size) (drop size (byte ∷ bytes)))
 
 -- all the entries that stand one after another from a place on, or the first malformed place
-abbrev pub entries_at : ℕ → ℕ → List ℕ → Result (List Placed) ℕ
-entries_at limit place bytes = entries_read (length bytes) limit place bytes
+abbrev pub entries_at : Version → ℕ → ℕ → List ℕ → Result (List Placed) ℕ
+entries_at version limit place bytes = entries_read version (length bytes) limit place bytes
 
 -- whether entries are read, or the first malformed place
 abbrev pub outcome : Result (List Placed) ℕ → Result ⊤ ℕ
@@ -254,17 +263,17 @@ placed_in (Ok entries) = entries
 placed_in (Err at) = []
 
 -- limits in their ranges
-abbrev pub lawful_limits : Limits → Option Limits
-lawful_limits limits = if is_none (limit_fault limits) then Some limits else None
+abbrev pub lawful_limits : Version → Limits → Option Limits
+lawful_limits version limits = if is_none (limit_fault_in version limits) then Some limits else None
 
 -- what a number says that becomes of late units
 abbrev pub late_told : ℕ → Option Late
 late_told code = if code == 0 then Some Deliver else if code == 1 then Some Discard else None
 
--- the limits that the arguments of a header tell
-abbrev pub limits_read : List Argument → Option Limits
-limits_read arguments =
-    option_and_then (λ version.
+-- what the arguments of a header tell
+abbrev pub limits_told : Version → List Argument → Option Limits
+limits_told version arguments =
+    option_and_then (λ number.
     option_and_then (λ units.
     option_and_then (λ blocks.
     option_and_then (λ methods.
@@ -273,9 +282,8 @@ limits_read arguments =
     option_and_then (λ recording.
     option_and_then (λ late.
     at_end late.1
-    (if version.0 == 2
-    then option_and_then (λ policy.
-    lawful_limits
+    (if number.0 == version_number version
+    then option_map (λ policy.
     (record {
       units = units.0;
       blocks = blocks.0;
@@ -285,52 +293,65 @@ limits_read arguments =
       recording = recording.0;
       late = policy;
     })) (late_told late.0) else None))
-    (int_first recording.1)) (int_first callers.1)) (int_first nodes.1)) (int_first methods.1))
-    (int_first blocks.1)) (int_first units.1)) (int_first version.1)) (int_first arguments)
+    (later_first version recording.1)) (int_first callers.1)) (int_first nodes.1))
+    (int_first methods.1)) (int_first blocks.1)) (int_first units.1)) (int_first number.1))
+    (int_first arguments)
 
--- the limits that a message is the header of
-abbrev pub header_of : List ℕ → Option Limits
-header_of message =
+-- what a message tells, where it is a header
+abbrev pub header_of : Version → List ℕ → Option Limits
+header_of version message =
     if is_message MAX_BYTES message && bytes_eq (pattern_of message) (codes "/osc/rec")
-    then limits_read (message_arguments message) else None
+    then limits_told version (message_arguments message) else None
+
+-- what the header tells that the bytes begin with
+abbrev pub header_told : Version → List ℕ → Option Limits
+header_told version bytes = option_and_then (header_of version) (message_first bytes)
 
 -- the limits that the bytes begin with
-abbrev pub header_read : List ℕ → Option Limits
-header_read bytes = option_and_then header_of (message_first bytes)
+abbrev pub header_read : Version → List ℕ → Option Limits
+header_read version bytes = option_and_then (lawful_limits version) (header_told version bytes)
 
 -- the entries after the header of a recording with these limits
-abbrev pub entries_after : Limits → List ℕ → Result (List Placed) ℕ
-entries_after limits bytes =
-    entries_read (length bytes) limits.recording header_size (drop header_size bytes)
+abbrev pub entries_after : Version → Limits → List ℕ → Result (List Placed) ℕ
+entries_after version limits bytes =
+    entries_read version (length bytes) limits.recording (header_size_of version)
+    (drop (header_size_of version) bytes)
 
 -- the limits and the entries of a recording
-abbrev pub with_entries : List ℕ → Option Limits → Result (Limits × List Placed) ℕ
-with_entries bytes None = Err 0
-with_entries bytes (Some limits) = elim (entries_after limits bytes) [
+abbrev pub with_entries : Version → List ℕ → Option Limits → Result (Limits × List Placed) ℕ
+with_entries version bytes None = Err 0
+with_entries version bytes (Some limits) = elim (entries_after version limits bytes) [
   | Ok entries ↦ Ok (limits, entries)
   | Err at ↦ Err at
 ]
 
 -- the recording that the bytes are, or the first malformed place
-abbrev pub record_read : List ℕ → Result (Limits × List Placed) ℕ
-record_read bytes = with_entries bytes (header_read bytes)
+abbrev pub record_read : Version → List ℕ → Result (Limits × List Placed) ℕ
+record_read version bytes = with_entries version bytes (header_read version bytes)
 
 -- entries that stand one after another from a place on
+abbrev pub placed_by : Version → ℕ → List Recorded → List Placed
+placed_by version place [] = []
+placed_by version place (entry ∷ entries) =
+    record { at = place; entry = entry } ∷ placed_by version
+    (place + length (text_in version entry.caller entry.event entry.answer)) entries
+
 abbrev pub placed_from : ℕ → List Recorded → List Placed
-placed_from place [] = []
-placed_from place (entry ∷ entries) =
-    record { at = place; entry = entry } ∷ placed_from
-    (place + length (entry_text entry.caller entry.event entry.answer)) entries
+placed_from place entries = placed_by Second place entries
 
 -- the entries without their places
 abbrev pub unplaced : List Placed → List Recorded
 unplaced placed = map (λ p. p.entry) placed
 
 -- limits in their ranges, and entries that a recording can hold within the last of them
-pub record IsRecord (limits : Limits) (entries : List Recorded) : Type 0 where
-  pub lawful : AreInRange limits
-  pub all : AllByRecursion (λ entry. IsRecordable entry.caller entry.event entry.answer) entries
-  pub fits : length (record_text limits entries) ≤ limits.recording
+pub record IsRecordIn (version : Version) (limits : Limits) (entries : List Recorded) : Type 0 where
+  pub lawful : AreInRangeIn version limits
+  pub all : AllByRecursion
+      (λ entry. IsRecordableIn version entry.caller entry.event entry.answer) entries
+  pub fits : length (record_text_in version limits entries) ≤ limits.recording
+
+abbrev pub IsRecord : Limits → List Recorded → Type 0
+IsRecord limits entries = IsRecordIn Second limits entries
 
 -- a recording that is read
 pub record ReadRecord : Type 0 where
@@ -338,36 +359,44 @@ pub record ReadRecord : Type 0 where
   pub entries : List Placed
 
 -- what bytes with these limits are read as
-abbrev pub read_of : Limits → List ℕ → ReadRecord
-read_of limits bytes = record { caps = limits; entries = placed_in (entries_after limits bytes) }
+abbrev pub read_of : Version → Limits → List ℕ → ReadRecord
+read_of version limits bytes =
+    record { caps = limits; entries = placed_in (entries_after version limits bytes) }
 
 -- the bytes are read, with these limits
-pub record AreRead (limits : Limits) (bytes : List ℕ) : Type 0 where
-  pub header : header_read bytes ≡ Some limits
-  pub entries : IsTrue (is_ok (entries_after limits bytes))
-  pub long : header_size ≤ length bytes
+pub record AreRead (version : Version) (limits : Limits) (bytes : List ℕ) : Type 0 where
+  pub header : header_read version bytes ≡ Some limits
+  pub entries : IsTrue (is_ok (entries_after version limits bytes))
+  pub long : header_size_of version ≤ length bytes
   pub small : length bytes ≤ max_recording
 
 -- the bytes don't begin with the header of lawful limits
-pub record HasNoHeader (bytes : List ℕ) (at : ℕ) : Type 0 where
+pub record HasNoHeaderIn (version : Version) (bytes : List ℕ) (at : ℕ) : Type 0 where
   pub first : at ≡ 0
-  pub none : (limits : Limits) (rest : List ℕ) → AreInRange limits
-      → bytes ≡ header_text limits ++ rest → ⊥
+  pub none : (limits : Limits) (rest : List ℕ) → AreInRangeIn version limits
+      → bytes ≡ header_text_in version limits ++ rest → ⊥
+
+abbrev pub HasNoHeader : List ℕ → ℕ → Type 0
+HasNoHeader bytes at = HasNoHeaderIn Second bytes at
 
 -- the bytes are a recording up to a place, and are followed there by some bytes that don't begin
 -- with an entry within the limit
-pub record HasNoEntry (bytes : List ℕ) (at : ℕ) : Type 0 where
+pub record HasNoEntryIn (version : Version) (bytes : List ℕ) (at : ℕ) : Type 0 where
   pub limits : Limits
   pub entries : List Recorded
   pub rest : List ℕ
-  pub lawful : IsRecord limits entries
-  pub text : bytes ≡ record_text limits entries ++ rest
-  pub place : at ≡ length (record_text limits entries)
+  pub lawful : IsRecordIn version limits entries
+  pub text : bytes ≡ record_text_in version limits entries ++ rest
+  pub place : at ≡ length (record_text_in version limits entries)
   pub some : 0 < length rest
-  pub none : (entry : Recorded) (more : List ℕ) → IsRecordable entry.caller entry.event entry.answer
-      → at + length (entry_text entry.caller entry.event entry.answer) ≤ limits.recording
-      → rest ≡ entry_text entry.caller entry.event entry.answer ++ more → ⊥
+  pub none : (entry : Recorded) (more : List ℕ)
+      → IsRecordableIn version entry.caller entry.event entry.answer
+      → at + length (text_in version entry.caller entry.event entry.answer) ≤ limits.recording
+      → rest ≡ text_in version entry.caller entry.event entry.answer ++ more → ⊥
 
 -- the place of the header or of the first entry that doesn't read
+abbrev pub IsMalformedIn : Version → List ℕ → ℕ → Type 0
+IsMalformedIn version bytes at = HasNoHeaderIn version bytes at ⊎ HasNoEntryIn version bytes at
+
 abbrev pub IsMalformedAt : List ℕ → ℕ → Type 0
-IsMalformedAt bytes at = HasNoHeader bytes at ⊎ HasNoEntry bytes at
+IsMalformedAt bytes at = IsMalformedIn Second bytes at

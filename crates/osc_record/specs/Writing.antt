@@ -10,6 +10,7 @@ use Rattle.osc_model.specs.Events.{Hit, release, released}
 use Rattle.osc_model.specs.Limits.{Limits, header_size, max_recording, release_head_size}
 use Rattle.osc_model.specs.Events.{Entry as Recorded}
 use Rattle.osc_model.specs.Recordings.{IsHit, hits_text, hits_in, record_text}
+use Rattle.osc_record.specs.declared.version.Version.TheVariants.{Second}
 use Rattle.osc_record.specs.Reading.{Placed, entries_after}
 
 -- a release that is begun: who releases which unit, the hits that it has, and how many it is owed
@@ -93,7 +94,7 @@ entries_of (Err at) = []
 
 -- the whole entries among bytes that begin with a header
 abbrev pub entries_in : Limits → List ℕ → List Recorded
-entries_in limits bytes = entries_of (entries_after limits bytes)
+entries_in limits bytes = entries_of (entries_after Second limits bytes)
 
 -- the release that is begun in bytes
 abbrev pub begun_in : ℕ → ℕ → ℕ → List ℕ → Option Begun
@@ -116,7 +117,7 @@ recording_of limits bytes start caller unit owed = record {
 -- bytes that are a header and whole entries
 pub record AreWhole (limits : Limits) (bytes : List ℕ) : Type 0 where
   pub header : header_size ≤ length bytes
-  pub read : IsTrue (is_ok (entries_after limits bytes))
+  pub read : IsTrue (is_ok (entries_after Second limits bytes))
   pub spelled : bytes ≡ record_text limits (entries_in limits bytes)
 
 -- the kept bytes: whole entries, and from a place on a release that is owed hits; there is room for

@@ -2,8 +2,9 @@
 ghost use Rattle.std.specs.Prelude.{◌≡◌, ℤ, ℕ, option_map, Some};
 ghost use Rattle.osc_message.specs.Left.{left};
 ghost use Rattle.osc_record.specs.Reading.{natural_of, int_first, signed_first, long_first};
-ghost use Rattle.osc_record.specs.Reading.{time_first, text_first, content_first, at_end};
+ghost use Rattle.osc_record.specs.Reading.{time_first, text_first, content_first, later_first};
 
+use crate::version::Version;
 use osc_message::{Arg, Args};
 
 /// The next argument where it is a number in four bytes that isn't negative.
@@ -13,6 +14,16 @@ pub(crate) fn next_int(args: &mut Args<'_>) -> Option<u32>
     match args.next() {
         Some(Arg::Int(number)) => natural(number),
         _ => None,
+    }
+}
+
+/// The next argument where the version has one more number, which is 0 in the first.
+pub(crate) fn next_later(version: Version, args: &mut Args<'_>) -> Option<u32>
+    ensures { option_map (λ n. (n, left args.new)) result ≡ later_first version (left args.old) }
+{
+    match version {
+        Version::First => Some(0),
+        Version::Second => next_int(args),
     }
 }
 

@@ -1,23 +1,33 @@
 // Entries, read from the messages that they are.
 ghost use Rattle.osc_model.specs.Limits.{max_recording};
-ghost use Rattle.std.specs.Prelude.{◌≡◌, ◌≤◌, ◌%◌, length, option_map, IfSome};
+ghost use Rattle.std.specs.Prelude.{◌≡◌, ◌==◌, ◌≤◌, ◌%◌, length, option_map, is_some, is_ok};
+ghost use Rattle.std.specs.Prelude.{IsTrue, IfSome};
+ghost use Rattle.std.specs.List.{starts_with};
+ghost use Rattle.osc_message.specs.ArgumentReading.{arguments_of};
+ghost use Rattle.osc_message.specs.Reading.{arguments_read};
 ghost use Rattle.osc_message.specs.Left.{left};
 ghost use Rattle.osc_record.specs.Reading.{enrol_read, submit_read, add_read, remove_read};
 ghost use Rattle.osc_record.specs.Reading.{tick_read, release_read, entry_of};
+ghost use Rattle.osc_record.specs.Versions.{submit_front_in, submit_tags_in};
 ghost use Rattle.osc_record.specs.Shown.{parts_of, HasWholeHits};
 
 use crate::answers::{
     add_answer, enrol_answer, release_answer, remove_answer, submit_answer, tick_answer,
 };
-use crate::arguments::{next_blob, next_int, next_long, next_signed, next_text, next_time};
+use crate::arguments::{
+    next_blob, next_int, next_later, next_long, next_signed, next_text, next_time,
+};
 use crate::event::Event;
 use crate::parts::Parts;
+use crate::version::Version;
 use osc_message::Args;
 
 /// What the message of each event begins with: its address, and the tags of its arguments.
 const ENROL: [u8; 16] = *b"/osc/enrol\0\0,ii\0";
 
 const SUBMIT: [u8; 20] = *b"/osc/submit\0,ibihii\0";
+
+const OLD_SUBMIT: [u8; 20] = *b"/osc/submit\0,ibihi\0\0";
 
 const ADD: [u8; 20] = *b"/osc/add\0\0\0\0,isiii\0\0";
 
@@ -28,16 +38,16 @@ const TICK: [u8; 20] = *b"/osc/tick\0\0\0,itit\0\0\0";
 const RELEASE: [u8; 24] = *b"/osc/release\0\0\0\0,ihb\0\0\0\0";
 
 /// The entry that the message is.
-pub(crate) fn read_message(bytes: &[u8]) -> Option<Parts<'_>>
+pub(crate) fn read_message(version: Version, bytes: &[u8]) -> Option<Parts<'_>>
     requires fours { length bytes.now % 4 ≡ 0 }
     requires small { length bytes.now ≤ max_recording }
-    ensures value { option_map parts_of result ≡ entry_of bytes.now }
+    ensures value { option_map parts_of result ≡ entry_of version bytes.now }
     ensures whole { IfSome result (λ parts. HasWholeHits parts.answer) }
 {
     if bytes.starts_with(&ENROL) {
         read_enrol(Args::read(b"ii", bytes, 16)?)
-    } else if bytes.starts_with(&SUBMIT) {
-        read_submit(Args::read(b"ibihii", bytes, 20)?)
+    } else if begins_submit(version, bytes) {
+        read_submit(version, submit_args(version, bytes)?)
     } else if bytes.starts_with(&ADD) {
         read_add(Args::read(b"isiii", bytes, 20)?)
     } else if bytes.starts_with(&REMOVE) {
@@ -48,6 +58,33 @@ pub(crate) fn read_message(bytes: &[u8]) -> Option<Parts<'_>>
         read_release(Args::read(b"ihb", bytes, 24)?)
     } else {
         None
+    }
+}
+
+/// Whether the message begins as one of a submit.
+fn begins_submit(version: Version, bytes: &[u8]) -> bool
+    ensures value { result ≡ starts_with ◌==◌ bytes.now (submit_front_in version) }
+    ensures inside { IsTrue result → 20 ≤ length bytes.now }
+{
+    match version {
+        Version::First => bytes.starts_with(&OLD_SUBMIT),
+        Version::Second => bytes.starts_with(&SUBMIT),
+    }
+}
+
+/// The arguments of a submit's message.
+fn submit_args<'a>(version: Version, bytes: &'a [u8]) -> Option<Args<'a>>
+    requires fours { length bytes.now % 4 ≡ 0 }
+    requires inside { 20 ≤ length bytes.now }
+    requires small { length bytes.now ≤ max_recording }
+    ensures exact { is_some result
+        ≡ is_ok (arguments_read bytes.now (submit_tags_in version) 20) }
+    ensures read { IfSome result
+        (λ args. left args ≡ arguments_of (submit_tags_in version) bytes.now 20) }
+{
+    match version {
+        Version::First => Args::read(b"ibihi", bytes, 20),
+        Version::Second => Args::read(b"ibihii", bytes, 20),
     }
 }
 
@@ -68,8 +105,8 @@ fn read_enrol<'a>(mut args: Args<'a>) -> Option<Parts<'a>>
     })
 }
 
-fn read_submit<'a>(mut args: Args<'a>) -> Option<Parts<'a>>
-    ensures value { option_map parts_of result ≡ submit_read (left args.entry) }
+fn read_submit<'a>(version: Version, mut args: Args<'a>) -> Option<Parts<'a>>
+    ensures value { option_map parts_of result ≡ submit_read version (left args.entry) }
     ensures whole { IfSome result (λ parts. HasWholeHits parts.answer) }
 {
     let caller = next_int(&mut args)?;
@@ -77,7 +114,7 @@ fn read_submit<'a>(mut args: Args<'a>) -> Option<Parts<'a>>
     let code = next_int(&mut args)?;
     let first = next_long(&mut args)?;
     let second = next_int(&mut args)?;
-    let third = next_int(&mut args)?;
+    let third = next_later(version, &mut args)?;
     if args.next().is_some() {
         return None;
     }

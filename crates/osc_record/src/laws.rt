@@ -2,17 +2,20 @@
 ghost use Rattle.std.specs.Prelude.{◌≡◌, ℕ, ◌%◌, ◌≤◌, List, [], ◌∷◌, ◌++◌, length, codes, Ok, Some};
 ghost use Rattle.osc_atoms.specs.Atoms.{AreBytes};
 ghost use Rattle.osc_model.specs.declared.late.Late.TheVariants.{Deliver};
-ghost use Rattle.osc_model.specs.Events.{Event, Answer, tick, ticked};
+ghost use Rattle.osc_model.specs.Events.{Event, Answer, submit, queued, tick, ticked};
 ghost use Rattle.osc_model.specs.Limits.{AreInRange, Limits, header_size, max_recording};
 ghost use Rattle.osc_model.specs.Events.{Entry as Recorded};
 ghost use Rattle.osc_model.specs.Recordings.{IsRecordable, FitsRow, row_of, entry_size, entry_text};
 ghost use Rattle.osc_model.specs.Recordings.{hits_text, hits_in, header_text, record_text};
+ghost use Rattle.osc_record.specs.declared.version.Version.TheVariants.{First, Second};
+ghost use Rattle.osc_record.specs.Versions.{header_text_in, text_in};
 ghost use Rattle.osc_record.specs.Reading.{entry_in, record_read, placed_from, IsRecord};
 
 /// A recording that is written is read again: its limits, and its entries, each at its place.
 pub fn written_is_read_again()
     ensures { (limits : Limits) (entries : List Recorded) → IsRecord limits entries
-        → record_read (record_text limits entries) ≡ Ok (limits, placed_from header_size entries) }
+        → record_read Second (record_text limits entries)
+        ≡ Ok (limits, placed_from header_size entries) }
 {}
 
 /// No two recordings have one text: the bytes determine the limits and the entries.
@@ -86,4 +89,25 @@ pub fn examples()
         ≡ 0 ∷ 0 ∷ 0 ∷ 0x2c ∷ codes "/osc/tick" ++ 0 ∷ 0 ∷ 0 ∷ codes ",itit"
         ++ 0 ∷ 0 ∷ 0 ∷ 0 ∷ 0 ∷ 0 ∷ 0 ∷ 0 ∷ 0 ∷ 0 ∷ 0 ∷ 0 ∷ 0 ∷ 0 ∷ 5 ∷ 0 ∷ 0 ∷ 0 ∷ 0 ∷ 0 ∷ 0 ∷ 0 ∷ 0
         ∷ 0 ∷ 0 ∷ 0 ∷ 5 ∷ [] }
+{}
+
+/// A header and a submit of the first version, byte by byte.
+pub fn old_examples()
+    ensures header { header_text_in First
+        (record {
+          units = 4096;
+          blocks = 16384;
+          methods = 1024;
+          nodes = 4096;
+          callers = 1;
+          recording = 67108864;
+          late = Deliver;
+        })
+        ≡ 0 ∷ 0 ∷ 0 ∷ 0x34 ∷ codes "/osc/rec" ++ 0 ∷ 0 ∷ 0 ∷ 0 ∷ codes ",iiiiiii"
+        ++ 0 ∷ 0 ∷ 0 ∷ 0 ∷ 0 ∷ 0 ∷ 0 ∷ 1 ∷ 0 ∷ 0 ∷ 0x10 ∷ 0 ∷ 0 ∷ 0 ∷ 0x40 ∷ 0 ∷ 0 ∷ 0 ∷ 4 ∷ 0 ∷ 0
+        ∷ 0 ∷ 0x10 ∷ 0 ∷ 0 ∷ 0 ∷ 0 ∷ 1 ∷ 4 ∷ 0 ∷ 0 ∷ 0 ∷ [] }
+    ensures entry { text_in First 0 (submit (codes "/a" ++ 0 ∷ 0 ∷ [])) (queued 0 1 0)
+        ≡ 0 ∷ 0 ∷ 0 ∷ 0x30 ∷ codes "/osc/submit" ++ 0 ∷ codes ",ibihi"
+        ++ 0 ∷ 0 ∷ 0 ∷ 0 ∷ 0 ∷ 0 ∷ 0 ∷ 0 ∷ 0 ∷ 4 ∷ codes "/a" ++ 0 ∷ 0 ∷ 0 ∷ 0 ∷ 0 ∷ 0 ∷ 0 ∷ 0
+        ∷ 0 ∷ 0 ∷ 0 ∷ 0 ∷ 0 ∷ 0 ∷ 0 ∷ 0 ∷ 0 ∷ 1 ∷ [] }
 {}

@@ -8,9 +8,11 @@ mod entries;
 mod entries_left;
 mod entry_reading;
 mod event;
+mod header;
 pub mod laws;
 mod limits;
 mod message;
+mod old;
 mod parts;
 mod policy;
 mod reader;
@@ -21,15 +23,18 @@ mod sized_entry;
 mod sized_reading;
 mod sizes;
 mod unread;
+mod version;
 
 pub use caps::{CapFault, Caps};
 pub use entries_left::Entries;
 pub use event::{Answer, Entry, Event};
 pub use limits::{HEADER_SIZE, MAX_CALLERS, MAX_METHODS, MAX_RECORDING, MAX_RESERVED};
+pub use old::Old;
 pub use osc_model::Late;
 pub use reader::{Malformed, Reader};
 pub use recorder::Recorder;
-pub use sized_entry::entry_bytes;
+pub use rows::append_header;
+pub use sized_entry::{append_recorded, entry_bytes};
 pub use sizes::{
     ENROL_SIZE, RELEASE_HEAD, TICK_SIZE, add_size, release_size, remove_size, submit_size,
 };

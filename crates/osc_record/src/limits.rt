@@ -3,6 +3,9 @@
 /// How many bytes the header of a recording has.
 pub const HEADER_SIZE: u32 = 60;
 
+/// How many bytes it has in the first version of the format.
+pub(crate) const OLD_HEADER_SIZE: u32 = 56;
+
 /// The most queued units, blocks or nodes.
 pub const MAX_RESERVED: u32 = 1_048_576;
 

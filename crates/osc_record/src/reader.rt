@@ -3,7 +3,9 @@ ghost use Rattle.std.specs.Prelude.{◌≡◌, ◌≤◌, length, Some, None};
 
 use crate::caps::Caps;
 use crate::entries_left::Entries;
-use crate::sized_reading::{check_entries, read_header};
+use crate::header::read_header;
+use crate::sized_reading::check_entries;
+use crate::version::Version;
 use std::marker::Model;
 use thiserror::Error;
 
@@ -24,13 +26,14 @@ pub struct Reader<'a> {
 }
 
 impl<'a> Model for Reader<'a> {
+    ghost use Rattle.osc_record.specs.declared.version.Version.TheVariants.{Second};
     ghost use Rattle.osc_record.specs.Reading.{ReadRecord, read_of, AreRead};
 
     ghost Value = { ReadRecord };
 
-    ghost view = { λ r. read_of r.caps r.bytes.now };
+    ghost view = { λ r. read_of Second r.caps r.bytes.now };
 
-    ghost invariant = { λ r. AreRead r.caps r.bytes.now };
+    ghost invariant = { λ r. AreRead Second r.caps r.bytes.now };
 }
 
 impl<'a> Reader<'a> {
@@ -40,6 +43,7 @@ impl<'a> Reader<'a> {
     ghost use Rattle.osc_model.specs.Recordings.{record_text};
     ghost use Rattle.osc_record.specs.Reading.{record_read, placed_from, unplaced, IsRecord};
     ghost use Rattle.osc_record.specs.Reading.{IsMalformedAt};
+    ghost use Rattle.osc_record.specs.declared.version.Version.TheVariants.{Second};
     ghost use Rattle.osc_record.specs.Left.{entries_left};
 
     /// Accepts exactly a recording, and borrows it. Else tells the first malformed place. Packets and addresses may be
@@ -47,9 +51,9 @@ impl<'a> Reader<'a> {
     pub fn check(bytes: &'a [u8]) -> Result<Reader<'a>, Malformed>
         requires { length bytes.now ≤ max_recording }
         ensures ok { IfOk result
-            (λ reader. record_read bytes.now ≡ Ok (reader.caps, reader.entries)) }
+            (λ reader. record_read Second bytes.now ≡ Ok (reader.caps, reader.entries)) }
         ensures first { IfErr result (λ malformed. IsMalformedAt bytes.now malformed.at) }
-        ensures err { IfErr result (λ malformed. record_read bytes.now ≡ Err malformed.at) }
+        ensures err { IfErr result (λ malformed. record_read Second bytes.now ≡ Err malformed.at) }
         ensures written { IfOk result
             (λ reader. IsRecord reader.caps (unplaced reader.entries)
             × (bytes.now ≡ record_text reader.caps (unplaced reader.entries))) }
@@ -62,7 +66,7 @@ impl<'a> Reader<'a> {
         let Some(caps) = read_header(bytes) else {
             return Err(Malformed { at: 0 });
         };
-        match check_entries(bytes, caps.recording()) {
+        match check_entries(Version::Second, bytes, caps.recording()) {
             Ok(()) => Ok(Reader { caps, bytes }),
             Err(at) => Err(Malformed { at }),
         }
@@ -79,6 +83,6 @@ impl<'a> Reader<'a> {
     pub fn entries(&self) -> Entries<'a>
         ensures { entries_left result ≡ self.now.entries }
     {
-        Entries::new(self.bytes, self.caps.recording())
+        Entries::new(Version::Second, self.bytes, self.caps.recording())
     }
 }

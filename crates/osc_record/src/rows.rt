@@ -11,8 +11,8 @@ use crate::message::append_message;
 use crate::policy::late_code;
 use osc_message::Arg;
 
-/// Appends the header.
-pub(crate) fn append_header(out: &mut Vec<u8>, caps: Caps)
+/// Appends the header to bytes that have room for it.
+pub fn append_header(out: &mut Vec<u8>, caps: Caps)
     requires room { vec_len out.old + length (header_text caps) ≤ vec_capacity out.old }
     ensures out { out.new.items ≡ out.old.items ++ header_text caps }
     ensures capacity { vec_capacity out.old ≤ vec_capacity out.new }

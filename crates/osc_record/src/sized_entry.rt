@@ -33,11 +33,26 @@ pub fn entry_bytes(
         (λ bytes. bytes ≡ entry_text caller (event_of event.entry) (answer_of answer.entry)) }
 {
     let mut out = Vec::with_capacity(alloc, entry_size(event, answer) as usize)?;
-    match event {
-        Event::Release => release_entry(&mut out, caller, answer),
-        _ => append_entry(&mut out, caller, event, answer),
-    }
+    append_recorded(&mut out, caller, event, answer);
     Ok(Bytes::of(out))
+}
+
+/// Appends an entry of any event to bytes that have room for it.
+pub fn append_recorded(out: &mut Vec<u8>, caller: u32, event: Event<'_>, answer: Answer<'_>)
+    requires lawful { IsRecordable caller (event_of event) (answer_of answer) }
+    requires whole { HasWholeHits answer }
+    requires small { length (entry_text caller (event_of event) (answer_of answer))
+        ≤ max_recording }
+    requires room { vec_len out.old + length (entry_text caller (event_of event) (answer_of answer))
+        ≤ vec_capacity out.old }
+    ensures out { out.new.items ≡ out.old.items
+        ++ entry_text caller (event_of event.entry) (answer_of answer.entry) }
+    ensures capacity { vec_capacity out.old ≤ vec_capacity out.new }
+{
+    match event {
+        Event::Release => release_entry(out, caller, answer),
+        _ => append_entry(out, caller, event, answer),
+    }
 }
 
 /// How many bytes an entry has.
@@ -71,7 +86,9 @@ fn release_entry(out: &mut Vec<u8>, caller: u32, answer: Answer<'_>)
     requires small { length (entry_text caller release (answer_of answer)) ≤ max_recording }
     requires room { vec_len out.old + length (entry_text caller release (answer_of answer))
         ≤ vec_capacity out.old }
-    ensures { out.new.items ≡ out.old.items ++ entry_text caller release (answer_of answer.entry) }
+    ensures out { out.new.items ≡ out.old.items
+        ++ entry_text caller release (answer_of answer.entry) }
+    ensures capacity { vec_capacity out.old ≤ vec_capacity out.new }
 {
     match answer {
         Answer::Released { unit, hits } => append_released(out, caller, unit, hits),
@@ -87,8 +104,9 @@ fn append_released(out: &mut Vec<u8>, caller: u32, unit: u64, hits: &[u8])
         ≤ max_recording }
     requires room { vec_len out.old + length
         (entry_text caller release (released unit (hits_in hits.now))) ≤ vec_capacity out.old }
-    ensures { out.new.items ≡ out.old.items
+    ensures out { out.new.items ≡ out.old.items
         ++ entry_text caller release (released unit (hits_in hits.now)) }
+    ensures capacity { vec_capacity out.old ≤ vec_capacity out.new }
 {
     append_release(out, caller, unit, hits);
 }
@@ -98,7 +116,9 @@ fn append_release(out: &mut Vec<u8>, caller: u32, unit: u64, hits: &[u8])
     requires small { length (row_text (release_row caller unit hits.now)) ≤ max_recording }
     requires room { vec_len out.old + length (sized (row_text (release_row caller unit hits.now)))
         ≤ vec_capacity out.old }
-    ensures { out.new.items ≡ out.old.items ++ sized (row_text (release_row caller unit hits.now)) }
+    ensures out { out.new.items ≡ out.old.items
+        ++ sized (row_text (release_row caller unit hits.now)) }
+    ensures capacity { vec_capacity out.old ≤ vec_capacity out.new }
 {
     append_message(
         out,

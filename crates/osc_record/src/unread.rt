@@ -3,9 +3,11 @@ ghost use Rattle.std.specs.Prelude.{◌≡◌, ◌≤◌, length};
 
 use crate::caps::Caps;
 use crate::event::Entry;
+use crate::header::read_header;
 use crate::limits::HEADER_SIZE;
 use crate::reader::Malformed;
-use crate::sized_reading::{first_entry, read_header};
+use crate::sized_reading::first_entry;
+use crate::version::Version;
 use std::marker::Model;
 
 /// The entries of a recording that aren't read yet. No entry is looked at before it is asked for, so that a malformed
@@ -70,7 +72,8 @@ impl<'a> Unread<'a> {
             return Ok(None);
         }
         let at = self.at;
-        let Some((parts, size)) = first_entry(self.caps.recording(), at, self.rest) else {
+        let Some((parts, size)) = first_entry(Version::Second, self.caps.recording(), at, self.rest)
+        else {
             return Err(Malformed { at });
         };
         let (_, rest) = self.rest.split_at(size as usize);

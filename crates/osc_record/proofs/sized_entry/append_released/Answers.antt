@@ -24,7 +24,7 @@ append_release-requires-clause-room c =
     moved (λ h. vec_len c.args.out.now + length (sized (row_text (release_row c.args.caller c.args.unit h))) ≤ vec_capacity c.args.out.now) c.args.hits.now
     (λ i. omega (arith, c.type_inv.hits i)) c.requires.whole c.requires.room
 
-pub returns : goal.returns
-returns c = c.append_release.ensures
+pub returns-clause-out : goal.returns-clause-out
+returns-clause-out c = c.append_release.ensures.out
     ∙ sym (ap (λ h. c.args.out.now.items ++ sized (row_text (release_row c.args.caller c.args.unit h)))
     (hits_back c.args.hits.now (λ i. omega (arith, c.type_inv.hits i)) c.requires.whole).0)

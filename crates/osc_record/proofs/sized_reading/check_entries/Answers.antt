@@ -8,11 +8,12 @@ pub loop-at-preserved : goal.loop-at-preserved
 loop-at-preserved c =
     let at = c.loop-at.at in
     let bytes = c.args.bytes.now in
-    let found : entry_first c.args.limit at (drop at bytes) ≡ Some (parts_of c.in-Some.field-0-0, c.in-Some.size) =
-    ap (entry_first c.args.limit at) (sym (slice_rest at bytes)) ∙ sym c.in-Some.ensures.value in
+    let found : entry_first c.args.version c.args.limit at (drop at bytes) ≡ Some (parts_of c.in-Some.field-0-0, c.in-Some.size) =
+    ap (entry_first c.args.version c.args.limit at) (sym (slice_rest at bytes)) ∙ sym c.in-Some.ensures.value in
     record {
       inside = omega (arith, c.in-Some.ensures.within, length-drop at bytes);
-      same = sym (passed c.args.limit at bytes (parts_of c.in-Some.field-0-0, c.in-Some.size) c.loop-at-test.true found) ∙ c.loop-at.invariant.same;
+      same = sym (passed c.args.version c.args.limit at bytes (parts_of c.in-Some.field-0-0, c.in-Some.size) c.loop-at-test.true found)
+          ∙ c.loop-at.invariant.same;
     }
 
 pub returns-in-None : goal.returns-in-None
@@ -20,5 +21,5 @@ returns-in-None c =
     let at = c.loop-at.at in
     let bytes = c.args.bytes.now in
     sym (ap outcome
-    (at_none c.args.limit at (drop at bytes) (omega (arith, length-drop at bytes))
-    (ap (entry_first c.args.limit at) (sym (slice_rest at bytes)) ∙ sym c.in-None.ensures.value))) ∙ c.loop-at.invariant.same
+    (at_none c.args.version c.args.limit at (drop at bytes) (omega (arith, length-drop at bytes))
+    (ap (entry_first c.args.version c.args.limit at) (sym (slice_rest at bytes)) ∙ sym c.in-None.ensures.value))) ∙ c.loop-at.invariant.same

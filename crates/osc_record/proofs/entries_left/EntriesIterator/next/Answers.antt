@@ -9,12 +9,12 @@ invariant_of-self c =
     let s = c.args.self.now in
     let inside = s.inside in
     let some : s.at < length s.bytes.now = omega (arith, c.if-self.false) in
-    let found : entry_first s.limit s.at (drop s.at s.bytes.now) ≡ Some (parts_of c.in-Some.parts, c.in-Some.size) =
-    ap (entry_first s.limit s.at) (sym (slice_rest s.at s.bytes.now)) ∙ sym c.in-Some.ensures.value in
+    let found : entry_first s.version s.limit s.at (drop s.at s.bytes.now) ≡ Some (parts_of c.in-Some.parts, c.in-Some.size) =
+    ap (entry_first s.version s.limit s.at) (sym (slice_rest s.at s.bytes.now)) ∙ sym c.in-Some.ensures.value in
     record {
       small = s.small;
       inside = omega (arith, c.in-Some.ensures.within, length-drop s.at s.bytes.now);
-      readable = rest_read s.limit s.at s.bytes.now (parts_of c.in-Some.parts, c.in-Some.size) some found s.readable;
+      readable = rest_read s.version s.limit s.at s.bytes.now (parts_of c.in-Some.parts, c.in-Some.size) some found s.readable;
     }
 
 pub returns-clause-steps : goal.returns-clause-steps
@@ -22,18 +22,18 @@ returns-clause-steps c =
     let s = c.args.self.now in
     let inside = s.inside in
     let some : s.at < length s.bytes.now = omega (arith, c.if-self.false) in
-    let found : entry_first s.limit s.at (drop s.at s.bytes.now) ≡ Some (parts_of c.in-Some.parts, c.in-Some.size) =
-    ap (entry_first s.limit s.at) (sym (slice_rest s.at s.bytes.now)) ∙ sym c.in-Some.ensures.value in
-    left_first s.limit s.at s.bytes.now (parts_of c.in-Some.parts, c.in-Some.size) some found s.readable
+    let found : entry_first s.version s.limit s.at (drop s.at s.bytes.now) ≡ Some (parts_of c.in-Some.parts, c.in-Some.size) =
+    ap (entry_first s.version s.limit s.at) (sym (slice_rest s.at s.bytes.now)) ∙ sym c.in-Some.ensures.value in
+    left_first s.version s.limit s.at s.bytes.now (parts_of c.in-Some.parts, c.in-Some.size) some found s.readable
 
 pub returns-clause-goes : goal.returns-clause-goes
 returns-clause-goes c =
     let s = c.args.self.now in
     let inside = s.inside in
     let some : s.at < length s.bytes.now = omega (arith, c.if-self.false) in
-    let found : entry_first s.limit s.at (drop s.at s.bytes.now) ≡ Some (parts_of c.in-Some.parts, c.in-Some.size) =
-    ap (entry_first s.limit s.at) (sym (slice_rest s.at s.bytes.now)) ∙ sym c.in-Some.ensures.value in
-    let size : length (placed_in (entries_at s.limit s.at (drop s.at s.bytes.now)))
-    ≡ suc (length (placed_in (entries_at s.limit (s.at + c.in-Some.size) (drop (s.at + c.in-Some.size) s.bytes.now)))) =
-    ap length (left_first s.limit s.at s.bytes.now (parts_of c.in-Some.parts, c.in-Some.size) some found s.readable) in
+    let found : entry_first s.version s.limit s.at (drop s.at s.bytes.now) ≡ Some (parts_of c.in-Some.parts, c.in-Some.size) =
+    ap (entry_first s.version s.limit s.at) (sym (slice_rest s.at s.bytes.now)) ∙ sym c.in-Some.ensures.value in
+    let size : length (placed_in (entries_at s.version s.limit s.at (drop s.at s.bytes.now)))
+    ≡ suc (length (placed_in (entries_at s.version s.limit (s.at + c.in-Some.size) (drop (s.at + c.in-Some.size) s.bytes.now)))) =
+    ap length (left_first s.version s.limit s.at s.bytes.now (parts_of c.in-Some.parts, c.in-Some.size) some found s.readable) in
     record { on = λ f. (tt, tt, omega arith); keeps = tt; rests = λ f. tt }

@@ -1,5 +1,6 @@
 use Rattle.std.proofs.Common.{◌≡◌, ℕ, Ok, Err, inl, inr, ◌∙◌, sym, ap, drop, arith}
 use Rattle.osc_model.specs.Limits.{header_size}
+use Rattle.osc_record.specs.declared.version.Version.TheVariants.{Second}
 use Rattle.osc_record.specs.Reading.{entries_at, entries_after, outcome, placed_in, record_read}
 use Rattle.osc_record.proofs.Checked.{read_after, err_after, record_ok, record_err, complete_ok, complete_err, complete_header}
 use Rattle.osc_record.proofs.Spelled.{header_long}
@@ -8,51 +9,51 @@ use Rattle.osc_record.proofs.Stops.{no_header, no_entry}
 use Rattle.osc_record.proofs.reader.Reader.check.Goals as goal
 
 pub returns-in_default-clause-complete : goal.returns-in_default-clause-complete
-returns-in_default-clause-complete c = λ limits entries is same. complete_header c.args.bytes.now (sym c.in_default.ensures) limits entries is same
+returns-in_default-clause-complete c = λ limits entries is same. complete_header Second c.args.bytes.now (sym c.in_default.ensures) limits entries is same
 
 pub check_entries-requires-clause-long : goal.check_entries-requires-clause-long
-check_entries-requires-clause-long c = header_long c.args.bytes.now c.in-Some.caps (λ i. omega (arith, c.type_inv.bytes i)) (sym c.in-Some.ensures)
+check_entries-requires-clause-long c = header_long Second c.args.bytes.now c.in-Some.caps (λ i. omega (arith, c.type_inv.bytes i)) (sym c.in-Some.ensures)
 
-walked : (c : goal.In-Ok) → Ok tt ≡ outcome (entries_at c.in-Some.caps.recording header_size (drop header_size c.args.bytes.now))
-walked c = c.in-Ok.ensures ∙ ap (λ (n : ℕ). outcome (entries_at n header_size (drop header_size c.args.bytes.now))) c.recording.ensures.value
+walked : (c : goal.In-Ok) → Ok tt ≡ outcome (entries_at Second c.in-Some.caps.recording header_size (drop header_size c.args.bytes.now))
+walked c = c.in-Ok.ensures ∙ ap (λ (n : ℕ). outcome (entries_at Second n header_size (drop header_size c.args.bytes.now))) c.recording.ensures.value
 
 pub invariant_of-result : goal.invariant_of-result
 invariant_of-result c = record {
   header = sym c.in-Some.ensures;
-  entries = read_after c.in-Some.caps c.args.bytes.now (walked c);
-  long = header_long c.args.bytes.now c.in-Some.caps (λ i. omega (arith, c.type_inv.bytes i)) (sym c.in-Some.ensures);
+  entries = read_after Second c.in-Some.caps c.args.bytes.now (walked c);
+  long = header_long Second c.args.bytes.now c.in-Some.caps (λ i. omega (arith, c.type_inv.bytes i)) (sym c.in-Some.ensures);
   small = c.requires;
 }
 
 pub returns-in-Ok-clause-ok : goal.returns-in-Ok-clause-ok
-returns-in-Ok-clause-ok c = record_ok c.args.bytes.now c.in-Some.caps (sym c.in-Some.ensures) (walked c)
+returns-in-Ok-clause-ok c = record_ok Second c.args.bytes.now c.in-Some.caps (sym c.in-Some.ensures) (walked c)
 
 pub returns-in-Ok-clause-written : goal.returns-in-Ok-clause-written
 returns-in-Ok-clause-written c =
-    let was = record_was c.args.bytes.now c.in-Some.caps (λ i. omega (arith, c.type_inv.bytes i)) (sym c.in-Some.ensures)
-    (read_after c.in-Some.caps c.args.bytes.now (walked c)) in
+    let was = record_was Second c.args.bytes.now c.in-Some.caps (λ i. omega (arith, c.type_inv.bytes i)) (sym c.in-Some.ensures)
+    (read_after Second c.in-Some.caps c.args.bytes.now (walked c)) in
     (was.lawful, was.text)
 
 pub returns-in-Ok-clause-complete : goal.returns-in-Ok-clause-complete
 returns-in-Ok-clause-complete c =
-    complete_ok c.args.bytes.now c.in-Some.caps (placed_in (entries_after c.in-Some.caps c.args.bytes.now))
-    (record_ok c.args.bytes.now c.in-Some.caps (sym c.in-Some.ensures) (walked c))
+    complete_ok Second c.args.bytes.now c.in-Some.caps (placed_in (entries_after Second c.in-Some.caps c.args.bytes.now))
+    (record_ok Second c.args.bytes.now c.in-Some.caps (sym c.in-Some.ensures) (walked c))
 
-failed : (c : goal.In-Err) → record_read c.args.bytes.now ≡ Err c.in-Err.at
-failed c = record_err c.args.bytes.now c.in-Some.caps c.in-Err.at (sym c.in-Some.ensures)
-    (c.in-Err.ensures ∙ ap (λ (n : ℕ). outcome (entries_at n header_size (drop header_size c.args.bytes.now))) c.recording.ensures.value)
+failed : (c : goal.In-Err) → record_read Second c.args.bytes.now ≡ Err c.in-Err.at
+failed c = record_err Second c.args.bytes.now c.in-Some.caps c.in-Err.at (sym c.in-Some.ensures)
+    (c.in-Err.ensures ∙ ap (λ (n : ℕ). outcome (entries_at Second n header_size (drop header_size c.args.bytes.now))) c.recording.ensures.value)
 
 pub returns-in-Err-clause-err : goal.returns-in-Err-clause-err
 returns-in-Err-clause-err c = failed c
 
 pub returns-in-Err-clause-complete : goal.returns-in-Err-clause-complete
-returns-in-Err-clause-complete c = complete_err c.args.bytes.now c.in-Err.at (failed c)
+returns-in-Err-clause-complete c = complete_err Second c.args.bytes.now c.in-Err.at (failed c)
 
 pub returns-in-Err-clause-first : goal.returns-in-Err-clause-first
 returns-in-Err-clause-first c =
-    inr (no_entry c.args.bytes.now c.in-Some.caps c.in-Err.at (λ i. omega (arith, c.type_inv.bytes i)) (sym c.in-Some.ensures)
-    (err_after c.in-Some.caps c.args.bytes.now c.in-Err.at
-    (c.in-Err.ensures ∙ ap (λ (n : ℕ). outcome (entries_at n header_size (drop header_size c.args.bytes.now))) c.recording.ensures.value)))
+    inr (no_entry Second c.args.bytes.now c.in-Some.caps c.in-Err.at (λ i. omega (arith, c.type_inv.bytes i)) (sym c.in-Some.ensures)
+    (err_after Second c.in-Some.caps c.args.bytes.now c.in-Err.at
+    (c.in-Err.ensures ∙ ap (λ (n : ℕ). outcome (entries_at Second n header_size (drop header_size c.args.bytes.now))) c.recording.ensures.value)))
 
 pub returns-in_default-clause-first : goal.returns-in_default-clause-first
-returns-in_default-clause-first c = inl (no_header c.args.bytes.now (sym c.in_default.ensures))
+returns-in_default-clause-first c = inl (no_header Second c.args.bytes.now (sym c.in_default.ensures))
