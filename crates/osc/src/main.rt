@@ -3,7 +3,7 @@
 
 use osc_edge::{StdSink, StdSource, command_words};
 use osc_method::Method;
-use osc_top::{plain_top, traces};
+use osc_plain::{plain_top, traces};
 use std::alloc::AllocError;
 use std::process::ExitCode;
 

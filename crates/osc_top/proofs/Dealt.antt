@@ -6,18 +6,14 @@ use Rattle.std.proofs.lemmas.List.{append-nil, drop-drop, length-map, length-rep
 use Rattle.std.proofs.lemmas.List.Elements.{All-nil, All-cons, All-head, All-tail}
 use Rattle.osc_lanes.specs.declared.part.LanePart.{LanePart}
 use Rattle.osc_lanes.specs.Performs.{Part, part_of, IsWhole}
-use Rattle.osc_lanes.specs.Shares as shares
-use Rattle.osc_script.specs.declared.act.Act.{Act}
-use Rattle.osc_script.specs.declared.act.Act.TheVariants.{Add, Remove, Send, Tick, Pump}
 use Rattle.osc_script.specs.declared.line.Line.{Line}
 use Rattle.osc_script.specs.declared.lane.TheConstants.{MAX_LANES}
 use Rattle.osc_script.specs.declared.mode.Mode.TheVariants.{Lanes}
 use Rattle.osc_script.specs.Scripts.{AreOf}
-use Rattle.osc_top.specs.Plain.{is_add, count_adds}
+use Rattle.osc_script.specs.Adds.{is_add, adds_of, count_adds}
+use Rattle.osc_script.proofs.Counts.{counted}
 use Rattle.osc_top.specs.Lanes.{lane_count, lines_in, boxes_at, boxes_in, parts_from, parts_of}
-use Rattle.osc_top.specs.Tally.{adds_of}
 use Rattle.osc_top.specs.Dealt.{no_part, part_with, dealt_at}
-use Rattle.osc_top.proofs.Runs.{count_cons}
 
 -- one line more, of this lane or of another
 
@@ -145,13 +141,13 @@ module _ {M : Type 0} (lines : List Line) (bank : List M) (parts : List (Part M)
   next_lane = omega (arith, dealing.lanes, ap lane_count is)
 
   pub next_handed : adds_of line.act ≤ length boxes
-  next_handed = omega (arith, dealing.handed, ap count_adds is, count_cons line rest)
+  next_handed = omega (arith, dealing.handed, ap count_adds is)
 
   pub deals_on : (parts' : List (Part M)) (boxes' : List M) → parts' ≡ dealt_at line.lane line (take (adds_of line.act) boxes) parts
       → boxes' ≡ drop (adds_of line.act) boxes → IsDealing lines bank parts' rest boxes'
   deals_on parts' boxes' grown left =
       let taken = take (adds_of line.act) boxes in
-      let more : count_adds now ≡ adds_of line.act + count_adds rest = ap count_adds is ∙ count_cons line rest in
+      let more : count_adds now ≡ adds_of line.act + count_adds rest = ap count_adds is in
       let long : length (dealt_at line.lane line taken parts) ≡ length parts = dealt_length line.lane line taken parts in
       let here : AreDealt 0 parts (line ∷ rest) boxes lines bank = subst (λ (l : List Line). AreDealt 0 parts l boxes lines bank) is dealing.dealt in
       subst (λ (p : List (Part M)). IsDealing lines bank p rest boxes') (sym grown)
@@ -178,17 +174,10 @@ all_others lines rest bank boxes parts dealing none = sym (ap (λ (l : List Line
 
 -- Each lane has a box for each line that adds a method.
 
-pub same_adds : (act : Act) → shares.adds_of act ≡ cond (is_add act) 1 0
-same_adds (Add address) = refl
-same_adds (Remove address) = refl
-same_adds (Send bytes) = refl
-same_adds (Tick moment) = refl
-same_adds Pump = refl
-
-one_more : {M : Type 0} (line : Line) (lane_lines others : List Line) (lane : ℕ) (boxes : List M) (t here : Bool) → shares.adds_of line.act ≡ cond t 1 0
+one_more : {M : Type 0} (line : Line) (lane_lines others : List Line) (lane : ℕ) (boxes : List M) (t here : Bool) → adds_of line.act ≡ cond t 1 0
     → (line.lane == lane) ≡ here → length (cond t (line ∷ others) others) ≤ length boxes
-    → ((rest : List M) → length others ≤ length rest → shares.count_adds lane_lines ≡ length (boxes_at lane others rest))
-    → shares.count_adds (cond here (line ∷ lane_lines) lane_lines) ≡ length (boxes_at lane (cond t (line ∷ others) others) boxes)
+    → ((rest : List M) → length others ≤ length rest → count_adds lane_lines ≡ length (boxes_at lane others rest))
+    → count_adds (cond here (line ∷ lane_lines) lane_lines) ≡ length (boxes_at lane (cond t (line ∷ others) others) boxes)
 one_more line lane_lines others lane boxes false true add is enough more = omega (arith, add, more boxes enough)
 one_more line lane_lines others lane boxes false false add is enough more = more boxes enough
 one_more line lane_lines others lane [] true here add is enough more = absurd (omega arith)
@@ -197,11 +186,11 @@ one_more {M} line lane_lines others lane (box ∷ boxes) true true add is enough
 one_more {M} line lane_lines others lane (box ∷ boxes) true false add is enough more =
     omega (arith, more boxes (omega arith), ap (λ (t : Bool). length (cond {A = List M} t (box ∷ []) [] ++ boxes_at lane others boxes)) is)
 
-boxes_count : {M : Type 0} (lane : ℕ) (lines : List Line) (bank : List M) → count_adds lines ≤ length bank
-    → shares.count_adds (lines_in lane lines) ≡ length (boxes_in lane lines bank)
+boxes_count : {M : Type 0} (lane : ℕ) (lines : List Line) (bank : List M) → length (filter (λ line. is_add line.act) lines) ≤ length bank
+    → count_adds (lines_in lane lines) ≡ length (boxes_in lane lines bank)
 boxes_count lane [] bank enough = refl
 boxes_count lane (line ∷ lines) bank enough =
-    one_more line (lines_in lane lines) (filter (λ other. is_add other.act) lines) lane bank (is_add line.act) (line.lane == lane) (same_adds line.act) refl
+    one_more line (lines_in lane lines) (filter (λ other. is_add other.act) lines) lane bank (is_add line.act) (line.lane == lane) refl refl
     enough (λ rest few. boxes_count lane lines rest few)
 
 pub all_whole : {M : Type 0} (lane count : ℕ) (lines : List Line) (bank : List M) → count_adds lines ≤ length bank
@@ -209,7 +198,7 @@ pub all_whole : {M : Type 0} (lane count : ℕ) (lines : List Line) (bank : List
 all_whole {M} lane zero lines bank enough = All-nil (IsWhole {M = M})
 all_whole {M} lane (suc count) lines bank enough =
     All-cons (IsWhole {M = M}) (record { lines = lines_in lane lines; boxes = boxes_in lane lines bank }) (parts_from (lane + 1) count lines bank)
-    (omega (arith, boxes_count lane lines bank enough)) (all_whole (lane + 1) count lines bank enough)
+    (omega (arith, boxes_count lane lines bank (omega (arith, counted lines, enough)))) (all_whole (lane + 1) count lines bank enough)
 
 -- lanes are few
 pub few_lanes : (lines : List Line) → AreOf Lanes lines → lane_count lines ≤ MAX_LANES

@@ -32,19 +32,22 @@ use Rattle.osc_script.specs.declared.line.Line.{Line}
 use Rattle.osc_words.specs.declared.command.Capacities.{Capacities}
 use Rattle.osc_words.specs.declared.command.LiveCommand.{LiveCommand}
 use Rattle.osc_words.specs.declared.command.LiveCommand.TheVariants as live
-use Rattle.osc_top.specs.declared.outcome.Outcome.{Outcome}
-use Rattle.osc_top.specs.declared.outcome.Outcome.TheVariants.{Done, Full, LinkFailed, ClockFailed}
+use Rattle.osc_ends.specs.declared.outcome.Outcome.{Outcome}
+use Rattle.osc_ends.specs.declared.outcome.Outcome.TheVariants.{Done, Full, LinkFailed, ClockFailed}
 use Rattle.osc_top.specs.Commands.{mode_of}
 use Rattle.osc_top.specs.Edges.{HasLinkRisen, HasRisen, TellsEdge}
 use Rattle.osc_top.specs.EndsCommand.{EndsCommand, plays_of}
 use Rattle.osc_top.specs.Lanes.{PlaysLanes, first_stop, lane_faults}
-use Rattle.osc_top.specs.Live.{IsWritten}
-use Rattle.osc_top.specs.Outcomes.{served, stopped, status_of}
-use Rattle.osc_top.specs.Plain.{live_limits}
-use Rattle.osc_top.specs.Printing.{last_text}
+use Rattle.osc_ends.specs.Ends.{IsWritten}
+use Rattle.osc_top.specs.Served.{served}
+use Rattle.osc_ends.specs.Outcomes.{stopped, status_of}
+use Rattle.osc_top.specs.Commands.{live_limits}
+use Rattle.osc_ends.specs.Printing.{last_text}
 use Rattle.osc_top.specs.Served.{PlaysLinks, adds_part, link_faults}
-use Rattle.osc_top.specs.Sinks.{SinkChange, Gains, GainsAll}
-use Rattle.osc_top.proofs.LiveEnds.{IsOfScript, any_script, ends_short_of_memory, not_failed, written_of}
+use Rattle.osc_ends.specs.Sinks.{SinkChange, Gains, GainsAll}
+use Rattle.osc_ends.specs.Inputs.{OfInput}
+use Rattle.osc_ends.proofs.Inputs.{any_bytes}
+use Rattle.osc_top.proofs.LiveEnds.{ends_short_of_memory, not_failed, written_of}
 
 -- What a count of faults does, by how a link or the ticker ended.
 
@@ -207,10 +210,10 @@ module _ {M L : Type 0} (keep : M → ℕ) (heard : M → Option (List ℕ)) (le
 
   -- want of memory ends any script of any command
   pub live_short : (said : Option LiveCommand) (source : Option (List ℕ)) → status ≡ 3
-      → IfSome said (λ command. status ≢ 4 → IsOfScript source (EndsSo command))
+      → IfSome said (λ command. status ≢ 4 → OfInput source (EndsSo command))
   live_short None source is = tt
   live_short (Some command) source is =
-      λ read. any_script source (EndsSo command)
+      λ read. any_bytes source (EndsSo command)
       (λ script. ends_short_of_memory (mode_of command) (PlaysIn command) script (length bank) rec out status is)
 
   -- no count of faults rose

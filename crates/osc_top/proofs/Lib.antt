@@ -1,16 +1,3 @@
-mod Onward
-mod Rising
-mod Hearing
-mod Tallies
-mod Endings
-mod Places
-mod Adds
-mod Pumps
-mod Runs
-mod Transfers
-mod Tops
-mod Said
-mod Enough
 mod Dealt
 mod Staged
 mod Unstopped

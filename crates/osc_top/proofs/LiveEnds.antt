@@ -1,8 +1,8 @@
 -- How a program ends that plays a script on many threads, from how its parts end.
-use Rattle.std.proofs.Common.{◌≡◌, ◌⊎◌, inl, inr, ⊎_elim, ℕ, ◌+◌, ◌<◌, ◌≤◌, ◌==◌, Bool, true, false, ◌||◌, List, [], length, replicate, Option, Some}
+use Rattle.std.proofs.Common.{◌≡◌, ◌≢◌, ◌⊎◌, inl, inr, ⊎_elim, ℕ, ◌+◌, ◌<◌, ◌≤◌, ◌==◌, Bool, true, false, ◌||◌, List, length, Option, Some}
 use Rattle.std.proofs.Common.{None, IfSome, IsOkAnd, IsErrAnd, Result, Ok, Err, refl, sym, ap, subst, ◌∙◌, arith}
 use Rattle.std.specs.Option.{option_or}
-use Rattle.std.proofs.lemmas.List.{length-replicate}
+use Rattle.osc_edge.specs.Faults.{Rose}
 use Rattle.osc_model.specs.Events.{Room}
 use Rattle.osc_model.specs.Limits.{Limits}
 use Rattle.osc_lanes.specs.declared.served.Bounds.{Bounds}
@@ -12,26 +12,30 @@ use Rattle.osc_script.specs.declared.fault.ScriptFault.{ScriptFault}
 use Rattle.osc_script.specs.declared.line.Line.{Line}
 use Rattle.osc_script.specs.declared.mode.Mode.{Mode}
 use Rattle.osc_script.specs.declared.mode.Mode.TheVariants.{Lanes, Serve}
-use Rattle.osc_script.specs.declared.script.TheConstants.{MAX_SCRIPT}
 use Rattle.osc_script.specs.Scripts.{script_of}
 use Rattle.osc_words.specs.declared.command.Capacities.{Capacities}
 use Rattle.osc_words.specs.declared.command.LiveCommand.{LiveCommand}
 use Rattle.osc_words.specs.declared.command.LiveCommand.TheVariants as live
 use Rattle.osc_words.specs.declared.command.Transport.{Transport}
-use Rattle.osc_top.specs.declared.outcome.Outcome.{Outcome}
-use Rattle.osc_top.specs.declared.outcome.Outcome.TheVariants.{Done, Full, LinkFailed, ClockFailed}
+use Rattle.osc_ends.specs.declared.outcome.Outcome.{Outcome}
+use Rattle.osc_ends.specs.declared.outcome.Outcome.TheVariants.{Done, Full, LinkFailed, ClockFailed}
 use Rattle.osc_top.specs.Commands.{mode_of}
-use Rattle.osc_top.specs.Ends.{EndsLine, IsUnplayed, left_behind}
+use Rattle.osc_ends.specs.Ends.{EndsLine, IsUnplayed}
 use Rattle.osc_top.specs.EndsCommand.{EndsCommand, MayEnd, plays_of}
 use Rattle.osc_top.specs.Enough.{enough_lanes}
 use Rattle.osc_top.specs.Lanes.{PlaysLanes, first_stop}
-use Rattle.osc_top.specs.Live.{EndsLive, IsWritten}
-use Rattle.osc_top.specs.Outcomes.{status_of, stopped}
-use Rattle.osc_top.specs.Plain.{count_adds, live_limits}
-use Rattle.osc_top.specs.Printing.{refusal_text, bank_short_text}
-use Rattle.osc_top.specs.Recorded.{EndsBoth, recorded_text}
+use Rattle.osc_top.specs.Live.{EndsLive}
+use Rattle.osc_ends.specs.Ends.{IsWritten}
+use Rattle.osc_ends.specs.Inputs.{OfInput, RefusesScript}
+use Rattle.osc_ends.specs.Outcomes.{status_of, stopped}
+use Rattle.osc_ends.proofs.Inputs.{any_bytes, if_any, if_so, of_so}
+use Rattle.osc_script.specs.Adds.{count_adds}
+use Rattle.osc_top.specs.Commands.{live_limits}
+use Rattle.osc_ends.specs.Printing.{refusal_text, bank_short_text}
+use Rattle.osc_top.specs.Recorded.{EndsBoth}
+use Rattle.osc_ends.specs.Printing.{recorded_text}
 use Rattle.osc_top.specs.Served.{PlaysLinks}
-use Rattle.osc_top.specs.Sinks.{SinkChange, Fails, IsSteady, GainsAll, GainsPart, GainsUnless, IsUntouched}
+use Rattle.osc_ends.specs.Sinks.{SinkChange, Fails, IsSteady, GainsAll, GainsPart, GainsUnless, IsUntouched}
 use Rattle.osc_top.specs.Staged.{IsStaged}
 
 ok_and : (read : Result (List Line) ScriptFault) (lines : List Line) (P : List Line → Type 0) → read ≡ Ok lines → P lines → IsOkAnd read P
@@ -354,43 +358,34 @@ module _ {M L : Type 0} (keep : M → ℕ) (heard : M → Option (List ℕ)) (le
       (subst (λ (l : Limits). PlaysLinks keep heard left faults l bounds bank links clock played kept links_after lines recording text outcome) limits_so
       plays)))) staged) enough both
 
--- A script that was read, or that is too long.
+-- Where no lines came of the input.
 
-pub whole_so : (left now : Option (List ℕ)) (bytes : List ℕ) (P : List ℕ → Type 0) → IfSome left (λ all. (bytes ≡ all) × (now ≡ Some [])) → P bytes
-    → IfSome left P
-whole_so None now bytes P whole holds = tt
-whole_so (Some all) now bytes P whole holds = subst P whole.0 holds
+module _ (mode : Mode) (left : Option (List ℕ)) (out : SinkChange) where
+  -- a command ends as its script is refused
+  pub script_refused : (plays : List Line → List ℕ → List ℕ → Outcome → Type 0) (have : ℕ) (rec : SinkChange) (status decided : ℕ) → status ≡ decided
+      → RefusesScript mode decided left out → status ≢ 4 → OfInput left (λ script. EndsLive mode plays status script have rec out)
+  script_refused plays have rec status decided same refuses read = go refuses.known where
+    go : (decided ≡ 1) ⊎ (decided ≡ 3) ⊎ (decided ≡ 4) → OfInput left (λ script. EndsLive mode plays status script have rec out)
+    go (inl one) =
+        of_so left (λ script. IsErrAnd (script_of mode script) (λ fault. GainsUnless out (refusal_text fault)))
+        (λ script. EndsLive mode plays status script have rec out)
+        (λ script refused. ends_refused mode plays script have rec out status decided same (inl one) (λ is. refused)) (refuses.refused one)
+    go (inr (inl three)) =
+        any_bytes left (λ script. EndsLive mode plays status script have rec out)
+        (λ script. ends_short_of_memory mode plays script have rec out status (same ∙ three))
+    go (inr (inr four)) = absurd (read (same ∙ four))
 
-pub long_so : (left now : Option (List ℕ)) (P : List ℕ → Type 0)
-    → IfSome left (λ all. (MAX_SCRIPT < length all) × (now ≡ Some (left_behind MAX_SCRIPT all))) → ((all : List ℕ) → MAX_SCRIPT < length all → P all)
-    → IfSome left P
-long_so None now P long holds = tt
-long_so (Some all) now P long holds = holds all long.0
+  -- what is lawful isn't refused
+  pub lawful_short : (decided faults later : ℕ) (P : List Line → Type 0) → RefusesScript mode decided left out → (decided ≡ 4 → Rose faults later)
+      → IfSome left (λ script. IsOkAnd (script_of mode script) P → ¬ Rose faults later → decided ≡ 3)
+  lawful_short decided faults later P refuses failed = go refuses.known where
+    Short : List ℕ → Type 0
+    Short script = IsOkAnd (script_of mode script) P → ¬ Rose faults later → decided ≡ 3
 
--- some script, which is what was left, where that is told
-abbrev pub IsOfScript : Option (List ℕ) → (List ℕ → Type 0) → Type 0
-IsOfScript left P = (script : List ℕ) × IfSome left (λ all. script ≡ all) × P script
-
-pub whole_script : (left now : Option (List ℕ)) (bytes : List ℕ) (P : List ℕ → Type 0) → IfSome left (λ all. (bytes ≡ all) × (now ≡ Some [])) → P bytes
-    → IsOfScript left P
-whole_script None now bytes P whole holds = (bytes, tt, holds)
-whole_script (Some all) now bytes P whole holds = (bytes, whole.0, holds)
-
-longer : (most : ℕ) → (script : List ℕ) × (most < length script)
-longer most = (replicate (most + 1) 0, omega (arith, length-replicate {A = ℕ} (most + 1) 0))
-
-pub long_script : (left now : Option (List ℕ)) (P : List ℕ → Type 0)
-    → IfSome left (λ all. (MAX_SCRIPT < length all) × (now ≡ Some (left_behind MAX_SCRIPT all))) → ((all : List ℕ) → MAX_SCRIPT < length all → P all)
-    → IsOfScript left P
-long_script None now P long holds = let script = longer MAX_SCRIPT in (script.0, tt, holds script.0 script.1)
-long_script (Some all) now P long holds = (all, refl, holds all long.0)
-
-pub any_script : (left : Option (List ℕ)) (P : List ℕ → Type 0) → ((script : List ℕ) → P script) → IsOfScript left P
-any_script None P holds = ([], tt, holds [])
-any_script (Some all) P holds = (all, refl, holds all)
-
--- a script that is refused isn't lawful
-pub not_lawful : (mode : Mode) (script : List ℕ) (decided : ℕ) (P : List Line → Type 0) (Q : ScriptFault → Type 0) → (decided ≡ 1) ⊎ (decided ≡ 3)
-    → (decided ≡ 1 → IsErrAnd (script_of mode script) Q) → IsOkAnd (script_of mode script) P → decided ≡ 3
-not_lawful mode script decided P Q (inl one) refused lawful = absurd (not_both (script_of mode script) P Q lawful (refused one))
-not_lawful mode script decided P Q (inr three) refused lawful = three
+    go : (decided ≡ 1) ⊎ (decided ≡ 3) ⊎ (decided ≡ 4) → IfSome left Short
+    go (inl one) =
+        if_so left (λ script. IsErrAnd (script_of mode script) (λ fault. GainsUnless out (refusal_text fault))) Short
+        (λ script refused lawful steady. absurd (not_both (script_of mode script) P (λ fault. GainsUnless out (refusal_text fault)) lawful refused))
+        (refuses.refused one)
+    go (inr (inl three)) = if_any left Short (λ script lawful steady. three)
+    go (inr (inr four)) = if_any left Short (λ script lawful steady. absurd (steady (failed four)))

@@ -29,18 +29,18 @@ use Rattle.osc_model.specs.History.{HasHeard, invoked_in}
 use Rattle.osc_model.proofs.Calls.{all_append}
 use Rattle.osc_replay.specs.Printed.{printed}
 use Rattle.osc_script.specs.declared.line.Line.{Line}
-use Rattle.osc_top.specs.declared.outcome.Outcome.{Outcome}
+use Rattle.osc_ends.specs.declared.outcome.Outcome.{Outcome}
 use Rattle.osc_top.specs.Lanes.{HaveHeardAll, PlaysLanes, parts_of, first_stop, lane_faults}
-use Rattle.osc_top.specs.Outcomes.{served, stopped}
-use Rattle.osc_top.specs.Plain.{count_adds}
-use Rattle.osc_top.specs.Printing.{last_text}
+use Rattle.osc_top.specs.Served.{served}
+use Rattle.osc_ends.specs.Outcomes.{stopped}
+use Rattle.osc_script.specs.Adds.{count_adds}
+use Rattle.osc_ends.specs.Printing.{last_text}
 use Rattle.osc_top.specs.Served.{PlaysLinks, adds_part, link_faults}
 use Rattle.osc_top.specs.Staged.{IsStaged}
-use Rattle.osc_top.specs.Tally.{IsRising}
+use Rattle.osc_player.specs.Tally.{IsRising}
 use Rattle.osc_turn.specs.declared.view.Entry.{Entry as Seen}
 use Rattle.osc_turn.specs.History.{texts}
-use Rattle.osc_top.proofs.Unstopped.{counted_adds}
-use Rattle.osc_top.proofs.Rising.{all_weaker, ascending_told, same_rising, times}
+use Rattle.osc_player.proofs.Rising.{all_weaker, ascending_told, same_rising, times}
 
 -- Ids, ascending.
 
@@ -238,4 +238,4 @@ module _ {M : Type 0} where
 pub adds_whole : {M : Type 0} (lines : List Line) (bank boxes : List M) → count_adds lines ≤ length bank → boxes ≡ take (count_adds lines) bank
     → IsWhole (record { lines = lines; boxes = boxes })
 adds_whole {M} lines bank boxes enough are =
-    omega (arith, counted_adds lines, ap (λ (l : List M). length l) are, length-take-le (count_adds lines) bank enough)
+    omega (arith, ap (λ (l : List M). length l) are, length-take-le (count_adds lines) bank enough)

@@ -6,20 +6,19 @@ use Rattle.std.proofs.lemmas.Bool.Decides.{nat_tests}
 use Rattle.std.proofs.lemmas.List.Elements.{All-head, All-tail}
 use Rattle.std.proofs.lemmas.List.Sums.{sum_by-append, sum_by-cons}
 use Rattle.osc_model.specs.Events.{Room}
-use Rattle.osc_model.specs.Limits.{Limits, header_size}
+use Rattle.osc_model.specs.Limits.{Limits, header_size, release_head_size}
 use Rattle.osc_script.specs.declared.line.Line.{Line}
-use Rattle.osc_lanes.specs.Enough.{act_size, act_units, act_messages, all_lines, enough_for}
+use Rattle.osc_script.specs.Enough.{act_size, act_units, act_messages}
+use Rattle.osc_lanes.specs.Enough.{all_lines, enough_for}
 use Rattle.osc_lanes.specs.Performs.{Part, Performs}
 use Rattle.osc_lanes.specs.Shares.{Account}
-use Rattle.osc_lanes.specs.Shares as shares
-use Rattle.osc_top.specs.declared.outcome.Outcome.{Outcome}
-use Rattle.osc_top.specs.declared.outcome.Outcome.TheVariants.{Done}
+use Rattle.osc_ends.specs.declared.outcome.Outcome.{Outcome}
+use Rattle.osc_ends.specs.declared.outcome.Outcome.TheVariants.{Done}
 use Rattle.osc_top.specs.Enough.{enough_lanes}
 use Rattle.osc_top.specs.Lanes.{lane_count, lines_in, parts_from, parts_of, first_stop, PlaysLanes}
-use Rattle.osc_top.specs.Outcomes.{stopped}
-use Rattle.osc_top.specs.Plain.{count_adds}
-use Rattle.osc_top.proofs.Dealt.{lines_here, lines_other, parts_length, same_adds}
-use Rattle.osc_top.proofs.Runs.{count_cons}
+use Rattle.osc_ends.specs.Outcomes.{stopped}
+use Rattle.osc_script.specs.Adds.{adds_of, count_adds}
+use Rattle.osc_top.proofs.Dealt.{lines_here, lines_other, parts_length}
 
 -- Each line is in one part.
 
@@ -84,14 +83,10 @@ module _ {M : Type 0} (weight : Line → ℕ) (bank : List M) where
 
 -- So what is enough for the parts is enough for the lanes.
 
-summed_adds : (lines : List Line) → shares.count_adds lines ≡ sum_by (λ line. shares.adds_of line.act) lines
+summed_adds : (lines : List Line) → count_adds lines ≡ sum_by (λ line. adds_of line.act) lines
 summed_adds [] = refl
 summed_adds (line ∷ lines) =
-    ap (λ (n : ℕ). shares.adds_of line.act + n) (summed_adds lines) ∙ sym (sum_by-cons (λ (line : Line). shares.adds_of line.act) line lines)
-
-pub counted_adds : (lines : List Line) → count_adds lines ≡ shares.count_adds lines
-counted_adds [] = refl
-counted_adds (line ∷ lines) = omega (arith, count_cons line lines, same_adds line.act, counted_adds lines)
+    ap (λ (n : ℕ). adds_of line.act + n) (summed_adds lines) ∙ sym (sum_by-cons (λ (line : Line). adds_of line.act) line lines)
 
 module _ {M : Type 0} where
   enough_parts : (lines : List Line) (bank : List M) → enough_for (parts_of lines bank) ≡ enough_lanes lines
@@ -104,10 +99,10 @@ module _ {M : Type 0} where
       all_once (λ line. act_units line.act) bank lines in
       let messages : sum_by (λ line. act_messages line.act) (all_lines parts) ≡ sum_by (λ line. act_messages line.act) lines =
       all_once (λ line. act_messages line.act) bank lines in
-      let adds : shares.count_adds (all_lines parts) ≡ count_adds lines =
-      summed_adds (all_lines parts) ∙ all_once (λ line. shares.adds_of line.act) bank lines
-      ∙ sym (summed_adds lines) ∙ sym (counted_adds lines) in
-      λ i. header_size + 28 * lanes i + sizes i + 44 * units i + 8 * (messages i * adds i)
+      let adds : count_adds (all_lines parts) ≡ count_adds lines =
+      summed_adds (all_lines parts) ∙ all_once (λ line. adds_of line.act) bank lines
+      ∙ sym (summed_adds lines) in
+      λ i. header_size + 28 * lanes i + sizes i + release_head_size * units i + 8 * (messages i * adds i)
 
   none_first : (accounts : List (Account M)) → All (λ account. account.stop ≡ None) accounts → first_stop accounts ≡ None
   none_first [] none = refl

@@ -1,8 +1,7 @@
--- What the words of the command line say to each top call.
-use Rattle.osc_model.specs.Limits.{max_recording}
+-- What the words of the command line say to `live_top`.
+use Rattle.osc_model.specs.Limits.{Limits}
 use Rattle.osc_script.specs.declared.mode.Mode.{Mode}
 use Rattle.osc_script.specs.declared.mode.Mode.TheVariants.{Lanes, Serve}
-use Rattle.osc_script.specs.declared.script.TheConstants.{MAX_SCRIPT}
 use Rattle.std.specs.Prelude.{ℕ, ◌+◌, ◌||◌, List, [], ◌∷◌, map, if◌then◌else◌, Option, Some, None}
 use Rattle.std.specs.Prelude.{codes}
 use Rattle.std.specs.List.{range_with_len}
@@ -10,22 +9,16 @@ use Rattle.std.specs.Option.{option_map_or}
 use Rattle.std.specs.Str.{bytes_eq}
 use Rattle.osc_words.specs.Commands as said
 use Rattle.osc_words.specs.declared.command.Capacities.{Capacities}
-use Rattle.osc_words.specs.declared.command.Reading.{Reading}
-use Rattle.osc_words.specs.declared.command.Reading.TheVariants.{Run, Replay, Dump}
 use Rattle.osc_words.specs.declared.command.LiveCommand.{LiveCommand}
 use Rattle.osc_words.specs.declared.command.LiveCommand.TheVariants as live
+use Rattle.osc_ends.specs.Limits.{limits_for}
+use Rattle.osc_top.specs.declared.caps.TheConstants.{LIVE_CALLERS}
 
 -- the last word, if there is one
 abbrev pub last_of : List (List ℕ) → Option (List ℕ)
 last_of [] = None
 last_of (word ∷ []) = Some word
 last_of (word ∷ next ∷ words) = last_of (next ∷ words)
-
--- how many bytes a command's input may have: a script 64 MiB, a recording 1 GiB
-abbrev pub most_bytes : Reading → ℕ
-most_bytes (Run output caps) = MAX_SCRIPT
-most_bytes Replay = max_recording
-most_bytes Dump = max_recording
 
 -- the mode of the script that a command of many threads reads
 abbrev pub mode_of : LiveCommand → Mode
@@ -36,6 +29,10 @@ mode_of (live.Serve transport port links count idle caps) = Serve
 abbrev pub capacities_of : LiveCommand → Capacities
 capacities_of (live.Lanes caps) = caps
 capacities_of (live.Serve transport port links count idle caps) = caps
+
+-- the limits of a server of lanes
+abbrev pub live_limits : Capacities → Limits
+live_limits caps = limits_for LIVE_CALLERS caps
 
 -- the ports of a `serve`, one for each link, ascending by one
 abbrev pub ports_in : LiveCommand → List ℕ

@@ -2,10 +2,10 @@
 use Rattle.std.specs.Prelude.{◌≡◌, ℕ, List, ◌++◌, slice_get, IsSomeAnd}
 use Rattle.osc_edge.specs.Faults.{Rose}
 use Rattle.osc_lanes.specs.Ticks.{ClockRead}
-use Rattle.osc_top.specs.declared.outcome.Outcome.{Outcome}
-use Rattle.osc_top.specs.declared.outcome.Outcome.TheVariants.{LinkFailed, ClockFailed}
-use Rattle.osc_top.specs.Printing.{last_text}
-use Rattle.osc_top.specs.Sinks.{SinkChange, Gains}
+use Rattle.osc_ends.specs.declared.outcome.Outcome.{Outcome}
+use Rattle.osc_ends.specs.declared.outcome.Outcome.TheVariants.{LinkFailed, ClockFailed}
+use Rattle.osc_ends.specs.Printing.{last_text}
+use Rattle.osc_ends.specs.Sinks.{SinkChange, Gains}
 
 module _ {L : Type 0} (faults : L → ℕ) where
   -- the count of faults rose of the link in this place

@@ -6,15 +6,15 @@ use Rattle.osc_script.specs.declared.line.Line.{Line}
 use Rattle.osc_words.specs.declared.command.Capacities.{Capacities}
 use Rattle.osc_words.specs.declared.command.LiveCommand.{LiveCommand}
 use Rattle.osc_words.specs.declared.command.LiveCommand.TheVariants as live
-use Rattle.osc_top.specs.declared.status.TheConstants.{DONE, EDGE_FAILED, NO_MEMORY, RECORDING_FULL}
-use Rattle.osc_top.specs.declared.outcome.Outcome.{Outcome}
+use Rattle.osc_ends.specs.declared.status.TheConstants.{DONE, EDGE_FAILED, NO_MEMORY, RECORDING_FULL}
+use Rattle.osc_ends.specs.declared.outcome.Outcome.{Outcome}
 use Rattle.osc_top.specs.Commands.{mode_of}
-use Rattle.osc_top.specs.Ends.{IsUnplayed}
+use Rattle.osc_ends.specs.Ends.{IsUnplayed}
 use Rattle.osc_top.specs.Lanes.{PlaysLanes}
 use Rattle.osc_top.specs.Live.{EndsLive}
-use Rattle.osc_top.specs.Plain.{live_limits}
+use Rattle.osc_top.specs.Commands.{live_limits}
 use Rattle.osc_top.specs.Served.{PlaysLinks}
-use Rattle.osc_top.specs.Sinks.{SinkChange}
+use Rattle.osc_ends.specs.Sinks.{SinkChange}
 
 -- what playing lines comes to: lanes are played, or links are served, on the server that the words
 -- say, of which these boxes, links and inputs were handed in, and this came back

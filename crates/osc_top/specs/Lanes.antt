@@ -16,10 +16,10 @@ use Rattle.osc_lanes.specs.Performs.{Part, Performs, added_ids}
 use Rattle.osc_print.specs.Lines.{fault_text}
 use Rattle.osc_replay.specs.Printed.{printed}
 use Rattle.osc_script.specs.declared.line.Line.{Line}
-use Rattle.osc_top.specs.declared.outcome.Outcome.{Outcome}
-use Rattle.osc_top.specs.Outcomes.{stopped}
-use Rattle.osc_top.specs.Plain.{is_add, count_adds}
-use Rattle.osc_top.specs.Printing.{last_text}
+use Rattle.osc_ends.specs.declared.outcome.Outcome.{Outcome}
+use Rattle.osc_ends.specs.Outcomes.{stopped}
+use Rattle.osc_script.specs.Adds.{is_add, count_adds}
+use Rattle.osc_ends.specs.Printing.{last_text}
 
 -- as many lanes as the greatest number of one plus one
 abbrev pub lane_count : List Line → ℕ

@@ -3,17 +3,13 @@ use Rattle.std.specs.Prelude.{◌≡◌, ◌⊎◌, ℕ, ◌≤◌, ◌<◌, Lis
 use Rattle.osc_script.specs.declared.line.Line.{Line}
 use Rattle.osc_script.specs.declared.mode.Mode.{Mode}
 use Rattle.osc_script.specs.Scripts.{script_of}
-use Rattle.osc_top.specs.declared.outcome.Outcome.{Outcome}
-use Rattle.osc_top.specs.declared.status.TheConstants.{BANK_SHORT, DONE, EDGE_FAILED, NO_MEMORY}
-use Rattle.osc_top.specs.declared.status.TheConstants.{RECORDING_FULL, REFUSED, SINK_FAILED}
-use Rattle.osc_top.specs.Outcomes.{status_of}
-use Rattle.osc_top.specs.Plain.{count_adds}
-use Rattle.osc_top.specs.Printing.{refusal_text, bank_short_text}
-use Rattle.osc_top.specs.Sinks.{SinkChange, GainsAll, GainsPart, GainsUnless, IsUntouched}
-
--- a status with which all was written
-abbrev pub IsWritten : ℕ → Type 0
-IsWritten status = (status ≡ DONE) ⊎ (status ≡ RECORDING_FULL) ⊎ (status ≡ EDGE_FAILED)
+use Rattle.osc_ends.specs.declared.outcome.Outcome.{Outcome}
+use Rattle.osc_ends.specs.declared.status.TheConstants.{BANK_SHORT, DONE, EDGE_FAILED, NO_MEMORY}
+use Rattle.osc_ends.specs.declared.status.TheConstants.{RECORDING_FULL, REFUSED, SINK_FAILED}
+use Rattle.osc_ends.specs.Outcomes.{status_of}
+use Rattle.osc_script.specs.Adds.{count_adds}
+use Rattle.osc_ends.specs.Printing.{refusal_text, bank_short_text}
+use Rattle.osc_ends.specs.Sinks.{SinkChange, GainsAll, GainsPart, GainsUnless, IsUntouched}
 
 -- The end of a program that plays a script on many threads, by its status. Done (0), full (6) or
 -- failed (7), as the outcome says: there is a box for each add, the script was played, and both

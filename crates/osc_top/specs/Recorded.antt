@@ -1,16 +1,12 @@
 -- Inside the crate: what is made of a recording, and how writing it ends.
-use Rattle.osc_top.specs.declared.status.TheConstants.{NO_MEMORY, SINK_FAILED}
+use Rattle.osc_ends.specs.declared.status.TheConstants.{NO_MEMORY, SINK_FAILED}
 use Rattle.std.specs.Prelude.{◌≡◌, ◌⊎◌, ℕ, List, ◌++◌}
 use Rattle.osc_model.specs.Limits.{Limits}
 use Rattle.osc_model.specs.Events.{Entry}
 use Rattle.osc_replay.specs.Printed.{printed}
-use Rattle.osc_top.specs.declared.outcome.Outcome.{Outcome}
-use Rattle.osc_top.specs.Printing.{last_text}
-use Rattle.osc_top.specs.Sinks.{SinkChange, GainsAll, GainsPart, IsUntouched}
-
--- the printed history, then what is said of the faults, and last the line on how it ended
-abbrev pub recorded_text : Limits → List Entry → List ℕ → Outcome → List ℕ
-recorded_text caps history said outcome = printed caps history ++ (said ++ last_text outcome)
+use Rattle.osc_ends.specs.declared.outcome.Outcome.{Outcome}
+use Rattle.osc_ends.specs.Printing.{last_text}
+use Rattle.osc_ends.specs.Sinks.{SinkChange, GainsAll, GainsPart, IsUntouched}
 
 -- The end of writing a recording to one sink and then its text to another: as it was decided, where
 -- both were gained; cut short (5), where the first failed and nothing was written to the second, or

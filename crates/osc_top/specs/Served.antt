@@ -1,9 +1,10 @@
 -- What serving links comes to.
-use Rattle.std.specs.Prelude.{◌≡◌, ℕ, List, ◌++◌, take, drop, Option}
+use Rattle.std.specs.Prelude.{◌≡◌, ℕ, Bool, true, false, List, ◌++◌, take, drop, Option, Some, None}
 use Rattle.std.specs.List.{flat_map}
 use Rattle.std.specs.Option.{option_map, option_or}
 use Rattle.osc_atoms.specs.declared.fault.Fault.{Fault}
 use Rattle.osc_model.specs.Limits.{Limits}
+use Rattle.osc_model.specs.Events.{Room}
 use Rattle.osc_record.specs.Shown.{room_of}
 use Rattle.osc_core.specs.Standing.{history_in}
 use Rattle.osc_turn.specs.History.{texts}
@@ -16,11 +17,18 @@ use Rattle.osc_lanes.specs.Ticks.{ClockRead}
 use Rattle.osc_print.specs.Lines.{link_fault_text}
 use Rattle.osc_replay.specs.Printed.{printed}
 use Rattle.osc_script.specs.declared.line.Line.{Line}
-use Rattle.osc_top.specs.declared.outcome.Outcome.{Outcome}
+use Rattle.osc_ends.specs.declared.outcome.Outcome.{Outcome}
+use Rattle.osc_ends.specs.declared.outcome.Outcome.TheVariants.{LinkFailed, ClockFailed}
+use Rattle.osc_ends.specs.Outcomes.{stopped}
 use Rattle.osc_top.specs.Lanes.{HaveHeardAll}
-use Rattle.osc_top.specs.Outcomes.{served}
-use Rattle.osc_top.specs.Plain.{count_adds}
-use Rattle.osc_top.specs.Printing.{last_text}
+use Rattle.osc_script.specs.Adds.{count_adds}
+use Rattle.osc_ends.specs.Printing.{last_text}
+
+-- a failed link goes before a failed clock, and both before a full recording
+abbrev pub served : Option ℕ → Bool → Option Room → Outcome
+served (Some link) clock_failed stop = LinkFailed link
+served None true stop = ClockFailed
+served None false stop = stopped stop
 
 -- the lines of the faults of links' datagrams, in order
 abbrev pub link_faults : List (ℕ × ℕ × Fault) → List ℕ

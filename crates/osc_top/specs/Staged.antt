@@ -3,8 +3,8 @@ use Rattle.std.specs.Prelude.{ℕ, List}
 use Rattle.osc_model.specs.Events.{Entry}
 use Rattle.osc_replay.specs.Disagreeing.{IsRecordingOf}
 use Rattle.osc_model.specs.Limits.{Limits}
-use Rattle.osc_top.specs.declared.outcome.Outcome.{Outcome}
-use Rattle.osc_top.specs.Recorded.{recorded_text}
+use Rattle.osc_ends.specs.declared.outcome.Outcome.{Outcome}
+use Rattle.osc_ends.specs.Printing.{recorded_text}
 
 -- A script was played. The text that is to be written is that of the recorded history, and then
 -- what is said of the faults and of how it ended.

@@ -1,17 +1,9 @@
-// How many lines add a method.
-ghost use Rattle.std.specs.Prelude.{◌≡◌, ◌+◌, max, length};
-ghost use Rattle.osc_top.specs.Plain as scripts;
-ghost use Rattle.osc_top.specs.Plain.{is_add};
+// How many lanes there are, and which lines add a method.
+ghost use Rattle.std.specs.Prelude.{◌≡◌, ◌+◌, max};
+ghost use Rattle.osc_script.specs.Adds.{is_add};
 ghost use Rattle.osc_top.specs.Lanes as lanes;
 
 use osc_script::{Act, Line};
-
-/// How many lines add a method.
-pub(crate) fn count_adds(lines: &[Line]) -> usize
-    ensures { result ≡ scripts.count_adds lines.now }
-{
-    lines.iter().filter(|line| is_add(&line.act)).count()
-}
 
 pub(crate) fn is_add(act: &Act) -> bool
     ensures { result ≡ is_add act.now }

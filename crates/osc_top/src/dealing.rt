@@ -16,9 +16,9 @@ ghost use Rattle.std.specs.Prelude.{
 };
 ghost use Rattle.std.specs.Vec.Iter.{into_iter_items};
 ghost use Rattle.osc_lanes.specs.Performs.{part_of};
-ghost use Rattle.osc_top.specs.Plain.{count_adds};
+ghost use Rattle.osc_script.specs.Adds.{count_adds};
 ghost use Rattle.osc_top.specs.Lanes.{parts_of};
-ghost use Rattle.osc_top.specs.Tally.{adds_of};
+ghost use Rattle.osc_script.specs.Adds.{adds_of};
 ghost use Rattle.osc_top.specs.Dealt.{dealt_at, no_part};
 
 use crate::counting::{is_add, lane_count};

@@ -1,33 +1,21 @@
-//! All that the program does, over any source and sink.
+//! All that the program `oscd` does, over any source and sinks, links and clock; and `osc`'s top call.
 #![tactic(auto)]
 
-mod boxes;
 mod caps;
 mod counting;
 mod dealing;
-mod generating;
 pub mod laws;
-mod lines;
 mod link_ports;
 mod live;
 mod live_writing;
 mod name;
-mod outcome;
-mod player;
-mod playing;
-mod recorded;
-mod report;
+mod played;
 mod serving;
 mod staging;
-mod status;
-mod top;
 mod transport;
-mod whole;
-mod writing;
 
-pub use boxes::traces;
 pub use link_ports::ports;
 pub use live::live_top;
 pub use name::recording_name;
-pub use top::{Ended, plain_top};
+pub use osc_plain::{Ended, plain_top, traces};
 pub use transport::wants_tcp;

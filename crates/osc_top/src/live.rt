@@ -1,5 +1,5 @@
 //! The top call of many threads.
-ghost use Rattle.osc_top.specs.declared.status.TheConstants.{
+ghost use Rattle.osc_ends.specs.declared.status.TheConstants.{
   BANK_SHORT,
   DONE,
   EDGE_FAILED,
@@ -51,31 +51,29 @@ ghost use Rattle.osc_top.specs.Commands as commands;
 ghost use Rattle.osc_top.specs.Commands.{mode_of};
 ghost use Rattle.osc_top.specs.Edges.{TellsEdge};
 ghost use Rattle.osc_top.specs.EndsCommand.{EndsCommand, LeavesAlone, MayEnd};
-ghost use Rattle.osc_top.specs.EndsPlain.{HandsBack};
-ghost use Rattle.osc_top.specs.Plain.{count_adds};
-ghost use Rattle.osc_top.specs.Printing.{usage_text, refusal_text};
-ghost use Rattle.osc_top.specs.Ends.{left_behind, IsUnplayed};
-ghost use Rattle.osc_top.specs.Live.{IsWritten};
+ghost use Rattle.osc_plain.specs.EndsPlain.{HandsBack};
+ghost use Rattle.osc_script.specs.Adds.{count_adds};
+ghost use Rattle.osc_ends.specs.Printing.{usage_text, refusal_text};
+ghost use Rattle.osc_ends.specs.Ends.{left_behind, IsUnplayed};
+ghost use Rattle.osc_ends.specs.Ends.{IsWritten};
 ghost use Rattle.osc_top.specs.Enough.{enough_lanes};
-ghost use Rattle.osc_top.specs.Outcomes.{status_of};
-ghost use Rattle.osc_top.specs.Recorded.{EndsBoth, recorded_text};
-ghost use Rattle.osc_top.specs.Sinks.{sink_change, Fails, IsSteady, Gains, GainsUnless};
+ghost use Rattle.osc_ends.specs.Outcomes.{status_of};
+ghost use Rattle.osc_top.specs.Recorded.{EndsBoth};
+ghost use Rattle.osc_ends.specs.Printing.{recorded_text};
+ghost use Rattle.osc_ends.specs.Sinks.{sink_change, Fails, IsSteady, Gains, GainsUnless};
 
 use crate::caps::live_limits;
-use crate::counting::count_adds;
 use crate::laws::enough_room_stops_no_lane;
 use crate::live_writing::write_both;
-use crate::playing::Played;
+use crate::played::Played;
 use crate::serving::stage_links;
 use crate::staging::stage;
-use crate::status::{NO_MEMORY, SOURCE_FAILED, USAGE};
-use crate::top::{Ended, unplayed};
-use crate::whole::{Input, read_whole};
-use crate::writing::{bank_short, last_line, refuse};
 use osc_edge::{Clock, Link, Sink, Source};
+use osc_ends::status::NO_MEMORY;
+use osc_ends::{Ended, bank_short, count_adds, read_script, usage};
 use osc_lanes::{Bounds, Gate};
 use osc_method::Method;
-use osc_script::{Line, MAX_SCRIPT, Mode, Script, ScriptFault, ScriptRefusal};
+use osc_script::{Line, Mode};
 use osc_words::{LiveCommand, live_command_of};
 use std::alloc::Global;
 use std::sync::Wait;
@@ -204,84 +202,29 @@ pub fn live_top<
     enough_room_stops_no_lane::<Box<dyn Method + Send>>();
     let command = match live_command_of(alloc, words) {
         Ok(Some(command)) => command,
-        Ok(None) => {
-            let status = last_line(USAGE, b"usage\n", out);
-            return (unplayed(alloc, status, bank), links);
-        }
+        Ok(None) => return (unplayed(alloc, usage(out), bank), links),
         Err(_) => return (unplayed(alloc, NO_MEMORY, bank), links),
     };
-    match read_whole(alloc, MAX_SCRIPT, input) {
-        Input::Whole(bytes) => {
-            play_script(
-                rt, alloc, command, bytes, out, rec, links, clock, bank, gate,
-            )
-        }
-        Input::TooLong => (unplayed(alloc, refuse_long(alloc, out), bank), links),
-        Input::Failed => (unplayed(alloc, SOURCE_FAILED, bank), links),
-        Input::NoMemory => (unplayed(alloc, NO_MEMORY, bank), links),
-    }
-}
-
-/// Refuses a script that is too long.
-fn refuse_long<O: Sink>(alloc: Global, out: &mut O) -> u8
-    ensures known { (result ≡ REFUSED) ⊎ (result ≡ NO_MEMORY) }
-    ensures refused { (mode : Mode) (script : List ℕ) → MAX_SCRIPT < length script
-        → result ≡ REFUSED → IsErrAnd (script_of mode script)
-        (λ fault. GainsUnless (sink_change O.held O.faults out.old out.new)
-        (refusal_text fault)) }
-{
-    let fault = ScriptFault {
-        line: 0,
-        kind: ScriptFault::TOO_LONG,
-    };
-    refuse(alloc, fault, out)
-}
-
-/// Reads the script and plays it. The memory of the input is given back before anything is played.
-fn play_script<
-    O: Sink,
-    R: Sink,
-    L: Link + Send + Drop,
-    C: Clock + Send,
-    W: Threads + Wait + Sync,
-    G: Gate + Sync,
->(
-    rt: &W,
-    alloc: Global,
-    command: LiveCommand,
-    bytes: Vec<u8>,
-    out: &mut O,
-    rec: &mut R,
-    links: Vec<L>,
-    clock: &mut C,
-    bank: Vec<Box<dyn Method + Send>>,
-    gate: &G,
-) -> (Ended, Vec<L>)
-    requires lawful { IsLawfulLive command }
-    requires few { length links.items ≤ 16 }
-    ensures ends { EndsCommand (λ box. keep box) (λ box. heard box) L.left L.faults command
-        result.0.status bytes.items bank.items result.0.heard.items result.0.left.items
-        links.items result.1.items (clock_read C.left C.faults clock.old clock.new)
-        (sink_change R.held R.faults rec.old rec.new)
-        (sink_change O.held O.faults out.old out.new) }
-    ensures back { HandsBack result.0.status bank.items result.0.heard.items
-        result.0.left.items }
-    ensures alone { LeavesAlone command result.0.status links.items result.1.items clock.old
-        clock.new rec.old rec.new }
-{
-    let read = Script::read(alloc, &bytes, mode_of(command));
-    drop(bytes);
-    match read {
-        Ok(script) => {
-            let lines = script.into_lines();
+    match read_script(alloc, mode_of(command), input, out) {
+        Ok(lines) => {
             play_lines(
                 rt, alloc, command, lines, out, rec, links, clock, bank, gate,
             )
         }
-        Err(ScriptRefusal::Fault(fault)) => {
-            (unplayed(alloc, refuse(alloc, fault, out), bank), links)
-        }
-        Err(ScriptRefusal::NoMemory) => (unplayed(alloc, NO_MEMORY, bank), links),
+        Err(status) => (unplayed(alloc, status, bank), links),
+    }
+}
+
+/// The end of a program that played nothing.
+fn unplayed(alloc: Global, status: u8, bank: Vec<Box<dyn Method + Send>>) -> Ended
+    ensures status { result.status ≡ status }
+    ensures heard { result.heard.items ≡ [] }
+    ensures left { result.left.items ≡ bank.items }
+{
+    Ended {
+        status,
+        heard: Vec::new(alloc),
+        left: bank,
     }
 }
 

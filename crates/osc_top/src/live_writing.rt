@@ -3,15 +3,14 @@ ghost use Rattle.std.specs.Prelude.{List};
 ghost use Rattle.osc_model.specs.Limits.{Limits};
 ghost use Rattle.osc_model.specs.Events.{Entry};
 ghost use Rattle.osc_replay.specs.Disagreeing.{IsRecordingOf};
-ghost use Rattle.osc_top.specs.Outcomes.{status_of};
-ghost use Rattle.osc_top.specs.Recorded.{EndsBoth, recorded_text};
-ghost use Rattle.osc_top.specs.Sinks.{sink_change};
+ghost use Rattle.osc_ends.specs.Outcomes.{status_of};
+ghost use Rattle.osc_top.specs.Recorded.{EndsBoth};
+ghost use Rattle.osc_ends.specs.Printing.{recorded_text};
+ghost use Rattle.osc_ends.specs.Sinks.{sink_change};
 
-use crate::recorded::Recorded;
-use crate::status::{NO_MEMORY, SINK_FAILED};
-use crate::whole::{Written, write_whole};
-use crate::writing::write_run_text;
 use osc_edge::Sink;
+use osc_ends::status::DONE;
+use osc_ends::{Recorded, write_run_text, write_text};
 use std::alloc::Global;
 
 /// Writes the recording, and then its text, for which it is replayed.
@@ -30,9 +29,9 @@ pub(crate) fn write_both<O: Sink, R: Sink>(
         (sink_change R.held R.faults rec.old rec.new)
         (sink_change O.held O.faults out.old out.new) }
 {
-    match write_whole(rec, &recorded.bytes) {
-        Written::Wrote => write_run_text(alloc, recorded, out),
-        Written::Refused => SINK_FAILED,
-        Written::Short => NO_MEMORY,
+    let status = write_text(DONE, &recorded.bytes, rec);
+    if status != DONE {
+        return status;
     }
+    write_run_text(alloc, recorded, out)
 }

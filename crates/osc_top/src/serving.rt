@@ -5,19 +5,18 @@ ghost use Rattle.std.specs.Option.{option_map, option_or};
 ghost use Rattle.std.specs.List.Sorted.{IsPermutation, IsNonDecreasingBy};
 ghost use Rattle.osc_record.specs.Shown.{room_of};
 ghost use Rattle.osc_lanes.specs.Ticks.{clock_read};
-ghost use Rattle.osc_top.specs.Plain.{count_adds};
-ghost use Rattle.osc_top.specs.Outcomes as outcomes;
+ghost use Rattle.osc_script.specs.Adds.{count_adds};
+ghost use Rattle.osc_top.specs.Served as ends;
 ghost use Rattle.osc_top.specs.Served.{PlaysLinks, link_faults};
 ghost use Rattle.osc_top.specs.Staged.{IsStaged};
 
-use crate::counting::count_adds;
-use crate::outcome::served;
-use crate::playing::{Played, gather};
-use crate::recorded::Recorded;
-use osc_atoms::Fault;
+use crate::played::Played;
+use osc_atoms::{Fault, Room};
 use osc_edge::{Clock, Link};
+use osc_ends::{Outcome, Recorded, count_adds, stopped};
 use osc_lanes::{Bounds, Gate, Hosted, LanePart, LaneTold, LinksTold, host};
 use osc_method::Method;
+use osc_player::gather;
 use osc_print::{Text, link_fault_line};
 use osc_record::Caps;
 use osc_script::Line;
@@ -74,7 +73,7 @@ fn settle_links<M: Method, L: Drop>(
     ensures faults { IfOk result
         (λ settled. settled.0.recorded.faults ≡ link_faults hosted.links.faults.items) }
     ensures outcome { IfOk result (λ settled. settled.0.recorded.outcome
-        ≡ outcomes.served hosted.links.failed hosted.links.clock_failed
+        ≡ ends.served hosted.links.failed hosted.links.clock_failed
         (option_map room_of (option_or hosted.opening.stop
         (option_or hosted.unenrolled hosted.links.stop)))) }
     ensures each { IfOk result (λ settled. IsPermutation
@@ -113,6 +112,17 @@ fn settle_links<M: Method, L: Drop>(
         left,
     };
     Ok((played, told.links))
+}
+
+/// A failed link goes before a failed clock, and both before a full recording.
+fn served(failed: Option<u32>, clock_failed: bool, stop: Option<Room>) -> Outcome
+    ensures { result ≡ ends.served failed clock_failed (option_map room_of stop) }
+{
+    match failed {
+        Some(link) => Outcome::LinkFailed(link),
+        None if clock_failed => Outcome::ClockFailed,
+        None => stopped(stop),
+    }
 }
 
 /// The lines of the faults of the links' datagrams.

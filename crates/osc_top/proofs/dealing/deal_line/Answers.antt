@@ -1,6 +1,6 @@
 use Rattle.std.proofs.Common.{take}
 use Rattle.std.specs.Vec.Iter.{into_iter_items}
-use Rattle.osc_top.specs.Tally.{adds_of}
+use Rattle.osc_script.specs.Adds.{adds_of}
 use Rattle.osc_top.proofs.Dealt.{part_set}
 use Rattle.osc_top.proofs.dealing.deal_line.Goals as goal
 

@@ -1,7 +1,7 @@
 use Rattle.std.proofs.Common.{◌≡◌, ◌<◌, ◌≤◌, true, map, length, refl, sym, subst, ◌∙◌, rules}
 use Rattle.osc_core.specs.Ids.{is_ascending}
 use Rattle.osc_words.specs.declared.command.LiveCommand.TheVariants as live
-use Rattle.osc_top.specs.Plain.{count_adds}
+use Rattle.osc_script.specs.Adds.{count_adds}
 use Rattle.osc_top.proofs.LiveEnds.{ends_short, lanes_end, links_end, both_played}
 use Rattle.osc_top.proofs.Staged.{lanes_ascending, links_ascending}
 use Rattle.osc_top.proofs.live.play_lines.Goals as goal

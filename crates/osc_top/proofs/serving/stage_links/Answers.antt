@@ -1,7 +1,7 @@
 use Rattle.std.proofs.Common.{◌≡◌, ℕ, List, take, drop, ap, subst, ◌∙◌, rules}
 use Rattle.osc_lanes.specs.Hosts.{Hosts}
 use Rattle.osc_lanes.specs.Ticks.{clock_read}
-use Rattle.osc_top.specs.Plain.{count_adds}
+use Rattle.osc_script.specs.Adds.{count_adds}
 use Rattle.osc_top.proofs.Staged.{adds_whole, links_staged}
 use Rattle.osc_top.proofs.serving.stage_links.Goals as goal
 

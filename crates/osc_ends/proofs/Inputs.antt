@@ -1,0 +1,78 @@
+-- What holds of the bytes that an input had left.
+use Rattle.std.proofs.Common.{◌≡◌, ◌⊎◌, inl, inr, ℕ, ◌+◌, ◌<◌, ◌≤◌, List, [], length, replicate, Option, Some, None, IfSome, Result, Ok, Err, refl, subst, arith}
+use Rattle.std.specs.Prelude.{IfErr, IsErrAnd}
+use Rattle.std.proofs.lemmas.List.{length-replicate}
+use Rattle.osc_script.specs.declared.mode.Mode.{Mode}
+use Rattle.osc_script.specs.declared.script.TheConstants.{MAX_SCRIPT}
+use Rattle.osc_script.specs.Scripts.{script_of}
+use Rattle.osc_ends.specs.Ends.{left_behind}
+use Rattle.osc_ends.specs.Inputs.{OfInput, ReadsInput, RefusesScript, read_status}
+use Rattle.osc_ends.specs.Printing.{refusal_text}
+use Rattle.osc_ends.specs.Sinks.{SinkChange, GainsUnless}
+use Rattle.osc_ends.proofs.Transfers.{left_whole}
+
+-- the input was read to its end
+pub whole_bytes : (left now : Option (List ℕ)) (bytes : List ℕ) (P : List ℕ → Type 0) → IfSome left (λ all. (bytes ≡ all) × (now ≡ Some [])) → P bytes
+    → OfInput left P
+whole_bytes None now bytes P whole holds = (bytes, tt, holds)
+whole_bytes (Some all) now bytes P whole holds = (bytes, whole.0, holds)
+
+longer : (most : ℕ) → (bytes : List ℕ) × (most < length bytes)
+longer most = (replicate (most + 1) 0, omega (arith, length-replicate {A = ℕ} (most + 1) 0))
+
+-- there was more than the limit
+pub long_bytes : (most : ℕ) (left now : Option (List ℕ)) (P : List ℕ → Type 0)
+    → IfSome left (λ all. (most < length all) × (now ≡ Some (left_behind most all))) → ((all : List ℕ) → most < length all → P all) → OfInput left P
+long_bytes most None now P long holds = let bytes = longer most in (bytes.0, tt, holds bytes.0 bytes.1)
+long_bytes most (Some all) now P long holds = (all, refl, holds all long.0)
+
+pub any_bytes : (left : Option (List ℕ)) (P : List ℕ → Type 0) → ((bytes : List ℕ) → P bytes) → OfInput left P
+any_bytes None P holds = ([], tt, holds [])
+any_bytes (Some all) P holds = (all, refl, holds all)
+
+-- what follows of them
+pub of_so : (left : Option (List ℕ)) (P Q : List ℕ → Type 0) → ((bytes : List ℕ) → P bytes → Q bytes) → OfInput left P → OfInput left Q
+of_so left P Q so (bytes, is, holds) = (bytes, is, so bytes holds)
+
+pub if_so : (left : Option (List ℕ)) (P Q : List ℕ → Type 0) → ((bytes : List ℕ) → P bytes → Q bytes) → OfInput left P → IfSome left Q
+if_so None P Q so of = tt
+if_so (Some all) P Q so (bytes, is, holds) = subst Q is (so bytes holds)
+
+-- and where they are told
+pub if_bytes : (left : Option (List ℕ)) (bytes : List ℕ) (P : List ℕ → Type 0) → IfSome left (λ all. bytes ≡ all) → P bytes → IfSome left P
+if_bytes None bytes P is holds = tt
+if_bytes (Some all) bytes P is holds = subst P is holds
+
+pub if_any : (left : Option (List ℕ)) (P : List ℕ → Type 0) → ((bytes : List ℕ) → P bytes) → IfSome left P
+if_any None P holds = tt
+if_any (Some all) P holds = holds all
+
+-- a source that was read to its end didn't fail
+pub reads_whole : (most status : ℕ) (left after : Option (List ℕ)) (bytes : List ℕ) (faults later : ℕ) → (status ≡ 4 → ⊥)
+    → IfSome left (λ all. (bytes ≡ all) × (after ≡ Some [])) → length bytes ≤ most → later ≡ faults → ReadsInput most status left after faults later
+reads_whole most status left after bytes faults later sound whole few same = record {
+  source = λ four. absurd (sound four);
+  sound = λ _ _. same;
+  read = left_whole most left after bytes _ _ whole few;
+}
+
+-- what becomes of its bytes is no failure of it
+pub read_sound : {X : Type 0} (read : Result X ℕ) → IfErr read (λ status. (status ≡ 1) ⊎ (status ≡ 3)) → read_status read ≡ 4 → ⊥
+read_sound (Ok value) known four = omega arith
+read_sound (Err status) (inl one) four = omega arith
+read_sound (Err status) (inr three) four = omega arith
+
+-- a script that is too long is refused
+pub long_refused : (mode : Mode) (status : ℕ) (left after : Option (List ℕ)) (out : SinkChange) → (status ≡ 1) ⊎ (status ≡ 3)
+    → IfSome left (λ all. (MAX_SCRIPT < length all) × (after ≡ Some (left_behind MAX_SCRIPT all)))
+    → ((all : List ℕ) → MAX_SCRIPT < length all → status ≡ 1 → IsErrAnd (script_of mode all) (λ fault. GainsUnless out (refusal_text fault)))
+    → RefusesScript mode status left out
+long_refused mode status left after out known long refused = record {
+  known = go known;
+  refused =
+      λ one. long_bytes MAX_SCRIPT left after (λ script. IsErrAnd (script_of mode script) (λ fault. GainsUnless out (refusal_text fault))) long
+      (λ all more. refused all more one);
+} where
+  go : (status ≡ 1) ⊎ (status ≡ 3) → (status ≡ 1) ⊎ (status ≡ 3) ⊎ (status ≡ 4)
+  go (inl one) = inl one
+  go (inr three) = inr (inl three)

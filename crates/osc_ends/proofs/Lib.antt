@@ -1,0 +1,4 @@
+mod Transfers
+pub mod Said
+pub mod Inputs
+mod LastLines

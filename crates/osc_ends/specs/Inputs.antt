@@ -1,0 +1,44 @@
+-- What becomes of an input that is read to its end.
+use Rattle.std.specs.Prelude.{◌≡◌, ◌≢◌, ◌⊎◌, ℕ, ◌<◌, List, length, Option, Some, IfSome, IsErrAnd}
+use Rattle.std.specs.Prelude.{Result, Ok, Err}
+use Rattle.osc_edge.specs.Faults.{Rose}
+use Rattle.osc_model.specs.Limits.{max_recording}
+use Rattle.osc_script.specs.declared.mode.Mode.{Mode}
+use Rattle.osc_script.specs.Scripts.{script_of}
+use Rattle.osc_ends.specs.declared.status.TheConstants.{DONE, NO_MEMORY, REFUSED, SOURCE_FAILED}
+use Rattle.osc_ends.specs.Ends.{left_behind}
+use Rattle.osc_ends.specs.Printing.{malformed_text, refusal_text}
+use Rattle.osc_ends.specs.Sinks.{SinkChange, GainsUnless}
+
+-- what holds of the bytes that an input has left, or of some where it doesn't tell them
+abbrev pub OfInput : Option (List ℕ) → (List ℕ → Type 0) → Type 0
+OfInput left P = (bytes : List ℕ) × IfSome left (λ all. bytes ≡ all) × P bytes
+
+-- the status of reading: done, or that with which the program ends
+abbrev pub read_status : {X : Type 0} → Result X ℕ → ℕ
+read_status (Ok read) = DONE
+read_status (Err status) = status
+
+-- By the status: the source failed (4), and its count of faults rose; or it didn't, and it was read
+-- to its end, or to the first byte that is too many. Want of memory (3) promises nothing.
+pub record ReadsInput (most status : ℕ) (left left_after : Option (List ℕ))
+    (faults faults_after : ℕ) : Type 0 where
+  pub source : status ≡ SOURCE_FAILED → Rose faults faults_after
+  pub sound : status ≢ NO_MEMORY → status ≢ SOURCE_FAILED → faults_after ≡ faults
+  pub read : IfSome left (λ all. status ≢ NO_MEMORY → status ≢ SOURCE_FAILED
+      → left_after ≡ Some (left_behind most all))
+
+-- No lines came of an input that is to be a script: refused (1), where it has a first fault, and
+-- the line on that was gained; want of memory (3); or a source that failed (4).
+pub record RefusesScript (mode : Mode) (status : ℕ) (left : Option (List ℕ)) (out : SinkChange)
+    : Type 0 where
+  pub known : (status ≡ REFUSED) ⊎ (status ≡ NO_MEMORY) ⊎ (status ≡ SOURCE_FAILED)
+  pub refused : status ≡ REFUSED → OfInput left
+      (λ script. IsErrAnd (script_of mode script) (λ fault. GainsUnless out (refusal_text fault)))
+
+-- No bytes came of an input that is to be a recording: refused (1), where there are too many, and
+-- the line on that was gained; want of memory (3); or a source that failed (4).
+pub record RefusesLength (status : ℕ) (left : Option (List ℕ)) (out : SinkChange) : Type 0 where
+  pub known : (status ≡ REFUSED) ⊎ (status ≡ NO_MEMORY) ⊎ (status ≡ SOURCE_FAILED)
+  pub refused : status ≡ REFUSED → IfSome left (λ all. max_recording < length all)
+      × GainsUnless out (malformed_text max_recording)

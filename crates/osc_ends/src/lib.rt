@@ -1,0 +1,24 @@
+//! What a program reads and writes, and how it ends.
+#![tactic(auto)]
+
+mod boxes;
+mod caps;
+mod counting;
+mod ended;
+mod input;
+mod lines;
+mod outcome;
+mod recorded;
+pub mod status;
+mod whole;
+mod writing;
+
+pub use boxes::traces;
+pub use caps::limits_for;
+pub use counting::count_adds;
+pub use ended::Ended;
+pub use input::{read_recording, read_script};
+pub use lines::outcome_line;
+pub use outcome::{Outcome, status_of, stopped};
+pub use recorded::Recorded;
+pub use writing::{bank_short, usage, write_dump, write_replay, write_run_text, write_text};

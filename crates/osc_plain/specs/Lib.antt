@@ -1,0 +1,4 @@
+-- What public contracts cite.
+pub mod Commands
+pub mod Runs
+pub mod EndsPlain

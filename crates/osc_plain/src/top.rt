@@ -1,0 +1,208 @@
+//! The top call of `osc`.
+ghost use Rattle.osc_script.specs.declared.generating.TheConstants.{MAX_GENERATED_LINES};
+ghost use Rattle.osc_ends.specs.declared.status.TheConstants.{
+  BANK_SHORT,
+  DONE,
+  NO_MEMORY,
+  RECORDING_FULL,
+  SINK_FAILED,
+  SOURCE_FAILED,
+  USAGE,
+};
+ghost use Rattle.std.specs.Prelude.{
+  ◌≡◌,
+  ◌≢◌,
+  ◌⊎◌,
+  ◌≤◌,
+  IsTrue,
+  List,
+  IfSome,
+  IsSome,
+  Some,
+  [],
+  None,
+  length,
+  map,
+  string_bytes,
+};
+ghost use Rattle.osc_edge.specs.Faults.{Rose};
+ghost use Rattle.osc_core.specs.Ids.{is_ascending};
+ghost use Rattle.osc_words.specs.declared.command.PlainCommand.TheVariants.{Read};
+ghost use Rattle.osc_words.specs.declared.command.Reading.TheVariants.{Replay};
+ghost use Rattle.osc_words.specs.Commands as said;
+ghost use Rattle.osc_words.specs.Ranges.{IsLawfulReading};
+ghost use Rattle.osc_ends.specs.Ends.{left_behind, IsUnplayed};
+ghost use Rattle.osc_ends.specs.Inputs.{ReadsInput};
+ghost use Rattle.osc_ends.specs.Printing.{usage_text};
+ghost use Rattle.osc_ends.specs.Recordings.{RecordsTheLaws};
+ghost use Rattle.osc_ends.specs.Sinks.{sink_change, Fails, IsSteady, GainsUnless};
+ghost use Rattle.osc_player.specs.Bank.{IsAccounted};
+ghost use Rattle.osc_plain.specs.declared.report.Report.TheVariants.{Summary};
+ghost use Rattle.osc_plain.specs.Commands as commands;
+ghost use Rattle.osc_plain.specs.Runs.{EndsLines, EndsReading, IsPlayed};
+ghost use Rattle.osc_plain.specs.EndsPlain.{EndsPlain, CanBeDone, HandsBack, AccountsPlain};
+
+use crate::generating::drawn_lines;
+use crate::limits::{default_limits, plain_limits};
+use crate::reading::{dump, replay};
+use crate::report::{Report, report_of};
+use crate::running::{run, run_lines, unplayed};
+use osc_edge::{Sink, Source};
+use osc_ends::status::NO_MEMORY;
+use osc_ends::{Ended, usage};
+use osc_method::Method;
+use osc_words::{PlainCommand, Reading, plain_command_of};
+use std::alloc::Global;
+
+/// Does all that the program does. `run` reads a script from `input` to its end, plays it on a new server, and writes
+/// the printed history and the faults of its packets to `out`, or with `--bytes` the recording. `replay` reads a
+/// recording, and writes the same printed history, each answer of which it computes again. `dump` reads a recording,
+/// and writes its entries as they stand. `gen` reads nothing: it draws a script from a seed, plays it, and writes how
+/// many entries of each kind there are.
+///
+/// `words` are those of the command line, without the program's name. The k-th add of a script gets the k-th box of
+/// `bank`. Scripts, recordings, printed lines and statuses are those of docs/FORMATS.md. What stands in `out`, and what
+/// becomes of the boxes, at want of memory isn't said.
+pub fn plain_top<S: Source, O: Sink>(
+    alloc: Global,
+    words: &[String],
+    input: &mut S,
+    out: &mut O,
+    bank: Vec<Box<dyn Method + Send>>,
+) -> Ended
+    ensures known { (result.status ≤ RECORDING_FULL) ⊎ (result.status ≡ BANK_SHORT) }
+
+    // Words that are no command are answered first, by a line on usage, and nothing is read then.
+    ensures usage { result.status ≡ USAGE
+        → said.plain_command_of (map string_bytes words.now) ≡ None }
+    ensures no_command { said.plain_command_of (map string_bytes words.now) ≡ None
+        → (result.status ≡ USAGE) ⊎ (result.status ≡ NO_MEMORY) }
+    ensures unread { said.reading_of (map string_bytes words.now) ≡ None
+        → input.new ≡ input.old }
+    ensures usage_text { result.status ≡ USAGE
+        → GainsUnless (sink_change O.held O.faults out.old out.new) usage_text }
+
+    // Then a source that failed, of which nothing is written. Any other answer but want of memory means that the
+    // source didn't fail, and that it was read to its end, or to the first byte that is too many.
+    ensures source { result.status ≡ SOURCE_FAILED
+        → Rose (S.faults input.old) (S.faults input.new) }
+    ensures unwritten { result.status ≡ SOURCE_FAILED → out.new ≡ out.old }
+    ensures sound { result.status ≢ NO_MEMORY → result.status ≢ SOURCE_FAILED
+        → S.faults input.new ≡ S.faults input.old }
+    ensures read { IfSome (said.reading_of (map string_bytes words.now))
+        (λ reading. IfSome (S.left input.old)
+        (λ all. result.status ≢ NO_MEMORY → result.status ≢ SOURCE_FAILED →
+        S.left input.new ≡ Some (left_behind (commands.most_bytes reading) all))) }
+
+    // Then a script or a recording that is refused, or a script that adds more methods than there are boxes, or what
+    // the command writes, with a sink that took all of it or failed.
+    ensures command { IfSome (said.plain_command_of (map string_bytes words.now))
+        (λ command. EndsPlain command result.status (length bank.items) (S.left input.old)
+        (sink_change O.held O.faults out.old out.new)) }
+    ensures sink { result.status ≡ SINK_FAILED
+        → Fails (sink_change O.held O.faults out.old out.new) }
+
+    // Done means that nothing failed and that the input was read to its end.
+    ensures steady { result.status ≡ DONE
+        → IsSteady (sink_change O.held O.faults out.old out.new) }
+    ensures ended { result.status ≡ DONE
+        → IsSome (said.reading_of (map string_bytes words.now))
+        → IfSome (S.left input.old) (λ all. S.left input.new ≡ Some []) }
+
+    // Each box that was added has heard what the history says, which keeps the four laws, and each other one comes
+    // back as it was; where nothing was played, all of them.
+    ensures accounted { IfSome (said.plain_command_of (map string_bytes words.now))
+        (λ command. AccountsPlain (λ box. keep box) (λ box. heard box) command result.status
+        (S.left input.old) bank.items result.heard.items result.left.items) }
+    ensures ascending { IsTrue (is_ascending (map (λ one. one.0) result.heard.items)) }
+    ensures none_heard { IsUnplayed result.status → result.heard.items ≡ [] }
+    ensures all_left { IsUnplayed result.status → result.left.items ≡ bank.items }
+
+    // The history of each recording that is replayed keeps the four laws.
+    ensures replay_laws { said.reading_of (map string_bytes words.now) ≡ Some Replay
+        → result.status ≡ DONE → IfSome (S.left input.old) RecordsTheLaws }
+
+    // What can be done is done over edges that don't fail, unless memory runs out.
+    ensures complete { IfSome (said.plain_command_of (map string_bytes words.now))
+        (λ command. CanBeDone command (length bank.items) (S.left input.old)
+        → (IsSome (said.reading_in command) → ¬ Rose (S.faults input.old) (S.faults input.new))
+        → ¬ Fails (sink_change O.held O.faults out.old out.new) →
+        (result.status ≡ DONE) ⊎ (result.status ≡ NO_MEMORY)) }
+{
+    match plain_command_of(alloc, words) {
+        Ok(Some(PlainCommand::Read(reading))) => follow(alloc, reading, input, out, bank),
+        Ok(Some(PlainCommand::Gen { seed, lines })) => generate(alloc, seed, lines, out, bank),
+        Ok(None) => unplayed(alloc, usage(out), bank),
+        Err(_) => unplayed(alloc, NO_MEMORY, bank),
+    }
+}
+
+/// Does what a command says that reads an input.
+fn follow<S: Source, O: Sink>(
+    alloc: Global,
+    reading: Reading,
+    input: &mut S,
+    out: &mut O,
+    bank: Vec<Box<dyn Method + Send>>,
+) -> Ended
+    requires range { IsLawfulReading reading }
+    ensures known { (result.status ≤ RECORDING_FULL) ⊎ (result.status ≡ BANK_SHORT) }
+    ensures said { result.status ≢ USAGE }
+    ensures input { ReadsInput (commands.most_bytes reading) result.status (S.left input.old)
+        (S.left input.new) (S.faults input.old) (S.faults input.new) }
+    ensures unwritten { result.status ≡ SOURCE_FAILED → out.new ≡ out.old }
+    ensures ends { IfSome (S.left input.old) (λ all. result.status ≢ SOURCE_FAILED →
+        EndsReading reading result.status (length bank.items) all
+        (sink_change O.held O.faults out.old out.new)) }
+    ensures sink { result.status ≡ SINK_FAILED
+        → Fails (sink_change O.held O.faults out.old out.new) }
+    ensures steady { result.status ≡ DONE
+        → IsSteady (sink_change O.held O.faults out.old out.new) }
+    ensures ended { result.status ≡ DONE
+        → IfSome (S.left input.old) (λ all. S.left input.new ≡ Some []) }
+    ensures accounted { AccountsPlain (λ box. keep box) (λ box. heard box) (Read reading)
+        result.status (S.left input.old) bank.items result.heard.items result.left.items }
+    ensures back { HandsBack result.status bank.items result.heard.items result.left.items }
+    ensures replay_laws { reading ≡ Replay → result.status ≡ DONE
+        → IfSome (S.left input.old) RecordsTheLaws }
+    ensures complete { CanBeDone (Read reading) (length bank.items) (S.left input.old)
+        → ¬ Rose (S.faults input.old) (S.faults input.new) →
+        (result.status ≡ DONE) ⊎ (result.status ≡ NO_MEMORY) ⊎ (result.status ≡ SINK_FAILED) }
+{
+    match reading {
+        Reading::Run { output, caps } => {
+            run(
+                alloc,
+                report_of(output),
+                plain_limits(caps),
+                input,
+                out,
+                bank,
+            )
+        }
+        Reading::Replay => unplayed(alloc, replay(alloc, input, out), bank),
+        Reading::Dump => unplayed(alloc, dump(alloc, input, out), bank),
+    }
+}
+
+/// Draws a script, plays it, and writes its summary.
+fn generate<O: Sink>(
+    alloc: Global,
+    seed: u64,
+    lines: u32,
+    out: &mut O,
+    bank: Vec<Box<dyn Method + Send>>,
+) -> Ended
+    requires { lines ≤ MAX_GENERATED_LINES }
+    ensures ends { EndsLines Summary commands.default_limits result.status (length bank.items)
+        (commands.drawn_lines seed lines) (sink_change O.held O.faults out.old out.new) }
+    ensures accounted { IsPlayed result.status
+        → IsAccounted (λ box. keep box) (λ box. heard box) commands.default_limits
+        (commands.drawn_lines seed lines) bank.items result.heard.items result.left.items }
+    ensures back { HandsBack result.status bank.items result.heard.items result.left.items }
+{
+    match drawn_lines(alloc, seed, lines) {
+        Ok(lines) => run_lines(alloc, Report::Summary, default_limits(), lines, out, bank),
+        Err(_) => unplayed(alloc, NO_MEMORY, bank),
+    }
+}

@@ -1,0 +1,8 @@
+//! A server that plays the lines of a script as caller 0, and what becomes of the boxes that it is handed.
+#![tactic(auto)]
+
+pub mod laws;
+mod player;
+mod playing;
+
+pub use playing::{Played, gather, keep_rest, play};

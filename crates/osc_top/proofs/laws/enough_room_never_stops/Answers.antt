@@ -1,5 +1,0 @@
-use Rattle.osc_top.proofs.Enough.{never_stops}
-use Rattle.osc_top.proofs.laws.enough_room_never_stops.Goals as goal
-
-pub returns : goal.returns
-returns c caps lines room = never_stops caps lines room

@@ -1,6 +1,0 @@
-use Rattle.std.proofs.Common.{length, refl}
-use Rattle.osc_top.proofs.Pumps.{drained}
-use Rattle.osc_top.proofs.laws.nothing_is_released_after_a_pump.Goals as goal
-
-pub returns : goal.returns
-returns c state = drained (length state.queue) state refl
