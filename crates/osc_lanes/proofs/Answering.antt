@@ -14,8 +14,8 @@ use Rattle.osc_live.specs.declared.caller.Caller.{Caller}
 use Rattle.osc_live.specs.Calls.{Calls, EndsWith, AddsNone}
 use Rattle.osc_live.specs.declared.pumped.Pumped.{Pumped}
 use Rattle.osc_live.specs.Pumps.{Releases as Released, Pumps, end_of}
-use Rattle.osc_lanes.specs.Shares.{Player, Onward, EntersOne, Answered, Releases}
-use Rattle.osc_lanes.specs.Ends.{seen_by, player_of}
+use Rattle.osc_lanes.specs.Shares.{Holder, Onward, EntersOne, Answered, Releases}
+use Rattle.osc_lanes.specs.Ends.{seen_by, holder_of}
 
 -- what was seen has one entry less, where one was added
 shorter : (n : ℕ) (one : Seen) (before seen past : List Seen) → seen ≡ before ++ one ∷ [] → StartsWith seen past
@@ -37,14 +37,14 @@ answered_one n one before seen past mine last starts added = (
 pub answered_in : (caps : Limits) (caller : ℕ) (event : Event) (answer : Answer) (v w : View) → Calls caps caller event answer v w
     → Answered (record { caps = caps; token = number_of v; caller = caller }) event answer v.seen w.seen
 answered_in caps caller event answer v w calls = go (adds_entry answer) refl calls.answered where
-  player : Player
-  player = record { caps = caps; token = number_of v; caller = caller }
+  holder : Holder
+  holder = record { caps = caps; token = number_of v; caller = caller }
 
   one : Entry
   one = record { caller = caller; event = event; answer = answer }
 
   go : (t : Bool) → adds_entry answer ≡ t → MatchBool t (EndsWith caps caller event answer v w) (AddsNone caps event answer v w)
-      → Answered player event answer v.seen w.seen
+      → Answered holder event answer v.seen w.seen
   go true is ends = record {
     legal = calls.legal;
     found = ends.before;
@@ -61,10 +61,10 @@ answered_in caps caller event answer v w calls = go (adds_entry answer) refl cal
     then_seen = subst (λ (t : Bool). MatchBool t (EntersOne (number_of v) one w.seen w.seen) (w.seen ≡ w.seen)) (sym is) refl;
   }
 
--- a call of a caller, as an answer to the player that it is
+-- a call of a caller, as an answer to the holder that it is
 pub answered_by : (caps : Limits) (start next : Caller) (event : Event) (answer : Answer)
     → Calls caps start.number event answer (view start.pass) (view next.pass)
-    → Answered (player_of caps start) event answer (seen_by start) (seen_by next)
+    → Answered (holder_of caps start) event answer (seen_by start) (seen_by next)
 answered_by caps start next event answer calls = answered_in caps start.number event answer (view start.pass) (view next.pass) calls
 
 -- releases, one after another
@@ -86,8 +86,8 @@ released_in caps caller (suc count) made v w (between, before, last, is, earlier
 
 -- a pump: its releases, and the place where it ends
 pub pumped_by : (caps : Limits) (start next : Caller) (pumped : Pumped) → Pumps caps start.number pumped (view start.pass) (view next.pass)
-    → (place : List Seen) × Releases (player_of caps start) pumped.released (seen_by start) place
-    × Answered (player_of caps start) release (end_of pumped.end) place (seen_by next)
+    → (place : List Seen) × Releases (holder_of caps start) pumped.released (seen_by start) place
+    × Answered (holder_of caps start) release (end_of pumped.end) place (seen_by next)
 pumped_by caps start next pumped pumps =
     let first = released_in caps start.number pumped.released pumped.calls (view start.pass) pumps.between pumps.releases in (
       pumps.between.seen,
@@ -97,10 +97,10 @@ pumped_by caps start next pumped pumps =
           (answered_in caps start.number release (end_of pumped.end) pumps.between (view next.pass) pumps.last),
     )
 
--- it stays the same player
-pub pumped_player : (caps : Limits) (start next : Caller) (pumped : Pumped) → next.number ≡ start.number
-    → Pumps caps start.number pumped (view start.pass) (view next.pass) → player_of caps next ≡ player_of caps start
-pumped_player caps start next pumped same pumps i =
+-- it stays the same holder
+pub pumped_holder : (caps : Limits) (start next : Caller) (pumped : Pumped) → next.number ≡ start.number
+    → Pumps caps start.number pumped (view start.pass) (view next.pass) → holder_of caps next ≡ holder_of caps start
+pumped_holder caps start next pumped same pumps i =
     let first = released_in caps start.number pumped.released pumped.calls (view start.pass) pumps.between pumps.releases in
     record { caps = caps; token = (ap number_of pumps.last.once ∙ first.0) i; caller = same i }
 

@@ -25,10 +25,10 @@ use Rattle.osc_live.specs.Closing.{known, views_of, IsOfCaller, Closes}
 use Rattle.osc_lanes.proofs.Fresh.{all_since}
 use Rattle.osc_lanes.specs.declared.plan.LanePlan.{LanePlan}
 use Rattle.osc_lanes.specs.declared.plan.LaneEnd.{LaneEnd}
-use Rattle.osc_lanes.specs.Ends.{seen_by, account_of, IsReady, IsEndOf}
-use Rattle.osc_lanes.specs.Shares.{Player, Account, ended}
+use Rattle.osc_lanes.specs.Ends.{seen_by, IsReady, IsEndOf}
+use Rattle.osc_lanes.specs.Shares.{Holder, Account, ended}
 use Rattle.osc_lanes.specs.Performs.{Part, IsWhole, IsStage, Performs, told_of}
-use Rattle.osc_lanes.specs.Crews.{names_of, same_names, caller_of, part_in, caller_in, without_caller, IsSilent, HasSeen, IsCrew, FindsNoRoom}
+use Rattle.osc_lanes.specs.Crews.{names_of, same_names, caller_of, part_in, caller_in, told_in, IsSilent, HasSeen, IsCrew, FindsNoRoom}
 use Rattle.osc_lanes.proofs.Balance.{StaysSound}
 use Rattle.osc_lanes.proofs.Staging.{only_first, alone_from, staged}
 use Rattle.osc_lanes.proofs.Sharing.{Carried, KeepsRemoved, shares, closed_all, closed_none}
@@ -68,10 +68,6 @@ module _ {M : Type 0} where
       → AllByRecursion IsReady plans
   ready [] whole silent = tt
   ready (plan ∷ plans) whole silent = ((whole.0, silent.0), ready plans whole.1 silent.1)
-
-  pub told_ends : (ends : List (LaneEnd M)) → map told_of (map without_caller ends) ≡ map account_of ends
-  told_ends [] = refl
-  told_ends (end ∷ ends) = ap (λ (l : List (Account M)). account_of end ∷ l) (told_ends ends)
 
 -- What a close says where caller 0 and these others hand their tokens in, who had no entries in what caller 0 has seen.
 pub record StandsOn (caps : Limits) (start : List Entry) (count : ℕ) (v : View) (history : List Seen) : Type 0 where
@@ -150,7 +146,7 @@ module _ {M : Type 0} (keep : M → ℕ) (heard : M → Option (List ℕ)) (caps
   names_back [] (end ∷ ends) all = absurd all
   names_back (plan ∷ plans) [] all = absurd all
   names_back (plan ∷ plans) (end ∷ ends) all =
-      λ i. ((ap (λ (p : Player). p.caller) all.0.player) i, (ap (λ (p : Player). p.token) all.0.player) i) ∷ names_back plans ends all.1 i
+      λ i. ((ap (λ (p : Holder). p.caller) all.0.holder) i, (ap (λ (p : Holder). p.token) all.0.holder) i) ∷ names_back plans ends all.1 i
 
   module _ (stays : StaysSound) (opens : OpensSound) (bytes : List ℕ) (kept : List (ℕ × M)) (first : Caller) (v : View)
       (enrolled : List Caller) (is : view first.pass ≡ v) (zero_is : first.number ≡ 0) where
@@ -159,7 +155,7 @@ module _ {M : Type 0} (keep : M → ℕ) (heard : M → Option (List ℕ)) (caps
         → names_of (map caller_of plans) ≡ names_of enrolled → length plans ≡ length enrolled → AllByRecursion IsSilent (map caller_of plans)
         → AllByRecursion (HasSeen v.seen) (map caller_of plans) → AllByRecursion IsReady plans → AllZip (IsEndOf keep heard caps) plans ends
         → Closes caps [] (known (first ∷ map caller_in ends)) (views_of (first ∷ map caller_in ends) []) bytes (told keep heard kept)
-        → Performs keep heard caps (map part_in plans) bytes kept (map account_of ends) None
+        → Performs keep heard caps (map part_in plans) bytes kept (map told_of (map told_in ends)) None
     finish_played law crew plans ends named many silent has all_ready all closes =
         let others = map caller_in ends in
         let history = closes.history in

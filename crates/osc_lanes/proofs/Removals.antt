@@ -9,7 +9,7 @@ use Rattle.osc_atoms.specs.declared.fault.Fault.{Fault}
 use Rattle.osc_packet.specs.declared.limits.TheConstants.{MAX_PACKET}
 use Rattle.osc_packet.specs.Reading.{packet_fault}
 use Rattle.osc_model.specs.State.{State}
-use Rattle.osc_model.specs.Events.{Event, submit, add, remove, tick, release, Answer, released, nothing_due, record_full, adds_entry, Entry, Room}
+use Rattle.osc_model.specs.Events.{Event, submit, add, remove, tick, release, Answer, released, nothing_due, record_full, adds_entry, Entry, Room, room_in}
 use Rattle.osc_model.specs.Step.{step}
 use Rattle.osc_model.specs.History.{state_of}
 use Rattle.osc_model.proofs.Changes.{Changes, changes}
@@ -22,7 +22,7 @@ use Rattle.osc_turn.specs.declared.view.Entry.{Entry as Seen}
 use Rattle.osc_turn.specs.History.{texts, entry, own}
 use Rattle.osc_turn.proofs.Histories.{own_append, own_of_mine}
 use Rattle.osc_live.specs.Seen.{performance_in}
-use Rattle.osc_lanes.specs.Shares.{Player, Answered, EntersOne, Releases, Account, then_told, ended, stop_of, id_in, PlaysAct, Plays, LaneOf}
+use Rattle.osc_lanes.specs.Shares.{Holder, Answered, EntersOne, Releases, Account, then_told, ended, id_in, PlaysAct, Plays, LaneOf}
 use Rattle.osc_lanes.specs.Performs.{Part, Numbered, removed_ids}
 use Rattle.osc_lanes.proofs.Balance.{gone_ids, unchanged}
 use Rattle.osc_lanes.proofs.Parting.{given_by, given_in}
@@ -57,40 +57,40 @@ only_removes state event other = go (changes state event) where
   go (inr (inl adds)) = ap id_in adds.answer
   go (inr (inr loses)) = let is = loses.event_is in let yes : removes event ≡ true = ap removes is in absurd (cc)
 
-module _ (player : Player) where
-  -- the ids that the player's own entries remove, in order
+module _ (holder : Holder) where
+  -- the ids that the holder's own entries remove, in order
   abbrev pub own_gone : List Seen → List ℕ
-  own_gone history = given_by gone history player.token
+  own_gone history = given_by gone history holder.token
 
-  answered_gone : (event : Event) (answer : Answer) (here there : List Seen) → Answered player event answer here there
+  answered_gone : (event : Event) (answer : Answer) (here there : List Seen) → Answered holder event answer here there
       → own_gone there ≡ own_gone here ++ id_in answer
   answered_gone event answer here there a = go (adds_entry answer) refl a.then_seen where
     one : Entry
-    one = record { caller = player.caller; event = event; answer = answer }
+    one = record { caller = holder.caller; event = event; answer = answer }
 
-    go : (t : Bool) → adds_entry answer ≡ t → MatchBool t (EntersOne player.token one a.found there) (there ≡ a.found)
+    go : (t : Bool) → adds_entry answer ≡ t → MatchBool t (EntersOne holder.token one a.found there) (there ≡ a.found)
         → own_gone there ≡ own_gone here ++ id_in answer
     go true is enters =
-        let last = entry player.token enters.text in
+        let last = entry holder.token enters.text in
         let reads : gone last ++ [] ≡ id_in answer =
         append-nil (gone last) ∙ ap (λ (r : Option Entry). option_map_or (λ entry. id_in entry.answer) r []) enters.read in
         ap own_gone enters.last
-        ∙ ap (flat_map gone) (own_append player.token a.found (last ∷ []) ∙ (λ i. a.onward.1 i ++ own_of_mine player.token last refl i))
-        ∙ flat_map-append gone (own player.token here) (last ∷ [])
+        ∙ ap (flat_map gone) (own_append holder.token a.found (last ∷ []) ∙ (λ i. a.onward.1 i ++ own_of_mine holder.token last refl i))
+        ∙ flat_map-append gone (own holder.token here) (last ∷ [])
         ∙ ap (λ (l : List ℕ). own_gone here ++ l) reads
     go false is same =
         ap own_gone same ∙ ap (flat_map gone) a.onward.1 ∙ sym (append-nil (own_gone here))
         ∙ ap (λ (l : List ℕ). own_gone here ++ l) (sym (not_entered answer is))
 
   -- an event that removes nothing
-  kept_gone : (event : Event) (answer : Answer) (here there : List Seen) → removes event ≡ false → Answered player event answer here there
+  kept_gone : (event : Event) (answer : Answer) (here there : List Seen) → removes event ≡ false → Answered holder event answer here there
       → own_gone there ≡ own_gone here
   kept_gone event answer here there other a =
       let none : id_in answer ≡ [] =
-      ap id_in a.decided ∙ only_removes (state_of (performance_in player.caps (texts a.found))) event other in
+      ap id_in a.decided ∙ only_removes (state_of (performance_in holder.caps (texts a.found))) event other in
       answered_gone event answer here there a ∙ ap (λ (l : List ℕ). own_gone here ++ l) none ∙ append-nil (own_gone here)
 
-  releases_gone : (count : ℕ) (here there : List Seen) → Releases player count here there → own_gone there ≡ own_gone here
+  releases_gone : (count : ℕ) (here there : List Seen) → Releases holder count here there → own_gone there ≡ own_gone here
   releases_gone zero here there same = ap own_gone same
   releases_gone (suc count) here there (place, unit, hits, first, last) =
       kept_gone release (released unit hits) place there refl last ∙ releases_gone count here place first
@@ -106,7 +106,7 @@ module _ (player : Player) where
         same ∙ sym (append-nil (own_gone here)) ∙ ap (λ (l : List (ℕ × M)). own_gone here ++ map (λ one. one.0) l) (sym none)
 
     pub act_gone : (number : ℕ) (act : Act) (boxes left : List M) (account : Account M) (here there : List Seen)
-        → PlaysAct keep heard player number act boxes left account here there → own_gone there ≡ own_gone here ++ ids_told account
+        → PlaysAct keep heard holder number act boxes left account here there → own_gone there ≡ own_gone here ++ ids_told account
     act_gone number (Add address) boxes left account here there (box, answer, first, a, marked, is) =
         nothing_told account here there (ap (λ (one : Account M). one.removed) is) (kept_gone (add address) answer here there refl a)
     act_gone number (Remove address) boxes left account here there (out, answer, same, a, ids, are, is) =
@@ -114,7 +114,7 @@ module _ (player : Player) where
         ∙ ap (λ (l : List ℕ). own_gone here ++ l) (sym ids ∙ ap (map (λ (one : ℕ × M). one.0)) (sym (ap (λ (one : Account M). one.removed) is)))
     act_gone number (Send bytes) boxes left account here there (same, sent) = go (packet_fault MAX_PACKET bytes) sent where
       go : (fault : Option Fault)
-          → MatchOption fault ((answer : Answer) × Answered player (submit bytes) answer here there × (account ≡ ended [] (stop_of answer)))
+          → MatchOption fault ((answer : Answer) × Answered holder (submit bytes) answer here there × (account ≡ ended [] (room_in answer)))
           (λ one. (there ≡ here) × (account ≡ record { faults = (number, one) ∷ []; removed = []; back = []; stop = None }))
           → own_gone there ≡ own_gone here ++ ids_told account
       go None (answer, a, is) =
@@ -136,15 +136,15 @@ module _ (player : Player) where
         (sym (map-append (λ (one : ℕ × M). one.0) first.removed rest.removed) ∙ ap (map (λ (one : ℕ × M). one.0)) (sym is))
 
     pub plays_gone : (lines : List Line) (boxes : List M) (account : Account M) (here there : List Seen)
-        → Plays keep heard player lines boxes account here there → own_gone there ≡ own_gone here ++ ids_told account
+        → Plays keep heard holder lines boxes account here there → own_gone there ≡ own_gone here ++ ids_told account
     plays_gone [] boxes account here there (is, same) =
         nothing_told account here there (ap (λ (one : Account M). one.removed) is) (ap own_gone same)
     plays_gone (line ∷ lines) boxes account here there (left, first, place, one, more) =
         go first.stop more (λ rest plays. plays_gone lines left rest place there plays) where
           go : (stop : Option Room)
-              → MatchOption stop ((rest : Account M) × (account ≡ then_told first rest) × Plays keep heard player lines left rest place there)
+              → MatchOption stop ((rest : Account M) × (account ≡ then_told first rest) × Plays keep heard holder lines left rest place there)
               (λ room. (account ≡ then_told first (ended left (Some room))) × (there ≡ place))
-              → ((rest : Account M) → Plays keep heard player lines left rest place there → own_gone there ≡ own_gone place ++ ids_told rest)
+              → ((rest : Account M) → Plays keep heard holder lines left rest place there → own_gone there ≡ own_gone place ++ ids_told rest)
               → own_gone there ≡ own_gone here ++ ids_told account
           go None (rest, is, plays) goes =
               gone_on account first rest here place there (ap (λ (one : Account M). one.removed) is)
@@ -156,7 +156,7 @@ module _ (player : Player) where
 
     -- the ids that a lane's share of a history removes
     pub lane_gone : (lines : List Line) (boxes : List M) (account : Account M) (history : List Seen)
-        → LaneOf keep heard player lines boxes account history → own_gone history ≡ ids_told account
+        → LaneOf keep heard holder lines boxes account history → own_gone history ≡ ids_told account
     lane_gone lines boxes account history (here, there, none, plays, on) =
         ap (flat_map gone) on.1 ∙ plays_gone lines boxes account here there plays
         ∙ ap (λ (l : List Seen). flat_map gone l ++ ids_told account) none

@@ -22,10 +22,11 @@ use Rattle.osc_live.specs.Seen.{performance_in}
 use Rattle.osc_live.specs.Closing.{Closes}
 use Rattle.osc_lanes.specs.declared.plan.LanePlan.{LanePlan}
 use Rattle.osc_lanes.specs.declared.plan.LaneEnd.{LaneEnd}
-use Rattle.osc_lanes.specs.Ends.{seen_by, player_of, account_of, IsReady, IsEndOf}
-use Rattle.osc_lanes.specs.Shares.{Player, Account, LaneOf, IsRemovedAt, ended}
-use Rattle.osc_lanes.specs.Performs.{Part, Numbered, IsStage, IsClosedWith, player_at, added_ids, removed_ids, enrolments}
-use Rattle.osc_lanes.specs.Crews.{names_of, same_names, caller_of, part_in, caller_in}
+use Rattle.osc_lanes.specs.Ends.{seen_by, holder_of, IsReady, IsEndOf}
+use Rattle.osc_lanes.specs.Performs.{told_of}
+use Rattle.osc_lanes.specs.Shares.{Holder, Account, LaneOf, IsRemovedAt, ended}
+use Rattle.osc_lanes.specs.Performs.{Part, Numbered, IsStage, IsClosedWith, holder_at, added_ids, removed_ids, enrolments}
+use Rattle.osc_lanes.specs.Crews.{names_of, same_names, caller_of, part_in, caller_in, told_in}
 use Rattle.osc_lanes.proofs.Balance.{StaysSound, gone_ids, ids_of, balance, ascends}
 use Rattle.osc_lanes.proofs.Parting.{given_by, given_in, parted}
 use Rattle.osc_lanes.proofs.Removals.{gone, gone_in, lane_gone, told_ids}
@@ -45,20 +46,20 @@ module _ {M : Type 0} (keep : M → ℕ) (heard : M → Option (List ℕ)) (caps
   abbrev pub KeepsRemoved : Type 0
   KeepsRemoved = (plan : LanePlan M) (end : LaneEnd M) (history : List Seen) → IsEndOf keep heard caps plan end
       → StartsWith history (seen_by end.caller) → Legal caps (history_in (texts history))
-      → AllByRecursion (IsRemovedAt keep heard caps history) end.removed.items
+      → AllByRecursion (IsRemovedAt keep heard caps history) end.told.removed.items
 
   module _ (history : List Seen) where
     abbrev IsShare : ℕ → Part M → Account M → Type 0
-    IsShare number part account = LaneOf keep heard (player_at caps number) part.lines part.boxes account history
+    IsShare number part account = LaneOf keep heard (holder_at caps number) part.lines part.boxes account history
 
     share : (number : ℕ) (plan : LanePlan M) (end : LaneEnd M)
         → ◌≡◌ {A = ℕ × ℕ} (plan.caller.number, number_of (view plan.caller.pass)) (number, number) → IsReady plan → IsEndOf keep heard caps plan end
-        → Carried history end.caller → IsShare number (part_in plan) (account_of end)
+        → Carried history end.caller → IsShare number (part_in plan) (told_of end.told)
     share number plan end name ready is carried =
-        let player : player_of caps plan.caller ≡ player_at caps number =
+        let holder : holder_of caps plan.caller ≡ holder_at caps number =
         λ i. record { caps = caps; token = (ap (λ (n : ℕ × ℕ). n.1) name) i; caller = (ap (λ (n : ℕ × ℕ). n.0) name) i } in
-        let token : number_of (view end.caller.pass) ≡ number_of (view plan.caller.pass) = ap (λ (p : Player). p.token) is.player in
-        subst (λ (p : Player). LaneOf keep heard p plan.lines.items plan.boxes.items (account_of end) history) player (
+        let token : number_of (view end.caller.pass) ≡ number_of (view plan.caller.pass) = ap (λ (p : Holder). p.token) is.holder in
+        subst (λ (p : Holder). LaneOf keep heard p plan.part.lines.items plan.part.boxes.items (told_of end.told) history) holder (
           seen_by plan.caller,
           seen_by end.caller,
           ready.1,
@@ -68,7 +69,7 @@ module _ {M : Type 0} (keep : M → ℕ) (heard : M → Option (List ℕ)) (caps
 
     pub shares : (first : ℕ) (plans : List (LanePlan M)) (ends : List (LaneEnd M)) → names_of (map caller_of plans) ≡ same_names first (length plans)
         → AllByRecursion IsReady plans → AllZip (IsEndOf keep heard caps) plans ends → AllByRecursion (Carried history) (map caller_in ends)
-        → Numbered IsShare first (map part_in plans) (map account_of ends)
+        → Numbered IsShare first (map part_in plans) (map told_of (map told_in ends))
     shares first [] [] named ready all carried = tt
     shares first [] (end ∷ ends) named ready all carried = absurd all
     shares first (plan ∷ plans) [] named ready all carried = absurd all
@@ -79,7 +80,7 @@ module _ {M : Type 0} (keep : M → ℕ) (heard : M → Option (List ℕ)) (caps
 
     pub removed_all : KeepsRemoved → Legal caps (history_in (texts history)) → (plans : List (LanePlan M)) (ends : List (LaneEnd M))
         → AllZip (IsEndOf keep heard caps) plans ends → AllByRecursion (Carried history) (map caller_in ends)
-        → AllByRecursion (λ account. AllByRecursion (IsRemovedAt keep heard caps history) account.removed) (map account_of ends)
+        → AllByRecursion (λ account. AllByRecursion (IsRemovedAt keep heard caps history) account.removed) (map told_of (map told_in ends))
     removed_all law legal [] [] all carried = tt
     removed_all law legal [] (end ∷ ends) all carried = absurd all
     removed_all law legal (plan ∷ plans) [] all carried = absurd all
@@ -93,7 +94,7 @@ module _ {M : Type 0} (keep : M → ℕ) (heard : M → Option (List ℕ)) (caps
     gone_of number [] (account ∷ accounts) all = absurd all
     gone_of number (part ∷ parts) [] all = absurd all
     gone_of number (part ∷ parts) (account ∷ accounts) all = (
-      lane_gone (player_at caps number) keep heard part.lines part.boxes account history all.0,
+      lane_gone (holder_at caps number) keep heard part.lines part.boxes account history all.0,
       gone_of (number + 1) parts accounts all.1,
     )
 
@@ -146,12 +147,12 @@ module _ {M : Type 0} (keep : M → ℕ) (heard : M → Option (List ℕ)) (caps
     pub closed_all : StaysSound → IsSound (opening caps) → KeepsRemoved → (bytes : List ℕ) (kept : List (ℕ × M)) (knows : List (ℕ × View))
         (views : List View) → (closes : Closes caps [] knows views bytes (told keep heard kept)) → closes.history ≡ history
         → (plans : List (LanePlan M)) (ends : List (LaneEnd M)) → IsStage caps [] (length plans) history
-        → Numbered IsShare 1 (map part_in plans) (map account_of ends) → AllZip (IsEndOf keep heard caps) plans ends
-        → AllByRecursion (Carried history) (map caller_in ends) → IsClosedWith keep heard caps history bytes kept (map account_of ends)
+        → Numbered IsShare 1 (map part_in plans) (map told_of (map told_in ends)) → AllZip (IsEndOf keep heard caps) plans ends
+        → AllByRecursion (Carried history) (map caller_in ends) → IsClosedWith keep heard caps history bytes kept (map told_of (map told_in ends))
     closed_all stays sound law bytes kept knows views closes is plans ends stage here all carried =
         let many : length plans ≡ length (map part_in plans) = sym (length-map plans part_in) in
-        closed_with stays sound bytes kept knows views closes is (map account_of ends)
-        (gone_told (map part_in plans) (map account_of ends) (subst (λ (n : ℕ). IsStage caps [] n history) many stage) here)
+        closed_with stays sound bytes kept knows views closes is (map told_of (map told_in ends))
+        (gone_told (map part_in plans) (map told_of (map told_in ends)) (subst (λ (n : ℕ). IsStage caps [] n history) many stage) here)
         (removed_all law stage.legal plans ends all carried)
 
     nothing_removed : (parts : List (Part M)) → removed_ids (map (λ part. ended part.boxes None) parts) ≡ []

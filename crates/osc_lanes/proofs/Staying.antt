@@ -12,7 +12,7 @@ use Rattle.osc_packet.specs.Reading.{packet_fault}
 use Rattle.osc_model.specs.Limits.{Limits}
 use Rattle.osc_model.specs.State.{opening}
 use Rattle.osc_model.specs.Events.{Event, add, remove, submit, tick, release, Answer, number, callers_full, queued, units_full, pool_full, added, refused}
-use Rattle.osc_model.specs.Events.{removed, not_there, ticked, clock_back, released, nothing_due, record_full, adds_entry, Entry, Invocation, Room}
+use Rattle.osc_model.specs.Events.{removed, not_there, ticked, clock_back, released, nothing_due, record_full, adds_entry, Entry, Invocation, Room, room_in}
 use Rattle.osc_model.specs.Heard.{Told, bytes_of, calls_bytes}
 use Rattle.osc_model.specs.History.{Legal, after, invocations, HasHeard}
 use Rattle.osc_model.proofs.Calls.{all_append}
@@ -28,7 +28,7 @@ use Rattle.osc_turn.specs.History.{StartsWith, texts, entry}
 use Rattle.osc_turn.proofs.Histories.{starts_here, starts_on, starts_texts}
 use Rattle.osc_live.proofs.Answered.{texts_more}
 use Rattle.osc_live.proofs.Asks.{history_starts}
-use Rattle.osc_lanes.specs.Shares.{Player, Answered, EntersOne, Releases, Account, then_told, ended, stop_of, id_in, known_of, IsRemovedAt, PlaysAct, Plays}
+use Rattle.osc_lanes.specs.Shares.{Holder, Answered, EntersOne, Releases, Account, then_told, ended, id_in, known_of, IsRemovedAt, PlaysAct, Plays}
 
 -- no invocation of an id stands after its method was removed
 abbrev pub StaySilent : Type 0
@@ -113,61 +113,61 @@ only_id (record_full room) id rest is = absurd (cc)
 
 -- What is seen goes on.
 
-answered_starts : (player : Player) (event : Event) (answer : Answer) (here there : List Seen) → Answered player event answer here there → StartsWith there here
-answered_starts player event answer here there a = go (adds_entry answer) a.then_seen where
+answered_starts : (holder : Holder) (event : Event) (answer : Answer) (here there : List Seen) → Answered holder event answer here there → StartsWith there here
+answered_starts holder event answer here there a = go (adds_entry answer) a.then_seen where
   go : (t : Bool)
-      → MatchBool t (EntersOne player.token (record { caller = player.caller; event = event; answer = answer }) a.found there) (there ≡ a.found)
+      → MatchBool t (EntersOne holder.token (record { caller = holder.caller; event = event; answer = answer }) a.found there) (there ≡ a.found)
       → StartsWith there here
   go true enters = starts_on there a.found here (_, enters.last) a.onward.0
   go false same = subst (λ (l : List Seen). StartsWith l here) (sym same) a.onward.0
 
-releases_start : (player : Player) (count : ℕ) (here there : List Seen) → Releases player count here there → StartsWith there here
-releases_start player zero here there same = subst (λ (l : List Seen). StartsWith l here) (sym same) (starts_here here)
-releases_start player (suc count) here there (place, unit, hits, first, last) =
-    starts_on there place here (answered_starts player _ _ place there last) (releases_start player count here place first)
+releases_start : (holder : Holder) (count : ℕ) (here there : List Seen) → Releases holder count here there → StartsWith there here
+releases_start holder zero here there same = subst (λ (l : List Seen). StartsWith l here) (sym same) (starts_here here)
+releases_start holder (suc count) here there (place, unit, hits, first, last) =
+    starts_on there place here (answered_starts holder _ _ place there last) (releases_start holder count here place first)
 
-module _ {M : Type 0} (keep : M → ℕ) (heard : M → Option (List ℕ)) (player : Player) where
+module _ {M : Type 0} (keep : M → ℕ) (heard : M → Option (List ℕ)) (holder : Holder) where
   -- a legal history is seen then, or nothing more is seen and no box was removed
   abbrev SeesMore : List Seen → List Seen → List (ℕ × M) → Type 0
-  SeesMore here there out = Legal player.caps (history_in (texts there)) ⊎ ((there ≡ here) × (out ≡ []))
+  SeesMore here there out = Legal holder.caps (history_in (texts there)) ⊎ ((there ≡ here) × (out ≡ []))
 
   -- what is said of a part that was played: it goes on, and what it removed has heard what each later history says
   record Stays (account : Account M) (here there : List Seen) : Type 0 where
     starts : StartsWith there here
     sees : SeesMore here there account.removed
-    later_on : (later : List Seen) → StartsWith later there → Legal player.caps (history_in (texts later))
-        → AllByRecursion (IsRemovedAt keep heard player.caps later) account.removed
+    later_on : (later : List Seen) → StartsWith later there → Legal holder.caps (history_in (texts later))
+        → AllByRecursion (IsRemovedAt keep heard holder.caps later) account.removed
 
   -- an event that hands no box out
   stays_kept : (event : Event) (answer : Answer) (account : Account M) (here place there : List Seen) → StartsWith place here
-      → Answered player event answer place there → account.removed ≡ [] → Stays account here there
+      → Answered holder event answer place there → account.removed ≡ [] → Stays account here there
   stays_kept event answer account here place there starts a none = record {
-    starts = starts_on there place here (answered_starts player event answer place there a) starts;
+    starts = starts_on there place here (answered_starts holder event answer place there a) starts;
     sees = inl a.legal;
-    later_on = λ later on legal. subst (AllByRecursion (IsRemovedAt keep heard player.caps later)) (sym none) tt;
+    later_on = λ later on legal. subst (AllByRecursion (IsRemovedAt keep heard holder.caps later)) (sym none) tt;
   }
 
   module _ (silent : StaySilent) where
     stays_removed : (address : List ℕ) (out : List (ℕ × M)) (answer : Answer) (account : Account M) (here there : List Seen)
-        → Answered player (remove address) answer here there → map (λ (one : ℕ × M). one.0) out ≡ id_in answer
-        → AllByRecursion (IsRemovedAt keep heard player.caps there) out → account.removed ≡ out → Stays account here there
+        → Answered holder (remove address) answer here there → map (λ (one : ℕ × M). one.0) out ≡ id_in answer
+        → AllByRecursion (IsRemovedAt keep heard holder.caps there) out → account.removed ≡ out → Stays account here there
     stays_removed address out answer account here there a ids are same = record {
-      starts = answered_starts player (remove address) answer here there a;
+      starts = answered_starts holder (remove address) answer here there a;
       sees = inl a.legal;
-      later_on = λ later on legal. subst (AllByRecursion (IsRemovedAt keep heard player.caps later)) (sym same) (go later on legal out ids are);
+      later_on = λ later on legal. subst (AllByRecursion (IsRemovedAt keep heard holder.caps later)) (sym same) (go later on legal out ids are);
     }
       where
-        go : (later : List Seen) → StartsWith later there → Legal player.caps (history_in (texts later)) → (boxes : List (ℕ × M))
-            → map (λ (one : ℕ × M). one.0) boxes ≡ id_in answer → AllByRecursion (IsRemovedAt keep heard player.caps there) boxes
-            → AllByRecursion (IsRemovedAt keep heard player.caps later) boxes
+        go : (later : List Seen) → StartsWith later there → Legal holder.caps (history_in (texts later)) → (boxes : List (ℕ × M))
+            → map (λ (one : ℕ × M). one.0) boxes ≡ id_in answer → AllByRecursion (IsRemovedAt keep heard holder.caps there) boxes
+            → AllByRecursion (IsRemovedAt keep heard holder.caps later) boxes
         go later on legal [] ids are = tt
         go later on legal (box ∷ []) ids are =
             let told = only_id answer box.0 [] ids in (
-              removed_still keep heard silent player.caps player.token
-                  (record { caller = player.caller; event = remove address; answer = answer }) a.found there later
+              removed_still keep heard silent holder.caps holder.token
+                  (record { caller = holder.caller; event = remove address; answer = answer }) a.found there later
                   box
                   (subst (λ (t : Bool). MatchBool t
-                  (EntersOne player.token (record { caller = player.caller; event = remove address; answer = answer }) a.found there) (there ≡ a.found))
+                  (EntersOne holder.token (record { caller = holder.caller; event = remove address; answer = answer }) a.found there) (there ≡ a.found))
                   (ap adds_entry told.0) a.then_seen)
                   told.0 on legal are.0,
               tt,
@@ -178,26 +178,26 @@ module _ {M : Type 0} (keep : M → ℕ) (heard : M → Option (List ℕ)) (play
             absurd (cc)
 
     act_stays : (n : ℕ) (act : Act) (boxes left : List M) (account : Account M) (here there : List Seen)
-        → PlaysAct keep heard player n act boxes left account here there → Stays account here there
+        → PlaysAct keep heard holder n act boxes left account here there → Stays account here there
     act_stays n (Add address) boxes left account here there (box, answer, first, a, marked, is) =
         stays_kept (add address) answer account here here there (starts_here here) a (ap (λ (one : Account M). one.removed) is)
     act_stays n (Remove address) boxes left account here there (out, answer, same, a, ids, are, is) =
         stays_removed address out answer account here there a ids are (ap (λ (one : Account M). one.removed) is)
     act_stays n (Send bytes) boxes left account here there (same, sent) = go (packet_fault MAX_PACKET bytes) sent where
       go : (fault : Option Fault)
-          → MatchOption fault ((answer : Answer) × Answered player (submit bytes) answer here there × (account ≡ ended [] (stop_of answer)))
+          → MatchOption fault ((answer : Answer) × Answered holder (submit bytes) answer here there × (account ≡ ended [] (room_in answer)))
           (λ one. (there ≡ here) × (account ≡ record { faults = (n, one) ∷ []; removed = []; back = []; stop = None }))
           → Stays account here there
       go None (answer, a, is) = stays_kept (submit bytes) answer account here here there (starts_here here) a (ap (λ (one : Account M). one.removed) is)
       go (Some fault) (still, is) = record {
         starts = subst (λ (l : List Seen). StartsWith l here) (sym still) (starts_here here);
         sees = inr (still, ap (λ (one : Account M). one.removed) is);
-        later_on = λ later on legal. subst (AllByRecursion (IsRemovedAt keep heard player.caps later)) (sym (ap (λ (one : Account M). one.removed) is)) tt;
+        later_on = λ later on legal. subst (AllByRecursion (IsRemovedAt keep heard holder.caps later)) (sym (ap (λ (one : Account M). one.removed) is)) tt;
       }
     act_stays n (Tick moment) boxes left account here there (same, answer, a, is) =
         stays_kept (tick moment) answer account here here there (starts_here here) a (ap (λ (one : Account M). one.removed) is)
     act_stays n Pump boxes left account here there (same, count, place, answer, releases, a, ends, is) =
-        stays_kept release answer account here place there (releases_start player count here place releases) a (ap (λ (one : Account M). one.removed) is)
+        stays_kept release answer account here place there (releases_start holder count here place releases) a (ap (λ (one : Account M). one.removed) is)
 
     -- a part that is played, and then the rest
     stays_on : (account first rest : Account M) (here place there : List Seen) → account.removed ≡ first.removed ++ rest.removed
@@ -205,15 +205,15 @@ module _ {M : Type 0} (keep : M → ℕ) (heard : M → Option (List ℕ)) (play
     stays_on account first rest here place there is one more = record {
       starts = starts_on there place here more.starts one.starts;
       sees = go one.sees more.sees;
-      later_on = λ later on legal. subst (AllByRecursion (IsRemovedAt keep heard player.caps later)) (sym is)
-          (all_append (IsRemovedAt keep heard player.caps later) first.removed rest.removed
+      later_on = λ later on legal. subst (AllByRecursion (IsRemovedAt keep heard holder.caps later)) (sym is)
+          (all_append (IsRemovedAt keep heard holder.caps later) first.removed rest.removed
           (one.later_on later (starts_on later there place on more.starts) legal)
           (more.later_on later on legal));
     }
       where
         go : SeesMore here place first.removed → SeesMore place there rest.removed → SeesMore here there account.removed
         go sees (inl legal) = inl legal
-        go (inl legal) (inr (same, none)) = inl (subst (λ (l : List Seen). Legal player.caps (history_in (texts l))) (sym same) legal)
+        go (inl legal) (inr (same, none)) = inl (subst (λ (l : List Seen). Legal holder.caps (history_in (texts l))) (sym same) legal)
         go (inr (still, before)) (inr (same, none)) =
             inr (same ∙ still, is ∙ ap (λ (l : List (ℕ × M)). l ++ rest.removed) before ∙ none)
 
@@ -221,18 +221,18 @@ module _ {M : Type 0} (keep : M → ℕ) (heard : M → Option (List ℕ)) (play
     stays_ended account here there none same = record {
       starts = subst (λ (l : List Seen). StartsWith l here) (sym same) (starts_here here);
       sees = inr (same, none);
-      later_on = λ later on legal. subst (AllByRecursion (IsRemovedAt keep heard player.caps later)) (sym none) tt;
+      later_on = λ later on legal. subst (AllByRecursion (IsRemovedAt keep heard holder.caps later)) (sym none) tt;
     }
 
-    plays_stays : (lines : List Line) (boxes : List M) (account : Account M) (here there : List Seen) → Plays keep heard player lines boxes account here there
+    plays_stays : (lines : List Line) (boxes : List M) (account : Account M) (here there : List Seen) → Plays keep heard holder lines boxes account here there
         → Stays account here there
     plays_stays [] boxes account here there (is, same) = stays_ended account here there (ap (λ (one : Account M). one.removed) is) same
     plays_stays (line ∷ lines) boxes account here there (left, first, place, one, more) =
         go first.stop more (λ rest plays. plays_stays lines left rest place there plays) where
           go : (stop : Option Room)
-              → MatchOption stop ((rest : Account M) × (account ≡ then_told first rest) × Plays keep heard player lines left rest place there)
+              → MatchOption stop ((rest : Account M) × (account ≡ then_told first rest) × Plays keep heard holder lines left rest place there)
               (λ room. (account ≡ then_told first (ended left (Some room))) × (there ≡ place))
-              → ((rest : Account M) → Plays keep heard player lines left rest place there → Stays rest place there) → Stays account here there
+              → ((rest : Account M) → Plays keep heard holder lines left rest place there → Stays rest place there) → Stays account here there
           go None (rest, is, plays) stay =
               stays_on account first rest here place there (ap (λ (one : Account M). one.removed) is)
               (act_stays line.number line.act boxes left first here place one) (stay rest plays)
@@ -242,14 +242,14 @@ module _ {M : Type 0} (keep : M → ℕ) (heard : M → Option (List ℕ)) (play
 
     -- what was removed has heard what each later history says
     pub removed_later : (lines : List Line) (boxes : List M) (account : Account M) (here there later : List Seen)
-        → Plays keep heard player lines boxes account here there → StartsWith later there → Legal player.caps (history_in (texts later))
-        → AllByRecursion (IsRemovedAt keep heard player.caps later) account.removed
+        → Plays keep heard holder lines boxes account here there → StartsWith later there → Legal holder.caps (history_in (texts later))
+        → AllByRecursion (IsRemovedAt keep heard holder.caps later) account.removed
     removed_later lines boxes account here there later plays on legal = (plays_stays lines boxes account here there plays).later_on later on legal
 
     -- what was removed has heard what the history says in which the lines were played
     pub removed_then : (lines : List Line) (boxes : List M) (account : Account M) (here there : List Seen)
-        → Plays keep heard player lines boxes account here there → AllByRecursion (IsRemovedAt keep heard player.caps there) account.removed
+        → Plays keep heard holder lines boxes account here there → AllByRecursion (IsRemovedAt keep heard holder.caps there) account.removed
     removed_then lines boxes account here there plays = let stays = plays_stays lines boxes account here there plays in go stays stays.sees where
-      go : Stays account here there → SeesMore here there account.removed → AllByRecursion (IsRemovedAt keep heard player.caps there) account.removed
+      go : Stays account here there → SeesMore here there account.removed → AllByRecursion (IsRemovedAt keep heard holder.caps there) account.removed
       go stays (inl legal) = stays.later_on there (starts_here there) legal
-      go stays (inr (same, none)) = subst (AllByRecursion (IsRemovedAt keep heard player.caps there)) (sym none) tt
+      go stays (inr (same, none)) = subst (AllByRecursion (IsRemovedAt keep heard holder.caps there)) (sym none) tt

@@ -17,10 +17,12 @@ use Rattle.osc_turn.specs.declared.view.Entry.{Entry as Seen}
 use Rattle.osc_turn.specs.History.{StartsWith, texts, own}
 use Rattle.osc_turn.proofs.Histories.{starts_here}
 use Rattle.osc_live.specs.Seen.{performance_in}
-use Rattle.osc_lanes.specs.Shares.{Account, LaneOf, adds_of, count_adds}
-use Rattle.osc_lanes.specs.Performs.{Part, IsStage, Numbered, Performs, player_at}
-use Rattle.osc_lanes.specs.Enough.{event_size, act_size, act_units, act_messages, all_lines, enough_for}
-use Rattle.osc_lanes.proofs.Costs.{units_cost, units_cost_is, event_cost, more_methods, spent, full_takes}
+use Rattle.osc_script.specs.Adds.{adds_of, count_adds}
+use Rattle.osc_lanes.specs.Shares.{Account, LaneOf}
+use Rattle.osc_lanes.specs.Performs.{Part, IsStage, Numbered, Performs, holder_at}
+use Rattle.osc_script.specs.Enough.{event_size, act_size, act_units, act_messages}
+use Rattle.osc_lanes.specs.Enough.{all_lines, enough_for}
+use Rattle.osc_script.proofs.Costs.{units_cost, units_cost_is, event_cost, more_methods, spent, full_takes}
 use Rattle.osc_lanes.proofs.Spending.{Covers, FillsIn, SpendsIn, lane_spends}
 use Rattle.osc_lanes.proofs.Weights.{weighed, weighed_in, weighed_read, weighed_starts, enrolments_weigh, all_weigh}
 
@@ -73,7 +75,7 @@ cost_counted most (line ∷ lines) =
 
 module _ {M : Type 0} (keep : M → ℕ) (heard : M → Option (List ℕ)) (caps : Limits) (history : List Seen) where
   abbrev IsShare : ℕ → Part M → Account M → Type 0
-  IsShare number part account = LaneOf keep heard (player_at caps number) part.lines part.boxes account history
+  IsShare number part account = LaneOf keep heard (holder_at caps number) part.lines part.boxes account history
 
   -- All lanes.
 
@@ -86,8 +88,8 @@ module _ {M : Type 0} (keep : M → ℕ) (heard : M → Option (List ℕ)) (caps
     part_more part parts = sum_by-append (λ (line : Line). takes line.act) part.lines (all_lines parts)
 
     one_spends : (number : ℕ) (part : Part M) (account : Account M) → IsShare number part account
-        → SpendsIn weight takes covers keep heard (player_at caps number) history (sum_by (λ line. takes line.act) part.lines) account.stop
-    one_spends number part account share = lane_spends weight takes covers keep heard (player_at caps number) part.lines part.boxes account history share
+        → SpendsIn weight takes covers keep heard (holder_at caps number) history (sum_by (λ line. takes line.act) part.lines) account.stop
+    one_spends number part account share = lane_spends weight takes covers keep heard (holder_at caps number) part.lines part.boxes account history share
 
     lanes_spend : (first : ℕ) (parts : List (Part M)) (accounts : List (Account M)) → Numbered IsShare first parts accounts
         → weighed_in weight history first (length parts) ≤ taken_in parts
@@ -115,7 +117,7 @@ module _ {M : Type 0} (keep : M → ℕ) (heard : M → Option (List ℕ)) (caps
     ) where
       go : (stop : Option Room)
           → MatchOption stop (Unit {0})
-          (λ room. FillsIn weight takes covers keep heard (player_at caps first) history (sum_by (λ line. takes line.act) part.lines) room)
+          (λ room. FillsIn weight takes covers keep heard (holder_at caps first) history (sum_by (λ line. takes line.act) part.lines) room)
           → stop ≡ None
       go None full = refl
       go (Some room) full =

@@ -1,4 +1,4 @@
--- Inside the crate: the callers that caller 0 enrols for lanes.
+-- The callers that caller 0 enrols.
 use Rattle.std.specs.Prelude.{◌≡◌, ℕ, zero, suc, ◌+◌, ◌<◌, List, [], ◌∷◌, ◌++◌, length, map, All}
 use Rattle.std.specs.Prelude.{Option, None, Some}
 use Rattle.osc_model.specs.Limits.{Limits}
@@ -19,8 +19,7 @@ use Rattle.osc_lanes.specs.declared.part.LaneTold.{LaneTold}
 use Rattle.osc_lanes.specs.declared.plan.LanePlan.{LanePlan}
 use Rattle.osc_lanes.specs.declared.plan.LaneEnd.{LaneEnd}
 use Rattle.osc_lanes.specs.Ends.{seen_by}
-use Rattle.osc_lanes.specs.Performs.{Part, enrolments, player_at}
-use Rattle.osc_lanes.specs.Shares.{Account, Plays}
+use Rattle.osc_lanes.specs.Performs.{Part, part_of, enrolments}
 
 -- a caller's number, and that of its token
 abbrev pub names_of : List Caller → List (ℕ × ℕ)
@@ -73,23 +72,14 @@ HasEnrolled caps first_entries count first callers (Some refused) =
     × FindsNoRoom caps first refused.0
 
 module _ {M : Type 0} where
-  -- Caller 0 has played these lines on a new server, and this was told of them.
-  pub record HasOpened (keep : M → ℕ) (heard : M → Option (List ℕ)) (caps : Limits)
-      (part : Part M) (account : Account M) (first : View) : Type 0 where
-    pub token : number_of first ≡ 0
-    pub made_is : first.made ≡ 1
-    pub plays : Plays keep heard (player_at caps 0) part.lines part.boxes account [] first.seen
-
   abbrev pub caller_of : LanePlan M → Caller
   caller_of plan = plan.caller
 
   abbrev pub part_in : LanePlan M → Part M
-  part_in plan = record { lines = plan.lines.items; boxes = plan.boxes.items }
+  part_in plan = part_of plan.part
 
   abbrev pub caller_in : LaneEnd M → Caller
   caller_in end = end.caller
 
-  -- what an end tells without its token
-  abbrev pub without_caller : LaneEnd M → LaneTold M
-  without_caller end =
-      record { faults = end.faults; removed = end.removed; back = end.back; stop = end.stop }
+  abbrev pub told_in : LaneEnd M → LaneTold M
+  told_in end = end.told

@@ -1,49 +1,14 @@
 -- How many bytes of recording are enough for lanes.
-use Rattle.std.specs.Prelude.{ℕ, ◌+◌, ◌*◌, List, length, if◌then◌else◌}
-use Rattle.std.specs.List.{sum_by, flat_map}
-use Rattle.osc_packet.specs.declared.limits.TheConstants.{MAX_PACKET}
-use Rattle.osc_packet.specs.Reading.{is_packet, units_read}
-use Rattle.osc_model.specs.Limits.{header_size}
-use Rattle.osc_model.specs.Events.{Event, add, remove, submit, tick, ticked}
-use Rattle.osc_model.specs.Recordings.{entry_size}
-use Rattle.osc_script.specs.declared.act.Act.{Act}
-use Rattle.osc_script.specs.declared.act.Act.TheVariants.{Add, Remove, Send, Tick, Pump}
+use Rattle.std.specs.Prelude.{ℕ, List, length}
+use Rattle.std.specs.List.{flat_map}
 use Rattle.osc_script.specs.declared.line.Line.{Line}
-use Rattle.osc_lanes.specs.Shares.{count_adds}
+use Rattle.osc_script.specs.Enough.{enough_with}
 use Rattle.osc_lanes.specs.Performs.{Part}
-
--- the size of the entry of an add, a remove, a tick or a submit, which is the same whatever it is
--- answered
-abbrev pub event_size : Event → ℕ
-event_size event = entry_size event ticked
-
--- the size of a line's own entry: that of an add, a remove, a tick and a send that is a packet
-abbrev pub act_size : Act → ℕ
-act_size (Add address) = event_size (add address)
-act_size (Remove address) = event_size (remove address)
-act_size (Send packet) = if is_packet MAX_PACKET packet then event_size (submit packet) else 0
-act_size (Tick moment) = event_size (tick moment)
-act_size Pump = 0
-
--- the units of a send that is a packet
-abbrev pub act_units : Act → ℕ
-act_units (Send packet) = if is_packet MAX_PACKET packet then length (units_read packet) else 0
-act_units _ = 0
-
--- the messages of all its units
-abbrev pub act_messages : Act → ℕ
-act_messages (Send packet) = if is_packet MAX_PACKET packet
-    then sum_by (λ unit. length unit.messages) (units_read packet) else 0
-act_messages _ = 0
 
 -- the lines of all parts
 abbrev pub all_lines : {M : Type 0} → List (Part M) → List Line
 all_lines parts = flat_map (λ part. part.lines) parts
 
--- The header, the enrolment of each lane, the lines' own entries, a release for each unit, and a
--- hit of each message for each method that is added.
+-- enough for the lines of all parts, and for the enrolment of each lane
 abbrev pub enough_for : {M : Type 0} → List (Part M) → ℕ
-enough_for parts =
-    header_size + 28 * length parts + sum_by (λ line. act_size line.act) (all_lines parts)
-    + 44 * sum_by (λ line. act_units line.act) (all_lines parts)
-    + 8 * (sum_by (λ line. act_messages line.act) (all_lines parts) * count_adds (all_lines parts))
+enough_for parts = enough_with (length parts) (all_lines parts)

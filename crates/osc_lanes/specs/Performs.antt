@@ -19,7 +19,8 @@ use Rattle.osc_turn.specs.History.{StartsWith, texts, own}
 use Rattle.osc_live.specs.Seen.{performance_in, names}
 use Rattle.osc_lanes.specs.declared.part.LanePart.{LanePart}
 use Rattle.osc_lanes.specs.declared.part.LaneTold.{LaneTold}
-use Rattle.osc_lanes.specs.Shares.{Player, Account, LaneOf, IsRemovedAt, ended, count_adds}
+use Rattle.osc_script.specs.Adds.{count_adds}
+use Rattle.osc_lanes.specs.Shares.{Holder, Account, LaneOf, IsRemovedAt, ended}
 
 -- the id of a method that was added, if one was
 abbrev pub added_id : Answer → List ℕ
@@ -37,8 +38,8 @@ enrolments first (suc count) =
     record { caller = 0; event = enrol; answer = number first } ∷ enrolments (first + 1) count
 
 -- the caller with this number, whose token has the same number
-abbrev pub player_at : Limits → ℕ → Player
-player_at caps caller = record { caps = caps; token = caller; caller = caller }
+abbrev pub holder_at : Limits → ℕ → Holder
+holder_at caps caller = record { caps = caps; token = caller; caller = caller }
 
 -- The history of a server with these limits, on which caller 0 has these first entries, then
 -- enrolled so many callers, and did nothing else. It is legal, keeps the four laws, and begins with
@@ -97,7 +98,7 @@ module _ {M : Type 0} where
       → List (Account M) → Type 0
   AreShares keep heard caps history parts accounts =
       Numbered
-      (λ number part account. LaneOf keep heard (player_at caps number) part.lines part.boxes
+      (λ number part account. LaneOf keep heard (holder_at caps number) part.lines part.boxes
       account history) 1 parts accounts
 
   -- The history is recorded. The ids that it adds are those of the boxes that are kept and of those

@@ -8,7 +8,7 @@ use Rattle.osc_packet.specs.Reading.{packet_fault}
 use Rattle.osc_model.specs.Limits.{Limits}
 use Rattle.osc_model.specs.Events.{Event, Answer, Entry, Hit, Room, adds_entry, add, remove, submit}
 use Rattle.osc_model.specs.Events.{tick, release, added, removed, released, nothing_due}
-use Rattle.osc_model.specs.Events.{record_full}
+use Rattle.osc_model.specs.Events.{record_full, room_in}
 use Rattle.osc_model.specs.Heard.{Told}
 use Rattle.osc_model.specs.History.{Legal, stepped_in, invoked_in, HasHeard}
 use Rattle.osc_record.specs.Reading.{entry_in}
@@ -20,8 +20,8 @@ use Rattle.osc_turn.specs.declared.view.Entry.{Entry as Seen}
 use Rattle.osc_turn.specs.History.{StartsWith, texts, entry, own}
 use Rattle.osc_live.specs.Seen.{performance_in}
 
--- who plays: the server's limits, the number of the token, and the number of its caller
-pub record Player : Type 0 where
+-- who holds a token: the server's limits, the number of the token, and the number of its caller
+pub record Holder : Type 0 where
   pub caps : Limits
   pub token : ℕ
   pub caller : ℕ
@@ -38,23 +38,18 @@ pub record EntersOne (token : ℕ) (one : Entry) (found there : List Seen) : Typ
   pub text_is : text ≡ text_with mark one
   pub read : entry_in text ≡ Some one
 
--- The player's event is decided by the rules at one place, which goes on from what was seen; its
+-- The holder's event is decided by the rules at one place, which goes on from what was seen; its
 -- entry, if the answer adds one, stands there, and then all of this is seen. It is a legal history.
-pub record Answered (player : Player) (event : Event) (answer : Answer)
+pub record Answered (holder : Holder) (event : Event) (answer : Answer)
     (here there : List Seen) : Type 0 where
-  pub legal : Legal player.caps (history_in (texts there))
+  pub legal : Legal holder.caps (history_in (texts there))
   pub found : List Seen
-  pub onward : Onward player.token here found
-  pub decided : answer ≡ (stepped_in (performance_in player.caps (texts found)) event).answer
+  pub onward : Onward holder.token here found
+  pub decided : answer ≡ (stepped_in (performance_in holder.caps (texts found)) event).answer
   pub then_seen : MatchBool (adds_entry answer)
-      (EntersOne player.token
-      (record { caller = player.caller; event = event; answer = answer }) found there)
+      (EntersOne holder.token
+      (record { caller = holder.caller; event = event; answer = answer }) found there)
       (there ≡ found)
-
--- where the recording is full, the room that was needed and the room that is free
-abbrev pub stop_of : Answer → Option Room
-stop_of (record_full room) = Some room
-stop_of _ = None
 
 -- the id of the method that was removed, if one was
 abbrev pub id_in : Answer → List ℕ
@@ -68,11 +63,11 @@ EndsPump (record_full room) = Unit {0}
 EndsPump _ = ⊥
 
 -- so many releases, one after another, each of a unit that is due
-abbrev pub Releases : Player → ℕ → List Seen → List Seen → Type 0
-Releases player zero here there = there ≡ here
-Releases player (suc count) here there =
-    (place : List Seen) × (unit : ℕ) × (hits : List Hit) × Releases player count here place
-    × Answered player release (released unit hits) place there
+abbrev pub Releases : Holder → ℕ → List Seen → List Seen → Type 0
+Releases holder zero here there = there ≡ here
+Releases holder (suc count) here there =
+    (place : List Seen) × (unit : ℕ) × (hits : List Hit) × Releases holder count here place
+    × Answered holder release (released unit hits) place there
 
 -- what a lane tells besides the history: the faults of its packets under their lines' numbers, the
 -- boxes that it removed under their ids, the boxes that weren't added, and where it stopped
@@ -120,58 +115,49 @@ module _ {M : Type 0} where
     -- One line is played between two places of the history. Of the boxes before, these are left;
     -- and this is told. A packet with a fault has no entry. A pump has its releases, and then a
     -- place where it ends.
-    abbrev pub PlaysAct : Player → ℕ → Act → List M → List M → Account M → List Seen → List Seen
+    abbrev pub PlaysAct : Holder → ℕ → Act → List M → List M → Account M → List Seen → List Seen
         → Type 0
-    PlaysAct player number (Add address) boxes left account here there =
+    PlaysAct holder number (Add address) boxes left account here there =
         (box : M) × (answer : Answer) × (boxes ≡ box ∷ left)
-        × Answered player (add address) answer here there × IsMarkedBy box answer there
+        × Answered holder (add address) answer here there × IsMarkedBy box answer there
         × (account
-        ≡ record { faults = []; removed = []; back = back_by box answer; stop = stop_of answer })
-    PlaysAct player number (Remove address) boxes left account here there =
+        ≡ record { faults = []; removed = []; back = back_by box answer; stop = room_in answer })
+    PlaysAct holder number (Remove address) boxes left account here there =
         (out : List (ℕ × M)) × (answer : Answer) × (left ≡ boxes)
-        × Answered player (remove address) answer here there
+        × Answered holder (remove address) answer here there
         × (map (λ one. one.0) out ≡ id_in answer)
-        × AllByRecursion (IsRemovedAt player.caps there) out
-        × (account ≡ record { faults = []; removed = out; back = []; stop = stop_of answer })
-    PlaysAct player number (Send bytes) boxes left account here there =
+        × AllByRecursion (IsRemovedAt holder.caps there) out
+        × (account ≡ record { faults = []; removed = out; back = []; stop = room_in answer })
+    PlaysAct holder number (Send bytes) boxes left account here there =
         (left ≡ boxes) × MatchOption (packet_fault MAX_PACKET bytes)
-        ((answer : Answer) × Answered player (submit bytes) answer here there
-        × (account ≡ ended [] (stop_of answer)))
+        ((answer : Answer) × Answered holder (submit bytes) answer here there
+        × (account ≡ ended [] (room_in answer)))
         (λ fault. (there ≡ here)
         × (account
         ≡ record { faults = (number, fault) ∷ []; removed = []; back = []; stop = None }))
-    PlaysAct player number (Tick moment) boxes left account here there =
-        (left ≡ boxes) × (answer : Answer) × Answered player (tick moment) answer here there
-        × (account ≡ ended [] (stop_of answer))
-    PlaysAct player number Pump boxes left account here there =
+    PlaysAct holder number (Tick moment) boxes left account here there =
+        (left ≡ boxes) × (answer : Answer) × Answered holder (tick moment) answer here there
+        × (account ≡ ended [] (room_in answer))
+    PlaysAct holder number Pump boxes left account here there =
         (left ≡ boxes) × (count : ℕ) × (place : List Seen) × (answer : Answer)
-        × Releases player count here place × Answered player release answer place there
-        × EndsPump answer × (account ≡ ended [] (stop_of answer))
+        × Releases holder count here place × Answered holder release answer place there
+        × EndsPump answer × (account ≡ ended [] (room_in answer))
 
     -- The lines are played between two places, one after another, up to the first event that finds
     -- no room. The k-th line that adds a method has the k-th box.
-    abbrev pub Plays : Player → List Line → List M → Account M → List Seen → List Seen → Type 0
-    Plays player [] boxes account here there = (account ≡ ended boxes None) × (there ≡ here)
-    Plays player (line ∷ lines) boxes account here there =
+    abbrev pub Plays : Holder → List Line → List M → Account M → List Seen → List Seen → Type 0
+    Plays holder [] boxes account here there = (account ≡ ended boxes None) × (there ≡ here)
+    Plays holder (line ∷ lines) boxes account here there =
         (left : List M) × (first : Account M) × (place : List Seen)
-        × PlaysAct player line.number line.act boxes left first here place
+        × PlaysAct holder line.number line.act boxes left first here place
         × MatchOption first.stop
         ((rest : Account M) × (account ≡ then_told first rest)
-        × Plays player lines left rest place there)
+        × Plays holder lines left rest place there)
         (λ room. (account ≡ then_told first (ended left (Some room))) × (there ≡ place))
 
     -- A lane's share of a history: its lines were played from where its token came in, and the
     -- history has no other entry of it.
-    abbrev pub LaneOf : Player → List Line → List M → Account M → List Seen → Type 0
-    LaneOf player lines boxes account history =
-        (here : List Seen) × (there : List Seen) × (own player.token here ≡ [])
-        × Plays player lines boxes account here there × Onward player.token there history
-
--- how many of the lines add a method
-abbrev pub adds_of : Act → ℕ
-adds_of (Add address) = 1
-adds_of _ = 0
-
-abbrev pub count_adds : List Line → ℕ
-count_adds [] = 0
-count_adds (line ∷ lines) = adds_of line.act + count_adds lines
+    abbrev pub LaneOf : Holder → List Line → List M → Account M → List Seen → Type 0
+    LaneOf holder lines boxes account history =
+        (here : List Seen) × (there : List Seen) × (own holder.token here ≡ [])
+        × Plays holder lines boxes account here there × Onward holder.token there history

@@ -1,94 +1,89 @@
 // Plays one line.
-ghost use Rattle.std.specs.Prelude.{◌≡◌, ◌+◌, ◌<◌, ◌≤◌, ◌++◌, length, IfOk, OnOk, None};
+ghost use Rattle.std.specs.Prelude.{◌≡◌, ◌+◌, ◌≤◌, ◌++◌, length, IfOk, OnOk};
 ghost use Rattle.std.specs.Vec.Iter.{into_iter_items};
-ghost use Rattle.osc_record.specs.Shown.{room_of};
-ghost use Rattle.osc_core.specs.Answers.{adding_of, removing_of};
-ghost use Rattle.std.specs.Option.{option_map};
+ghost use Rattle.osc_core.specs.Answers.{handed_back, handed_out};
 ghost use Rattle.osc_turn.specs.Passes.{view};
-ghost use Rattle.osc_live.specs.Seen.{IsTokenOf};
-ghost use Rattle.osc_lanes.specs.Shares.{stop_of, adds_of};
-ghost use Rattle.osc_lanes.specs.Ends.{seen_by, player_of};
-ghost use Rattle.osc_lanes.specs.Tallies.{gathered, refused_in, removed_in, Played};
+ghost use Rattle.osc_live.specs.Tokens.{IsOurs};
+ghost use Rattle.osc_script.specs.Adds.{adds_of};
+ghost use Rattle.osc_lanes.specs.Ends.{seen_by, holder_of};
+ghost use Rattle.osc_lanes.specs.Performs.{told_of};
+ghost use Rattle.osc_lanes.specs.Tells.{TellsAct};
 
-use crate::sending::send;
-use crate::stops::{pumped_stop, refused_stop, ticked_stop};
-use crate::tally::Tally;
-use osc_atoms::Room;
+use crate::lane::Lane;
+use crate::packet::send;
 use osc_core::{Adding, Removing};
 use osc_live::{Caller, Live};
 use osc_method::Method;
-use osc_script::Act;
+use osc_script::{Act, Line};
 use std::alloc::AllocError;
 use std::sync::Wait;
-use std::vec::IntoIter;
 
-/// Plays an act of the line with this number; an add takes the next box. The `Some` is the room where the recording was
-/// full; an `Err` is want of memory.
-pub(crate) fn play_act<M: Method, W: Wait>(
+/// Plays a line of the lane; an add takes the next box. The lane's `stop` is then the room where the recording was full.
+/// An `Err` is want of memory.
+pub(crate) fn play_line<M: Method, W: Wait>(
     rt: &W,
     live: &Live<M>,
+    lane: &mut Lane<M>,
     caller: Caller,
-    number: u32,
-    act: Act,
-    boxes: &mut IntoIter<M>,
-    tally: &mut Tally<M>,
-) -> Result<(Caller, Option<Room>), AllocError>
-    requires ours { IsTokenOf live.now.turn live.now.caps caller.pass }
-    requires handed { adds_of act ≤ length (into_iter_items boxes.old) }
-    ensures ours { IfOk result (λ r. IsTokenOf live.now.turn live.now.caps r.0.pass) }
-    ensures player { IfOk result
-        (λ r. player_of live.now.caps r.0 ≡ player_of live.now.caps caller) }
-    ensures made { IfOk result
-        (λ r. (view r.0.pass).made ≡ (view caller.pass).made) }
-    ensures handed { OnOk result (length (into_iter_items boxes.old)
-        ≤ adds_of act + length (into_iter_items boxes.new)) }
-    ensures played { IfOk result (λ r. Played M.keep M.heard (player_of live.now.caps caller)
-        number act (into_iter_items boxes.old) (into_iter_items boxes.new)
-        (gathered tally.old None) (gathered tally.new r.1) r.1 (seen_by caller) (seen_by r.0)) }
+    line: Line,
+) -> Result<Caller, AllocError>
+    requires ours { IsOurs live.now caller }
+    requires handed { adds_of line.act ≤ length (into_iter_items lane.old.boxes) }
+    ensures ours { IfOk result (IsOurs live.now) }
+    ensures holder { IfOk result
+        (λ then. holder_of live.now.caps then ≡ holder_of live.now.caps caller) }
+    ensures made { IfOk result (λ then. (view then.pass).made ≡ (view caller.pass).made) }
+    ensures handed { OnOk result (length (into_iter_items lane.old.boxes)
+        ≤ adds_of line.act + length (into_iter_items lane.new.boxes)) }
+    ensures number { lane.new.number ≡ lane.old.number }
+    ensures played { IfOk result (λ then. TellsAct M.keep M.heard
+        (holder_of live.now.caps caller) line.number line.act (into_iter_items lane.old.boxes)
+        (into_iter_items lane.new.boxes) (told_of lane.old.told) (told_of lane.new.told)
+        (seen_by caller) (seen_by then)) }
 {
+    let Line { number, act, .. } = line;
     match act {
         Act::Add(address) => {
-            let Some(method) = boxes.next() else {
+            let Some(method) = lane.boxes.next() else {
                 unreachable!()
             };
             let (caller, adding) = live.add(rt, caller, address, method);
-            let stop = keep_refused(&mut tally.back, adding)?;
-            Ok((caller, stop))
+            lane.told.stop = adding.stop();
+            keep_refused(&mut lane.told.back, adding)?;
+            Ok(caller)
         }
         Act::Remove(address) => {
             let (caller, removing) = live.remove(rt, caller, &address);
-            let stop = keep_removed(&mut tally.removed, removing)?;
-            Ok((caller, stop))
+            lane.told.stop = removing.stop();
+            keep_removed(&mut lane.told.removed, removing)?;
+            Ok(caller)
         }
         Act::Send(bytes) => {
             let bytes = bytes.as_slice();
-            let (caller, stop) = send(rt, live, caller, number, bytes, &mut tally.faults)?;
-            Ok((caller, stop))
+            let (caller, stop) = send(rt, live, caller, number, bytes, &mut lane.told.faults)?;
+            lane.told.stop = stop;
+            Ok(caller)
         }
         Act::Tick(moment) => {
             let (caller, answer) = live.tick(rt, caller, moment);
-            let stop = ticked_stop(answer);
-            Ok((caller, stop))
+            lane.told.stop = answer.stop();
+            Ok(caller)
         }
         Act::Pump => {
             let (caller, pumped) = live.pump(rt, caller);
-            let stop = pumped_stop(pumped.end);
-            Ok((caller, stop))
+            lane.told.stop = pumped.end.stop();
+            Ok(caller)
         }
     }
 }
 
 /// Keeps the box that is handed back, if one is.
-fn keep_refused<M: Drop>(back: &mut Vec<M>, adding: Adding<M>) -> Result<Option<Room>, AllocError>
-    ensures stop { IfOk result (λ stop. option_map room_of stop ≡ stop_of (adding_of adding)) }
-    ensures back { OnOk result (back.new.items ≡ back.old.items ++ refused_in adding) }
+fn keep_refused<M: Drop>(back: &mut Vec<M>, adding: Adding<M>) -> Result<(), AllocError>
+    ensures { OnOk result (back.new.items ≡ back.old.items ++ handed_back adding) }
 {
     match adding {
-        Adding::Added(_) => Ok(None),
-        Adding::Refused { why, method, .. } => {
-            back.push(method)?;
-            Ok(refused_stop(why))
-        }
+        Adding::Added(_) => Ok(()),
+        Adding::Refused { method, .. } => Ok(back.push(method)?),
     }
 }
 
@@ -96,16 +91,11 @@ fn keep_refused<M: Drop>(back: &mut Vec<M>, adding: Adding<M>) -> Result<Option<
 fn keep_removed<M: Drop>(
     removed: &mut Vec<(u32, M)>,
     removing: Removing<M>,
-) -> Result<Option<Room>, AllocError>
-    ensures stop { IfOk result (λ stop. option_map room_of stop ≡ stop_of (removing_of removing)) }
-    ensures removed { OnOk result (removed.new.items ≡ removed.old.items ++ removed_in removing) }
+) -> Result<(), AllocError>
+    ensures { OnOk result (removed.new.items ≡ removed.old.items ++ handed_out removing) }
 {
     match removing {
-        Removing::Removed { id, method } => {
-            removed.push((id, method))?;
-            Ok(None)
-        }
-        Removing::RecordFull(room) => Ok(Some(room)),
-        Removing::NotThere => Ok(None),
+        Removing::Removed { id, method } => Ok(removed.push((id, method))?),
+        Removing::RecordFull(_) | Removing::NotThere => Ok(()),
     }
 }

@@ -4,10 +4,13 @@ ghost use Rattle.osc_model.specs.Events.{enrol};
 ghost use Rattle.osc_turn.specs.History.{StartsWith};
 ghost use Rattle.osc_turn.specs.Rule.{number_of};
 ghost use Rattle.osc_turn.specs.Passes.{view, one_more};
-ghost use Rattle.osc_live.specs.Seen.{IsTokenOf, history_of};
+ghost use Rattle.osc_turn.specs.declared.limits.TheConstants.{MAX_PASSES};
+ghost use Rattle.osc_live.specs.Seen.{history_of};
+ghost use Rattle.osc_live.specs.Tokens.{IsOurs, IsOurGuest};
 ghost use Rattle.osc_live.specs.Calls.{Calls};
 ghost use Rattle.osc_live.specs.Enrolments.{enrolment_of};
-ghost use Rattle.osc_lanes.specs.Crews.{IsSilent, HasNotEnrolled, HasEnrolled};
+ghost use Rattle.osc_lanes.specs.Crews.{names_of, IsSilent, HasSeen, HasNotEnrolled, HasEnrolled};
+ghost use Rattle.osc_record.specs.declared.limits.TheConstants.{MAX_CALLERS};
 
 use osc_live::{Caller, EnrolRefusal, Guest, Live};
 use osc_method::Method;
@@ -17,38 +20,35 @@ use std::sync::Wait;
 
 /// Caller 0, and the callers that it enrolled.
 #[derive(Drop)]
-pub(crate) struct Crew {
-    pub(crate) first: Caller,
-    pub(crate) callers: Vec<Caller>,
-    /// Why the next guest wasn't enrolled, and its token.
-    pub(crate) refused: Option<(EnrolRefusal, Guest)>,
+pub struct Crew {
+    pub first: Caller,
+    pub callers: Vec<Caller>,
 }
 
-/// Enrols so many callers, up to the first that is refused.
-pub(crate) fn enrol_all<M: Method, W: Wait>(
+/// Enrols so many callers, up to the first that is refused. The `Some` is why it was, and its guest's token; the `Err`
+/// is want of memory.
+pub fn enrol_all<M: Method, W: Wait>(
     rt: &W,
     alloc: Global,
     live: &Live<M>,
     mut first: Caller,
     count: usize,
-) -> Result<Crew, AllocError>
-    requires ours { IsTokenOf live.now.turn live.now.caps first.pass }
+) -> Result<(Crew, Option<(EnrolRefusal, Guest)>), AllocError>
+    requires ours { IsOurs live.now first }
     requires number { first.number ≡ 0 }
     requires opened { HasNotEnrolled (view first.pass) }
     requires few { count < live.now.caps.callers }
-    requires tokens { count < 1024 }
-    ensures ours { IfOk result
-        (λ crew. IsTokenOf live.now.turn live.now.caps crew.first.pass) }
+    requires tokens { count < MAX_CALLERS }
+    ensures ours { IfOk result (λ both. IsOurs live.now both.0.first) }
     ensures seen { IfOk result
-        (λ crew. StartsWith (view crew.first.pass).seen (view first.pass).seen) }
-    ensures number { IfOk result (λ crew. crew.first.number ≡ 0) }
-    ensures callers_ours { IfOk result (λ crew. All
-        (λ caller. IsTokenOf live.now.turn live.now.caps caller.pass) crew.callers.items) }
-    ensures guest_ours { IfOk result (λ crew. IfSome crew.refused
-        (λ refused. IsTokenOf live.now.turn live.now.caps refused.1.pass)) }
-    ensures enrolled { IfOk result (λ crew. HasEnrolled live.now.caps
-        (history_of (view first.pass)) count (view crew.first.pass) crew.callers.items
-        crew.refused) }
+        (λ both. StartsWith (view both.0.first.pass).seen (view first.pass).seen) }
+    ensures number { IfOk result (λ both. both.0.first.number ≡ 0) }
+    ensures callers_ours { IfOk result (λ both. All (IsOurs live.now) both.0.callers.items) }
+    ensures guest_ours { IfOk result
+        (λ both. IfSome both.1 (λ refused. IsOurGuest live.now refused.1)) }
+    ensures enrolled { IfOk result (λ both. HasEnrolled live.now.caps
+        (history_of (view first.pass)) count (view both.0.first.pass) both.0.callers.items
+        both.1) }
 {
     callers_are_counted();
     let mut callers = Vec::with_capacity(alloc, count)?;
@@ -57,20 +57,10 @@ pub(crate) fn enrol_all<M: Method, W: Wait>(
         first = next;
         match answer {
             Ok(caller) => callers.push(caller)?,
-            Err(refused) => {
-                return Ok(Crew {
-                    first,
-                    callers,
-                    refused: Some(refused),
-                });
-            }
+            Err(refused) => return Ok((Crew { first, callers }, Some(refused))),
         }
     }
-    Ok(Crew {
-        first,
-        callers,
-        refused: None,
-    })
+    Ok((Crew { first, callers }, None))
 }
 
 /// Enrols one caller more.
@@ -79,22 +69,47 @@ fn enrol_next<M: Method, W: Wait>(
     live: &Live<M>,
     first: Caller,
 ) -> (Caller, Result<Caller, (EnrolRefusal, Guest)>)
-    requires ours { IsTokenOf live.now.turn live.now.caps first.pass }
+    requires ours { IsOurs live.now first }
     requires number { first.number ≡ 0 }
-    requires room { (view first.pass).made < 65536 }
-    ensures ours { IsTokenOf live.now.turn live.now.caps result.0.pass }
+    requires room { (view first.pass).made < MAX_PASSES }
+    ensures ours { IsOurs live.now result.0 }
     ensures number { result.0.number ≡ 0 }
     ensures call { Calls live.now.caps 0 enrol (enrolment_of result.1)
         (one_more (view first.pass)) (view result.0.pass) }
-    ensures new_ours { IfOk result.1
-        (λ new. IsTokenOf live.now.turn live.now.caps new.pass) }
+    ensures new_ours { IfOk result.1 (IsOurs live.now) }
     ensures token { IfOk result.1 (λ new. number_of (view new.pass) ≡ (view first.pass).made) }
     ensures silent { IfOk result.1 IsSilent }
-    ensures back_ours { IfErr result.1
-        (λ refused. IsTokenOf live.now.turn live.now.caps refused.1.pass) }
+    ensures back_ours { IfErr result.1 (λ refused. IsOurGuest live.now refused.1) }
 {
     let (first, guest) = live.guest(first);
     let Ok(guest) = guest else { unreachable!() };
     let (first, answer) = live.enrol(rt, first, guest);
     (first, answer)
+}
+
+/// Tells each caller what the first has seen. The `Err` is want of memory.
+pub fn meet_all<M: Method>(alloc: Global, live: &Live<M>, crew: Crew) -> Result<Crew, AllocError>
+    requires ours { IsOurs live.now crew.first }
+    requires callers_ours { All (IsOurs live.now) crew.callers.items }
+    requires silent { All IsSilent crew.callers.items }
+    ensures ours { IfOk result (λ met. IsOurs live.now met.first) }
+    ensures number { IfOk result (λ met. met.first.number ≡ crew.first.number) }
+    ensures same { IfOk result (λ met. view met.first.pass ≡ view crew.first.pass) }
+    ensures callers_ours { IfOk result (λ met. All (IsOurs live.now) met.callers.items) }
+    ensures names { IfOk result (λ met. names_of met.callers.items ≡ names_of crew.callers.items) }
+    ensures silent { IfOk result (λ met. All IsSilent met.callers.items) }
+    ensures told { IfOk result
+        (λ met. All (HasSeen (view crew.first.pass).seen) met.callers.items) }
+{
+    let Crew { mut first, callers } = crew;
+    let mut met = Vec::with_capacity(alloc, callers.len())?;
+    for caller in callers {
+        let (next, told) = live.meet(first, caller);
+        first = next;
+        met.push(told)?;
+    }
+    Ok(Crew {
+        first,
+        callers: met,
+    })
 }

@@ -1,7 +1,6 @@
-//! What holds of a lane, a link and the ticker in every history that goes on from what its token has seen, and of a
-//! recording with room enough for all lanes.
-ghost use Rattle.std.specs.Prelude.{◌≡◌, ℕ, ◌+◌, ◌*◌, ◌≤◌, List, [], ◌∷◌, All, Option, codes, Some};
-ghost use Rattle.std.specs.Prelude.{None};
+//! What holds of a lane in every history that goes on from what its token has seen, and of a recording with room enough
+//! for all lanes.
+ghost use Rattle.std.specs.Prelude.{◌≡◌, ℕ, ◌+◌, ◌*◌, ◌≤◌, List, [], ◌∷◌, All, Option, None, codes};
 ghost use Rattle.std.specs.List.{AllByRecursion};
 ghost use Rattle.osc_turn.specs.History.{StartsWith, texts, own};
 ghost use Rattle.osc_turn.specs.declared.view.Entry.{Entry};
@@ -12,22 +11,12 @@ ghost use Rattle.osc_core.specs.Standing.{history_in};
 ghost use Rattle.osc_lanes.specs.declared.plan.LanePlan.{LanePlan};
 ghost use Rattle.osc_lanes.specs.declared.plan.LaneEnd.{LaneEnd};
 ghost use Rattle.osc_script.specs.declared.act.Act.TheVariants.{Add, Send};
-ghost use Rattle.osc_lanes.specs.Shares.{Account, Onward, LaneOf, IsRemovedAt, Player, ended};
+ghost use Rattle.osc_lanes.specs.Shares.{Account, Onward, LaneOf, IsRemovedAt};
 ghost use Rattle.osc_lanes.specs.Performs.{enrolments, added_ids, removed_ids, Numbered, Part};
-ghost use Rattle.osc_lanes.specs.Performs.{Performs};
+ghost use Rattle.osc_lanes.specs.Performs.{Performs, told_of};
 ghost use Rattle.osc_lanes.specs.Enough.{enough_for};
-ghost use Rattle.osc_lanes.specs.declared.link_plan.Over.TheVariants.{Idle};
-ghost use Rattle.osc_lanes.specs.Links.{PlaysTurns, IsLinkEnd, LinkOf, link_account, stop_by};
-ghost use Rattle.osc_lanes.specs.declared.link_plan.LinkPlan.{LinkPlan};
-ghost use Rattle.osc_lanes.specs.declared.link_plan.LinkEnd.{LinkEnd};
-ghost use Rattle.osc_lanes.specs.declared.served.Bounds.{Bounds};
-ghost use Rattle.osc_lanes.specs.declared.served.TickerEnd.{TickerEnd};
-ghost use Rattle.osc_live.specs.declared.caller.Caller.{Caller};
-ghost use Rattle.osc_lanes.specs.Ticks.{ClockRead, Reads, Ticks, TickOf, round_lines, tick_line};
-ghost use Rattle.osc_lanes.specs.Ticks.{pump_line};
-ghost use Rattle.osc_lanes.specs.Ends.{seen_by, player_of, account_of, IsReady, IsEndOf};
+ghost use Rattle.osc_lanes.specs.Ends.{seen_by, holder_of, IsReady, IsEndOf};
 
-use osc_edge::Link;
 use osc_method::Method;
 use osc_model::laws::a_method_is_called_while_it_is_registered;
 
@@ -36,40 +25,16 @@ use osc_model::laws::a_method_is_called_while_it_is_registered;
 pub fn a_lane_keeps_its_share<M: Method>()
     ensures share { (caps : Limits) (plan : LanePlan M) (end : LaneEnd M) (history : List Entry)
         → IsReady plan → IsEndOf M.keep M.heard caps plan end
-        → Onward (player_of caps plan.caller).token (seen_by end.caller) history
-        → LaneOf M.keep M.heard (player_of caps plan.caller) plan.lines.items plan.boxes.items
-        (account_of end) history }
+        → Onward (holder_of caps plan.caller).token (seen_by end.caller) history
+        → LaneOf M.keep M.heard (holder_of caps plan.caller) plan.part.lines.items
+        plan.part.boxes.items (told_of end.told) history }
     ensures removed { (caps : Limits) (plan : LanePlan M) (end : LaneEnd M) (history : List Entry)
         → IsEndOf M.keep M.heard caps plan end → StartsWith history (seen_by end.caller)
         → Legal caps (history_in (texts history))
-        → AllByRecursion (IsRemovedAt M.keep M.heard caps history) end.removed.items }
+        → AllByRecursion (IsRemovedAt M.keep M.heard caps history) end.told.removed.items }
 {
     a_method_is_called_while_it_is_registered();
 }
-
-/// A link's share is its share of every history that goes on with no further entry of its token, where the token came
-/// in with none.
-pub fn a_link_keeps_its_share<M: Method, L: Link>()
-    ensures { (caps : Limits) (bounds : Bounds) (plan : LinkPlan L) (end : LinkEnd L)
-        (history : List Entry)
-        → (served : IsLinkEnd M.keep M.heard L.left L.faults caps bounds plan end)
-        → own (player_of caps plan.caller).token (seen_by plan.caller) ≡ []
-        → Onward (player_of caps plan.caller).token (seen_by end.caller) history
-        → LinkOf M.keep M.heard (player_of caps plan.caller) bounds served.turns end.over
-        (link_account end.faults.items (stop_by end.over)) history }
-{}
-
-/// The ticker's share is its share of every history that goes on with no further entry of its token, where the token
-/// came in with none.
-pub fn a_ticker_keeps_its_share<M: Method>()
-    ensures { (caps : Limits) (before after : Caller) (tokens : List (List Entry))
-        (clock : ClockRead) (end : TickerEnd) (history : List Entry)
-        → Ticks M.keep M.heard (player_of caps before) tokens clock end (seen_by before)
-        (seen_by after)
-        → own (player_of caps before).token (seen_by before) ≡ []
-        → Onward (player_of caps before).token (seen_by after) history
-        → TickOf M.keep M.heard (player_of caps before) tokens clock end history }
-{}
 
 /// A recording of as many bytes as `enough_for` says stops no lane, and refuses no enrolment.
 pub fn enough_room_never_stops<M: Method>()
@@ -119,16 +84,4 @@ pub fn examples()
           boxes = [];
         } ∷ [])
         ≡ 60 + 28 * 2 + (44 + 60) + 44 + 8 }
-{}
-
-/// Two quiets in a row end a link that may have so many, and a datagram between them starts their count anew; a moment
-/// is handed in that is the first or greater than the last; a clock's last moment stays; and faults stand link by link.
-pub fn serve_examples()
-    ensures quiets { (player : Player) (here : List Entry) → PlaysTurns {M = ℕ} (λ _. 0) (λ _. None)
-        player (record { count = 3; idle = 2 }) 0 0 (None ∷ None ∷ []) Idle (ended [] None) here
-        here }
-    ensures first { round_lines None 5 ≡ tick_line 5 ∷ pump_line ∷ [] }
-    ensures same { round_lines (Some 5) 5 ≡ pump_line ∷ [] }
-    ensures later { round_lines (Some 5) 6 ≡ tick_line 6 ∷ pump_line ∷ [] }
-    ensures reads { Reads (Some (5 ∷ 7 ∷ [])) (5 ∷ 7 ∷ 7 ∷ []) (Some (7 ∷ [])) }
 {}

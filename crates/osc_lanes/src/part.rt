@@ -1,6 +1,11 @@
-//! What a performance is given for each lane, and what each lane tells.
+//! What a lane is given, and what it tells.
+ghost use Rattle.std.specs.Prelude.{◌≡◌, None};
+ghost use Rattle.osc_lanes.specs.Shares.{ended};
+ghost use Rattle.osc_lanes.specs.Performs.{told_of};
+
 use osc_atoms::{Fault, Room};
 use osc_script::Line;
+use std::alloc::Global;
 
 /// The lines of one lane, and a box for each line that adds a method.
 #[derive(Drop)]
@@ -20,4 +25,17 @@ pub struct LaneTold<M> {
     pub back: Vec<M>,
     /// The room at the first answer that the recording is full. The lane ended there.
     pub stop: Option<Room>,
+}
+
+/// What a lane tells that has played no line, where these boxes come back.
+pub(crate) fn nothing_told<M: Drop>(alloc: Global, back: Vec<M>) -> LaneTold<M>
+    ensures told { told_of result ≡ ended back.items None }
+    ensures stop { result.stop ≡ None }
+{
+    LaneTold {
+        faults: Vec::new(alloc),
+        removed: Vec::new(alloc),
+        back,
+        stop: None,
+    }
 }

@@ -1,15 +1,19 @@
-//! What a lane is given, and what it gives back.
-use osc_atoms::{Fault, Room};
-use osc_live::Caller;
-use osc_script::Line;
+//! The plan of a lane, and its end.
+ghost use Rattle.std.specs.Prelude.{◌≡◌, ◌<◌, length, map, IfOk};
+ghost use Rattle.osc_lanes.specs.Performs.{part_of};
+ghost use Rattle.osc_lanes.specs.Crews.{caller_of, part_in};
+ghost use Rattle.osc_record.specs.declared.limits.TheConstants.{MAX_CALLERS};
 
-/// The lines of one lane, its caller's token, and a box for each line that adds a method.
+use crate::part::{LanePart, LaneTold};
+use osc_live::Caller;
+use std::alloc::{AllocError, Global};
+
+/// What one lane is given, and its caller's token.
 #[derive(Drop)]
 pub struct LanePlan<M> {
     pub lane: u32,
     pub caller: Caller,
-    pub lines: Vec<Line>,
-    pub boxes: Vec<M>,
+    pub part: LanePart<M>,
 }
 
 /// What is left of a lane that was played.
@@ -17,12 +21,29 @@ pub struct LanePlan<M> {
 pub struct LaneEnd<M> {
     pub lane: u32,
     pub caller: Caller,
-    /// The line's number and the fault of each send that was refused, in line order.
-    pub faults: Vec<(u32, Fault)>,
-    /// Each id that the lane removed, with its box, in that order.
-    pub removed: Vec<(u32, M)>,
-    /// The boxes that weren't added, in line order.
-    pub back: Vec<M>,
-    /// The room at the first answer that the recording is full. The lane ends there.
-    pub stop: Option<Room>,
+    pub told: LaneTold<M>,
+}
+
+/// A plan for each part, each with the caller in its place.
+pub(crate) fn make_plans<M: Drop>(
+    alloc: Global,
+    callers: Vec<Caller>,
+    parts: Vec<LanePart<M>>,
+) -> Result<Vec<LanePlan<M>>, AllocError>
+    requires many { length callers.items ≡ length parts.items }
+    requires few { length parts.items < MAX_CALLERS }
+    ensures callers { IfOk result (λ plans. map caller_of plans.items ≡ callers.items) }
+    ensures parts { IfOk result (λ plans. map part_in plans.items ≡ map part_of parts.items) }
+{
+    let mut plans = Vec::with_capacity(alloc, parts.len())?;
+    let mut callers = callers.into_iter();
+    let mut lane = 0;
+    for part in parts {
+        let Some(caller) = callers.next() else {
+            unreachable!()
+        };
+        plans.push(LanePlan { lane, caller, part })?;
+        lane += 1;
+    }
+    Ok(plans)
 }

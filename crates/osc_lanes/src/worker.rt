@@ -1,19 +1,19 @@
 // The worker of one lane.
 ghost use Rattle.std.specs.Prelude.{◌≡◌, ◌≤◌, ◌++◌, length, IfOk, OnOk, None};
 ghost use Rattle.std.specs.Vec.Iter.{into_iter_items};
-ghost use Rattle.std.specs.Option.{option_map};
-ghost use Rattle.osc_record.specs.Shown.{room_of};
 ghost use Rattle.osc_turn.specs.Passes.{view};
-ghost use Rattle.osc_live.specs.Seen.{IsTokenOf};
-ghost use Rattle.osc_lanes.specs.Shares.{Account, then_told, ended, Plays, count_adds};
-ghost use Rattle.osc_lanes.specs.Ends.{seen_by, player_of, IsEndOf};
-ghost use Rattle.osc_lanes.specs.Tallies.{gathered, PlaysTo};
+ghost use Rattle.osc_live.specs.Tokens.{IsOurs};
+ghost use Rattle.osc_script.specs.Adds.{count_adds};
+ghost use Rattle.osc_lanes.specs.Shares.{then_told, ended};
+ghost use Rattle.osc_lanes.specs.Ends.{seen_by, holder_of, IsEndOf};
+ghost use Rattle.osc_lanes.specs.Performs.{part_of, told_of, IsWhole};
+ghost use Rattle.osc_lanes.specs.Tells.{TellsLines};
 
-use crate::acts::play_act;
+use crate::acts::play_line;
 use crate::gate::Gate;
+use crate::lane::Lane;
+use crate::part::{LanePart, nothing_told};
 use crate::plan::{LaneEnd, LanePlan};
-use crate::tally::Tally;
-use osc_atoms::Room;
 use osc_live::{Caller, Live};
 use osc_method::Method;
 use osc_script::Line;
@@ -22,81 +22,72 @@ use std::sync::Wait;
 use std::vec::IntoIter;
 
 /// Plays a plan, up to the first line that finds the recording full. An `Err` is want of memory.
-pub(crate) fn play_lane<M: Method, W: Wait, G: Gate>(
+pub fn play_lane<M: Method, W: Wait, G: Gate>(
     rt: &W,
     alloc: Global,
     live: &Live<M>,
     plan: LanePlan<M>,
     gate: &G,
 ) -> Result<LaneEnd<M>, AllocError>
-    requires ours { IsTokenOf live.now.turn live.now.caps plan.caller.pass }
-    requires handed { count_adds plan.lines.items ≤ length plan.boxes.items }
-    ensures ours { IfOk result (λ end. IsTokenOf live.now.turn live.now.caps end.caller.pass) }
+    requires ours { IsOurs live.now plan.caller }
+    requires whole { IsWhole (part_of plan.part) }
+    ensures ours { IfOk result (λ end. IsOurs live.now end.caller) }
     ensures end { IfOk result (λ end. IsEndOf M.keep M.heard live.now.caps plan end) }
 {
-    let LanePlan {
-        lane,
-        caller,
-        lines,
-        boxes,
-    } = plan;
-    let mut boxes = boxes.into_iter();
-    let mut tally = Tally {
-        faults: Vec::new(alloc),
-        removed: Vec::new(alloc),
-        back: Vec::new(alloc),
+    let LanePlan { lane, caller, part } = plan;
+    let LanePart { lines, boxes } = part;
+    let mut lane = Lane {
+        number: lane,
+        boxes: boxes.into_iter(),
+        told: nothing_told(alloc, Vec::new(alloc)),
     };
-    let (caller, stop) = play_lines(rt, live, lane, caller, lines, &mut boxes, &mut tally, gate)?;
-    keep_rest(&mut tally.back, boxes)?;
-    let Tally {
-        faults,
-        removed,
-        back,
-    } = tally;
+    let caller = play_lines(rt, live, &mut lane, caller, lines, gate)?;
+    let Lane {
+        number,
+        boxes,
+        mut told,
+    } = lane;
+    keep_rest(&mut told.back, boxes)?;
     Ok(LaneEnd {
-        lane,
+        lane: number,
         caller,
-        faults,
-        removed,
-        back,
-        stop,
+        told,
     })
 }
 
+/// Plays the lines of the lane, up to the first that finds the recording full.
 fn play_lines<M: Method, W: Wait, G: Gate>(
     rt: &W,
     live: &Live<M>,
-    lane: u32,
+    lane: &mut Lane<M>,
     mut caller: Caller,
     lines: Vec<Line>,
-    boxes: &mut IntoIter<M>,
-    tally: &mut Tally<M>,
     gate: &G,
-) -> Result<(Caller, Option<Room>), AllocError>
-    requires ours { IsTokenOf live.now.turn live.now.caps caller.pass }
-    requires handed { count_adds lines.items ≤ length (into_iter_items boxes.old) }
-    ensures ours { IfOk result (λ r. IsTokenOf live.now.turn live.now.caps r.0.pass) }
-    ensures player { IfOk result
-        (λ r. player_of live.now.caps r.0 ≡ player_of live.now.caps caller) }
-    ensures made { IfOk result
-        (λ r. (view r.0.pass).made ≡ (view caller.pass).made) }
-    ensures plays { IfOk result (λ r. PlaysTo M.keep M.heard (player_of live.now.caps caller)
-        lines.items (into_iter_items boxes.old) (gathered tally.old None)
-        (then_told (gathered tally.new None)
-        (ended (into_iter_items boxes.new) (option_map room_of r.1)))
-        (seen_by caller) (seen_by r.0)) }
+) -> Result<Caller, AllocError>
+    requires ours { IsOurs live.now caller }
+    requires handed { count_adds lines.items ≤ length (into_iter_items lane.old.boxes) }
+    requires begun { lane.old.told.stop ≡ None }
+    ensures ours { IfOk result (IsOurs live.now) }
+    ensures holder { IfOk result
+        (λ then. holder_of live.now.caps then ≡ holder_of live.now.caps caller) }
+    ensures made { IfOk result (λ then. (view then.pass).made ≡ (view caller.pass).made) }
+    ensures number { lane.new.number ≡ lane.old.number }
+    ensures plays { IfOk result (λ then. TellsLines M.keep M.heard
+        (holder_of live.now.caps caller) lines.items (into_iter_items lane.old.boxes)
+        (told_of lane.old.told) (then_told (told_of lane.new.told)
+        (ended (into_iter_items lane.new.boxes) (told_of lane.new.told).stop))
+        (seen_by caller) (seen_by then)) }
 {
     for line in lines {
         let number = line.number;
-        gate.enter(lane, number);
-        let (next, stop) = play_act(rt, live, caller, number, line.act, boxes, tally)?;
-        gate.leave(lane, number);
-        caller = next;
-        if stop.is_some() {
-            return Ok((caller, stop));
+        gate.enter(lane.number, number);
+        caller = play_line(rt, live, lane, caller, line)?;
+        gate.leave(lane.number, number);
+        if lane.told.stop.is_some() {
+            return Ok(caller);
         }
     }
-    Ok((caller, None))
+    Ok(caller)
 }
 
 /// Keeps the boxes that no line has taken.

@@ -3,7 +3,7 @@ ghost use Rattle.std.specs.Prelude.{◌≡◌, [], IfOk};
 ghost use Rattle.osc_turn.specs.History.{own};
 ghost use Rattle.osc_turn.specs.Rule.{number_of};
 ghost use Rattle.osc_turn.specs.Passes.{view};
-ghost use Rattle.osc_live.specs.Seen.{IsTokenOf};
+ghost use Rattle.osc_live.specs.Tokens.{IsOurs};
 
 use osc_live::{Caller, Live};
 use osc_method::Method;
@@ -16,10 +16,10 @@ pub(crate) fn enrolled<M: Method, W: Wait>(
     live: &Live<M>,
     first: Caller,
 ) -> Result<(Caller, Caller), Fail>
-    requires ours { IsTokenOf live.now.turn live.now.caps first.pass }
+    requires ours { IsOurs live.now first }
     requires first { first.number ≡ 0 }
-    ensures ours { IfOk result (λ both. IsTokenOf live.now.turn live.now.caps both.0.pass) }
-    ensures new_ours { IfOk result (λ both. IsTokenOf live.now.turn live.now.caps both.1.pass) }
+    ensures ours { IfOk result (λ both. IsOurs live.now both.0) }
+    ensures new_ours { IfOk result (λ both. IsOurs live.now both.1) }
     ensures first { IfOk result (λ both. both.0.number ≡ 0) }
     ensures no_entries { IfOk result
         (λ both. own (number_of (view both.1.pass)) (view both.1.pass).seen ≡ []) }

@@ -1,4 +1,4 @@
-//! Tests of the lanes, over their public calls.
+//! Tests of the lanes and links, over their public calls.
 #![tactic(auto)]
 
 #[cfg(test)]

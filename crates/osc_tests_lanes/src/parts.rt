@@ -1,6 +1,6 @@
 // Builds the parts of the tests: the lines of a lane, and a box for each that adds a method.
 ghost use Rattle.std.specs.Prelude.{◌≡◌, ◌≤◌, length, OnOk};
-ghost use Rattle.osc_lanes.specs.Shares.{adds_of, count_adds};
+ghost use Rattle.osc_script.specs.Adds.{adds_of, count_adds};
 
 use osc_lanes::LanePart;
 use osc_method::Mute;

@@ -1,10 +1,10 @@
 // Lanes that are performed on a new server, and what is recorded of them.
 ghost use Rattle.std.specs.Prelude.{◌≤◌, length, IfOk};
-ghost use Rattle.osc_lanes.specs.Shares.{count_adds};
+ghost use Rattle.osc_script.specs.Adds.{count_adds};
 
 use crate::parts::{address, empty, push_add, push_line};
 use osc_atoms::Bytes;
-use osc_lanes::{LanePart, OpenGate, Performed, perform};
+use osc_lanes::{LanePart, OpenGate, Performed, run_lanes};
 use osc_method::Mute;
 use osc_record::{Caps, Event, Late, Reader};
 use osc_replay::replay;
@@ -50,7 +50,7 @@ fn performed<R: Threads + Wait + Sync>(
     let mut parts = Vec::with_capacity(alloc, 2)?;
     parts.push_reserved(adding);
     parts.push_reserved(sending);
-    let performed = perform(rt, alloc, caps, parts, &OpenGate)?;
+    let performed = run_lanes(rt, alloc, caps, parts, &OpenGate)?;
     Ok(performed)
 }
 
@@ -84,8 +84,8 @@ fn letter(event: &Event<'_>) -> u8 {
 fn each_caller_has_the_entries_of_its_lane_in_order(rt: HostRuntime) -> Result<(), Fail> {
     let done = performed(&rt, rt.alloc(), 4096)?;
     assert_eq!(rt; done.unenrolled, None);
-    assert_eq!(rt; (done.lanes.len(), done.kept.len()), (2, 1));
-    let bytes = done.bytes.as_slice();
+    assert_eq!(rt; (done.lanes.len(), done.closed.kept.len()), (2, 1));
+    let bytes = done.closed.bytes.as_slice();
     assert!(rt; bytes.len() <= 4096);
     assert!(rt; replay(rt.alloc(), bytes).is_ok());
     assert_eq!(rt; letters(rt.alloc(), bytes, 0)?.as_slice(), b"ee".as_slice());
@@ -107,7 +107,11 @@ fn no_lane_is_started_where_an_enrolment_finds_no_room(rt: HostRuntime) -> Resul
     let room = done.unenrolled.ok_or("a room")?;
     assert_eq!(rt; (room.need, room.free), (28, 0));
     assert_eq!(rt;
-        (done.bytes.len(), done.kept.len(), done.lanes.len()),
+        (
+            done.closed.bytes.len(),
+            done.closed.kept.len(),
+            done.lanes.len()
+        ),
         (88, 0, 2)
     );
     let boxes = [1, 0];

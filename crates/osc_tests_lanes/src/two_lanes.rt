@@ -1,13 +1,13 @@
 // Two lanes on one server, each held at its first line until the other has played its own.
 ghost use Rattle.std.specs.Prelude.{◌≡◌, ◌≤◌, length, IfOk};
-ghost use Rattle.osc_lanes.specs.Shares.{count_adds};
+ghost use Rattle.osc_script.specs.Adds.{count_adds};
 
 use crate::callers::enrolled;
 use crate::hold::Hold;
 use crate::parts::{address, empty, push_add, push_line};
 use osc_atoms::{Bytes, Fault};
-use osc_lanes::{Gate, LaneEnd, LanePart, LanePlan, play};
-use osc_live::{Caller, Live};
+use osc_lanes::{Gate, LaneEnd, LanePart, LanePlan, play_lanes};
+use osc_live::Live;
 use osc_method::Mute;
 use osc_record::{Caps, Late};
 use osc_script::Act;
@@ -42,21 +42,6 @@ fn adding(alloc: Global) -> Result<LanePart<Mute>, Fail>
     Ok(part)
 }
 
-/// The plan of a lane.
-fn plan_of(lane: u32, caller: Caller, part: LanePart<Mute>) -> LanePlan<Mute>
-    ensures caller { result.caller ≡ caller }
-    ensures lines { result.lines.items ≡ part.lines.items }
-    ensures boxes { result.boxes.items ≡ part.boxes.items }
-{
-    let LanePart { lines, boxes } = part;
-    LanePlan {
-        lane,
-        caller,
-        lines,
-        boxes,
-    }
-}
-
 /// Plays both lanes on one server, whose caller 0 enrolled theirs.
 fn play_both<R: Threads + Wait + Sync, G: Gate + Sync>(
     rt: &R,
@@ -70,9 +55,17 @@ fn play_both<R: Threads + Wait + Sync, G: Gate + Sync>(
     let (first, one) = enrolled(rt, &live, first)?;
     let (_, two) = enrolled(rt, &live, first)?;
     let mut plans = Vec::with_capacity(alloc, 2)?;
-    plans.push_reserved(plan_of(1, one, calling(alloc)?));
-    plans.push_reserved(plan_of(2, two, adding(alloc)?));
-    let ends = play(rt, alloc, &live, plans, gate)?;
+    plans.push_reserved(LanePlan {
+        lane: 1,
+        caller: one,
+        part: calling(alloc)?,
+    });
+    plans.push_reserved(LanePlan {
+        lane: 2,
+        caller: two,
+        part: adding(alloc)?,
+    });
+    let ends = play_lanes(rt, alloc, &live, plans, gate)?;
     Ok(ends)
 }
 
@@ -86,12 +79,13 @@ fn two_lanes_play_at_once(rt: HostRuntime) -> Result<(), Fail> {
         assert!(rt; ends.is_empty());
         assert!(rt; !gate.gave_up());
         assert_eq!(rt; (one.lane, two.lane), (1, 2));
-        assert!(rt; one.faults.is_empty() && one.back.is_empty() && two.removed.is_empty());
-        assert_eq!(rt; (one.removed.len(), two.back.len()), (1, 1));
-        let fault = two.faults.pop().ok_or("a fault")?;
+        assert!(rt; one.told.faults.is_empty() && one.told.back.is_empty());
+        assert!(rt; two.told.removed.is_empty());
+        assert_eq!(rt; (one.told.removed.len(), two.told.back.len()), (1, 1));
+        let fault = two.told.faults.pop().ok_or("a fault")?;
         assert_eq!(rt; fault, (2, Fault { kind: 8, at: 0 }));
-        assert!(rt; two.faults.is_empty());
-        assert_eq!(rt; (one.stop, two.stop), (None, None));
+        assert!(rt; two.told.faults.is_empty());
+        assert_eq!(rt; (one.told.stop, two.told.stop), (None, None));
     }
     Ok(())
 }

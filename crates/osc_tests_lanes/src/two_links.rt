@@ -6,7 +6,8 @@ use crate::hold::{Flag, Hold, HoldSecond};
 use crate::parts::address;
 use osc_atoms::{Bytes, Fault};
 use osc_edge::{MemoryClock, MemoryLink};
-use osc_lanes::{Bounds, Gate, OpenGate, ServeEnd, serve};
+use osc_lanes::{Gate, OpenGate};
+use osc_links::{Bounds, LinksPart, ServeEnd, serve_links};
 use osc_live::Live;
 use osc_method::{Call, Method, Mute};
 use osc_record::{Caps, Late};
@@ -70,8 +71,11 @@ fn serve_both<M: Method + Send, R: Threads + Wait + Sync, G: Gate + Sync>(
     links.push_reserved(first_link);
     links.push_reserved(second_link);
     let mut clock = MemoryClock::open(Vec::from_array(alloc, [5])?, Vec::new(alloc));
-    let bounds = Bounds { count: 8, idle: 2 };
-    let end = serve(rt, alloc, &live, callers, links, &mut clock, bounds, gate)?;
+    let links = LinksPart {
+        from: links,
+        bounds: Bounds { count: 8, idle: 2 },
+    };
+    let end = serve_links(rt, alloc, &live, callers, links, &mut clock, gate)?;
     Ok(end)
 }
 
@@ -118,8 +122,8 @@ fn two_links_are_served_at_once(rt: HostRuntime) -> Result<(), Fail> {
         let gate = Hold::of(held);
         let end = serve_both(&rt, alloc, Mute, once(alloc)?, once(alloc)?, &gate)?;
         assert!(rt; !gate.gave_up());
-        assert!(rt; end.faults.is_empty() && !end.clock_failed);
-        assert_eq!(rt; (end.failed, end.stop), (None, None));
+        assert!(rt; end.told.faults.is_empty() && !end.told.clock_failed);
+        assert_eq!(rt; (end.told.failed, end.told.stop), (None, None));
     }
     Ok(())
 }
@@ -134,8 +138,8 @@ fn the_ticker_plays_rounds_while_a_link_is_at_work(rt: HostRuntime) -> Result<()
     let gate = HoldSecond::until(called);
     let end = serve_both(&rt, alloc, method, twice(alloc)?, once(alloc)?, &gate)?;
     assert!(rt; !gate.gave_up());
-    assert!(rt; end.faults.is_empty() && !end.clock_failed);
-    assert_eq!(rt; (end.failed, end.stop), (None, None));
+    assert!(rt; end.told.faults.is_empty() && !end.told.clock_failed);
+    assert_eq!(rt; (end.told.failed, end.told.stop), (None, None));
     Ok(())
 }
 
@@ -147,9 +151,9 @@ fn what_came_of_the_links_is_told_link_by_link(rt: HostRuntime) -> Result<(), Fa
         (0, 2, Fault { kind: 2, at: 30 }),
         (1, 1, Fault { kind: 8, at: 0 }),
     ];
-    assert_eq!(rt; end.faults.as_slice(), faults.as_slice());
-    assert_eq!(rt; (end.callers.len(), end.links.len()), (3, 2));
-    assert_eq!(rt; (end.failed, end.stop), (Some(1), None));
-    assert!(rt; !end.clock_failed);
+    assert_eq!(rt; end.told.faults.as_slice(), faults.as_slice());
+    assert_eq!(rt; (end.callers.len(), end.told.links.len()), (3, 2));
+    assert_eq!(rt; (end.told.failed, end.told.stop), (Some(1), None));
+    assert!(rt; !end.told.clock_failed);
     Ok(())
 }

@@ -14,19 +14,19 @@ use Rattle.osc_record.specs.Shown.{room_of}
 use Rattle.osc_core.specs.Standing.{history_in}
 use Rattle.osc_turn.specs.declared.view.Entry.{Entry as Seen}
 use Rattle.osc_turn.specs.History.{own, texts}
-use Rattle.osc_lanes.specs.declared.hosting.Hosted.{Hosted}
-use Rattle.osc_lanes.specs.declared.link_plan.LinkEnd.{LinkEnd}
-use Rattle.osc_lanes.specs.declared.link_plan.Over.{Over}
-use Rattle.osc_lanes.specs.declared.link_plan.Over.TheVariants.{Count, Idle, End, Failed, Full as OverFull}
-use Rattle.osc_lanes.specs.declared.served.Bounds.{Bounds}
-use Rattle.osc_lanes.specs.declared.served.TickerEnd.{TickerEnd}
-use Rattle.osc_lanes.specs.declared.served.TickerEnd.TheVariants.{Done as TickerDone, ClockFailed as TickerFailed, Full as TickerFull}
-use Rattle.osc_lanes.specs.Hosts.{IsServed, IsUnserved, ServesAll, Hosts}
-use Rattle.osc_lanes.specs.Links.{Turn, HasEndCause}
+use Rattle.osc_links.specs.declared.run.Hosted.{Hosted}
+use Rattle.osc_links.specs.declared.link_plan.LinkEnd.{LinkEnd}
+use Rattle.osc_links.specs.declared.link_plan.Over.{Over}
+use Rattle.osc_links.specs.declared.link_plan.Over.TheVariants.{Count, Idle, End, Failed, Full as OverFull}
+use Rattle.osc_links.specs.declared.served.Bounds.{Bounds}
+use Rattle.osc_links.specs.declared.served.TickerEnd.{TickerEnd}
+use Rattle.osc_links.specs.declared.served.TickerEnd.TheVariants.{Done as TickerDone, ClockFailed as TickerFailed, Full as TickerFull}
+use Rattle.osc_links.specs.Hosts.{IsServed, IsUnserved, ServesAll, Hosts}
+use Rattle.osc_links.specs.Links.{LinkTurn, HasEndCause}
 use Rattle.osc_lanes.specs.Performs.{Part, Numbered, HasNoRoomToEnrol, player_at}
-use Rattle.osc_lanes.specs.Serves.{failed_from, has_failed, is_clock_failed, link_in, seen_in}
+use Rattle.osc_links.specs.Serves.{failed_from, has_failed, is_clock_failed, link_in, seen_in}
 use Rattle.osc_lanes.specs.Shares.{Player}
-use Rattle.osc_lanes.specs.Ticks.{ClockRead, EndsTicks}
+use Rattle.osc_links.specs.Ticks.{ClockRead, EndsTicks}
 use Rattle.osc_replay.specs.Printed.{printed}
 use Rattle.osc_script.specs.declared.line.Line.{Line}
 use Rattle.osc_words.specs.declared.command.Capacities.{Capacities}
@@ -51,14 +51,14 @@ use Rattle.osc_top.proofs.LiveEnds.{ends_short_of_memory, not_failed, written_of
 
 -- What a count of faults does, by how a link or the ticker ended.
 
-over_still : (over : Over) (left : Option (List Turn)) (before now : ℕ) → HasEndCause over left before now → has_failed over ≡ false → now ≡ before
+over_still : (over : Over) (left : Option (List LinkTurn)) (before now : ℕ) → HasEndCause over left before now → has_failed over ≡ false → now ≡ before
 over_still Count left before now cause is = cause
 over_still Idle left before now cause is = cause
 over_still End left before now cause is = cause.1
 over_still Failed left before now cause is = absurd (cc)
 over_still (OverFull room) left before now cause is = cause
 
-over_risen : (over : Over) (left : Option (List Turn)) (before now : ℕ) → HasEndCause over left before now → has_failed over ≡ true → Rose before now
+over_risen : (over : Over) (left : Option (List LinkTurn)) (before now : ℕ) → HasEndCause over left before now → has_failed over ≡ true → Rose before now
 over_risen Count left before now cause is = absurd (cc)
 over_risen Idle left before now cause is = absurd (cc)
 over_risen End left before now cause is = absurd (cc)
@@ -93,7 +93,7 @@ none_failed (Some link) clock_failed stop is = absurd (cc)
 none_failed None true stop is = absurd (cc)
 none_failed None false stop is = (refl, refl)
 
-module _ {M L : Type 0} (left : L → Option (List Turn)) (faults : L → ℕ) (keep : M → ℕ) (heard : M → Option (List ℕ)) (caps : Limits) (bounds : Bounds) where
+module _ {M L : Type 0} (left : L → Option (List LinkTurn)) (faults : L → ℕ) (keep : M → ℕ) (heard : M → Option (List ℕ)) (caps : Limits) (bounds : Bounds) where
   module _ (history : List Seen) where
     abbrev AreServed : ℕ → List L → List (LinkEnd L) → Type 0
     AreServed number links ends = Numbered (IsServed left faults keep heard caps bounds history) number links ends
@@ -195,7 +195,7 @@ risen_by faults links links_after clock None true stop seven link_risen clock_ri
 risen_by faults links links_after clock None false None seven link_risen clock_risen = absurd (omega (arith, seven))
 risen_by faults links links_after clock None false (Some room) seven link_risen clock_risen = absurd (omega (arith, seven))
 
-module _ {M L : Type 0} (keep : M → ℕ) (heard : M → Option (List ℕ)) (left : L → Option (List Turn)) (faults : L → ℕ) (status : ℕ) (bank : List M)
+module _ {M L : Type 0} (keep : M → ℕ) (heard : M → Option (List ℕ)) (left : L → Option (List LinkTurn)) (faults : L → ℕ) (status : ℕ) (bank : List M)
     (added : List (ℕ × M)) (rest : List M) (links links_after : List L) (clock : ClockRead) (rec out : SinkChange) where
   abbrev EndsSo : LiveCommand → List ℕ → Type 0
   EndsSo command script = EndsCommand keep heard left faults command status script bank added rest links links_after clock rec out

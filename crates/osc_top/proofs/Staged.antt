@@ -14,13 +14,13 @@ use Rattle.osc_record.specs.Shown.{room_of}
 use Rattle.osc_core.specs.Ids.{is_ascending}
 use Rattle.osc_core.specs.Standing.{history_in, CarriesMark, mark_of}
 use Rattle.osc_core.specs.Telling.{told}
-use Rattle.osc_lanes.specs.declared.hosting.Hosted.{Hosted}
-use Rattle.osc_lanes.specs.declared.served.Bounds.{Bounds}
-use Rattle.osc_lanes.specs.Hosts.{Hosts}
-use Rattle.osc_lanes.specs.Links.{Turn}
+use Rattle.osc_links.specs.declared.run.Hosted.{Hosted}
+use Rattle.osc_links.specs.declared.served.Bounds.{Bounds}
+use Rattle.osc_links.specs.Hosts.{Hosts}
+use Rattle.osc_links.specs.Links.{LinkTurn}
 use Rattle.osc_lanes.specs.Performs.{Performs, IsClosedWith, added_ids, removed_ids, told_of, IsWhole}
 use Rattle.osc_lanes.specs.Shares.{Account, IsRemovedAt, known_of}
-use Rattle.osc_lanes.specs.Ticks.{ClockRead}
+use Rattle.osc_links.specs.Ticks.{ClockRead}
 use Rattle.osc_live.specs.Seen.{performance_in}
 use Rattle.osc_model.specs.Events.{Room}
 use Rattle.osc_model.specs.Limits.{Limits}
@@ -197,7 +197,7 @@ module _ {M : Type 0} where
         }
 
     -- links were served
-    module _ {L : Type 0} (turns : L → Option (List Turn)) (faults : L → ℕ) where
+    module _ {L : Type 0} (turns : L → Option (List LinkTurn)) (faults : L → ℕ) where
       pub links_ascending : (caps : Limits) (bounds : Bounds) (bank : List M) (links : List L) (clock : ClockRead) (added : List (ℕ × M)) (rest : List M)
           (links_after : List L) (lines : List Line) (recording text : List ℕ) (outcome : Outcome)
           → PlaysLinks keep heard turns faults caps bounds bank links clock added rest links_after lines recording text outcome

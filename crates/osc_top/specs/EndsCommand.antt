@@ -1,7 +1,7 @@
 -- How each command of many threads ends.
 use Rattle.std.specs.Prelude.{◌≡◌, ◌⊎◌, ℕ, List, length, Option}
-use Rattle.osc_lanes.specs.Links.{Turn}
-use Rattle.osc_lanes.specs.Ticks.{ClockRead}
+use Rattle.osc_links.specs.Links.{LinkTurn}
+use Rattle.osc_links.specs.Ticks.{ClockRead}
 use Rattle.osc_script.specs.declared.line.Line.{Line}
 use Rattle.osc_words.specs.declared.command.Capacities.{Capacities}
 use Rattle.osc_words.specs.declared.command.LiveCommand.{LiveCommand}
@@ -18,7 +18,7 @@ use Rattle.osc_ends.specs.Sinks.{SinkChange}
 
 -- what playing lines comes to: lanes are played, or links are served, on the server that the words
 -- say, of which these boxes, links and inputs were handed in, and this came back
-abbrev pub plays_of : {M L : Type 0} → (M → ℕ) → (M → Option (List ℕ)) → (L → Option (List Turn))
+abbrev pub plays_of : {M L : Type 0} → (M → ℕ) → (M → Option (List ℕ)) → (L → Option (List LinkTurn))
     → (L → ℕ) → LiveCommand → List M → List (ℕ × M) → List M → List L → List L → ClockRead
     → List Line → List ℕ → List ℕ → Outcome → Type 0
 plays_of keep heard left faults (live.Lanes caps) bank added rest links links_after clock lines
@@ -31,7 +31,7 @@ plays_of keep heard left faults (live.Serve transport port ports count idle caps
 
 -- how a command ends, by its status and its script
 abbrev pub EndsCommand : {M L : Type 0} → (M → ℕ) → (M → Option (List ℕ))
-    → (L → Option (List Turn)) → (L → ℕ) → LiveCommand → ℕ → List ℕ → List M → List (ℕ × M)
+    → (L → Option (List LinkTurn)) → (L → ℕ) → LiveCommand → ℕ → List ℕ → List M → List (ℕ × M)
     → List M → List L → List L → ClockRead → SinkChange → SinkChange → Type 0
 EndsCommand keep heard left faults command status script bank added rest links links_after clock
     rec out =

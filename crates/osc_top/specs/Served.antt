@@ -8,12 +8,12 @@ use Rattle.osc_model.specs.Events.{Room}
 use Rattle.osc_record.specs.Shown.{room_of}
 use Rattle.osc_core.specs.Standing.{history_in}
 use Rattle.osc_turn.specs.History.{texts}
-use Rattle.osc_lanes.specs.declared.hosting.Hosted.{Hosted}
-use Rattle.osc_lanes.specs.declared.served.Bounds.{Bounds}
-use Rattle.osc_lanes.specs.Hosts.{Hosts}
-use Rattle.osc_lanes.specs.Links.{Turn}
+use Rattle.osc_links.specs.declared.run.Hosted.{Hosted}
+use Rattle.osc_links.specs.declared.served.Bounds.{Bounds}
+use Rattle.osc_links.specs.Hosts.{Hosts}
+use Rattle.osc_links.specs.Links.{LinkTurn}
 use Rattle.osc_lanes.specs.Performs.{Part}
-use Rattle.osc_lanes.specs.Ticks.{ClockRead}
+use Rattle.osc_links.specs.Ticks.{ClockRead}
 use Rattle.osc_print.specs.Lines.{link_fault_text}
 use Rattle.osc_replay.specs.Printed.{printed}
 use Rattle.osc_script.specs.declared.line.Line.{Line}
@@ -44,7 +44,7 @@ module _ {M : Type 0} {L : Type 0} where
   -- and then those that no line took. The text is that of the history, then the faults of the
   -- links, and last the line on what went wrong, where something did.
   pub record PlaysLinks (keep : M → ℕ) (heard : M → Option (List ℕ))
-      (left : L → Option (List Turn)) (faults : L → ℕ) (caps : Limits) (bounds : Bounds)
+      (left : L → Option (List LinkTurn)) (faults : L → ℕ) (caps : Limits) (bounds : Bounds)
       (bank : List M) (links : List L) (clock : ClockRead) (added : List (ℕ × M))
       (rest : List M) (links_after : List L) (lines : List Line) (recording text : List ℕ)
       (outcome : Outcome) : Type 0 where

@@ -32,7 +32,7 @@ ghost use Rattle.std.specs.Prelude.{
 };
 ghost use Rattle.osc_edge.specs.Faults.{Rose};
 ghost use Rattle.osc_core.specs.Ids.{is_ascending};
-ghost use Rattle.osc_lanes.specs.Ticks.{clock_read};
+ghost use Rattle.osc_links.specs.Ticks.{clock_read};
 ghost use Rattle.osc_laws.specs.Laws.{KeepsTheLaws};
 ghost use Rattle.osc_model.specs.Limits.{Limits};
 ghost use Rattle.osc_model.specs.Events.{Entry};
@@ -71,7 +71,8 @@ use crate::staging::stage;
 use osc_edge::{Clock, Link, Sink, Source};
 use osc_ends::status::NO_MEMORY;
 use osc_ends::{Ended, bank_short, count_adds, read_script, usage};
-use osc_lanes::{Bounds, Gate};
+use osc_lanes::Gate;
+use osc_links::Bounds;
 use osc_method::Method;
 use osc_script::{Line, Mode};
 use osc_words::{LiveCommand, live_command_of};

@@ -4,7 +4,7 @@ ghost use Rattle.std.specs.Prelude.{◌≡◌, ◌++◌, ◌≤◌, ◌<◌, len
 ghost use Rattle.std.specs.Option.{option_map, option_or};
 ghost use Rattle.std.specs.List.Sorted.{IsPermutation, IsNonDecreasingBy};
 ghost use Rattle.osc_record.specs.Shown.{room_of};
-ghost use Rattle.osc_lanes.specs.Ticks.{clock_read};
+ghost use Rattle.osc_links.specs.Ticks.{clock_read};
 ghost use Rattle.osc_script.specs.Adds.{count_adds};
 ghost use Rattle.osc_top.specs.Served as ends;
 ghost use Rattle.osc_top.specs.Served.{PlaysLinks, link_faults};
@@ -14,7 +14,8 @@ use crate::played::Played;
 use osc_atoms::{Fault, Room};
 use osc_edge::{Clock, Link};
 use osc_ends::{Outcome, Recorded, count_adds, stopped};
-use osc_lanes::{Bounds, Gate, Hosted, LanePart, LaneTold, LinksTold, host};
+use osc_lanes::{Gate, LanePart, LaneTold};
+use osc_links::{Bounds, Hosted, LinksTold, run_links};
 use osc_method::Method;
 use osc_player::gather;
 use osc_print::{Text, link_fault_line};
@@ -57,7 +58,7 @@ pub(crate) fn stage_links<
 {
     let rest = bank.split_off(count_adds(&lines))?;
     let part = LanePart { lines, boxes: bank };
-    let hosted = host(rt, alloc, caps, part, links, clock, bounds, gate)?;
+    let hosted = run_links(rt, alloc, caps, part, links, clock, bounds, gate)?;
     let settled = settle_links(alloc, hosted, rest)?;
     Ok(settled)
 }

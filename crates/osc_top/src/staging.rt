@@ -19,7 +19,7 @@ use crate::dealing::deal;
 use crate::played::Played;
 use osc_atoms::{Fault, Room};
 use osc_ends::{Recorded, stopped};
-use osc_lanes::{Gate, LaneTold, Performed, perform};
+use osc_lanes::{Gate, LaneTold, Performed, run_lanes};
 use osc_method::Method;
 use osc_player::{gather, keep_rest};
 use osc_print::{Text, fault_line};
@@ -50,7 +50,7 @@ pub(crate) fn stage<M: Method + Send, W: Threads + Wait + Sync, G: Gate + Sync>(
         caps played.recorded.bytes.items played.recorded.faults played.recorded.outcome) }
 {
     let (parts, rest) = deal(alloc, lines, bank)?;
-    let performed = perform(rt, alloc, caps, parts, gate)?;
+    let performed = run_lanes(rt, alloc, caps, parts, gate)?;
     let played = settle(alloc, performed, rest)?;
     Ok(played)
 }

@@ -1,6 +1,6 @@
 use Rattle.std.proofs.Common.{ap, arith, length, ◌∷◌, [], length-append}
 use Rattle.osc_script.specs.declared.act.Act.TheVariants.{Add}
-use Rattle.osc_lanes.specs.Shares.{count_adds}
+use Rattle.osc_script.specs.Adds.{count_adds}
 use Rattle.osc_tests_lanes.proofs.Counting.{count_push}
 use Rattle.osc_tests_lanes.proofs.parts.push_add.Goals as goal
 

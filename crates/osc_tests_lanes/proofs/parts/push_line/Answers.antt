@@ -1,5 +1,5 @@
 use Rattle.std.proofs.Common.{ap, arith}
-use Rattle.osc_lanes.specs.Shares.{count_adds}
+use Rattle.osc_script.specs.Adds.{count_adds}
 use Rattle.osc_tests_lanes.proofs.Counting.{count_push}
 use Rattle.osc_tests_lanes.proofs.parts.push_line.Goals as goal
 

@@ -1,12 +1,12 @@
 use Rattle.std.proofs.Common.{◌≡◌, ℕ, List, take, drop, ap, subst, ◌∙◌, rules}
-use Rattle.osc_lanes.specs.Hosts.{Hosts}
-use Rattle.osc_lanes.specs.Ticks.{clock_read}
+use Rattle.osc_links.specs.Hosts.{Hosts}
+use Rattle.osc_links.specs.Ticks.{clock_read}
 use Rattle.osc_script.specs.Adds.{count_adds}
 use Rattle.osc_top.proofs.Staged.{adds_whole, links_staged}
 use Rattle.osc_top.proofs.serving.stage_links.Goals as goal
 
-pub host-requires-clause-whole : goal.host-requires-clause-whole
-host-requires-clause-whole g c _ _ =
+pub run_links-requires-clause-whole : goal.run_links-requires-clause-whole
+run_links-requires-clause-whole g c _ _ =
     let adds : c.count_adds.result ≡ count_adds c.args.lines.items = search rules in
     adds_whole c.args.lines.items c.args.bank.items _ c.requires.enough
     (c.in_ok-rest.ensures.items ∙ ap (λ (n : ℕ). take n c.args.bank.items) adds)
@@ -20,7 +20,7 @@ returns g c =
     let caps = c.args.caps in
     let lines = c.args.lines.items in
     let bank = c.args.bank.items in
-    let clock = clock_read g.C.Clock.left g.C.Clock.faults c.args.clock.now c.host.new.clock in
+    let clock = clock_read g.C.Clock.left g.C.Clock.faults c.args.clock.now c.run_links.new.clock in
     let hosted = c.in_ok-hosted.hosted in
     let done = c.in_ok-settled.ensures in
     let adds : c.count_adds.result ≡ count_adds lines = search rules in

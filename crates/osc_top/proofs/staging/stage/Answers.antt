@@ -9,16 +9,16 @@ use Rattle.osc_top.proofs.Staged.{lanes_staged}
 use Rattle.osc_top.proofs.staging.stage.Goals as goal
 use Rattle.osc_top.proofs.staging.stage.Goals.{In_ok-played}
 
-pub perform-requires-clause-callers : goal.perform-requires-clause-callers
-perform-requires-clause-callers g c =
+pub run_lanes-requires-clause-callers : goal.run_lanes-requires-clause-callers
+run_lanes-requires-clause-callers g c =
     omega (
       arith,
       c.requires.callers,
       few_parts c.args.lines.items c.args.bank.items _ c.in_ok-parts.ensures.parts c.requires.lanes,
     )
 
-pub perform-requires-clause-whole : goal.perform-requires-clause-whole
-perform-requires-clause-whole g c _ _ =
+pub run_lanes-requires-clause-whole : goal.run_lanes-requires-clause-whole
+run_lanes-requires-clause-whole g c _ _ =
     parts_whole c.args.lines.items c.args.bank.items _ c.in_ok-parts.ensures.parts c.requires.enough
 
 -- what was played, of the lines and the bank

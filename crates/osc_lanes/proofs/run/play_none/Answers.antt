@@ -1,0 +1,43 @@
+use Rattle.std.proofs.Common.{◌≡◌, List, [], ◌∷◌, map, None, Some, refl, sym, ap, subst, ◌∙◌, arith}
+use Rattle.std.proofs.lemmas.List.{length-map}
+use Rattle.osc_model.specs.Events.{Room, record_full}
+use Rattle.osc_record.specs.Shown.{room_of}
+use Rattle.osc_core.specs.Telling.{told}
+use Rattle.osc_turn.specs.Passes.{view}
+use Rattle.osc_live.specs.declared.caller.Caller.{Caller}
+use Rattle.osc_live.specs.Closing.{known, views_of, Closes}
+use Rattle.osc_live.specs.Enrolments.{refusal_of}
+use Rattle.osc_lanes.specs.Shares.{Account, ended}
+use Rattle.osc_lanes.specs.Performs.{Performs, part_of}
+use Rattle.osc_lanes.proofs.Finishing.{never_both, finish_none}
+use Rattle.osc_live.proofs.Closings.{inserted_first}
+use Rattle.osc_lanes.proofs.run.play_none.Goals as goal
+use Rattle.osc_lanes.proofs.run.play_none.Goals.{In_ok-closed}
+
+-- what the close comes to
+finished : (g : _) (c : In_ok-closed g)
+    → (room : Room) × (refusal_of c.args.why ≡ record_full room)
+    × Performs g.M.Method.keep g.M.Method.heard c.args.live.caps (map part_of c.args.parts.items) c.in_ok-closed.closed.bytes.items
+    c.in_ok-closed.closed.kept.items (map (λ part. ended part.boxes None) (map part_of c.args.parts.items)) (Some room)
+finished g c =
+    let callers : c.insert.new.self.items ≡ c.args.crew.first ∷ c.args.crew.callers.items =
+    c.in_ok-insert.ensures.items ∙ inserted_first c.args.crew.callers.items c.args.crew.first in
+    finish_none g.M.Method.keep g.M.Method.heard c.args.live.caps c.a_server_stays_sound.ensures.step c.a_server_stays_sound.ensures.opening
+    c.in_ok-closed.closed.bytes.items c.in_ok-closed.closed.kept.items c.args.crew.first (view c.args.crew.first.pass) c.args.crew.callers.items refl c.requires.number
+    c.requires.crew c.args.why c.requires.refused c.push.new.self.items (map part_of c.args.parts.items)
+    (omega (arith, length-map c.args.parts.items part_of, c.requires.fewer))
+    (subst (λ (l : List Caller). Closes c.args.live.caps [] (known l) (views_of l c.push.new.self.items) c.in_ok-closed.closed.bytes.items
+    (told g.M.Method.keep g.M.Method.heard c.in_ok-closed.closed.kept.items)) callers c.in_ok-closed.ensures)
+
+pub unreachable-requires : goal.unreachable-requires
+unreachable-requires g c =
+    let done = finished g (goal.at.unreachable-requires g c).In_ok-closed in
+    absurd (never_both done.0 c.args.why c.in-CallersFull.is done.1)
+
+pub returns : goal.returns
+returns g c =
+    let done = finished g (goal.at.returns g c).In_ok-closed in
+    let is : record_full (room_of c.in-RecordFull.room) ≡ record_full done.0 = sym (ap refusal_of c.in-RecordFull.is) ∙ done.1 in
+    let room : done.0 ≡ room_of c.in-RecordFull.room = cc in
+    subst (λ (q : List (Account g.row.M.Denot) × Room). Performs g.M.Method.keep g.M.Method.heard c.args.live.caps (map part_of c.args.parts.items)
+    c.in_ok-closed.closed.bytes.items c.in_ok-closed.closed.kept.items q.0 (Some q.1)) (λ i. (sym c.in_ok-lanes.ensures i, room i)) done.2

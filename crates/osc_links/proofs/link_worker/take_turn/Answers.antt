@@ -1,0 +1,24 @@
+use Rattle.std.proofs.Common.{[], None, Some}
+use Rattle.osc_lanes.specs.Ends.{holder_of}
+use Rattle.osc_links.proofs.Turning.{sent_so}
+use Rattle.osc_links.proofs.link_worker.take_turn.Goals as goal
+
+pub returns-in-None-clause-takes : goal.returns-in-None-clause-takes
+returns-in-None-clause-takes g c = (
+  c.in-Got.ensures.cause,
+  _,
+  c.in-Got.ensures.turns,
+  sent_so g.M.Method.keep g.M.Method.heard (holder_of c.args.live.now.caps c.args.open.caller) c.args.number _ _ _ c.in_ok-caller-in-Got.stop None _ _
+      c.in-None.is
+      (c.in_ok-caller-in-Got.ensures.played [] [] []),
+)
+
+pub returns-in-Some-clause-takes : goal.returns-in-Some-clause-takes
+returns-in-Some-clause-takes g c = (
+  c.in-Got.ensures.cause,
+  _,
+  c.in-Got.ensures.turns,
+  sent_so g.M.Method.keep g.M.Method.heard (holder_of c.args.live.now.caps c.args.open.caller) c.args.number _ _ _ c.in_ok-caller-in-Got.stop
+      (Some c.in-Some.room) _ _ c.in-Some.is
+      (c.in_ok-caller-in-Got.ensures.played [] [] []),
+)

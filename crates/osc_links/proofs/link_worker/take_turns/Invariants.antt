@@ -1,0 +1,18 @@
+use Rattle.std.proofs.Common.{◌≡◌, length}
+use Rattle.osc_edge.specs.declared.limits.TheConstants.{MAX_DATAGRAM}
+use Rattle.osc_live.specs.Seen.{IsTokenOf}
+use Rattle.osc_lanes.specs.Ends.{seen_by, holder_of}
+use Rattle.osc_links.specs.Links.{IsOpen}
+use Rattle.osc_links.proofs.Turning.{TurnsGoOn}
+use Rattle.osc_links.proofs.link_worker.take_turns.Given as goal
+
+abbrev pub invariant-loop : goal.invariant-loop
+invariant-loop g l = record {
+  ours : IsTokenOf l.live.turn l.live.caps l.open.caller.pass;
+  holder : holder_of l.live.caps l.open.caller ≡ holder_of l.live.caps l.fn.open.caller;
+  space : length l.space ≡ MAX_DATAGRAM;
+  within : IsOpen l.bounds l.taken l.quiets;
+  count : g.L.Link.faults l.open.from ≡ g.L.Link.faults l.initial.open.from;
+  goes : TurnsGoOn g.M.Method.keep g.M.Method.heard (holder_of l.live.caps l.fn.open.caller) l.bounds l.fn.open.faults.items (g.L.Link.left l.initial.open.from)
+      (seen_by l.fn.open.caller) l.taken l.quiets l.open.faults.items (g.L.Link.left l.open.from) (seen_by l.open.caller);
+}

@@ -1,0 +1,9 @@
+-- What public contracts cite.
+pub mod Hosts
+pub mod Links
+pub mod Serves
+pub mod Ticks
+-- Inside the crate.
+pub mod Opened
+pub mod Rounds
+pub mod Taken

@@ -1,0 +1,101 @@
+-- What comes of links that are served.
+use Rattle.std.specs.Prelude.{◌≡◌, ℕ, ◌+◌, Bool, true, false, if◌then◌else◌, List, [], ◌∷◌, ◌++◌}
+use Rattle.std.specs.Prelude.{map, Option, Some, None}
+use Rattle.std.specs.List.{AllZip}
+use Rattle.std.specs.Option.{option_map, option_or}
+use Rattle.osc_atoms.specs.declared.fault.Fault.{Fault}
+use Rattle.osc_model.specs.Limits.{Limits}
+use Rattle.osc_model.specs.Events.{Room}
+use Rattle.osc_record.specs.Shown.{room_of}
+use Rattle.osc_turn.specs.declared.view.Entry.{Entry as Seen}
+use Rattle.osc_live.specs.declared.caller.Caller.{Caller}
+use Rattle.osc_links.specs.declared.link_plan.LinkPlan.{LinkPlan}
+use Rattle.osc_links.specs.declared.link_plan.LinkEnd.{LinkEnd}
+use Rattle.osc_links.specs.declared.link_plan.Over.{Over}
+use Rattle.osc_links.specs.declared.link_plan.Over.TheVariants.{Failed}
+use Rattle.osc_links.specs.declared.served.Bounds.{Bounds}
+use Rattle.osc_links.specs.declared.served.LinksTold.{LinksTold}
+use Rattle.osc_links.specs.declared.served.ServeEnd.{ServeEnd}
+use Rattle.osc_links.specs.declared.served.TickerEnd.{TickerEnd}
+use Rattle.osc_links.specs.declared.served.TickerEnd.TheVariants.{ClockFailed, Full}
+use Rattle.osc_lanes.specs.Ends.{seen_by, holder_of}
+use Rattle.osc_links.specs.Links.{LinkTurn, stop_by, IsLinkEnd}
+use Rattle.osc_links.specs.Ticks.{ClockRead, Ticks}
+
+-- the link failed
+abbrev pub has_failed : Over → Bool
+has_failed Failed = true
+has_failed _ = false
+
+-- the clock failed
+abbrev pub is_clock_failed : TickerEnd → Bool
+is_clock_failed ClockFailed = true
+is_clock_failed _ = false
+
+-- where the recording was full in a round, the room that was needed and the room that is free
+abbrev pub ticker_stop : TickerEnd → Option Room
+ticker_stop (Full room) = Some (room_of room)
+ticker_stop _ = None
+
+module _ {L : Type 0} where
+  -- the faults of links that are numbered from this one on, link by link
+  abbrev pub faults_from : ℕ → List (LinkEnd L) → List (ℕ × ℕ × Fault)
+  faults_from link [] = []
+  faults_from link (end ∷ ends) =
+      map (λ one. (link, one.0, one.1)) end.faults.items ++ faults_from (link + 1) ends
+
+  -- the least link that failed
+  abbrev pub failed_from : ℕ → List (LinkEnd L) → Option ℕ
+  failed_from link [] = None
+  failed_from link (end ∷ ends) =
+      if has_failed end.over then Some link else failed_from (link + 1) ends
+
+  -- the room of the least link that found the recording full, or else the ticker's
+  abbrev pub stop_of_all : List (LinkEnd L) → TickerEnd → Option Room
+  stop_of_all [] ticker = ticker_stop ticker
+  stop_of_all (end ∷ ends) ticker = option_or (stop_by end.over) (stop_of_all ends ticker)
+
+  abbrev pub caller_of : LinkPlan L → Caller
+  caller_of plan = plan.caller
+
+  abbrev pub link_of : LinkPlan L → L
+  link_of plan = plan.from
+
+  abbrev pub caller_in : LinkEnd L → Caller
+  caller_in end = end.caller
+
+  abbrev pub link_in : LinkEnd L → L
+  link_in end = end.from
+
+  -- what the token of a link has seen
+  abbrev pub seen_in : LinkEnd L → List Seen
+  seen_in end = seen_by end.caller
+
+  -- What is told are the links, their faults, the least link that failed, whether the clock failed,
+  -- and the room of the first of them that found the recording full, the ticker being the last.
+  pub record TellsLinks (ends : List (LinkEnd L)) (ticker_end : TickerEnd)
+      (told : LinksTold L) : Type 0 where
+    pub links_are : told.links.items ≡ map link_in ends
+    pub faults_are : told.faults.items ≡ faults_from 0 ends
+    pub failed_is : told.failed ≡ failed_from 0 ends
+    pub clock_failed_is : told.clock_failed ≡ is_clock_failed ticker_end
+    pub stop_is : option_map room_of told.stop ≡ stop_of_all ends ticker_end
+
+  -- The links were served beside each other, each under the caller in its place, and the ticker
+  -- ticked under the last one.
+  pub record Serves {M : Type 0} (keep : M → ℕ) (heard : M → Option (List ℕ))
+      (left : L → Option (List LinkTurn)) (faults : L → ℕ) (caps : Limits) (bounds : Bounds)
+      (callers : List Caller) (links : List L) (clock : ClockRead) (end : ServeEnd L) : Type 0 where
+    pub plans : List (LinkPlan L)
+    pub ends : List (LinkEnd L)
+    pub ticker : Caller
+    pub ticker_after : Caller
+    pub ticker_end : TickerEnd
+    pub callers_are : callers ≡ map caller_of plans ++ ticker ∷ []
+    pub callers_then : end.callers.items ≡ map caller_in ends ++ ticker_after ∷ []
+    pub links_are : links ≡ map link_of plans
+    pub served : AllZip (IsLinkEnd keep heard left faults caps bounds) plans ends
+    pub ticker_holder : holder_of caps ticker_after ≡ holder_of caps ticker
+    pub ticks : Ticks keep heard (holder_of caps ticker) (map seen_in ends) clock ticker_end
+        (seen_by ticker) (seen_by ticker_after)
+    pub tells : TellsLinks ends ticker_end end.told

@@ -1,0 +1,19 @@
+//! Links: datagrams that are submitted to one server, each link by a thread and under a token of its own, with a ticker
+//! beside them.
+#![tactic(auto)]
+
+pub mod laws;
+mod limits;
+mod link_ends;
+mod link_plan;
+mod link_worker;
+mod links;
+mod run;
+mod served;
+mod ticker;
+
+pub use limits::MAX_LINKS;
+pub use link_plan::{LinkEnd, LinkPlan, Over};
+pub use links::serve_links;
+pub use run::{Hosted, run_links};
+pub use served::{Bounds, LinksPart, LinksTold, ServeEnd, TickerEnd};

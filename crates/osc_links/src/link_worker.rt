@@ -1,0 +1,177 @@
+// The worker of one link.
+ghost use Rattle.std.specs.Prelude.{◌≡◌, ◌+◌, ◌<◌, length, IfOk};
+ghost use Rattle.osc_edge.specs.declared.limits.TheConstants.{MAX_DATAGRAM};
+ghost use Rattle.osc_live.specs.Tokens.{IsOurs};
+ghost use Rattle.osc_lanes.specs.Ends.{seen_by, holder_of};
+ghost use Rattle.osc_links.specs.Links.{HasEndCause, IsLinkEnd};
+ghost use Rattle.osc_links.specs.Taken.{TakesOne, TakesAll};
+
+use crate::link_plan::{LinkEnd, LinkPlan, Over};
+use crate::served::Bounds;
+use osc_atoms::{Fault, Room};
+use osc_edge::{Datagram, Link, MAX_DATAGRAM};
+use osc_lanes::{Gate, send};
+use osc_live::{Caller, Live};
+use osc_method::Method;
+use std::alloc::{AllocError, Global};
+use std::sync::Wait;
+
+/// A link that isn't over, and the faults of its datagrams so far.
+#[derive(Drop)]
+pub(crate) struct OpenLink<L> {
+    pub(crate) link: u32,
+    pub(crate) caller: Caller,
+    pub(crate) from: L,
+    pub(crate) faults: Vec<(u32, Fault)>,
+}
+
+/// What one turn of a link came to.
+#[derive(Clone, Copy)]
+pub(crate) enum Step {
+    /// A datagram was submitted or refused.
+    Sent,
+    Quiet,
+    End,
+    Failed,
+    /// A datagram for which the recording had no room.
+    Full(Room),
+}
+
+/// Serves a link until it is over. An `Err` is want of memory.
+pub(crate) fn serve_link<M: Method, W: Wait, L: Link + Drop, G: Gate>(
+    rt: &W,
+    alloc: Global,
+    live: &Live<M>,
+    plan: LinkPlan<L>,
+    bounds: Bounds,
+    gate: &G,
+) -> Result<LinkEnd<L>, AllocError>
+    requires ours { IsOurs live.now plan.caller }
+    requires count { 0 < bounds.count }
+    requires idle { 0 < bounds.idle }
+    ensures ours { IfOk result (λ end. IsOurs live.now end.caller) }
+    ensures end { IfOk result (λ end.
+        IsLinkEnd M.keep M.heard L.left L.faults live.now.caps bounds plan end) }
+{
+    let LinkPlan { link, caller, from } = plan;
+    let mut buffer = vec![in alloc; 0; MAX_DATAGRAM]?;
+    let open = OpenLink {
+        link,
+        caller,
+        from,
+        faults: Vec::new(alloc),
+    };
+    let space = buffer.as_mut_slice();
+    let (last, over) = take_turns(rt, live, open, space, bounds, gate)?;
+    let OpenLink {
+        caller,
+        from,
+        faults,
+        ..
+    } = last;
+    Ok(LinkEnd {
+        caller,
+        from,
+        faults,
+        over,
+    })
+}
+
+/// Takes turns of the link until it is over.
+fn take_turns<M: Method, W: Wait, L: Link + Drop, G: Gate>(
+    rt: &W,
+    live: &Live<M>,
+    mut open: OpenLink<L>,
+    space: &mut [u8],
+    bounds: Bounds,
+    gate: &G,
+) -> Result<(OpenLink<L>, Over), AllocError>
+    requires ours { IsOurs live.now open.caller }
+    requires space { length space.now ≡ MAX_DATAGRAM }
+    requires count { 0 < bounds.count }
+    requires idle { 0 < bounds.idle }
+    ensures ours { IfOk result (λ r. IsOurs live.now r.0.caller) }
+    ensures holder { IfOk result
+        (λ r. holder_of live.now.caps r.0.caller ≡ holder_of live.now.caps open.caller) }
+    ensures taken { IfOk result (λ r. TakesAll M.keep M.heard
+        (holder_of live.now.caps open.caller) bounds open.faults.items r.0.faults.items
+        (L.left open.from) (L.left r.0.from) r.1 (seen_by open.caller) (seen_by r.0.caller)) }
+    ensures cause { IfOk result (λ r.
+        HasEndCause r.1 (L.left r.0.from) (L.faults open.from) (L.faults r.0.from)) }
+{
+    let mut taken = 0;
+    let mut quiets = 0;
+    for _ in rt.forever() {
+        let number = taken + 1;
+        let (next, step) = take_turn(rt, live, open, number, space, gate)?;
+        open = next;
+        match step {
+            Step::Sent => {
+                taken = number;
+                quiets = 0;
+                if taken == bounds.count {
+                    return Ok((open, Over::Count));
+                }
+            }
+            Step::Quiet => {
+                quiets += 1;
+                if quiets == bounds.idle {
+                    return Ok((open, Over::Idle));
+                }
+            }
+            Step::End => return Ok((open, Over::End)),
+            Step::Failed => return Ok((open, Over::Failed)),
+            Step::Full(room) => return Ok((open, Over::Full(room))),
+        }
+    }
+    unreachable!()
+}
+
+/// Takes a turn of the link; a datagram has this number.
+fn take_turn<M: Method, W: Wait, L: Link + Drop, G: Gate>(
+    rt: &W,
+    live: &Live<M>,
+    mut open: OpenLink<L>,
+    number: u32,
+    space: &mut [u8],
+    gate: &G,
+) -> Result<(OpenLink<L>, Step), AllocError>
+    requires ours { IsOurs live.now open.caller }
+    requires space { length space.now ≡ MAX_DATAGRAM }
+    ensures space { length space.new ≡ length space.old }
+    ensures ours { IfOk result (λ r. IsOurs live.now r.0.caller) }
+    ensures holder { IfOk result
+        (λ r. holder_of live.now.caps r.0.caller ≡ holder_of live.now.caps open.caller) }
+    ensures takes { IfOk result (λ r. TakesOne M.keep M.heard
+        (holder_of live.now.caps open.caller) number open.faults.items r.0.faults.items
+        (L.left open.from) (L.left r.0.from) (L.faults open.from) (L.faults r.0.from) r.1
+        (seen_by open.caller) (seen_by r.0.caller)) }
+{
+    match open.from.next(space) {
+        Datagram::Got(count) => {
+            let OpenLink {
+                link,
+                caller,
+                from,
+                mut faults,
+            } = open;
+            let bytes = &space[..count];
+            gate.enter(link, number);
+            let (caller, stop) = send(rt, live, caller, number, bytes, &mut faults)?;
+            gate.leave(link, number);
+            let open = OpenLink {
+                link,
+                caller,
+                from,
+                faults,
+            };
+            match stop {
+                None => Ok((open, Step::Sent)),
+                Some(room) => Ok((open, Step::Full(room))),
+            }
+        }
+        Datagram::Quiet => Ok((open, Step::Quiet)),
+        Datagram::End => Ok((open, Step::End)),
+        Datagram::Failed => Ok((open, Step::Failed)),
+    }
+}
