@@ -11,6 +11,9 @@ use Rattle.osc_model.specs.Events.{Event, enrol, submit, add, remove, tick, rele
 use Rattle.osc_model.specs.Recordings.{IsRecordable, entry_text, header_text, record_text}
 use Rattle.osc_model.specs.History.{IsLawful}
 use Rattle.osc_model.proofs.Sizes.{header_size as length-header}
+use Rattle.osc_record.specs.declared.version.Version.{Version}
+use Rattle.osc_record.specs.declared.version.Version.TheVariants.{Second}
+use Rattle.osc_record.specs.Versions.{text_in, IsRecordableIn}
 use Rattle.osc_record.specs.Reading.{Placed, ReadRecord, placed_from, unplaced, entry_first, header_read}
 use Rattle.osc_record.specs.Unread.{Remaining, HasHeader, Reads, HasNoNext}
 use Rattle.osc_record.proofs.Again.{drop_front, entry_first_again}
@@ -86,13 +89,16 @@ pub record_length : (limits : Limits) (entries : List Entry) → length (record_
 record_length limits entries = omega (arith, length-header limits, length-append (header_text limits) (texts entries))
 
 -- two entries that some bytes begin with are one
-pub same_first : (limit place : ℕ) (one two : Entry) (after behind : List ℕ) → Recordable one → Recordable two
-    → place + length (entry_text one.caller one.event one.answer) ≤ limit → place + length (entry_text two.caller two.event two.answer) ≤ limit
-    → limit ≤ 1073741824 → entry_text one.caller one.event one.answer ++ after ≡ entry_text two.caller two.event two.answer ++ behind → one ≡ two
-same_first limit place one two after behind first second fits within small same =
-    ap (λ (p : Entry × ℕ). p.0) (some_is (one, length (entry_text one.caller one.event one.answer)) (two, length (entry_text two.caller two.event two.answer))
-    (sym (entry_first_again one.caller one.event one.answer after limit place first fits small) ∙ ap (entry_first limit place) same
-    ∙ entry_first_again two.caller two.event two.answer behind limit place second within small))
+pub same_first : (version : Version) (limit place : ℕ) (one two : Entry) (after behind : List ℕ)
+    → IsRecordableIn version one.caller one.event one.answer → IsRecordableIn version two.caller two.event two.answer
+    → place + length (text_in version one.caller one.event one.answer) ≤ limit → place + length (text_in version two.caller two.event two.answer) ≤ limit
+    → limit ≤ 1073741824
+    → text_in version one.caller one.event one.answer ++ after ≡ text_in version two.caller two.event two.answer ++ behind → one ≡ two
+same_first version limit place one two after behind first second fits within small same =
+    ap (λ (p : Entry × ℕ). p.0)
+    (some_is (one, length (text_in version one.caller one.event one.answer)) (two, length (text_in version two.caller two.event two.answer))
+    (sym (entry_first_again version one.caller one.event one.answer after limit place first fits small) ∙ ap (entry_first version limit place) same
+    ∙ entry_first_again version two.caller two.event two.answer behind limit place second within small))
   where
     some_is : (p q : Entry × ℕ) → ◌≡◌ {A = Option (Entry × ℕ)} (Some p) (Some q) → p ≡ q
     some_is p q e = cc
@@ -172,7 +178,7 @@ unlawful_next old new placed reads unlawful =
       some = omega arith;
       none = λ entry more recordable lawful fits same.
           not_lawful first.event unlawful
-          (subst (λ (e : Entry). IsLawful e.event) (sym (same_first 1073741824 old.at first entry new.rest more reads.recordable recordable
+          (subst (λ (e : Entry). IsLawful e.event) (sym (same_first Second 1073741824 old.at first entry new.rest more reads.recordable recordable
           (omega (arith, ap length reads.text, length-append own new.rest))
           (omega (arith, ap length same, length-append (entry_text entry.caller entry.event entry.answer) more))
           (omega arith) (sym reads.text ∙ same))) lawful);
@@ -221,7 +227,7 @@ never limit place at (e ∷ entries) (h ∷ history) rest all others lawful fits
     let joined : own ++ (texts entries ++ rest) ≡ other ++ texts history = sym (append_assoc own (texts entries) rest) ∙ same in
     let size = length-append own (texts entries ++ rest) in
     let long = length-append other (texts history) in
-    let one : e ≡ h = same_first limit place e h (texts entries ++ rest) (texts history) all.0 others.0 (omega (arith, ap length joined))
+    let one : e ≡ h = same_first Second limit place e h (texts entries ++ rest) (texts history) all.0 others.0 (omega (arith, ap length joined))
     (omega arith) small joined in
     let text : own ≡ other = ap (λ (x : Entry). entry_text x.caller x.event x.answer) one in
     let behind : texts entries ++ rest ≡ texts history =
@@ -237,8 +243,8 @@ no_place bytes at caps history formed same (inr is) =
     let split : bytes ≡ header_text is.limits ++ (texts is.entries ++ is.rest) = is.text ∙ append_assoc (header_text is.limits) (texts is.entries) is.rest in
     let one : is.limits ≡ caps =
     some_is is.limits caps
-    (sym (header_again is.limits (texts is.entries ++ is.rest) is.formed.record_.lawful) ∙ ap header_read (sym split ∙ same)
-    ∙ header_again caps (texts history) formed.record_.lawful) in
+    (sym (header_again Second is.limits (texts is.entries ++ is.rest) is.formed.record_.lawful) ∙ ap (header_read Second) (sym split ∙ same)
+    ∙ header_again Second caps (texts history) formed.record_.lawful) in
     let header : header_text is.limits ≡ header_text caps = ap header_text one in
     let behind : texts is.entries ++ is.rest ≡ texts history =
     sym (drop_front (header_text is.limits) (texts is.entries ++ is.rest)) ∙ ap (drop (length (header_text is.limits))) (sym split ∙ same)

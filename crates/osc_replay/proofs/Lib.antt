@@ -9,3 +9,6 @@ pub mod Replayed
 pub mod Tallying
 pub mod Listed
 pub mod Tallies
+pub mod Unlawful
+pub mod Older
+pub mod Upgraded

@@ -4,7 +4,9 @@ pub mod Counted
 pub mod Disagreeing
 pub mod Dumping
 pub mod Formed
+pub mod Old
 pub mod Printed
+pub mod Upgrading
 -- Inside the crate.
 pub mod Calls
 pub mod Checking
@@ -12,3 +14,4 @@ pub mod Events
 pub mod Kept
 pub mod Lawful
 pub mod Playing
+pub mod Unlawful

@@ -57,7 +57,7 @@ pub(crate) fn next_row<'a>(unread: &mut Unread<'a>) -> Result<Option<Row<'a>>, M
 }
 
 /// The event, if its packet or address is lawful.
-fn lawful_event(event: Event<'_>) -> Option<LawfulEvent<'_>>
+pub(crate) fn lawful_event(event: Event<'_>) -> Option<LawfulEvent<'_>>
     ensures same { IfSome result (λ lawful. event_in lawful ≡ event_of event.entry) }
     ensures lawful { IfSome result (λ lawful. is_lawful (event_in lawful) ≡ true) }
     ensures none { IfNone result (is_lawful (event_of event.entry) ≡ false) }

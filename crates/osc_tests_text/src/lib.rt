@@ -1,4 +1,4 @@
-//! Tests of the recording, of what is printed, and of scripts. Each module is named after the crate that it tries.
+//! Tests of the recording, of what is printed, and of scripts. Each module is named after the crate or the call that it tries.
 #![tactic(auto)]
 
 #[cfg(test)]
@@ -9,3 +9,5 @@ mod record;
 mod replay;
 #[cfg(test)]
 mod script;
+#[cfg(test)]
+mod upgrade;
