@@ -1,10 +1,8 @@
 -- How a program ends, from how its parts end.
-use Rattle.std.proofs.Common.{◌≡◌, ◌⊎◌, inl, inr, ℕ, ◌<◌, List, [], length, Option, Some, None, IfSome, IsOkAnd, Result, Ok, sym, ap, subst, ◌∙◌, arith}
+use Rattle.std.proofs.Common.{◌≡◌, ◌≢◌, ◌⊎◌, inl, inr, ℕ, ◌<◌, ◌≤◌, List, Option, Some, None, IfSome, IsOkAnd, Result, Ok, refl, sym, ap, subst, ◌∙◌, arith}
+use Rattle.std.specs.Prelude.{IsSomeAnd}
 use Rattle.osc_edge.specs.Faults.{Rose}
-use Rattle.osc_model.specs.Limits.{Limits}
-use Rattle.osc_model.specs.Events.{Entry}
-use Rattle.osc_model.specs.Recordings.{record_text}
-use Rattle.osc_replay.specs.Formed.{IsFormed}
+use Rattle.osc_model.specs.Limits.{Limits, max_recording}
 use Rattle.osc_script.specs.declared.line.Line.{Line}
 use Rattle.osc_script.specs.declared.fault.ScriptFault.{ScriptFault}
 use Rattle.osc_script.specs.declared.mode.Mode.TheVariants.{Plain}
@@ -14,15 +12,17 @@ use Rattle.osc_words.specs.declared.command.Output.{Output}
 use Rattle.osc_words.specs.declared.command.PlainCommand.{PlainCommand}
 use Rattle.osc_words.specs.declared.command.PlainCommand.TheVariants.{Read}
 use Rattle.osc_words.specs.declared.command.Reading.{Reading}
-use Rattle.osc_words.specs.declared.command.Reading.TheVariants.{Run, Replay, Dump}
+use Rattle.osc_words.specs.declared.command.Reading.TheVariants.{Run}
 use Rattle.osc_plain.specs.declared.report.Report.{Report}
 use Rattle.osc_player.specs.Bank.{IsAccounted}
 use Rattle.osc_plain.specs.Commands.{plain_limits}
 use Rattle.osc_script.specs.Adds.{count_adds}
-use Rattle.osc_ends.specs.Printing.{bank_short_text}
+use Rattle.osc_ends.specs.Inputs.{RefusesLength}
+use Rattle.osc_ends.specs.Printing.{bank_short_text, malformed_text}
+use Rattle.osc_ends.specs.Recordings.{EndsDump, EndsReplay}
 use Rattle.osc_ends.specs.Sinks.{SinkChange, GainsUnless}
-use Rattle.osc_plain.specs.Runs.{IsPlayed, EndsLines, EndsRun}
-use Rattle.osc_ends.specs.Ends.{EndsLine, left_behind}
+use Rattle.osc_plain.specs.Runs.{IsPlayed, IsUnstopped, EndsLines, EndsReading, EndsRun}
+use Rattle.osc_ends.specs.Ends.{EndsLine}
 use Rattle.osc_plain.specs.EndsPlain.{AccountsPlain, CanBeDone}
 
 -- too few boxes
@@ -75,11 +75,79 @@ not_cut_short status faults later failed steady (inr (inr cut)) = absurd (steady
 
 module _ {M : Type 0} (keep : M → ℕ) (heard : M → Option (List ℕ)) (status : ℕ) (bank : List M) (added : List (ℕ × M)) (left : List M) where
   -- the boxes of a run are those of its command
-  pub run_accounts : (output : Output) (capacities : Capacities) (reading : Reading) (limits : Limits) (script : List ℕ) → reading ≡ Run output capacities
-      → limits ≡ plain_limits capacities
-      → (IsPlayed status → (lines : List Line) × (script_of Plain script ≡ Ok lines) × IsAccounted keep heard limits lines bank added left)
-      → AccountsPlain keep heard (Read reading) status (Some script) bank added left
-  run_accounts output capacities reading limits script is same accounted =
-      subst (λ (r : Reading). AccountsPlain keep heard (Read r) status (Some script) bank added left) (sym is)
-      (λ played. subst (λ (l : Limits). (lines : List Line) × (script_of Plain script ≡ Ok lines) × IsAccounted keep heard l lines bank added left) same
-      (accounted played))
+  pub run_accounts : (output : Output) (capacities : Capacities) (reading : Reading) (limits : Limits) (input : Option (List ℕ))
+      → reading ≡ Run output capacities → limits ≡ plain_limits capacities
+      → (IsPlayed status → (lines : List Line) × IfSome input (λ script. script_of Plain script ≡ Ok lines)
+      × IsAccounted keep heard limits lines bank added left)
+      → AccountsPlain keep heard (Read reading) status input bank added left
+  run_accounts output capacities reading limits input is same accounted =
+      subst (λ (r : Reading). AccountsPlain keep heard (Read r) status input bank added left) (sym is)
+      (λ played. subst
+      (λ (l : Limits). (lines : List Line) × IfSome input (λ script. script_of Plain script ≡ Ok lines) × IsAccounted keep heard l lines bank added left)
+      same (accounted played))
+
+-- what the words say is what is done
+pub can_so : (reading other : Reading) (have : ℕ) (input : Option (List ℕ)) → reading ≡ other → CanBeDone (Read reading) have input
+    → CanBeDone (Read other) have input
+can_so reading other have input is can = subst (λ (r : Reading). CanBeDone (Read r) have input) is can
+
+pub run_done : (output : Output) (capacities : Capacities) (reading : Reading) (limits : Limits) (have : ℕ) (input : Option (List ℕ))
+    → reading ≡ Run output capacities → limits ≡ plain_limits capacities → CanBeDone (Read reading) have input
+    → IsSomeAnd input (λ script. IsOkAnd (script_of Plain script) (λ lines. (count_adds lines ≤ have) × IsUnstopped limits lines))
+run_done output capacities reading limits have input is same can =
+    subst
+    (λ (l : Limits). IsSomeAnd input (λ script. IsOkAnd (script_of Plain script) (λ lines. (count_adds lines ≤ have) × IsUnstopped l lines)))
+    (sym same) (can_so reading (Run output capacities) have input is can)
+
+pub reading_ends : (reading other : Reading) (status decided have : ℕ) (input : Option (List ℕ)) (out : SinkChange) → reading ≡ other → status ≡ decided
+    → IfSome input (λ all. decided ≢ 4 → EndsReading other decided have all out)
+    → IfSome input (λ all. status ≢ 4 → EndsReading reading status have all out)
+reading_ends reading other status decided have input out is same ends =
+    subst (λ (r : Reading). IfSome input (λ all. status ≢ 4 → EndsReading r status have all out)) (sym is)
+    (subst (λ (s : ℕ). IfSome input (λ all. s ≢ 4 → EndsReading other s have all out)) (sym same) ends)
+
+-- a recording that is too long is refused as one that is malformed behind the last byte that it may have
+
+module _ (status : ℕ) (out : SinkChange) where
+  pub length_replay : (left : Option (List ℕ)) → RefusesLength status left out → IfSome left (λ all. status ≢ 4 → EndsReplay status all out)
+  length_replay None refuses = tt
+  length_replay (Some all) refuses = λ read. go read refuses.known where
+    go : status ≢ 4 → (status ≡ 1) ⊎ (status ≡ 3) ⊎ (status ≡ 4) → EndsReplay status all out
+    go read (inl one) = let refused = refuses.refused one in
+        record {
+          known = inr (inl one);
+          done = λ zero_is. absurd (omega (arith, one, zero_is));
+          refused = λ _. (malformed_text max_recording, inl (inl (refused.0, refl)), refused.1);
+          cut_short = λ five. absurd (omega (arith, one, five));
+        }
+    go read (inr (inl three)) = record {
+      known = inr (inr (inl three));
+      done = λ zero_is. absurd (omega (arith, three, zero_is));
+      refused = λ one. absurd (omega (arith, three, one));
+      cut_short = λ five. absurd (omega (arith, three, five));
+    }
+    go read (inr (inr four)) = absurd (read four)
+
+  pub length_dump : (left : Option (List ℕ)) → RefusesLength status left out → IfSome left (λ all. status ≢ 4 → EndsDump status all out)
+  length_dump None refuses = tt
+  length_dump (Some all) refuses = λ read. go read refuses.known where
+    go : status ≢ 4 → (status ≡ 1) ⊎ (status ≡ 3) ⊎ (status ≡ 4) → EndsDump status all out
+    go read (inl one) = let refused = refuses.refused one in
+        record {
+          known = inr (inl one);
+          done = λ zero_is. absurd (omega (arith, one, zero_is));
+          refused = λ _. (malformed_text max_recording, inl (refused.0, refl), refused.1);
+          cut_short = λ five. absurd (omega (arith, one, five));
+        }
+    go read (inr (inl three)) = record {
+      known = inr (inr (inl three));
+      done = λ zero_is. absurd (omega (arith, three, zero_is));
+      refused = λ one. absurd (omega (arith, three, one));
+      cut_short = λ five. absurd (omega (arith, three, five));
+    }
+    go read (inr (inr four)) = absurd (read four)
+
+-- what holds of the bytes that were left holds of those that were read
+pub some_bytes : (left : Option (List ℕ)) (bytes : List ℕ) (P : List ℕ → Type 0) → IfSome left (λ all. bytes ≡ all) → IsSomeAnd left P → P bytes
+some_bytes None bytes P is holds = absurd holds
+some_bytes (Some all) bytes P is holds = subst P (sym is) holds
