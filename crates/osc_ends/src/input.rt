@@ -42,8 +42,8 @@ use osc_record::MAX_RECORDING;
 use osc_script::{Line, MAX_SCRIPT, Mode, Script, ScriptFault, ScriptRefusal};
 use std::alloc::Global;
 
-/// The lines of the script that the input is, or the status with which the program ends: 1, where the script is refused,
-/// of which a line is written, 3 or 4. The memory of the input is given back.
+/// The lines of the script that the input is, or the status with which the program ends: 1, where the script is
+/// refused, of which a line is written, 3 or 4. The memory of the input is given back.
 pub fn read_script<S: Source, O: Sink>(
     alloc: Global,
     mode: Mode,
@@ -108,8 +108,8 @@ fn refuse_long<O: Sink>(alloc: Global, out: &mut O) -> u8
     refuse(alloc, fault, out)
 }
 
-/// The bytes of the recording that the input is, or the status with which the program ends: 1, where there are too many,
-/// of which a line is written, 3 or 4.
+/// The bytes of the recording that the input is, or the status with which the program ends: 1, where there are too
+/// many, of which a line is written, 3 or 4.
 pub fn read_recording<S: Source, O: Sink>(
     alloc: Global,
     input: &mut S,

@@ -1,5 +1,12 @@
 //! Writes what the commands print.
-ghost use Rattle.osc_ends.specs.declared.status.TheConstants.{BANK_SHORT, DONE, NO_MEMORY, REFUSED, SINK_FAILED, USAGE};
+ghost use Rattle.osc_ends.specs.declared.status.TheConstants.{
+  BANK_SHORT,
+  DONE,
+  NO_MEMORY,
+  REFUSED,
+  SINK_FAILED,
+  USAGE,
+};
 ghost use Rattle.std.specs.Prelude.{◌≡◌, ◌≢◌, ◌⊎◌, ◌≤◌, List, length, IfOk};
 ghost use Rattle.osc_model.specs.Limits.{Limits, max_recording};
 ghost use Rattle.osc_model.specs.Events.{Entry};
@@ -97,7 +104,8 @@ pub fn write_dump<O: Sink>(alloc: Global, bytes: &[u8], out: &mut O) -> u8
     requires { length bytes.now ≤ max_recording }
     ensures ends { EndsDump result bytes.now (sink_change O.held O.faults out.old out.new) }
     ensures complete { (caps : Limits) (entries : List Entry) → IsFormed caps entries
-        → bytes.now ≡ record_text caps entries → (result ≡ DONE) ⊎ (result ≡ NO_MEMORY) ⊎ (result ≡ SINK_FAILED) }
+        → bytes.now ≡ record_text caps entries
+        → (result ≡ DONE) ⊎ (result ≡ NO_MEMORY) ⊎ (result ≡ SINK_FAILED) }
 {
     match dump(alloc, bytes) {
         Ok(text) => write_text(DONE, text.bytes(), out),
@@ -120,7 +128,8 @@ pub fn write_text<O: Sink>(status: u8, text: &[u8], out: &mut O) -> u8
 
 /// Writes the line of a script that is refused.
 pub(crate) fn refuse<O: Sink>(alloc: Global, fault: ScriptFault, out: &mut O) -> u8
-    ensures { EndsLine REFUSED result (refusal_text fault) (sink_change O.held O.faults out.old out.new) }
+    ensures { EndsLine REFUSED result (refusal_text fault)
+        (sink_change O.held O.faults out.old out.new) }
 {
     let mut text = Text::open(alloc);
     match refusal_line(&mut text, fault) {
@@ -131,7 +140,8 @@ pub(crate) fn refuse<O: Sink>(alloc: Global, fault: ScriptFault, out: &mut O) ->
 
 /// Writes the line of a recording that is malformed at a place.
 pub(crate) fn malformed<O: Sink>(alloc: Global, at: u32, out: &mut O) -> u8
-    ensures { EndsLine REFUSED result (malformed_text at) (sink_change O.held O.faults out.old out.new) }
+    ensures { EndsLine REFUSED result (malformed_text at)
+        (sink_change O.held O.faults out.old out.new) }
 {
     let mut text = Text::open(alloc);
     match malformed_line(&mut text, at) {
