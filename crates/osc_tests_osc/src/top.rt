@@ -2,7 +2,7 @@
 use osc_edge::{MemorySink, MemorySource};
 use osc_message::{Builder, Message};
 use osc_method::{Call, Method, Trace};
-use osc_top::{plain_top, traces};
+use osc_plain::{plain_top, traces};
 use std::alloc::{AllocError, Global};
 use std::process::Abort;
 use std::test::Fail;
