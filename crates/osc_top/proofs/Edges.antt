@@ -23,7 +23,7 @@ use Rattle.osc_links.specs.declared.served.TickerEnd.{TickerEnd}
 use Rattle.osc_links.specs.declared.served.TickerEnd.TheVariants.{Done as TickerDone, ClockFailed as TickerFailed, Full as TickerFull}
 use Rattle.osc_links.specs.Hosts.{IsServed, IsUnserved, ServesAll, Hosts}
 use Rattle.osc_links.specs.Links.{LinkTurn, HasEndCause}
-use Rattle.osc_lanes.specs.Performs.{Part, Numbered, HasNoRoomToEnrol, player_at}
+use Rattle.osc_lanes.specs.Performs.{Part, Numbered, HasNoRoomToEnrol, holder_at}
 use Rattle.osc_links.specs.Serves.{failed_from, has_failed, is_clock_failed, link_in, seen_in}
 use Rattle.osc_lanes.specs.Shares.{Player}
 use Rattle.osc_links.specs.Ticks.{ClockRead, EndsTicks}
@@ -156,9 +156,9 @@ module _ {M L : Type 0} (left : L → Option (List LinkTurn)) (faults : L → �
       go : Serving ⊎ IsUnserved links clock hosted.links → (map faults hosted.links.links.items ≡ map faults links) × (clock.now ≡ clock.faults)
       go (inr unserved) = (ap (map faults) unserved.links_are, unserved.clock_is.1)
       go (inl serves) = (
-        ap (map faults) serves.links_are ∙ links_still hosts.history 1 0 links serves.ends serves.shares (sym serves.failed_is ∙ none),
-        ticks_still keep heard (player_at caps (length links + 1)) serves.ticks.3.last (map seen_in serves.ends) serves.ticks.3.between clock serves.ticker_end
-            serves.ticks.3.place serves.ticks.1 serves.ticks.3.ends (sym serves.clock_failed_is ∙ sound),
+        ap (map faults) serves.tells.links_are ∙ links_still hosts.history 1 0 links serves.ends serves.shares (sym serves.tells.failed_is ∙ none),
+        ticks_still keep heard (holder_at caps (length links + 1)) serves.ticks.3.last (map seen_in serves.ends) serves.ticks.3.between clock serves.ticker_end
+            serves.ticks.3.place serves.ticks.1 serves.ticks.3.ends (sym serves.tells.clock_failed_is ∙ sound),
       )
 
     pub hosts_link_risen : (link : ℕ) → hosted.links.failed ≡ Some link → HasLinkRisen faults link links hosted.links.links.items
@@ -166,9 +166,9 @@ module _ {M L : Type 0} (left : L → Option (List LinkTurn)) (faults : L → �
       go : Serving ⊎ IsUnserved links clock hosted.links → HasLinkRisen faults link links hosted.links.links.items
       go (inr unserved) = let none : None ≡ Some link = sym unserved.failed_is ∙ is in absurd (cc)
       go (inl serves) =
-          let risen = link_risen hosts.history 1 0 link links serves.ends serves.shares (sym serves.failed_is ∙ is) in
+          let risen = link_risen hosts.history 1 0 link links serves.ends serves.shares (sym serves.tells.failed_is ∙ is) in
           let same : risen.0 ≡ link = omega (arith, risen.1) in
-          subst (λ (l : List L). HasLinkRisen faults link links l) (sym serves.links_are)
+          subst (λ (l : List L). HasLinkRisen faults link links l) (sym serves.tells.links_are)
           (subst (λ (n : ℕ). HasLinkRisen faults n links (map link_in serves.ends)) same risen.2)
 
     pub hosts_clock_risen : hosted.links.clock_failed ≡ true → Rose clock.faults clock.now
@@ -176,8 +176,8 @@ module _ {M L : Type 0} (left : L → Option (List LinkTurn)) (faults : L → �
       go : Serving ⊎ IsUnserved links clock hosted.links → Rose clock.faults clock.now
       go (inr unserved) = let none : false ≡ true = sym unserved.clock_failed_is ∙ is in absurd (cc)
       go (inl serves) =
-          ticks_risen keep heard (player_at caps (length links + 1)) serves.ticks.3.last (map seen_in serves.ends) serves.ticks.3.between clock
-          serves.ticker_end serves.ticks.3.place serves.ticks.1 serves.ticks.3.ends (sym serves.clock_failed_is ∙ is)
+          ticks_risen keep heard (holder_at caps (length links + 1)) serves.ticks.3.last (map seen_in serves.ends) serves.ticks.3.between clock
+          serves.ticker_end serves.ticks.3.place serves.ticks.1 serves.ticks.3.ends (sym serves.tells.clock_failed_is ∙ is)
 
 -- The same of a program's end, and its history.
 

@@ -203,13 +203,13 @@ module _ {M : Type 0} where
           → PlaysLinks keep heard turns faults caps bounds bank links clock added rest links_after lines recording text outcome
           → is_ascending (map (λ one. one.0) added) ≡ true
       links_ascending caps bounds bank links clock added rest links_after lines recording text outcome plays =
-          ascending_ids caps plays.hosts.history plays.hosted.bytes.items plays.hosted.kept.items added (told_of plays.hosted.opening ∷ [])
+          ascending_ids caps plays.hosts.history plays.hosted.closed.bytes.items plays.hosted.closed.kept.items added (told_of plays.hosted.opening ∷ [])
           plays.hosts.closed plays.boxes
 
       pub links_staged : (caps : Limits) (bounds : Bounds) (lines : List Line) (bank : List M) (links : List L) (clock : ClockRead) (hosted : Hosted M L)
           (added : List (ℕ × M)) → Hosts turns faults keep heard caps bounds (adds_part lines bank) links clock hosted
-          → IsPermutation (hosted.kept.items ++ hosted.opening.removed.items) added → IsNonDecreasingBy (λ one. one.0) added → (left rest : List M)
-          (links_after : List L) (recording said : List ℕ) (outcome : Outcome) → recording ≡ hosted.bytes.items → left ≡ hosted.opening.back.items ++ rest
+          → IsPermutation (hosted.closed.kept.items ++ hosted.opening.removed.items) added → IsNonDecreasingBy (λ one. one.0) added → (left rest : List M)
+          (links_after : List L) (recording said : List ℕ) (outcome : Outcome) → recording ≡ hosted.closed.bytes.items → left ≡ hosted.opening.back.items ++ rest
           → rest ≡ drop (count_adds lines) bank → links_after ≡ hosted.links.links.items → said ≡ link_faults hosted.links.faults.items
           → outcome ≡ served hosted.links.failed hosted.links.clock_failed
           (option_map room_of (option_or hosted.opening.stop (option_or hosted.unenrolled hosted.links.stop)))
@@ -217,8 +217,8 @@ module _ {M : Type 0} where
       links_staged caps bounds lines bank links clock hosted added hosts moved ordered left rest links_after recording said outcome bytes_so left_so rest_so
           links_so said_so outcome_so =
           let accounts = told_of hosted.opening ∷ [] in
-          let here : IsPermutation (hosted.kept.items ++ all_removed accounts) added =
-          subst (λ (l : List (ℕ × M)). IsPermutation (hosted.kept.items ++ l) added) (sym (append-nil hosted.opening.removed.items)) moved in
+          let here : IsPermutation (hosted.closed.kept.items ++ all_removed accounts) added =
+          subst (λ (l : List (ℕ × M)). IsPermutation (hosted.closed.kept.items ++ l) added) (sym (append-nil hosted.opening.removed.items)) moved in
           record {
             history = history_in (texts hosts.history);
             recording_of = record { legal = hosts.stage.legal; text = bytes_so ∙ hosts.closed.recorded };
@@ -226,7 +226,7 @@ module _ {M : Type 0} where
               hosted = hosted;
               hosts = hosts;
               recorded = bytes_so;
-              boxes = all_heard caps hosts.history hosted.bytes.items hosted.kept.items accounts added hosts.closed here ordered;
+              boxes = all_heard caps hosts.history hosted.closed.bytes.items hosted.closed.kept.items accounts added hosts.closed here ordered;
               links_are = links_so;
               rest_is = left_so ∙ ap (λ (l : List M). hosted.opening.back.items ++ l) rest_so;
               outcome_is = outcome_so;

@@ -50,7 +50,7 @@ module _ {M : Type 0} {L : Type 0} where
       (outcome : Outcome) : Type 0 where
     pub hosted : Hosted M L
     pub hosts : Hosts left faults keep heard caps bounds (adds_part lines bank) links clock hosted
-    pub recorded : recording ≡ hosted.bytes.items
+    pub recorded : recording ≡ hosted.closed.bytes.items
     pub boxes : HaveHeardAll keep heard caps hosts.history added
     pub links_are : links_after ≡ hosted.links.links.items
     pub rest_is : rest ≡ hosted.opening.back.items ++ drop (count_adds lines) bank

@@ -1,4 +1,5 @@
 //! The ports of the links that the words tell to serve.
+ghost use Rattle.osc_links.specs.declared.limits.TheConstants.{MAX_LINKS};
 ghost use Rattle.std.specs.Prelude.{◌≡◌, ◌+◌, ◌≤◌, IfOk, length, map, string_bytes};
 ghost use Rattle.std.specs.List.{range_with_len};
 ghost use Rattle.osc_top.specs.Commands.{ports_of};
@@ -10,7 +11,7 @@ use std::alloc::{AllocError, Global};
 /// the words are refused or say another command. An `Err` is want of memory.
 pub fn ports(alloc: Global, words: &[String]) -> Result<Vec<u16>, AllocError>
     ensures said { IfOk result (λ ports. ports.items ≡ ports_of (map string_bytes words.now)) }
-    ensures few { IfOk result (λ ports. length ports.items ≤ 16) }
+    ensures few { IfOk result (λ ports. length ports.items ≤ MAX_LINKS) }
 {
     match live_command_of(alloc, words)? {
         Some(LiveCommand::Serve { port, links, .. }) => ports_from(alloc, port, links),

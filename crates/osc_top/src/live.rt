@@ -1,4 +1,5 @@
 //! The top call of many threads.
+ghost use Rattle.osc_links.specs.declared.limits.TheConstants.{MAX_LINKS};
 ghost use Rattle.osc_ends.specs.declared.status.TheConstants.{
   BANK_SHORT,
   DONE,
@@ -110,7 +111,7 @@ pub fn live_top<
     bank: Vec<Box<dyn Method + Send>>,
     gate: &G,
 ) -> (Ended, Vec<L>)
-    requires few { length links.items ≤ 16 }
+    requires few { length links.items ≤ MAX_LINKS }
     ensures known { result.0.status ≤ BANK_SHORT }
 
     // Words that are no command are answered first, by a line on usage, and nothing is read then.
@@ -260,7 +261,7 @@ fn play_lines<
     gate: &G,
 ) -> (Ended, Vec<L>)
     requires lawful { IsLawfulLive command }
-    requires few { length links.items ≤ 16 }
+    requires few { length links.items ≤ MAX_LINKS }
     requires lines { AreOf (commands.mode_of command) lines.items }
     ensures ends { (script : List ℕ) → script_of (commands.mode_of command) script ≡ Ok lines.items
         → EndsCommand (λ box. keep box) (λ box. heard box) L.left L.faults command

@@ -1,4 +1,5 @@
 // Serves links on a server, which records them.
+ghost use Rattle.osc_links.specs.declared.limits.TheConstants.{MAX_LINKS};
 ghost use Rattle.osc_top.specs.declared.caps.TheConstants.{LIVE_CALLERS};
 ghost use Rattle.std.specs.Prelude.{◌≡◌, ◌++◌, ◌≤◌, ◌<◌, length, IfOk};
 ghost use Rattle.std.specs.Option.{option_map, option_or};
@@ -15,7 +16,7 @@ use osc_atoms::{Fault, Room};
 use osc_edge::{Clock, Link};
 use osc_ends::{Outcome, Recorded, count_adds, stopped};
 use osc_lanes::{Gate, LanePart, LaneTold};
-use osc_links::{Bounds, Hosted, LinksTold, run_links};
+use osc_links::{Bounds, Hosted, LinksPart, run_links};
 use osc_method::Method;
 use osc_player::gather;
 use osc_print::{Text, link_fault_line};
@@ -46,7 +47,7 @@ pub(crate) fn stage_links<
 ) -> Result<(Played<M>, Vec<L>), AllocError>
     requires callers { caps.callers ≡ LIVE_CALLERS }
     requires enough { count_adds lines.items ≤ length bank.items }
-    requires few { length links.items ≤ 16 }
+    requires few { length links.items ≤ MAX_LINKS }
     requires count { 0 < bounds.count }
     requires idle { 0 < bounds.idle }
     ensures { IfOk result (λ staged. IsStaged
@@ -58,7 +59,11 @@ pub(crate) fn stage_links<
 {
     let rest = bank.split_off(count_adds(&lines))?;
     let part = LanePart { lines, boxes: bank };
-    let hosted = run_links(rt, alloc, caps, part, links, clock, bounds, gate)?;
+    let links = LinksPart {
+        from: links,
+        bounds,
+    };
+    let hosted = run_links(rt, alloc, caps, part, links, clock, gate)?;
     let settled = settle_links(alloc, hosted, rest)?;
     Ok(settled)
 }
@@ -70,7 +75,7 @@ fn settle_links<M: Method, L: Drop>(
     mut rest: Vec<M>,
 ) -> Result<(Played<M>, Vec<L>), AllocError>
     ensures bytes { IfOk result
-        (λ settled. settled.0.recorded.bytes.items ≡ hosted.bytes.items) }
+        (λ settled. settled.0.recorded.bytes.items ≡ hosted.closed.bytes.items) }
     ensures faults { IfOk result
         (λ settled. settled.0.recorded.faults ≡ link_faults hosted.links.faults.items) }
     ensures outcome { IfOk result (λ settled. settled.0.recorded.outcome
@@ -78,7 +83,7 @@ fn settle_links<M: Method, L: Drop>(
         (option_map room_of (option_or hosted.opening.stop
         (option_or hosted.unenrolled hosted.links.stop)))) }
     ensures each { IfOk result (λ settled. IsPermutation
-        (hosted.kept.items ++ hosted.opening.removed.items) settled.0.heard.items) }
+        (hosted.closed.kept.items ++ hosted.opening.removed.items) settled.0.heard.items) }
     ensures ascending { IfOk result
         (λ settled. IsNonDecreasingBy (λ one. one.0) settled.0.heard.items) }
     ensures left { IfOk result
@@ -86,8 +91,7 @@ fn settle_links<M: Method, L: Drop>(
     ensures links { IfOk result (λ settled. settled.1.items ≡ hosted.links.links.items) }
 {
     let Hosted {
-        bytes,
-        kept,
+        closed,
         opening,
         unenrolled,
         links: told,
@@ -99,11 +103,11 @@ fn settle_links<M: Method, L: Drop>(
         ..
     } = opening;
     left.append(&mut rest)?;
-    let heard = gather(kept, removed)?;
+    let heard = gather(closed.kept, removed)?;
     let faults = fault_text(alloc, &told.faults)?;
     let stop = stop.or(unenrolled.or(told.stop));
     let recorded = Recorded {
-        bytes,
+        bytes: closed.bytes,
         faults,
         outcome: served(told.failed, told.clock_failed, stop),
     };

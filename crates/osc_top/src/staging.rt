@@ -62,13 +62,13 @@ fn settle<M: Method>(
     rest: IntoIter<M>,
 ) -> Result<Played<M>, AllocError>
     ensures bytes { IfOk result
-        (λ played. played.recorded.bytes.items ≡ performed.bytes.items) }
+        (λ played. played.recorded.bytes.items ≡ performed.closed.bytes.items) }
     ensures faults { IfOk result (λ played. played.recorded.faults
         ≡ lane_faults (map told_of performed.lanes.items)) }
     ensures outcome { IfOk result (λ played. played.recorded.outcome
         ≡ outcomes.stopped (option_or (option_map room_of performed.unenrolled)
         (first_stop (map told_of performed.lanes.items)))) }
-    ensures each { IfOk result (λ played. IsPermutation (performed.kept.items
+    ensures each { IfOk result (λ played. IsPermutation (performed.closed.kept.items
         ++ flat_map (λ account. account.removed) (map told_of performed.lanes.items))
         played.heard.items) }
     ensures ascending { IfOk result
@@ -78,8 +78,7 @@ fn settle<M: Method>(
         ++ into_iter_items rest) }
 {
     let Performed {
-        bytes,
-        kept,
+        closed,
         lanes,
         unenrolled,
     } = performed;
@@ -89,10 +88,10 @@ fn settle<M: Method>(
         faults,
         stop,
     } = gather_lanes(alloc, lanes)?;
-    let heard = gather(kept, removed)?;
+    let heard = gather(closed.kept, removed)?;
     keep_rest(&mut left, rest)?;
     let recorded = Recorded {
-        bytes,
+        bytes: closed.bytes,
         faults,
         outcome: stopped(unenrolled.or(stop)),
     };

@@ -1,6 +1,7 @@
 // An Open Sound Control server that plays the lanes of a script, or serves links, beside each other.
 #![tactic(auto)]
 
+ghost use Rattle.osc_links.specs.declared.limits.TheConstants.{MAX_LINKS};
 ghost use Rattle.std.specs.Prelude.{◌≡◌, ◌≤◌, length, map, string_bytes, IfOk};
 ghost use Rattle.osc_top.specs.Commands.{ports_of};
 
@@ -42,7 +43,7 @@ fn play<W: Threads + Wait + Sync, L: Link + Send + Drop>(
     words: &[String],
     links: Vec<L>,
 ) -> Result<u8, AllocError>
-    requires { length links.items ≤ 16 }
+    requires { length links.items ≤ MAX_LINKS }
 {
     let alloc = rt.alloc();
     let mut bank: Vec<Box<dyn Method + Send>> = Vec::new(alloc);
@@ -64,7 +65,7 @@ fn play<W: Threads + Wait + Sync, L: Link + Send + Drop>(
 fn datagram_links(rt: &HostRuntime, words: &[String]) -> Result<Vec<UdpLink>, AllocError>
     ensures each { IfOk result
         (λ links. length links.items ≡ length (ports_of (map string_bytes words.now))) }
-    ensures few { IfOk result (λ links. length links.items ≤ 16) }
+    ensures few { IfOk result (λ links. length links.items ≤ MAX_LINKS) }
 {
     let ports = ports(rt.alloc(), words)?;
     let mut links = Vec::with_capacity(rt.alloc(), ports.len())?;
@@ -81,7 +82,7 @@ fn stream_links(
 ) -> Result<Vec<StreamLink<TcpSource>>, AllocError>
     ensures each { IfOk result
         (λ links. length links.items ≡ length (ports_of (map string_bytes words.now))) }
-    ensures few { IfOk result (λ links. length links.items ≤ 16) }
+    ensures few { IfOk result (λ links. length links.items ≤ MAX_LINKS) }
 {
     let ports = ports(rt.alloc(), words)?;
     let mut links = Vec::with_capacity(rt.alloc(), ports.len())?;

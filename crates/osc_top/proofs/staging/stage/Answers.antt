@@ -23,8 +23,8 @@ run_lanes-requires-clause-whole g c _ _ =
 
 -- what was played, of the lines and the bank
 performed_so : (g : _) (c : In_ok-played g)
-    → Performs g.M.Method.keep g.M.Method.heard c.args.caps (parts_of c.args.lines.items c.args.bank.items) c.in_ok-performed.performed.bytes.items
-    c.in_ok-performed.performed.kept.items (map told_of c.in_ok-performed.performed.lanes.items)
+    → Performs g.M.Method.keep g.M.Method.heard c.args.caps (parts_of c.args.lines.items c.args.bank.items) c.in_ok-performed.performed.closed.bytes.items
+    c.in_ok-performed.performed.closed.kept.items (map told_of c.in_ok-performed.performed.lanes.items)
     (option_map room_of c.in_ok-performed.performed.unenrolled)
 performed_so g c =
     let keep = g.M.Method.keep in
@@ -32,7 +32,7 @@ performed_so g c =
     let performed = c.in_ok-performed.performed in
     let accounts = map told_of performed.lanes.items in
     let unenrolled = option_map room_of performed.unenrolled in
-    subst (λ (parts : List (Part g.row.M.Denot)). Performs keep heard c.args.caps parts performed.bytes.items performed.kept.items accounts unenrolled)
+    subst (λ (parts : List (Part g.row.M.Denot)). Performs keep heard c.args.caps parts performed.closed.bytes.items performed.closed.kept.items accounts unenrolled)
     c.in_ok-parts.ensures.parts c.in_ok-performed.ensures
 
 pub returns : goal.returns
@@ -48,6 +48,6 @@ returns g c =
     let outcome = played.recorded.outcome in
     subst (λ (l : List ℕ). IsStaged (PlaysLanes keep heard c.args.caps bank played.heard.items played.left.items lines) c.args.caps l said outcome)
     (sym done.bytes)
-    (lanes_staged keep heard c.args.caps lines bank performed.bytes.items performed.kept.items (map told_of performed.lanes.items)
+    (lanes_staged keep heard c.args.caps lines bank performed.closed.bytes.items performed.closed.kept.items (map told_of performed.lanes.items)
     (option_map room_of performed.unenrolled) played.heard.items (performed_so g (goal.at.returns g c).In_ok-played)
     done.each done.ascending played.left.items _ said outcome done.left c.in_ok-parts.ensures.rest done.faults done.outcome)
