@@ -37,6 +37,11 @@ abbrev pub OnOldMalformed : Result (List ℕ) UpgradeFault → (ℕ → Type 0) 
 OnOldMalformed (Err (Malformed at)) holds = holds at
 OnOldMalformed _ holds = Unit {0}
 
+-- where it needs more bytes than the limit, this holds of both numbers
+abbrev pub OnTooLarge : Result (List ℕ) UpgradeFault → (ℕ → ℕ → Type 0) → Type 0
+OnTooLarge (Err (TooLarge need limit)) holds = holds need limit
+OnTooLarge _ holds = Unit {0}
+
 -- The upgraded recording, which keeps to the limit; how many bytes it needs, where that is more
 -- than the limit; or memory ran out.
 abbrev pub IsUpgradedUnlessShort : Result (List ℕ) UpgradeFault → ℕ → Limits → List Entry → Type 0

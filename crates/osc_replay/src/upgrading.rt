@@ -16,6 +16,7 @@ ghost use Rattle.osc_replay.specs.Disagreeing.{DisagreesAt, computed_text};
 ghost use Rattle.osc_replay.specs.Old.{IsOldRecordingOf, IsOldUnformedAt, OldLegal, OldGives};
 ghost use Rattle.osc_replay.specs.Old.{old_opening, old_after};
 ghost use Rattle.osc_replay.specs.Upgrading.{submits_in, upgraded, upgraded_text, OnOldMalformed};
+ghost use Rattle.osc_replay.specs.Upgrading.{OnTooLarge};
 ghost use Rattle.osc_replay.specs.Upgrading.{IsUpgradedUnlessShort, PrintsTheSame, texts_of};
 
 use crate::old::well_formed_old;
@@ -63,6 +64,11 @@ pub fn upgrade(alloc: Global, recording: &[u8], limit: u32) -> Result<Bytes, Upg
         × IsOldRecordingOf recording.now caps history
         × (bytes ≡ upgraded_text limit caps history)) }
     ensures malformed { OnOldMalformed result (λ at. IsOldUnformedAt recording.now at) }
+    ensures too_large { OnTooLarge result
+        (λ need most. (caps : Limits) × (history : List Recorded)
+        × IsOldRecordingOf recording.now caps history
+        × (need ≡ length (upgraded_text limit caps history)) × (most ≡ limit)
+        × (limit < need)) }
     ensures complete { (caps : Limits) (history : List Recorded)
         → IsOldRecordingOf recording.now caps history
         → IsUpgradedUnlessShort result limit caps history }

@@ -62,7 +62,14 @@ fn an_upgraded_recording_prints_what_it_printed(rt: HostRuntime) {
 #[test]
 fn what_is_refused(rt: HostRuntime) {
     let rows: [(&[u8], u32, UpgradeFault); 5] = [
-        (&ONE_SEND, 115, UpgradeFault::TooLarge { need: 116, limit: 115 }),
+        (
+            &ONE_SEND,
+            115,
+            UpgradeFault::TooLarge {
+                need: 116,
+                limit: 115,
+            },
+        ),
         (&ONE_SEND[..107], MOST, UpgradeFault::Malformed { at: 56 }),
         (&ONE_SEND_TODAY, MOST, UpgradeFault::Malformed { at: 0 }),
         (&HEADER[..55], MOST, UpgradeFault::Malformed { at: 0 }),
@@ -81,8 +88,14 @@ fn the_entries_of_an_old_recording_are_read(rt: HostRuntime) {
     let Ok(old) = Old::check(&LATE_BUNDLE) else {
         panic!(rt; "refused");
     };
-    assert_eq!(rt; (old.units(), old.blocks(), old.methods()), (4096, 16384, 1024));
-    assert_eq!(rt; (old.nodes(), old.callers(), old.recording()), (4096, 1, 67108864));
+    assert_eq!(rt;
+        (old.units(), old.blocks(), old.methods()),
+        (4096, 16384, 1024)
+    );
+    assert_eq!(rt;
+        (old.nodes(), old.callers(), old.recording()),
+        (4096, 1, 67108864)
+    );
     let mut places: [u32; 7] = [0; 7];
     let mut count = 0;
     for entry in old.entries() {

@@ -42,6 +42,19 @@ returns-then-need-limit-clause-complete c = λ caps history is.
     let count_is = c.count_submits.ensures ∙ ap (λ (placed : List Placed). submits_in (unplaced placed)) c.entries.ensures ∙ ap submits_in both.1 in
     (omega (arith, count_is, needs c.args.limit c.args.recording.now caps history is), refl, omega (arith, c.if-need-limit.true)))
 
+pub returns-then-need-limit-clause-too_large : goal.returns-then-need-limit-clause-too_large
+returns-then-need-limit-clause-too_large c =
+    let old = c.in_ok-old.old in
+    let is = c.in_ok-old.ensures.ok in
+    let count_is = c.count_submits.ensures ∙ ap (λ (placed : List Placed). submits_in (unplaced placed)) c.entries.ensures in (
+      old.caps,
+      unplaced old.entries,
+      is,
+      omega (arith, count_is, needs c.args.limit c.args.recording.now old.caps (unplaced old.entries) is),
+      refl,
+      omega (arith, c.if-need-limit.true),
+    )
+
 pub written-requires-clause-recordable : goal.written-requires-clause-recordable
 written-requires-clause-recordable c =
     let old = c.in_ok-old.old in
