@@ -105,13 +105,39 @@ fn walk<L: Ledger>(
         ≤ steps.old + most_steps pattern.now (methods_at methods.now near.now) }
 {
     if pattern.bytes().len() > SHORT_PATTERN {
-        let read = read_parts(pattern, parts);
-        let found = ready_parts(pattern, parts, &read);
-        walk_found(methods, near, pattern, parts, &found, ids, steps);
+        walk_read(methods, near, pattern, parts, ids, steps);
     } else {
         let found = find_parts(pattern, parts);
         walk_found(methods, near, pattern, parts, &found, ids, steps);
     }
+}
+
+/// The same, for a pattern whose parts are read once. It alone needs their room, which takes long to clear.
+fn walk_read<L: Ledger>(
+    methods: &[Registered],
+    near: &[u32],
+    pattern: &Pattern<'_>,
+    parts: u32,
+    ids: &mut Vec<u32>,
+    steps: &mut Steps<L>,
+)
+    requires parts { parts ≡ length (parts_of pattern.now) }
+    requires few { parts ≤ MAX_NAMES }
+    requires within { All (λ place. place < length methods.now) near.now }
+    requires sorted { IsSorted (methods_at methods.now near.now) }
+    requires empty { ids.old.items ≡ [] }
+    requires room { length near.now ≤ vec_capacity ids.old }
+    ensures ids { ids.new.items ≡ map (λ method. method.id)
+        (filter (λ method. matches pattern.now method.address) (methods_at methods.now near.now)) }
+    ensures len { vec_len ids.new ≤ length near.now }
+    ensures capacity { vec_capacity ids.old ≤ vec_capacity ids.new }
+    ensures counted { steps.old ≤ steps.new }
+    ensures bounded { steps.new
+        ≤ steps.old + most_steps pattern.now (methods_at methods.now near.now) }
+{
+    let read = read_parts(pattern, parts);
+    let found = ready_parts(pattern, parts, &read);
+    walk_found(methods, near, pattern, parts, &found, ids, steps);
 }
 
 /// The same, for the parts that were found.
