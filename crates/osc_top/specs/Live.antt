@@ -6,6 +6,7 @@ use Rattle.osc_script.specs.Scripts.{script_of}
 use Rattle.osc_ends.specs.declared.outcome.Outcome.{Outcome}
 use Rattle.osc_ends.specs.declared.status.TheConstants.{BANK_SHORT, DONE, EDGE_FAILED, NO_MEMORY}
 use Rattle.osc_ends.specs.declared.status.TheConstants.{RECORDING_FULL, REFUSED, SINK_FAILED}
+use Rattle.osc_ends.specs.Ends.{IsWritten}
 use Rattle.osc_ends.specs.Outcomes.{status_of}
 use Rattle.osc_script.specs.Adds.{count_adds}
 use Rattle.osc_ends.specs.Printing.{refusal_text, bank_short_text}
