@@ -29,8 +29,8 @@ use Rattle.osc_uses.specs.declared.live_server.Unfinished.{Unfinished}
 use Rattle.osc_uses.specs.declared.live_server.Unfinished.TheVariants.{Open}
 
 -- the tokens of three callers are those of this server
-abbrev pub AreOurs : {M : Type 0} {G : Ghosts M} → Live M G → Callers → Type 0
-AreOurs live callers =
+abbrev pub AllAreOurs : {M : Type 0} {G : Ghosts M} → Live M G → Callers → Type 0
+AllAreOurs live callers =
     IsOurs live callers.first × IsOurs live callers.second × IsOurs live callers.third
 
 -- the entries that the token itself made

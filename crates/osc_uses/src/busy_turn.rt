@@ -1,7 +1,7 @@
 //! Calls that never wait: a try that finds the turn taken, and a look at how far the history has come.
 ghost use Rattle.std.specs.Prelude.{◌≡◌, ℕ, ◌-◌};
 ghost use Rattle.osc_turn.specs.Passes.{view};
-ghost use Rattle.osc_live.specs.Seen.{IsTokenOf};
+ghost use Rattle.osc_live.specs.Tokens.{IsOurs};
 ghost use Rattle.osc_live.specs.Calls.{Looks};
 ghost use Rattle.osc_uses.specs.LiveCalls.{SubmitsSoon};
 
@@ -27,8 +27,8 @@ pub fn submit_soon<M: Method, W: Wait>(
     caller: Caller,
     packet: &Packet<'_>,
 ) -> (Caller, Soon)
-    requires ours { IsTokenOf live.now.turn live.now.caps caller.pass }
-    ensures ours { IsTokenOf live.now.turn live.now.caps result.0.pass }
+    requires ours { IsOurs live.now caller }
+    ensures ours { IsOurs live.now result.0 }
     ensures number { result.0.number ≡ caller.number }
     ensures submits { SubmitsSoon live.now.caps caller.number packet.now result.1
         (view caller.pass) (view result.0.pass) }
@@ -46,8 +46,8 @@ pub fn submit_soon<M: Method, W: Wait>(
 /// How many entries the history has beyond those that are known already, by one look: a display asks so whether there
 /// is anything new to read.
 pub fn entries_since<M: Method>(live: &Live<M>, caller: Caller, known: u64) -> (Caller, u64)
-    requires ours { IsTokenOf live.now.turn live.now.caps caller.pass }
-    ensures ours { IsTokenOf live.now.turn live.now.caps result.0.pass }
+    requires ours { IsOurs live.now caller }
+    ensures ours { IsOurs live.now result.0 }
     ensures number { result.0.number ≡ caller.number }
     ensures since { (entries : ℕ) × (result.1 ≡ entries - known)
         × Looks entries (view caller.pass) (view result.0.pass) }

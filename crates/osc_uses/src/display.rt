@@ -2,7 +2,8 @@
 ghost use Rattle.std.specs.Prelude.{◌≡◌, IfOk};
 ghost use Rattle.osc_turn.specs.Passes.{view};
 ghost use Rattle.osc_turn.specs.History.{StartsWith};
-ghost use Rattle.osc_live.specs.Seen.{IsTokenOf, history_of};
+ghost use Rattle.osc_live.specs.Seen.{history_of};
+ghost use Rattle.osc_live.specs.Tokens.{IsOurs};
 ghost use Rattle.osc_watch.specs.Edits.{edits_of};
 ghost use Rattle.osc_watch.specs.Listing.{listing};
 ghost use Rattle.osc_watch.specs.Refreshing.{HasReadPart};
@@ -24,10 +25,10 @@ pub fn refresh_display<M: Method, W: Wait>(
     board: &mut Board,
     watcher: &mut Watcher,
 ) -> (Caller, Result<Methods, AllocError>)
-    requires ours { IsTokenOf live.now.turn live.now.caps caller.pass }
+    requires ours { IsOurs live.now caller }
     requires watches { IsWatcherOf board.old watcher.old }
     requires read { HasReadPart live.now.caps board.old (history_of (view caller.pass)) }
-    ensures ours { IsTokenOf live.now.turn live.now.caps result.0.pass }
+    ensures ours { IsOurs live.now result.0 }
     ensures board { IsOneBoard board.old board.new }
     ensures watcher { IsOfOneBoard watcher.old watcher.new }
     ensures read { HasReadPart live.now.caps board.new (history_of (view result.0.pass)) }

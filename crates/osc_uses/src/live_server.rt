@@ -8,7 +8,7 @@ ghost use Rattle.osc_live.specs.Seen.{past_of};
 ghost use Rattle.osc_live.specs.Tokens.{IsOurs};
 ghost use Rattle.osc_live.specs.Outs.{AreOurs, live_back};
 ghost use Rattle.osc_live.specs.Closing.{Closes};
-ghost use Rattle.osc_uses.specs.Live.{ComesAndGoes, Sends, Ticks, AreOneHistory, AreOurs};
+ghost use Rattle.osc_uses.specs.Live.{ComesAndGoes, Sends, Ticks, AreOneHistory, AllAreOurs};
 ghost use Rattle.osc_uses.specs.Live.{Enrols, HasEnrolled, own_entries, OnOpen, IsShort};
 
 use osc_atoms::Fault;
@@ -94,7 +94,7 @@ fn open_three<M: Method, W: Wait>(
 ) -> Result<(Live<M>, Callers), Unfinished<M>>
     ensures limits { IfOk result (λ opened. opened.0.caps ≡ caps) }
     ensures empty { IfOk result (λ opened. past_of opened.0.turn ≡ []) }
-    ensures ours { IfOk result (λ opened. AreOurs opened.0 opened.1) }
+    ensures ours { IfOk result (λ opened. AllAreOurs opened.0 opened.1) }
     ensures first { IfOk result (λ opened. opened.1.first.number ≡ 0) }
     ensures enrolled { IfOk result (λ opened. HasEnrolled opened.1.second.number
         opened.1.third.number (view opened.1.first.pass)) }
@@ -241,7 +241,7 @@ fn three_at_once<M: Method + Send, R: Threads + Wait + Sync>(
         (Caller, (Ticking, Pumped)),
     ),
 )
-    requires ours { AreOurs live.now callers }
+    requires ours { AllAreOurs live.now callers }
     requires again { places.1 ≡ places.0 }
     ensures ours { IsOurs live.now result.0.0 }
     ensures number { result.0.0.number ≡ callers.first.number }
@@ -299,7 +299,7 @@ fn close_three<M: Method>(
     callers: Callers,
 ) -> Result<Closed<M>, Unfinished<M>>
     requires empty { past_of live.turn ≡ [] }
-    requires ours { AreOurs live callers }
+    requires ours { AllAreOurs live callers }
     requires first { callers.first.number ≡ 0 }
     requires made { (view callers.first.pass).made ≡ 3 }
     ensures closes { IfOk result (λ closed. Closes live.caps []

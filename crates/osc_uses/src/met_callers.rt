@@ -1,7 +1,7 @@
 //! Two callers that meet, so that what the one does comes behind what the other has seen.
 ghost use Rattle.std.specs.Prelude.{◌≡◌};
 ghost use Rattle.osc_turn.specs.Passes.{view};
-ghost use Rattle.osc_live.specs.Seen.{IsTokenOf};
+ghost use Rattle.osc_live.specs.Tokens.{IsOurs};
 ghost use Rattle.osc_uses.specs.LiveCalls.{PumpsBehind};
 
 use osc_live::{Caller, Live, Pumped};
@@ -15,10 +15,10 @@ pub fn pump_behind<M: Method, W: Wait>(
     caller: Caller,
     other: Caller,
 ) -> (Caller, Caller, Pumped)
-    requires ours { IsTokenOf live.now.turn live.now.caps caller.pass }
-    requires other_ours { IsTokenOf live.now.turn live.now.caps other.pass }
-    ensures ours { IsTokenOf live.now.turn live.now.caps result.0.pass }
-    ensures other_ours { IsTokenOf live.now.turn live.now.caps result.1.pass }
+    requires ours { IsOurs live.now caller }
+    requires other_ours { IsOurs live.now other }
+    ensures ours { IsOurs live.now result.0 }
+    ensures other_ours { IsOurs live.now result.1 }
     ensures numbers { (result.0.number ≡ caller.number) × (result.1.number ≡ other.number) }
     ensures other { view result.1.pass ≡ view other.pass }
     ensures behind { PumpsBehind live.now.caps caller.number result.2

@@ -5,7 +5,8 @@ ghost use Rattle.osc_turn.specs.declared.view.View.{View};
 ghost use Rattle.osc_turn.specs.History.{texts, StartsWith};
 ghost use Rattle.osc_model.specs.History.{HasHeard, invoked_in};
 ghost use Rattle.osc_core.specs.Answers.{removing_of, adding_of, OnRemoved, OnRefused};
-ghost use Rattle.osc_live.specs.Seen.{IsTokenOf, performance_in};
+ghost use Rattle.osc_live.specs.Seen.{performance_in};
+ghost use Rattle.osc_live.specs.Tokens.{IsOurs};
 ghost use Rattle.osc_uses.specs.LiveCalls.{Replaces};
 
 use osc_core::{Adding, Removing};
@@ -32,8 +33,8 @@ pub fn replace<M: Method, W: Wait>(
     address: Address,
     method: M,
 ) -> (Caller, Replaced<M>)
-    requires ours { IsTokenOf live.now.turn live.now.caps caller.pass }
-    ensures ours { IsTokenOf live.now.turn live.now.caps result.0.pass }
+    requires ours { IsOurs live.now caller }
+    ensures ours { IsOurs live.now result.0 }
     ensures number { result.0.number ≡ caller.number }
     ensures calls { Replaces live.now.caps caller.number address (removing_of result.1.removed)
         (adding_of result.1.added) (view caller.pass) (view result.0.pass) }

@@ -1,7 +1,7 @@
 //! A loop over calls: a clock that is handed in moment by moment, each with all that is due by then.
 ghost use Rattle.std.specs.Prelude.{◌≡◌};
 ghost use Rattle.osc_turn.specs.Passes.{view};
-ghost use Rattle.osc_live.specs.Seen.{IsTokenOf};
+ghost use Rattle.osc_live.specs.Tokens.{IsOurs};
 ghost use Rattle.osc_uses.specs.LiveCalls.{Runs};
 
 use crate::live_server::tick_and_pump;
@@ -17,8 +17,8 @@ pub fn run_clock<M: Method, W: Wait>(
     mut caller: Caller,
     moments: Vec<u64>,
 ) -> Caller
-    requires ours { IsTokenOf live.now.turn live.now.caps caller.pass }
-    ensures ours { IsTokenOf live.now.turn live.now.caps result.pass }
+    requires ours { IsOurs live.now caller }
+    ensures ours { IsOurs live.now result }
     ensures number { result.number ≡ caller.number }
     ensures runs { Runs live.now.caps caller.number moments.items (view caller.pass)
         (view result.pass) }
