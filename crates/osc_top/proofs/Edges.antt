@@ -25,7 +25,7 @@ use Rattle.osc_links.specs.Hosts.{IsServed, IsUnserved, ServesAll, Hosts}
 use Rattle.osc_links.specs.Links.{LinkTurn, HasEndCause}
 use Rattle.osc_lanes.specs.Performs.{Part, Numbered, HasNoRoomToEnrol, holder_at}
 use Rattle.osc_links.specs.Serves.{failed_from, has_failed, is_clock_failed, link_in, seen_in}
-use Rattle.osc_lanes.specs.Shares.{Player}
+use Rattle.osc_lanes.specs.Shares.{Holder}
 use Rattle.osc_links.specs.Ticks.{ClockRead, EndsTicks}
 use Rattle.osc_replay.specs.Printed.{printed}
 use Rattle.osc_script.specs.declared.line.Line.{Line}
@@ -66,13 +66,13 @@ over_risen Failed left before now cause is = cause
 over_risen (OverFull room) left before now cause is = absurd (cc)
 
 module _ {M : Type 0} (keep : M → ℕ) (heard : M → Option (List ℕ)) where
-  ticks_still : (player : Player) (last : Option ℕ) (tokens : List (List Seen)) (before : Option (List ℕ)) (clock : ClockRead) (end : TickerEnd)
+  ticks_still : (player : Holder) (last : Option ℕ) (tokens : List (List Seen)) (before : Option (List ℕ)) (clock : ClockRead) (end : TickerEnd)
       (here there : List Seen) → EndsTicks keep heard player last tokens before clock end here there → is_clock_failed end ≡ false → clock.now ≡ clock.faults
   ticks_still player last tokens before clock TickerDone here there ends is = ends.0
   ticks_still player last tokens before clock TickerFailed here there ends is = absurd (cc)
   ticks_still player last tokens before clock (TickerFull room) here there ends is = ends.0
 
-  ticks_risen : (player : Player) (last : Option ℕ) (tokens : List (List Seen)) (before : Option (List ℕ)) (clock : ClockRead) (end : TickerEnd)
+  ticks_risen : (player : Holder) (last : Option ℕ) (tokens : List (List Seen)) (before : Option (List ℕ)) (clock : ClockRead) (end : TickerEnd)
       (here there : List Seen) → EndsTicks keep heard player last tokens before clock end here there → is_clock_failed end ≡ true
       → Rose clock.faults clock.now
   ticks_risen player last tokens before clock TickerDone here there ends is = absurd (cc)

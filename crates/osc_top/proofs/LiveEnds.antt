@@ -41,6 +41,16 @@ use Rattle.osc_top.specs.Staged.{IsStaged}
 ok_and : (read : Result (List Line) ScriptFault) (lines : List Line) (P : List Line → Type 0) → read ≡ Ok lines → P lines → IsOkAnd read P
 ok_and read lines P is holds = subst (λ (r : Result (List Line) ScriptFault). IsOkAnd r P) (sym is) holds
 
+-- What was read in one mode, in the mode that this is.
+
+pub in_mode : (mode other : Mode) (left : Option (List ℕ)) (lines : List Line) → mode ≡ other
+    → OfInput left (λ script. script_of mode script ≡ Ok lines) → OfInput left (λ script. script_of other script ≡ Ok lines)
+in_mode mode other left lines is read = subst (λ (m : Mode). OfInput left (λ script. script_of m script ≡ Ok lines)) is read
+
+pub refused_in : (mode other : Mode) (status : ℕ) (left : Option (List ℕ)) (out : SinkChange) → mode ≡ other
+    → RefusesScript mode status left out → RefusesScript other status left out
+refused_in mode other status left out is refused = subst (λ (m : Mode). RefusesScript m status left out) is refused
+
 -- Statuses.
 
 abbrev is_written : ℕ → Bool

@@ -5,7 +5,7 @@ use Rattle.osc_ends.proofs.Inputs.{if_so, of_so}
 use Rattle.osc_ends.proofs.Said.{of_said}
 use Rattle.osc_top.specs.Commands.{live_limits, mode_of}
 use Rattle.osc_top.proofs.Edges.{live_history, live_edge, live_short, live_still}
-use Rattle.osc_top.proofs.LiveEnds.{cut_fails, done_steady, lawful_short, live_complete, live_enough, may_end_short, script_refused}
+use Rattle.osc_top.proofs.LiveEnds.{cut_fails, done_steady, in_mode, lawful_short, live_complete, live_enough, may_end_short, refused_in, script_refused}
 use Rattle.osc_top.proofs.live.live_top.Goals as goal
 
 -- Where a script was read.
@@ -13,33 +13,35 @@ use Rattle.osc_top.proofs.live.live_top.Goals as goal
 pub returns-in-Ok-clause-ends : goal.returns-in-Ok-clause-ends
 returns-in-Ok-clause-ends g c =
     let said : Some c.in-Ok-Some.command ≡ said.live_command_of (map string_bytes c.args.words.now) = search rules in
-    of_said _ _ c.in-Ok-Some.command said (λ read. of_so _ _ _ c.play_lines.ensures.ends c.in-Ok.ensures.lines)
+    of_said _ _ c.in-Ok-Some.command said
+    (λ read. of_so _ _ _ c.play_lines.ensures.ends
+    (in_mode _ _ (g.S.Source.left c.args.input.now) c.in-Ok.lines.items c.mode_of.ensures c.in-Ok.ensures.lines))
 
 pub returns-in-Ok-clause-one_history : goal.returns-in-Ok-clause-one_history
 returns-in-Ok-clause-one_history g c =
-    let script = c.in-Ok.ensures.lines in
+    let script = in_mode _ _ (g.S.Source.left c.args.input.now) c.in-Ok.lines.items c.mode_of.ensures c.in-Ok.ensures.lines in
     live_history _ _ _ _ _ _ _ _ _ _ _ _ _ c.in-Ok-Some.command script.0 (c.play_lines.ensures.ends script.0 script.2)
 
 pub returns-in-Ok-clause-edge : goal.returns-in-Ok-clause-edge
 returns-in-Ok-clause-edge g c =
-    let script = c.in-Ok.ensures.lines in
+    let script = in_mode _ _ (g.S.Source.left c.args.input.now) c.in-Ok.lines.items c.mode_of.ensures c.in-Ok.ensures.lines in
     live_edge _ _ _ _ _ _ _ _ _ _ _ _ _ c.in-Ok-Some.command script.0 (c.play_lines.ensures.ends script.0 script.2)
 
 pub returns-in-Ok-clause-still : goal.returns-in-Ok-clause-still
 returns-in-Ok-clause-still g c =
-    let script = c.in-Ok.ensures.lines in
+    let script = in_mode _ _ (g.S.Source.left c.args.input.now) c.in-Ok.lines.items c.mode_of.ensures c.in-Ok.ensures.lines in
     live_still _ _ _ _ _ _ _ _ _ _ _ _ _ c.in-Ok-Some.command script.0 (c.play_lines.ensures.ends script.0 script.2)
     (λ caps lanes. let same = c.play_lines.ensures.alone.lanes_serve_none caps lanes in
     (ap (map g.L.Link.faults) same.0, ap g.C.Clock.faults same.1))
 
 pub returns-in-Ok-clause-sink : goal.returns-in-Ok-clause-sink
 returns-in-Ok-clause-sink g c =
-    let script = c.in-Ok.ensures.lines in
+    let script = in_mode _ _ (g.S.Source.left c.args.input.now) c.in-Ok.lines.items c.mode_of.ensures c.in-Ok.ensures.lines in
     cut_fails _ _ _ _ _ _ _ (c.play_lines.ensures.ends script.0 script.2)
 
 pub returns-in-Ok-clause-steady : goal.returns-in-Ok-clause-steady
 returns-in-Ok-clause-steady g c =
-    let script = c.in-Ok.ensures.lines in
+    let script = in_mode _ _ (g.S.Source.left c.args.input.now) c.in-Ok.lines.items c.mode_of.ensures c.in-Ok.ensures.lines in
     done_steady _ _ _ _ _ _ _ (c.play_lines.ensures.ends script.0 script.2)
 
 pub returns-in-Ok-clause-complete : goal.returns-in-Ok-clause-complete
@@ -49,7 +51,7 @@ returns-in-Ok-clause-complete g c =
     (if_so _ _ _
     (λ script read lawful source out_sound rec_sound. live_complete _ _ _ _ _ _ _ _ _ _ _ _ _ c.in-Ok-Some.command script
     (c.play_lines.ensures.ends script read) lawful out_sound rec_sound)
-    c.in-Ok.ensures.lines)
+    (in_mode _ _ (g.S.Source.left c.args.input.now) c.in-Ok.lines.items c.mode_of.ensures c.in-Ok.ensures.lines))
 
 pub returns-in-Ok-clause-enough : goal.returns-in-Ok-clause-enough
 returns-in-Ok-clause-enough g c = λ caps is.
@@ -61,7 +63,7 @@ returns-in-Ok-clause-enough g c = λ caps is.
     (λ lines recording text outcome plays room. c.enough_room_stops_no_lane.ensures (live_limits caps) lines c.args.bank.items _ _ recording text outcome
     plays room)
     c.in-Ok-Some.command lanes script (c.play_lines.ensures.ends script read) enough out_sound rec_sound)
-    c.in-Ok.ensures.lines
+    (in_mode _ _ (g.S.Source.left c.args.input.now) c.in-Ok.lines.items c.mode_of.ensures c.in-Ok.ensures.lines)
 
 -- Where none was.
 
@@ -70,7 +72,7 @@ returns-in-Err-read_script-clause-ends g c =
     let said : Some c.in-Ok-Some.command ≡ said.live_command_of (map string_bytes c.args.words.now) = search rules in
     of_said _ _ c.in-Ok-Some.command said
     (script_refused (mode_of c.in-Ok-Some.command) _ _ _ _ _ _ c.in-Err-read_script.status c.unplayed-in-Err-read_script.ensures.status
-    c.in-Err-read_script.ensures.refused)
+    (refused_in _ _ _ _ _ c.mode_of.ensures c.in-Err-read_script.ensures.refused))
 
 pub returns-in-Err-clause-ends : goal.returns-in-Err-clause-ends
 returns-in-Err-clause-ends g c =
