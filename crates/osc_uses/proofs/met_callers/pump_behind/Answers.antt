@@ -1,4 +1,4 @@
-use Rattle.std.proofs.Common.{◌≡◌, ℕ, subst}
+use Rattle.std.proofs.Common.{ℕ, subst}
 use Rattle.osc_turn.specs.Passes.{view}
 use Rattle.osc_live.specs.Pumps.{Pumps}
 use Rattle.osc_uses.proofs.met_callers.pump_behind.Goals as goal

@@ -1,4 +1,4 @@
-use Rattle.std.proofs.Common.{◌≡◌, ℕ, List, [], subst, sym, refl, ap, ◌∙◌, arith}
+use Rattle.std.proofs.Common.{ℕ, List, subst, sym, refl, ◌∙◌, arith}
 use Rattle.osc_turn.proofs.Histories.{none_long}
 use Rattle.osc_turn.specs.Passes.{view}
 use Rattle.osc_uses.specs.LiveCalls.{Runs, RunsOne}
@@ -9,7 +9,7 @@ pub loop-moment-preserved : goal.loop-moment-preserved
 loop-moment-preserved g c =
     let inv = c.loop-moment.invariant in
     let one = subst (λ (n : ℕ). RunsOne c.args.live.now.caps n c.in-Some.moment (view c.loop-moment.caller.pass) (view c.tick_and_pump-after.result.0.pass))
-        inv.number (_, _, c.tick_and_pump-after.ensures.calls) in
+    inv.number (_, _, c.tick_and_pump-after.ensures.calls) in
     record {
       ours = c.tick_and_pump-after.ensures.ours;
       number = c.tick_and_pump-after.ensures.number ∙ inv.number;
