@@ -118,7 +118,7 @@ first_more version limit place bytes next first is = go (message_first bytes) re
   go (Some message) found read =
       let more = message_more bytes next message found in
       let inner = cond_gives (nat_le (place + 4 + length message) limit)
-          (option_map (λ entry. (entry, 4 + length message)) (entry_of version message)) first read in
+      (option_map (λ entry. (entry, 4 + length message)) (entry_of version message)) first read in
       let size : 4 + length message ≡ first.1 = sized_by (entry_of version message) inner.1 in (
         ap (option_and_then (λ m. if nat_le (place + 4 + length m) limit then option_map (λ entry. (entry, 4 + length m))
             (entry_of version m) else None)) more.0
@@ -162,7 +162,7 @@ entries_more version most (suc more) limit place [] next xs entry read fewer fir
     let none : [] ≡ xs = ok_is [] xs (sym (read_none version most limit place) ∙ read) in
     let here : place + 0 ≡ place = omega arith in
     read_one version (suc more) limit place next entry (omega arith) some
-        (subst (λ (p : ℕ). entry_first version limit p next ≡ Some (entry, length next)) here first)
+    (subst (λ (p : ℕ). entry_first version limit p next ≡ Some (entry, length next)) here first)
     ∙ (λ i. Ok (none i ++ record { at = sym here i; entry = entry } ∷ []))
 entries_more version zero (suc more) limit place (byte ∷ bytes) next xs entry read fewer first some = absurd (cc)
 entries_more version (suc most) (suc more) limit place (byte ∷ bytes) next xs entry read fewer first some =
@@ -204,7 +204,7 @@ first_in limit place bytes first is = go (message_first bytes) refl is where
   go None found read = absurd (none-some first read)
   go (Some message) found read =
       let inner = cond_gives (nat_le (place + 4 + length message) limit)
-          (option_map (λ entry. (entry, 4 + length message)) (entry_of Second message)) first read in
+      (option_map (λ entry. (entry, 4 + length message)) (entry_of Second message)) first read in
       ap (option_and_then (entry_of Second)) found ∙ by (entry_of Second message) inner.1
     where
       by : (o : Option Recorded) → option_map (λ entry. (entry, 4 + length message)) o ≡ Some first → o ≡ Some first.0

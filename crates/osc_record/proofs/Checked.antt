@@ -64,7 +64,7 @@ pub complete_ok : (version : Version) (bytes : List ℕ) (caps : Limits) (placed
     → (caps ≡ limits) × (placed ≡ placed_by version (header_size_of version) entries)
 complete_ok version bytes caps placed read limits entries is same =
     let both = ok_is (caps, placed) (limits, placed_by version (header_size_of version) entries) (sym read ∙ ap (record_read version) same
-        ∙ record_again version limits entries is) in
+    ∙ record_again version limits entries is) in
     (ap (λ (p : Limits × List Placed). p.0) both, ap (λ (p : Limits × List Placed). p.1) both)
 
 pub complete_err : (version : Version) (bytes : List ℕ) (at : ℕ) → record_read version bytes ≡ Err at → (limits : Limits) (entries : List Recorded)
@@ -80,7 +80,7 @@ pub complete_header : (version : Version) (bytes : List ℕ) → header_read ver
     → bytes ≡ record_text_in version limits entries → ⊥
 complete_header version bytes none limits entries is same =
     clash limits (sym none ∙ ap (header_read version) same
-        ∙ header_again version limits (flat_map (λ (e : Recorded). text_in version e.caller e.event e.answer) entries) is.lawful)
+    ∙ header_again version limits (flat_map (λ (e : Recorded). text_in version e.caller e.event e.answer) entries) is.lawful)
   where
     clash : (x : Limits) → ◌≡◌ {A = Option Limits} None (Some x) → ⊥
     clash x e = cc

@@ -104,7 +104,7 @@ entry_first_was version limit place bytes first small is = go (message_first byt
   go None found read = absurd (none-some first read)
   go (Some message) found read =
       let inner = cond_gives (nat_le (place + 4 + length message) limit)
-          (option_map (λ entry. (entry, 4 + length message)) (entry_of version message)) first read in
+      (option_map (λ entry. (entry, 4 + length message)) (entry_of version message)) first read in
       let entry = mapped (λ (e : Recorded). (e, 4 + length message)) (entry_of version message) first inner.1 in
       let was = entry_was version message entry.0 (message_bytes bytes message small found) entry.1.0 in
       let fits : place + 4 + length message ≤ limit = leb-true (place + 4 + length message) limit inner.0 in
@@ -238,16 +238,22 @@ record_was version bytes limits small header read = go (entries_after version li
       let first = header_first_was version bytes limits small header in
       let above = range_above version limits first.range in
       let were = entries_were version (length bytes) limits.recording (header_size_of version) (drop (header_size_of version) bytes) xs
-          (rest_bytes (header_size_of version) bytes small) above e in
+      (rest_bytes (header_size_of version) bytes small) above e in
       let text : bytes ≡ record_text_in version limits (map (λ (p : Placed). p.entry) xs) = first.text
-          ∙ ap (λ l. header_text_in version limits ++ l) were.text in
+      ∙ ap (λ l. header_text_in version limits ++ l) were.text in
       let within = were.within in
       record {
         lawful = record {
           lawful = first.range;
           all = were.all;
-          fits = omega (arith, header_length version limits, sym (ap length text), ap length first.text, length-append (header_text_in version limits)
-              (drop (header_size_of version) bytes));
+          fits = omega (
+            arith,
+            header_length version limits,
+            sym (ap length text),
+            ap length first.text,
+            length-append (header_text_in version limits)
+                (drop (header_size_of version) bytes),
+          );
         };
         text = text;
       }

@@ -98,7 +98,7 @@ front_entry : (version : Version) (front address tags : List ℕ) → Front fron
 front_entry version front address tags f bytes begins four small =
     let parts = split bytes front begins in
     subst (λ (l : List ℕ). entry_of version l ≡ (if is_ok (arguments_read l tags (length front)) then row_read version address
-        (arguments_of tags l (length front)) else None))
+    (arguments_of tags l (length front)) else None))
     (sym parts)
     (front_is version front address tags f (drop (length front) bytes) (subst (λ (l : List ℕ). length l % 4 ≡ 0) parts four)
     (subst (λ (l : List ℕ). length l ≤ 1073741824) parts small))

@@ -166,8 +166,11 @@ entries_again version [] zero limit place all few within small = refl
 entries_again version [] (suc most) limit place all few within small = refl
 entries_again version (e ∷ entries) zero limit place all few within small =
     let some = some_in version e.caller e.event e.answer all.0 in
-    absurd (omega (arith, length-append (text_in version e.caller e.event e.answer)
-        (flat_map (λ (e : Recorded). text_in version e.caller e.event e.answer) entries)))
+    absurd (omega (
+      arith,
+      length-append (text_in version e.caller e.event e.answer)
+          (flat_map (λ (e : Recorded). text_in version e.caller e.event e.answer) entries),
+    ))
 entries_again version (e ∷ entries) (suc most) limit place all few within small =
     let text : List ℕ = text_in version e.caller e.event e.answer in
     let rest : List ℕ = flat_map (λ (e : Recorded). text_in version e.caller e.event e.answer) entries in

@@ -74,8 +74,11 @@ stops version (suc most) limit place (byte ∷ bytes) at small few inside read =
           }
 
 pub no_header : (version : Version) (bytes : List ℕ) → header_read version bytes ≡ None → HasNoHeaderIn version bytes 0
-no_header version bytes is = record { first = refl; none = λ limits rest range same. none-some limits (sym is ∙ ap (header_read version) same
-    ∙ header_again version limits rest range) }
+no_header version bytes is = record {
+  first = refl;
+  none = λ limits rest range same. none-some limits (sym is ∙ ap (header_read version) same
+      ∙ header_again version limits rest range);
+}
 
 pub no_entry : (version : Version) (bytes : List ℕ) (limits : Limits) (at : ℕ) → AreBytes bytes → header_read version bytes ≡ Some limits
     → entries_after version limits bytes ≡ Err at
@@ -86,7 +89,7 @@ no_entry version bytes limits at small header read =
     let below = range_below version limits first.range in
     let header_bytes = header_length version limits in
     let stop = stops version (length bytes) limits.recording (header_size_of version) (drop (header_size_of version) bytes) at
-        (rest_bytes (header_size_of version) bytes small)
+    (rest_bytes (header_size_of version) bytes small)
     (omega (arith, length-drop (header_size_of version) bytes)) above read in
     let end = stop.end in
     let within = stop.within in
@@ -94,8 +97,12 @@ no_entry version bytes limits at small header read =
       limits = limits;
       entries = stop.entries;
       rest = stop.rest;
-      lawful = record { lawful = first.range; all = stop.all; fits = omega
-          (arith, length-append (header_text_in version limits) (texts version stop.entries)) };
+      lawful = record {
+        lawful = first.range;
+        all = stop.all;
+        fits = omega
+            (arith, length-append (header_text_in version limits) (texts version stop.entries));
+      };
       text = first.text ∙ ap (λ (l : List ℕ). header_text_in version limits ++ l) stop.text
           ∙ sym (append_assoc (header_text_in version limits) (texts version stop.entries) stop.rest);
       place = omega (arith, length-append (header_text_in version limits) (texts version stop.entries));

@@ -58,7 +58,7 @@ pub after_is : (version : Version) (limits : Limits) (bytes : List ℕ)
     → entries_after version limits bytes ≡ entries_at version limits.recording (header_size_of version) (drop (header_size_of version) bytes)
 after_is version limits bytes =
     enough version (length bytes) (length (drop (header_size_of version) bytes)) limits.recording (header_size_of version)
-        (drop (header_size_of version) bytes) (omega (arith, length-drop (header_size_of version) bytes))
+    (drop (header_size_of version) bytes) (omega (arith, length-drop (header_size_of version) bytes))
     (omega arith)
 
 outcome_of : (first : Placed) (r : Result (List Placed) ℕ) → outcome (onto_read first r) ≡ outcome r

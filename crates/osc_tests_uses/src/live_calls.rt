@@ -68,10 +68,22 @@ fn what_another_submitted_is_released_behind_it(rt: HostRuntime) -> Result<(), F
 #[test]
 fn a_method_takes_anothers_place(rt: HostRuntime) -> Result<(), Fail> {
     let (live, caller) = Live::open(rt.alloc(), caps(1)?)?;
-    let (caller, first) = replace(&rt, &live, caller, address(rt.alloc(), b"/a")?, Fader::new());
+    let (caller, first) = replace(
+        &rt,
+        &live,
+        caller,
+        address(rt.alloc(), b"/a")?,
+        Fader::new(),
+    );
     assert!(rt; matches!(first.removed, Removing::NotThere));
     assert!(rt; matches!(first.added, Adding::Added(0)));
-    let (_, second) = replace(&rt, &live, caller, address(rt.alloc(), b"/a")?, Fader::new());
+    let (_, second) = replace(
+        &rt,
+        &live,
+        caller,
+        address(rt.alloc(), b"/a")?,
+        Fader::new(),
+    );
     assert!(rt; matches!(second.removed, Removing::Removed { id: 0, .. }));
     assert!(rt; matches!(second.added, Adding::Added(1)));
     Ok(())

@@ -8,7 +8,7 @@ use std::sync::Wait;
 impl<M: Method> Recorded for Live<M> {
     ghost use Rattle.osc_turn.specs.Passes.{view};
     ghost use Rattle.osc_live.specs.Seen.{history_of};
-ghost use Rattle.osc_live.specs.Tokens.{IsOurs};
+    ghost use Rattle.osc_live.specs.Tokens.{IsOurs};
 
     type Token = Caller;
 

@@ -10,7 +10,7 @@ pub new-requires-clause-readable : goal.new-requires-clause-readable
 new-requires-clause-readable c =
     let f = c.self.inside in
     ap (λ (n : ℕ). is_ok (entries_at Second n header_size (drop header_size f.bytes.now))) c.recording.ensures.value
-        ∙ sym (ap is_ok (after_is Second f.caps f.bytes.now))
+    ∙ sym (ap is_ok (after_is Second f.caps f.bytes.now))
     ∙ c.self.invariant.entries
 
 pub returns : goal.returns
