@@ -17,9 +17,9 @@ use std::thread::{Threads, join};
 
 /// A method that tells that its reset has begun, and then waits until it may end.
 #[derive(Drop)]
-struct Slow {
-    begun: Flag,
-    may_end: Flag,
+pub(crate) struct Slow {
+    pub(crate) begun: Flag,
+    pub(crate) may_end: Flag,
 }
 
 impl Method for Slow {

@@ -4,6 +4,8 @@
 #[cfg(test)]
 mod busy;
 #[cfg(test)]
+mod busy_turn;
+#[cfg(test)]
 mod core_calls;
 #[cfg(test)]
 mod late;

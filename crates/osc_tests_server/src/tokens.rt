@@ -9,12 +9,16 @@ use osc_record::{Caps, Late};
 use std::alloc::Global;
 use std::sync::Wait;
 
+/// The limits of a server of two callers.
+pub(crate) fn caps() -> Option<Caps> {
+    Caps::new(8, 8, 8, 8, 2, 4096, Late::Deliver).ok()
+}
+
 pub(crate) fn open<M: Method>(alloc: Global) -> Option<(Live<M>, Caller)>
     ensures ours { IfSome result (λ opened. IsOurs opened.0 opened.1) }
     ensures first { IfSome result (λ opened. opened.1.number ≡ 0) }
 {
-    let caps = Caps::new(8, 8, 8, 8, 2, 4096, Late::Deliver).ok()?;
-    Live::open(alloc, caps).ok()
+    Live::open(alloc, caps()?).ok()
 }
 
 /// Enrols a guest as the second caller.
