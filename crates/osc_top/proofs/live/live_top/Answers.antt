@@ -1,4 +1,4 @@
-use Rattle.std.proofs.Common.{◌≡◌, Some, inr, map, string_bytes, ap, ◌∙◌, rules}
+use Rattle.std.proofs.Common.{◌≡◌, Some, inl, map, string_bytes, refl, ap, ◌∙◌, rules}
 use Rattle.osc_words.specs.Commands as said
 use Rattle.osc_words.specs.declared.command.LiveCommand.TheVariants as live
 use Rattle.osc_ends.proofs.Inputs.{if_so, of_so}
@@ -12,20 +12,26 @@ use Rattle.osc_top.proofs.live.live_top.Goals as goal
 
 pub returns-in-Ok-clause-ends : goal.returns-in-Ok-clause-ends
 returns-in-Ok-clause-ends g c =
+    let same : c.read_script.new.out ≡ c.args.out.now = c.in-Ok.ensures.unwritten (inl refl) in
     let said : Some c.in-Ok-Some.command ≡ said.live_command_of (map string_bytes c.args.words.now) = search rules in
-    of_said _ _ c.in-Ok-Some.command said
+    rw (← same)
+    (of_said _ _ c.in-Ok-Some.command said
     (λ read. of_so _ _ _ c.play_lines.ensures.ends
-    (in_mode _ _ (g.S.Source.left c.args.input.now) c.in-Ok.lines.items c.mode_of.ensures c.in-Ok.ensures.lines))
+    (in_mode _ _ (g.S.Source.left c.args.input.now) c.in-Ok.lines.items c.mode_of.ensures c.in-Ok.ensures.lines)))
 
 pub returns-in-Ok-clause-one_history : goal.returns-in-Ok-clause-one_history
 returns-in-Ok-clause-one_history g c =
+    let same : c.read_script.new.out ≡ c.args.out.now = c.in-Ok.ensures.unwritten (inl refl) in
     let script = in_mode _ _ (g.S.Source.left c.args.input.now) c.in-Ok.lines.items c.mode_of.ensures c.in-Ok.ensures.lines in
-    live_history _ _ _ _ _ _ _ _ _ _ _ _ _ c.in-Ok-Some.command script.0 (c.play_lines.ensures.ends script.0 script.2)
+    rw (← same)
+    (live_history _ _ _ _ _ _ _ _ _ _ _ _ _ c.in-Ok-Some.command script.0 (c.play_lines.ensures.ends script.0 script.2))
 
 pub returns-in-Ok-clause-edge : goal.returns-in-Ok-clause-edge
 returns-in-Ok-clause-edge g c =
+    let same : c.read_script.new.out ≡ c.args.out.now = c.in-Ok.ensures.unwritten (inl refl) in
     let script = in_mode _ _ (g.S.Source.left c.args.input.now) c.in-Ok.lines.items c.mode_of.ensures c.in-Ok.ensures.lines in
-    live_edge _ _ _ _ _ _ _ _ _ _ _ _ _ c.in-Ok-Some.command script.0 (c.play_lines.ensures.ends script.0 script.2)
+    rw (← same)
+    (live_edge _ _ _ _ _ _ _ _ _ _ _ _ _ c.in-Ok-Some.command script.0 (c.play_lines.ensures.ends script.0 script.2))
 
 pub returns-in-Ok-clause-still : goal.returns-in-Ok-clause-still
 returns-in-Ok-clause-still g c =
@@ -36,34 +42,42 @@ returns-in-Ok-clause-still g c =
 
 pub returns-in-Ok-clause-sink : goal.returns-in-Ok-clause-sink
 returns-in-Ok-clause-sink g c =
+    let same : c.read_script.new.out ≡ c.args.out.now = c.in-Ok.ensures.unwritten (inl refl) in
     let script = in_mode _ _ (g.S.Source.left c.args.input.now) c.in-Ok.lines.items c.mode_of.ensures c.in-Ok.ensures.lines in
-    cut_fails _ _ _ _ _ _ _ (c.play_lines.ensures.ends script.0 script.2)
+    rw (← same)
+    (cut_fails _ _ _ _ _ _ _ (c.play_lines.ensures.ends script.0 script.2))
 
 pub returns-in-Ok-clause-steady : goal.returns-in-Ok-clause-steady
 returns-in-Ok-clause-steady g c =
+    let same : c.read_script.new.out ≡ c.args.out.now = c.in-Ok.ensures.unwritten (inl refl) in
     let script = in_mode _ _ (g.S.Source.left c.args.input.now) c.in-Ok.lines.items c.mode_of.ensures c.in-Ok.ensures.lines in
-    done_steady _ _ _ _ _ _ _ (c.play_lines.ensures.ends script.0 script.2)
+    rw (← same)
+    (done_steady _ _ _ _ _ _ _ (c.play_lines.ensures.ends script.0 script.2))
 
 pub returns-in-Ok-clause-complete : goal.returns-in-Ok-clause-complete
 returns-in-Ok-clause-complete g c =
+    let same : c.read_script.new.out ≡ c.args.out.now = c.in-Ok.ensures.unwritten (inl refl) in
     let said : Some c.in-Ok-Some.command ≡ said.live_command_of (map string_bytes c.args.words.now) = search rules in
-    of_said _ _ c.in-Ok-Some.command said
+    rw (← same)
+    (of_said _ _ c.in-Ok-Some.command said
     (if_so _ _ _
     (λ script read lawful source out_sound rec_sound. live_complete _ _ _ _ _ _ _ _ _ _ _ _ _ c.in-Ok-Some.command script
     (c.play_lines.ensures.ends script read) lawful out_sound rec_sound)
-    (in_mode _ _ (g.S.Source.left c.args.input.now) c.in-Ok.lines.items c.mode_of.ensures c.in-Ok.ensures.lines))
+    (in_mode _ _ (g.S.Source.left c.args.input.now) c.in-Ok.lines.items c.mode_of.ensures c.in-Ok.ensures.lines)))
 
 pub returns-in-Ok-clause-enough : goal.returns-in-Ok-clause-enough
 returns-in-Ok-clause-enough g c = λ caps is.
+    let same : c.read_script.new.out ≡ c.args.out.now = c.in-Ok.ensures.unwritten (inl refl) in
     let said : Some c.in-Ok-Some.command ≡ said.live_command_of (map string_bytes c.args.words.now) = search rules in
     let both : Some c.in-Ok-Some.command ≡ Some (live.Lanes caps) = said ∙ is in
     let lanes : c.in-Ok-Some.command ≡ live.Lanes caps = cc in
-    if_so _ _ _
+    rw (← same)
+    (if_so _ _ _
     (λ script read enough source out_sound rec_sound. live_enough _ _ _ _ _ c.args.bank.items _ _ _ _ _ _ _ caps
     (λ lines recording text outcome plays room. c.enough_room_stops_no_lane.ensures (live_limits caps) lines c.args.bank.items _ _ recording text outcome
     plays room)
     c.in-Ok-Some.command lanes script (c.play_lines.ensures.ends script read) enough out_sound rec_sound)
-    (in_mode _ _ (g.S.Source.left c.args.input.now) c.in-Ok.lines.items c.mode_of.ensures c.in-Ok.ensures.lines)
+    (in_mode _ _ (g.S.Source.left c.args.input.now) c.in-Ok.lines.items c.mode_of.ensures c.in-Ok.ensures.lines))
 
 -- Where none was.
 
