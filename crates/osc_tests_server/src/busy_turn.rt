@@ -121,7 +121,7 @@ fn at_once<M: Method + Send, R: Threads + Wait + Sync>(
     join(
         rt,
         || -> bool
-            requires { IsPassOf turn first × ((view first).kind ≡ header_text caps) }
+            requires { IsPassOf turn.now first × ((view first).kind ≡ header_text caps) }
         {
             let mut job = First {
                 caps,
@@ -130,7 +130,7 @@ fn at_once<M: Method + Send, R: Threads + Wait + Sync>(
             turn.act(rt, first, &mut job).1
         },
         || -> [Tried; 2]
-            requires { IsPassOf turn guest × ((view guest).kind ≡ header_text caps) }
+            requires { IsPassOf turn.now guest × ((view guest).kind ≡ header_text caps) }
         { try_meanwhile(turn, guest, caps, flags) },
     )
 }
