@@ -1,6 +1,7 @@
 // Tries of a turn over a server without entries, while a job's add is in its box's reset.
 ghost use Rattle.std.specs.Prelude.{◌≡◌, IfSome};
 ghost use Rattle.osc_turn.specs.Passes.{view, IsPassOf};
+ghost use Rattle.osc_turn.specs.Rule.{number_of};
 ghost use Rattle.osc_model.specs.Events.{adds_entry};
 ghost use Rattle.osc_model.specs.Recordings.{header_text};
 ghost use Rattle.osc_core.specs.Answers.{adding_of};
@@ -81,6 +82,7 @@ impl<M: Method> Job<Core<M>> for Idle {
 /// A turn over a server of two callers, and its first pass.
 fn opened<M: Method>(alloc: Global, caps: Caps) -> Option<(Turn<Core<M>>, Pass)>
     ensures ours { IfSome result (λ opened. IsPassOf opened.0 opened.1) }
+    ensures first { IfSome result (λ opened. number_of (view opened.1) ≡ 0) }
     ensures kind { IfSome result (λ opened. (view opened.1).kind ≡ header_text caps) }
 {
     let core = Core::open(alloc, caps).ok()?;
