@@ -1,6 +1,6 @@
 //! Parts whose lists are read once for all names.
 ghost use Rattle.osc_pattern.specs.declared.limits.TheConstants.{MOST_READY};
-ghost use Rattle.std.specs.Prelude.{◌≡◌, ◌≤◌, ◌+◌, ℕ, List, length, take};
+ghost use Rattle.std.specs.Prelude.{◌≡◌, ◌≤◌, ◌+◌, ℕ, List, [], length, take};
 ghost use Rattle.osc_pattern.specs.Items.{item_text};
 ghost use Rattle.osc_pattern.specs.Cuts.{after_item};
 ghost use Rattle.osc_pattern.specs.Views.{item_of};
@@ -35,7 +35,9 @@ pub struct Part<'a> {
 
 impl<'a> ReadyPart<'a> {
     /// The empty part.
-    pub fn empty() -> ReadyPart<'a> {
+    pub fn empty() -> ReadyPart<'a>
+        ensures { IsReadOf result [] }
+    {
         ReadyPart {
             items: [Ready::Other(Item::Any); MOST_READY],
             count: 0,

@@ -16,6 +16,14 @@ use Rattle.osc_script.specs.Adds.{count_adds}
 abbrev pub event_size : Event → ℕ
 event_size event = entry_size event ticked
 
+-- how many bytes the entry of an enrolment has
+abbrev pub enrol_size : ℕ
+enrol_size = 28
+
+-- how many bytes a hit has in the entry of its release
+abbrev pub hit_size : ℕ
+hit_size = 8
+
 -- the size of a line's own entry: that of an add, a remove, a tick and a send that is a packet
 abbrev pub act_size : Act → ℕ
 act_size (Add address) = event_size (add address)
@@ -39,6 +47,6 @@ act_messages _ = 0
 -- each message for each method that is added.
 abbrev pub enough_with : ℕ → List Line → ℕ
 enough_with enrolments lines =
-    header_size + 28 * enrolments + sum_by (λ line. act_size line.act) lines
+    header_size + enrol_size * enrolments + sum_by (λ line. act_size line.act) lines
     + release_head_size * sum_by (λ line. act_units line.act) lines
-    + 8 * (sum_by (λ line. act_messages line.act) lines * count_adds lines)
+    + hit_size * (sum_by (λ line. act_messages line.act) lines * count_adds lines)

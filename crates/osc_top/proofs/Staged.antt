@@ -228,7 +228,7 @@ module _ {M : Type 0} where
               recorded = bytes_so;
               boxes = all_heard caps hosts.history hosted.closed.bytes.items hosted.closed.kept.items accounts added hosts.closed here ordered;
               links_are = links_so;
-              rest_is = left_so ∙ ap (λ (l : List M). hosted.opening.back.items ++ l) rest_so;
+              left_is = left_so ∙ ap (λ (l : List M). hosted.opening.back.items ++ l) rest_so;
               outcome_is = outcome_so;
               text_is = ap (λ (l : List ℕ). printed caps (history_in (texts hosts.history)) ++ (l ++ last_text outcome)) said_so;
             };

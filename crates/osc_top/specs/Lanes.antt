@@ -66,27 +66,27 @@ module _ {M : Type 0} where
   -- These boxes are those of the methods that a history adds, by their ids, ascending. They have
   -- heard the history, each with the mark of its id's entry.
   pub record HaveHeardAll (keep : M → ℕ) (heard : M → Option (List ℕ)) (caps : Limits)
-      (history : List Seen) (added : List (ℕ × M)) : Type 0 where
-    pub ids : map (λ one. one.0) added ≡ added_ids (history_in (texts history))
+      (history : List Seen) (boxes : List (ℕ × M)) : Type 0 where
+    pub ids : map (λ one. one.0) boxes ≡ added_ids (history_in (texts history))
     pub have_heard : AllByRecursion
         (λ one. HasHeard (invoked_in (performance_in caps (texts history)))
-        (known_of keep heard one.0 one.1)) added
-    pub marked : AreMarked (texts history) (told keep heard added)
+        (known_of keep heard one.0 one.1)) boxes
+    pub marked : AreMarked (texts history) (told keep heard boxes)
 
   -- The script's lanes were played on one new server. The boxes that were added have heard its one
   -- history; the others come back, lane by lane, and behind them those that no line took. The text
   -- is that of the history, then the faults of the lanes, and last the line on the stop, where
   -- there is one: of the enrolment for which there was no room, or of the least lane.
   pub record PlaysLanes (keep : M → ℕ) (heard : M → Option (List ℕ)) (caps : Limits)
-      (bank : List M) (added : List (ℕ × M)) (left : List M) (lines : List Line)
+      (bank : List M) (boxes_heard : List (ℕ × M)) (boxes_left : List M) (lines : List Line)
       (recording text : List ℕ) (outcome : Outcome) : Type 0 where
     pub kept : List (ℕ × M)
     pub accounts : List (Account M)
     pub unenrolled : Option Room
     pub performs : Performs keep heard caps (parts_of lines bank) recording kept accounts
         unenrolled
-    pub boxes : HaveHeardAll keep heard caps performs.history added
-    pub left_is : left
+    pub boxes : HaveHeardAll keep heard caps performs.history boxes_heard
+    pub left_is : boxes_left
         ≡ flat_map (λ account. account.back) accounts ++ drop (count_adds lines) bank
     pub outcome_is : outcome ≡ stopped (option_or unenrolled (first_stop accounts))
     pub text_is : text ≡ printed caps (history_in (texts performs.history))

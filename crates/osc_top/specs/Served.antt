@@ -45,15 +45,16 @@ module _ {M : Type 0} {L : Type 0} where
   -- links, and last the line on what went wrong, where something did.
   pub record PlaysLinks (keep : M → ℕ) (heard : M → Option (List ℕ))
       (left : L → Option (List LinkTurn)) (faults : L → ℕ) (caps : Limits) (bounds : Bounds)
-      (bank : List M) (links : List L) (clock : ClockRead) (added : List (ℕ × M))
-      (rest : List M) (links_after : List L) (lines : List Line) (recording text : List ℕ)
+      (bank : List M) (links : List L) (clock : ClockRead) (boxes_heard : List (ℕ × M))
+      (boxes_left : List M) (links_after : List L) (lines : List Line) (recording text : List ℕ)
       (outcome : Outcome) : Type 0 where
     pub hosted : Hosted M L
     pub hosts : Hosts left faults keep heard caps bounds (adds_part lines bank) links clock hosted
     pub recorded : recording ≡ hosted.closed.bytes.items
-    pub boxes : HaveHeardAll keep heard caps hosts.history added
+    pub boxes : HaveHeardAll keep heard caps hosts.history boxes_heard
     pub links_are : links_after ≡ hosted.links.links.items
-    pub rest_is : rest ≡ hosted.opening.back.items ++ drop (count_adds lines) bank
+    pub left_is : boxes_left
+        ≡ hosted.opening.back.items ++ drop (count_adds lines) bank
     pub outcome_is : outcome ≡ served hosted.links.failed hosted.links.clock_failed
         (option_map room_of (option_or hosted.opening.stop
         (option_or hosted.unenrolled hosted.links.stop)))

@@ -2,6 +2,7 @@
 ghost use Rattle.osc_links.specs.declared.limits.TheConstants.{MAX_LINKS};
 ghost use Rattle.std.specs.Prelude.{◌≡◌, ◌+◌, ◌≤◌, IfOk, length, map, string_bytes};
 ghost use Rattle.std.specs.List.{range_with_len};
+ghost use Rattle.osc_words.specs.declared.command.TheConstants.{PORTS};
 ghost use Rattle.osc_top.specs.Commands.{ports_of};
 
 use osc_words::{LiveCommand, live_command_of};
@@ -20,7 +21,7 @@ pub fn ports(alloc: Global, words: &[String]) -> Result<Vec<u16>, AllocError>
 }
 
 fn ports_from(alloc: Global, first: u16, count: u32) -> Result<Vec<u16>, AllocError>
-    requires { first + count ≤ 65536 }
+    requires { first + count ≤ PORTS }
     ensures { IfOk result
         (λ ports. ports.items ≡ map (λ link. first + link) (range_with_len 0 count)) }
 {

@@ -18,6 +18,7 @@ use Rattle.osc_words.specs.declared.options.Quantity.TheVariants.{Recording, See
 use Rattle.osc_words.specs.declared.options.Quantity.TheVariants.{Links, Count, Idle}
 use Rattle.osc_words.specs.declared.verb.Verb.{Verb}
 use Rattle.osc_words.specs.declared.verb.Verb.TheVariants as verb
+use Rattle.osc_words.specs.declared.command.TheConstants.{PORTS}
 use Rattle.osc_words.specs.declared.command.Capacities.{Capacities}
 use Rattle.osc_words.specs.declared.command.Output.{Output}
 use Rattle.osc_words.specs.declared.command.Output.TheVariants as output
@@ -91,7 +92,7 @@ transport_of rows = if is_given Tcp rows then transport.Tcp else transport.Udp
 abbrev pub serve_from : Transport → Option ℕ → Option ℕ → Option ℕ → Option ℕ → Option Capacities
     → Option Command
 serve_from carried (Some port) (Some links) (Some count) (Some idle) (Some caps) =
-    if nat_le (port + links) 65536 then Some (Live (Serve carried port links count idle caps))
+    if nat_le (port + links) PORTS then Some (Live (Serve carried port links count idle caps))
     else None
 serve_from _ _ _ _ _ _ = None
 

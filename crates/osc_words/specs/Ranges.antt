@@ -5,6 +5,7 @@ use Rattle.osc_words.specs.Options.{IsInRange, row_of}
 use Rattle.osc_words.specs.declared.options.Quantity.TheVariants.{Units, Blocks, Methods, Nodes}
 use Rattle.osc_words.specs.declared.options.Quantity.TheVariants.{Recording, Lines, Port, Links}
 use Rattle.osc_words.specs.declared.options.Quantity.TheVariants.{Count, Idle}
+use Rattle.osc_words.specs.declared.command.TheConstants.{PORTS}
 use Rattle.osc_words.specs.declared.command.Capacities.{Capacities}
 use Rattle.osc_words.specs.declared.command.Reading.{Reading}
 use Rattle.osc_words.specs.declared.command.Reading.TheVariants.{Run, Replay, Dump}
@@ -26,7 +27,7 @@ pub record AreInRange (caps : Capacities) : Type 0 where
 pub record IsServable (port links count idle : ℕ) (caps : Capacities) : Type 0 where
   pub first_port : IsInRange Port port
   pub link_count : IsInRange Links links
-  pub last_port : port + links ≤ 65536
+  pub last_port : port + links ≤ PORTS
   pub datagrams : IsInRange Count count
   pub quiets : IsInRange Idle idle
   pub capacities : AreInRange caps

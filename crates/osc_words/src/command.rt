@@ -5,6 +5,9 @@ ghost use Rattle.osc_words.specs.Ranges.{AreInRange, default_capacities};
 use crate::options::Quantity;
 use osc_model::Late;
 
+/// How many ports a machine has, the one numbered 0 among them.
+pub const PORTS: u64 = 65_536;
+
 /// How much a server holds, as far as words set it: queued units, blocks of 64 bytes for their messages, methods, nodes
 /// of the methods' addresses, and bytes of recording; and what becomes of late units.
 #[derive(Clone, Copy, Debug, PartialEq, Eq)]

@@ -10,6 +10,7 @@ mod said;
 mod verb;
 
 pub use command::{
-    Capacities, Command, LiveCommand, Output, PlainCommand, Reading, Transport, default_capacities,
+    Capacities, Command, LiveCommand, Output, PORTS, PlainCommand, Reading, Transport,
+    default_capacities,
 };
 pub use said::{command_of, live_command_of, plain_command_of};

@@ -6,7 +6,9 @@ ghost use Rattle.osc_words.specs.Commands as commands;
 ghost use Rattle.osc_words.specs.Commands.{caps_of, gen_of, is_given, number_of, said_by, serve_of};
 ghost use Rattle.osc_words.specs.Ranges.{AreInRange, IsLawful, IsLawfulPlain, IsLawfulLive};
 
-use crate::command::{Capacities, Command, LiveCommand, Output, PlainCommand, Reading, Transport};
+use crate::command::{
+    Capacities, Command, LiveCommand, Output, PORTS, PlainCommand, Reading, Transport,
+};
 use crate::number::number_within;
 use crate::options::{Flag, Quantity};
 use crate::reading::read;
@@ -135,7 +137,7 @@ fn serve_in(found: &ArgMatches<'_>) -> Option<Command>
     let count = number(found, Quantity::Count)?;
     let idle = number(found, Quantity::Idle)?;
     let caps = caps_in(found)?;
-    if port + links > 65_536 {
+    if port + links > PORTS {
         return None;
     }
     Some(Command::Live(LiveCommand::Serve {
