@@ -1,5 +1,6 @@
 # The definitions that a call's contract reaches, in reading order: first those that it names, then those that these name. Called
-# by bin/believe, with the definitions of all crates and then the source of the call.
+# by bin/believe, with the definitions of all crates and then the source of the call. Those that `without` names are left out, with
+# what they alone reach.
 
 function keep_paragraph(   head, name, line, count, lines, i) {
     if (paragraph == "") return
@@ -76,9 +77,14 @@ function visit(where, body,   lines, count, i, rest, key) {
         while (match(rest, /[A-Za-z_][A-Za-z_0-9'-]*(\.[A-Za-z_][A-Za-z_0-9'-]*)*/)) {
             key = resolve(where, substr(rest, RSTART, RLENGTH))
             rest = substr(rest, RSTART + RLENGTH)
-            if (key != "" && !(key in seen)) { seen[key] = 1; order[++last] = key }
+            if (key != "" && !(key in seen) && !(shown[key] in left_out)) { seen[key] = 1; order[++last] = key }
         }
     }
+}
+
+BEGIN {
+    count = split(without, names, " ")
+    for (i = 1; i <= count; i++) left_out[names[i]] = 1
 }
 
 FNR == 1 {
