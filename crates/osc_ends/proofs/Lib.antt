@@ -1,4 +1,5 @@
 mod Transfers
 pub mod Said
 pub mod Inputs
+mod Upgrades
 mod LastLines

@@ -34,6 +34,10 @@ refusal_text fault = line (named_room (codes "script") fault.line fault.kind)
 abbrev pub malformed_text : ℕ → List ℕ
 malformed_text at = line (named (codes "malformed") at)
 
+-- the line of a recording whose upgrade needs more bytes than the limit
+abbrev pub too_large_text : ℕ → ℕ → List ℕ
+too_large_text need limit = line (named_room (codes "too-large") need limit)
+
 -- a word, and bytes in hexadecimal digits; a space stands between them even where there are no
 -- bytes
 abbrev pub named_bytes : List ℕ → List ℕ → List ℕ

@@ -9,7 +9,9 @@ use Rattle.osc_replay.specs.Printed.{printed}
 use Rattle.osc_print.specs.Dumps.{dumped}
 use Rattle.osc_replay.specs.Formed.{IsFormed, IsUnformedAt}
 use Rattle.osc_replay.specs.Disagreeing.{DisagreesAt, IsRecordingOf}
-use Rattle.osc_ends.specs.Printing.{malformed_text, disagrees_text}
+use Rattle.osc_replay.specs.Old.{IsOldRecordingOf, IsOldUnformedAt, OldLegal}
+use Rattle.osc_replay.specs.Upgrading.{DisagreesThere, PrintsTheSame, upgraded, upgraded_text}
+use Rattle.osc_ends.specs.Printing.{malformed_text, disagrees_text, too_large_text}
 use Rattle.osc_ends.specs.Sinks.{SinkChange, Fails, IsSteady, Gains, GainsFront, GainsUnless}
 
 -- The lines on bytes that are no well-formed recording: there are too many, or else the first place
@@ -43,20 +45,22 @@ pub record RecordsTheLaws (bytes : List ℕ) : Type 0 where
   pub recording_of : IsRecordingOf bytes caps history
   pub laws : KeepsTheLaws caps history
 
--- The end of a replay of a recording, by its status: done (0), where the bytes are the recording of
--- a legal history, and its printed text was gained; refused (1), where they aren't, and the lines
--- on that were gained; cut short (5), where the sink failed, and a front of the printed text was
--- gained. Want of memory (3) promises nothing.
-pub record EndsReplay (status : ℕ) (bytes : List ℕ) (out : SinkChange) : Type 0 where
+-- The end of a command that reads a recording, by its status: done (0), where the bytes have a text
+-- of the command, and it was gained; refused (1), where they have lines that refuse them, and these
+-- were gained; cut short (5), where the sink failed, and a front of the text was gained. Want of
+-- memory (3) promises nothing.
+pub record EndsRecording (Writes Refuses : List ℕ → List ℕ → Type 0) (status : ℕ)
+    (bytes : List ℕ) (out : SinkChange) : Type 0 where
   pub known : (status ≡ DONE) ⊎ (status ≡ REFUSED) ⊎ (status ≡ NO_MEMORY) ⊎ (status ≡ SINK_FAILED)
   pub done : status ≡ DONE
-      → ((printed_text : List ℕ) × ReplaysTo bytes printed_text × Gains out printed_text)
-      × IsSteady out
-  pub refused : status ≡ REFUSED → (lines : List ℕ) × RefusesRecording bytes lines
-      × GainsUnless out lines
+      → ((text : List ℕ) × Writes bytes text × Gains out text) × IsSteady out
+  pub refused : status ≡ REFUSED → (lines : List ℕ) × Refuses bytes lines × GainsUnless out lines
   pub cut_short : status ≡ SINK_FAILED
-      → ((printed_text : List ℕ) × ReplaysTo bytes printed_text
-      × GainsFront out printed_text) × Fails out
+      → ((text : List ℕ) × Writes bytes text × GainsFront out text) × Fails out
+
+-- the end of a replay, which writes the printed history
+abbrev pub EndsReplay : ℕ → List ℕ → SinkChange → Type 0
+EndsReplay status bytes out = EndsRecording ReplaysTo RefusesRecording status bytes out
 
 -- the bytes are a well-formed recording, whether a server made it or not, and this is its dump
 pub record DumpsTo (bytes text : List ℕ) : Type 0 where
@@ -66,15 +70,37 @@ pub record DumpsTo (bytes text : List ℕ) : Type 0 where
   pub recording : bytes ≡ record_text caps entries
   pub text_is : text ≡ dumped caps entries
 
--- The end of a dump of a recording, by its status: done (0), where the bytes are a well-formed one,
--- and its dump was gained; refused (1), where they aren't, and the line on that was gained; cut
--- short (5), where the sink failed, and a front of the dump was gained. Want of memory (3) promises
--- nothing.
-pub record EndsDump (status : ℕ) (bytes : List ℕ) (out : SinkChange) : Type 0 where
-  pub known : (status ≡ DONE) ⊎ (status ≡ REFUSED) ⊎ (status ≡ NO_MEMORY) ⊎ (status ≡ SINK_FAILED)
-  pub done : status ≡ DONE
-      → ((text : List ℕ) × DumpsTo bytes text × Gains out text) × IsSteady out
-  pub refused : status ≡ REFUSED → (lines : List ℕ) × RefusesForm bytes lines
-      × GainsUnless out lines
-  pub cut_short : status ≡ SINK_FAILED
-      → ((text : List ℕ) × DumpsTo bytes text × GainsFront out text) × Fails out
+-- the end of a dump
+abbrev pub EndsDump : ℕ → List ℕ → SinkChange → Type 0
+EndsDump status bytes out = EndsRecording DumpsTo RefusesForm status bytes out
+
+-- The bytes are a recording of the first version, and this is the upgraded one, which a recording
+-- may have. If the first version's rules give its history, the text is the recording of the same
+-- history and prints the same lines; else a replay of the text disagrees at the first entry that
+-- they don't give.
+pub record UpgradesTo (bytes text : List ℕ) : Type 0 where
+  pub caps : Limits
+  pub history : List Entry
+  pub recording_of : IsOldRecordingOf bytes caps history
+  pub text_is : text ≡ upgraded_text max_recording caps history
+  pub few : length text ≤ max_recording
+  pub formed : IsFormed (upgraded max_recording caps history) history
+  pub legal : OldLegal caps history → PrintsTheSame text max_recording caps history
+  pub illegal : DisagreesThere text max_recording caps history
+
+-- The lines on bytes that aren't upgraded: there are too many, or else the first place where they
+-- are no recording of the first version, or else how many bytes the upgraded one needs, which are
+-- more than a recording may have.
+abbrev pub RefusesUpgrade : List ℕ → List ℕ → Type 0
+RefusesUpgrade bytes lines =
+    ((max_recording < length bytes) × (lines ≡ malformed_text max_recording))
+    ⊎ ((at : ℕ) × (length bytes ≤ max_recording) × IsOldUnformedAt bytes at
+    × (lines ≡ malformed_text at))
+    ⊎ ((caps : Limits) × (history : List Entry) × IsOldRecordingOf bytes caps history
+    × (max_recording < length (upgraded_text max_recording caps history))
+    × (lines
+    ≡ too_large_text (length (upgraded_text max_recording caps history)) max_recording))
+
+-- the end of an upgrade
+abbrev pub EndsUpgrade : ℕ → List ℕ → SinkChange → Type 0
+EndsUpgrade status bytes out = EndsRecording UpgradesTo RefusesUpgrade status bytes out

@@ -21,4 +21,6 @@ pub use input::{read_recording, read_script};
 pub use lines::outcome_line;
 pub use outcome::{Outcome, status_of, stopped};
 pub use recorded::Recorded;
-pub use writing::{bank_short, usage, write_dump, write_replay, write_run_text, write_text};
+pub use writing::{
+    bank_short, usage, write_dump, write_replay, write_run_text, write_text, write_upgrade,
+};

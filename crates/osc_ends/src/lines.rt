@@ -7,6 +7,7 @@ ghost use Rattle.osc_ends.specs.Printing.{
   malformed_text,
   named_bytes,
   disagrees_text,
+  too_large_text,
   bank_short_text,
   last_text,
 };
@@ -33,6 +34,13 @@ pub(crate) fn malformed_line(text: &mut Text, at: u32) -> Result<(), AllocError>
     ensures { OnOk result (text.new ≡ text.old ++ malformed_text at) }
 {
     number_line(text, b"malformed", at)
+}
+
+/// Adds the line of a recording whose upgrade needs more bytes than the limit.
+pub(crate) fn too_large_line(text: &mut Text, need: u64, limit: u32) -> Result<(), AllocError>
+    ensures { OnOk result (text.new ≡ text.old ++ too_large_text need limit) }
+{
+    pair_line(text, b"too-large", need, u64::from(limit))
 }
 
 /// Adds the lines of an entry whose bytes aren't those that the server computes.

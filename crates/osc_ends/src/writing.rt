@@ -13,20 +13,25 @@ ghost use Rattle.osc_model.specs.Events.{Entry};
 ghost use Rattle.osc_model.specs.Recordings.{record_text};
 ghost use Rattle.osc_replay.specs.Disagreeing.{IsRecordingOf};
 ghost use Rattle.osc_replay.specs.Formed.{IsFormed};
+ghost use Rattle.osc_replay.specs.Old.{IsOldRecordingOf};
+ghost use Rattle.osc_replay.specs.Upgrading.{upgraded_text};
 ghost use Rattle.osc_ends.specs.Printing.{
   refusal_text,
   malformed_text,
   disagrees_text,
+  too_large_text,
   bank_short_text,
   usage_text,
   recorded_text,
 };
 ghost use Rattle.osc_ends.specs.Outcomes as outcomes;
 ghost use Rattle.osc_ends.specs.Ends.{IsWritten, EndsText, EndsLine};
-ghost use Rattle.osc_ends.specs.Recordings.{EndsReplay, EndsDump, RecordsTheLaws};
+ghost use Rattle.osc_ends.specs.Recordings.{EndsReplay, EndsDump, EndsUpgrade, RecordsTheLaws};
 ghost use Rattle.osc_ends.specs.Sinks.{sink_change};
 
-use crate::lines::{bank_short_line, disagrees_lines, malformed_line, outcome_line, refusal_line};
+use crate::lines::{
+    bank_short_line, disagrees_lines, malformed_line, outcome_line, refusal_line, too_large_line,
+};
 use crate::outcome::status_of;
 use crate::recorded::Recorded;
 use crate::status::{BANK_SHORT, DONE, NO_MEMORY, REFUSED, SINK_FAILED, USAGE};
@@ -36,7 +41,8 @@ use osc_edge::Sink;
 use osc_laws::laws::every_history_keeps_the_laws;
 use osc_model::laws::a_legal_history_is_recordable;
 use osc_print::Text;
-use osc_replay::{DumpFault, ReplayFault, dump, replay};
+use osc_record::MAX_RECORDING;
+use osc_replay::{DumpFault, ReplayFault, UpgradeFault, dump, replay, upgrade};
 use osc_script::ScriptFault;
 use std::alloc::{AllocError, Global};
 
@@ -114,6 +120,24 @@ pub fn write_dump<O: Sink>(alloc: Global, bytes: &[u8], out: &mut O) -> u8
     }
 }
 
+/// Writes the recording of the first version as one of today, or why it is refused: the status with which the program
+/// ends.
+pub fn write_upgrade<O: Sink>(alloc: Global, bytes: &[u8], out: &mut O) -> u8
+    requires { length bytes.now ≤ max_recording }
+    ensures ends { EndsUpgrade result bytes.now (sink_change O.held O.faults out.old out.new) }
+    ensures complete { (caps : Limits) (history : List Entry)
+        → IsOldRecordingOf bytes.now caps history
+        → length (upgraded_text max_recording caps history) ≤ max_recording
+        → (result ≡ DONE) ⊎ (result ≡ NO_MEMORY) ⊎ (result ≡ SINK_FAILED) }
+{
+    match upgrade(alloc, bytes, MAX_RECORDING) {
+        Ok(recording) => write_text(DONE, recording.as_slice(), out),
+        Err(UpgradeFault::Malformed { at }) => malformed(alloc, at, out),
+        Err(UpgradeFault::TooLarge { need, limit }) => too_large(alloc, need, limit, out),
+        Err(UpgradeFault::NoMemory) => NO_MEMORY,
+    }
+}
+
 /// Writes a text: the status, 5 where the sink failed, or 3 where it had no memory.
 pub fn write_text<O: Sink>(status: u8, text: &[u8], out: &mut O) -> u8
     requires { IsWritten status }
@@ -145,6 +169,18 @@ pub(crate) fn malformed<O: Sink>(alloc: Global, at: u32, out: &mut O) -> u8
 {
     let mut text = Text::open(alloc);
     match malformed_line(&mut text, at) {
+        Ok(()) => last_line(REFUSED, text.bytes(), out),
+        Err(_) => NO_MEMORY,
+    }
+}
+
+/// Writes the line of a recording whose upgrade needs more bytes than the limit.
+fn too_large<O: Sink>(alloc: Global, need: u64, limit: u32, out: &mut O) -> u8
+    ensures { EndsLine REFUSED result (too_large_text need limit)
+        (sink_change O.held O.faults out.old out.new) }
+{
+    let mut text = Text::open(alloc);
+    match too_large_line(&mut text, need, limit) {
         Ok(()) => last_line(REFUSED, text.bytes(), out),
         Err(_) => NO_MEMORY,
     }

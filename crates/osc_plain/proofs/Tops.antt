@@ -1,5 +1,5 @@
 -- How a program ends, from how its parts end.
-use Rattle.std.proofs.Common.{◌≡◌, ◌≢◌, ◌⊎◌, inl, inr, ℕ, ◌<◌, ◌≤◌, List, Option, Some, None, IfSome, IsOkAnd, Result, Ok, refl, sym, ap, subst, ◌∙◌, arith}
+use Rattle.std.proofs.Common.{◌≡◌, ◌≢◌, ◌⊎◌, inl, inr, ℕ, ◌<◌, ◌≤◌, List, length, Option, Some, None, IfSome, IsOkAnd, Result, Ok, sym, ap, subst, ◌∙◌, arith}
 use Rattle.std.specs.Prelude.{IsSomeAnd}
 use Rattle.osc_edge.specs.Faults.{Rose}
 use Rattle.osc_model.specs.Limits.{Limits, max_recording}
@@ -19,7 +19,7 @@ use Rattle.osc_plain.specs.Commands.{plain_limits}
 use Rattle.osc_script.specs.Adds.{count_adds}
 use Rattle.osc_ends.specs.Inputs.{RefusesLength}
 use Rattle.osc_ends.specs.Printing.{bank_short_text, malformed_text}
-use Rattle.osc_ends.specs.Recordings.{EndsDump, EndsReplay}
+use Rattle.osc_ends.specs.Recordings.{EndsRecording}
 use Rattle.osc_ends.specs.Sinks.{SinkChange, GainsUnless}
 use Rattle.osc_plain.specs.Runs.{IsPlayed, IsUnstopped, EndsLines, EndsReading, EndsRun}
 use Rattle.osc_ends.specs.Ends.{EndsLine}
@@ -107,45 +107,26 @@ reading_ends reading other status decided have input out is same ends =
     (subst (λ (s : ℕ). IfSome input (λ all. s ≢ 4 → EndsReading other s have all out)) (sym same) ends)
 
 -- a recording that is too long is refused as one that is malformed behind the last byte that it may have
-
-module _ (status : ℕ) (out : SinkChange) where
-  pub length_replay : (left : Option (List ℕ)) → RefusesLength status left out → IfSome left (λ all. status ≢ 4 → EndsReplay status all out)
-  length_replay None refuses = tt
-  length_replay (Some all) refuses = λ read. go read refuses.known where
-    go : status ≢ 4 → (status ≡ 1) ⊎ (status ≡ 3) ⊎ (status ≡ 4) → EndsReplay status all out
-    go read (inl one) = let refused = refuses.refused one in
-        record {
-          known = inr (inl one);
-          done = λ zero_is. absurd (omega (arith, one, zero_is));
-          refused = λ _. (malformed_text max_recording, inl (inl (refused.0, refl)), refused.1);
-          cut_short = λ five. absurd (omega (arith, one, five));
-        }
-    go read (inr (inl three)) = record {
-      known = inr (inr (inl three));
-      done = λ zero_is. absurd (omega (arith, three, zero_is));
-      refused = λ one. absurd (omega (arith, three, one));
-      cut_short = λ five. absurd (omega (arith, three, five));
-    }
-    go read (inr (inr four)) = absurd (read four)
-
-  pub length_dump : (left : Option (List ℕ)) → RefusesLength status left out → IfSome left (λ all. status ≢ 4 → EndsDump status all out)
-  length_dump None refuses = tt
-  length_dump (Some all) refuses = λ read. go read refuses.known where
-    go : status ≢ 4 → (status ≡ 1) ⊎ (status ≡ 3) ⊎ (status ≡ 4) → EndsDump status all out
-    go read (inl one) = let refused = refuses.refused one in
-        record {
-          known = inr (inl one);
-          done = λ zero_is. absurd (omega (arith, one, zero_is));
-          refused = λ _. (malformed_text max_recording, inl (refused.0, refl), refused.1);
-          cut_short = λ five. absurd (omega (arith, one, five));
-        }
-    go read (inr (inl three)) = record {
-      known = inr (inr (inl three));
-      done = λ zero_is. absurd (omega (arith, three, zero_is));
-      refused = λ one. absurd (omega (arith, three, one));
-      cut_short = λ five. absurd (omega (arith, three, five));
-    }
-    go read (inr (inr four)) = absurd (read four)
+pub length_ends : (Writes Refuses : List ℕ → List ℕ → Type 0) (status : ℕ) (left : Option (List ℕ)) (out : SinkChange)
+    → ((bytes : List ℕ) → max_recording < length bytes → Refuses bytes (malformed_text max_recording)) → RefusesLength status left out
+    → IfSome left (λ all. status ≢ 4 → EndsRecording Writes Refuses status all out)
+length_ends Writes Refuses status None out long refuses = tt
+length_ends Writes Refuses status (Some all) out long refuses = λ read. go read refuses.known where
+  go : status ≢ 4 → (status ≡ 1) ⊎ (status ≡ 3) ⊎ (status ≡ 4) → EndsRecording Writes Refuses status all out
+  go read (inl one) = let refused = refuses.refused one in
+      record {
+        known = inr (inl one);
+        done = λ zero_is. absurd (omega (arith, one, zero_is));
+        refused = λ _. (malformed_text max_recording, long all refused.0, refused.1);
+        cut_short = λ five. absurd (omega (arith, one, five));
+      }
+  go read (inr (inl three)) = record {
+    known = inr (inr (inl three));
+    done = λ zero_is. absurd (omega (arith, three, zero_is));
+    refused = λ one. absurd (omega (arith, three, one));
+    cut_short = λ five. absurd (omega (arith, three, five));
+  }
+  go read (inr (inr four)) = absurd (read four)
 
 -- what holds of the bytes that were left holds of those that were read
 pub some_bytes : (left : Option (List ℕ)) (bytes : List ℕ) (P : List ℕ → Type 0) → IfSome left (λ all. bytes ≡ all) → IsSomeAnd left P → P bytes

@@ -7,7 +7,7 @@ use Rattle.osc_script.specs.Generated.{generated_acts}
 use Rattle.osc_script.specs.Written.{numbered}
 use Rattle.osc_words.specs.declared.command.Capacities.{Capacities}
 use Rattle.osc_words.specs.declared.command.Reading.{Reading}
-use Rattle.osc_words.specs.declared.command.Reading.TheVariants.{Run, Replay, Dump}
+use Rattle.osc_words.specs.declared.command.Reading.TheVariants.{Run, Replay, Dump, Upgrade}
 use Rattle.osc_words.specs.Ranges.{default_capacities}
 use Rattle.osc_ends.specs.Limits.{limits_for}
 use Rattle.osc_plain.specs.declared.limits.TheConstants.{PLAIN_CALLERS}
@@ -17,6 +17,7 @@ abbrev pub most_bytes : Reading → ℕ
 most_bytes (Run output caps) = MAX_SCRIPT
 most_bytes Replay = max_recording
 most_bytes Dump = max_recording
+most_bytes Upgrade = max_recording
 
 -- the limits of a server that plays a script as caller 0
 abbrev pub plain_limits : Capacities → Limits

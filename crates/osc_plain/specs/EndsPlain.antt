@@ -1,18 +1,20 @@
 -- How each command of `osc` ends, and what becomes of the boxes that it was handed.
-use Rattle.std.specs.Prelude.{◌≡◌, ◌≢◌, ℕ, ◌≤◌, IsTrue, List, [], map, Option, IfSome, IsSomeAnd}
-use Rattle.std.specs.Prelude.{Ok, IsOkAnd}
+use Rattle.std.specs.Prelude.{◌≡◌, ◌≢◌, ℕ, ◌≤◌, IsTrue, List, [], map, length, Option, IfSome}
+use Rattle.std.specs.Prelude.{IsSomeAnd, Ok, IsOkAnd}
 use Rattle.osc_core.specs.Ids.{is_ascending}
-use Rattle.osc_model.specs.Limits.{Limits}
+use Rattle.osc_model.specs.Limits.{Limits, max_recording}
 use Rattle.osc_model.specs.Events.{Entry}
 use Rattle.osc_model.specs.Recordings.{record_text}
 use Rattle.osc_replay.specs.Disagreeing.{IsRecordingOf}
 use Rattle.osc_replay.specs.Formed.{IsFormed}
+use Rattle.osc_replay.specs.Old.{IsOldRecordingOf}
+use Rattle.osc_replay.specs.Upgrading.{upgraded_text}
 use Rattle.osc_script.specs.declared.line.Line.{Line}
 use Rattle.osc_script.specs.declared.mode.Mode.TheVariants.{Plain}
 use Rattle.osc_script.specs.Scripts.{script_of}
 use Rattle.osc_words.specs.declared.command.PlainCommand.{PlainCommand}
 use Rattle.osc_words.specs.declared.command.PlainCommand.TheVariants.{Read, Gen}
-use Rattle.osc_words.specs.declared.command.Reading.TheVariants.{Run, Replay, Dump}
+use Rattle.osc_words.specs.declared.command.Reading.TheVariants.{Run, Replay, Dump, Upgrade}
 use Rattle.osc_script.specs.Adds.{count_adds}
 use Rattle.osc_ends.specs.declared.status.TheConstants.{NO_MEMORY, SOURCE_FAILED}
 use Rattle.osc_ends.specs.Ends.{IsUnplayed}
@@ -31,7 +33,8 @@ EndsPlain (Gen seed lines) status have input out =
 
 -- A command can be done with so many boxes and this input: a lawful script or a drawn one has a box
 -- for each add and room for its recording; a recording is that of a history which the server's
--- rules give, or for a dump a well-formed one.
+-- rules give, for a dump a well-formed one, and for an upgrade one of the first version that isn't
+-- too large as one of today.
 abbrev pub CanBeDone : PlainCommand → ℕ → Option (List ℕ) → Type 0
 CanBeDone (Read (Run output caps)) have input =
     IsSomeAnd input (λ script. IsOkAnd (script_of Plain script)
@@ -42,6 +45,10 @@ CanBeDone (Read Replay) have input =
 CanBeDone (Read Dump) have input =
     IsSomeAnd input (λ recording. (caps : Limits) × (entries : List Entry)
     × IsFormed caps entries × (recording ≡ record_text caps entries))
+CanBeDone (Read Upgrade) have input =
+    IsSomeAnd input (λ recording. (caps : Limits) × (history : List Entry)
+    × IsOldRecordingOf recording caps history
+    × (length (upgraded_text max_recording caps history) ≤ max_recording))
 CanBeDone (Gen seed lines) have input =
     (count_adds (drawn_lines seed lines) ≤ have)
     × IsUnstopped default_limits (drawn_lines seed lines)
@@ -66,6 +73,8 @@ module _ {M : Type 0} where
   AccountsPlain keep tells (Read Replay) status input bank heard left =
       status ≢ NO_MEMORY → (heard ≡ []) × (left ≡ bank)
   AccountsPlain keep tells (Read Dump) status input bank heard left =
+      status ≢ NO_MEMORY → (heard ≡ []) × (left ≡ bank)
+  AccountsPlain keep tells (Read Upgrade) status input bank heard left =
       status ≢ NO_MEMORY → (heard ≡ []) × (left ≡ bank)
   AccountsPlain keep tells (Gen seed lines) status input bank heard left =
       IsPlayed status

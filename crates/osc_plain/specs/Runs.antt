@@ -1,7 +1,7 @@
 -- How a run of a script's lines ends, and what it writes.
 use Rattle.osc_ends.specs.declared.status.TheConstants.{BANK_SHORT, DONE, NO_MEMORY, RECORDING_FULL}
 use Rattle.osc_ends.specs.declared.status.TheConstants.{REFUSED, SINK_FAILED}
-use Rattle.std.specs.Prelude.{◌≡◌, ◌≢◌, ◌⊎◌, ℕ, ◌≤◌, ◌<◌, List, ◌++◌, length, None, IsSome}
+use Rattle.std.specs.Prelude.{◌≡◌, ◌≢◌, ◌⊎◌, ℕ, ◌≤◌, ◌<◌, List, ◌++◌, None, IsSome}
 use Rattle.std.specs.Prelude.{IsOkAnd, IsErrAnd}
 use Rattle.osc_model.specs.Limits.{Limits}
 use Rattle.osc_model.specs.Recordings.{record_text}
@@ -15,11 +15,11 @@ use Rattle.osc_script.specs.Scripts.{script_of}
 use Rattle.osc_words.specs.declared.command.Output.{Output}
 use Rattle.osc_words.specs.declared.command.Output.TheVariants as output
 use Rattle.osc_words.specs.declared.command.Reading.{Reading}
-use Rattle.osc_words.specs.declared.command.Reading.TheVariants.{Run, Replay, Dump}
+use Rattle.osc_words.specs.declared.command.Reading.TheVariants.{Run, Replay, Dump, Upgrade}
 use Rattle.osc_ends.specs.declared.outcome.Outcome.{Outcome}
 use Rattle.osc_ends.specs.Outcomes.{stopped}
 use Rattle.osc_ends.specs.Printing.{bank_short_text, last_text, recorded_text, refusal_text}
-use Rattle.osc_ends.specs.Recordings.{EndsReplay, EndsDump}
+use Rattle.osc_ends.specs.Recordings.{EndsReplay, EndsDump, EndsUpgrade}
 use Rattle.osc_ends.specs.Sinks.{SinkChange, GainsAll, GainsPart, GainsUnless}
 use Rattle.osc_player.specs.Plain.{plain, printed_faults}
 use Rattle.osc_plain.specs.declared.report.Report.{Report}
@@ -93,6 +93,7 @@ EndsReading (Run output caps) status have input out =
     EndsRun (report_of output) (plain_limits caps) status have input out
 EndsReading Replay status have input out = EndsReplay status input out
 EndsReading Dump status have input out = EndsDump status input out
+EndsReading Upgrade status have input out = EndsUpgrade status input out
 
 -- what was recorded of a run of lines: its recording, the lines of the faults, and how it ended
 pub record RecordsRun (bytes faults : List ℕ) (outcome : Outcome) (caps : Limits)

@@ -44,7 +44,7 @@ ghost use Rattle.osc_plain.specs.EndsPlain.{EndsPlain, CanBeDone, HandsBack, Acc
 
 use crate::generating::drawn_lines;
 use crate::limits::{default_limits, plain_limits};
-use crate::reading::{dump, replay};
+use crate::reading::{dump, replay, upgrade};
 use crate::report::{Report, report_of};
 use crate::running::{run, run_lines, unplayed};
 use osc_edge::{Sink, Source};
@@ -57,7 +57,8 @@ use std::alloc::Global;
 /// Does all that the program does. `run` reads a script from `input` to its end, plays it on a new server, and writes
 /// the printed history and the faults of its packets to `out`, or with `--bytes` the recording. `replay` reads a
 /// recording, and writes the same printed history, each answer of which it computes again. `dump` reads a recording,
-/// and writes its entries as they stand. `gen` reads nothing: it draws a script from a seed, plays it, and writes how
+/// and writes its entries as they stand. `upgrade` reads a recording of the first version, and writes it as one of
+/// today. `gen` reads nothing: it draws a script from a seed, plays it, and writes how
 /// many entries of each kind there are.
 ///
 /// `words` are those of the command line, without the program's name. The k-th add of a script gets the k-th box of
@@ -182,6 +183,7 @@ fn follow<S: Source, O: Sink>(
         }
         Reading::Replay => unplayed(alloc, replay(alloc, input, out), bank),
         Reading::Dump => unplayed(alloc, dump(alloc, input, out), bank),
+        Reading::Upgrade => unplayed(alloc, upgrade(alloc, input, out), bank),
     }
 }
 

@@ -1,5 +1,5 @@
 -- The first version's server and today's give the same entries, as long as there is room.
-use Rattle.std.proofs.Common.{◌≡◌, ◌≢◌, ℕ, ◌+◌, ◌-◌, ◌<◌, ◌≤◌, ◌==◌, Bool, true, false, cond, nat_le, nat_lt, List, [], ◌∷◌, ◌++◌, length, Option, Some, None}
+use Rattle.std.proofs.Common.{◌≡◌, ℕ, ◌+◌, ◌-◌, ◌≤◌, ◌==◌, Bool, true, false, cond, nat_le, nat_lt, List, [], ◌∷◌, ◌++◌, length, Option, Some, None}
 use Rattle.std.proofs.Common.{refl, sym, ap, subst, ◌∙◌, arith, length-append, replicate}
 use Rattle.std.specs.Prelude.{option_map}
 use Rattle.std.specs.List.{flat_map, AllByRecursion}
@@ -14,18 +14,18 @@ use Rattle.osc_tree.specs.Registry.{id_at}
 use Rattle.osc_tree.specs.Adding.{Refusal, add_refusal}
 use Rattle.osc_model.specs.Limits.{Limits}
 use Rattle.osc_model.specs.State.{State, Queued, registry}
-use Rattle.osc_model.specs.Counts.{free_places, free_blocks, free_bytes}
+use Rattle.osc_model.specs.Counts.{free_places, free_blocks}
 use Rattle.osc_model.specs.Events.{Event, enrol, submit, add, remove, tick, release, Answer, Entry, number, callers_full, queued, units_full, pool_full}
-use Rattle.osc_model.specs.Events.{ticked, clock_back, nothing_due, record_full, adds_entry}
+use Rattle.osc_model.specs.Events.{ticked, clock_back, nothing_due, adds_entry}
 use Rattle.osc_model.specs.Recordings.{FitsRow, submitted, row_of, row_text, sized, entry_size, entry_text}
-use Rattle.osc_model.specs.Step.{Stepped, step, decided, leaves, kept_units, submit_kept, after_submit, add_at, remove_at, releases, release_first, recorded_as}
-use Rattle.osc_model.specs.History.{IsLawful, AddsEntry, LegalFrom, after}
+use Rattle.osc_model.specs.Step.{Stepped, step, decided, leaves, kept_units, after_submit, add_at, remove_at, releases, release_first, recorded_as}
+use Rattle.osc_model.specs.History.{AddsEntry, LegalFrom, after}
 use Rattle.osc_model.proofs.Onward.{is_adds}
 use Rattle.osc_model.proofs.Sizes.{sizes_are}
-use Rattle.osc_model.proofs.Stepping.{no_room, noted, recorded_so, decided_so}
+use Rattle.osc_model.proofs.Stepping.{noted, recorded_so, decided_so}
 use Rattle.osc_record.specs.declared.version.Version.TheVariants.{First}
 use Rattle.osc_record.specs.Versions.{old_row_of, old_submit_row, text_in}
-use Rattle.osc_replay.specs.Old.{old_entry_size, old_step, OldGives, OldLegalFrom, old_after, old_printed_from}
+use Rattle.osc_replay.specs.Old.{old_entry_size, old_step, OldLegalFrom, old_after, old_printed_from}
 use Rattle.osc_replay.specs.Printed.{printed_from}
 
 -- a state with another limit of its recording, and other bytes recorded

@@ -1,8 +1,7 @@
 -- Old recordings whose packets and addresses are lawful, and the first place where bytes aren't one.
-use Rattle.std.proofs.Common.{◌≡◌, ℕ, ◌+◌, ◌<◌, ◌≤◌, Bool, true, false, cond, List, [], ◌∷◌, ◌++◌, length, take, Option, Some, None, inl, inr, refl, sym}
+use Rattle.std.proofs.Common.{◌≡◌, ℕ, ◌+◌, Bool, true, false, cond, List, [], ◌∷◌, ◌++◌, length, take, Some, None, inl, inr, refl, sym}
 use Rattle.std.proofs.Common.{ap, subst, ◌∙◌, arith, length-append, append-nil, append_assoc}
 use Rattle.std.specs.List.{flat_map, AllByRecursion}
-use Rattle.std.proofs.lemmas.Bool.{both_ways}
 use Rattle.std.proofs.lemmas.Grind.{flat_map-append}
 use Rattle.std.proofs.lemmas.Option.{same_Some, none-some}
 use Rattle.osc_model.specs.Limits.{Limits}
@@ -15,7 +14,7 @@ use Rattle.osc_record.proofs.Again.{take_front}
 use Rattle.osc_record.proofs.Kept.{unplaced_by}
 use Rattle.osc_record.proofs.Written.{some_in, header_length, range_below}
 use Rattle.osc_replay.specs.Lawful.{is_lawful}
-use Rattle.osc_replay.specs.Old.{IsOldFormed, IsOldRecordingOf, old_text, HasOldUnformed, IsOldUnformedAt}
+use Rattle.osc_replay.specs.Old.{IsOldRecordingOf, old_text, HasOldUnformed, IsOldUnformedAt}
 use Rattle.osc_replay.specs.Unlawful.{first_unlawful_in}
 use Rattle.osc_replay.proofs.Formed.{AreLawful, lawful_is, not_lawful, same_first}
 

@@ -1,33 +1,33 @@
 -- An old recording, upgraded: its entries can be recorded today, its size, and what its history comes to.
-use Rattle.std.proofs.Common.{◌≡◌, ◌≢◌, ℕ, ◌+◌, ◌*◌, ◌<◌, ◌≤◌, min, Bool, true, false, cond, nat_lt, List, [], ◌∷◌, ◌++◌, length, Option, Some, None}
+use Rattle.std.proofs.Common.{◌≡◌, ℕ, ◌+◌, ◌*◌, ◌<◌, ◌≤◌, min, Bool, true, false, cond, nat_lt, List, [], ◌∷◌, ◌++◌, length}
 use Rattle.std.proofs.Common.{refl, sym, ap, subst, ◌∙◌, arith, length-append, append-nil}
 use Rattle.std.proofs.lemmas.Bool.{ltb-true, cond-true, cond-false}
-use Rattle.std.specs.Prelude.{option_map, if◌then◌else◌}
-use Rattle.std.specs.List.{flat_map, AllByRecursion}
-use Rattle.std.proofs.Math.Nat.{min-le_left, min-le_right, le-min}
+use Rattle.std.specs.Prelude.{if◌then◌else◌}
+use Rattle.std.specs.List.{AllByRecursion}
+use Rattle.std.proofs.Math.Nat.{min-le_left, le-min}
 use Rattle.std.proofs.lemmas.Grind.{flat_map-append}
 use Rattle.osc_message.specs.Messages.{Argument, AllFit}
 use Rattle.osc_model.specs.Limits.{Limits, AreInRange, header_size}
 use Rattle.osc_model.specs.State.{State, opening}
 use Rattle.osc_model.specs.Events.{Event, enrol, submit, add, remove, tick, release, Answer, Entry, number, callers_full, queued, units_full, pool_full, added}
 use Rattle.osc_model.specs.Events.{refused, removed, not_there, ticked, clock_back, released, nothing_due, record_full, adds_entry}
-use Rattle.osc_model.specs.Recordings.{int, FitsRow, row_of, submit_row, IsRecordable, entry_size, entry_text, record_text}
+use Rattle.osc_model.specs.Recordings.{int, submit_row, IsRecordable, entry_size, record_text}
 use Rattle.osc_model.specs.Step.{step}
 use Rattle.osc_model.specs.History.{IsLawful, AddsEntry, Legal, after}
 use Rattle.osc_model.proofs.Onward.{adds_is}
 use Rattle.osc_model.proofs.Sizes.{sizes_are}
 use Rattle.osc_record.specs.declared.version.Version.TheVariants.{First}
-use Rattle.osc_record.specs.Versions.{header_size_of, header_text_in, old_row_of, old_submit_row, IsOldRecordable, AreInOldRange}
+use Rattle.osc_record.specs.Versions.{header_text_in, old_submit_row, IsOldRecordable, AreInOldRange}
 use Rattle.osc_record.specs.Reading.{Placed, unplaced}
 use Rattle.osc_record.proofs.Apart.{one_text}
 use Rattle.osc_record.proofs.Kept.{entry_some}
 use Rattle.osc_record.proofs.Written.{header_length, some_in}
 use Rattle.osc_replay.specs.Counted.{is_submit}
-use Rattle.osc_replay.specs.Disagreeing.{computed_text, DisagreesAt, IsRecordingOf}
+use Rattle.osc_replay.specs.Disagreeing.{computed_text, DisagreesAt}
 use Rattle.osc_replay.specs.Formed.{IsFormed}
-use Rattle.osc_replay.specs.Old.{IsOldFormed, IsOldRecordingOf, old_text, old_entry_size, old_step, OldGives, OldLegal, old_opening, old_after}
+use Rattle.osc_replay.specs.Old.{IsOldFormed, IsOldRecordingOf, old_text, old_entry_size, OldGives, OldLegal, old_opening, old_after}
 use Rattle.osc_replay.specs.Playing.{IsReached}
-use Rattle.osc_replay.specs.Upgrading.{submits_in, growth, upgraded, upgraded_text, PrintsTheSame}
+use Rattle.osc_replay.specs.Upgrading.{submits_in, growth, upgraded, upgraded_text, PrintsTheSame, DisagreesThere}
 use Rattle.osc_replay.proofs.Formed.{record_length}
 use Rattle.osc_replay.proofs.Older.{roomy, FitsBoth, text_of, old_text_of, texts, old_texts, old_sizes_are, GoesOver, goes_over, gives_back}
 use Rattle.osc_replay.proofs.Reached.{NextFits, recordable}
@@ -181,7 +181,7 @@ prints_the_same limit caps history bytes is legal formed text =
     }
 
 -- the upgraded bytes disagree at the first entry that wasn't given
-pub disagrees_there : NextFits → (limit : ℕ) (caps : Limits) (before : List Entry) (entry : Entry) (later : List Entry) (bytes : List ℕ)
+disagrees_there : NextFits → (limit : ℕ) (caps : Limits) (before : List Entry) (entry : Entry) (later : List Entry) (bytes : List ℕ)
     → IsOldFormed caps (before ++ entry ∷ later) → OldLegal caps before → (OldGives (old_after (old_opening caps) before) entry → ⊥)
     → IsFormed (upgraded limit caps (before ++ entry ∷ later)) (before ++ entry ∷ later) → bytes ≡ upgraded_text limit caps (before ++ entry ∷ later)
     → DisagreesAt bytes (length before) (text_of entry)
@@ -249,6 +249,15 @@ disagrees_there next limit caps before entry later bytes is legal never formed t
           gives_back new.recording (header_size + length (texts before)) (old_after (old_opening caps) before) entry adds old.fits room
               (answer ∙ ap (λ (s : State). (step s entry.event).answer) state_is),
         )
+
+pub disagrees_at : NextFits → (limit : ℕ) (caps : Limits) (history : List Entry) (bytes : List ℕ) → IsOldFormed caps history
+    → IsFormed (upgraded limit caps history) history → bytes ≡ upgraded_text limit caps history → DisagreesThere bytes limit caps history
+disagrees_at next limit caps history bytes is formed text before entry later same =
+    subst
+    (λ (h : List Entry). IsOldFormed caps h → IsFormed (upgraded limit caps h) h → bytes ≡ upgraded_text limit caps h → OldLegal caps before
+    → (OldGives (old_after (old_opening caps) before) entry → ⊥)
+    → DisagreesAt bytes (length before) (text_of entry) (computed_text (after (opening (upgraded limit caps h)) before) entry.caller entry.event))
+    (sym same) (λ is formed text legal never. disagrees_there next limit caps before entry later bytes is legal never formed text) is formed text
 
 -- What a call of `upgrade` needs.
 

@@ -12,7 +12,7 @@ use Rattle.osc_model.specs.Recordings.{entry_size}
 use Rattle.osc_model.specs.Step.{Stepped, decided, recorded_as}
 use Rattle.osc_model.specs.History.{IsLawful, AddsEntry}
 use Rattle.osc_record.specs.declared.version.Version.TheVariants.{First}
-use Rattle.osc_record.specs.Versions.{header_size_of, header_text_in, text_in, record_text_in}
+use Rattle.osc_record.specs.Versions.{header_size_of, text_in, record_text_in}
 use Rattle.osc_record.specs.Versions.{IsOldRecordable, AreInOldRange}
 use Rattle.osc_record.specs.Reading.{IsRecordIn, HasNoHeaderIn}
 

@@ -1,17 +1,19 @@
 -- What an upgrade is answered.
-use Rattle.std.specs.Prelude.{◌≡◌, ◌<◌, ◌≤◌, ℕ, ◌+◌, ◌*◌, List, [], ◌∷◌, length, min, Result}
-use Rattle.std.specs.Prelude.{Ok, Err, if◌then◌else◌}
+use Rattle.std.specs.Prelude.{◌≡◌, ◌<◌, ◌≤◌, ℕ, ◌+◌, ◌*◌, List, [], ◌∷◌, ◌++◌, length, min}
+use Rattle.std.specs.Prelude.{Result, Ok, Err, if◌then◌else◌}
 use Rattle.std.specs.List.{flat_map}
 use Rattle.osc_model.specs.Limits.{Limits}
 use Rattle.osc_model.specs.Events.{Entry}
+use Rattle.osc_model.specs.State.{opening}
+use Rattle.osc_model.specs.History.{after}
 use Rattle.osc_model.specs.Recordings.{entry_text, record_text}
 use Rattle.osc_replay.specs.declared.upgrading.UpgradeFault.{UpgradeFault}
 use Rattle.osc_replay.specs.declared.upgrading.UpgradeFault.TheVariants.{Malformed, TooLarge}
 use Rattle.osc_replay.specs.declared.upgrading.UpgradeFault.TheVariants.{NoMemory}
 use Rattle.osc_replay.specs.Counted.{is_submit}
-use Rattle.osc_replay.specs.Disagreeing.{IsRecordingOf}
+use Rattle.osc_replay.specs.Disagreeing.{DisagreesAt, IsRecordingOf, computed_text}
 use Rattle.osc_replay.specs.Formed.{IsFormed}
-use Rattle.osc_replay.specs.Old.{old_printed}
+use Rattle.osc_replay.specs.Old.{OldGives, OldLegal, old_after, old_opening, old_printed}
 use Rattle.osc_replay.specs.Printed.{printed}
 
 -- how many entries are submits
@@ -58,6 +60,15 @@ pub record PrintsTheSame (bytes : List ℕ) (limit : ℕ) (caps : Limits)
     (history : List Entry) : Type 0 where
   pub recording : IsRecordingOf bytes (upgraded limit caps history) history
   pub lines : printed (upgraded limit caps history) history ≡ old_printed caps history
+
+-- where the rules of the first version don't give an entry of the history, a replay of the upgraded
+-- bytes disagrees at the first such one
+abbrev pub DisagreesThere : List ℕ → ℕ → Limits → List Entry → Type 0
+DisagreesThere bytes limit caps history =
+    (before : List Entry) (entry : Entry) (later : List Entry) → history ≡ before ++ entry ∷ later
+    → OldLegal caps before → (OldGives (old_after (old_opening caps) before) entry → ⊥)
+    → DisagreesAt bytes (length before) (entry_text entry.caller entry.event entry.answer)
+    (computed_text (after (opening (upgraded limit caps history)) before) entry.caller entry.event)
 
 -- Inside the crate: the bytes of entries, one after another.
 abbrev pub texts_of : List Entry → List ℕ

@@ -1,23 +1,20 @@
 // Recordings of the first version of the format, upgraded.
-ghost use Rattle.std.specs.Prelude.{◌≡◌, ◌+◌, ◌<◌, ◌≤◌, ◌^◌, ◌++◌, ◌∷◌, min, List, length, IfOk};
+ghost use Rattle.std.specs.Prelude.{◌≡◌, ◌+◌, ◌<◌, ◌≤◌, ◌^◌, ◌++◌, min, List, length, IfOk};
 ghost use Rattle.std.specs.List.{AllByRecursion};
 ghost use Rattle.std.specs.Vec.{vec_len, vec_capacity};
 ghost use Rattle.osc_model.specs.Limits.{Limits, header_size, max_recording};
-ghost use Rattle.osc_model.specs.State.{opening};
 ghost use Rattle.osc_model.specs.Events.{Entry as Recorded};
-ghost use Rattle.osc_model.specs.History.{after};
-ghost use Rattle.osc_model.specs.Recordings.{IsRecordable, entry_text, record_text};
+ghost use Rattle.osc_model.specs.Recordings.{IsRecordable, record_text};
 ghost use Rattle.osc_record.specs.Left.{entries_left};
 ghost use Rattle.osc_record.specs.Reading.{unplaced};
 ghost use Rattle.osc_record.specs.Versions.{AreInOldRange};
 ghost use Rattle.osc_replay.specs.declared.upgrading.UpgradeFault.TheVariants.{Malformed as At};
 ghost use Rattle.osc_replay.specs.declared.upgrading.UpgradeFault.TheVariants.{NoMemory};
-ghost use Rattle.osc_replay.specs.Disagreeing.{DisagreesAt, computed_text};
-ghost use Rattle.osc_replay.specs.Old.{IsOldRecordingOf, IsOldUnformedAt, OldLegal, OldGives};
-ghost use Rattle.osc_replay.specs.Old.{old_opening, old_after};
+ghost use Rattle.osc_replay.specs.Old.{IsOldRecordingOf, IsOldUnformedAt, OldLegal};
 ghost use Rattle.osc_replay.specs.Upgrading.{submits_in, upgraded, upgraded_text, OnOldMalformed};
 ghost use Rattle.osc_replay.specs.Upgrading.{OnTooLarge};
 ghost use Rattle.osc_replay.specs.Upgrading.{IsUpgradedUnlessShort, PrintsTheSame, texts_of};
+ghost use Rattle.osc_replay.specs.Upgrading.{DisagreesThere};
 
 use crate::old::well_formed_old;
 use osc_atoms::Bytes;
@@ -75,16 +72,9 @@ pub fn upgrade(alloc: Global, recording: &[u8], limit: u32) -> Result<Bytes, Upg
     ensures legal { (caps : Limits) (history : List Recorded)
         → IsOldRecordingOf recording.now caps history → OldLegal caps history
         → IfOk result (λ bytes. PrintsTheSame bytes limit caps history) }
-    ensures illegal { (caps : Limits) (before : List Recorded) (entry : Recorded)
-        (later : List Recorded)
-        → IsOldRecordingOf recording.now caps (before ++ entry ∷ later) → OldLegal caps before
-        → (OldGives (old_after (old_opening caps) before) entry → ⊥)
-        → IfOk result
-        (λ bytes. DisagreesAt bytes (length before)
-        (entry_text entry.caller entry.event entry.answer)
-        (computed_text
-        (after (opening (upgraded limit caps (before ++ entry ∷ later))) before)
-        entry.caller entry.event)) }
+    ensures illegal { (caps : Limits) (history : List Recorded)
+        → IsOldRecordingOf recording.now caps history
+        → IfOk result (λ bytes. DisagreesThere bytes limit caps history) }
 {
     osc_model::laws::a_legal_history_is_recordable();
     osc_model::laws::a_performance_goes_on();

@@ -5,3 +5,5 @@
 mod file;
 #[cfg(test)]
 mod top;
+#[cfg(test)]
+mod upgrade;

@@ -17,16 +17,16 @@ const REMOVED: &str = "add /a\nsend 2f610000\nremove /a\npump\nsend 2f610000\nad
 
 /// What the program is given beside its words and its input.
 #[derive(Clone, Copy)]
-struct Setting {
-    boxes: u32,
+pub(crate) struct Setting {
+    pub(crate) boxes: u32,
     /// How many bytes each box tells, at most 64.
-    keep: u32,
+    pub(crate) keep: u32,
     /// Which call of the source and of the sink fails, counted from 1; 0 where none does.
-    source_fails: u32,
-    sink_fails: u32,
+    pub(crate) source_fails: u32,
+    pub(crate) sink_fails: u32,
 }
 
-const SETTING: Setting = Setting {
+pub(crate) const SETTING: Setting = Setting {
     boxes: 8,
     keep: 64,
     source_fails: 0,
@@ -35,12 +35,12 @@ const SETTING: Setting = Setting {
 
 /// What the program came to.
 #[derive(Drop)]
-struct Outcome {
-    status: u8,
-    written: Vec<u8>,
+pub(crate) struct Outcome {
+    pub(crate) status: u8,
+    pub(crate) written: Vec<u8>,
     /// The id of each method that was added, with the bytes that its box tells.
-    heard: Vec<(u32, Vec<u8>)>,
-    left: usize,
+    pub(crate) heard: Vec<(u32, Vec<u8>)>,
+    pub(crate) left: usize,
 }
 
 fn words(alloc: Global, line: &str) -> Result<Vec<String>, AllocError> {
@@ -60,7 +60,7 @@ fn bytes_told(alloc: Global, method: &Box<dyn Method + Send>) -> Result<Vec<u8>,
 }
 
 /// Does what the words say with the input.
-fn perform(
+pub(crate) fn perform(
     rt: &impl Abort,
     alloc: Global,
     line: &str,
@@ -90,7 +90,7 @@ fn perform(
 }
 
 /// Checks the status and what is written.
-fn writes(
+pub(crate) fn writes(
     rt: &impl Abort,
     alloc: Global,
     line: &str,
@@ -485,6 +485,7 @@ fn other_words_are_refused(rt: HostRuntime) -> Result<(), Fail> {
         "--bytes",
         "run --bytes x",
         "replay x",
+        "upgrade x",
         "--help",
         "run --help",
         "run -h",

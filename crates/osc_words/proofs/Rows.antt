@@ -6,7 +6,7 @@ use Rattle.osc_words.specs.Commands.{command_of, to_read}
 use Rattle.osc_words.specs.Reading.{found_by}
 use Rattle.osc_words.specs.declared.command.Capacities.{Capacities}
 use Rattle.osc_words.specs.declared.command.Output.TheVariants as output
-use Rattle.osc_words.specs.declared.command.Reading.TheVariants.{Run, Replay}
+use Rattle.osc_words.specs.declared.command.Reading.TheVariants.{Run, Replay, Upgrade}
 use Rattle.osc_words.specs.declared.command.PlainCommand.TheVariants.{Gen}
 use Rattle.osc_words.specs.declared.command.Transport.TheVariants.{Udp, Tcp}
 use Rattle.osc_words.specs.declared.command.LiveCommand.TheVariants.{Lanes, Serve}
@@ -63,6 +63,14 @@ short_help = refl
 stray : command_of (codes "replay" ∷ codes "it" ∷ []) ≡ None
 unfolding clap_on_literals command_of found_by
 stray = refl
+
+upgrade : command_of (codes "upgrade" ∷ []) ≡ Some (to_read Upgrade)
+unfolding clap_on_literals command_of found_by
+upgrade = refl
+
+stray_upgrade : command_of (codes "upgrade" ∷ codes "old.rec" ∷ []) ≡ None
+unfolding clap_on_literals command_of found_by
+stray_upgrade = refl
 
 trailing : command_of (codes "replay" ∷ codes "--" ∷ []) ≡ Some (to_read Replay)
 unfolding clap_on_literals command_of found_by

@@ -23,7 +23,7 @@ use Rattle.osc_words.specs.declared.command.Capacities.{Capacities}
 use Rattle.osc_words.specs.declared.command.Output.{Output}
 use Rattle.osc_words.specs.declared.command.Output.TheVariants as output
 use Rattle.osc_words.specs.declared.command.Reading.{Reading}
-use Rattle.osc_words.specs.declared.command.Reading.TheVariants.{Run, Replay, Dump}
+use Rattle.osc_words.specs.declared.command.Reading.TheVariants.{Run, Replay, Dump, Upgrade}
 use Rattle.osc_words.specs.declared.command.PlainCommand.{PlainCommand}
 use Rattle.osc_words.specs.declared.command.PlainCommand.TheVariants.{Read, Gen}
 use Rattle.osc_words.specs.declared.command.Transport.{Transport}
@@ -108,6 +108,7 @@ abbrev pub said_by : Verb → List Row → Option Command
 said_by verb.Run rows = option_map (λ caps. to_read (Run (output_of rows) caps)) (caps_of rows)
 said_by verb.Replay rows = Some (to_read Replay)
 said_by verb.Dump rows = Some (to_read Dump)
+said_by verb.Upgrade rows = Some (to_read Upgrade)
 said_by verb.Gen rows = gen_of rows
 said_by verb.Lanes rows = option_map (λ caps. Live (Lanes caps)) (caps_of rows)
 said_by verb.Serve rows = serve_of rows

@@ -8,13 +8,15 @@ use Rattle.osc_words.specs.declared.options.Quantity.TheVariants.{Links, Count, 
 use Rattle.osc_words.specs.declared.options.Parameter.{Parameter}
 use Rattle.osc_words.specs.declared.options.Parameter.TheVariants.{Flag, Number, Late, File}
 use Rattle.osc_words.specs.declared.verb.Verb.{Verb}
-use Rattle.osc_words.specs.declared.verb.Verb.TheVariants.{Run, Replay, Dump, Gen, Lanes, Serve}
+use Rattle.osc_words.specs.declared.verb.Verb.TheVariants.{Run, Replay, Dump, Upgrade, Gen, Lanes}
+use Rattle.osc_words.specs.declared.verb.Verb.TheVariants.{Serve}
 
 abbrev pub verb_of : List ℕ → Option Verb
 verb_of word =
     if bytes_eq word (codes "run") then Some Run
     else if bytes_eq word (codes "replay") then Some Replay
     else if bytes_eq word (codes "dump") then Some Dump
+    else if bytes_eq word (codes "upgrade") then Some Upgrade
     else if bytes_eq word (codes "gen") then Some Gen
     else if bytes_eq word (codes "lanes") then Some Lanes
     else if bytes_eq word (codes "serve") then Some Serve
@@ -29,6 +31,7 @@ abbrev pub options_of : Verb → List Parameter
 options_of Run = Flag Bytes ∷ caps
 options_of Replay = []
 options_of Dump = []
+options_of Upgrade = []
 options_of Gen = Number Seed ∷ Number Lines ∷ []
 options_of Lanes = caps ++ File ∷ []
 options_of Serve =

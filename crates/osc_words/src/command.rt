@@ -53,6 +53,8 @@ pub enum Reading {
     Replay,
     /// To print the entries of a recording as they stand there.
     Dump,
+    /// To write a recording of the first version as one of today.
+    Upgrade,
 }
 
 /// A command of `osc`.

@@ -80,6 +80,7 @@ fn command_from(verb: Verb, found: &ArgMatches<'_>) -> Option<Command>
         })),
         Verb::Replay => Some(reading(Reading::Replay)),
         Verb::Dump => Some(reading(Reading::Dump)),
+        Verb::Upgrade => Some(reading(Reading::Upgrade)),
         Verb::Gen => gen_in(found),
         Verb::Lanes => Some(Command::Live(LiveCommand::Lanes {
             caps: caps_in(found)?,

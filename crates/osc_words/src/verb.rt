@@ -10,6 +10,7 @@ pub enum Verb {
     Run,
     Replay,
     Dump,
+    Upgrade,
     Gen,
     Lanes,
     Serve,
@@ -64,6 +65,7 @@ impl Verb {
             "run" => Some(Verb::Run),
             "replay" => Some(Verb::Replay),
             "dump" => Some(Verb::Dump),
+            "upgrade" => Some(Verb::Upgrade),
             "gen" => Some(Verb::Gen),
             "lanes" => Some(Verb::Lanes),
             "serve" => Some(Verb::Serve),
@@ -80,7 +82,7 @@ impl Verb {
             Verb::Gen => GEN.as_slice(),
             Verb::Lanes => LANES.as_slice(),
             Verb::Serve => SERVE.as_slice(),
-            Verb::Replay | Verb::Dump => &[],
+            Verb::Replay | Verb::Dump | Verb::Upgrade => &[],
         }
     }
 }

@@ -1,4 +1,4 @@
-use Rattle.std.proofs.Common.{◌≡◌, arith}
+use Rattle.std.proofs.Common.{arith}
 use Rattle.osc_model.specs.Limits.{max_recording}
 use Rattle.osc_ends.proofs.Inputs.{reads_whole}
 use Rattle.osc_ends.proofs.input.read_recording.Goals as goal

@@ -1,4 +1,4 @@
-use Rattle.osc_words.specs.declared.command.Reading.TheVariants.{Replay, Dump}
+use Rattle.osc_words.specs.declared.command.Reading.TheVariants.{Replay, Dump, Upgrade}
 use Rattle.osc_plain.proofs.Tops.{reading_ends, run_accounts, run_done}
 use Rattle.osc_plain.proofs.top.follow.Goals as goal
 
@@ -19,3 +19,7 @@ returns-in-Replay-clause-ends g c =
 pub returns-in-Dump-clause-ends : goal.returns-in-Dump-clause-ends
 returns-in-Dump-clause-ends g c =
     reading_ends c.args.reading Dump _ c.dump.result _ _ _ c.in-Dump.is c.unplayed-in-Dump.ensures.status c.dump.ensures.ends
+
+pub returns-in-Upgrade-clause-ends : goal.returns-in-Upgrade-clause-ends
+returns-in-Upgrade-clause-ends g c =
+    reading_ends c.args.reading Upgrade _ c.upgrade.result _ _ _ c.in-Upgrade.is c.unplayed-in-Upgrade.ensures.status c.upgrade.ensures.ends

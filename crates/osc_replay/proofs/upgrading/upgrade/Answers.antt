@@ -1,9 +1,9 @@
-use Rattle.std.proofs.Common.{◌+◌, ◌*◌, ◌≤◌, List, ◌∷◌, ◌++◌, length, refl, sym, ap, subst, ◌∙◌, arith}
+use Rattle.std.proofs.Common.{◌+◌, ◌*◌, ◌≤◌, List, length, refl, sym, ap, subst, ◌∙◌, arith}
 use Rattle.std.specs.List.{AllByRecursion}
 use Rattle.osc_record.specs.Left.{entries_left}
 use Rattle.osc_record.specs.Reading.{Placed, unplaced}
 use Rattle.osc_replay.specs.Upgrading.{submits_in}
-use Rattle.osc_replay.proofs.Upgraded.{Recordable, all_today, formed_today, prints_the_same, disagrees_there, few_in, needs, text_is, made}
+use Rattle.osc_replay.proofs.Upgraded.{Recordable, all_today, prints_the_same, disagrees_at, few_in, needs, text_is, made}
 use Rattle.osc_replay.proofs.upgrading.upgrade.Goals as goal
 
 pub returns-in_err-old-clause-complete : goal.returns-in_err-old-clause-complete
@@ -87,11 +87,11 @@ returns-clause-legal c = λ caps history is legal.
     prints_the_same c.args.limit caps history c.in_ok-bytes.bytes is.formed legal all.2 all.0)
 
 pub returns-clause-illegal : goal.returns-clause-illegal
-returns-clause-illegal c = λ caps before entry later is legal never.
+returns-clause-illegal c = λ caps history is before entry later same legal never.
     (let old = c.in_ok-old.old in
-    let history = before ++ entry ∷ later in
     let count_is = c.count_submits.ensures ∙ ap (λ (placed : List Placed). submits_in (unplaced placed)) c.entries.ensures in
     let all = made c.args.limit c.count_submits.result c.args.recording.now c.in_ok-bytes.bytes old.caps caps c.upgraded_caps-caps.result old.entries
     (entries_left c.entries-2.result) history is (c.in_ok-old.ensures.complete caps history is) c.upgraded_caps-caps.ensures count_is c.entries-2.ensures
     c.in_ok-bytes.ensures (omega (arith, c.if-need-limit.false)) c.requires.least c.requires.most in
-    disagrees_there c.a_legal_history_is_recordable.ensures.next c.args.limit caps before entry later c.in_ok-bytes.bytes is.formed legal never all.2 all.0)
+    disagrees_at c.a_legal_history_is_recordable.ensures.next c.args.limit caps history c.in_ok-bytes.bytes is.formed all.2 all.0 before entry later same
+    legal never)
