@@ -1,0 +1,16 @@
+pub mod Grouping
+pub mod Trees
+pub mod Arguments
+pub mod Lines
+pub mod Read
+pub mod Batching
+pub mod Making
+pub mod Noted
+pub mod Numbers
+pub mod Texts
+pub mod Lengths
+pub mod Bracketing
+pub mod Putting
+pub mod Messages
+pub mod Going
+pub mod Firsts
