@@ -78,7 +78,9 @@ fn match_places<L: Ledger>(part: &[u8], name: &[u8], steps: &mut Steps<L>) -> bo
 }
 
 /// Whether a part matches what is left of a name at one of the places. The places at which each byte of the name stands
-/// are noted once, so that a byte of a choice is tried at all places at once.
+/// are noted once, so that a byte of a choice is tried at all places at once. Their room takes long to clear, and so this is
+/// not put into its callers.
+#[inline(never)]
 fn match_choices<L: Ledger>(part: &[u8], from: &Places, name: &[u8], steps: &mut Steps<L>) -> bool
     requires { length name.now ≤ MAX_NAME }
     ensures value { result ≡ passes (match_part part.now) from.now name.now }
@@ -109,6 +111,19 @@ pub(crate) fn match_ready<L: Ledger>(part: Part<'_>, name: &[u8], steps: &mut St
     if part.items.is_empty() {
         return match_part(part.rest, name, steps);
     }
+    match_items(part, name, steps)
+}
+
+/// The same, for a part with items. It alone needs the room of the marks, which takes long to clear, and so is not put into
+/// its caller.
+#[inline(never)]
+fn match_items<L: Ledger>(part: Part<'_>, name: &[u8], steps: &mut Steps<L>) -> bool
+    requires { length name.now ≤ MAX_NAME }
+    ensures value { result ≡ match_ready part.entry.items.now part.entry.rest.now name.now }
+    ensures begun { steps.old < steps.new }
+    ensures bounded { steps.new ≤ steps.old + (length name.now + 1)
+        * (all_ready_size part.entry.items.now + length part.entry.rest.now) + 1 }
+{
     steps.tick();
     let marks = marks_of(name);
     let mut reached = first_place();

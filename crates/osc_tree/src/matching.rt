@@ -46,13 +46,13 @@ pub(crate) fn find_ids<L: Ledger>(
     ensures bounded { steps.new ≤ steps.old + most_steps pattern.now (methods_of methods.now) }
 {
     ids.clear();
-    let parts = pattern.parts();
-    if parts as usize > MAX_NAMES {
-        return;
-    }
     let text = pattern.bytes();
     match first_special(text) {
         Some(end) => {
+            let parts = pattern.parts();
+            if parts as usize > MAX_NAMES {
+                return;
+            }
             let near = beginning_with(methods, places, &text[..end]);
             walk(methods, near, pattern, parts, ids, steps);
         }
@@ -112,7 +112,9 @@ fn walk<L: Ledger>(
     }
 }
 
-/// The same, for a pattern whose parts are read once. It alone needs their room, which takes long to clear.
+/// The same, for a pattern whose parts are read once. It alone needs their room, some 300 kilobytes, and so is not put into
+/// its caller: a function touches each page of its room when it is entered.
+#[inline(never)]
 fn walk_read<L: Ledger>(
     methods: &[Registered],
     near: &[u32],

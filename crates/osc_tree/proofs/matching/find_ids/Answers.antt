@@ -14,8 +14,8 @@ walk-requires-clause-sorted g c =
     near_sorted (take c.in-Some.end c.bytes-text.result.now) c.args.methods.now c.args.places.now c.beginning_with-near.result.now c.requires.list
     c.requires.order c.beginning_with-near.ensures.those
 
-pub returns-in-Some-clause-ids : goal.returns-in-Some-clause-ids
-returns-in-Some-clause-ids g c =
+pub returns-else-parts-gt-MAX_NAMES-clause-ids : goal.returns-else-parts-gt-MAX_NAMES-clause-ids
+returns-else-parts-gt-MAX_NAMES-clause-ids g c =
     let pattern = c.args.pattern.now in
     let text = take c.in-Some.end c.bytes-text.result.now in
     let slash : begins_with_slash pattern ≡ true = subst (λ l. begins_with_slash l ≡ true) c.bytes-text.ensures.value c.bytes-text.ensures.lawful.slash in
@@ -26,8 +26,8 @@ returns-in-Some-clause-ids g c =
     ∙ ap (λ l. map (λ (method : Method). method.id) (filter (λ method. matches pattern method.address) l)) c.beginning_with-near.ensures.those
     ∙ ap (map (λ (method : Method). method.id)) (found_is pattern text c.args.methods.now c.args.places.now c.requires.list c.requires.order slash front)
 
-pub returns-in-Some-clause-bounded : goal.returns-in-Some-clause-bounded
-returns-in-Some-clause-bounded g c =
+pub returns-else-parts-gt-MAX_NAMES-clause-bounded : goal.returns-else-parts-gt-MAX_NAMES-clause-bounded
+returns-else-parts-gt-MAX_NAMES-clause-bounded g c =
     let most = near_steps c.args.pattern.now (take c.in-Some.end c.bytes-text.result.now) c.args.methods.now c.args.places.now
     c.beginning_with-near.result.now c.requires.order c.beginning_with-near.ensures.those in
     omega (arith, c.walk.ensures.bounded)

@@ -1,7 +1,7 @@
 use Rattle.std.proofs.Common.{◌≡◌, ◌≤◌, ◌+◌, ◌*◌, length}
 use Rattle.osc_pattern.specs.Views.{passes}
 use Rattle.osc_pattern.specs.ReadyParts.{match_ready, all_ready_size}
-use Rattle.osc_pattern.proofs.matcher.match_ready.Given as goal
+use Rattle.osc_pattern.proofs.matcher.match_items.Given as goal
 
 abbrev pub invariant-loop-items : goal.invariant-loop-items
 invariant-loop-items g l =

@@ -4,7 +4,7 @@ use Rattle.osc_pattern.specs.ReadyParts.{match_ready, all_ready_size}
 use Rattle.osc_pattern.proofs.Reaches.{any_rest-none}
 use Rattle.osc_pattern.proofs.ReadOnce.{first_ready, ready_spent}
 use Rattle.osc_pattern.proofs.Moves.{rows_less}
-use Rattle.osc_pattern.proofs.matcher.match_ready.Goals as goal
+use Rattle.osc_pattern.proofs.matcher.match_items.Goals as goal
 
 pub loop-items-init : goal.loop-items-init
 loop-items-init g c = (
@@ -13,10 +13,10 @@ loop-items-init g c = (
   omega arith,
 )
 
-pub returns-then-is_empty-2-clause-value : goal.returns-then-is_empty-2-clause-value
-returns-then-is_empty-2-clause-value g c =
+pub returns-then-is_empty-clause-value : goal.returns-then-is_empty-clause-value
+returns-then-is_empty-clause-value g c =
     sym (any_rest-none (match_ready c.loop-items.items.now c.args.part.rest.now) (is_place_of c.loop-items.reached)
-    (c.is_empty-in-len1-up.ensures c.if-is_empty-2.true) 0 c.args.name.now)
+    (c.is_empty.ensures c.if-is_empty.true) 0 c.args.name.now)
     ∙ c.loop-items.invariant.0
 
 pub loop-items-preserved : goal.loop-items-preserved
