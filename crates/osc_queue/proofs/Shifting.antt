@@ -1,6 +1,6 @@
 -- An entry of a heap goes up or down by one place.
 use Rattle.std.proofs.Common.{◌≡◌, ◌≢◌, ◌⊎◌, inl, inr, ℕ, zero, suc, ◌<◌, ◌≤◌, ◌==◌, Bool, true, false, List, length, refl, sym, ap, subst, ◌∙◌, arith, get_or}
-use Rattle.std.proofs.Common.{Option, Some, None, eq-eqb}
+use Rattle.std.proofs.Common.{Some, None, eq-eqb}
 use Rattle.std.specs.Prelude.{slice_index_or}
 use Rattle.std.specs.List.{SwappedAt}
 use Rattle.std.proofs.lemmas.Bool.{eqb-true}
@@ -101,53 +101,42 @@ module _ {T : Type 0} where
     go (inl is) = subst (λ (k : ℕ). before_at xs k (above k) d ≡ false) (sym is) (stays (omega arith) d)
     go (inr other) = up.others j d low high other
 
-  -- an entry that is taken after the first of those right below it changes places with that
+  -- an entry changes places with the first of those right below it
   pub sinks_on : (xs ys : List (Entry T)) (place child : ℕ) → length ys ≡ length xs → Sinks place xs → IsFirstBelow xs place (Some child)
-      → ((d : Entry T) → before_at xs child place d ≡ true) → SwappedAt xs ys place child → Sinks child ys
-  sinks_on xs ys place child same down (low', high', under', first) before swapped = record { others = others; below = below } where
-    others : (j : ℕ) (d : Entry T) → 0 < j → j < length ys → above j ≢ child → before_at ys j (above j) d ≡ false
-    others j d low high far = go (same_or_not j child) where
-      go : (j ≡ child) ⊎ (j ≢ child) → before_at ys j (above j) d ≡ false
-      go (inl is) =
+      → SwappedAt xs ys place child → Sinks child ys
+  sinks_on xs ys place child same down (low', high', under', first) swapped = record { others = others; below = below } where
+    others : (j : ℕ) (d : Entry T) → 0 < j → j < length ys → j ≢ child → above j ≢ child → before_at ys j (above j) d ≡ false
+    others j d low high other far = next (same_or_not j place) where
+      next : (j ≡ place) ⊎ (j ≢ place) → before_at ys j (above j) d ≡ false
+      next (inl is) =
           subst (λ (k : ℕ). before_at ys k (above k) d ≡ false) (sym is)
-          (carried _ _ _ _ (at_second xs ys place child d swapped) (ap (λ (k : ℕ). item_at ys k d) under' ∙ at_first xs ys place child d swapped)
-          (one_way (item_at xs child d) (item_at xs place d) (before d)))
-      go (inr other) = next (same_or_not j place) where
-        next : (j ≡ place) ⊎ (j ≢ place) → before_at ys j (above j) d ≡ false
-        next (inl is) =
-            subst (λ (k : ℕ). before_at ys k (above k) d ≡ false) (sym is)
-            (carried _ _ _ _ (at_first xs ys place child d swapped)
-            (at_other xs ys place child (above place) d swapped (λ e. absurd (omega arith)) (λ e. absurd (omega arith)))
-            (down.below child d low' high' under' (omega arith)))
-        next (inr away) = last (same_or_not (above j) place) where
-          here : item_at ys j d ≡ item_at xs j d
-          here = at_other xs ys place child j d swapped away other
+          (carried _ _ _ _ (at_first xs ys place child d swapped)
+          (at_other xs ys place child (above place) d swapped (λ e. absurd (omega arith)) (λ e. absurd (omega arith)))
+          (down.below child d low' high' under' (omega arith)))
+      next (inr away) = last (same_or_not (above j) place) where
+        here : item_at ys j d ≡ item_at xs j d
+        here = at_other xs ys place child j d swapped away other
 
-          last : (above j ≡ place) ⊎ (above j ≢ place) → before_at ys j (above j) d ≡ false
-          last (inl under) =
-              carried _ _ _ _ here (ap (λ (k : ℕ). item_at ys k d) under ∙ at_first xs ys place child d swapped) (first j d low (omega (arith, same)) under)
-          last (inr aside) =
-              carried _ _ _ _ here (at_other xs ys place child (above j) d swapped aside far) (down.others j d low (omega (arith, same)) aside)
+        last : (above j ≡ place) ⊎ (above j ≢ place) → before_at ys j (above j) d ≡ false
+        last (inl under) =
+            carried _ _ _ _ here (ap (λ (k : ℕ). item_at ys k d) under ∙ at_first xs ys place child d swapped) (first j d low (omega (arith, same)) under)
+        last (inr aside) =
+            carried _ _ _ _ here (at_other xs ys place child (above j) d swapped aside far) (down.others j d low (omega (arith, same)) away aside)
 
     below : (j : ℕ) (d : Entry T) → 0 < j → j < length ys → above j ≡ child → 0 < child → before_at ys j (above child) d ≡ false
     below j d low high under top =
         carried _ _ _ _ (at_other xs ys place child j d swapped (λ is. absurd (omega arith)) (λ is. absurd (omega arith)))
         (ap (λ (k : ℕ). item_at ys k d) under' ∙ at_first xs ys place child d swapped)
-        (subst (λ (k : ℕ). before_at xs j k d ≡ false) under (down.others j d low (omega (arith, same)) (λ is. absurd (omega arith))))
+        (subst (λ (k : ℕ). before_at xs j k d ≡ false) under
+        (down.others j d low (omega (arith, same)) (λ is. absurd (omega arith)) (λ is. absurd (omega arith))))
 
-  -- an entry that isn't taken after any right below it makes a heap
-  pub sinks_over : (xs : List (Entry T)) (place : ℕ) (found : Option ℕ) → Sinks place xs → IsFirstBelow xs place found
-      → ((child : ℕ) → found ≡ Some child → (d : Entry T) → before_at xs child place d ≡ false) → IsHeap xs
-  sinks_over xs place None down none stays j d low high = go (same_or_not (above j) place) where
-    go : (above j ≡ place) ⊎ (above j ≢ place) → before_at xs j (above j) d ≡ false
-    go (inl under) = absurd (omega (arith, none))
-    go (inr aside) = down.others j d low high aside
-  sinks_over xs place (Some child) down (low', high', under', first) stays j d low high = go (same_or_not (above j) place) where
-    go : (above j ≡ place) ⊎ (above j ≢ place) → before_at xs j (above j) d ≡ false
-    go (inl under) =
-        subst (λ (k : ℕ). before_at xs j k d ≡ false) (sym under)
-        (chain_not (item_at xs j d) (item_at xs child d) (item_at xs place d) (first j d low high under) (stays child refl d))
-    go (inr aside) = down.others j d low high aside
+  -- an entry that has none below it may be taken before the one above it alone
+  pub sinks_over : (xs : List (Entry T)) (place : ℕ) → Sinks place xs → IsFirstBelow xs place None → Rises place xs
+  sinks_over xs place down none =
+      record {
+        others = λ j d low high other. down.others j d low high other (λ under. absurd (omega (arith, none)));
+        below = down.below;
+      }
 
   -- no entry of a heap is taken before its first
   pub heap_first : (xs : List (Entry T)) → IsHeap xs → (most k : ℕ) (d : Entry T) → k ≤ most → k < length xs → before_at xs k 0 d ≡ false

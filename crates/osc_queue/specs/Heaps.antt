@@ -12,10 +12,11 @@ module _ {T : Type 0} where
     pub below : (j : ℕ) (d : Entry T) → 0 < j → j < length entries → above j ≡ place → 0 < place
         → before_at entries j (above place) d ≡ false
 
-  -- a heap but for the entry in a place, which may be taken after those right below it
+  -- a heap but for the entry in a place, which may be taken before the one above it, or after those
+  -- right below it
   pub record Sinks (place : ℕ) (entries : List (Entry T)) : Type 0 where
-    pub others : (j : ℕ) (d : Entry T) → 0 < j → j < length entries → above j ≢ place
-        → before_at entries j (above j) d ≡ false
+    pub others : (j : ℕ) (d : Entry T) → 0 < j → j < length entries → j ≢ place
+        → above j ≢ place → before_at entries j (above j) d ≡ false
     pub below : (j : ℕ) (d : Entry T) → 0 < j → j < length entries → above j ≡ place → 0 < place
         → before_at entries j (above place) d ≡ false
 

@@ -9,16 +9,16 @@ use crate::entry::Entry;
 use osc_pattern::Steps;
 use std::sync::ledger::Ledger;
 
-/// The last entry goes up to where no entry above it is taken after it.
-pub(crate) fn rise<T, L: Ledger>(entries: &mut [Entry<T>], steps: &mut Steps<L>)
-    requires some { 0 < length entries.old }
-    requires heap { Rises (length entries.old - 1) entries.old }
+/// The entry in a place goes up to where no entry above it is taken after it.
+pub(crate) fn rise<T, L: Ledger>(entries: &mut [Entry<T>], place: usize, steps: &mut Steps<L>)
+    requires within { 0 < place → place < length entries.old }
+    requires heap { Rises place entries.old }
     ensures heap { IsHeap entries.new }
     ensures same { IsPermutation entries.old entries.new }
     ensures counted { steps.old ≤ steps.new }
-    ensures bounded { 2 ^ (steps.new - steps.old) ≤ length entries.old }
+    ensures bounded { 2 ^ (steps.new - steps.old) ≤ place + 1 }
 {
-    let mut place = entries.len() - 1;
+    let mut place = place;
     while place > 0 && rise_once(entries, place, steps) {
         place = (place - 1) / 2;
     }
@@ -42,7 +42,8 @@ fn rise_once<T, L: Ledger>(entries: &mut [Entry<T>], place: usize, steps: &mut S
     rises
 }
 
-/// The first entry goes down to where no entry right below it is taken before it.
+/// The first entry goes down to where none is below it, and from there up to where no entry above it is taken after it. So
+/// on the way down no entry is compared with it: it was the last one, and most of those belong near the end.
 pub(crate) fn sink<T, L: Ledger>(entries: &mut [Entry<T>], steps: &mut Steps<L>)
     requires heap { Sinks 0 entries.old }
     ensures heap { IsHeap entries.new }
@@ -51,34 +52,44 @@ pub(crate) fn sink<T, L: Ledger>(entries: &mut [Entry<T>], steps: &mut Steps<L>)
     ensures bounded { 2 ^ (steps.new - steps.old)
         ≤ (length entries.old + 1) * (length entries.old + 1) }
 {
-    let mut place = 0;
-    while let Some(next) = sink_once(entries, place, steps) {
-        place = next;
-    }
+    let place = fall(entries, steps);
+    rise(entries, place, steps);
 }
 
-/// The entry changes places with the first of those right below it, if that is taken before it. Tells where it is then.
-fn sink_once<T, L: Ledger>(
+/// The first entry goes down to where none is below it. Tells where it is then.
+fn fall<T, L: Ledger>(entries: &mut [Entry<T>], steps: &mut Steps<L>) -> usize
+    requires heap { Sinks 0 entries.old }
+    ensures heap { Rises result entries.new }
+    ensures within { 0 < result → result < length entries.new }
+    ensures same { IsPermutation entries.old entries.new }
+    ensures counted { steps.old ≤ steps.new }
+    ensures bounded { 2 ^ (steps.new - steps.old) ≤ result + 1 }
+{
+    let mut place = 0;
+    while let Some(next) = fall_once(entries, place, steps) {
+        place = next;
+    }
+    place
+}
+
+/// The entry changes places with the first of those right below it. Tells where it is then.
+fn fall_once<T, L: Ledger>(
     entries: &mut [Entry<T>],
     place: usize,
     steps: &mut Steps<L>,
 ) -> Option<usize>
     requires within { place ≤ length entries.old }
     requires heap { Sinks place entries.old }
-    ensures sunk { IfSome result (λ next. Sinks next entries.new) }
+    ensures fallen { IfSome result (λ next. Sinks next entries.new) }
     ensures lower { IfSome result (λ next. (2 * place < next) × (next < length entries.old)) }
-    ensures over { IfNone result (IsHeap entries.new) }
+    ensures over { IfNone result (Rises place entries.new) }
     ensures same { IsPermutation entries.old entries.new }
-    ensures counted { (steps.old ≤ steps.new) × (steps.new ≤ steps.old + 2) }
-    ensures few { length entries.old ≤ 2 * place + 1 → steps.new ≡ steps.old }
+    ensures counted { (steps.old ≤ steps.new) × (steps.new ≤ steps.old + 1) }
+    ensures last { IfNone result (steps.new ≡ steps.old) }
 {
     let child = first_below(entries, place, steps)?;
-    if entries[child].is_before(&entries[place], steps) {
-        entries.swap(place, child);
-        Some(child)
-    } else {
-        None
-    }
+    entries.swap(place, child);
+    Some(child)
 }
 
 /// The place right below this one whose entry is taken first, if there is one.

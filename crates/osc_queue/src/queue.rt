@@ -147,7 +147,8 @@ fn enter_entry<T, L: Ledger>(entries: &mut Vec<Entry<T>>, entry: Entry<T>, steps
         Ok(()) => {}
         Err(_) => unreachable!(),
     }
-    rise(entries, steps);
+    let last = entries.len() - 1;
+    rise(entries, last, steps);
 }
 
 /// The first entry leaves.
