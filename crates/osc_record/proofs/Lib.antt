@@ -2,6 +2,7 @@ pub mod Lawful
 pub mod Written
 pub mod Again
 pub mod Kept
+pub mod Submits
 pub mod Releases
 pub mod Readings
 pub mod Walks

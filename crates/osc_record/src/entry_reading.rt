@@ -25,7 +25,7 @@ use osc_message::Args;
 /// What the message of each event begins with: its address, and the tags of its arguments.
 const ENROL: [u8; 16] = *b"/osc/enrol\0\0,ii\0";
 
-const SUBMIT: [u8; 20] = *b"/osc/submit\0,ibihii\0";
+pub(crate) const SUBMIT: [u8; 20] = *b"/osc/submit\0,ibihii\0";
 
 const OLD_SUBMIT: [u8; 20] = *b"/osc/submit\0,ibihi\0\0";
 
@@ -35,7 +35,7 @@ const REMOVE: [u8; 20] = *b"/osc/remove\0,isii\0\0\0";
 
 const TICK: [u8; 20] = *b"/osc/tick\0\0\0,itit\0\0\0";
 
-const RELEASE: [u8; 24] = *b"/osc/release\0\0\0\0,ihb\0\0\0\0";
+pub(crate) const RELEASE: [u8; 24] = *b"/osc/release\0\0\0\0,ihb\0\0\0\0";
 
 /// The entry that the message is.
 pub(crate) fn read_message(version: Version, bytes: &[u8]) -> Option<Parts<'_>>

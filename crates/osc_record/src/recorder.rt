@@ -8,10 +8,11 @@ ghost use Rattle.osc_record.specs.Writing.{release_head};
 
 use crate::caps::Caps;
 use crate::entries::append_entry;
+use crate::entry_reading::RELEASE;
 use crate::event::{Answer, Event};
 use crate::limits::HEADER_SIZE;
-use crate::rows::append_header;
-use osc_atoms::{append_string, append_tag, append_word};
+use crate::rows::{append_bytes, append_header};
+use osc_atoms::{append_tag, append_word};
 use std::alloc::{AllocError, Global};
 use std::marker::Model;
 
@@ -159,8 +160,7 @@ fn append_release_head(out: &mut Vec<u8>, caller: u32, unit: u64, hits: u32)
     ensures capacity { vec_capacity out.old ≤ vec_capacity out.new }
 {
     append_word(out, 40 + 8 * hits);
-    append_string(out, b"/osc/release");
-    append_string(out, b",ihb");
+    append_bytes(out, &RELEASE);
     append_word(out, caller);
     append_tag(out, unit);
     append_word(out, 8 * hits);

@@ -1,5 +1,8 @@
 // The header and the messages of entries, appended to bytes that have room for them.
 ghost use Rattle.osc_model.specs.Limits.{max_recording};
+ghost use Rattle.osc_atoms.specs.declared.limits.TheConstants.{MAX_BYTES};
+ghost use Rattle.osc_atoms.specs.Atoms.{word, tag, blob};
+ghost use Rattle.osc_record.specs.declared.entry_reading.TheConstants.{SUBMIT};
 ghost use Rattle.std.specs.Prelude.{◌≡◌, ◌+◌, ◌≤◌, ◌++◌, ℤ, length};
 ghost use Rattle.std.specs.Vec.{vec_len, vec_capacity};
 ghost use Rattle.osc_message.specs.Messages.{AllFit};
@@ -7,8 +10,10 @@ ghost use Rattle.osc_model.specs.Recordings.{sized, row_text, enrol_row, submit_
 ghost use Rattle.osc_model.specs.Recordings.{remove_row, tick_row, header_text};
 
 use crate::caps::Caps;
+use crate::entry_reading::SUBMIT;
 use crate::message::append_message;
 use crate::policy::late_code;
+use osc_atoms::{append_blob, append_tag, append_word, blob_size};
 use osc_message::Arg;
 
 /// Appends the header to bytes that have room for it.
@@ -69,19 +74,48 @@ pub(crate) fn append_submit(
         ++ sized (row_text (submit_row caller packet.now (code, first, second, third))) }
     ensures capacity { vec_capacity out.old ≤ vec_capacity out.new }
 {
-    append_message(
-        out,
-        b"/osc/submit",
-        b",ibihii",
-        &[
-            Arg::Int(caller as i32),
-            Arg::Blob(packet),
-            Arg::Int(code as i32),
-            Arg::Long(first as i64),
-            Arg::Int(second as i32),
-            Arg::Int(third as i32),
-        ],
-    );
+    let size = 44 + blob_size(packet.len()) as u32;
+    append_submit_row(out, size, caller, packet, code, first, second, third);
+}
+
+/// Appends the message of a submit after its size, number by number: a packet comes more often than anything else.
+fn append_submit_row(
+    out: &mut Vec<u8>,
+    size: u32,
+    caller: u32,
+    packet: &[u8],
+    code: u32,
+    first: u64,
+    second: u32,
+    third: u32,
+)
+    requires packet { length packet.now ≤ MAX_BYTES }
+    requires room { vec_len out.old + (48 + length (blob packet.now)) ≤ vec_capacity out.old }
+    ensures out { out.new.items ≡ out.old.items
+        ++ (word size ++ (SUBMIT ++ (word caller ++ (blob packet.now
+        ++ (word code ++ (tag first ++ (word second ++ word third))))))) }
+    ensures capacity { vec_capacity out.old ≤ vec_capacity out.new }
+{
+    append_word(out, size);
+    append_bytes(out, &SUBMIT);
+    append_word(out, caller);
+    append_blob(out, packet);
+    append_word(out, code);
+    append_tag(out, first);
+    append_word(out, second);
+    append_word(out, third);
+}
+
+/// Appends bytes for which there is room.
+pub(crate) fn append_bytes(out: &mut Vec<u8>, bytes: &[u8])
+    requires { vec_len out.old + length bytes.now ≤ vec_capacity out.old }
+    ensures out { out.new.items ≡ out.old.items ++ bytes.now }
+    ensures capacity { vec_capacity out.old ≤ vec_capacity out.new }
+{
+    match out.extend_from_slice(bytes) {
+        Ok(()) => {}
+        Err(_) => unreachable!(),
+    }
 }
 
 /// Appends an add with the code and the two numbers of its answer.
