@@ -4,6 +4,7 @@ pub mod Lines
 pub mod Lawful
 pub mod First
 pub mod Operands
+pub mod Pairs
 pub mod Modes
 pub mod Packed
 pub mod Going

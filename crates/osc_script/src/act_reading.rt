@@ -11,6 +11,7 @@ ghost use Rattle.osc_script.specs.Acts.{packet_of, moment_of, pump_of};
 ghost use Rattle.osc_script.specs.Answers.{Says};
 
 use crate::act::Act;
+use crate::digits::read_digits;
 use crate::fault::{LineRefusal, ScriptFault};
 use crate::words::next_word;
 use hex::{FromHex, FromHexError};
@@ -94,9 +95,14 @@ fn read_address(alloc: Global, operands: &[u8]) -> Result<Address, LineRefusal>
     }
 }
 
+/// The bytes of a packet's digits, which stand in one word mostly.
+#[tactic(auto, using(crate::proofs::Pairs::digits))]
 fn read_packet(alloc: Global, operands: &[u8]) -> Result<Bytes, LineRefusal>
     ensures { Says result (packet_of (words_of operands.now)) }
 {
+    if let Some(bytes) = read_digits(alloc, operands)? {
+        return Ok(Bytes::of(bytes));
+    }
     match only_word(operands) {
         Some(digits) => decoded(alloc, digits),
         None => decoded(alloc, joined(alloc, operands)?.as_slice()),

@@ -3,6 +3,7 @@
 
 mod act;
 mod act_reading;
+mod digits;
 mod drawing;
 mod draws;
 mod fault;

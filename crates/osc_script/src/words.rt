@@ -3,6 +3,8 @@ ghost use Rattle.std.specs.Prelude.{◌≡◌, ◌<◌, [], ◌∷◌, length, p
 ghost use Rattle.osc_script.specs.Words;
 ghost use Rattle.osc_script.specs.Words.{is_space, is_no_space, is_line_feed, words_of, lines_of};
 
+use memchr::memchr;
+
 #[tactic(auto, using(crate::proofs::Cutting::lines))]
 /// The first line without what ends it, and what follows it.
 pub fn first_line(rest: &[u8]) -> (&[u8], &[u8])
@@ -19,7 +21,7 @@ pub fn first_line(rest: &[u8]) -> (&[u8], &[u8])
 fn first_line_feed(rest: &[u8]) -> Option<usize>
     ensures { result ≡ position is_line_feed rest.now }
 {
-    rest.iter().position(|byte| *byte == b'\n')
+    memchr(b'\n', rest)
 }
 
 fn without_return(line: &[u8]) -> &[u8]
