@@ -1,5 +1,6 @@
 // A method that keeps the last bytes of what it was told.
-ghost use Rattle.std.specs.Prelude.{◌≡◌, ◌≤◌, ◌<◌, ◌^◌, Some, [], IfOk};
+ghost use Rattle.std.specs.Prelude.{◌≡◌, ◌≤◌, ◌<◌, ◌^◌, ◌++◌, Some, [], IfOk};
+ghost use Rattle.osc_atoms.specs.Atoms.{word, tag};
 
 use crate::{Call, Method};
 use circular_buffer::HeapCircularBuffer;
@@ -26,6 +27,16 @@ impl Trace {
     }
 }
 
+/// What is told of a call before its message: the unit's number, the message's index, and its size.
+fn head_of(unit: u64, index: u32, size: u32) -> [u8; 16]
+    ensures { result ≡ tag unit ++ (word index ++ word size) }
+{
+    let [a, b, c, d, e, f, g, h] = unit.to_be_bytes();
+    let [i, j, k, l] = index.to_be_bytes();
+    let [m, n, o, p] = size.to_be_bytes();
+    [a, b, c, d, e, f, g, h, i, j, k, l, m, n, o, p]
+}
+
 impl Method for Trace {
     ghost keep = { λ t. t.bytes.capacity };
 
@@ -37,10 +48,8 @@ impl Method for Trace {
 
     fn invoke(&mut self, call: &Call<'_>) {
         let message = call.message.bytes();
-        let size = message.len() as u32;
-        self.bytes.extend_from_slice(&call.unit.to_be_bytes());
-        self.bytes.extend_from_slice(&call.index.to_be_bytes());
-        self.bytes.extend_from_slice(&size.to_be_bytes());
+        let head = head_of(call.unit, call.index, message.len() as u32);
+        self.bytes.extend_from_slice(&head);
         self.bytes.extend_from_slice(message);
     }
 
