@@ -1,6 +1,6 @@
 -- Inside the crate: what becomes of tags and atoms with more words, and of a line's parts.
-use Rattle.std.specs.Prelude.{◌≡◌, ℕ, List, [], ◌∷◌, ◌++◌, map, Option, Some, None, option_map, Result}
-use Rattle.std.specs.Prelude.{Ok, Err}
+use Rattle.std.specs.Prelude.{◌≡◌, ℕ, List, [], ◌∷◌, ◌++◌, map, Option, Some, None, option_map}
+use Rattle.std.specs.Prelude.{Result, Ok, Err}
 use Rattle.std.specs.List.{flat_map}
 use Rattle.osc_message.specs.Messages.{Argument, tag_of, atom_of, known, message_text}
 use Rattle.osc_score.specs.declared.fault.LineRefusal.{LineRefusal}

@@ -1,7 +1,7 @@
 -- Inside the crate: what a reader keeps of the notes so far.
 use Rattle.osc_packet.specs.declared.limits.TheConstants.{MAX_PACKET}
-use Rattle.std.specs.Prelude.{◌≡◌, ℕ, ◌<◌, ◌≤◌, List, [], ◌∷◌, ◌++◌, length, map, Option, Some, None}
-use Rattle.std.specs.Prelude.{Result, Ok, Err}
+use Rattle.std.specs.Prelude.{◌≡◌, ℕ, ◌<◌, ◌≤◌, List, [], ◌∷◌, ◌++◌, length, map, Option, Some}
+use Rattle.std.specs.Prelude.{None, Result, Ok, Err}
 use Rattle.osc_message.specs.Messages.{message_text}
 use Rattle.osc_packet.specs.Bundling.{Bundling}
 use Rattle.osc_tree.specs.Registry.{Registry, IsLawful}
@@ -10,7 +10,8 @@ use Rattle.osc_score.specs.declared.run.Run.{Run}
 use Rattle.osc_score.specs.declared.reader.Reader.{Reader}
 use Rattle.osc_score.specs.declared.fault.ScoreFault.{ScoreFault}
 use Rattle.osc_score.specs.declared.fault.ScoreRefusal.{ScoreRefusal}
-use Rattle.osc_score.specs.declared.fault.ScoreRefusal.TheVariants.{Fault, NoMemory as NoScoreMemory}
+use Rattle.osc_score.specs.declared.fault.ScoreRefusal.TheVariants.{Fault}
+use Rattle.osc_score.specs.declared.fault.ScoreRefusal.TheVariants.{NoMemory as NoScoreMemory}
 use Rattle.osc_score.specs.declared.fault.LineRefusal.{LineRefusal}
 use Rattle.osc_score.specs.declared.fault.LineRefusal.TheVariants.{Kind, NoMemory}
 use Rattle.osc_score.specs.Kinds.{bundle_kind}
@@ -28,7 +29,8 @@ abbrev pub making_of : Group → Bundling
 making_of group = record { tag = group.tag; messages = texts_of group.notes }
 
 -- the last run is in the making, and those before it are kept
-pub record KeepsLast (least : ℕ) (runs : List Run) (making : Bundling) (groups : List Group) : Type 0 where
+pub record KeepsLast (least : ℕ) (runs : List Run) (making : Bundling) (groups : List Group)
+    : Type 0 where
   pub done : List Group
   pub last : Group
   pub parts : groups ≡ done ++ last ∷ []
@@ -52,7 +54,8 @@ Pushes (Err (Kind kind)) making size = (kind ≡ bundle_kind) × (MAX_PACKET < s
 Pushes (Err NoMemory) making size = Unit {0}
 
 -- the runs with the note, whose bundle isn't too long; or it is
-abbrev pub PushesNote : Result Bundling LineRefusal → List Group → List Group → Note → List Run → Type 0
+abbrev pub PushesNote : Result Bundling LineRefusal → List Group → List Group → Note → List Run
+    → Type 0
 PushesNote (Ok making) groups more note runs =
     (length (bundle_text (run_with groups note)) ≤ MAX_PACKET) × KeepsLast note.tag runs making more
 PushesNote (Err (Kind kind)) groups more note runs =
@@ -63,7 +66,10 @@ PushesNote (Err NoMemory) groups more note runs = Unit {0}
 abbrev pub Registers : Result (Unit {0}) LineRefusal → Option Refusal → Registry → Registry
     → List (List ℕ) → List (List ℕ) → List ℕ → Type 0
 Registers (Ok done) None old new before after address =
-    (new ≡ record old { methods = old.methods ++ record { id = length before; address = address } ∷ [] })
+    (new
+    ≡ record old {
+      methods = old.methods ++ record { id = length before; address = address } ∷ [];
+    })
     × (after ≡ before ++ address ∷ [])
 Registers (Ok done) (Some (taken id)) old new before after address = (new ≡ old) × (after ≡ before)
 Registers (Ok done) (Some refusal) old new before after address = ⊥

@@ -1,8 +1,8 @@
 -- Scores, read: the notes of the lines, or the first fault.
 use Rattle.osc_packet.specs.declared.limits.TheConstants.{MAX_PACKET}
 use Rattle.osc_score.specs.declared.limits.TheConstants.{MAX_SCORE}
-use Rattle.std.specs.Prelude.{ℕ, ◌+◌, ◌≤◌, Bool, nat_lt, nat_eq, ◌==◌, if◌then◌else◌, List, [], ◌∷◌, ◌++◌}
-use Rattle.std.specs.Prelude.{length, map, fold, codes, Option, Some, None, ok_or, Result}
+use Rattle.std.specs.Prelude.{ℕ, ◌+◌, ◌≤◌, Bool, nat_lt, nat_eq, ◌==◌, if◌then◌else◌, List, [], ◌∷◌}
+use Rattle.std.specs.Prelude.{◌++◌, length, map, fold, codes, Option, Some, None, ok_or, Result}
 use Rattle.std.specs.Prelude.{Ok, Err, is_ok}
 use Rattle.std.specs.List.{starts_with}
 use Rattle.osc_pattern.specs.Addresses.{is_address}
@@ -76,7 +76,8 @@ unless_refused (Some (nodes_full need free)) notes = Err tree_full_kind
 -- a note behind others, where its bundle isn't too long, and its address can stand with theirs
 abbrev pub note_added : List Note → Note → Result (List Note) ℕ
 note_added notes note =
-    if nat_lt MAX_PACKET (length (bundle_text (run_with (groups_of notes) note))) then Err bundle_kind
+    if nat_lt MAX_PACKET (length (bundle_text (run_with (groups_of notes) note)))
+    then Err bundle_kind
     else unless_refused (add_refusal (tree_of notes) note.address) (notes ++ note ∷ [])
 
 -- notes, and what words say behind them; none say nothing

@@ -28,7 +28,8 @@ batch groups = sends groups ++ ticks groups
 -- so many batches, one after another
 abbrev pub batches : ℕ → List Group → List Act
 batches zero groups = []
-batches (suc count) groups = batch (take BATCH_SIZE groups) ++ batches count (drop BATCH_SIZE groups)
+batches (suc count) groups =
+    batch (take BATCH_SIZE groups) ++ batches count (drop BATCH_SIZE groups)
 
 -- the acts that play a score: its addresses are added, and its runs are played in batches, as many
 -- as there are runs at most

@@ -6,8 +6,8 @@ ghost use Rattle.osc_score.specs.declared.fault.ScoreRefusal.TheVariants.{NoMemo
 use std::alloc::AllocError;
 use thiserror::Error;
 
-/// The first line outside the rules, counted from 1, or 0 for an input that is too long. The kinds are tried in the order
-/// of their numbers.
+/// The first line outside the rules, counted from 1, or 0 for an input that is too long. The kinds are tried in the
+/// order of their numbers.
 #[derive(Clone, Copy, Debug, PartialEq, Eq, Error)]
 #[error("line {line} of the score has a fault of kind {kind}")]
 pub struct ScoreFault {

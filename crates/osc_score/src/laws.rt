@@ -43,7 +43,8 @@ pub fn examples()
     ensures least { score_of (codes "0000000000000001 /a") ≡ Err (record { line = 1; kind = 34 }) }
     ensures address { score_of (codes "0000000000000002 a i:x")
         ≡ Err (record { line = 1; kind = 35 }) }
-    ensures arg { score_of (codes "0000000000000002 /a [ i:01") ≡ Err (record { line = 1; kind = 36 }) }
+    ensures arg { score_of (codes "0000000000000002 /a [ i:01")
+        ≡ Err (record { line = 1; kind = 36 }) }
     ensures brackets { score_of (codes "0000000000000002 /a [ i:-1")
         ≡ Err (record { line = 1; kind = 37 }) }
     ensures clash { score_of (codes "0000000000000002 /a/b\n0000000000000002 /a\n")
@@ -64,7 +65,8 @@ pub fn examples()
         }
         ∷ record { tag = 0x83aa7e8100000000; address = codes "/a"; arguments = [] } ∷ [])
         ≡ codes "add /a\nadd /b\n"
-        ++ codes "send 2362756e646c650083aa7e80000000000000000c2f6100002c690000000000010000000c2f6200002c73540068690000\n"
+        ++ codes "send 2362756e646c650083aa7e8000000000"
+        ++ codes "0000000c2f6100002c690000000000010000000c2f6200002c73540068690000\n"
         ++ codes "send 2362756e646c650083aa7e8100000000000000082f6100002c000000\n"
         ++ codes "tick 83aa7e8000000000\npump\ntick 83aa7e8100000000\npump\n" }
 {}

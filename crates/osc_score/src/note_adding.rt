@@ -1,6 +1,7 @@
 // Adds a note to what is read so far.
 ghost use Rattle.osc_packet.specs.declared.limits.TheConstants.{MAX_PACKET};
-ghost use Rattle.std.specs.Prelude.{◌≡◌, ◌<◌, ◌≤◌, ◌^◌, ◌++◌, [], ◌∷◌, ℕ, List, length, map, Some, IfOk, OnOk};
+ghost use Rattle.std.specs.Prelude.{◌≡◌, ◌<◌, ◌≤◌, ◌^◌, ◌++◌, [], ◌∷◌, ℕ, List, length, map};
+ghost use Rattle.std.specs.Prelude.{Some, IfOk, OnOk};
 ghost use Rattle.osc_message.specs.Messages.{message_text};
 ghost use Rattle.osc_packet.specs.Bundling.{with_message, bundled};
 ghost use Rattle.osc_tree.specs.Registry.{Registry, IsNewId};

@@ -39,7 +39,8 @@ impl Score {
     ghost use Rattle.osc_score.specs.Keeping.{Keeps};
     ghost use Rattle.osc_score.specs.Answers.{Reads, IsFirstFault};
 
-    /// The score of the bytes, or the first fault; `NoMemory` where memory runs out before one is found.
+    /// The score of the bytes, or the first fault (docs/FORMATS.md, "Scores"); `NoMemory` where memory runs out before
+    /// one is found.
     pub fn read(alloc: Global, bytes: &[u8]) -> Result<Score, ScoreRefusal>
         ensures reads { Reads result (score_of bytes.now) }
         ensures first { (fault : ScoreFault) → result ≡ Err (ScoreRefusal.Fault fault)

@@ -8,7 +8,8 @@ use std::alloc::{AllocError, Global};
 /// The first byte of a text, and what follows it.
 pub(crate) fn first_byte(word: &[u8]) -> Option<(u8, &[u8])>
     ensures shorter { IfSome result (λ cut. length cut.1.now < length word.now) }
-    ensures value { option_map (λ cut. (cut.0, cut.1.now)) result ≡ ArgumentWords.first_byte word.now }
+    ensures value { option_map (λ cut. (cut.0, cut.1.now)) result
+        ≡ ArgumentWords.first_byte word.now }
 {
     match word {
         [] => None,
@@ -33,7 +34,8 @@ fn is_plain(byte: u8) -> bool
 /// An `x`, two digits of a byte that isn't 0, and what follows them.
 fn read_escape(rest: &[u8]) -> Option<(u8, &[u8])>
     ensures shorter { IfSome result (λ cut. length cut.1.now < length rest.now) }
-    ensures value { option_map (λ cut. (cut.0, cut.1.now)) result ≡ ArgumentWords.escape_read rest.now }
+    ensures value { option_map (λ cut. (cut.0, cut.1.now)) result
+        ≡ ArgumentWords.escape_read rest.now }
 {
     match rest {
         [first, high, low, rest @ ..] => {
