@@ -1,17 +1,18 @@
 -- What acts lead to, one after another.
-use Rattle.std.proofs.Common.{◌≡◌, Bool, true, cond, List, [], ◌∷◌, ◌++◌, map, Option, Some, None, refl, sym, ap, ◌∙◌, subst, append_assoc}
+use Rattle.std.proofs.Common.{◌≡◌, ℕ, Bool, true, cond, List, [], ◌∷◌, ◌++◌, map, Option, Some, None, refl, sym, ap, ◌∙◌, subst, append_assoc}
 use Rattle.std.specs.Option.{option_or}
+use Rattle.std.proofs.lemmas.List.{map-append}
 use Rattle.osc_model.specs.State.{State}
 use Rattle.osc_model.specs.Events.{Event, Entry, Invocation, Room, adds_entry}
 use Rattle.osc_model.specs.Refusals.{IsRefusal}
 use Rattle.osc_model.specs.Step.{Stepped, step}
-use Rattle.osc_model.specs.History.{after}
+use Rattle.osc_model.specs.History.{after, invocations}
 use Rattle.osc_script.specs.declared.act.Act.{Act}
 use Rattle.osc_model.specs.Events.{room_in}
 use Rattle.osc_player.specs.Plain.{entry_of, entry_if, stop_at, entries_of, stop_of}
 use Rattle.osc_score_laws.proofs.Lists.{all_on}
 use Rattle.osc_score_laws.proofs.Playing.{history_from, stop_from}
-use Rattle.osc_score_laws.specs.Heard.{Sound, sound_at, sounds, NoneIsRefused}
+use Rattle.osc_score_laws.specs.Heard.{Sound, sound_at, sounds, at_clock, NoneIsRefused}
 
 -- from a state acts lead to another, and this is heard
 pub record Plays (state : State) (acts : List Act) (to : State) (sounded : List Sound) : Type 0 where
@@ -98,3 +99,20 @@ one_plays state act event d entries stop is quiet =
       accepted = subst NoneIsRefused (sym whole) (subst (λ (s : Stepped). IsRefusal s.answer → ⊥) (sym is) quiet.fine, tt);
       goes_on = ap (λ (o : Option Room). option_or o None) (stop ∙ ap (λ (s : Stepped). room_in s.answer) is ∙ quiet.room);
     }
+
+-- what is heard, at one clock
+
+same_sounds : (clock own : ℕ) (calls : List Invocation) → map (at_clock clock) (map (sound_at own) calls) ≡ map (sound_at clock) calls
+same_sounds clock own [] = refl
+same_sounds clock own (call ∷ calls) = ap (λ (l : List Sound). sound_at clock call ∷ l) (same_sounds clock own calls)
+
+pub heard_is : (state : State) (history : List Entry) (clock : ℕ)
+    → map (at_clock clock) (sounds state history) ≡ map (sound_at clock) (invocations state history)
+heard_is state [] clock = refl
+heard_is state (entry ∷ entries) clock =
+    let calls : List Invocation = (step state entry.event).invocations in
+    let there : State = (step state entry.event).state in
+    map-append (at_clock clock) (map (sound_at state.clock) calls) (sounds there entries)
+    ∙ ap (λ (l : List Sound). l ++ map (at_clock clock) (sounds there entries)) (same_sounds clock state.clock calls)
+    ∙ ap (λ (l : List Sound). map (sound_at clock) calls ++ l) (heard_is there entries clock)
+    ∙ sym (map-append (sound_at clock) calls (invocations there entries))

@@ -15,7 +15,8 @@ use Rattle.osc_script.specs.declared.line.Line.{Line}
 use Rattle.osc_script.specs.Written.{numbered}
 use Rattle.osc_player.specs.Plain.{Played, plain}
 
--- an invocation: the clock at its release, the method's address, and the message's tags and arguments
+-- an invocation: the clock at its release, the method's address, and the message's tags and
+-- arguments
 pub record Sound : Type 0 where
   pub clock : ℕ
   pub address : List ℕ
@@ -38,6 +39,10 @@ sounds state [] = []
 sounds state (entry ∷ entries) =
     map (sound_at state.clock) (step state entry.event).invocations
     ++ sounds (step state entry.event).state entries
+
+-- the same at another clock
+abbrev pub at_clock : ℕ → Sound → Sound
+at_clock clock sound = record sound { clock = clock }
 
 -- what a note wants heard: at its tag, at its address, its arguments, each under its tag
 abbrev pub sound_of : Note → Sound
@@ -65,7 +70,7 @@ pub record IsRoomy (caps : Limits) (size : ℕ) : Type 0 where
 abbrev pub score_lines : List Note → List Line
 score_lines notes = numbered 1 (score_acts notes)
 
--- What came of the lines of a score, as many bytes long at most: what is heard is the score, note by
+-- What came of the lines of a score of at most so many bytes: what is heard is the score, note by
 -- note, each at its moment; no entry is a refusal, and no packet at fault; there was room for all;
 -- and at most a header's bytes and 16 for each of the score's are recorded.
 pub record PlaysNotes (caps : Limits) (size : ℕ) (notes : List Note) (played : Played)

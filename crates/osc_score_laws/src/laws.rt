@@ -1,14 +1,18 @@
 //! What playing the script of a score comes to, for all scores.
 ghost use Rattle.osc_score.specs.declared.limits.TheConstants.{MAX_SCORE};
-ghost use Rattle.std.specs.Prelude.{◌≡◌, ◌≤◌, ℕ, List, length, Ok, IfOk};
+ghost use Rattle.std.specs.Prelude.{◌≡◌, ◌≤◌, ℕ, List, length, map, Ok, IfOk};
 ghost use Rattle.osc_model.specs.Limits.{Limits};
+ghost use Rattle.osc_model.specs.State.{State};
+ghost use Rattle.osc_model.specs.Events.{Entry};
+ghost use Rattle.osc_model.specs.History.{invocations};
 ghost use Rattle.osc_script.specs.declared.mode.Mode.TheVariants.{Plain};
 ghost use Rattle.osc_script.specs.Adds.{count_adds};
 ghost use Rattle.osc_script.specs.Scripts.{script_of};
 ghost use Rattle.osc_score.specs.Scripted.{score_script};
 ghost use Rattle.osc_score.specs.Scores.{Note, addresses_of, IsScore, score_size};
 ghost use Rattle.osc_score.specs.Reading.{score_of};
-ghost use Rattle.osc_score_laws.specs.Heard.{score_lines, IsRoomy, PlaysScore};
+ghost use Rattle.osc_score_laws.specs.Heard.{at_clock, sound_at, sounds, score_lines, IsRoomy};
+ghost use Rattle.osc_score_laws.specs.Heard.{PlaysScore};
 ghost use Rattle.osc_score_laws.specs.Known.{Known};
 
 use osc_message::laws as messages;
@@ -29,6 +33,13 @@ pub(crate) fn known()
     addresses::tests_are_exact();
     addresses::an_address_is_a_pattern();
 }
+
+/// What is heard of a history are its invocations, each once and in order, at the clocks before their releases.
+pub fn what_is_heard_is_invoked()
+    ensures { (state : State) (history : List Entry) (clock : ℕ)
+        → map (at_clock clock) (sounds state history)
+        ≡ map (sound_at clock) (invocations state history) }
+{}
 
 /// The script of a score is heard note by note, each at its moment, on every server whose limits are enough for it.
 pub fn a_score_is_played()
