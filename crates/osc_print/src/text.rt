@@ -76,6 +76,10 @@ impl Text {
         ensures ok { OnOk result (self.new ≡ self.old ++ spaced (decimal number)) }
         ensures err { OnErr result (BeginsWith self.new self.old) }
     {
+        // Most numbers have one digit.
+        if number < 10 {
+            return self.word(&[b' ', b'0' + number as u8]);
+        }
         self.space_word(Buffer::new().format(number).as_bytes())
     }
 
