@@ -1,4 +1,5 @@
-//! Tests of the recording, of what is printed, and of scripts. Each module is named after the crate or the call that it tries.
+//! Tests of the recording, of what is printed, of scripts and of scores. Each module is named after the crate or the call
+//! that it tries.
 #![tactic(auto)]
 
 #[cfg(test)]
@@ -7,6 +8,8 @@ mod print;
 mod record;
 #[cfg(test)]
 mod replay;
+#[cfg(test)]
+mod score;
 #[cfg(test)]
 mod script;
 #[cfg(test)]
