@@ -11,7 +11,7 @@ use Rattle.osc_atoms.specs.declared.limits.TheConstants.{MAX_BYTES}
 use Rattle.osc_atoms.specs.Atoms.{has_no_zero, blob}
 use Rattle.osc_message.specs.Messages.{Argument, integer, float, text, content, long, time, double, symbol, character, rgba, midi, Fits, AllFit}
 use Rattle.osc_score.specs.Scores.{IsOfBytes, word_size, words_size}
-use Rattle.osc_score.specs.ArgumentWords.{natural_read, number_in, is_decimal, below_zero, signed_read, word_read, tag_read, is_plain, unless_zero, escape_read, first_byte, text_within, text_read, bare_read, value_read, argument_read, arguments_read}
+use Rattle.osc_score.specs.ArgumentWords.{natural_read, number_in, is_decimal, below_zero, signed_read, word_read, tag_read, is_plain, unless_zero, escape_read, first_byte, text_within, text_read, bare_read, number_read, value_read, argument_read, arguments_read}
 use Rattle.osc_score.proofs.Lengths.{blob_length}
 
 -- it fits, and is no longer than a word of so many bytes
@@ -200,15 +200,13 @@ text_short (suc most) (byte ∷ rest) =
 
 -- Arguments.
 
-value_said : (tag : ℕ) (value : List ℕ) → length value < 2 ^ 31 → IfSome (value_read tag value) (IsSaid (2 + length value))
-value_said tag value few =
+number_said : (tag : ℕ) (value : List ℕ) → IfSome (number_read tag value) (IsSaid (2 + length value))
+number_said tag value =
     let P : Argument → Type 0 = IsSaid (2 + length value) in
     let of_word : (f : ℕ → Argument) → ((n : ℕ) → IsWord (length value) 32 n → P (f n)) → IfSome (option_map f (word_read value)) P =
     λ f each. mapped (IsWord (length value) 32) P f each (word_read value) (word_small value) in
     let of_tag : (f : ℕ → Argument) → ((n : ℕ) → IsWord (length value) 64 n → P (f n)) → IfSome (option_map f (tag_read value)) P =
     λ f each. mapped (IsWord (length value) 64) P f each (tag_read value) (tag_small value) in
-    let of_text : (f : List ℕ → Argument) → ((l : List ℕ) → IsText (length value) l → P (f l)) → IfSome (option_map f (text_read value)) P =
-    λ f each. mapped (IsText (length value)) P f each (text_read value) (text_short (length value) value) in
     either P (tag == 105) _ _ (mapped (IsRange (length value) (2 ^ 31)) P integer
     (λ n is. let some = is.some in record { fits = fits_32 n is.within; bytes = tt; short = omega arith }) (signed_read (2 ^ 31) value) (signed_in (2 ^ 31) value (omega arith)))
     (either P (tag == 104) _ _ (mapped (IsRange (length value) (2 ^ 63)) P long
@@ -219,11 +217,18 @@ value_said tag value few =
     (either P (tag == 109) _ _ (of_word midi (λ n is. let long = is.long in record { fits = is.small; bytes = tt; short = omega arith }))
     (either P (tag == 116) _ _ (of_tag time (λ n is. let long = is.long in record { fits = is.small; bytes = tt; short = omega arith }))
     (either P (tag == 100) _ _ (of_tag double (λ n is. let long = is.long in record { fits = is.small; bytes = tt; short = omega arith }))
-    (either P (tag == 98) _ _ (mapped (IsDigits value) P content
+    tt)))))))
+
+value_said : (tag : ℕ) (value : List ℕ) → length value < 2 ^ 31 → IfSome (value_read tag value) (IsSaid (2 + length value))
+value_said tag value few =
+    let P : Argument → Type 0 = IsSaid (2 + length value) in
+    let of_text : (f : List ℕ → Argument) → ((l : List ℕ) → IsText (length value) l → P (f l)) → IfSome (option_map f (text_read value)) P =
+    λ f each. mapped (IsText (length value)) P f each (text_read value) (text_short (length value) value) in
+    either P (tag == 98) _ _ (mapped (IsDigits value) P content
     (λ l is. let twice = is.twice in record { fits = omega arith; bytes = is.each; short = omega arith }) (result_ok (decode_of value)) (decoded value))
     (either P (tag == 115) _ _ (of_text text (λ l is. let short = is.short in record { fits = is.no_zero; bytes = is.each; short = omega arith }))
     (either P (tag == 83) _ _ (of_text symbol (λ l is. let short = is.short in record { fits = is.no_zero; bytes = is.each; short = omega arith }))
-    tt))))))))))
+    (number_said tag value)))
 
 bare_said : (tag : ℕ) → IfSome (bare_read tag) (IsSaid 1)
 bare_said tag =
@@ -267,20 +272,7 @@ arguments_said (word ∷ words) few =
     }) (arguments_read words) (arguments_said words (omega arith)))
     (argument_read word) (argument_said word (omega arith))
 
--- what is read fits its atom
-
-pub signed_fits : (word : List ℕ) (number : ℤ) → Some number ≡ signed_read (2 ^ 31) word → FitsSigned w32 number
-signed_fits word number is =
-    fits_32 number (subst (λ (o : Option ℤ). IfSome o (IsRange (length word) (2 ^ 31))) (sym is) (signed_in (2 ^ 31) word (omega arith))).within
-
-wider : (number : ℤ) → IsIn (2 ^ 31) number → IsIn (2 ^ 63) number
-wider (pos n) within = omega arith
-wider (negsuc n) within = omega arith
-
-pub signed_fits_wide : (word : List ℕ) (number : ℤ) → Some number ≡ signed_read (2 ^ 31) word → FitsSigned w64 number
-signed_fits_wide word number is =
-    fits_64 number
-    (wider number (subst (λ (o : Option ℤ). IfSome o (IsRange (length word) (2 ^ 31))) (sym is) (signed_in (2 ^ 31) word (omega arith))).within)
+-- a text that is read
 
 pub record IsShortText (size : ℕ) (bytes : List ℕ) : Type 0 where
   pub no_zero : IsTrue (has_no_zero bytes)

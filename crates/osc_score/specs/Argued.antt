@@ -1,8 +1,9 @@
 -- Inside the crate: what becomes of tags and atoms with more words, and of a line's parts.
-use Rattle.std.specs.Prelude.{◌≡◌, ℕ, List, [], ◌∷◌, ◌++◌, map, Option, Some, None, option_map}
-use Rattle.std.specs.Prelude.{Result, Ok, Err}
+use Rattle.osc_atoms.specs.declared.limits.TheConstants.{MAX_BYTES}
+use Rattle.std.specs.Prelude.{◌≡◌, ℕ, ◌≤◌, List, [], ◌∷◌, ◌++◌, length, map, Option, Some, None}
+use Rattle.std.specs.Prelude.{option_map, Result, Ok, Err}
 use Rattle.std.specs.List.{flat_map}
-use Rattle.osc_message.specs.Messages.{Argument, tag_of, atom_of, known, message_text}
+use Rattle.osc_message.specs.Messages.{Argument, tag_of, atom_of, HasNoZero, known, message_text}
 use Rattle.osc_score.specs.declared.fault.LineRefusal.{LineRefusal}
 use Rattle.osc_score.specs.declared.fault.LineRefusal.TheVariants.{Kind, NoMemory}
 use Rattle.osc_score.specs.declared.note_reading.Said.{Said}
@@ -17,6 +18,11 @@ Argues (Ok done) (Some argument) tags atoms more_tags more_atoms =
 Argues (Ok done) None tags atoms more_tags more_atoms = ⊥
 Argues (Err (Kind kind)) read tags atoms more_tags more_atoms = (read ≡ None) × (kind ≡ arg_kind)
 Argues (Err NoMemory) read tags atoms more_tags more_atoms = Unit {0}
+
+-- the argument stands under this tag; it is no text with a zero byte, and its atom is short
+abbrev pub IsUnder : ℕ → Argument → Type 0
+IsUnder tag argument =
+    (tag ≡ tag_of argument) × HasNoZero argument × (length (atom_of argument) ≤ MAX_BYTES)
 
 -- tags and atoms, and those of what is read behind them
 abbrev pub arguments_onto : List ℕ → List ℕ → Option (List Argument) → Option (List ℕ × List ℕ)

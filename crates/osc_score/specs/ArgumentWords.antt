@@ -97,9 +97,9 @@ bare_read tag =
     if tag == 91 then Some array_start else if tag == 93 then Some array_end else
     None
 
--- an argument of a tag and, behind a colon, its value
-abbrev pub value_read : ℕ → List ℕ → Option Argument
-value_read tag value =
+-- a number of a tag and, behind a colon, its digits
+abbrev pub number_read : ℕ → List ℕ → Option Argument
+number_read tag value =
     if tag == 105 then option_map integer (signed_read (2 ^ 31) value) else
     if tag == 104 then option_map long (signed_read (2 ^ 63) value) else
     if tag == 102 then option_map float (word_read value) else
@@ -108,10 +108,15 @@ value_read tag value =
     if tag == 109 then option_map midi (word_read value) else
     if tag == 116 then option_map time (tag_read value) else
     if tag == 100 then option_map double (tag_read value) else
+    None
+
+-- an argument of a tag and, behind a colon, its value
+abbrev pub value_read : ℕ → List ℕ → Option Argument
+value_read tag value =
     if tag == 98 then option_map content (result_ok (decode_of value)) else
     if tag == 115 then option_map text (text_read value) else
     if tag == 83 then option_map symbol (text_read value) else
-    None
+    number_read tag value
 
 -- the argument of a word
 abbrev pub argument_read : List ℕ → Option Argument
