@@ -28,11 +28,12 @@ use Rattle.osc_live.specs.Seen.{history_of, performance_in}
 use Rattle.osc_live.specs.Calls.{Calls, EndsWith}
 use Rattle.osc_live.proofs.Answered.{texts_more}
 use Rattle.osc_live.proofs.Pumping.{own_few}
+use Rattle.osc_live.proofs.Resumed.{opened_texts}
 use Rattle.osc_record.specs.Shown.{room_of}
 use Rattle.osc_core.specs.Standing.{history_in}
 use Rattle.osc_core.proofs.Texts.{read_more}
 use Rattle.osc_lanes.specs.Performs.{enrolments}
-use Rattle.osc_lanes.specs.Crews.{names_of, same_names, IsSilent, IsCrew, HasNotEnrolled, FindsNoRoom}
+use Rattle.osc_lanes.specs.Crews.{names_of, same_names, IsSilent, IsCrewFrom, IsCrew, HasCallers, HasNotEnrolled, IsLeft, FindsNoRoom}
 use Rattle.osc_lanes.proofs.Staging.{all_own, all_before}
 
 -- What is seen is all a token's own.
@@ -140,10 +141,10 @@ pub record CountsCallers : Type 0 where
 
 -- One enrolment more.
 
-module _ (caps : Limits) (start : List Entry) (made : ℕ) (v w : View) (callers : List Caller) (crew : IsCrew start made v callers) where
+module _ (next : ℕ) (caps : Limits) (start : List Entry) (made : ℕ) (v w : View) (callers : List Caller) (crew : IsCrewFrom next start made v callers) where
   -- what stands behind so many enrolments
   abbrev Enrolled : ℕ → List Entry
-  Enrolled count = start ++ enrolments 1 count
+  Enrolled count = start ++ enrolments next count
 
   abbrev Enrols : Answer → Type 0
   Enrols answer = Calls caps 0 enrol answer (one_more v) w
@@ -157,7 +158,7 @@ module _ (caps : Limits) (start : List Entry) (made : ℕ) (v w : View) (callers
   -- what stands before the entry, where all that is seen then is caller 0's
   record Adds (answer : Answer) : Type 0 where
     was : own 0 v.seen ≡ v.seen
-    before : (history_of v ≡ Enrolled (length callers)) × (names_of callers ≡ same_names 1 (length callers))
+    before : (history_of v ≡ Enrolled (length callers)) × (names_of callers ≡ same_names next (length callers))
     history : history_of w ≡ Enrolled (length callers) ++ record { caller = 0; event = enrol; answer = answer } ∷ []
     answered : answer ≡ (stepped_in (record { caps = caps; history = Enrolled (length callers) }) enrol).answer
 
@@ -182,9 +183,9 @@ module _ (caps : Limits) (start : List Entry) (made : ℕ) (v w : View) (callers
       }
 
   -- a caller more
-  pub crew_more : (own 0 v.seen ≡ v.seen → callers_in start ≡ 1) → CountsCallers → (new : Caller) → Enrols (number new.number) → made ≡ 1 + length callers →
+  pub crew_more : (own 0 v.seen ≡ v.seen → callers_in start ≡ next) → CountsCallers → (new : Caller) → Enrols (number new.number) → made ≡ next + length callers →
       number_of (view new.pass) ≡ v.made
-      → IsSilent new → IsCrew start (made + 1) w (callers ++ new ∷ [])
+      → IsSilent new → IsCrewFrom next start (made + 1) w (callers ++ new ∷ [])
   crew_more none counts new calls many token silent = record {
     token = token_then calls;
     made_is = made_then calls;
@@ -192,22 +193,22 @@ module _ (caps : Limits) (start : List Entry) (made : ℕ) (v w : View) (callers
     alone = λ alone.
         let a = adds (number new.number) calls calls.answered alone in
         let legal = counts.enrolled caps (Enrolled (length callers)) 0 new.number (subst (Legal caps) a.history calls.legal) in
-        let all = ap callers_in (append_assoc start (enrolments 1 (length callers)) (enrolled_as new.number ∷ [])) in
-        let next : new.number ≡ 1 + length callers =
-        omega (arith, legal.1, all, counted_from start 1 (length callers) (enrolled_as new.number ∷ []), none a.was) in
+        let all = ap callers_in (append_assoc start (enrolments next (length callers)) (enrolled_as new.number ∷ [])) in
+        let numbered : new.number ≡ next + length callers =
+        omega (arith, legal.1, all, counted_from start next (length callers) (enrolled_as new.number ∷ []), none a.was) in
         let longer : length (callers ++ new ∷ []) ≡ suc (length callers) = omega (arith, length-append callers (new ∷ [])) in
-        let name : (new.number, number_of (view new.pass)) ≡ (1 + length callers, 1 + length callers) =
-        λ i. (next i, (token ∙ crew.made_is ∙ many) i) in (
-          a.history ∙ ap (λ (n : ℕ). Enrolled (length callers) ++ enrolled_as n ∷ []) next
-              ∙ append_assoc start (enrolments 1 (length callers)) (enrolled_as (1 + length callers) ∷ [])
-              ∙ ap (λ (l : List Entry). start ++ l) (enrolments_push 1 (length callers)) ∙ ap Enrolled (sym longer),
+        let name : (new.number, number_of (view new.pass)) ≡ (next + length callers, next + length callers) =
+        λ i. (numbered i, (token ∙ crew.made_is ∙ many) i) in (
+          a.history ∙ ap (λ (n : ℕ). Enrolled (length callers) ++ enrolled_as n ∷ []) numbered
+              ∙ append_assoc start (enrolments next (length callers)) (enrolled_as (next + length callers) ∷ [])
+              ∙ ap (λ (l : List Entry). start ++ l) (enrolments_push next (length callers)) ∙ ap Enrolled (sym longer),
           map-append (λ (caller : Caller). (caller.number, number_of (view caller.pass))) callers (new ∷ [])
-              ∙ (λ i. a.before.1 i ++ name i ∷ []) ∙ names_push 1 (length callers) ∙ ap (same_names 1) (sym longer),
+              ∙ (λ i. a.before.1 i ++ name i ∷ []) ∙ names_push next (length callers) ∙ ap (same_names next) (sym longer),
         );
   }
 
   -- no caller more, where there is no room
-  crew_full : (room : Room) → Enrols (record_full room) → IsCrew start (made + 1) w callers
+  crew_full : (room : Room) → Enrols (record_full room) → IsCrewFrom next start (made + 1) w callers
   crew_full room calls = record {
     token = token_then calls;
     made_is = made_then calls;
@@ -221,7 +222,7 @@ module _ (caps : Limits) (start : List Entry) (made : ℕ) (v w : View) (callers
   }
 
   -- there are fewer callers than there may be
-  never_full : (own 0 v.seen ≡ v.seen → callers_in start ≡ 1) → CountsCallers → Enrols callers_full → 1 + length callers < caps.callers → own 0 w.seen ≡ w.seen
+  never_full : (own 0 v.seen ≡ v.seen → callers_in start ≡ next) → CountsCallers → Enrols callers_full → next + length callers < caps.callers → own 0 w.seen ≡ w.seen
       → ⊥
   never_full none counts calls few alone =
       let a = adds callers_full calls calls.answered alone in
@@ -230,18 +231,18 @@ module _ (caps : Limits) (start : List Entry) (made : ℕ) (v w : View) (callers
       let split = legal_split (opening caps) before (record { caller = 0; event = enrol; answer = callers_full } ∷ []) legal.1 in
       let state = after (opening caps) before in
       let full = full_at state a.answered in
-      let many : callers_in before ≡ length callers + 1 =
+      let many : callers_in before ≡ next + length callers =
       omega (
         arith,
-        ap (λ (l : List Entry). callers_in (start ++ l)) (append-nil (enrolments 1 (length callers))),
-        counted_from start 1 (length callers) [],
+        ap (λ (l : List Entry). callers_in (start ++ l)) (append-nil (enrolments next (length callers))),
+        counted_from start next (length callers) [],
         none a.was,
       ) in
       omega (arith, full, ap (λ (l : Limits). l.callers) (caps_kept caps before), counts.after caps before (legal.0, split.0), many)
 
-  pub crew_refused : (own 0 v.seen ≡ v.seen → callers_in start ≡ 1) → CountsCallers → (why : EnrolRefusal) → Enrols (refusal_of why) → 1 + length callers <
+  pub crew_refused : (own 0 v.seen ≡ v.seen → callers_in start ≡ next) → CountsCallers → (why : EnrolRefusal) → Enrols (refusal_of why) → next + length callers <
       caps.callers
-      → IsCrew start (made + 1) w callers × FindsNoRoom caps w why
+      → IsCrewFrom next start (made + 1) w callers × FindsNoRoom caps w why
   crew_refused none counts (refusal.RecordFull room) calls few = (crew_full (room_of room) calls, λ alone. (room_of room, refl, calls.answered.answered))
   crew_refused none counts refusal.CallersFull calls few = (
     record {
@@ -254,6 +255,14 @@ module _ (caps : Limits) (start : List Entry) (made : ℕ) (v w : View) (callers
   )
 
 -- none is enrolled yet
+pub crew_begun : (v : View) → HasCallers v.made v → IsCrewFrom v.made (history_of v) v.made v []
+crew_begun v opened = record {
+  token = opened.token;
+  made_is = refl;
+  silent = All-nil IsSilent;
+  alone = λ alone. (sym (append-nil (history_of v)), refl);
+}
+
 pub crew_opened : (v : View) → HasNotEnrolled v → IsCrew (history_of v) 1 v []
 crew_opened v opened = record {
   token = opened.token;
@@ -262,6 +271,29 @@ crew_opened v opened = record {
   alone = λ alone. (sym (append-nil (history_of v)), refl);
 }
 
--- a new server's caller 0
-pub new_opened : (kind : List ℕ) (v : View) → v ≡ rule.opening kind → HasNotEnrolled v
-new_opened kind v is = subst HasNotEnrolled (sym is) (record { token = refl; made_is = refl; counted = λ alone. refl })
+-- caller 0 who has the entries of a past knows how many callers it had
+pub left_counted : (past : List (List ℕ)) (v : View) (others : List Caller) → IsLeft past v others → HasCallers v.made v
+left_counted past v others left = record {
+  token = left.token;
+  made_is = refl;
+  counted = λ alone. ap (λ (l : List Seen). callers_in (history_in (texts l))) left.seen_is
+      ∙ ap (λ (l : List (List ℕ)). callers_in (history_in l)) (opened_texts past) ∙ left.old.counted ∙ sym left.made_is;
+}
+
+-- what it has seen are these entries
+pub left_history : (past : List (List ℕ)) (v : View) (others : List Caller) → IsLeft past v others → history_of v ≡ history_in past
+left_history past v others left = ap (λ (l : List Seen). history_in (texts l)) left.seen_is ∙ ap history_in (opened_texts past)
+
+-- the callers that it enrols are numbered behind those of the past
+pub crew_behind : (past : List (List ℕ)) (v w : View) (others callers : List Caller) (made more all : ℕ) → IsLeft past v others → made ≡ v.made + more
+    → all ≡ 1 + length others + more → IsCrewFrom v.made (history_of v) made w callers
+    → IsCrewFrom (1 + length others) (history_in past) all w callers
+crew_behind past v w others callers made more all left made_is all_is crew =
+    let made_all : made ≡ all = omega (arith, made_is, all_is, left.made_is) in
+    subst (λ (q : ℕ × List Entry × ℕ). IsCrewFrom q.0 q.1 q.2 w callers) (λ i. (left.made_is i, left_history past v others left i, made_all i)) crew
+
+-- a new server has no past
+pub new_left : (kind : List ℕ) (v : View) → v ≡ rule.opening kind → IsLeft [] v []
+new_left kind v is =
+    subst (λ (u : View). IsLeft [] u []) (sym is)
+    (record { token = refl; made_is = refl; seen_is = refl; old = record { counted = refl; named = refl; silent = All-nil IsSilent } })

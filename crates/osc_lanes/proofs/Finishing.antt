@@ -1,17 +1,15 @@
--- From the close of a server to what a performance says.
-use Rattle.std.proofs.Common.{◌≡◌, ℕ, ◌+◌, ◌<◌, List, [], ◌∷◌, ◌++◌, length, map, None, Some, Option, refl, sym, ap, subst, ◌∙◌}
+-- What is known of a server that is closed.
+use Rattle.std.proofs.Common.{◌≡◌, ℕ, List, [], ◌∷◌, ◌++◌, length, map, Option, refl, sym, ap, subst, ◌∙◌}
 use Rattle.std.specs.List.{AllByRecursion, AllZip}
-use Rattle.std.proofs.lemmas.List.{length-map}
 use Rattle.std.proofs.lemmas.List.Elements.{recursion_from_All}
 use Rattle.osc_model.specs.Limits.{Limits, AreInRange}
 use Rattle.osc_model.specs.State.{opening}
-use Rattle.osc_model.specs.Events.{Entry, Room, enrol, record_full}
-use Rattle.osc_model.specs.History.{IsSound, stepped_in}
-use Rattle.osc_core.specs.Telling.{told}
+use Rattle.osc_model.specs.Events.{Entry, Room, record_full}
+use Rattle.osc_model.specs.History.{IsSound}
 use Rattle.osc_model.specs.Heard.{Told}
 use Rattle.osc_turn.specs.declared.view.Entry.{Entry as Seen}
 use Rattle.osc_turn.specs.declared.view.View.{View}
-use Rattle.osc_turn.specs.History.{StartsWith, texts, own}
+use Rattle.osc_turn.specs.History.{StartsWith, own}
 use Rattle.osc_turn.specs.Rule.{number_of}
 use Rattle.osc_turn.specs.Passes.{view}
 use Rattle.osc_turn.proofs.Histories.{none_begun}
@@ -20,18 +18,15 @@ use Rattle.osc_live.specs.declared.guest.Guest.{Guest}
 use Rattle.osc_live.specs.declared.refusal.EnrolRefusal.{EnrolRefusal}
 use Rattle.osc_live.specs.declared.refusal.EnrolRefusal.TheVariants.{CallersFull}
 use Rattle.osc_live.specs.Enrolments.{refusal_of}
-use Rattle.osc_live.specs.Seen.{performance_in}
-use Rattle.osc_live.specs.Closing.{known, views_of, IsOfCaller, Closes}
-use Rattle.osc_lanes.proofs.Fresh.{all_since}
+use Rattle.osc_live.specs.Closing.{known, views_of, Closes}
 use Rattle.osc_lanes.specs.declared.plan.LanePlan.{LanePlan}
 use Rattle.osc_lanes.specs.declared.plan.LaneEnd.{LaneEnd}
 use Rattle.osc_lanes.specs.Ends.{seen_by, IsReady, IsEndOf}
-use Rattle.osc_lanes.specs.Shares.{Holder, Account, ended}
-use Rattle.osc_lanes.specs.Performs.{Part, IsWhole, IsStage, Performs, told_of}
-use Rattle.osc_lanes.specs.Crews.{names_of, same_names, caller_of, part_in, caller_in, told_in, IsSilent, HasSeen, IsCrew, FindsNoRoom}
-use Rattle.osc_lanes.proofs.Balance.{StaysSound}
-use Rattle.osc_lanes.proofs.Staging.{only_first, alone_from, staged}
-use Rattle.osc_lanes.proofs.Sharing.{Carried, KeepsRemoved, shares, closed_all, closed_none}
+use Rattle.osc_lanes.specs.Shares.{Holder}
+use Rattle.osc_lanes.specs.Performs.{IsWhole, IsStage}
+use Rattle.osc_lanes.specs.Crews.{names_of, caller_of, part_in, caller_in, IsSilent, HasSeen, IsCrew}
+use Rattle.osc_lanes.proofs.Staging.{all_of_tokens, only_first, alone_from, staged}
+use Rattle.osc_lanes.proofs.Sharing.{Carried}
 
 -- an enrolment isn't refused for both causes
 pub never_both : (room : Room) (why : EnrolRefusal) → why ≡ CallersFull → refusal_of why ≡ record_full room → ⊥
@@ -51,8 +46,8 @@ module _ (history : List Seen) where
   carried_each (caller ∷ callers) more starts owned = ((starts.0, owned.0), carried_each callers more starts.1 owned.1)
 
 -- the history of a close begins with what each caller has seen, and has no further entry of it
-pub all_carried : {caps : Limits} {knows : List (ℕ × View)} {bytes : List ℕ} {kept : List Told} (callers : List Caller) (guests : List Guest)
-    (closes : Closes caps [] knows (views_of callers guests) bytes kept) → AllByRecursion (Carried closes.history) callers
+pub all_carried : {caps : Limits} {past : List (List ℕ)} {knows : List (ℕ × View)} {bytes : List ℕ} {kept : List Told} (callers : List Caller)
+    (guests : List Guest) (closes : Closes caps past knows (views_of callers guests) bytes kept) → AllByRecursion (Carried closes.history) callers
 all_carried callers guests closes =
     carried_each closes.history callers (map (λ (guest : Guest). view guest.pass) guests)
     (recursion_from_All (λ v. StartsWith closes.history v.seen) (views_of callers guests) closes.carried)
@@ -76,6 +71,19 @@ pub record StandsOn (caps : Limits) (start : List Entry) (count : ℕ) (v : View
   pub alone : own 0 v.seen ≡ v.seen
   pub stage : IsStage caps start count history
 
+-- What was silent before stays so.
+
+pub silent_then : (history : List Seen) (callers : List Caller) → AllByRecursion IsSilent callers → AllByRecursion (Carried history) callers
+    → AllByRecursion (λ other. own (number_of other.1) history ≡ []) (known callers)
+silent_then history [] silent carried = tt
+silent_then history (caller ∷ callers) silent carried = (carried.0.1 ∙ silent.0, silent_then history callers silent.1 carried.1)
+
+pub silent_before : (history seen : List Seen) → StartsWith history seen → (knows : List (ℕ × View))
+    → AllByRecursion (λ other. own (number_of other.1) history ≡ []) knows → AllByRecursion (λ other. own (number_of other.1) seen ≡ []) knows
+silent_before history seen starts [] none = tt
+silent_before history seen starts (one ∷ knows) none =
+    (none_begun (number_of one.1) history seen starts none.0, silent_before history seen starts knows none.1)
+
 module _ (caps : Limits) (start : List Entry) (made : ℕ) (first : Caller) (v : View) (enrolled : List Caller) (is : view first.pass ≡ v)
     (zero_is : first.number ≡ 0) (crew : IsCrew start made v enrolled) where
   pub stands_on : {bytes : List ℕ} {kept : List Told} (others : List Caller) (guests : List Guest) → names_of others ≡ names_of enrolled
@@ -90,24 +98,13 @@ module _ (caps : Limits) (start : List Entry) (made : ℕ) (first : Caller) (v :
       subst (λ (n : ℕ). own n history ≡ own n v.seen) crew.token
       (subst (λ (u : View). own (number_of u) history ≡ own (number_of u) u.seen) is carried.0.1) in
       let alone : own 0 v.seen ≡ v.seen =
-      alone_from caps start v enrolled made crew history (first.number, view first.pass) others is none starts (all_since closes) in
+      alone_from caps start v enrolled 1 made crew history (first.number, view first.pass) others is none starts (all_of_tokens closes) in
       record {
         starts = starts;
         owned = owned;
         alone = alone;
         stage = staged caps start v enrolled made crew history first others closes refl zero_is is named alone starts owned;
       }
-
-  silent_then : (history : List Seen) (callers : List Caller) → AllByRecursion IsSilent callers → AllByRecursion (Carried history) callers
-      → AllByRecursion (λ other. own (number_of other.1) history ≡ []) (known callers)
-  silent_then history [] silent carried = tt
-  silent_then history (caller ∷ callers) silent carried = (carried.0.1 ∙ silent.0, silent_then history callers silent.1 carried.1)
-
-  silent_before : (history seen : List Seen) → StartsWith history seen → (knows : List (ℕ × View))
-      → AllByRecursion (λ other. own (number_of other.1) history ≡ []) knows → AllByRecursion (λ other. own (number_of other.1) seen ≡ []) knows
-  silent_before history seen starts [] none = tt
-  silent_before history seen starts (one ∷ knows) none =
-      (none_begun (number_of one.1) history seen starts none.0, silent_before history seen starts knows none.1)
 
   -- where no other has played, all entries are caller 0's, and it has seen them
   pub stands_alone : {bytes : List ℕ} {kept : List Told} (guests : List Guest)
@@ -118,8 +115,7 @@ module _ (caps : Limits) (start : List Entry) (made : ℕ) (first : Caller) (v :
       let carried = all_carried (first ∷ enrolled) guests closes in
       let none = silent_then history enrolled (recursion_from_All IsSilent enrolled crew.silent) carried.1 in
       let whole : own 0 history ≡ history =
-      only_first (first.number, view first.pass) (known enrolled) history (ap number_of is ∙ crew.token) none
-      (recursion_from_All (IsOfCaller (known (first ∷ enrolled))) history (all_since closes)) in
+      only_first (first.number, view first.pass) (known enrolled) history (ap number_of is ∙ crew.token) none (all_of_tokens closes) in
       let starts : StartsWith history v.seen = subst (λ (u : View). StartsWith history u.seen) is carried.0.0 in
       let stands = stands_on enrolled guests refl (silent_before history v.seen starts (known enrolled) none) closes in
       (stands, whole, sym whole ∙ stands.owned ∙ stands.alone)
@@ -140,64 +136,10 @@ none_seen seen (caller ∷ before) (other ∷ after) named silent has =
 
 module _ {M : Type 0} (keep : M → ℕ) (heard : M → Option (List ℕ)) (caps : Limits) where
   -- the callers that come back have the names of the plans'
-  names_back : (plans : List (LanePlan M)) (ends : List (LaneEnd M)) → AllZip (IsEndOf keep heard caps) plans ends
+  pub names_back : (plans : List (LanePlan M)) (ends : List (LaneEnd M)) → AllZip (IsEndOf keep heard caps) plans ends
       → names_of (map caller_in ends) ≡ names_of (map caller_of plans)
   names_back [] [] all = refl
   names_back [] (end ∷ ends) all = absurd all
   names_back (plan ∷ plans) [] all = absurd all
   names_back (plan ∷ plans) (end ∷ ends) all =
       λ i. ((ap (λ (p : Holder). p.caller) all.0.holder) i, (ap (λ (p : Holder). p.token) all.0.holder) i) ∷ names_back plans ends all.1 i
-
-  module _ (stays : StaysSound) (opens : OpensSound) (bytes : List ℕ) (kept : List (ℕ × M)) (first : Caller) (v : View)
-      (enrolled : List Caller) (is : view first.pass ≡ v) (zero_is : first.number ≡ 0) where
-    -- all lanes were played
-    pub finish_played : KeepsRemoved keep heard caps → IsCrew [] (1 + length enrolled) v enrolled → (plans : List (LanePlan M)) (ends : List (LaneEnd M))
-        → names_of (map caller_of plans) ≡ names_of enrolled → length plans ≡ length enrolled → AllByRecursion IsSilent (map caller_of plans)
-        → AllByRecursion (HasSeen v.seen) (map caller_of plans) → AllByRecursion IsReady plans → AllZip (IsEndOf keep heard caps) plans ends
-        → Closes caps [] (known (first ∷ map caller_in ends)) (views_of (first ∷ map caller_in ends) []) bytes (told keep heard kept)
-        → Performs keep heard caps (map part_in plans) bytes kept (map told_of (map told_in ends)) None
-    finish_played law crew plans ends named many silent has all_ready all closes =
-        let others = map caller_in ends in
-        let history = closes.history in
-        let carried = all_carried (first ∷ others) [] closes in
-        let back = names_back plans ends all in
-        let stands =
-        stands_on caps [] (1 + length enrolled) first v enrolled is zero_is crew others [] (back ∙ named)
-        (none_seen v.seen (map caller_of plans) others back silent has) closes in
-        let here : names_of (map caller_of plans) ≡ same_names 1 (length plans) = named ∙ (crew.alone stands.alone).1 ∙ ap (same_names 1) (sym many) in
-        let all_staged : IsStage caps [] (length plans) history = subst (λ (n : ℕ). IsStage caps [] n history) (sym many) stands.stage in
-        let shared = shares keep heard caps history 1 plans ends here all_ready all carried.1 in
-        record {
-          history = history;
-          callers = length plans;
-          stage = all_staged;
-          closed = closed_all keep heard caps history stays (opens caps closes.legal.0) law bytes kept (known (first ∷ others))
-              (views_of (first ∷ others) []) closes refl plans ends all_staged shared all carried.1;
-          shares = (sym (length-map plans part_in), shared);
-        }
-
-    -- there was no room for an enrolment
-    pub finish_none : IsCrew [] (2 + length enrolled) v enrolled → (why : EnrolRefusal) → FindsNoRoom caps v why → (guests : List Guest)
-        → (parts : List (Part M)) → length enrolled < length parts
-        → Closes caps [] (known (first ∷ enrolled)) (views_of (first ∷ enrolled) guests) bytes (told keep heard kept)
-        → (room : Room) × (refusal_of why ≡ record_full room)
-        × Performs keep heard caps parts bytes kept (map (λ part. ended part.boxes None) parts) (Some room)
-    finish_none crew why refused guests parts few closes =
-        let history = closes.history in
-        let stands = stands_alone caps [] (2 + length enrolled) first v enrolled is zero_is crew guests closes in
-        let full = refused stands.0.alone in (
-          full.0,
-          full.1,
-          record {
-            history = history;
-            callers = length enrolled;
-            stage = stands.0.stage;
-            closed = closed_none keep heard caps history stays (opens caps closes.legal.0) bytes kept (known (first ∷ enrolled))
-                (views_of (first ∷ enrolled) guests) closes refl parts (length enrolled) stands.0.stage stands.1;
-            shares = (
-              few,
-              (full.2 ∙ ap (λ (l : List Seen). (stepped_in (performance_in caps (texts l)) enrol).answer) (sym stands.2), stands.1),
-              refl,
-            );
-          },
-        )

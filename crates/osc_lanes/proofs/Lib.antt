@@ -4,6 +4,7 @@ pub mod Enrolling
 pub mod Finishing
 pub mod Fresh
 pub mod Going
+pub mod Later
 pub mod Parting
 pub mod Removals
 pub mod Sharing

@@ -1,10 +1,9 @@
 -- From what the lanes' tokens have seen to the one history.
-use Rattle.std.proofs.Common.{◌≡◌, ℕ, zero, suc, ◌+◌, ◌<◌, List, [], ◌∷◌, ◌++◌, length, map, Option, None, refl, sym, ap, subst, ◌∙◌, arith}
+use Rattle.std.proofs.Common.{◌≡◌, ℕ, zero, suc, ◌+◌, List, [], ◌∷◌, ◌++◌, length, map, Option, None, refl, sym, ap, subst, ◌∙◌}
 use Rattle.std.specs.List.{AllByRecursion, AllZip}
 use Rattle.std.specs.List.Sorted.{IsPermutation}
-use Rattle.std.proofs.lemmas.List.{length-map}
-use Rattle.std.proofs.lemmas.List.Elements.{All-from_recursion, recursion_from_All}
-use Rattle.std.proofs.lemmas.List.Sorted.{IsPermutation-refl, IsPermutation-trans, IsPermutation-append_right}
+use Rattle.std.proofs.lemmas.List.Elements.{All-from_recursion}
+use Rattle.std.proofs.lemmas.List.Sorted.{IsPermutation-trans, IsPermutation-append_right}
 use Rattle.osc_model.specs.Limits.{Limits}
 use Rattle.osc_model.specs.State.{opening}
 use Rattle.osc_model.specs.Heard.{Told}
@@ -25,11 +24,11 @@ use Rattle.osc_lanes.specs.declared.plan.LaneEnd.{LaneEnd}
 use Rattle.osc_lanes.specs.Ends.{seen_by, holder_of, IsReady, IsEndOf}
 use Rattle.osc_lanes.specs.Performs.{told_of}
 use Rattle.osc_lanes.specs.Shares.{Holder, Account, LaneOf, IsRemovedAt, ended}
-use Rattle.osc_lanes.specs.Performs.{Part, Numbered, IsStage, IsClosedWith, holder_at, added_ids, removed_ids, enrolments}
+use Rattle.osc_lanes.specs.Performs.{Part, Numbered, IsClosedWith, holder_at, added_ids, removed_ids, enrolments}
 use Rattle.osc_lanes.specs.Crews.{names_of, same_names, caller_of, part_in, caller_in, told_in}
 use Rattle.osc_lanes.proofs.Balance.{StaysSound, gone_ids, ids_of, balance, ascends}
-use Rattle.osc_lanes.proofs.Parting.{given_by, given_in, parted}
-use Rattle.osc_lanes.proofs.Removals.{gone, gone_in, lane_gone, told_ids}
+use Rattle.osc_lanes.proofs.Parting.{given_by}
+use Rattle.osc_lanes.proofs.Removals.{gone, lane_gone}
 
 -- the history begins with what the token has seen, and has no further entry of it
 abbrev pub Carried : List Seen → Caller → Type 0
@@ -49,7 +48,7 @@ module _ {M : Type 0} (keep : M → ℕ) (heard : M → Option (List ℕ)) (caps
       → AllByRecursion (IsRemovedAt keep heard caps history) end.told.removed.items
 
   module _ (history : List Seen) where
-    abbrev IsShare : ℕ → Part M → Account M → Type 0
+    abbrev pub IsShare : ℕ → Part M → Account M → Type 0
     IsShare number part account = LaneOf keep heard (holder_at caps number) part.lines part.boxes account history
 
     share : (number : ℕ) (plan : LanePlan M) (end : LaneEnd M)
@@ -88,7 +87,7 @@ module _ {M : Type 0} (keep : M → ℕ) (heard : M → Option (List ℕ)) (caps
         (law plan end history all.0 carried.0.0 legal, removed_all law legal plans ends all.1 carried.1)
 
     -- the ids that the history removes are those that the lanes tell
-    gone_of : (number : ℕ) (parts : List (Part M)) (accounts : List (Account M)) → Numbered IsShare number parts accounts
+    pub gone_of : (number : ℕ) (parts : List (Part M)) (accounts : List (Account M)) → Numbered IsShare number parts accounts
         → Numbered (λ n part account. given_by gone history n ≡ map (λ one. one.0) account.removed) number parts accounts
     gone_of number [] [] all = tt
     gone_of number [] (account ∷ accounts) all = absurd all
@@ -97,17 +96,6 @@ module _ {M : Type 0} (keep : M → ℕ) (heard : M → Option (List ℕ)) (caps
       lane_gone (holder_at caps number) keep heard part.lines part.boxes account history all.0,
       gone_of (number + 1) parts accounts all.1,
     )
-
-    pub gone_told : (parts : List (Part M)) (accounts : List (Account M)) → IsStage caps [] (length parts) history → Numbered IsShare 1 parts accounts
-        → IsPermutation (gone_ids (history_in (texts history))) (removed_ids accounts)
-    gone_told parts accounts stage all =
-        let none : given_by gone history 0 ≡ [] = gone_in (own 0 history) ∙ ap gone_ids stage.enrolled ∙ enrolments_keep 1 (length parts) in
-        let whole : given_in gone history 0 (suc (length parts)) ≡ removed_ids accounts =
-        (λ i. none i ++ given_in gone history 1 (length parts)) ∙ told_ids history 1 parts accounts (gone_of 1 parts accounts all) in
-        let below : AllByRecursion (λ one. one.number < suc (length parts)) history =
-        recursion_from_All (λ one. one.number < suc (length parts)) history (λ k d within. omega (arith, stage.within k d within)) in
-        subst (λ (q : List ℕ × List ℕ). IsPermutation q.0 q.1) (λ i. (gone_in history i, whole i))
-        (parted gone (suc (length parts)) history below)
 
     ids_kept : (kept : List (ℕ × M)) → map (λ (box : Told). box.id) (told keep heard kept) ≡ map (λ one. one.0) kept
     ids_kept [] = refl
@@ -143,37 +131,11 @@ module _ {M : Type 0} (keep : M → ℕ) (heard : M → Option (List ℕ)) (caps
           removed = All-from_recursion (λ account. AllByRecursion (IsRemovedAt keep heard caps history) account.removed) accounts removed;
         }
 
-    -- what all lanes removed
-    pub closed_all : StaysSound → IsSound (opening caps) → KeepsRemoved → (bytes : List ℕ) (kept : List (ℕ × M)) (knows : List (ℕ × View))
-        (views : List View) → (closes : Closes caps [] knows views bytes (told keep heard kept)) → closes.history ≡ history
-        → (plans : List (LanePlan M)) (ends : List (LaneEnd M)) → IsStage caps [] (length plans) history
-        → Numbered IsShare 1 (map part_in plans) (map told_of (map told_in ends)) → AllZip (IsEndOf keep heard caps) plans ends
-        → AllByRecursion (Carried history) (map caller_in ends) → IsClosedWith keep heard caps history bytes kept (map told_of (map told_in ends))
-    closed_all stays sound law bytes kept knows views closes is plans ends stage here all carried =
-        let many : length plans ≡ length (map part_in plans) = sym (length-map plans part_in) in
-        closed_with stays sound bytes kept knows views closes is (map told_of (map told_in ends))
-        (gone_told (map part_in plans) (map told_of (map told_in ends)) (subst (λ (n : ℕ). IsStage caps [] n history) many stage) here)
-        (removed_all law stage.legal plans ends all carried)
-
-    nothing_removed : (parts : List (Part M)) → removed_ids (map (λ part. ended part.boxes None) parts) ≡ []
+    pub nothing_removed : (parts : List (Part M)) → removed_ids (map (λ part. ended part.boxes None) parts) ≡ []
     nothing_removed [] = refl
     nothing_removed (part ∷ parts) = nothing_removed parts
 
-    none_removed : (parts : List (Part M))
+    pub none_removed : (parts : List (Part M))
         → AllByRecursion (λ account. AllByRecursion (IsRemovedAt keep heard caps history) account.removed) (map (λ part. ended part.boxes None) parts)
     none_removed [] = tt
     none_removed (part ∷ parts) = (tt, none_removed parts)
-
-    -- where all entries are caller 0's, and it has only enrolled
-    pub closed_none : StaysSound → IsSound (opening caps) → (bytes : List ℕ) (kept : List (ℕ × M)) (knows : List (ℕ × View)) (views : List View)
-        → (closes : Closes caps [] knows views bytes (told keep heard kept)) → closes.history ≡ history → (parts : List (Part M)) (callers : ℕ)
-        → IsStage caps [] callers history → own 0 history ≡ history
-        → IsClosedWith keep heard caps history bytes kept (map (λ part. ended part.boxes None) parts)
-    closed_none stays sound bytes kept knows views closes is parts callers stage alone =
-        let accounts : List (Account M) = map (λ part. ended part.boxes None) parts in
-        let none : gone_ids (history_in (texts history)) ≡ removed_ids accounts =
-        ap (λ (l : List Seen). gone_ids (history_in (texts l))) (sym alone) ∙ ap gone_ids stage.enrolled ∙ enrolments_keep 1 callers
-        ∙ sym (nothing_removed parts) in
-        closed_with stays sound bytes kept knows views closes is accounts
-        (subst (IsPermutation (gone_ids (history_in (texts history)))) none (IsPermutation-refl (gone_ids (history_in (texts history)))))
-        (none_removed parts)

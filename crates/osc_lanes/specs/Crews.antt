@@ -7,7 +7,8 @@ use Rattle.osc_model.specs.Events.{Entry, Room, enrol, record_full}
 use Rattle.osc_model.specs.History.{stepped_in}
 use Rattle.osc_turn.specs.declared.view.Entry.{Entry as Seen}
 use Rattle.osc_turn.specs.declared.view.View.{View}
-use Rattle.osc_turn.specs.History.{StartsWith, texts, own}
+use Rattle.osc_core.specs.Standing.{history_in}
+use Rattle.osc_turn.specs.History.{StartsWith, texts, entries_of, own}
 use Rattle.osc_turn.specs.Rule.{number_of}
 use Rattle.osc_turn.specs.Passes.{view}
 use Rattle.osc_live.specs.Seen.{history_of, performance_in}
@@ -39,22 +40,31 @@ abbrev pub HasSeen : List Seen → Caller → Type 0
 HasSeen seen caller = StartsWith (seen_by caller) seen
 
 -- Caller 0 enrolled these callers behind these entries, and they have no entries of their own, and
--- so many tokens were made. If it has seen no entries but its own, these are the first ones and the
--- enrolments, and the callers are numbered as their tokens are.
-pub record IsCrew (first_entries : List Entry) (made : ℕ) (first : View)
+-- so many tokens were made. If it has seen no entries but those of its token, these are the first
+-- ones and the enrolments, and the callers are numbered as their tokens are, from this number on.
+pub record IsCrewFrom (next : ℕ) (first_entries : List Entry) (made : ℕ) (first : View)
     (callers : List Caller) : Type 0 where
   pub token : number_of first ≡ 0
   pub made_is : first.made ≡ made
   pub silent : All IsSilent callers
   pub alone : own 0 first.seen ≡ first.seen
-      → (history_of first ≡ first_entries ++ enrolments 1 (length callers))
-      × (names_of callers ≡ same_names 1 (length callers))
+      → (history_of first ≡ first_entries ++ enrolments next (length callers))
+      × (names_of callers ≡ same_names next (length callers))
 
--- caller 0 is the only one, and if it has seen no entries but its own, it has enrolled none
-pub record HasNotEnrolled (first : View) : Type 0 where
+-- the same of a new server, whose one caller is caller 0
+abbrev pub IsCrew : List Entry → ℕ → View → List Caller → Type 0
+IsCrew = IsCrewFrom 1
+
+-- So many tokens were made, and if caller 0 has seen no entries but those of its token, there are
+-- as many callers.
+pub record HasCallers (count : ℕ) (first : View) : Type 0 where
   pub token : number_of first ≡ 0
-  pub made_is : first.made ≡ 1
-  pub counted : own 0 first.seen ≡ first.seen → callers_in (history_of first) ≡ 1
+  pub made_is : first.made ≡ count
+  pub counted : own 0 first.seen ≡ first.seen → callers_in (history_of first) ≡ count
+
+-- caller 0 is the only one
+abbrev pub HasNotEnrolled : View → Type 0
+HasNotEnrolled = HasCallers 1
 
 -- if caller 0 has seen no entries but its own, there was no room for this enrolment
 abbrev pub FindsNoRoom : Limits → View → EnrolRefusal → Type 0
@@ -63,13 +73,32 @@ FindsNoRoom caps first why = own 0 first.seen ≡ first.seen
     × (record_full room ≡ (stepped_in (performance_in caps (texts first.seen)) enrol).answer)
 
 -- all callers were enrolled behind these entries, or there was no room for the next one
+abbrev pub HasEnrolledFrom : ℕ → Limits → List Entry → ℕ → View → List Caller
+    → Option (EnrolRefusal × Guest) → Type 0
+HasEnrolledFrom next caps first_entries count first callers None =
+    IsCrewFrom next first_entries (next + length callers) first callers
+    × (length callers ≡ count)
+HasEnrolledFrom next caps first_entries count first callers (Some refused) =
+    IsCrewFrom next first_entries (next + 1 + length callers) first callers
+    × (length callers < count) × FindsNoRoom caps first refused.0
+
+-- the same of a new server
 abbrev pub HasEnrolled : Limits → List Entry → ℕ → View → List Caller
     → Option (EnrolRefusal × Guest) → Type 0
-HasEnrolled caps first_entries count first callers None =
-    IsCrew first_entries (1 + length callers) first callers × (length callers ≡ count)
-HasEnrolled caps first_entries count first callers (Some refused) =
-    IsCrew first_entries (2 + length callers) first callers × (length callers < count)
-    × FindsNoRoom caps first refused.0
+HasEnrolled = HasEnrolledFrom 1
+
+-- The other callers of a past have no entries of their own, and are numbered as their tokens are.
+pub record AreOld (past : List (List ℕ)) (others : List Caller) : Type 0 where
+  pub counted : callers_in (history_in past) ≡ 1 + length others
+  pub named : names_of others ≡ same_names 1 (length others)
+  pub silent : All IsSilent others
+
+-- caller 0 has the entries of a past, and there are these other callers
+pub record IsLeft (past : List (List ℕ)) (first : View) (others : List Caller) : Type 0 where
+  pub token : number_of first ≡ 0
+  pub made_is : first.made ≡ 1 + length others
+  pub seen_is : first.seen ≡ entries_of past
+  pub old : AreOld past others
 
 module _ {M : Type 0} where
   abbrev pub caller_of : LanePlan M → Caller

@@ -3,5 +3,6 @@ pub mod Crews
 pub mod Ends
 pub mod Enough
 pub mod Performs
+pub mod Later
 pub mod Tells
 pub mod Shares

@@ -1,5 +1,5 @@
 // Enrols the callers of lanes.
-ghost use Rattle.std.specs.Prelude.{◌≡◌, ◌<◌, All, IfOk, IfErr, IfSome};
+ghost use Rattle.std.specs.Prelude.{◌≡◌, ◌<◌, ◌≤◌, ◌+◌, All, IfOk, IfErr, IfSome};
 ghost use Rattle.osc_model.specs.Events.{enrol};
 ghost use Rattle.osc_turn.specs.History.{StartsWith};
 ghost use Rattle.osc_turn.specs.Rule.{number_of};
@@ -10,6 +10,7 @@ ghost use Rattle.osc_live.specs.Tokens.{IsOurs, IsOurGuest};
 ghost use Rattle.osc_live.specs.Calls.{Calls};
 ghost use Rattle.osc_live.specs.Enrolments.{enrolment_of};
 ghost use Rattle.osc_lanes.specs.Crews.{names_of, IsSilent, HasSeen, HasNotEnrolled, HasEnrolled};
+ghost use Rattle.osc_lanes.specs.Crews.{HasCallers, HasEnrolledFrom};
 ghost use Rattle.osc_record.specs.declared.limits.TheConstants.{MAX_CALLERS};
 
 use osc_live::{Caller, EnrolRefusal, Guest, Live};
@@ -25,13 +26,13 @@ pub struct Crew {
     pub callers: Vec<Caller>,
 }
 
-/// Enrols so many callers, up to the first that is refused. The `Some` is why it was, and its guest's token; the `Err`
-/// is want of memory.
+/// Enrols so many callers on a new server, up to the first that is refused. The `Some` is why it was, and its guest's
+/// token; the `Err` is want of memory.
 pub fn enrol_all<M: Method, W: Wait>(
     rt: &W,
     alloc: Global,
     live: &Live<M>,
-    mut first: Caller,
+    first: Caller,
     count: usize,
 ) -> Result<(Crew, Option<(EnrolRefusal, Guest)>), AllocError>
     requires ours { IsOurs live.now first }
@@ -47,6 +48,33 @@ pub fn enrol_all<M: Method, W: Wait>(
     ensures guest_ours { IfOk result
         (λ both. IfSome both.1 (λ refused. IsOurGuest live.now refused.1)) }
     ensures enrolled { IfOk result (λ both. HasEnrolled live.now.caps
+        (history_of (view first.pass)) count (view both.0.first.pass) both.0.callers.items
+        both.1) }
+{
+    enrol_more(rt, alloc, live, first, count)
+}
+
+/// Enrols so many callers more, where caller 0 knows how many there are.
+pub(crate) fn enrol_more<M: Method, W: Wait>(
+    rt: &W,
+    alloc: Global,
+    live: &Live<M>,
+    mut first: Caller,
+    count: usize,
+) -> Result<(Crew, Option<(EnrolRefusal, Guest)>), AllocError>
+    requires ours { IsOurs live.now first }
+    requires number { first.number ≡ 0 }
+    requires opened { HasCallers (view first.pass).made (view first.pass) }
+    requires few { (view first.pass).made + count ≤ live.now.caps.callers }
+    requires tokens { (view first.pass).made + count ≤ MAX_CALLERS }
+    ensures ours { IfOk result (λ both. IsOurs live.now both.0.first) }
+    ensures seen { IfOk result
+        (λ both. StartsWith (view both.0.first.pass).seen (view first.pass).seen) }
+    ensures number { IfOk result (λ both. both.0.first.number ≡ 0) }
+    ensures callers_ours { IfOk result (λ both. All (IsOurs live.now) both.0.callers.items) }
+    ensures guest_ours { IfOk result
+        (λ both. IfSome both.1 (λ refused. IsOurGuest live.now refused.1)) }
+    ensures enrolled { IfOk result (λ both. HasEnrolledFrom (view first.pass).made live.now.caps
         (history_of (view first.pass)) count (view both.0.first.pass) both.0.callers.items
         both.1) }
 {

@@ -1,5 +1,5 @@
 // What comes of lanes at the end of their server.
-ghost use Rattle.std.specs.Prelude.{◌≡◌, ◌≤◌, ◌+◌, ◌∷◌, [], length, map, All, IfOk, None};
+ghost use Rattle.std.specs.Prelude.{◌≡◌, ◌≤◌, ◌+◌, ◌∷◌, ◌++◌, [], length, map, All, IfOk, None};
 ghost use Rattle.osc_core.specs.Telling.{told};
 ghost use Rattle.osc_turn.specs.declared.limits.TheConstants.{MAX_PASSES};
 ghost use Rattle.osc_live.specs.Seen.{past_of};
@@ -17,20 +17,21 @@ use osc_live::{Caller, Guest, Live, LiveOut};
 use osc_method::Method;
 use std::alloc::{AllocError, Global};
 
-/// The callers, with the first in the first place, and what the lanes told.
+/// The callers, with the first in the first place and those of the lanes behind the others, and what the lanes told.
 pub(crate) fn part_ends<M: Drop>(
     alloc: Global,
     first: Caller,
+    others: Vec<Caller>,
     ends: Vec<LaneEnd<M>>,
 ) -> Result<(Vec<Caller>, Vec<LaneTold<M>>), AllocError>
     requires few { length ends.items ≤ MAX_CALLERS }
     ensures callers { IfOk result
-        (λ both. both.0.items ≡ first ∷ map caller_in ends.items) }
+        (λ both. both.0.items ≡ first ∷ (others.items ++ map caller_in ends.items)) }
     ensures told { IfOk result (λ both. both.1.items ≡ map told_in ends.items) }
 {
-    let mut callers = Vec::with_capacity(alloc, ends.len() + 1)?;
+    let mut callers = others;
     let mut lanes = Vec::with_capacity(alloc, ends.len())?;
-    callers.push(first)?;
+    callers.insert(0, first)?;
     for end in ends {
         let LaneEnd { caller, told, .. } = end;
         callers.push(caller)?;
@@ -69,6 +70,25 @@ pub fn close_all<M: Method>(
     requires few { length callers.items + length guests.items ≤ MAX_PASSES }
     requires all_in { made_by callers.items ≡ length callers.items + length guests.items }
     ensures { IfOk result (λ closed. Closes live.caps [] (known callers.items)
+        (views_of callers.items guests.items) closed.bytes.items
+        (told M.keep M.heard closed.kept.items)) }
+{
+    close_later(alloc, live, callers, guests)
+}
+
+/// Closes a server whose tokens are all handed in.
+pub(crate) fn close_later<M: Method>(
+    alloc: Global,
+    live: Live<M>,
+    callers: Vec<Caller>,
+    guests: Vec<Guest>,
+) -> Result<Closed<M>, AllocError>
+    requires callers_ours { All (IsOurs live) callers.items }
+    requires guests_ours { All (IsOurGuest live) guests.items }
+    requires first { StartsAtZero callers.items }
+    requires few { length callers.items + length guests.items ≤ MAX_PASSES }
+    requires all_in { made_by callers.items ≡ length callers.items + length guests.items }
+    ensures { IfOk result (λ closed. Closes live.caps (past_of live.turn) (known callers.items)
         (views_of callers.items guests.items) closed.bytes.items
         (told M.keep M.heard closed.kept.items)) }
 {

@@ -22,5 +22,5 @@ pub use lanes::{all_ended, play_lanes};
 pub use packet::send;
 pub use part::{LanePart, LaneTold};
 pub use plan::{LaneEnd, LanePlan};
-pub use run::{Performed, run_lanes};
+pub use run::{Performed, resume_lanes, run_lanes};
 pub use worker::play_lane;

@@ -1,7 +1,7 @@
-use Rattle.std.proofs.Common.{◌≡◌, List, [], length, map, All, None, sym, ap, subst, ◌∙◌, arith}
+use Rattle.std.proofs.Common.{◌≡◌, ◌+◌, List, [], ◌∷◌, ◌++◌, length, map, All, None, sym, ap, subst, ◌∙◌, arith, length-append}
 use Rattle.std.specs.List.{AllByRecursion}
 use Rattle.std.proofs.lemmas.List.{length-map}
-use Rattle.std.proofs.lemmas.List.Elements.{All-cons, All-map, All-from_recursion, recursion_from_All}
+use Rattle.std.proofs.lemmas.List.Elements.{All-append, All-cons, All-map, All-from_recursion, recursion_from_All}
 use Rattle.std.proofs.lemmas.Slice.Zip.{AllZip-long}
 use Rattle.osc_core.specs.Telling.{told}
 use Rattle.osc_turn.specs.declared.view.View.{View}
@@ -14,9 +14,12 @@ use Rattle.osc_lanes.specs.declared.plan.LanePlan.{LanePlan}
 use Rattle.osc_lanes.specs.declared.part.LanePart.{LanePart}
 use Rattle.osc_lanes.specs.Ends.{IsReady}
 use Rattle.osc_lanes.specs.Shares.{Account}
-use Rattle.osc_lanes.specs.Performs.{Part, IsWhole, Performs, part_of, told_of}
+use Rattle.osc_lanes.specs.Performs.{Part, IsWhole, part_of, told_of}
+use Rattle.osc_lanes.specs.Later.{PerformsLater}
 use Rattle.osc_lanes.specs.Crews.{names_of, caller_of, part_in, caller_in, IsSilent, HasSeen}
-use Rattle.osc_lanes.proofs.Finishing.{from_mapped, ready, finish_played}
+use Rattle.osc_live.specs.Seen.{past_of}
+use Rattle.osc_lanes.proofs.Finishing.{from_mapped, ready}
+use Rattle.osc_lanes.proofs.Later.{finish_later}
 use Rattle.osc_lanes.proofs.run.play_all.Goals as goal
 use Rattle.osc_lanes.proofs.run.play_all.Goals.{In_ok-plans, In_ok-ends}
 
@@ -63,32 +66,39 @@ many_ends g c =
 pub part_ends-requires : goal.part_ends-requires
 part_ends-requires g c = record { few = omega (arith, many_ends g (goal.at.part_ends-requires g c).In_ok-ends, c.requires.few) }
 
-pub close_all-requires-clause-callers_ours : goal.close_all-requires-clause-callers_ours
-close_all-requires-clause-callers_ours g c =
-    let Ours : Caller → Type 0 = λ one. IsTokenOf c.args.live.turn c.args.live.caps one.pass in
-    subst (All Ours) (sym c.in_ok-callers.ensures.callers)
-    (All-cons Ours c.in_ok-first.field-0.first (map caller_in c.in_ok-ends.ends.items) c.in_ok-first.ensures.ours
-    (All-map Ours caller_in c.in_ok-ends.ends.items c.in_ok-ends.ensures.ours))
+-- how many tokens are handed in
+many_callers : (first : Caller) (olds others all : List Caller) → all ≡ first ∷ (olds ++ others) → length all ≡ 1 + length olds + length others
+many_callers first olds others all is = omega (arith, ap length is, length-append olds others)
 
-pub close_all-requires-clause-few : goal.close_all-requires-clause-few
-close_all-requires-clause-few g c =
+pub close_later-requires-clause-callers_ours : goal.close_later-requires-clause-callers_ours
+close_later-requires-clause-callers_ours g c =
+    let Ours : Caller → Type 0 = λ one. IsTokenOf c.args.live.turn c.args.live.caps one.pass in
+    let lanes = map caller_in c.in_ok-ends.ends.items in
+    subst (All Ours) (sym c.in_ok-callers.ensures.callers)
+    (All-cons Ours c.in_ok-first.field-0.first (c.args.others.items ++ lanes) c.in_ok-first.ensures.ours
+    (All-append Ours c.args.others.items lanes c.requires.others_ours (All-map Ours caller_in c.in_ok-ends.ends.items c.in_ok-ends.ensures.ours)))
+
+pub close_later-requires-clause-few : goal.close_later-requires-clause-few
+close_later-requires-clause-few g c =
+    let lanes = map caller_in c.in_ok-ends.ends.items in
     omega (
       arith,
-      ap length c.in_ok-callers.ensures.callers,
+      many_callers c.in_ok-first.field-0.first c.args.others.items lanes c.in_ok-callers.callers.items c.in_ok-callers.ensures.callers,
       length-map c.in_ok-ends.ends.items caller_in,
-      many_ends g (goal.at.close_all-requires-clause-few g c).In_ok-ends,
+      many_ends g (goal.at.close_later-requires-clause-few g c).In_ok-ends,
       c.requires.few,
       ap length c.new.ensures.items,
     )
 
-pub close_all-requires-clause-all_in : goal.close_all-requires-clause-all_in
-close_all-requires-clause-all_in g c =
+pub close_later-requires-clause-all_in : goal.close_later-requires-clause-all_in
+close_later-requires-clause-all_in g c =
+    let lanes = map caller_in c.in_ok-ends.ends.items in
     ap made_by c.in_ok-callers.ensures.callers ∙ (ap (λ (v : View). v.made) c.in_ok-first.ensures.same ∙ (c.requires.crew.made_is
     ∙ omega (
       arith,
-      ap length c.in_ok-callers.ensures.callers,
+      many_callers c.in_ok-first.field-0.first c.args.others.items lanes c.in_ok-callers.callers.items c.in_ok-callers.ensures.callers,
       length-map c.in_ok-ends.ends.items caller_in,
-      many_ends g (goal.at.close_all-requires-clause-all_in g c).In_ok-ends,
+      many_ends g (goal.at.close_later-requires-clause-all_in g c).In_ok-ends,
       c.requires.many,
       ap length c.new.ensures.items,
     )))
@@ -98,6 +108,7 @@ returns g c =
     let keep = g.M.Method.keep in
     let heard = g.M.Method.heard in
     let caps = c.args.live.caps in
+    let past = past_of c.args.live.turn in
     let plans = c.in_ok-plans.plans.items in
     let ends = c.in_ok-ends.ends.items in
     let met = c.in_ok-first.field-0.callers.items in
@@ -106,18 +117,19 @@ returns g c =
     let callers = c.in_ok-callers.ensures.callers in
     let guests = c.new.ensures.items in
     let closes =
-    subst (λ (l : List Caller). Closes caps [] (known l) (views_of l []) bytes (told keep heard kept)) callers
-    (subst (λ (l : List Guest). Closes caps [] (known c.in_ok-callers.callers.items) (views_of c.in_ok-callers.callers.items l) bytes (told keep heard kept))
+    subst (λ (l : List Caller). Closes caps past (known l) (views_of l []) bytes (told keep heard kept)) callers
+    (subst (λ (l : List Guest). Closes caps past (known c.in_ok-callers.callers.items) (views_of c.in_ok-callers.callers.items l) bytes (told keep heard kept))
     guests c.in_ok-closed.ensures) in
     let many : length plans ≡ length c.args.crew.callers.items =
     omega (arith, ap length c.in_ok-plans.ensures.parts, length-map plans part_in, length-map c.args.parts.items part_of, c.requires.many) in
     let done =
-    finish_played keep heard caps c.a_server_stays_sound.ensures.step c.a_server_stays_sound.ensures.opening bytes kept c.in_ok-first.field-0.first
-    (view c.args.crew.first.pass) c.args.crew.callers.items c.in_ok-first.ensures.same (c.in_ok-first.ensures.number ∙ c.requires.number)
+    finish_later keep heard caps past c.a_server_stays_sound.ensures.step c.a_server_stays_sound.ensures.opening bytes kept c.in_ok-first.field-0.first
+    (view c.args.crew.first.pass) c.args.others.items c.args.crew.callers.items c.in_ok-first.ensures.same
+    (c.in_ok-first.ensures.number ∙ c.requires.number) c.requires.old
     (λ plan end history is starts legal. c.a_lane_keeps_its_share.ensures.removed caps plan end history is starts legal) c.requires.crew plans ends
     (ap names_of c.in_ok-plans.ensures.callers ∙ c.in_ok-first.ensures.names) many
     (of_plans IsSilent plans met c.in_ok-plans.ensures.callers c.in_ok-first.ensures.silent)
     (of_plans (HasSeen (view c.args.crew.first.pass).seen) plans met c.in_ok-plans.ensures.callers c.in_ok-first.ensures.told)
     (all_ready g (goal.at.returns g c).In_ok-plans) c.in_ok-ends.ensures.ends closes in
-    subst (λ (q : List (Part g.row.M.Denot) × List (Account g.row.M.Denot)). Performs keep heard caps q.0 bytes kept q.1 None)
+    subst (λ (q : List (Part g.row.M.Denot) × List (Account g.row.M.Denot)). PerformsLater keep heard caps past q.0 bytes kept q.1 None)
     (λ i. (c.in_ok-plans.ensures.parts i, sym (ap (map told_of) c.in_ok-callers.ensures.told) i)) done

@@ -2,8 +2,8 @@ use Rattle.std.proofs.Common.{◌≡◌, ◌+◌, All, length}
 use Rattle.osc_turn.specs.Passes.{view}
 use Rattle.osc_turn.specs.History.{StartsWith}
 use Rattle.osc_live.specs.Seen.{IsTokenOf, history_of}
-use Rattle.osc_lanes.specs.Crews.{IsCrew}
-use Rattle.osc_lanes.proofs.crew.enrol_all.Given as goal
+use Rattle.osc_lanes.specs.Crews.{IsCrewFrom}
+use Rattle.osc_lanes.proofs.crew.enrol_more.Given as goal
 
 abbrev pub invariant-loop : goal.invariant-loop
 invariant-loop g l = record {
@@ -11,6 +11,7 @@ invariant-loop g l = record {
   number : l.first.number ≡ 0;
   callers_ours : All (λ caller. IsTokenOf l.live.turn l.live.caps caller.pass) l.callers.items;
   seen : StartsWith (view l.first.pass).seen (view l.fn.first.pass).seen;
-  crew : IsCrew (history_of (view l.fn.first.pass)) (1 + length l.callers.items) (view l.first.pass) l.callers.items;
+  crew : IsCrewFrom (view l.fn.first.pass).made (history_of (view l.fn.first.pass)) ((view l.fn.first.pass).made + length l.callers.items)
+      (view l.first.pass) l.callers.items;
   so_many : length l.callers.items ≡ l.counter;
 }
