@@ -1,15 +1,10 @@
 -- What holds of the bytes that an input had left.
 use Rattle.std.proofs.Common.{◌≡◌, ◌⊎◌, inl, inr, ℕ, ◌+◌, ◌<◌, ◌≤◌, List, [], length, replicate, Option, Some, None, IfSome, Result, Ok, Err, refl}
 use Rattle.std.proofs.Common.{subst, arith}
-use Rattle.std.specs.Prelude.{IfErr, IsErrAnd}
+use Rattle.std.specs.Prelude.{IfErr}
 use Rattle.std.proofs.lemmas.List.{length-replicate}
-use Rattle.osc_script.specs.declared.mode.Mode.{Mode}
-use Rattle.osc_script.specs.declared.script.TheConstants.{MAX_SCRIPT}
-use Rattle.osc_script.specs.Scripts.{script_of}
 use Rattle.osc_ends.specs.Ends.{left_behind}
-use Rattle.osc_ends.specs.Inputs.{OfInput, ReadsInput, RefusesScript, read_status}
-use Rattle.osc_ends.specs.Printing.{refusal_text}
-use Rattle.osc_ends.specs.Sinks.{SinkChange, GainsUnless}
+use Rattle.osc_ends.specs.Inputs.{OfInput, ReadsInput, RefusesInput, read_status}
 use Rattle.osc_ends.proofs.Transfers.{left_whole}
 
 -- the input was read to its end
@@ -63,16 +58,13 @@ read_sound (Ok value) known four = omega arith
 read_sound (Err status) (inl one) four = omega arith
 read_sound (Err status) (inr three) four = omega arith
 
--- a script that is too long is refused
-pub long_refused : (mode : Mode) (status : ℕ) (left after : Option (List ℕ)) (out : SinkChange) → (status ≡ 1) ⊎ (status ≡ 3)
-    → IfSome left (λ all. (MAX_SCRIPT < length all) × (after ≡ Some (left_behind MAX_SCRIPT all)))
-    → ((all : List ℕ) → MAX_SCRIPT < length all → status ≡ 1 → IsErrAnd (script_of mode all) (λ fault. GainsUnless out (refusal_text fault)))
-    → RefusesScript mode status left out
-long_refused mode status left after out known long refused = record {
+-- an input that is too long is refused
+pub long_refused : (most status : ℕ) (left after : Option (List ℕ)) (Refuses : List ℕ → Type 0) → (status ≡ 1) ⊎ (status ≡ 3)
+    → IfSome left (λ all. (most < length all) × (after ≡ Some (left_behind most all)))
+    → ((all : List ℕ) → most < length all → status ≡ 1 → Refuses all) → RefusesInput Refuses status left
+long_refused most status left after Refuses known long refused = record {
   known = go known;
-  refused =
-      λ one. long_bytes MAX_SCRIPT left after (λ script. IsErrAnd (script_of mode script) (λ fault. GainsUnless out (refusal_text fault))) long
-      (λ all more. refused all more one);
+  refused = λ one. long_bytes most left after Refuses long (λ all more. refused all more one);
 } where
   go : (status ≡ 1) ⊎ (status ≡ 3) → (status ≡ 1) ⊎ (status ≡ 3) ⊎ (status ≡ 4)
   go (inl one) = inl one

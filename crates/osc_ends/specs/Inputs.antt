@@ -5,9 +5,10 @@ use Rattle.osc_edge.specs.Faults.{Rose}
 use Rattle.osc_model.specs.Limits.{max_recording}
 use Rattle.osc_script.specs.declared.mode.Mode.{Mode}
 use Rattle.osc_script.specs.Scripts.{script_of}
+use Rattle.osc_score.specs.Reading.{score_of}
 use Rattle.osc_ends.specs.declared.status.TheConstants.{DONE, NO_MEMORY, REFUSED, SOURCE_FAILED}
 use Rattle.osc_ends.specs.Ends.{left_behind}
-use Rattle.osc_ends.specs.Printing.{malformed_text, refusal_text}
+use Rattle.osc_ends.specs.Printing.{malformed_text, refusal_text, score_fault_text}
 use Rattle.osc_ends.specs.Sinks.{SinkChange, GainsUnless}
 
 -- what holds of the bytes that an input has left, or of some where it doesn't tell them
@@ -28,13 +29,24 @@ pub record ReadsInput (most status : ℕ) (left left_after : Option (List ℕ))
   pub read : IfSome left (λ all. status ≢ NO_MEMORY → status ≢ SOURCE_FAILED
       → left_after ≡ Some (left_behind most all))
 
--- No lines came of an input that is to be a script: refused (1), where it has a first fault, and
--- the line on that was gained; want of memory (3); or a source that failed (4).
-pub record RefusesScript (mode : Mode) (status : ℕ) (left : Option (List ℕ)) (out : SinkChange)
+-- Nothing came of an input: refused (1), where its bytes are refused; want of memory (3); or a
+-- source that failed (4).
+pub record RefusesInput (Refuses : List ℕ → Type 0) (status : ℕ) (left : Option (List ℕ))
     : Type 0 where
   pub known : (status ≡ REFUSED) ⊎ (status ≡ NO_MEMORY) ⊎ (status ≡ SOURCE_FAILED)
-  pub refused : status ≡ REFUSED → OfInput left
-      (λ script. IsErrAnd (script_of mode script) (λ fault. GainsUnless out (refusal_text fault)))
+  pub refused : status ≡ REFUSED → OfInput left Refuses
+
+-- the bytes have a first fault as a script, and the line on that was gained
+abbrev pub RefusesScript : Mode → ℕ → Option (List ℕ) → SinkChange → Type 0
+RefusesScript mode status left out =
+    RefusesInput (λ script. IsErrAnd (script_of mode script)
+    (λ fault. GainsUnless out (refusal_text fault))) status left
+
+-- they have one as a score
+abbrev pub RefusesScore : ℕ → Option (List ℕ) → SinkChange → Type 0
+RefusesScore status left out =
+    RefusesInput (λ score. IsErrAnd (score_of score)
+    (λ fault. GainsUnless out (score_fault_text fault))) status left
 
 -- No bytes came of an input that is to be a recording: refused (1), where there are too many, and
 -- the line on that was gained; want of memory (3); or a source that failed (4).

@@ -8,6 +8,7 @@ use Rattle.osc_model.specs.Limits.{Limits}
 use Rattle.osc_model.specs.Events.{Entry, Room}
 use Rattle.osc_replay.specs.Printed.{printed}
 use Rattle.osc_script.specs.declared.fault.ScriptFault.{ScriptFault}
+use Rattle.osc_score.specs.declared.fault.ScoreFault.{ScoreFault}
 use Rattle.osc_ends.specs.declared.outcome.Outcome.{Outcome}
 use Rattle.osc_ends.specs.declared.outcome.Outcome.TheVariants.{Done, Full, LinkFailed, ClockFailed}
 
@@ -29,6 +30,10 @@ recorded_text caps history said outcome = printed caps history ++ (said ++ last_
 -- the line of a script that is refused
 abbrev pub refusal_text : ScriptFault → List ℕ
 refusal_text fault = line (named_room (codes "script") fault.line fault.kind)
+
+-- the line of a score that is refused
+abbrev pub score_fault_text : ScoreFault → List ℕ
+score_fault_text fault = line (named_room (codes "score") fault.line fault.kind)
 
 -- the line of a recording that is malformed at a place
 abbrev pub malformed_text : ℕ → List ℕ

@@ -9,6 +9,7 @@ mod input;
 mod lines;
 mod outcome;
 mod recorded;
+mod score_input;
 pub mod status;
 mod whole;
 mod writing;
@@ -21,6 +22,7 @@ pub use input::{read_recording, read_script};
 pub use lines::outcome_line;
 pub use outcome::{Outcome, status_of, stopped};
 pub use recorded::Recorded;
+pub use score_input::read_score;
 pub use writing::{
     bank_short, usage, write_dump, write_replay, write_run_text, write_text, write_upgrade,
 };

@@ -4,6 +4,7 @@ ghost use Rattle.osc_print.specs.Lines.{line};
 ghost use Rattle.osc_print.specs.Entries.{named, named_room};
 ghost use Rattle.osc_ends.specs.Printing.{
   refusal_text,
+  score_fault_text,
   malformed_text,
   named_bytes,
   disagrees_text,
@@ -14,6 +15,7 @@ ghost use Rattle.osc_ends.specs.Printing.{
 
 use crate::outcome::Outcome;
 use osc_print::Text;
+use osc_score::ScoreFault;
 use osc_script::ScriptFault;
 use std::alloc::{AllocError, Global};
 
@@ -27,6 +29,13 @@ pub(crate) fn refusal_line(text: &mut Text, fault: ScriptFault) -> Result<(), Al
         u64::from(fault.line),
         u64::from(fault.kind),
     )
+}
+
+/// Adds the line of a score that is refused.
+pub(crate) fn score_fault_line(text: &mut Text, fault: ScoreFault) -> Result<(), AllocError>
+    ensures { OnOk result (text.new ≡ text.old ++ score_fault_text fault) }
+{
+    pair_line(text, b"score", u64::from(fault.line), u64::from(fault.kind))
 }
 
 /// Adds the line of a recording that is malformed at a place.

@@ -17,6 +17,7 @@ ghost use Rattle.osc_replay.specs.Old.{IsOldRecordingOf};
 ghost use Rattle.osc_replay.specs.Upgrading.{upgraded_text};
 ghost use Rattle.osc_ends.specs.Printing.{
   refusal_text,
+  score_fault_text,
   malformed_text,
   disagrees_text,
   too_large_text,
@@ -30,7 +31,8 @@ ghost use Rattle.osc_ends.specs.Recordings.{EndsReplay, EndsDump, EndsUpgrade, R
 ghost use Rattle.osc_ends.specs.Sinks.{sink_change};
 
 use crate::lines::{
-    bank_short_line, disagrees_lines, malformed_line, outcome_line, refusal_line, too_large_line,
+    bank_short_line, disagrees_lines, malformed_line, outcome_line, refusal_line, score_fault_line,
+    too_large_line,
 };
 use crate::outcome::status_of;
 use crate::recorded::Recorded;
@@ -43,6 +45,7 @@ use osc_model::laws::a_legal_history_is_recordable;
 use osc_print::Text;
 use osc_record::MAX_RECORDING;
 use osc_replay::{DumpFault, ReplayFault, UpgradeFault, dump, replay, upgrade};
+use osc_score::ScoreFault;
 use osc_script::ScriptFault;
 use std::alloc::{AllocError, Global};
 
@@ -157,6 +160,18 @@ pub(crate) fn refuse<O: Sink>(alloc: Global, fault: ScriptFault, out: &mut O) ->
 {
     let mut text = Text::open(alloc);
     match refusal_line(&mut text, fault) {
+        Ok(()) => last_line(REFUSED, text.bytes(), out),
+        Err(_) => NO_MEMORY,
+    }
+}
+
+/// Writes the line of a score that is refused.
+pub(crate) fn refuse_score<O: Sink>(alloc: Global, fault: ScoreFault, out: &mut O) -> u8
+    ensures { EndsLine REFUSED result (score_fault_text fault)
+        (sink_change O.held O.faults out.old out.new) }
+{
+    let mut text = Text::open(alloc);
+    match score_fault_line(&mut text, fault) {
         Ok(()) => last_line(REFUSED, text.bytes(), out),
         Err(_) => NO_MEMORY,
     }

@@ -1,1 +1,2 @@
 mod Tops
+mod ScoreEnds

@@ -21,9 +21,9 @@ use Rattle.osc_ends.specs.Inputs.{RefusesLength}
 use Rattle.osc_ends.specs.Printing.{bank_short_text, malformed_text}
 use Rattle.osc_ends.specs.Recordings.{EndsRecording}
 use Rattle.osc_ends.specs.Sinks.{SinkChange, GainsUnless}
-use Rattle.osc_plain.specs.Runs.{IsPlayed, IsUnstopped, EndsLines, EndsReading, EndsRun}
+use Rattle.osc_plain.specs.Runs.{IsPlayed, IsUnstopped, EndsLines, EndsRun}
 use Rattle.osc_ends.specs.Ends.{EndsLine}
-use Rattle.osc_plain.specs.EndsPlain.{AccountsPlain, CanBeDone}
+use Rattle.osc_plain.specs.EndsPlain.{AccountsPlain, CanBeDone, EndsReading}
 
 -- too few boxes
 pub short_ends : (report : Report) (caps : Limits) (status status' have have' need : ℕ) (lines : List Line) (out : SinkChange) → status' ≡ status

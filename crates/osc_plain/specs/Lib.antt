@@ -1,4 +1,5 @@
 -- What public contracts cite.
 pub mod Commands
 pub mod Runs
+pub mod Scores
 pub mod EndsPlain

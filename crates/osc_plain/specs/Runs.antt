@@ -14,17 +14,13 @@ use Rattle.osc_script.specs.Adds.{count_adds}
 use Rattle.osc_script.specs.Scripts.{script_of}
 use Rattle.osc_words.specs.declared.command.Output.{Output}
 use Rattle.osc_words.specs.declared.command.Output.TheVariants as output
-use Rattle.osc_words.specs.declared.command.Reading.{Reading}
-use Rattle.osc_words.specs.declared.command.Reading.TheVariants.{Run, Replay, Dump, Upgrade}
 use Rattle.osc_ends.specs.declared.outcome.Outcome.{Outcome}
 use Rattle.osc_ends.specs.Outcomes.{stopped}
 use Rattle.osc_ends.specs.Printing.{bank_short_text, last_text, recorded_text, refusal_text}
-use Rattle.osc_ends.specs.Recordings.{EndsReplay, EndsDump, EndsUpgrade}
 use Rattle.osc_ends.specs.Sinks.{SinkChange, GainsAll, GainsPart, GainsUnless}
 use Rattle.osc_player.specs.Plain.{plain, printed_faults}
 use Rattle.osc_plain.specs.declared.report.Report.{Report}
 use Rattle.osc_plain.specs.declared.report.Report.TheVariants.{Text, Recording, Summary}
-use Rattle.osc_plain.specs.Commands.{plain_limits}
 
 -- a script was played, and recorded
 abbrev pub IsPlayed : ℕ → Type 0
@@ -86,14 +82,6 @@ pub record EndsRun (report : Report) (caps : Limits) (status have : ℕ) (script
       → IsErrAnd (script_of Plain script) (λ fault. GainsUnless out (refusal_text fault))
   pub lawful : status ≢ REFUSED → status ≢ NO_MEMORY
       → IsOkAnd (script_of Plain script) (λ lines. EndsLines report caps status have lines out)
-
--- the end of a command that reads an input, of which so many boxes and this input were handed in
-abbrev pub EndsReading : Reading → ℕ → ℕ → List ℕ → SinkChange → Type 0
-EndsReading (Run output caps) status have input out =
-    EndsRun (report_of output) (plain_limits caps) status have input out
-EndsReading Replay status have input out = EndsReplay status input out
-EndsReading Dump status have input out = EndsDump status input out
-EndsReading Upgrade status have input out = EndsUpgrade status input out
 
 -- what was recorded of a run of lines: its recording, the lines of the faults, and how it ended
 pub record RecordsRun (bytes faults : List ℕ) (outcome : Outcome) (caps : Limits)

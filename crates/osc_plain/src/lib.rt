@@ -7,6 +7,7 @@ mod limits;
 mod reading;
 mod report;
 mod running;
+mod scoring;
 mod top;
 mod writing;
 

@@ -39,14 +39,16 @@ ghost use Rattle.osc_ends.specs.Sinks.{sink_change, Fails, IsSteady, GainsUnless
 ghost use Rattle.osc_player.specs.Bank.{IsAccounted};
 ghost use Rattle.osc_plain.specs.declared.report.Report.TheVariants.{Summary};
 ghost use Rattle.osc_plain.specs.Commands as commands;
-ghost use Rattle.osc_plain.specs.Runs.{EndsLines, EndsReading, IsPlayed};
-ghost use Rattle.osc_plain.specs.EndsPlain.{EndsPlain, CanBeDone, HandsBack, AccountsPlain};
+ghost use Rattle.osc_plain.specs.Runs.{EndsLines, IsPlayed};
+ghost use Rattle.osc_plain.specs.EndsPlain.{EndsPlain, EndsReading, CanBeDone};
+ghost use Rattle.osc_plain.specs.EndsPlain.{HandsBack, AccountsPlain};
 
 use crate::generating::drawn_lines;
 use crate::limits::{default_limits, plain_limits};
 use crate::reading::{dump, replay, upgrade};
 use crate::report::{Report, report_of};
 use crate::running::{run, run_lines, unplayed};
+use crate::scoring::{play_score, write_score};
 use osc_edge::{Sink, Source};
 use osc_ends::status::NO_MEMORY;
 use osc_ends::{Ended, usage};
@@ -58,7 +60,7 @@ use std::alloc::Global;
 /// the printed history and the faults of its packets to `out`, or with `--bytes` the recording. `replay` reads a
 /// recording, and writes the same printed history, each answer of which it computes again. `dump` reads a recording,
 /// and writes its entries as they stand. `upgrade` reads a recording of the first version, and writes it as one of
-/// today. `gen` reads nothing: it draws a script from a seed, plays it, and writes how
+/// today. `score` reads a score, and writes its script, or with `--play` plays that as `run` does. `gen` reads nothing: it draws a script from a seed, plays it, and writes how
 /// many entries of each kind there are.
 ///
 /// `words` are those of the command line, without the program's name. The k-th add of a script gets the k-th box of
@@ -184,6 +186,8 @@ fn follow<S: Source, O: Sink>(
         Reading::Replay => unplayed(alloc, replay(alloc, input, out), bank),
         Reading::Dump => unplayed(alloc, dump(alloc, input, out), bank),
         Reading::Upgrade => unplayed(alloc, upgrade(alloc, input, out), bank),
+        Reading::Score => unplayed(alloc, write_score(alloc, input, out), bank),
+        Reading::PlayScore => play_score(alloc, input, out, bank),
     }
 }
 

@@ -4,6 +4,8 @@
 #[cfg(test)]
 mod file;
 #[cfg(test)]
+mod score;
+#[cfg(test)]
 mod top;
 #[cfg(test)]
 mod upgrade;

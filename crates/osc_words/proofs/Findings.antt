@@ -9,13 +9,14 @@ use Rattle.clap.specs.declared.error.kind.ErrorKind.TheVariants.{OutOfMemory}
 use Rattle.clap.specs.declared.parser.matches.ArgMatches.{ArgMatches}
 use Rattle.osc_words.specs.Reading.{app_for, found_by, unless_refused}
 use Rattle.osc_words.specs.declared.verb.Verb.{Verb}
-use Rattle.osc_words.specs.declared.verb.Verb.TheVariants.{Run, Replay, Dump, Upgrade, Gen, Lanes, Serve}
+use Rattle.osc_words.specs.declared.verb.Verb.TheVariants.{Run, Replay, Dump, Upgrade, Score, Gen, Lanes, Serve}
 
 simple : (verb : Verb) → is_simple_and_free (app_for verb) ≡ true
 simple Run = refl
 simple Replay = refl
 simple Dump = refl
 simple Upgrade = refl
+simple Score = refl
 simple Gen = refl
 simple Lanes = refl
 simple Serve = refl

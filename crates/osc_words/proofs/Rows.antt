@@ -6,7 +6,7 @@ use Rattle.osc_words.specs.Commands.{command_of, to_read}
 use Rattle.osc_words.specs.Reading.{found_by}
 use Rattle.osc_words.specs.declared.command.Capacities.{Capacities}
 use Rattle.osc_words.specs.declared.command.Output.TheVariants as output
-use Rattle.osc_words.specs.declared.command.Reading.TheVariants.{Run, Replay, Upgrade}
+use Rattle.osc_words.specs.declared.command.Reading.TheVariants.{Run, Replay, Upgrade, Score, PlayScore}
 use Rattle.osc_words.specs.declared.command.PlainCommand.TheVariants.{Gen}
 use Rattle.osc_words.specs.declared.command.Transport.TheVariants.{Udp, Tcp}
 use Rattle.osc_words.specs.declared.command.LiveCommand.TheVariants.{Lanes, Serve}
@@ -71,6 +71,18 @@ upgrade = refl
 stray_upgrade : command_of (codes "upgrade" ∷ codes "old.rec" ∷ []) ≡ None
 unfolding clap_on_literals command_of found_by
 stray_upgrade = refl
+
+score : command_of (codes "score" ∷ []) ≡ Some (to_read Score)
+unfolding clap_on_literals command_of found_by
+score = refl
+
+score_played : command_of (codes "score" ∷ codes "--play" ∷ []) ≡ Some (to_read PlayScore)
+unfolding clap_on_literals command_of found_by
+score_played = refl
+
+limited_score : command_of (codes "score" ∷ codes "--play" ∷ codes "--units" ∷ codes "7" ∷ []) ≡ None
+unfolding clap_on_literals command_of found_by
+limited_score = refl
 
 trailing : command_of (codes "replay" ∷ codes "--" ∷ []) ≡ Some (to_read Replay)
 unfolding clap_on_literals command_of found_by

@@ -11,7 +11,7 @@ use Rattle.osc_words.specs.Options.{flag_name, late_name, row_of}
 use Rattle.osc_words.specs.Reading.{found_by}
 use Rattle.osc_words.specs.Verbs as verbs
 use Rattle.osc_words.specs.declared.options.Flag.{Flag}
-use Rattle.osc_words.specs.declared.options.Flag.TheVariants.{Bytes, Tcp}
+use Rattle.osc_words.specs.declared.options.Flag.TheVariants.{Bytes, Tcp, Play}
 use Rattle.osc_words.specs.declared.options.Quantity.{Quantity}
 use Rattle.osc_words.specs.declared.options.Quantity.TheVariants.{Units, Blocks, Methods, Nodes}
 use Rattle.osc_words.specs.declared.options.Quantity.TheVariants.{Recording, Seed, Lines, Port}
@@ -23,7 +23,8 @@ use Rattle.osc_words.specs.declared.command.Capacities.{Capacities}
 use Rattle.osc_words.specs.declared.command.Output.{Output}
 use Rattle.osc_words.specs.declared.command.Output.TheVariants as output
 use Rattle.osc_words.specs.declared.command.Reading.{Reading}
-use Rattle.osc_words.specs.declared.command.Reading.TheVariants.{Run, Replay, Dump, Upgrade}
+use Rattle.osc_words.specs.declared.command.Reading.TheVariants.{Run, Replay, Dump, Upgrade, Score}
+use Rattle.osc_words.specs.declared.command.Reading.TheVariants.{PlayScore}
 use Rattle.osc_words.specs.declared.command.PlainCommand.{PlainCommand}
 use Rattle.osc_words.specs.declared.command.PlainCommand.TheVariants.{Read, Gen}
 use Rattle.osc_words.specs.declared.command.Transport.{Transport}
@@ -77,6 +78,10 @@ caps_of rows =
 abbrev pub output_of : List Row → Output
 output_of rows = if is_given Bytes rows then output.Recording else output.Text
 
+-- what the words say to do with a score
+abbrev pub score_of : List Row → Reading
+score_of rows = if is_given Play rows then PlayScore else Score
+
 abbrev pub gen_from : Option ℕ → Option ℕ → Option Command
 gen_from (Some seed) (Some lines) = Some (Plain (Gen seed lines))
 gen_from _ _ = None
@@ -109,6 +114,7 @@ said_by verb.Run rows = option_map (λ caps. to_read (Run (output_of rows) caps)
 said_by verb.Replay rows = Some (to_read Replay)
 said_by verb.Dump rows = Some (to_read Dump)
 said_by verb.Upgrade rows = Some (to_read Upgrade)
+said_by verb.Score rows = Some (to_read (score_of rows))
 said_by verb.Gen rows = gen_of rows
 said_by verb.Lanes rows = option_map (λ caps. Live (Lanes caps)) (caps_of rows)
 said_by verb.Serve rows = serve_of rows

@@ -3,7 +3,7 @@ use Rattle.std.specs.Prelude.{ℕ, ◌≤◌, true, List, Some, codes}
 use Rattle.clap.specs.Words.{Rule, new_rule}
 use Rattle.clap.specs.declared.builder.action.ArgAction.TheVariants.{SetTrue}
 use Rattle.osc_words.specs.declared.options.Flag.{Flag}
-use Rattle.osc_words.specs.declared.options.Flag.TheVariants.{Bytes, Tcp}
+use Rattle.osc_words.specs.declared.options.Flag.TheVariants.{Bytes, Tcp, Play}
 use Rattle.osc_words.specs.declared.options.Quantity.{Quantity}
 use Rattle.osc_words.specs.declared.options.Quantity.TheVariants.{Units, Blocks, Methods, Nodes}
 use Rattle.osc_words.specs.declared.options.Quantity.TheVariants.{Recording, Seed, Lines, Port}
@@ -44,6 +44,7 @@ IsInRange quantity number = ((row_of quantity).least ≤ number) × (number ≤ 
 abbrev pub flag_name : Flag → List ℕ
 flag_name Bytes = codes "bytes"
 flag_name Tcp = codes "tcp"
+flag_name Play = codes "play"
 
 -- the option that says what becomes of late units
 abbrev pub late_name : List ℕ

@@ -8,7 +8,8 @@ use Rattle.osc_words.specs.declared.options.Quantity.TheVariants.{Count, Idle}
 use Rattle.osc_words.specs.declared.command.TheConstants.{PORTS}
 use Rattle.osc_words.specs.declared.command.Capacities.{Capacities}
 use Rattle.osc_words.specs.declared.command.Reading.{Reading}
-use Rattle.osc_words.specs.declared.command.Reading.TheVariants.{Run, Replay, Dump, Upgrade}
+use Rattle.osc_words.specs.declared.command.Reading.TheVariants.{Run, Replay, Dump, Upgrade, Score}
+use Rattle.osc_words.specs.declared.command.Reading.TheVariants.{PlayScore}
 use Rattle.osc_words.specs.declared.command.PlainCommand.{PlainCommand}
 use Rattle.osc_words.specs.declared.command.PlainCommand.TheVariants.{Read, Gen}
 use Rattle.osc_words.specs.declared.command.LiveCommand.{LiveCommand}
@@ -37,6 +38,8 @@ IsLawfulReading (Run output caps) = AreInRange caps
 IsLawfulReading Replay = Unit {0}
 IsLawfulReading Dump = Unit {0}
 IsLawfulReading Upgrade = Unit {0}
+IsLawfulReading Score = Unit {0}
+IsLawfulReading PlayScore = Unit {0}
 
 abbrev pub IsLawfulPlain : PlainCommand → Type 0
 IsLawfulPlain (Read reading) = IsLawfulReading reading

@@ -1,15 +1,15 @@
 -- The first word, and what each command has behind it.
 use Rattle.std.specs.Prelude.{ℕ, if◌then◌else◌, List, [], ◌∷◌, ◌++◌, map, Option, Some, None, codes}
 use Rattle.std.specs.Str.{bytes_eq}
-use Rattle.osc_words.specs.declared.options.Flag.TheVariants.{Bytes, Tcp}
+use Rattle.osc_words.specs.declared.options.Flag.TheVariants.{Bytes, Tcp, Play}
 use Rattle.osc_words.specs.declared.options.Quantity.TheVariants.{Units, Blocks, Methods, Nodes}
 use Rattle.osc_words.specs.declared.options.Quantity.TheVariants.{Recording, Seed, Lines, Port}
 use Rattle.osc_words.specs.declared.options.Quantity.TheVariants.{Links, Count, Idle}
 use Rattle.osc_words.specs.declared.options.Parameter.{Parameter}
 use Rattle.osc_words.specs.declared.options.Parameter.TheVariants.{Flag, Number, Late, File}
 use Rattle.osc_words.specs.declared.verb.Verb.{Verb}
-use Rattle.osc_words.specs.declared.verb.Verb.TheVariants.{Run, Replay, Dump, Upgrade, Gen, Lanes}
-use Rattle.osc_words.specs.declared.verb.Verb.TheVariants.{Serve}
+use Rattle.osc_words.specs.declared.verb.Verb.TheVariants.{Run, Replay, Dump, Upgrade, Score, Gen}
+use Rattle.osc_words.specs.declared.verb.Verb.TheVariants.{Lanes, Serve}
 
 abbrev pub verb_of : List ℕ → Option Verb
 verb_of word =
@@ -17,6 +17,7 @@ verb_of word =
     else if bytes_eq word (codes "replay") then Some Replay
     else if bytes_eq word (codes "dump") then Some Dump
     else if bytes_eq word (codes "upgrade") then Some Upgrade
+    else if bytes_eq word (codes "score") then Some Score
     else if bytes_eq word (codes "gen") then Some Gen
     else if bytes_eq word (codes "lanes") then Some Lanes
     else if bytes_eq word (codes "serve") then Some Serve
@@ -32,6 +33,7 @@ options_of Run = Flag Bytes ∷ caps
 options_of Replay = []
 options_of Dump = []
 options_of Upgrade = []
+options_of Score = Flag Play ∷ []
 options_of Gen = Number Seed ∷ Number Lines ∷ []
 options_of Lanes = caps ++ File ∷ []
 options_of Serve =

@@ -55,6 +55,10 @@ pub enum Reading {
     Dump,
     /// To write a recording of the first version as one of today.
     Upgrade,
+    /// To write the script of a score.
+    Score,
+    /// To play the script of a score.
+    PlayScore,
 }
 
 /// A command of `osc`.

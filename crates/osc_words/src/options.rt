@@ -11,6 +11,7 @@ use std::alloc::Global;
 pub(crate) enum Flag {
     Bytes,
     Tcp,
+    Play,
 }
 
 /// An option that takes a number.
@@ -55,6 +56,7 @@ impl Flag {
         match self {
             Flag::Bytes => "bytes",
             Flag::Tcp => "tcp",
+            Flag::Play => "play",
         }
     }
 }

@@ -81,6 +81,7 @@ fn command_from(verb: Verb, found: &ArgMatches<'_>) -> Option<Command>
         Verb::Replay => Some(reading(Reading::Replay)),
         Verb::Dump => Some(reading(Reading::Dump)),
         Verb::Upgrade => Some(reading(Reading::Upgrade)),
+        Verb::Score => Some(reading(score_in(found))),
         Verb::Gen => gen_in(found),
         Verb::Lanes => Some(Command::Live(LiveCommand::Lanes {
             caps: caps_in(found)?,
@@ -102,6 +103,16 @@ fn output_in(found: &ArgMatches<'_>) -> Output
         Output::Recording
     } else {
         Output::Text
+    }
+}
+
+fn score_in(found: &ArgMatches<'_>) -> Reading
+    ensures { result ≡ commands.score_of (rows_of (found_of found.now)) }
+{
+    if flag(found, Flag::Play) {
+        Reading::PlayScore
+    } else {
+        Reading::Score
     }
 }
 

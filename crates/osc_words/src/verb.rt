@@ -11,6 +11,7 @@ pub enum Verb {
     Replay,
     Dump,
     Upgrade,
+    Score,
     Gen,
     Lanes,
     Serve,
@@ -25,6 +26,8 @@ static RUN: [Parameter; 7] = [
     Parameter::Number(Quantity::Recording),
     Parameter::Late,
 ];
+
+static SCORE: [Parameter; 1] = [Parameter::Flag(Flag::Play)];
 
 static GEN: [Parameter; 2] = [
     Parameter::Number(Quantity::Seed),
@@ -66,6 +69,7 @@ impl Verb {
             "replay" => Some(Verb::Replay),
             "dump" => Some(Verb::Dump),
             "upgrade" => Some(Verb::Upgrade),
+            "score" => Some(Verb::Score),
             "gen" => Some(Verb::Gen),
             "lanes" => Some(Verb::Lanes),
             "serve" => Some(Verb::Serve),
@@ -79,6 +83,7 @@ impl Verb {
     {
         match self {
             Verb::Run => RUN.as_slice(),
+            Verb::Score => SCORE.as_slice(),
             Verb::Gen => GEN.as_slice(),
             Verb::Lanes => LANES.as_slice(),
             Verb::Serve => SERVE.as_slice(),

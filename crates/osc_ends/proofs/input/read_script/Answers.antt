@@ -9,5 +9,5 @@ returns-in-Whole-clause-input g c =
 
 pub returns-in-TooLong-clause-refused : goal.returns-in-TooLong-clause-refused
 returns-in-TooLong-clause-refused g c =
-    long_refused c.args.mode c.refuse_long.result _ _ _ c.refuse_long.ensures.known c.in-TooLong.ensures.0
+    long_refused MAX_SCRIPT c.refuse_long.result _ _ _ c.refuse_long.ensures.known c.in-TooLong.ensures.0
     (λ all long one. c.refuse_long.ensures.refused c.args.mode all long one)

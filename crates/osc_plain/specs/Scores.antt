@@ -1,0 +1,53 @@
+-- How the commands end that read a score.
+use Rattle.osc_ends.specs.declared.status.TheConstants.{DONE, NO_MEMORY, RECORDING_FULL, REFUSED}
+use Rattle.std.specs.Prelude.{◌≡◌, ◌≢◌, ℕ, List, length, Ok, IsOkAnd, IsErrAnd}
+use Rattle.osc_script.specs.declared.line.Line.{Line}
+use Rattle.osc_script.specs.declared.mode.Mode.TheVariants.{Plain}
+use Rattle.osc_script.specs.Adds.{count_adds}
+use Rattle.osc_script.specs.Scripts.{script_of}
+use Rattle.osc_score.specs.Scores.{Note, addresses_of}
+use Rattle.osc_score.specs.Scripted.{score_script}
+use Rattle.osc_score.specs.Plans.{Plan, plan_script}
+use Rattle.osc_score.specs.Reading.{score_of}
+use Rattle.osc_score_laws.specs.Heard.{PlaysScore, score_lines}
+use Rattle.osc_ends.specs.Ends.{EndsText}
+use Rattle.osc_ends.specs.Printing.{score_fault_text}
+use Rattle.osc_ends.specs.Sinks.{SinkChange, GainsUnless}
+use Rattle.osc_plain.specs.declared.report.Report.TheVariants.{Text}
+use Rattle.osc_plain.specs.Commands.{default_limits}
+use Rattle.osc_plain.specs.Runs.{EndsLines}
+
+-- the script of the notes is lawful, and has these lines
+abbrev pub IsScriptOf : List Note → Type 0
+IsScriptOf notes = script_of Plain (score_script notes) ≡ Ok (score_lines notes)
+
+-- The end of a command that reads a score, by its status: refused (1), where it has a first fault,
+-- and the line on that fault was gained; else, but for want of memory (3), it is one, whose script is
+-- lawful, and this holds of its notes.
+pub record EndsNotes (Ends : List Note → Type 0) (status : ℕ) (score : List ℕ) (out : SinkChange)
+    : Type 0 where
+  pub refused : status ≡ REFUSED
+      → IsErrAnd (score_of score) (λ fault. GainsUnless out (score_fault_text fault))
+  pub lawful : status ≢ REFUSED → status ≢ NO_MEMORY
+      → IsOkAnd (score_of score) (λ notes. IsScriptOf notes × Ends notes)
+
+-- its script is written, or a front of it where the sink failed
+abbrev pub EndsScore : ℕ → List ℕ → SinkChange → Type 0
+EndsScore status score out =
+    EndsNotes (λ notes. EndsText DONE status (score_script notes) out) status score out
+
+-- Its script is run: a method is added at each distinct address; each note is one call, in order,
+-- while the clock stands at its tag; no entry is a refusal, and the recording is never full.
+pub record EndsPlaying (status have size : ℕ) (out : SinkChange) (notes : List Note) : Type 0 where
+  pub run : EndsLines Text default_limits status have (score_lines notes) out
+  pub adds : count_adds (score_lines notes) ≡ length (addresses_of notes)
+  pub plays : PlaysScore default_limits size notes
+  pub roomy : status ≢ RECORDING_FULL
+
+abbrev pub EndsPlayedScore : ℕ → ℕ → List ℕ → SinkChange → Type 0
+EndsPlayedScore status have score out =
+    EndsNotes (EndsPlaying status have (length score) out) status score out
+
+-- inside the crate: the script of what is kept of a score is lawful, and has these lines
+abbrev pub IsScriptWith : Plan → List Line → Type 0
+IsScriptWith plan lines = script_of Plain (plan_script plan) ≡ Ok lines
