@@ -32,12 +32,11 @@ int main(int count_of_words, char **words) {
     }
     lo_server server = lo_server_new_with_proto(words[2], strcmp(words[1], "tcp") ? LO_UDP : LO_TCP, print_fault);
     if (!server) return 1;
-    for (int group = 0; group < GROUPS; group++)
-        for (int name = 0; name < NAMES; name++) {
-            char address[32];
-            snprintf(address, sizeof address, "/g%d/n%d", group, name);
-            lo_server_add_method(server, address, NULL, count_call, NULL);
-        }
+    for (unsigned method = 0; method < methods; method++) {
+        char address[32];
+        snprintf(address, sizeof address, "/g%u/n%u", group_of(method), name_of(method));
+        lo_server_add_method(server, address, NULL, count_call, NULL);
+    }
     long count = atol(words[3]);
     int idle = 0; /* waits in a row; over TCP a read that ends within a packet counts as one */
     while (count > 0 && idle < IDLE_WAITS) {

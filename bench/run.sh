@@ -2,6 +2,7 @@
 # Plays the same scripts on osc and on a program over liblo, one after another, and prints the tables of README.md.
 #
 #     bench/run.sh [KINDS [LENGTHS]]        as bench/run.sh "0 2" "10 100"; all of them by default
+#     bench/run.sh methods [KINDS [COUNTS]] by how many methods stand; as bench/run.sh methods "0 2" "10 1000"
 #     bench/run.sh datagrams [..]           datagrams over loopback, or with --tcp a stream: datagrams.sh
 #
 # It needs cc, liblo-dev, valgrind and time, and what bin/osc needs.
@@ -10,8 +11,16 @@ if [ "${1:-}" = datagrams ]; then
     shift
     exec "$(dirname "$0")/datagrams.sh" "$@"
 fi
-kinds=${1:-0 1 2 3 4}
-lengths=${2:-10 100 1000 10000}
+table=lengths
+if [ "${1:-}" = methods ]; then
+    table=methods
+    shift
+    kinds=${1:-0 2 3}
+    counts=${2:-1 10 100 1000 8000}
+else
+    kinds=${1:-0 1 2 3 4}
+    lengths=${2:-10 100 1000 10000}
+fi
 here=$(cd "$(dirname "$0")" && pwd)
 top=$(dirname "$here")
 work=$(mktemp -d)
@@ -22,9 +31,14 @@ cc -O2 "$here/lo_script.c" -o "$work/lo_script" -llo
 "$top/bin/osc" run < /dev/null > /dev/null # builds it
 program="$top/crates/osc/out/osc"
 
-script() { # KIND COUNT
-    [ -f "$work/$1-$2.osc" ] || "$work/make_script" "$1" "$2" > "$work/$1-$2.osc"
-    echo "$work/$1-$2.osc"
+script() { # KIND COUNT [METHODS]
+    [ -f "$work/$1-$2-${3:-1000}.osc" ] || "$work/make_script" "$1" "$2" "${3:-1000}" > "$work/$1-$2-${3:-1000}.osc"
+    echo "$work/$1-$2-${3:-1000}.osc"
+}
+
+# The options with which so many methods have room.
+room() { # METHODS
+    [ "$1" -le 1000 ] || echo "--methods $1 --nodes $((2 * $1))"
 }
 
 play() { # NAME SCRIPT
@@ -35,24 +49,24 @@ play() { # NAME SCRIPT
     esac > "$work/out"
 }
 
-command_of() { # NAME
+command_of() { # NAME [METHODS]
     case $1 in
     liblo) echo "$work/lo_script" ;;
-    osc) echo "$program run" ;;
-    bytes) echo "$program run --bytes" ;;
+    osc) echo "$program run $(room "${2:-1000}")" ;;
+    bytes) echo "$program run --bytes $(room "${2:-1000}")" ;;
     esac
 }
 
-instructions() { # NAME SCRIPT
-    valgrind --tool=callgrind --callgrind-out-file=/dev/null $(command_of "$1") < "$2" 2>&1 > "$work/out" |
+instructions() { # NAME SCRIPT [METHODS]
+    valgrind --tool=callgrind --callgrind-out-file=/dev/null $(command_of "$1" "${3:-1000}") < "$2" 2>&1 > "$work/out" |
         sed -n 's/.*Collected : //p'
 }
 
 # The instructions that one more send costs in a script of this length: those of the whole script without those of its
 # first half, over as many sends.
-instructions_per_send() { # NAME KIND COUNT
-    whole=$(instructions "$1" "$(script "$2" "$3")")
-    half=$(instructions "$1" "$(script "$2" $(($3 / 2)))")
+instructions_per_send() { # NAME KIND COUNT [METHODS]
+    whole=$(instructions "$1" "$(script "$2" "$3" "${4:-1000}")" "${4:-1000}")
+    half=$(instructions "$1" "$(script "$2" $(($3 / 2)) "${4:-1000}")" "${4:-1000}")
     echo $(((whole - half) / ($3 - $3 / 2)))
 }
 
@@ -84,6 +98,21 @@ peak_kilobytes() { # NAME SCRIPT
     /usr/bin/time -f %M -o "$work/peak" $(command_of "$1") < "$2" > "$work/out"
     cat "$work/peak"
 }
+
+if [ "$table" = methods ]; then
+    echo "Instructions per send, of 1,000, where so many methods stand:"
+    echo
+    echo "| kind | program |$(printf ' %s |' $counts)"
+    echo "|---|---|$(printf -- '---|%.0s' $counts)"
+    for kind in $kinds; do
+        for name in liblo osc bytes; do
+            row="| $kind | $(row_name "$name") |"
+            for count in $counts; do row="$row $(instructions_per_send "$name" "$kind" 1000 "$count") |"; done
+            echo "$row"
+        done
+    done
+    exit
+fi
 
 echo "Instructions per send, in scripts of so many sends:"
 echo

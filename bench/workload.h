@@ -1,5 +1,6 @@
-/* The packets of the benchmark, as hexadecimal text: 1,000 methods /gG/nN with G in 0..9 and N in 0..99, and five
-   kinds of packets to them. The same numbers are drawn in every run. */
+/* The methods of the benchmark and five kinds of packets to them. The methods are the first of /gG/nN, of which a hundred
+   stand in each group G, with N in the order 1, 10 to 19, 0, 2 to 9, 20 to 99: so /gG/n1* meets as many of a group as it
+   has, and at most eleven. The same numbers are drawn in every run. */
 #ifndef WORKLOAD_H
 #define WORKLOAD_H
 
@@ -7,12 +8,12 @@
 #include <stdio.h>
 #include <string.h>
 
-enum { GROUPS = 10, NAMES = 100 };
+enum { NAMES = 100, MOST_METHODS = 10000 };
 
 enum kind {
     PLAIN = 0,         /* one int to a plain address */
     THREE = 1,         /* an int, a float and a string to a plain address */
-    WILDCARD = 2,      /* one int to /gG/n1*, which meets n1 and n10 to n19: eleven methods */
+    WILDCARD = 2,      /* one int to /gG/n1*, which meets n1 and n10 to n19: eleven methods where the group has so many */
     BUNDLE = 3,        /* an immediate bundle of ten messages of kind PLAIN */
     BUNDLE_THREE = 4   /* an immediate bundle of ten messages of kind THREE */
 };
@@ -24,6 +25,19 @@ static uint64_t drawn = 1;
 static unsigned draw(unsigned below) {
     drawn = drawn * 6364136223846793005ULL + 1442695040888963407ULL;
     return (unsigned)((drawn >> 33) % below);
+}
+
+/* How many methods stand. */
+static unsigned methods = 1000;
+
+static unsigned group_of(unsigned method) { return method / NAMES; }
+
+static unsigned name_of(unsigned method) {
+    unsigned place = method % NAMES;
+    if (place == 0) return 1;
+    if (place < 11) return place + 9;
+    if (place == 11) return 0;
+    return place < 20 ? place - 10 : place;
 }
 
 /* A string with its zero byte, padded with zero bytes to a multiple of four. */
@@ -42,9 +56,9 @@ static size_t put_word(unsigned char *out, uint32_t word) {
 
 static size_t put_message(unsigned char *out, enum kind kind) {
     char address[32];
-    unsigned group = draw(GROUPS), name = draw(NAMES);
-    if (kind == WILDCARD) snprintf(address, sizeof address, "/g%u/n1*", group);
-    else snprintf(address, sizeof address, "/g%u/n%u", group, name);
+    unsigned method = draw(methods);
+    if (kind == WILDCARD) snprintf(address, sizeof address, "/g%u/n1*", group_of(method));
+    else snprintf(address, sizeof address, "/g%u/n%u", group_of(method), name_of(method));
     size_t size = put_string(out, address);
     size += put_string(out + size, kind == THREE ? ",ifs" : ",i");
     size += put_word(out + size, draw(1000000));
