@@ -60,7 +60,7 @@ module _ (laws : ScoreLaws) (bytes : List ℕ) (notes : List Note) (plan : Plan)
 
 module _ (bytes : List ℕ) (notes : List Note) (status have : ℕ) (out : SinkChange) (plays : PlaysScore default_limits (length bytes) notes)
     (adds : count_adds (score_lines notes) ≡ length (addresses_of notes)) (run : EndsLines Text default_limits status have (score_lines notes) out) where
-  never_full : status ≢ 6
+  pub never_full : status ≢ 6
   never_full six_is = let clash : false ≡ true = subst (λ (stop : Option Room). IsSome stop) plays.goes_on (run.full six_is).2 in
       absurd (cc (clash))
 

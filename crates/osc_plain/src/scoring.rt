@@ -104,6 +104,7 @@ pub(crate) fn play_score<S: Source, O: Sink>(
 ) -> Ended
     ensures known { (result.status ≤ RECORDING_FULL) ⊎ (result.status ≡ BANK_SHORT) }
     ensures said { result.status ≢ USAGE }
+    ensures never_full { result.status ≢ RECORDING_FULL }
     ensures input { ReadsInput MAX_SCORE result.status (S.left input.old) (S.left input.new)
         (S.faults input.old) (S.faults input.new) }
     ensures unwritten { result.status ≡ SOURCE_FAILED → out.new ≡ out.old }

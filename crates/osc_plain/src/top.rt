@@ -28,7 +28,7 @@ ghost use Rattle.std.specs.Prelude.{
 ghost use Rattle.osc_edge.specs.Faults.{Rose};
 ghost use Rattle.osc_core.specs.Ids.{is_ascending};
 ghost use Rattle.osc_words.specs.declared.command.PlainCommand.TheVariants.{Read};
-ghost use Rattle.osc_words.specs.declared.command.Reading.TheVariants.{Replay};
+ghost use Rattle.osc_words.specs.declared.command.Reading.TheVariants.{PlayScore, Replay};
 ghost use Rattle.osc_words.specs.Commands as said;
 ghost use Rattle.osc_words.specs.Ranges.{IsLawfulReading};
 ghost use Rattle.osc_ends.specs.Ends.{left_behind, IsUnplayed};
@@ -125,6 +125,10 @@ pub fn plain_top<S: Source, O: Sink>(
     ensures replay_laws { said.reading_of (map string_bytes words.now) ≡ Some Replay
         → result.status ≡ DONE → IfSome (S.left input.old) RecordsTheLaws }
 
+    // No score fills the recording.
+    ensures never_full { said.reading_of (map string_bytes words.now) ≡ Some PlayScore
+        → result.status ≢ RECORDING_FULL }
+
     // What can be done is done over edges that don't fail, unless memory runs out.
     ensures complete { IfSome (said.plain_command_of (map string_bytes words.now))
         (λ command. CanBeDone command (length bank.items) (S.left input.old)
@@ -168,6 +172,7 @@ fn follow<S: Source, O: Sink>(
     ensures back { HandsBack result.status bank.items result.heard.items result.left.items }
     ensures replay_laws { reading ≡ Replay → result.status ≡ DONE
         → IfSome (S.left input.old) RecordsTheLaws }
+    ensures never_full { reading ≡ PlayScore → result.status ≢ RECORDING_FULL }
     ensures complete { CanBeDone (Read reading) (length bank.items) (S.left input.old)
         → ¬ Rose (S.faults input.old) (S.faults input.new) →
         (result.status ≡ DONE) ⊎ (result.status ≡ NO_MEMORY) ⊎ (result.status ≡ SINK_FAILED) }

@@ -6,7 +6,7 @@ use Rattle.osc_score.specs.Reading.{score_of}
 use Rattle.osc_score_laws.specs.Heard.{score_lines}
 use Rattle.osc_plain.specs.Commands.{default_limits}
 use Rattle.osc_plain.specs.Scores.{EndsPlayedScore, EndsPlaying}
-use Rattle.osc_plain.proofs.ScoreEnds.{ScoreLaws, can_play, moved, play_ends, played_so, refused_ends, roomy, script_with}
+use Rattle.osc_plain.proofs.ScoreEnds.{ScoreLaws, can_play, moved, never_full, play_ends, played_so, refused_ends, roomy, script_with}
 use Rattle.osc_plain.proofs.Tops.{some_bytes}
 use Rattle.osc_plain.proofs.scoring.play_score.Goals as goal
 
@@ -77,3 +77,17 @@ returns-in-Err-clause-ends g c =
     let have = length c.args.bank.items in
     subst (λ (s : ℕ). IfSome (g.S.Source.left c.args.input.now) (λ score. s ≢ 4 → EndsPlayedScore s have score out)) (sym c.unplayed.ensures.status)
     (refused_ends (λ score notes. EndsPlaying c.in-Err.status have (length score) out notes) c.in-Err.status _ out c.in-Err.ensures.refused)
+
+pub returns-in-Ok-clause-never_full : goal.returns-in-Ok-clause-never_full
+returns-in-Ok-clause-never_full g c =
+    let read = c.in-Ok.ensures.score in
+    let notes = read.2.0 in
+    let laws : ScoreLaws = record {
+      kept = c.what_is_kept_plays_the_score.ensures;
+      scored = c.what_is_read_is_a_score.ensures;
+      scripted = c.a_score_script_is_read.ensures;
+    } in
+    let spelled = script_with laws read.0 notes c.in-Ok.score read.2.1 read.2.2 in
+    let plays = played_so read.0 notes read.2.1 (c.a_read_score_is_played.ensures default_limits read.0 roomy) in
+    never_full read.0 notes c.play_script.result.status (length c.args.bank.items) _ plays (c.a_score_adds_its_addresses.ensures notes)
+    (c.play_script.ensures.ends (score_lines notes) spelled)
