@@ -18,14 +18,15 @@ use Rattle.osc_ends.specs.Sinks.{SinkChange}
 
 -- what playing lines comes to: lanes are played, or links are served, on the server that the words
 -- say, of which these boxes, links and inputs were handed in, and this came back
-abbrev pub plays_of : {M L : Type 0} → (M → ℕ) → (M → Option (List ℕ)) → (L → Option (List LinkTurn))
-    → (L → ℕ) → LiveCommand → List M → List (ℕ × M) → List M → List L → List L → ClockRead
-    → List Line → List ℕ → List ℕ → Outcome → Type 0
-plays_of keep heard left faults (live.Lanes caps) bank boxes_heard boxes_left links links_after clock
-    lines recording text outcome =
-    PlaysLanes keep heard (live_limits caps) bank boxes_heard boxes_left lines recording text outcome
-plays_of keep heard left faults (live.Serve transport port ports count idle caps) bank boxes_heard
-    boxes_left links links_after clock lines recording text outcome =
+abbrev pub plays_of : {M L : Type 0} → (M → ℕ) → (M → Option (List ℕ))
+    → (L → Option (List LinkTurn)) → (L → ℕ) → LiveCommand → List M → List (ℕ × M) → List M
+    → List L → List L → ClockRead → List Line → List ℕ → List ℕ → Outcome → Type 0
+plays_of keep heard left faults (live.Lanes caps) bank boxes_heard boxes_left links links_after
+    clock lines recording text outcome =
+    PlaysLanes keep heard (live_limits caps) bank boxes_heard boxes_left lines recording text
+    outcome
+plays_of keep heard left faults (live.Serve transport port ports count idle caps) bank
+    boxes_heard boxes_left links links_after clock lines recording text outcome =
     PlaysLinks keep heard left faults (live_limits caps) (record { count = count; idle = idle })
     bank links clock boxes_heard boxes_left links_after lines recording text outcome
 
@@ -33,8 +34,8 @@ plays_of keep heard left faults (live.Serve transport port ports count idle caps
 abbrev pub EndsCommand : {M L : Type 0} → (M → ℕ) → (M → Option (List ℕ))
     → (L → Option (List LinkTurn)) → (L → ℕ) → LiveCommand → ℕ → List ℕ → List M → List (ℕ × M)
     → List M → List L → List L → ClockRead → SinkChange → SinkChange → Type 0
-EndsCommand keep heard left faults command status script bank boxes_heard boxes_left links links_after
-    clock rec out =
+EndsCommand keep heard left faults command status script bank boxes_heard boxes_left links
+    links_after clock rec out =
     EndsLive (mode_of command)
     (plays_of keep heard left faults command bank boxes_heard boxes_left links links_after clock)
     status script (length bank) rec out
