@@ -4,7 +4,7 @@ use Rattle.std.specs.Prelude.{◌≡◌, ℕ, ◌<◌, ◌≤◌, ◌^◌, List,
 use Rattle.std.specs.List.{flat_map, AllByRecursion}
 use Rattle.osc_atoms.specs.Atoms.{word, tag}
 use Rattle.osc_message.specs.Messages.{Form, IsMessage}
-use Rattle.osc_packet.specs.Packets.{Elements, message, none, more, bundle_word}
+use Rattle.osc_packet.specs.Packets.{Elements, message, none, more, bundle_word, bundle_head}
 use Rattle.osc_packet.specs.Reading.{bundle_tag, elements_in}
 
 -- the tag, and the bytes of the messages that were pushed
@@ -32,7 +32,8 @@ elements_of (form ∷ forms) = more (message form) (elements_of forms)
 
 -- what a bundle's bytes stand for
 abbrev pub bundling_of : List ℕ → Bundling
-bundling_of bytes = record { tag = bundle_tag bytes; messages = elements_in (drop 16 bytes) }
+bundling_of bytes =
+    record { tag = bundle_tag bytes; messages = elements_in (drop bundle_head bytes) }
 
 -- the bytes are a message
 abbrev pub IsSpelled : List ℕ → Type 0
@@ -42,5 +43,5 @@ IsSpelled bytes = IsMessage (length bytes) bytes
 pub record IsBundling (bytes : List ℕ) : Type 0 where
   pub spelled : bytes ≡ bundled (bundling_of bytes)
   pub fits : bundle_tag bytes < 2 ^ 64
-  pub messages : AllByRecursion IsSpelled (elements_in (drop 16 bytes))
+  pub messages : AllByRecursion IsSpelled (elements_in (drop bundle_head bytes))
   pub short : length bytes ≤ MAX_PACKET

@@ -18,6 +18,10 @@ mutual
 abbrev pub bundle_word : List ℕ
 bundle_word = string (codes "#bundle")
 
+-- how many bytes a bundle begins with: the bundle word and its tag
+abbrev pub bundle_head : ℕ
+bundle_head = 16
+
 -- A bundle's text is the bundle word, its tag, and each element's text after its size.
 abbrev mutual
   pub packet_text : Packet → List ℕ

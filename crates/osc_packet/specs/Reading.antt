@@ -8,7 +8,7 @@ use Rattle.std.specs.List.{flat_map, starts_with}
 use Rattle.std.specs.Int.{w32, w64, from_be_bytes}
 use Rattle.osc_atoms.specs.declared.fault.Fault.{Fault}
 use Rattle.osc_message.specs.Reading.{message_fault}
-use Rattle.osc_packet.specs.Packets.{bundle_word, effective_tag, deepest}
+use Rattle.osc_packet.specs.Packets.{bundle_word, bundle_head, effective_tag, deepest}
 use Rattle.osc_packet.specs.Units.{TimedUnit}
 use Rattle.osc_atoms.specs.Faults.{empty, not_four, too_long, start}
 use Rattle.osc_packet.specs.Faults.{no_bundle_word, no_bundle_head, element_size, too_deep}
@@ -49,13 +49,12 @@ abbrev pub is_early : Option ℕ → ℕ → Bool
 is_early None own = false
 is_early (Some outer) own = not (own == 1) && nat_lt own outer
 
--- A bundle's effective tag, or what is wrong with its first 16 bytes at a place. So many bundles
--- may still be opened;
--- the effective tag of the enclosing bundle is given, if there is one.
+-- A bundle's effective tag, or what is wrong with its head at a place. So many bundles may
+-- still be opened; the effective tag of the enclosing bundle is given, if there is one.
 abbrev pub head_read : ℕ → Option ℕ → ℕ → List ℕ → Result ℕ Fault
 head_read left outer at bytes =
     if not (starts_with ◌==◌ bytes bundle_word) then Err (no_bundle_word at) else
-    if nat_lt (length bytes) 16 then Err (no_bundle_head (at + 8)) else
+    if nat_lt (length bytes) bundle_head then Err (no_bundle_head (at + 8)) else
     if left == 0 then Err (too_deep at) else
     if is_early outer (bundle_tag bytes) then Err (tag_before (at + 8)) else
     Ok (effective_tag outer (bundle_tag bytes))
@@ -94,8 +93,8 @@ fault_with inner left outer at bytes =
 unfoldable pub element_fault : ℕ → Option ℕ → ℕ → List ℕ → Option Fault
 element_fault zero outer at bytes = fault_with (λ effective. None) 0 outer at bytes
 element_fault (suc left) outer at bytes =
-    fault_with (λ effective. body_fault (element_fault left (Some effective)) (at + 16)
-    (drop 16 bytes)) (suc left) outer at bytes
+    fault_with (λ effective. body_fault (element_fault left (Some effective)) (at + bundle_head)
+    (drop bundle_head bytes)) (suc left) outer at bytes
 
 -- the first fault of a packet of at most so many bytes
 abbrev pub packet_fault : ℕ → List ℕ → Option Fault
@@ -128,9 +127,9 @@ unfoldable pub bundle_read : ℕ → Option ℕ → List ℕ → List TimedUnit
 bundle_read zero outer bytes = []
 bundle_read (suc left) outer bytes =
     let effective = effective_tag outer (bundle_tag bytes) in
-    record { tag = effective; messages = messages_in (drop 16 bytes) }
+    record { tag = effective; messages = messages_in (drop bundle_head bytes) }
     ∷ flat_map (bundle_read left (Some effective))
-    (filter is_bundle (elements_in (drop 16 bytes)))
+    (filter is_bundle (elements_in (drop bundle_head bytes)))
 
 -- the units of the bundles among the elements that fill the bytes
 abbrev pub enclosed_read : ℕ → ℕ → List ℕ → List TimedUnit

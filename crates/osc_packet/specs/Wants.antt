@@ -5,7 +5,7 @@ use Rattle.std.specs.Int.{w32, w64, from_be_bytes}
 use Rattle.osc_atoms.specs.declared.fault.Fault.{Fault}
 use Rattle.osc_message.specs.Messages.{IsMessage}
 use Rattle.osc_message.specs.Wants.{FirstFault as FirstMessageFault}
-use Rattle.osc_packet.specs.Packets.{bundle_word, effective_tag, IsInTime, deepest}
+use Rattle.osc_packet.specs.Packets.{bundle_word, bundle_head, effective_tag, IsInTime, deepest}
 use Rattle.osc_atoms.specs.Faults.{empty, not_four, too_long, start}
 use Rattle.osc_packet.specs.Faults.{no_bundle_word, no_bundle_head, element_size, too_deep}
 use Rattle.osc_packet.specs.Faults.{tag_before, moved}
@@ -36,7 +36,7 @@ pub data Want : Type 0 where
   is_message : Element → Want
   -- the element begins with the bundle word
   named_bundle : Element → Want
-  -- the bundle has at least 16 bytes
+  -- the bundle has its head
   headed : Element → Want
   -- the bundle hasn't too many around it
   shallow : Element → Want
@@ -90,7 +90,7 @@ Stands bytes most (begun element) = (slice_index bytes element.place ≡ 47)
 Stands bytes most (is_message element) =
     IsMessage (element.end - element.place) (bytes_of bytes element)
 Stands bytes most (named_bundle element) = take 8 (bytes_of bytes element) ≡ bundle_word
-Stands bytes most (headed element) = element.place + 16 ≤ element.end
+Stands bytes most (headed element) = element.place + bundle_head ≤ element.end
 Stands bytes most (shallow element) = length element.around < deepest
 Stands bytes most (in_time element) = IsInTime (tag_around element.around) (own_tag bytes element)
 Stands bytes most (sized place frame around) = IsSize (word_of bytes place) (frame.end - place - 4)
@@ -119,7 +119,8 @@ next_of bytes (is_message element) = after element.end element.around
 next_of bytes (named_bundle element) = Some (headed element)
 next_of bytes (headed element) = Some (shallow element)
 next_of bytes (shallow element) = Some (in_time element)
-next_of bytes (in_time element) = after (element.place + 16) (opened bytes element ∷ element.around)
+next_of bytes (in_time element) =
+    after (element.place + bundle_head) (opened bytes element ∷ element.around)
 next_of bytes (sized place frame around) = Some (begun (announced bytes place frame around))
 
 -- The fault of a want that doesn't stand. Of a message it is the message's first fault, at its

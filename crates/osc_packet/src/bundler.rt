@@ -85,7 +85,7 @@ impl Bundler {
     }
 }
 
-/// The first 16 bytes of a bundle.
+/// The bytes that a bundle begins with.
 fn bundle_head(alloc: Global, tag: u64) -> Result<Vec<u8>, AllocError>
     ensures { IfOk result (λ bytes. bytes.items ≡ bundle_word ++ Atoms.tag tag) }
 {

@@ -1,5 +1,5 @@
 // The checks of a packet, in their order.
-ghost use Rattle.osc_packet.specs.declared.limits.TheConstants.{MAX_PACKET};
+ghost use Rattle.osc_packet.specs.declared.limits.TheConstants.{BUNDLE_HEAD, MAX_PACKET};
 ghost use Rattle.std.specs.Prelude.{◌≡◌, ◌+◌, ◌%◌, ◌<◌, ◌≤◌, length, take, drop, IfOk, Some};
 ghost use Rattle.std.specs.Result.{result_err};
 ghost use Rattle.osc_packet.specs.Packets;
@@ -7,6 +7,7 @@ ghost use Rattle.osc_packet.specs.Reading;
 ghost use Rattle.osc_packet.specs.Reading.{head_read, message_fault_at, element_fault, body_fault};
 ghost use Rattle.osc_packet.specs.Reading.{packet_fault, size_read};
 
+use crate::limits::{BUNDLE_HEAD, MAX_DEPTH};
 use osc_atoms::Fault;
 use osc_message::Message;
 
@@ -15,9 +16,6 @@ const BUNDLE_WORD: [u8; 8] = *b"#bundle\0";
 
 /// The time tag that stands for "immediately" (OSC 1.0, "Temporal Semantics and OSC Time Tags").
 pub(crate) const IMMEDIATELY: u64 = 1;
-
-/// How deep bundles may be nested.
-const DEEPEST: u32 = 16;
 
 /// Checks a packet of at most `max` bytes.
 pub(crate) fn check_packet(bytes: &[u8], max: u32) -> Result<(), Fault>
@@ -42,7 +40,7 @@ pub(crate) fn check_packet(bytes: &[u8], max: u32) -> Result<(), Fault>
             at: bytes.len() as u32,
         });
     }
-    check_element(bytes, 0, DEEPEST, None)
+    check_element(bytes, 0, MAX_DEPTH as u32, None)
 }
 
 /// Checks the element at `at`. So many bundles may still be opened, and `outer` is the effective tag of the enclosing
@@ -63,7 +61,12 @@ pub(crate) fn check_element(
         b'/' => check_message(bytes, at),
         b'#' => {
             let tag = check_head(bytes, at, left, outer)?;
-            check_elements(bundle_elements(bytes), at + 16, left - 1, tag)
+            check_elements(
+                bundle_elements(bytes),
+                at + BUNDLE_HEAD as u32,
+                left - 1,
+                tag,
+            )
         }
         _ => Err(Fault {
             kind: Fault::START,
@@ -89,7 +92,7 @@ fn check_message(bytes: &[u8], at: u32) -> Result<(), Fault>
 fn check_head(bytes: &[u8], at: u32, left: u32, outer: Option<u64>) -> Result<u64, Fault>
     requires inside { at + length bytes.now ≤ MAX_PACKET }
     ensures read { result ≡ head_read left outer at bytes.now }
-    ensures room { IfOk result (λ _. (16 ≤ length bytes.now) × (0 < left)) }
+    ensures room { IfOk result (λ _. (BUNDLE_HEAD ≤ length bytes.now) × (0 < left)) }
 {
     if !bytes.starts_with(&BUNDLE_WORD) {
         return Err(Fault {
@@ -97,7 +100,7 @@ fn check_head(bytes: &[u8], at: u32, left: u32, outer: Option<u64>) -> Result<u6
             at,
         });
     }
-    if bytes.len() < 16 {
+    if bytes.len() < BUNDLE_HEAD {
         return Err(Fault {
             kind: Fault::BUNDLE_HEAD,
             at: at + 8,
@@ -129,19 +132,19 @@ pub(crate) fn is_bundle(element: &[u8]) -> bool
 
 /// The elements of a bundle.
 pub(crate) fn bundle_elements(bytes: &[u8]) -> &[u8]
-    requires { 16 ≤ length bytes.now }
-    ensures { result.now ≡ drop 16 bytes.now }
+    requires { BUNDLE_HEAD ≤ length bytes.now }
+    ensures { result.now ≡ drop BUNDLE_HEAD bytes.now }
 {
-    let (_, elements) = bytes.split_at(16);
+    let (_, elements) = bytes.split_at(BUNDLE_HEAD);
     elements
 }
 
 /// The time tag of a bundle.
 pub(crate) fn bundle_tag(bytes: &[u8]) -> u64
-    requires { 16 ≤ length bytes.now }
+    requires { BUNDLE_HEAD ≤ length bytes.now }
     ensures { result ≡ Reading.bundle_tag bytes.now }
 {
-    let tag = &bytes[8..16];
+    let tag = &bytes[8..BUNDLE_HEAD];
     u64::from_be_bytes([
         tag[0], tag[1], tag[2], tag[3], tag[4], tag[5], tag[6], tag[7],
     ])

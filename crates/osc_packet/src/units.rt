@@ -5,6 +5,7 @@ ghost use Rattle.osc_packet.specs.Reading.{packet_fault, units_read};
 use crate::Unit;
 use crate::checking::{IMMEDIATELY, bundle_elements, bundle_tag, is_bundle};
 use crate::content::Content;
+use crate::limits::{BUNDLE_HEAD, MAX_DEPTH};
 use crate::walk::{OpenBundle, Walk, next_unit};
 use std::marker::Model;
 
@@ -19,7 +20,7 @@ pub struct Units<'a> {
 }
 
 impl<'a> Model for Units<'a> {
-    ghost use Rattle.osc_packet.specs.declared.limits.TheConstants.{MAX_PACKET};
+    ghost use Rattle.osc_packet.specs.declared.limits.TheConstants.{MAX_DEPTH, MAX_PACKET};
     ghost use Rattle.std.specs.Prelude.{List, ◌++◌, ◌≤◌, length};
     ghost use Rattle.std.specs.Option.{option_to_list};
     ghost use Rattle.osc_packet.specs.Units.{TimedUnit};
@@ -31,7 +32,7 @@ impl<'a> Model for Units<'a> {
     ghost view = { λ u. option_to_list u.first
         ++ units_from u.bytes.now u.walk.bundles u.walk.depth u.walk.place };
 
-    ghost invariant = { λ u. (length u.bytes.now ≤ MAX_PACKET) × (u.walk.depth ≤ 16)
+    ghost invariant = { λ u. (length u.bytes.now ≤ MAX_PACKET) × (u.walk.depth ≤ MAX_DEPTH)
         × IsWalk u.bytes.now u.walk.bundles u.walk.depth u.walk.place };
 }
 
@@ -61,7 +62,7 @@ impl<'a> Units<'a> {
             first: Some(Unit::new(IMMEDIATELY, Content::Alone(bytes))),
             bytes,
             walk: Walk {
-                bundles: [OpenBundle { end: 0, tag: 0 }; 16],
+                bundles: [OpenBundle { end: 0, tag: 0 }; MAX_DEPTH],
                 depth: 0,
                 place: 0,
             },
@@ -74,7 +75,7 @@ impl<'a> Units<'a> {
         ensures { result ≡ units_read bytes.now }
     {
         let tag = bundle_tag(bytes);
-        let mut bundles = [OpenBundle { end: 0, tag: 0 }; 16];
+        let mut bundles = [OpenBundle { end: 0, tag: 0 }; MAX_DEPTH];
         bundles[0] = OpenBundle {
             end: bytes.len(),
             tag,
@@ -85,7 +86,7 @@ impl<'a> Units<'a> {
             walk: Walk {
                 bundles,
                 depth: 1,
-                place: 16,
+                place: BUNDLE_HEAD,
             },
         }
     }

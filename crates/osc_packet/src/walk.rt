@@ -1,5 +1,5 @@
 // A packet, gone through from front to back, one bundle after another.
-ghost use Rattle.osc_packet.specs.declared.limits.TheConstants.{MAX_PACKET};
+ghost use Rattle.osc_packet.specs.declared.limits.TheConstants.{MAX_DEPTH, MAX_PACKET};
 ghost use Rattle.std.specs.Prelude.{◌≡◌, ◌+◌, ◌≤◌, [], ◌∷◌, length, MatchOption};
 ghost use Rattle.osc_packet.specs.Walks.{units_from, IsWalk, IsNext};
 
@@ -8,6 +8,7 @@ use crate::checking::{
     bundle_elements, bundle_tag, effective_tag, first_size, is_bundle, split_element,
 };
 use crate::content::Content;
+use crate::limits::{BUNDLE_HEAD, MAX_DEPTH};
 
 /// A bundle that isn't at its end.
 #[derive(Clone, Copy)]
@@ -21,7 +22,7 @@ pub(crate) struct OpenBundle {
 /// The bundles that are open at a place, the outermost first.
 #[derive(Clone, Copy)]
 pub(crate) struct Walk {
-    pub(crate) bundles: [OpenBundle; 16],
+    pub(crate) bundles: [OpenBundle; MAX_DEPTH],
     pub(crate) depth: usize,
     pub(crate) place: usize,
 }
@@ -37,10 +38,10 @@ struct Found {
 /// The unit of the next bundle. The walk goes on into it.
 pub(crate) fn next_unit<'a>(bytes: &'a [u8], walk: &mut Walk) -> Option<Unit<'a>>
     requires walk { IsWalk bytes.now walk.old.bundles walk.old.depth walk.old.place }
-    requires few { walk.old.depth ≤ 16 }
+    requires few { walk.old.depth ≤ MAX_DEPTH }
     requires small { length bytes.now ≤ MAX_PACKET }
     ensures walk { IsWalk bytes.now walk.new.bundles walk.new.depth walk.new.place }
-    ensures few { walk.new.depth ≤ 16 }
+    ensures few { walk.new.depth ≤ MAX_DEPTH }
     ensures units { MatchOption result
         ((units_from bytes.now walk.old.bundles walk.old.depth walk.old.place ≡ [])
         × (units_from bytes.now walk.new.bundles walk.new.depth walk.new.place ≡ []))
@@ -56,19 +57,19 @@ pub(crate) fn next_unit<'a>(bytes: &'a [u8], walk: &mut Walk) -> Option<Unit<'a>
         tag,
     };
     walk.depth = found.depth + 1;
-    walk.place = found.place + 16;
+    walk.place = found.place + BUNDLE_HEAD;
     Some(Unit::new(tag, Content::Among(bundle_elements(bundle))))
 }
 
 /// The next bundle from `place` on, so many bundles being open there.
 fn next_bundle(
     bytes: &[u8],
-    bundles: &[OpenBundle; 16],
+    bundles: &[OpenBundle; MAX_DEPTH],
     depth: usize,
     place: usize,
 ) -> Option<Found>
     requires walk { IsWalk bytes.now bundles.now depth place }
-    requires few { depth ≤ 16 }
+    requires few { depth ≤ MAX_DEPTH }
     requires small { length bytes.now ≤ MAX_PACKET }
     ensures { MatchOption result (units_from bytes.now bundles.now depth place ≡ [])
         (λ found. IsNext bytes.now bundles.now depth place found) }

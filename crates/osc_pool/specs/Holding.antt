@@ -1,12 +1,13 @@
 -- What a pool holds, and which chains are live in it.
-use Rattle.std.specs.Prelude.{◌≡◌, ◌≢◌, ℕ, ◌+◌, ◌/◌, ◌<◌, ◌==◌, if◌then◌else◌, List, [], length}
+use Rattle.osc_pool.specs.declared.limits.TheConstants.{BLOCK_SIZE}
+use Rattle.std.specs.Prelude.{◌≡◌, ◌≢◌, ℕ, ◌+◌, ◌-◌, ◌/◌, ◌<◌, ◌==◌, if◌then◌else◌, List, [], length}
 use Rattle.std.specs.Prelude.{slice_index_or, slice_set}
 use Rattle.std.specs.List.{sum_by}
 use Rattle.osc_pool.specs.declared.chain.Chain.{Chain}
 
--- how many blocks of 64 bytes hold so many bytes
+-- how many blocks hold so many bytes
 abbrev pub blocks_for : ℕ → ℕ
-blocks_for size = (size + 63) / 64
+blocks_for size = (size + (BLOCK_SIZE - 1)) / BLOCK_SIZE
 
 -- how many blocks the chains of a pool take
 abbrev pub used_blocks : List (List ℕ) → ℕ

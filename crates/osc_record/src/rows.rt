@@ -16,6 +16,9 @@ use crate::policy::late_code;
 use osc_atoms::{append_blob, append_tag, append_word, blob_size};
 use osc_message::Arg;
 
+/// How many bytes the message of a submit has beside its packet.
+const SUBMIT_HEAD: u32 = 44;
+
 /// Appends the header to bytes that have room for it.
 pub fn append_header(out: &mut Vec<u8>, caps: Caps)
     requires room { vec_len out.old + length (header_text caps) ≤ vec_capacity out.old }
@@ -74,7 +77,7 @@ pub(crate) fn append_submit(
         ++ sized (row_text (submit_row caller packet.now (code, first, second, third))) }
     ensures capacity { vec_capacity out.old ≤ vec_capacity out.new }
 {
-    let size = 44 + blob_size(packet.len()) as u32;
+    let size = SUBMIT_HEAD + blob_size(packet.len()) as u32;
     append_submit_row(out, size, caller, packet, code, first, second, third);
 }
 

@@ -113,9 +113,14 @@ unfoldable pub first_acts : ℕ → ℕ → List Act
 first_acts zero k = []
 first_acts (suc lines) k = Add (member_of (k % 8) (k / 8)) ∷ first_acts lines (k + 1)
 
--- up to 64 adds, and then what is drawn, the first moment being 2
+-- how many adds there are at the most, before what is drawn
+abbrev pub first_most : ℕ
+first_most = 64
+
+-- up to so many adds, and then what is drawn, the first moment being 2
 abbrev pub generated_acts : ℕ → ℕ → List Act
-generated_acts seed lines = first_acts (min lines 64) 0 ++ drawn_acts (lines - 64) 2 seed
+generated_acts seed lines =
+    first_acts (min lines first_most) 0 ++ drawn_acts (lines - first_most) 2 seed
 
 -- the script of so many lines that is drawn from a seed
 abbrev pub generated_script : ℕ → ℕ → List ℕ

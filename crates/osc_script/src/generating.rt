@@ -15,14 +15,17 @@ use std::alloc::{AllocError, Global};
 /// The most lines of a generated script.
 pub const MAX_GENERATED_LINES: u32 = 100_000;
 
+/// How many lines of a generated script are adds at the most, before what is drawn.
+const FIRST_ADDS: u32 = 64;
+
 /// The script of so many lines that is drawn from the seed.
 pub(crate) fn script_of_seed(alloc: Global, seed: u64, lines: u32) -> Result<Vec<u8>, AllocError>
     requires { lines ≤ MAX_GENERATED_LINES }
     ensures { IfOk result (λ script. script.items ≡ generated_script seed lines) }
 {
     let mut script = Vec::new(alloc);
-    put_first(alloc, &mut script, lines.min(64))?;
-    put_drawn(alloc, &mut script, seed, lines.saturating_sub(64))?;
+    put_first(alloc, &mut script, lines.min(FIRST_ADDS))?;
+    put_drawn(alloc, &mut script, seed, lines.saturating_sub(FIRST_ADDS))?;
     Ok(script)
 }
 

@@ -1,6 +1,7 @@
 //! A server that three threads call at once: one adds a method and removes it, one sends a packet, and one moves the
 //! clock and releases.
 ghost use Rattle.std.specs.Prelude.{◌≡◌, ◌<◌, ◌+◌, [], ◌∷◌, IfOk, IfErr};
+ghost use Rattle.osc_turn.specs.declared.limits.TheConstants.{MAX_PASSES};
 ghost use Rattle.osc_turn.specs.Passes.{view};
 ghost use Rattle.osc_core.specs.Answers.{adding_of, removing_of, ticking_of};
 ghost use Rattle.osc_core.specs.Telling.{told};
@@ -67,7 +68,7 @@ fn enrolled<M: Method, W: Wait>(
 ) -> Result<(Caller, Caller), EnrolRefusal>
     requires ours { IsOurs live.now first }
     requires first { first.number ≡ 0 }
-    requires room { (view first.pass).made < 65536 }
+    requires room { (view first.pass).made < MAX_PASSES }
     ensures ours { IfOk result (λ both. IsOurs live.now both.0) }
     ensures new_ours { IfOk result (λ both. IsOurs live.now both.1) }
     ensures first { IfOk result (λ both. both.0.number ≡ 0) }

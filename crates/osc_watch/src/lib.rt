@@ -31,6 +31,7 @@ mod watcher;
 pub use board::Board;
 pub use edit::Edit;
 pub use notice::Notice;
+pub use opening::MAX_WATCHERS;
 pub use recorded::Recorded;
 pub use refreshing::Fresh;
 pub use row::{MethodRow, RowEdit};

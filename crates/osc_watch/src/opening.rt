@@ -1,4 +1,5 @@
 //! How a board is opened.
+ghost use Rattle.osc_watch.specs.declared.opening.TheConstants.{MAX_WATCHERS};
 ghost use Rattle.std.specs.Prelude.{◌≡◌, ◌≤◌, List, [], length, All, Some, IfOk};
 ghost use Rattle.left_right.specs.Sides.{view};
 ghost use Rattle.osc_model.specs.Limits.{Limits, header_size};
@@ -18,6 +19,9 @@ use osc_record::HEADER_SIZE;
 use std::alloc::{AllocError, Global};
 use std::sync::Wait;
 
+/// The most watchers of a board.
+pub const MAX_WATCHERS: u32 = 64;
+
 impl Board {
     /// A board that has read nothing, and so many watchers. The `Err` means that there is no memory for them.
     #[tactic(auto, using(crate::proofs::Unread::nothing_read))]
@@ -26,7 +30,7 @@ impl Board {
         alloc: Global,
         watchers: u32,
     ) -> Result<(Board, Vec<Watcher>), AllocError>
-        requires few { (1 ≤ watchers) × (watchers ≤ 64) }
+        requires few { (1 ≤ watchers) × (watchers ≤ MAX_WATCHERS) }
         ensures noted { IfOk result (λ opened. noted opened.0 ≡ []) }
         ensures published { IfOk result (λ opened. published opened.0 ≡ []) }
         ensures at { IfOk result (λ opened. opened.0.at ≡ header_size) }
