@@ -32,6 +32,12 @@ above_cut (a ∷ prefix) (x ∷ address) e =
     let more = above_cut prefix address rest in
     (let lt = more.0 in omega arith, more.1, ap (λ (n : ℕ). n ∷ take (length prefix) address) same ∙ ap (λ l. a ∷ l) more.2)
 
+-- what lies below a prefix begins with it
+pub above_begins : (prefix address : List ℕ) → is_proper_prefix prefix address ≡ true → starts_with nat_eq address prefix ≡ true
+above_begins [] address e = refl
+above_begins (a ∷ prefix) [] e = absurd (cc)
+above_begins (a ∷ prefix) (x ∷ address) e = let more = above_begins prefix address in grind (arith, nat_tests)
+
 -- of two that are above an address one is above the other, unless they are the same
 pub above_both : (a b address : List ℕ) → is_proper_prefix a address ≡ true → is_proper_prefix b address ≡ true → is_proper_prefix a b ≡ false
     → is_proper_prefix b a ≡ false → a ≡ b

@@ -1,12 +1,13 @@
 -- What the search for an address tells of the methods in the order of adding.
-use Rattle.std.proofs.Common.{◌≡◌, ℕ, ◌+◌, ◌<◌, ◌≤◌, Bool, true, false, cond, List, [], ◌∷◌, ◌++◌, length, take, get_or, Option, Some, None, nat_lt, refl, sym}
+use Rattle.std.proofs.Common.{◌≡◌, ℕ, ◌+◌, ◌<◌, ◌≤◌, Bool, true, false, cond, List, [], ◌∷◌, ◌++◌, length, take, get_or, Option, Some, None, nat_eq, nat_lt, refl, sym}
 use Rattle.std.proofs.Common.{ap, subst, ◌∙◌, arith}
 use Rattle.std.specs.Prelude.{MatchBool}
-use Rattle.std.specs.List.{list_any, position_or_len, remove}
+use Rattle.std.specs.List.{list_any, position_or_len, remove, starts_with}
 use Rattle.std.specs.Option.{option_map}
 use Rattle.std.specs.Str.{bytes_eq}
 use Rattle.std.proofs.lemmas.List.{length-map}
 use Rattle.std.proofs.lemmas.List.Edits.{get_or-remove_below, get_or-remove_above, length-remove}
+use Rattle.std.proofs.lemmas.List.Folds.{list_any_none}
 use Rattle.std.proofs.lemmas.List.Sums.{position_or_len_is}
 use Rattle.std.proofs.lemmas.Slice.Eq.{bytes_eq-Decides}
 use Rattle.std.proofs.lemmas.Bool.Decides.{nat_tests}
@@ -20,9 +21,9 @@ use Rattle.osc_tree.specs.Registry.{NoneAt, id_at, id_above}
 use Rattle.osc_tree.specs.Adding.{IsApart}
 use Rattle.osc_tree.specs.Order.{IsOrder, IsSearched, StandsAt, begins_with}
 use Rattle.osc_tree.specs.Views.{method_of, methods_of, method_at, methods_at}
-use Rattle.osc_tree.proofs.Above.{cut_above, above_cut, above_both}
+use Rattle.osc_tree.proofs.Above.{cut_above, above_begins, above_cut, above_both}
 use Rattle.osc_tree.proofs.Lists.{find-at, none-find}
-use Rattle.osc_tree.proofs.Lines.{different, id_at-some, id_at-none}
+use Rattle.osc_tree.proofs.Lines.{different, id_at-some, id_at-none, none-id_at}
 use Rattle.osc_tree.proofs.Lawful.{once}
 use Rattle.osc_tree.proofs.Places.{any_default, method_at-get}
 use Rattle.osc_tree.proofs.InOrder.{methods_at-get, methods_at-length, order_ascends, order_length}
@@ -193,19 +194,25 @@ id_at_place registered places at address d list order stands =
     id_found (methods_of registered) place (record { id = 0; address = [] }) address list (omega (arith, length-map registered method_of)) stands.1
     ∙ ap (λ (m : Method). Some m.id) (method_at-get registered place d within)
 
+-- whether a method begins with a text that was searched for
+pub begun_there : (registered : List Registered) (places : List ℕ) (at : ℕ) (text : List ℕ) (d : Registered) → IsOrder registered places
+    → IsSearched text (methods_at registered places) at at → at < length places
+    → starts_with nat_eq (get_or registered (get_or places at 0) d).address text ≡ list_any (begins_with text) (methods_at registered places)
+begun_there registered places at text d order so lt =
+    let none : Method = record { id = 0; address = [] } in
+    let long = methods_at-length registered places in
+    let here : get_or (methods_at registered places) at none ≡ method_of (get_or registered (get_or places at 0) d) =
+    methods_at-get registered places at none lt ∙ method_at-get registered (get_or places at 0) d (order.within at 0 lt) in
+    ap (begins_with text) (sym here)
+    ∙ sym (begins_there text (methods_at registered places) at none (order_ascends registered places order) so (omega arith))
+
 -- whether a method lies below an address
 pub below_there : (registered : List Registered) (places : List ℕ) (at : ℕ) (address : List ℕ) (d : Registered) → IsOrder registered places
     → IsSearched (address ++ 47 ∷ []) (methods_at registered places) at at → at < length places
     → is_proper_prefix address (get_or registered (get_or places at 0) d).address
     ≡ list_any (λ method. is_proper_prefix address method.address) (methods_of registered)
 below_there registered places at address d order so lt =
-    let none : Method = record { id = 0; address = [] } in
-    let long = methods_at-length registered places in
-    let here : get_or (methods_at registered places) at none ≡ method_of (get_or registered (get_or places at 0) d) =
-    methods_at-get registered places at none lt ∙ method_at-get registered (get_or places at 0) d (order.within at 0 lt) in
-    ap (λ (m : Method). is_proper_prefix address m.address) (sym here)
-    ∙ sym (begins_there (address ++ 47 ∷ []) (methods_at registered places) at none (order_ascends registered places order) so (omega arith))
-    ∙ below_begins registered places address order
+    begun_there registered places at (address ++ 47 ∷ []) d order so lt ∙ below_begins registered places address order
 
 pub none_below : (registered : List Registered) (places : List ℕ) (at : ℕ) (address : List ℕ) → IsOrder registered places
     → IsSearched (address ++ 47 ∷ []) (methods_at registered places) at at → length places ≤ at
@@ -214,6 +221,59 @@ none_below registered places at address order so past =
     let long = methods_at-length registered places in
     sym (below_begins registered places address order)
     ∙ begins_past (address ++ 47 ∷ []) (methods_at registered places) at so (omega arith)
+
+-- none lies below an address that none begins with
+pub none_begins : (registered : List Registered) (places address : List ℕ) → IsOrder registered places
+    → list_any (begins_with address) (methods_at registered places) ≡ false
+    → list_any (λ method. is_proper_prefix address method.address) (methods_of registered) ≡ false
+none_begins registered places address order e =
+    list_any_none below (methods_of registered) (λ k d lt. go k d lt (below (get_or (methods_of registered) k d)) refl) where
+      below : Method → Bool
+      below method = is_proper_prefix address method.address
+
+      none : list_any (begins_with address) (methods_of registered) ≡ false
+      none = sym (any_ordered (begins_with address) (methods_of registered)) ∙ ap (list_any (begins_with address)) (sym order.all) ∙ e
+
+      go : (k : ℕ) (d : Method) → k < length (methods_of registered) → (t : Bool) → below (get_or (methods_of registered) k d) ≡ t
+          → below (get_or (methods_of registered) k d) ≡ false
+      go k d lt false f = f
+      go k d lt true f =
+          let yes' = above_begins address (get_or (methods_of registered) k d).address f in
+          let no' = All-none (begins_with address) (methods_of registered) none k d lt in absurd (cc)
+
+-- no method is at an address that another lies below
+none_over : (methods : List Method) (place : ℕ) (d : Method) (address : List ℕ) → IsMethodList methods → place < length methods
+    → is_proper_prefix address (get_or methods place d).address ≡ true → NoneAt methods address
+none_over methods place d address list within below = λ k e lt same. none k e lt same where
+  none : (k : ℕ) (e : Method) → k < length methods → (get_or methods k e).address ≡ address → ⊥
+  none k e lt same = split (nat_lt k place) refl (nat_lt place k) refl where
+    own : (get_or methods k d).address ≡ address
+    own = ap (λ (m : Method). m.address) (any_default methods k d e lt) ∙ same
+
+    apart : is_proper_prefix (get_or methods k d).address (get_or methods place d).address ≡ false → ⊥
+    apart no' =
+        let yes' : is_proper_prefix (get_or methods k d).address (get_or methods place d).address ≡ true =
+        ap (λ l. is_proper_prefix l (get_or methods place d).address) own ∙ below in cc
+
+    split : (s : Bool) → nat_lt k place ≡ s → (t : Bool) → nat_lt place k ≡ t → ⊥
+    split true f t g =
+        let less : k < place = (let h : nat_lt k place ≡ true = f in grind (arith, nat_tests)) in apart (list.apart k place d less within).0
+    split false f true g =
+        let less : place < k = (let h : nat_lt place k ≡ true = g in grind (arith, nat_tests)) in apart (list.apart place k d less lt).1
+    split false f false g =
+        let here : k ≡ place = (let h : nat_lt k place ≡ false = f in let i : nat_lt place k ≡ false = g in grind (arith, nat_tests)) in
+        let is : (get_or methods place d).address ≡ address = ap (λ (n : ℕ). (get_or methods n d).address) (sym here) ∙ own in
+        let longer = (above_cut address (get_or methods place d).address below).0 in omega (arith, ap length is)
+
+pub none_at_place : (registered : List Registered) (places : List ℕ) (at : ℕ) (address : List ℕ) (d : Registered) → IsMethodList (methods_of registered)
+    → IsOrder registered places → at < length places
+    → is_proper_prefix address (get_or registered (get_or places at 0) d).address ≡ true → id_at (methods_of registered) address ≡ None
+none_at_place registered places at address d list order lt below =
+    let place = get_or places at 0 in
+    let within : place < length registered = order.within at 0 lt in
+    none-id_at (methods_of registered) address
+    (none_over (methods_of registered) place (record { id = 0; address = [] }) address list (omega (arith, length-map registered method_of))
+    (ap (λ (m : Method). is_proper_prefix address m.address) (method_at-get registered place d within) ∙ below))
 
 -- there is a place where a method is
 pub some_place : (registered : List Registered) (places address : List ℕ) (id : ℕ) → IsOrder registered places

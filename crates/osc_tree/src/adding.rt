@@ -57,10 +57,10 @@ pub(crate) fn admit(
     if let Some(id) = id_there(methods, places, at, bytes) {
         return Err(TreeRefusal::Taken(id));
     }
-    if let Some(id) = id_above(methods, places, bytes) {
+    if let Some(id) = id_above(methods, places, at, bytes) {
         return Err(TreeRefusal::UnderMethod(id));
     }
-    if has_below(methods, places, bytes) {
+    if has_below(methods, places, at, bytes) {
         return Err(TreeRefusal::IsContainer);
     }
     if methods.len() == method_limit as usize {
