@@ -74,6 +74,15 @@ AreLawful entries = AllByRecursion (λ (e : Entry). IsLawful e.event) entries
 abbrev pub Recordable : Entry → Type 0
 Recordable e = IsRecordable e.caller e.event e.answer
 
+-- what holds of all holds of those in front, and of those behind
+pub all_front : {X : Type 0} (P : X → Type 0) (front more : List X) → AllByRecursion P (front ++ more) → AllByRecursion P front
+all_front P [] more all = tt
+all_front P (x ∷ front) more all = (all.0, all_front P front more all.1)
+
+pub all_behind : {X : Type 0} (P : X → Type 0) (front more : List X) → AllByRecursion P (front ++ more) → AllByRecursion P more
+all_behind P [] more all = all
+all_behind P (x ∷ front) more all = all_behind P front more all.1
+
 -- one entry more of which something holds
 all_more : {X : Type 0} (P : X → Type 0) (front : List X) (x : X) → AllByRecursion P front → P x → AllByRecursion P (front ++ x ∷ [])
 all_more P [] x all is = (is, tt)

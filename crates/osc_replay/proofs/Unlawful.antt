@@ -16,7 +16,7 @@ use Rattle.osc_record.proofs.Written.{some_in, header_length, range_below}
 use Rattle.osc_replay.specs.Lawful.{is_lawful}
 use Rattle.osc_replay.specs.Old.{IsOldRecordingOf, old_text, HasOldUnformed, IsOldUnformedAt}
 use Rattle.osc_replay.specs.Unlawful.{first_unlawful_in}
-use Rattle.osc_replay.proofs.Formed.{AreLawful, lawful_is, not_lawful, same_first}
+use Rattle.osc_replay.proofs.Formed.{AreLawful, all_behind, all_front, lawful_is, not_lawful, same_first}
 
 abbrev OldRecordable : Entry → Type 0
 OldRecordable e = IsOldRecordable e.caller e.event e.answer
@@ -76,14 +76,6 @@ all_lawful place (entry ∷ entries) is =
           → AreLawful (entry ∷ entries)
       go true lawful none more = (lawful_is entry.event lawful, more none)
       go false lawful none more = absurd (none-some place (sym none))
-
-all_front : {X : Type 0} (P : X → Type 0) (front more : List X) → AllByRecursion P (front ++ more) → AllByRecursion P front
-all_front P [] more all = tt
-all_front P (x ∷ front) more all = (all.0, all_front P front more all.1)
-
-all_behind : {X : Type 0} (P : X → Type 0) (front more : List X) → AllByRecursion P (front ++ more) → AllByRecursion P more
-all_behind P [] more all = all
-all_behind P (x ∷ front) more all = all_behind P front more all.1
 
 -- so none is found where all are
 pub none_found : (place : ℕ) (entries : List Entry) (at : ℕ) → AreLawful entries → first_unlawful_in (placed_by First place entries) ≡ Some at → ⊥

@@ -28,7 +28,7 @@ use Rattle.osc_replay.specs.Formed.{IsFormed}
 use Rattle.osc_replay.specs.Old.{IsOldFormed, IsOldRecordingOf, old_text, old_entry_size, OldGives, OldLegal, old_opening, old_after}
 use Rattle.osc_replay.specs.Playing.{IsReached}
 use Rattle.osc_replay.specs.Upgrading.{submits_in, growth, upgraded, upgraded_text, PrintsTheSame, DisagreesThere}
-use Rattle.osc_replay.proofs.Formed.{record_length}
+use Rattle.osc_replay.proofs.Formed.{all_behind, all_front, record_length}
 use Rattle.osc_replay.proofs.Older.{roomy, FitsBoth, text_of, old_text_of, texts, old_texts, old_sizes_are, GoesOver, goes_over, gives_back}
 use Rattle.osc_replay.proofs.Reached.{NextFits, recordable}
 
@@ -144,14 +144,6 @@ formed_today limit caps entries is least most within =
     }
 
 -- What the history comes to.
-
-all_front : {X : Type 0} (P : X → Type 0) (front more : List X) → AllByRecursion P (front ++ more) → AllByRecursion P front
-all_front P [] more all = tt
-all_front P (x ∷ front) more all = (all.0, all_front P front more all.1)
-
-all_behind : {X : Type 0} (P : X → Type 0) (front more : List X) → AllByRecursion P (front ++ more) → AllByRecursion P more
-all_behind P [] more all = all
-all_behind P (x ∷ front) more all = all_behind P front more all.1
 
 -- a legal front of the history goes over
 pub front_over : (limit : ℕ) (caps : Limits) (before later : List Entry) → IsOldFormed caps (before ++ later) → OldLegal caps before
