@@ -58,6 +58,15 @@ read_sound (Ok value) known four = omega arith
 read_sound (Err status) (inl one) four = omega arith
 read_sound (Err status) (inr three) four = omega arith
 
+-- what comes of an input of which nothing came
+pub refused_bytes : (status : ℕ) (left : Option (List ℕ)) (Refuses P : List ℕ → Type 0) → RefusesInput Refuses status left
+    → ((bytes : List ℕ) → status ≡ 1 → Refuses bytes → P bytes) → ((bytes : List ℕ) → status ≡ 3 → P bytes) → (status ≡ 4 → ⊥) → OfInput left P
+refused_bytes status left Refuses P refuses refused short read = go refuses.known where
+  go : (status ≡ 1) ⊎ (status ≡ 3) ⊎ (status ≡ 4) → OfInput left P
+  go (inl one) = of_so left Refuses P (λ bytes. refused bytes one) (refuses.refused one)
+  go (inr (inl three)) = any_bytes left P (λ bytes. short bytes three)
+  go (inr (inr four)) = absurd (read four)
+
 -- an input that is too long is refused
 pub long_refused : (most status : ℕ) (left after : Option (List ℕ)) (Refuses : List ℕ → Type 0) → (status ≡ 1) ⊎ (status ≡ 3)
     → IfSome left (λ all. (most < length all) × (after ≡ Some (left_behind most all)))

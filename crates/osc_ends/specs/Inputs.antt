@@ -48,9 +48,8 @@ RefusesScore status left out =
     RefusesInput (λ score. IsErrAnd (score_of score)
     (λ fault. GainsUnless out (score_fault_text fault))) status left
 
--- No bytes came of an input that is to be a recording: refused (1), where there are too many, and
--- the line on that was gained; want of memory (3); or a source that failed (4).
-pub record RefusesLength (status : ℕ) (left : Option (List ℕ)) (out : SinkChange) : Type 0 where
-  pub known : (status ≡ REFUSED) ⊎ (status ≡ NO_MEMORY) ⊎ (status ≡ SOURCE_FAILED)
-  pub refused : status ≡ REFUSED → IfSome left (λ all. max_recording < length all)
-      × GainsUnless out (malformed_text max_recording)
+-- they are too many for a recording, and the line on that was gained
+abbrev pub RefusesLength : ℕ → Option (List ℕ) → SinkChange → Type 0
+RefusesLength status left out =
+    RefusesInput (λ recording. (max_recording < length recording)
+    × GainsUnless out (malformed_text max_recording)) status left

@@ -30,20 +30,14 @@ RefusesRecording bytes lines =
     ⊎ ((entry : ℕ) × (kept : List ℕ) × (computed : List ℕ) × DisagreesAt bytes entry kept computed
     × (lines ≡ disagrees_text entry kept computed))
 
--- the bytes are the recording of a history that the server's rules give, and this is its printed
--- text
+-- the bytes are the recording of a history that the server's rules give, it keeps the four laws,
+-- and this is its printed text
 pub record ReplaysTo (bytes printed_text : List ℕ) : Type 0 where
   pub caps : Limits
   pub history : List Entry
   pub recording_of : IsRecordingOf bytes caps history
-  pub text : printed_text ≡ printed caps history
-
--- the bytes are the recording of a history that the server's rules give, and it keeps the four laws
-pub record RecordsTheLaws (bytes : List ℕ) : Type 0 where
-  pub caps : Limits
-  pub history : List Entry
-  pub recording_of : IsRecordingOf bytes caps history
   pub laws : KeepsTheLaws caps history
+  pub text : printed_text ≡ printed caps history
 
 -- The end of a command that reads a recording, by its status: done (0), where the bytes have a text
 -- of the command, and it was gained; refused (1), where they have lines that refuse them, and these

@@ -27,7 +27,7 @@ ghost use Rattle.osc_ends.specs.Printing.{
 };
 ghost use Rattle.osc_ends.specs.Outcomes as outcomes;
 ghost use Rattle.osc_ends.specs.Ends.{IsWritten, EndsText, EndsLine};
-ghost use Rattle.osc_ends.specs.Recordings.{EndsReplay, EndsDump, EndsUpgrade, RecordsTheLaws};
+ghost use Rattle.osc_ends.specs.Recordings.{EndsReplay, EndsDump, EndsUpgrade};
 ghost use Rattle.osc_ends.specs.Sinks.{sink_change};
 
 use crate::lines::{
@@ -91,7 +91,6 @@ pub fn write_replay<O: Sink>(alloc: Global, bytes: &[u8], out: &mut O) -> u8
     ensures ends { EndsReplay result bytes.now (sink_change O.held O.faults out.old out.new) }
     ensures replayed { (caps : Limits) (history : List Entry) → IsRecordingOf bytes.now caps history
         → (result ≡ DONE) ⊎ (result ≡ NO_MEMORY) ⊎ (result ≡ SINK_FAILED) }
-    ensures laws { result ≡ DONE → RecordsTheLaws bytes.now }
 {
     every_history_keeps_the_laws();
     match replay(alloc, bytes) {

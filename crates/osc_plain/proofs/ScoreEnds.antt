@@ -1,5 +1,5 @@
 -- How the commands end that read a score.
-use Rattle.std.proofs.Common.{◌≡◌, ◌≢◌, ◌⊎◌, inl, inr, ℕ, ◌≤◌, true, false, List, length, Option, Some, None, IfSome, IfOk, IsOkAnd, IsSome, Result, Ok, sym, ap, subst, ◌∙◌, arith}
+use Rattle.std.proofs.Common.{◌≡◌, ◌≢◌, ◌⊎◌, inl, inr, ℕ, ◌≤◌, true, false, List, length, Option, IfOk, IsOkAnd, IsSome, Result, Ok, sym, ap, subst, ◌∙◌, arith}
 use Rattle.std.specs.Prelude.{IsErrAnd}
 use Rattle.osc_score.specs.declared.limits.TheConstants.{MAX_SCORE}
 use Rattle.osc_score.specs.declared.fault.ScoreFault.{ScoreFault}
@@ -13,12 +13,16 @@ use Rattle.osc_score.specs.Plans.{Plan, plan_of, plan_script}
 use Rattle.osc_score.specs.Reading.{IsScored, score_of}
 use Rattle.osc_score_laws.specs.Heard.{IsRoomy, PlaysScore, score_lines}
 use Rattle.osc_ends.specs.Ends.{EndsText}
-use Rattle.osc_ends.specs.Inputs.{RefusesScore}
+use Rattle.osc_ends.proofs.Inputs.{of_so, refused_bytes}
+use Rattle.osc_ends.specs.Inputs.{OfInput, RefusesScore}
 use Rattle.osc_ends.specs.Printing.{score_fault_text}
 use Rattle.osc_ends.specs.Sinks.{SinkChange, GainsUnless}
 use Rattle.osc_plain.specs.declared.report.Report.TheVariants.{Text}
 use Rattle.osc_plain.specs.Commands.{default_limits}
-use Rattle.osc_plain.specs.Runs.{EndsLines}
+use Rattle.osc_player.specs.Bank.{IsAccounted}
+use Rattle.osc_plain.specs.EndsPlain.{AccountsScore}
+use Rattle.osc_plain.specs.Runs.{EndsLines, IsPlayed}
+use Rattle.osc_plain.proofs.Tops.{not_played, notes_short}
 use Rattle.osc_plain.specs.Scores.{EndsNotes, EndsPlayedScore, EndsPlaying, EndsScore, IsScriptOf, IsScriptWith}
 
 -- what the laws of scores say
@@ -91,17 +95,39 @@ module _ (bytes : List ℕ) (notes : List Note) (status have : ℕ) (out : SinkC
 
 -- a score that is refused
 pub refused_ends : (Ends : List ℕ → List Note → Type 0) (status : ℕ) (left : Option (List ℕ)) (out : SinkChange) → RefusesScore status left out
-    → IfSome left (λ score. status ≢ 4 → EndsNotes (Ends score) status score out)
-refused_ends Ends status None out refuses = tt
-refused_ends Ends status (Some all) out refuses = λ read. record {
-  refused = λ one_is. let of = refuses.refused one_is in
-      subst (λ (score : List ℕ). IsErrAnd (score_of score) (λ fault. GainsUnless out (score_fault_text fault))) of.1 of.2;
-  lawful = λ lawful short. absurd (go read lawful short refuses.known);
-} where
-  go : status ≢ 4 → status ≢ 1 → status ≢ 3 → (status ≡ 1) ⊎ (status ≡ 3) ⊎ (status ≡ 4) → ⊥
-  go read lawful short (inl one_is) = lawful one_is
-  go read lawful short (inr (inl three_is)) = short three_is
-  go read lawful short (inr (inr four_is)) = read four_is
+    → (status ≡ 4 → ⊥) → OfInput left (λ score. EndsNotes (Ends score) status score out)
+refused_ends Ends status left out refuses =
+    refused_bytes status left (λ score. IsErrAnd (score_of score) (λ fault. GainsUnless out (score_fault_text fault)))
+    (λ score. EndsNotes (Ends score) status score out) refuses
+    (λ score one refused. record { refused = λ _. refused; lawful = λ lawful _. absurd (lawful one) })
+    (λ score three. notes_short (Ends score) status score out three)
+
+module _ {M : Type 0} (keep : M → ℕ) (tells : M → Option (List ℕ)) (status : ℕ) (bank : List M) (heard : List (ℕ × M)) (left : List M) where
+  -- the boxes of a score that was read
+  pub score_accounts : (bytes : List ℕ) (notes : List Note) → score_of bytes ≡ Ok notes
+      → (IsPlayed status → IsAccounted keep tells default_limits (score_lines notes) bank heard left)
+      → AccountsScore keep tells status bytes bank heard left
+  score_accounts bytes notes is accounts = λ played.
+      subst
+      (λ (r : Result (List Note) ScoreFault). IsOkAnd r (λ notes. IsAccounted keep tells default_limits (score_lines notes) bank heard left))
+      (sym is) (accounts played)
+
+  -- a score that is refused
+  pub score_refused : (input : Option (List ℕ)) (out : SinkChange) (decided : ℕ) → status ≡ decided → RefusesScore decided input out → (status ≡ 4 → ⊥)
+      → OfInput input (λ score. EndsPlayedScore status (length bank) score out × AccountsScore keep tells status score bank heard left)
+  score_refused input out decided same given read =
+      of_so input (λ score. EndsPlayedScore status (length bank) score out)
+      (λ score. EndsPlayedScore status (length bank) score out × AccountsScore keep tells status score bank heard left)
+      (λ score so. (so, λ played. absurd (go played refuses.known)))
+      (refused_ends (λ score notes. EndsPlaying status (length bank) (length score) out notes) status input out refuses read)
+    where
+      refuses : RefusesScore status input out
+      refuses = subst (λ (s : ℕ). RefusesScore s input out) (sym same) given
+
+      go : IsPlayed status → (status ≡ 1) ⊎ (status ≡ 3) ⊎ (status ≡ 4) → ⊥
+      go played (inl one) = not_played status (inl one) played
+      go played (inr (inl three)) = not_played status (inr three) played
+      go played (inr (inr four)) = read four
 
 -- the score that is read is played
 pub played_so : (bytes : List ℕ) (notes : List Note) → score_of bytes ≡ Ok notes → IfOk (score_of bytes) (PlaysScore default_limits (length bytes))

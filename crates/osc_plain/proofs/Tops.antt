@@ -1,29 +1,33 @@
--- How a program ends, from how its parts end.
-use Rattle.std.proofs.Common.{◌≡◌, ◌≢◌, ◌⊎◌, inl, inr, ℕ, ◌<◌, ◌≤◌, List, length, Option, Some, None, IfSome, IsOkAnd, Result, Ok, sym, ap, subst, ◌∙◌, arith}
-use Rattle.std.specs.Prelude.{IsSomeAnd}
-use Rattle.osc_edge.specs.Faults.{Rose}
+use Rattle.std.proofs.Common.{◌≡◌, ◌≢◌, ◌⊎◌, inl, inr, ℕ, ◌<◌, ◌≤◌, List, [], length, Option, Some, None, IfSome, IsOkAnd, Result, Ok}
+use Rattle.std.proofs.Common.{sym, ap, subst, ◌∙◌, arith}
+use Rattle.std.specs.Prelude.{IsSomeAnd, IsErrAnd}
 use Rattle.osc_model.specs.Limits.{Limits, max_recording}
+use Rattle.osc_score.specs.Scores.{Note}
+use Rattle.osc_score.specs.Scripted.{score_script}
 use Rattle.osc_script.specs.declared.line.Line.{Line}
 use Rattle.osc_script.specs.declared.fault.ScriptFault.{ScriptFault}
 use Rattle.osc_script.specs.declared.mode.Mode.TheVariants.{Plain}
+use Rattle.osc_script.specs.Adds.{count_adds}
 use Rattle.osc_script.specs.Scripts.{script_of}
 use Rattle.osc_words.specs.declared.command.Capacities.{Capacities}
 use Rattle.osc_words.specs.declared.command.Output.{Output}
 use Rattle.osc_words.specs.declared.command.PlainCommand.{PlainCommand}
-use Rattle.osc_words.specs.declared.command.PlainCommand.TheVariants.{Read}
+use Rattle.osc_words.specs.declared.command.PlainCommand.TheVariants.{Read, Gen}
 use Rattle.osc_words.specs.declared.command.Reading.{Reading}
-use Rattle.osc_words.specs.declared.command.Reading.TheVariants.{Run}
-use Rattle.osc_plain.specs.declared.report.Report.{Report}
-use Rattle.osc_player.specs.Bank.{IsAccounted}
-use Rattle.osc_plain.specs.Commands.{plain_limits}
-use Rattle.osc_script.specs.Adds.{count_adds}
-use Rattle.osc_ends.specs.Inputs.{RefusesLength}
-use Rattle.osc_ends.specs.Printing.{bank_short_text, malformed_text}
-use Rattle.osc_ends.specs.Recordings.{EndsRecording}
+use Rattle.osc_words.specs.declared.command.Reading.TheVariants.{Run, Replay, Dump, Upgrade, Score, PlayScore}
+use Rattle.osc_ends.proofs.Inputs.{any_bytes, of_so, refused_bytes}
+use Rattle.osc_ends.specs.Ends.{EndsLine, EndsText}
+use Rattle.osc_ends.specs.Inputs.{OfInput, RefusesLength, RefusesScript}
+use Rattle.osc_ends.specs.Printing.{bank_short_text, malformed_text, refusal_text}
+use Rattle.osc_ends.specs.Recordings.{EndsDump, EndsRecording, EndsReplay, EndsUpgrade}
+use Rattle.osc_ends.specs.Recordings.{DumpsTo, RefusesForm, RefusesRecording, RefusesUpgrade, ReplaysTo, UpgradesTo}
 use Rattle.osc_ends.specs.Sinks.{SinkChange, GainsUnless}
-use Rattle.osc_plain.specs.Runs.{IsPlayed, IsUnstopped, EndsLines, EndsRun}
-use Rattle.osc_ends.specs.Ends.{EndsLine}
-use Rattle.osc_plain.specs.EndsPlain.{AccountsPlain, CanBeDone, EndsReading}
+use Rattle.osc_player.specs.Bank.{IsAccounted}
+use Rattle.osc_plain.specs.declared.report.Report.{Report}
+use Rattle.osc_plain.specs.Commands.{plain_limits}
+use Rattle.osc_plain.specs.EndsPlain.{AccountsReading, AccountsScore, AccountsScript, CanBeDone, EndsPlain, EndsReading, HandsAllBack}
+use Rattle.osc_plain.specs.Runs.{IsPlayed, IsUnstopped, EndsLines, EndsRun, report_of}
+use Rattle.osc_plain.specs.Scores.{EndsNotes, EndsPlayedScore, EndsPlaying, EndsScore}
 
 -- too few boxes
 pub short_ends : (report : Report) (caps : Limits) (status status' have have' need : ℕ) (lines : List Line) (out : SinkChange) → status' ≡ status
@@ -66,25 +70,152 @@ lines_end report caps status have script lines out is ends = record {
 pub said_so : (said : Option PlainCommand) (command : PlainCommand) (holds : PlainCommand → Type 0) → said ≡ Some command → holds command → IfSome said holds
 said_so said command holds is so = subst (λ (o : Option PlainCommand). IfSome o holds) (sym is) so
 
--- a sink that didn't fail cut nothing short
-pub not_cut_short : (status faults later : ℕ) → (status ≡ 5 → Rose faults later) → ¬ Rose faults later → (status ≡ 0) ⊎ ((status ≡ 3) ⊎ (status ≡ 5))
-    → (status ≡ 0) ⊎ (status ≡ 3)
-not_cut_short status faults later failed steady (inl done) = inl done
-not_cut_short status faults later failed steady (inr (inl short)) = inr short
-not_cut_short status faults later failed steady (inr (inr cut)) = absurd (steady (failed cut))
+-- nothing was played
+pub not_played : (status : ℕ) → (status ≡ 1) ⊎ (status ≡ 3) → IsPlayed status → ⊥
+not_played status (inl one) (inl zero_is) = omega (arith, one, zero_is)
+not_played status (inl one) (inr (inl five_is)) = omega (arith, one, five_is)
+not_played status (inl one) (inr (inr six_is)) = omega (arith, one, six_is)
+not_played status (inr three) (inl zero_is) = omega (arith, three, zero_is)
+not_played status (inr three) (inr (inl five_is)) = omega (arith, three, five_is)
+not_played status (inr three) (inr (inr six_is)) = omega (arith, three, six_is)
 
-module _ {M : Type 0} (keep : M → ℕ) (heard : M → Option (List ℕ)) (status : ℕ) (bank : List M) (added : List (ℕ × M)) (left : List M) where
-  -- the boxes of a run are those of its command
-  pub run_accounts : (output : Output) (capacities : Capacities) (reading : Reading) (limits : Limits) (input : Option (List ℕ))
-      → reading ≡ Run output capacities → limits ≡ plain_limits capacities
-      → (IsPlayed status → (lines : List Line) × IfSome input (λ script. script_of Plain script ≡ Ok lines)
-      × IsAccounted keep heard limits lines bank added left)
-      → AccountsPlain keep heard (Read reading) status input bank added left
-  run_accounts output capacities reading limits input is same accounted =
-      subst (λ (r : Reading). AccountsPlain keep heard (Read r) status input bank added left) (sym is)
-      (λ played. subst
-      (λ (l : Limits). (lines : List Line) × IfSome input (λ script. script_of Plain script ≡ Ok lines) × IsAccounted keep heard l lines bank added left)
-      same (accounted played))
+-- a script of which a run ran out of memory
+pub run_short : (report : Report) (caps : Limits) (status have : ℕ) (script : List ℕ) (out : SinkChange) → status ≡ 3
+    → EndsRun report caps status have script out
+run_short report caps status have script out three = record {
+  refused = λ one. absurd (omega (arith, one, three));
+  lawful = λ _ short. absurd (short three);
+}
+
+-- a recording of which a command did
+pub recording_short : (Writes Refuses : List ℕ → List ℕ → Type 0) (status : ℕ) (bytes : List ℕ) (out : SinkChange) → status ≡ 3
+    → EndsRecording Writes Refuses status bytes out
+recording_short Writes Refuses status bytes out three = record {
+  known = inr (inr (inl three));
+  done = λ zero_is. absurd (omega (arith, three, zero_is));
+  refused = λ one. absurd (omega (arith, three, one));
+  cut_short = λ five. absurd (omega (arith, three, five));
+}
+
+-- a score of which a command did
+pub notes_short : (Ends : List Note → Type 0) (status : ℕ) (score : List ℕ) (out : SinkChange) → status ≡ 3 → EndsNotes Ends status score out
+notes_short Ends status score out three = record {
+  refused = λ one. absurd (omega (arith, one, three));
+  lawful = λ _ short. absurd (short three);
+}
+
+module _ {M : Type 0} (keep : M → ℕ) (tells : M → Option (List ℕ)) (status : ℕ) (bank : List M) (heard : List (ℕ × M)) (left : List M) (out : SinkChange) where
+  -- lines that were read end as their script, and so do the boxes
+  pub run_read : (input : Option (List ℕ)) (report : Report) (caps : Limits) (lines : List Line) → OfInput input (λ script. script_of Plain script ≡ Ok lines)
+      → EndsLines report caps status (length bank) lines out → (IsPlayed status → IsAccounted keep tells caps lines bank heard left)
+      → OfInput input (λ script. EndsRun report caps status (length bank) script out × AccountsScript keep tells caps status script bank heard left)
+  run_read input report caps lines read ends accounts =
+      of_so input (λ script. script_of Plain script ≡ Ok lines)
+      (λ script. EndsRun report caps status (length bank) script out × AccountsScript keep tells caps status script bank heard left)
+      (λ script is. (
+        lines_end report caps status (length bank) script lines out is ends,
+        λ played. subst (λ (r : Result (List Line) ScriptFault). IsOkAnd r (λ lines. IsAccounted keep tells caps lines bank heard left)) (sym is)
+            (accounts played),
+      ))
+      read
+
+  -- a script that is refused
+  pub run_refused : (input : Option (List ℕ)) (report : Report) (caps : Limits) (decided : ℕ) → status ≡ decided → RefusesScript Plain decided input out
+      → (status ≡ 4 → ⊥)
+      → OfInput input (λ script. EndsRun report caps status (length bank) script out × AccountsScript keep tells caps status script bank heard left)
+  run_refused input report caps decided same refuses read =
+      refused_bytes status input (λ script. IsErrAnd (script_of Plain script) (λ fault. GainsUnless out (refusal_text fault)))
+      (λ script. EndsRun report caps status (length bank) script out × AccountsScript keep tells caps status script bank heard left)
+      (subst (λ (s : ℕ). RefusesScript Plain s input out) (sym same) refuses)
+      (λ script one refused. (
+        record { refused = λ _. refused; lawful = λ lawful _. absurd (lawful one) },
+        λ played. absurd (not_played status (inl one) played),
+      ))
+      (λ script three. (run_short report caps status (length bank) script out three, λ played. absurd (not_played status (inr three) played))) read
+
+  -- a script was run, as the words say
+  pub run_said : (input : Option (List ℕ)) (output : Output) (capacities : Capacities) (reading : Reading) (report : Report) (limits : Limits)
+      → reading ≡ Run output capacities → report ≡ report_of output → limits ≡ plain_limits capacities
+      → (status ≢ 4 → OfInput input
+      (λ script. EndsRun report limits status (length bank) script out × AccountsScript keep tells limits status script bank heard left))
+      → EndsPlain keep tells (Read reading) status input bank out heard left
+  run_said input output capacities reading report limits is said same ends =
+      subst (λ (r : Reading). EndsPlain keep tells (Read r) status input bank out heard left) (sym is)
+      (subst
+      (λ (r : Report). status ≢ 4 → OfInput input
+      (λ script. EndsRun r (plain_limits capacities) status (length bank) script out
+      × AccountsScript keep tells (plain_limits capacities) status script bank heard left)) said
+      (subst
+      (λ (l : Limits). status ≢ 4 → OfInput input
+      (λ script. EndsRun report l status (length bank) script out × AccountsScript keep tells l status script bank heard left)) same ends))
+
+  -- a score was played
+  pub score_said : (input : Option (List ℕ)) (reading : Reading) → reading ≡ PlayScore
+      → (status ≢ 4 → OfInput input
+      (λ score. EndsPlayedScore status (length bank) score out × AccountsScore keep tells status score bank heard left))
+      → EndsPlain keep tells (Read reading) status input bank out heard left
+  score_said input reading is ends = subst (λ (r : Reading). EndsPlain keep tells (Read r) status input bank out heard left) (sym is) ends
+
+  -- a command that plays nothing was done
+  pub unplayed_said : (input : Option (List ℕ)) (reading other : Reading) (decided : ℕ) → reading ≡ other → status ≡ decided → heard ≡ [] → left ≡ bank
+      → ((all : List ℕ) → HandsAllBack status bank heard left → AccountsReading keep tells other status all bank heard left)
+      → (decided ≢ 4 → OfInput input (λ all. EndsReading other decided (length bank) all out))
+      → EndsPlain keep tells (Read reading) status input bank out heard left
+  unplayed_said input reading other decided is same none all_left back ends =
+      subst (λ (r : Reading). EndsPlain keep tells (Read r) status input bank out heard left) (sym is)
+      (λ read.
+      of_so input (λ all. EndsReading other status (length bank) all out)
+      (λ all. EndsReading other status (length bank) all out × AccountsReading keep tells other status all bank heard left)
+      (λ all so. (so, back all (λ _. (none, all_left))))
+      (subst (λ (s : ℕ). s ≢ 4 → OfInput input (λ all. EndsReading other s (length bank) all out)) (sym same) ends read))
+
+  -- memory ran out
+  pub memory_short : (command : PlainCommand) (input : Option (List ℕ)) → status ≡ 3 → heard ≡ [] → left ≡ bank
+      → EndsPlain keep tells command status input bank out heard left
+  memory_short (Read (Run output capacities)) input three none all_left = λ _.
+      any_bytes input
+      (λ script. EndsRun (report_of output) (plain_limits capacities) status (length bank) script out
+      × AccountsScript keep tells (plain_limits capacities) status script bank heard left)
+      (λ script. (
+        run_short (report_of output) (plain_limits capacities) status (length bank) script out three,
+        λ played. absurd (not_played status (inr three) played),
+      ))
+  memory_short (Read Replay) input three none all_left = λ _.
+      any_bytes input (λ all. EndsReplay status all out × HandsAllBack status bank heard left)
+      (λ all. (recording_short ReplaysTo RefusesRecording status all out three, λ short. absurd (short three)))
+  memory_short (Read Dump) input three none all_left = λ _.
+      any_bytes input (λ all. EndsDump status all out × HandsAllBack status bank heard left)
+      (λ all. (recording_short DumpsTo RefusesForm status all out three, λ short. absurd (short three)))
+  memory_short (Read Upgrade) input three none all_left = λ _.
+      any_bytes input (λ all. EndsUpgrade status all out × HandsAllBack status bank heard left)
+      (λ all. (recording_short UpgradesTo RefusesUpgrade status all out three, λ short. absurd (short three)))
+  memory_short (Read Score) input three none all_left = λ _.
+      any_bytes input (λ score. EndsScore status score out × HandsAllBack status bank heard left)
+      (λ score. (
+        notes_short (λ notes. EndsText 0 status (score_script notes) out) status score out three,
+        λ short. absurd (short three),
+      ))
+  memory_short (Read PlayScore) input three none all_left = λ _.
+      any_bytes input (λ score. EndsPlayedScore status (length bank) score out × AccountsScore keep tells status score bank heard left)
+      (λ score. (
+        notes_short (EndsPlaying status (length bank) (length score) out) status score out three,
+        λ played. absurd (not_played status (inr three) played),
+      ))
+  memory_short (Gen seed lines) input three none all_left = (
+    record {
+      known = inr (inl three);
+      done = λ zero_is. absurd (omega (arith, three, zero_is));
+      cut_short = λ five. absurd (omega (arith, three, five));
+      full = λ six. absurd (omega (arith, three, six));
+      bank_short = λ eight. absurd (omega (arith, three, eight));
+    },
+    λ played. absurd (not_played status (inr three) played),
+  )
+
+-- what holds of every command holds of the one that is said
+pub any_said : (said : Option PlainCommand) (holds : PlainCommand → Type 0) → ((command : PlainCommand) → holds command) → IfSome said holds
+any_said None holds all = tt
+any_said (Some command) holds all = all command
 
 -- what the words say is what is done
 pub can_so : (reading other : Reading) (have : ℕ) (input : Option (List ℕ)) → reading ≡ other → CanBeDone (Read reading) have input
@@ -99,34 +230,20 @@ run_done output capacities reading limits have input is same can =
     (λ (l : Limits). IsSomeAnd input (λ script. IsOkAnd (script_of Plain script) (λ lines. (count_adds lines ≤ have) × IsUnstopped l lines)))
     (sym same) (can_so reading (Run output capacities) have input is can)
 
-pub reading_ends : (reading other : Reading) (status decided have : ℕ) (input : Option (List ℕ)) (out : SinkChange) → reading ≡ other → status ≡ decided
-    → IfSome input (λ all. decided ≢ 4 → EndsReading other decided have all out)
-    → IfSome input (λ all. status ≢ 4 → EndsReading reading status have all out)
-reading_ends reading other status decided have input out is same ends =
-    subst (λ (r : Reading). IfSome input (λ all. status ≢ 4 → EndsReading r status have all out)) (sym is)
-    (subst (λ (s : ℕ). IfSome input (λ all. s ≢ 4 → EndsReading other s have all out)) (sym same) ends)
-
 -- a recording that is too long is refused as one that is malformed behind the last byte that it may have
 pub length_ends : (Writes Refuses : List ℕ → List ℕ → Type 0) (status : ℕ) (left : Option (List ℕ)) (out : SinkChange)
     → ((bytes : List ℕ) → max_recording < length bytes → Refuses bytes (malformed_text max_recording)) → RefusesLength status left out
-    → IfSome left (λ all. status ≢ 4 → EndsRecording Writes Refuses status all out)
-length_ends Writes Refuses status None out long refuses = tt
-length_ends Writes Refuses status (Some all) out long refuses = λ read. go read refuses.known where
-  go : status ≢ 4 → (status ≡ 1) ⊎ (status ≡ 3) ⊎ (status ≡ 4) → EndsRecording Writes Refuses status all out
-  go read (inl one) = let refused = refuses.refused one in
-      record {
-        known = inr (inl one);
-        done = λ zero_is. absurd (omega (arith, one, zero_is));
-        refused = λ _. (malformed_text max_recording, long all refused.0, refused.1);
-        cut_short = λ five. absurd (omega (arith, one, five));
-      }
-  go read (inr (inl three)) = record {
-    known = inr (inr (inl three));
-    done = λ zero_is. absurd (omega (arith, three, zero_is));
-    refused = λ one. absurd (omega (arith, three, one));
-    cut_short = λ five. absurd (omega (arith, three, five));
-  }
-  go read (inr (inr four)) = absurd (read four)
+    → status ≢ 4 → OfInput left (λ all. EndsRecording Writes Refuses status all out)
+length_ends Writes Refuses status left out long refuses =
+    refused_bytes status left (λ all. (max_recording < length all) × GainsUnless out (malformed_text max_recording))
+    (λ all. EndsRecording Writes Refuses status all out) refuses
+    (λ all one refused. record {
+      known = inr (inl one);
+      done = λ zero_is. absurd (omega (arith, one, zero_is));
+      refused = λ _. (malformed_text max_recording, long all refused.0, refused.1);
+      cut_short = λ five. absurd (omega (arith, one, five));
+    })
+    (λ all three. recording_short Writes Refuses status all out three)
 
 -- what holds of the bytes that were left holds of those that were read
 pub some_bytes : (left : Option (List ℕ)) (bytes : List ℕ) (P : List ℕ → Type 0) → IfSome left (λ all. bytes ≡ all) → IsSomeAnd left P → P bytes

@@ -1,6 +1,6 @@
 -- How each command of `osc` ends, and what becomes of the boxes that it was handed.
-use Rattle.std.specs.Prelude.{◌≡◌, ◌≢◌, ℕ, ◌≤◌, IsTrue, List, [], map, length, Option, IfSome}
-use Rattle.std.specs.Prelude.{IsSomeAnd, Ok, IsOk, IsOkAnd}
+use Rattle.std.specs.Prelude.{◌≡◌, ◌≢◌, ℕ, ◌≤◌, IsTrue, List, [], map, length, Option}
+use Rattle.std.specs.Prelude.{IsSomeAnd, IsOk, IsOkAnd}
 use Rattle.osc_core.specs.Ids.{is_ascending}
 use Rattle.osc_model.specs.Limits.{Limits, max_recording}
 use Rattle.osc_model.specs.Events.{Entry}
@@ -9,7 +9,6 @@ use Rattle.osc_replay.specs.Disagreeing.{IsRecordingOf}
 use Rattle.osc_replay.specs.Formed.{IsFormed}
 use Rattle.osc_replay.specs.Old.{IsOldRecordingOf}
 use Rattle.osc_replay.specs.Upgrading.{upgraded_text}
-use Rattle.osc_script.specs.declared.line.Line.{Line}
 use Rattle.osc_script.specs.declared.mode.Mode.TheVariants.{Plain}
 use Rattle.osc_script.specs.Scripts.{script_of}
 use Rattle.osc_words.specs.declared.command.PlainCommand.{PlainCommand}
@@ -17,12 +16,13 @@ use Rattle.osc_words.specs.declared.command.PlainCommand.TheVariants.{Read, Gen}
 use Rattle.osc_words.specs.declared.command.Reading.{Reading}
 use Rattle.osc_words.specs.declared.command.Reading.TheVariants.{Run, Replay, Dump, Upgrade}
 use Rattle.osc_words.specs.declared.command.Reading.TheVariants.{Score, PlayScore}
-use Rattle.osc_score.specs.Scores.{Note, addresses_of}
+use Rattle.osc_score.specs.Scores.{addresses_of}
 use Rattle.osc_score.specs.Reading.{score_of}
 use Rattle.osc_score_laws.specs.Heard.{score_lines}
 use Rattle.osc_script.specs.Adds.{count_adds}
 use Rattle.osc_ends.specs.declared.status.TheConstants.{NO_MEMORY, SOURCE_FAILED}
 use Rattle.osc_ends.specs.Ends.{IsUnplayed}
+use Rattle.osc_ends.specs.Inputs.{OfInput}
 use Rattle.osc_ends.specs.Recordings.{EndsDump, EndsReplay, EndsUpgrade}
 use Rattle.osc_ends.specs.Sinks.{SinkChange}
 use Rattle.osc_player.specs.Bank.{IsAccounted}
@@ -40,13 +40,6 @@ EndsReading Dump status have input out = EndsDump status input out
 EndsReading Upgrade status have input out = EndsUpgrade status input out
 EndsReading Score status have input out = EndsScore status input out
 EndsReading PlayScore status have input out = EndsPlayedScore status have input out
-
--- the end of a command, of which so many boxes and this input were handed in, if the input is told
-abbrev pub EndsPlain : PlainCommand → ℕ → ℕ → Option (List ℕ) → SinkChange → Type 0
-EndsPlain (Read reading) status have input out =
-    IfSome input (λ all. status ≢ SOURCE_FAILED → EndsReading reading status have all out)
-EndsPlain (Gen seed lines) status have input out =
-    EndsLines Summary default_limits status have (drawn_lines seed lines) out
 
 -- A command can be done with so many boxes and this input: a lawful script or a drawn one has a box
 -- for each add and room for its recording; a score is lawful, and to be played it has a box for
@@ -84,26 +77,49 @@ module _ {M : Type 0} where
     pub none_heard : IsUnplayed status → heard ≡ []
     pub all_left : IsUnplayed status → left ≡ bank
 
-  -- Of a command that plays lines each box is accounted for, if the input is told those of the
-  -- lines that it says; a command that plays nothing hands all boxes back.
-  abbrev pub AccountsPlain : (M → ℕ) → (M → Option (List ℕ)) → PlainCommand → ℕ
-      → Option (List ℕ) → List M → List (ℕ × M) → List M → Type 0
-  AccountsPlain keep tells (Read (Run output caps)) status input bank heard left =
-      IsPlayed status → (lines : List Line)
-      × IfSome input (λ script. script_of Plain script ≡ Ok lines)
-      × IsAccounted keep tells (plain_limits caps) lines bank heard left
-  AccountsPlain keep tells (Read Replay) status input bank heard left =
-      status ≢ NO_MEMORY → (heard ≡ []) × (left ≡ bank)
-  AccountsPlain keep tells (Read Dump) status input bank heard left =
-      status ≢ NO_MEMORY → (heard ≡ []) × (left ≡ bank)
-  AccountsPlain keep tells (Read Upgrade) status input bank heard left =
-      status ≢ NO_MEMORY → (heard ≡ []) × (left ≡ bank)
-  AccountsPlain keep tells (Read Score) status input bank heard left =
-      status ≢ NO_MEMORY → (heard ≡ []) × (left ≡ bank)
-  AccountsPlain keep tells (Read PlayScore) status input bank heard left =
-      IsPlayed status → (notes : List Note)
-      × IfSome input (λ score. score_of score ≡ Ok notes)
-      × IsAccounted keep tells default_limits (score_lines notes) bank heard left
-  AccountsPlain keep tells (Gen seed lines) status input bank heard left =
-      IsPlayed status
-      → IsAccounted keep tells default_limits (drawn_lines seed lines) bank heard left
+  -- each box is accounted for by the lines of a script that was played
+  abbrev pub AccountsScript : (M → ℕ) → (M → Option (List ℕ)) → Limits → ℕ → List ℕ → List M
+      → List (ℕ × M) → List M → Type 0
+  AccountsScript keep tells caps status script bank heard left = IsPlayed status
+      → IsOkAnd (script_of Plain script)
+      (λ lines. IsAccounted keep tells caps lines bank heard left)
+
+  -- and by those of a score
+  abbrev pub AccountsScore : (M → ℕ) → (M → Option (List ℕ)) → ℕ → List ℕ → List M
+      → List (ℕ × M) → List M → Type 0
+  AccountsScore keep tells status score bank heard left = IsPlayed status
+      → IsOkAnd (score_of score)
+      (λ notes. IsAccounted keep tells default_limits (score_lines notes) bank heard left)
+
+  -- a command that plays nothing hands all boxes back
+  abbrev pub HandsAllBack : ℕ → List M → List (ℕ × M) → List M → Type 0
+  HandsAllBack status bank heard left = status ≢ NO_MEMORY → (heard ≡ []) × (left ≡ bank)
+
+  -- what becomes of the boxes of a command that reads this input
+  abbrev pub AccountsReading : (M → ℕ) → (M → Option (List ℕ)) → Reading → ℕ → List ℕ → List M
+      → List (ℕ × M) → List M → Type 0
+  AccountsReading keep tells (Run output caps) status input bank heard left =
+      AccountsScript keep tells (plain_limits caps) status input bank heard left
+  AccountsReading keep tells Replay status input bank heard left =
+      HandsAllBack status bank heard left
+  AccountsReading keep tells Dump status input bank heard left =
+      HandsAllBack status bank heard left
+  AccountsReading keep tells Upgrade status input bank heard left =
+      HandsAllBack status bank heard left
+  AccountsReading keep tells Score status input bank heard left =
+      HandsAllBack status bank heard left
+  AccountsReading keep tells PlayScore status input bank heard left =
+      AccountsScore keep tells status input bank heard left
+
+  -- The end of a command, and what becomes of the boxes. But for a source that failed (4), there are
+  -- bytes that a command read, those that the source had left where it tells that.
+  abbrev pub EndsPlain : (M → ℕ) → (M → Option (List ℕ)) → PlainCommand → ℕ → Option (List ℕ)
+      → List M → SinkChange → List (ℕ × M) → List M → Type 0
+  EndsPlain keep tells (Read reading) status input bank out heard left =
+      status ≢ SOURCE_FAILED → OfInput input
+      (λ all. EndsReading reading status (length bank) all out
+      × AccountsReading keep tells reading status all bank heard left)
+  EndsPlain keep tells (Gen seed lines) status input bank out heard left =
+      EndsLines Summary default_limits status (length bank) (drawn_lines seed lines) out
+      × (IsPlayed status
+      → IsAccounted keep tells default_limits (drawn_lines seed lines) bank heard left)

@@ -26,13 +26,8 @@ ghost use Rattle.osc_replay.specs.Disagreeing.{IsRecordingOf};
 ghost use Rattle.osc_replay.specs.Formed.{IsFormed};
 ghost use Rattle.osc_replay.specs.Old.{IsOldRecordingOf};
 ghost use Rattle.osc_replay.specs.Upgrading.{upgraded_text};
-ghost use Rattle.osc_ends.specs.Inputs.{ReadsInput};
-ghost use Rattle.osc_ends.specs.Recordings.{
-  EndsDump,
-  EndsReplay,
-  EndsUpgrade,
-  RecordsTheLaws,
-};
+ghost use Rattle.osc_ends.specs.Inputs.{OfInput, ReadsInput};
+ghost use Rattle.osc_ends.specs.Recordings.{EndsDump, EndsReplay, EndsUpgrade};
 ghost use Rattle.osc_ends.specs.Sinks.{sink_change, Fails, IsSteady};
 
 use osc_edge::{Sink, Source};
@@ -47,13 +42,12 @@ pub(crate) fn replay<S: Source, O: Sink>(alloc: Global, input: &mut S, out: &mut
     ensures input { ReadsInput max_recording result (S.left input.old) (S.left input.new)
         (S.faults input.old) (S.faults input.new) }
     ensures unwritten { result ≡ SOURCE_FAILED → out.new ≡ out.old }
-    ensures ends { IfSome (S.left input.old) (λ all. result ≢ SOURCE_FAILED →
-        EndsReplay result all (sink_change O.held O.faults out.old out.new)) }
+    ensures ends { result ≢ SOURCE_FAILED → OfInput (S.left input.old)
+        (λ all. EndsReplay result all (sink_change O.held O.faults out.old out.new)) }
     ensures sink { result ≡ SINK_FAILED → Fails (sink_change O.held O.faults out.old out.new) }
     ensures steady { result ≡ DONE → IsSteady (sink_change O.held O.faults out.old out.new) }
     ensures ended { result ≡ DONE
         → IfSome (S.left input.old) (λ all. S.left input.new ≡ Some []) }
-    ensures laws { result ≡ DONE → IfSome (S.left input.old) RecordsTheLaws }
     ensures complete { IsSomeAnd (S.left input.old) (λ recording.
         (caps : Limits) × (history : List Entry) × IsRecordingOf recording caps history)
         → ¬ Rose (S.faults input.old) (S.faults input.new) →
@@ -73,8 +67,8 @@ pub(crate) fn dump<S: Source, O: Sink>(alloc: Global, input: &mut S, out: &mut O
     ensures input { ReadsInput max_recording result (S.left input.old) (S.left input.new)
         (S.faults input.old) (S.faults input.new) }
     ensures unwritten { result ≡ SOURCE_FAILED → out.new ≡ out.old }
-    ensures ends { IfSome (S.left input.old) (λ all. result ≢ SOURCE_FAILED →
-        EndsDump result all (sink_change O.held O.faults out.old out.new)) }
+    ensures ends { result ≢ SOURCE_FAILED → OfInput (S.left input.old)
+        (λ all. EndsDump result all (sink_change O.held O.faults out.old out.new)) }
     ensures sink { result ≡ SINK_FAILED → Fails (sink_change O.held O.faults out.old out.new) }
     ensures steady { result ≡ DONE → IsSteady (sink_change O.held O.faults out.old out.new) }
     ensures ended { result ≡ DONE
@@ -99,8 +93,8 @@ pub(crate) fn upgrade<S: Source, O: Sink>(alloc: Global, input: &mut S, out: &mu
     ensures input { ReadsInput max_recording result (S.left input.old) (S.left input.new)
         (S.faults input.old) (S.faults input.new) }
     ensures unwritten { result ≡ SOURCE_FAILED → out.new ≡ out.old }
-    ensures ends { IfSome (S.left input.old) (λ all. result ≢ SOURCE_FAILED →
-        EndsUpgrade result all (sink_change O.held O.faults out.old out.new)) }
+    ensures ends { result ≢ SOURCE_FAILED → OfInput (S.left input.old)
+        (λ all. EndsUpgrade result all (sink_change O.held O.faults out.old out.new)) }
     ensures sink { result ≡ SINK_FAILED → Fails (sink_change O.held O.faults out.old out.new) }
     ensures steady { result ≡ DONE → IsSteady (sink_change O.held O.faults out.old out.new) }
     ensures ended { result ≡ DONE

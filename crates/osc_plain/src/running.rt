@@ -21,7 +21,6 @@ ghost use Rattle.std.specs.Prelude.{
   IsSomeAnd,
   IsOkAnd,
   Some,
-  Ok,
 };
 ghost use Rattle.std.specs.Option.{option_map};
 ghost use Rattle.osc_edge.specs.Faults.{Rose};
@@ -31,11 +30,11 @@ ghost use Rattle.osc_script.specs.declared.line.Line.{Line};
 ghost use Rattle.osc_script.specs.declared.mode.Mode.TheVariants.{Plain};
 ghost use Rattle.osc_script.specs.Adds.{count_adds};
 ghost use Rattle.osc_script.specs.Scripts.{script_of};
-ghost use Rattle.osc_ends.specs.Inputs.{ReadsInput};
+ghost use Rattle.osc_ends.specs.Inputs.{OfInput, ReadsInput};
 ghost use Rattle.osc_ends.specs.Sinks.{sink_change, Fails, IsSteady};
 ghost use Rattle.osc_player.specs.Bank.{IsAccounted};
 ghost use Rattle.osc_player.specs.Runs.{IsRunOf};
-ghost use Rattle.osc_plain.specs.EndsPlain.{HandsBack};
+ghost use Rattle.osc_plain.specs.EndsPlain.{AccountsScript, HandsBack};
 ghost use Rattle.osc_plain.specs.Runs.{EndsLines, EndsPlayed, EndsRun, IsPlayed, IsUnstopped};
 
 use crate::report::Report;
@@ -63,19 +62,17 @@ pub(crate) fn run<S: Source, O: Sink>(
     ensures input { ReadsInput MAX_SCRIPT result.status (S.left input.old) (S.left input.new)
         (S.faults input.old) (S.faults input.new) }
     ensures unwritten { result.status ≡ SOURCE_FAILED → out.new ≡ out.old }
-    ensures ends { IfSome (S.left input.old) (λ script. result.status ≢ SOURCE_FAILED →
-        EndsRun report caps result.status (length bank.items) script
-        (sink_change O.held O.faults out.old out.new)) }
+    ensures ends { result.status ≢ SOURCE_FAILED → OfInput (S.left input.old)
+        (λ script. EndsRun report caps result.status (length bank.items) script
+        (sink_change O.held O.faults out.old out.new)
+        × AccountsScript (λ box. keep box) (λ box. heard box) caps result.status script
+        bank.items result.heard.items result.left.items) }
     ensures sink { result.status ≡ SINK_FAILED
         → Fails (sink_change O.held O.faults out.old out.new) }
     ensures steady { result.status ≡ DONE
         → IsSteady (sink_change O.held O.faults out.old out.new) }
     ensures ended { result.status ≡ DONE
         → IfSome (S.left input.old) (λ all. S.left input.new ≡ Some []) }
-    ensures accounted { IsPlayed result.status → (lines : List Line)
-        × IfSome (S.left input.old) (λ script. script_of Plain script ≡ Ok lines)
-        × IsAccounted (λ box. keep box) (λ box. heard box) caps lines bank.items
-        result.heard.items result.left.items }
     ensures back { HandsBack result.status bank.items result.heard.items result.left.items }
     ensures complete { IsSomeAnd (S.left input.old) (λ script. IsOkAnd (script_of Plain script)
         (λ lines. (count_adds lines ≤ length bank.items) × IsUnstopped caps lines))

@@ -23,21 +23,19 @@ ghost use Rattle.std.specs.Prelude.{
   IsOk,
   IsOkAnd,
   IsSomeAnd,
-  Ok,
   Some,
 };
 ghost use Rattle.osc_edge.specs.Faults.{Rose};
 ghost use Rattle.osc_score.specs.Plans.{plan_script};
 ghost use Rattle.osc_score.specs.Reading.{score_of};
-ghost use Rattle.osc_score.specs.Scores.{Note, addresses_of};
-ghost use Rattle.osc_score_laws.specs.Heard.{score_lines};
+ghost use Rattle.osc_score.specs.Scores.{addresses_of};
 ghost use Rattle.osc_script.specs.declared.line.Line.{Line};
 ghost use Rattle.osc_ends.specs.Ends.{EndsText};
-ghost use Rattle.osc_ends.specs.Inputs.{ReadsInput};
+ghost use Rattle.osc_ends.specs.Inputs.{OfInput, ReadsInput};
 ghost use Rattle.osc_ends.specs.Sinks.{sink_change, Fails, IsSteady};
 ghost use Rattle.osc_player.specs.Bank.{IsAccounted};
 ghost use Rattle.osc_plain.specs.Commands as commands;
-ghost use Rattle.osc_plain.specs.EndsPlain.{HandsBack};
+ghost use Rattle.osc_plain.specs.EndsPlain.{AccountsScore, HandsBack};
 ghost use Rattle.osc_plain.specs.declared.report.Report.TheVariants.{Text};
 ghost use Rattle.osc_plain.specs.Runs.{EndsLines, IsPlayed};
 ghost use Rattle.osc_plain.specs.Scores.{EndsPlayedScore, EndsScore, IsScriptWith};
@@ -65,8 +63,8 @@ pub(crate) fn write_score<S: Source, O: Sink>(alloc: Global, input: &mut S, out:
     ensures input { ReadsInput MAX_SCORE result (S.left input.old) (S.left input.new)
         (S.faults input.old) (S.faults input.new) }
     ensures unwritten { result ≡ SOURCE_FAILED → out.new ≡ out.old }
-    ensures ends { IfSome (S.left input.old) (λ score. result ≢ SOURCE_FAILED →
-        EndsScore result score (sink_change O.held O.faults out.old out.new)) }
+    ensures ends { result ≢ SOURCE_FAILED → OfInput (S.left input.old)
+        (λ score. EndsScore result score (sink_change O.held O.faults out.old out.new)) }
     ensures sink { result ≡ SINK_FAILED → Fails (sink_change O.held O.faults out.old out.new) }
     ensures steady { result ≡ DONE → IsSteady (sink_change O.held O.faults out.old out.new) }
     ensures ended { result ≡ DONE
@@ -104,23 +102,20 @@ pub(crate) fn play_score<S: Source, O: Sink>(
 ) -> Ended
     ensures known { (result.status ≤ RECORDING_FULL) ⊎ (result.status ≡ BANK_SHORT) }
     ensures said { result.status ≢ USAGE }
-    ensures never_full { result.status ≢ RECORDING_FULL }
     ensures input { ReadsInput MAX_SCORE result.status (S.left input.old) (S.left input.new)
         (S.faults input.old) (S.faults input.new) }
     ensures unwritten { result.status ≡ SOURCE_FAILED → out.new ≡ out.old }
-    ensures ends { IfSome (S.left input.old) (λ score. result.status ≢ SOURCE_FAILED →
-        EndsPlayedScore result.status (length bank.items) score
-        (sink_change O.held O.faults out.old out.new)) }
+    ensures ends { result.status ≢ SOURCE_FAILED → OfInput (S.left input.old)
+        (λ score. EndsPlayedScore result.status (length bank.items) score
+        (sink_change O.held O.faults out.old out.new)
+        × AccountsScore (λ box. keep box) (λ box. heard box) result.status score bank.items
+        result.heard.items result.left.items) }
     ensures sink { result.status ≡ SINK_FAILED
         → Fails (sink_change O.held O.faults out.old out.new) }
     ensures steady { result.status ≡ DONE
         → IsSteady (sink_change O.held O.faults out.old out.new) }
     ensures ended { result.status ≡ DONE
         → IfSome (S.left input.old) (λ all. S.left input.new ≡ Some []) }
-    ensures accounted { IsPlayed result.status → (notes : List Note)
-        × IfSome (S.left input.old) (λ score. score_of score ≡ Ok notes)
-        × IsAccounted (λ box. keep box) (λ box. heard box) commands.default_limits
-        (score_lines notes) bank.items result.heard.items result.left.items }
     ensures back { HandsBack result.status bank.items result.heard.items result.left.items }
     ensures complete { IsSomeAnd (S.left input.old) (λ score. IsOkAnd (score_of score)
         (λ notes. length (addresses_of notes) ≤ length bank.items))

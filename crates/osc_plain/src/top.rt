@@ -28,20 +28,17 @@ ghost use Rattle.std.specs.Prelude.{
 ghost use Rattle.osc_edge.specs.Faults.{Rose};
 ghost use Rattle.osc_core.specs.Ids.{is_ascending};
 ghost use Rattle.osc_words.specs.declared.command.PlainCommand.TheVariants.{Read};
-ghost use Rattle.osc_words.specs.declared.command.Reading.TheVariants.{PlayScore, Replay};
 ghost use Rattle.osc_words.specs.Commands as said;
 ghost use Rattle.osc_words.specs.Ranges.{IsLawfulReading};
 ghost use Rattle.osc_ends.specs.Ends.{left_behind, IsUnplayed};
 ghost use Rattle.osc_ends.specs.Inputs.{ReadsInput};
 ghost use Rattle.osc_ends.specs.Printing.{usage_text};
-ghost use Rattle.osc_ends.specs.Recordings.{RecordsTheLaws};
 ghost use Rattle.osc_ends.specs.Sinks.{sink_change, Fails, IsSteady, GainsUnless};
 ghost use Rattle.osc_player.specs.Bank.{IsAccounted};
 ghost use Rattle.osc_plain.specs.declared.report.Report.TheVariants.{Summary};
 ghost use Rattle.osc_plain.specs.Commands as commands;
 ghost use Rattle.osc_plain.specs.Runs.{EndsLines, IsPlayed};
-ghost use Rattle.osc_plain.specs.EndsPlain.{EndsPlain, EndsReading, CanBeDone};
-ghost use Rattle.osc_plain.specs.EndsPlain.{HandsBack, AccountsPlain};
+ghost use Rattle.osc_plain.specs.EndsPlain.{CanBeDone, EndsPlain, HandsBack};
 
 use crate::generating::drawn_lines;
 use crate::limits::{default_limits, plain_limits};
@@ -60,8 +57,8 @@ use std::alloc::Global;
 /// the printed history and the faults of its packets to `out`, or with `--bytes` the recording. `replay` reads a
 /// recording, and writes the same printed history, each answer of which it computes again. `dump` reads a recording,
 /// and writes its entries as they stand. `upgrade` reads a recording of the first version, and writes it as one of
-/// today. `score` reads a score, and writes its script, or with `--play` plays that as `run` does. `gen` reads nothing: it draws a script from a seed, plays it, and writes how
-/// many entries of each kind there are.
+/// today. `score` reads a score, and writes its script, or with `--play` plays that as `run` does. `gen` reads
+/// nothing: it draws a script from a seed, plays it, and writes how many entries of each kind there are.
 ///
 /// `words` are those of the command line, without the program's name. The k-th add of a script gets the k-th box of
 /// `bank`. Scripts, recordings, printed lines and statuses are those of docs/FORMATS.md. What stands in `out`, and what
@@ -98,10 +95,12 @@ pub fn plain_top<S: Source, O: Sink>(
         S.left input.new ≡ Some (left_behind (commands.most_bytes reading) all))) }
 
     // Then a script or a recording that is refused, or a script that adds more methods than there are boxes, or what
-    // the command writes, with a sink that took all of it or failed.
+    // the command writes, with a sink that took all of it or failed. Each box that was added has heard what the history
+    // says, which keeps the four laws, and each other one comes back as it was.
     ensures command { IfSome (said.plain_command_of (map string_bytes words.now))
-        (λ command. EndsPlain command result.status (length bank.items) (S.left input.old)
-        (sink_change O.held O.faults out.old out.new)) }
+        (λ command. EndsPlain (λ box. keep box) (λ box. heard box) command result.status
+        (S.left input.old) bank.items (sink_change O.held O.faults out.old out.new)
+        result.heard.items result.left.items) }
     ensures sink { result.status ≡ SINK_FAILED
         → Fails (sink_change O.held O.faults out.old out.new) }
 
@@ -112,22 +111,10 @@ pub fn plain_top<S: Source, O: Sink>(
         → IsSome (said.reading_of (map string_bytes words.now))
         → IfSome (S.left input.old) (λ all. S.left input.new ≡ Some []) }
 
-    // Each box that was added has heard what the history says, which keeps the four laws, and each other one comes
-    // back as it was; where nothing was played, all of them.
-    ensures accounted { IfSome (said.plain_command_of (map string_bytes words.now))
-        (λ command. AccountsPlain (λ box. keep box) (λ box. heard box) command result.status
-        (S.left input.old) bank.items result.heard.items result.left.items) }
+    // Where nothing was played, all boxes come back.
     ensures ascending { IsTrue (is_ascending (map (λ one. one.0) result.heard.items)) }
     ensures none_heard { IsUnplayed result.status → result.heard.items ≡ [] }
     ensures all_left { IsUnplayed result.status → result.left.items ≡ bank.items }
-
-    // The history of each recording that is replayed keeps the four laws.
-    ensures replay_laws { said.reading_of (map string_bytes words.now) ≡ Some Replay
-        → result.status ≡ DONE → IfSome (S.left input.old) RecordsTheLaws }
-
-    // No score fills the recording.
-    ensures never_full { said.reading_of (map string_bytes words.now) ≡ Some PlayScore
-        → result.status ≢ RECORDING_FULL }
 
     // What can be done is done over edges that don't fail, unless memory runs out.
     ensures complete { IfSome (said.plain_command_of (map string_bytes words.now))
@@ -158,21 +145,16 @@ fn follow<S: Source, O: Sink>(
     ensures input { ReadsInput (commands.most_bytes reading) result.status (S.left input.old)
         (S.left input.new) (S.faults input.old) (S.faults input.new) }
     ensures unwritten { result.status ≡ SOURCE_FAILED → out.new ≡ out.old }
-    ensures ends { IfSome (S.left input.old) (λ all. result.status ≢ SOURCE_FAILED →
-        EndsReading reading result.status (length bank.items) all
-        (sink_change O.held O.faults out.old out.new)) }
+    ensures ends { EndsPlain (λ box. keep box) (λ box. heard box) (Read reading) result.status
+        (S.left input.old) bank.items (sink_change O.held O.faults out.old out.new)
+        result.heard.items result.left.items }
     ensures sink { result.status ≡ SINK_FAILED
         → Fails (sink_change O.held O.faults out.old out.new) }
     ensures steady { result.status ≡ DONE
         → IsSteady (sink_change O.held O.faults out.old out.new) }
     ensures ended { result.status ≡ DONE
         → IfSome (S.left input.old) (λ all. S.left input.new ≡ Some []) }
-    ensures accounted { AccountsPlain (λ box. keep box) (λ box. heard box) (Read reading)
-        result.status (S.left input.old) bank.items result.heard.items result.left.items }
     ensures back { HandsBack result.status bank.items result.heard.items result.left.items }
-    ensures replay_laws { reading ≡ Replay → result.status ≡ DONE
-        → IfSome (S.left input.old) RecordsTheLaws }
-    ensures never_full { reading ≡ PlayScore → result.status ≢ RECORDING_FULL }
     ensures complete { CanBeDone (Read reading) (length bank.items) (S.left input.old)
         → ¬ Rose (S.faults input.old) (S.faults input.new) →
         (result.status ≡ DONE) ⊎ (result.status ≡ NO_MEMORY) ⊎ (result.status ≡ SINK_FAILED) }

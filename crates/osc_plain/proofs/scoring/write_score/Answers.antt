@@ -1,5 +1,4 @@
-use Rattle.std.proofs.Common.{◌≢◌, inl, refl}
-use Rattle.osc_ends.proofs.Inputs.{if_bytes}
+use Rattle.std.proofs.Common.{inl, refl}
 use Rattle.osc_ends.specs.Ends.{EndsText}
 use Rattle.osc_ends.specs.Sinks.{sink_change}
 use Rattle.osc_score.specs.Scripted.{score_script}
@@ -16,11 +15,12 @@ returns-in-Ok-clause-ends g c =
       scripted = c.a_score_script_is_read.ensures;
     } in
     let ends = score_ends laws read.0 read.2.0 c.in-Ok.score read.2.1 read.2.2 c.write_script.result _ c.write_script.ensures in
-    if_bytes _ read.0
-    (λ score. c.write_script.result ≢ 4
-    → EndsScore c.write_script.result score (sink_change g.O.Sink.held g.O.Sink.faults c.args.out.now c.write_script.new.out)) read.1
-    (λ _. moved (c.in-Ok.ensures.unwritten (inl refl))
-    (λ before. EndsScore c.write_script.result read.0 (sink_change g.O.Sink.held g.O.Sink.faults before c.write_script.new.out)) ends)
+    λ _. (
+      read.0,
+      read.1,
+      moved (c.in-Ok.ensures.unwritten (inl refl))
+          (λ before. EndsScore c.write_script.result read.0 (sink_change g.O.Sink.held g.O.Sink.faults before c.write_script.new.out)) ends,
+    )
 
 pub returns-in-Err-clause-ends : goal.returns-in-Err-clause-ends
 returns-in-Err-clause-ends g c =
