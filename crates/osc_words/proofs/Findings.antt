@@ -9,7 +9,7 @@ use Rattle.clap.specs.declared.error.kind.ErrorKind.TheVariants.{OutOfMemory}
 use Rattle.clap.specs.declared.parser.matches.ArgMatches.{ArgMatches}
 use Rattle.osc_words.specs.Reading.{app_for, found_by, unless_refused}
 use Rattle.osc_words.specs.declared.verb.Verb.{Verb}
-use Rattle.osc_words.specs.declared.verb.Verb.TheVariants.{Run, Replay, Dump, Upgrade, Score, Gen, Lanes, Serve}
+use Rattle.osc_words.specs.declared.verb.Verb.TheVariants.{Run, Replay, Dump, Upgrade, Score, Gen, Lanes, Serve, Resume}
 
 simple : (verb : Verb) → is_simple_and_free (app_for verb) ≡ true
 simple Run = refl
@@ -20,6 +20,7 @@ simple Score = refl
 simple Gen = refl
 simple Lanes = refl
 simple Serve = refl
+simple Resume = refl
 
 pub taken : (verb : Verb) (app : App) (words : List (List ℕ)) (matches : ArgMatches) → app ≡ app_for verb
     → (is_simple_and_free app ≡ true → FailsBy (fault_of app words) (Ok matches)) → HasMatchesOf app words matches

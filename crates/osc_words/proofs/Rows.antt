@@ -10,7 +10,7 @@ use Rattle.osc_words.specs.declared.command.Reading.TheVariants.{Run, Replay, Up
 use Rattle.osc_words.specs.declared.command.PlainCommand.TheVariants.{Gen}
 use Rattle.osc_words.specs.declared.command.Transport.TheVariants.{Udp, Tcp}
 use Rattle.osc_words.specs.declared.command.LiveCommand.TheVariants.{Lanes, Serve}
-use Rattle.osc_words.specs.declared.command.Command.TheVariants.{Plain, Live}
+use Rattle.osc_words.specs.declared.command.Command.TheVariants.{Plain, Live, Resume}
 
 abbrev defaults : Capacities
 defaults = record { units = 4096; blocks = 16384; methods = 1024; nodes = 4096; recording = 67108864; late = Deliver }
@@ -165,3 +165,44 @@ no_value = refl
 same_number : command_of (codes "lanes" ∷ codes "5" ∷ codes "--units" ∷ codes "5" ∷ []) ≡ None
 unfolding clap_on_literals command_of found_by
 same_number = refl
+
+resume : command_of (codes "resume" ∷ codes "old.rec" ∷ codes "new.rec" ∷ []) ≡ Some (Resume (record { room = 67108864 }))
+unfolding clap_on_literals command_of found_by
+resume = refl
+
+resume_room : command_of (codes "resume" ∷ codes "--recording" ∷ codes "60" ∷ codes "old.rec" ∷ codes "new.rec" ∷ [])
+    ≡ Some (Resume (record { room = 60 }))
+unfolding clap_on_literals command_of found_by
+resume_room = refl
+
+old_first : command_of (codes "resume" ∷ codes "old.rec" ∷ codes "--recording" ∷ codes "60" ∷ codes "new.rec" ∷ []) ≡ None
+unfolding clap_on_literals command_of found_by
+old_first = refl
+
+files_first : command_of (codes "resume" ∷ codes "old.rec" ∷ codes "new.rec" ∷ codes "--recording=60" ∷ []) ≡ None
+unfolding clap_on_literals command_of found_by
+files_first = refl
+
+old_apart : command_of (codes "resume" ∷ codes "old.rec" ∷ codes "--" ∷ codes "new.rec" ∷ []) ≡ None
+unfolding clap_on_literals command_of found_by
+old_apart = refl
+
+hyphen_files : command_of (codes "resume" ∷ codes "--" ∷ codes "-a" ∷ codes "-b" ∷ []) ≡ Some (Resume (record { room = 67108864 }))
+unfolding clap_on_literals command_of found_by
+hyphen_files = refl
+
+one_file : command_of (codes "resume" ∷ codes "old.rec" ∷ []) ≡ None
+unfolding clap_on_literals command_of found_by
+one_file = refl
+
+three_files : command_of (codes "resume" ∷ codes "a" ∷ codes "b" ∷ codes "c" ∷ []) ≡ None
+unfolding clap_on_literals command_of found_by
+three_files = refl
+
+little_room : command_of (codes "resume" ∷ codes "--recording" ∷ codes "59" ∷ codes "a" ∷ codes "b" ∷ []) ≡ None
+unfolding clap_on_literals command_of found_by
+little_room = refl
+
+other_limits : command_of (codes "resume" ∷ codes "--units" ∷ codes "7" ∷ codes "a" ∷ codes "b" ∷ []) ≡ None
+unfolding clap_on_literals command_of found_by
+other_limits = refl

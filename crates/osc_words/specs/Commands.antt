@@ -1,6 +1,6 @@
 -- What the words of the command line say.
 use Rattle.std.specs.Prelude.{ℕ, ◌+◌, Bool, true, false, nat_le, if◌then◌else◌, List, [], ◌∷◌, Option}
-use Rattle.std.specs.Prelude.{Some, None, option_map, option_and_then, codes}
+use Rattle.std.specs.Prelude.{Some, None, option_map, option_and_then, codes, ◌&&◌}
 use Rattle.std.specs.Option.{option_map_or}
 use Rattle.std.specs.Str.{bytes_eq}
 use Rattle.clap.specs.Words.{Row, first_of}
@@ -31,8 +31,10 @@ use Rattle.osc_words.specs.declared.command.Transport.{Transport}
 use Rattle.osc_words.specs.declared.command.Transport.TheVariants as transport
 use Rattle.osc_words.specs.declared.command.LiveCommand.{LiveCommand}
 use Rattle.osc_words.specs.declared.command.LiveCommand.TheVariants.{Lanes, Serve}
+use Rattle.osc_words.specs.declared.command.ResumeCommand.{ResumeCommand}
 use Rattle.osc_words.specs.declared.command.Command.{Command}
-use Rattle.osc_words.specs.declared.command.Command.TheVariants.{Plain, Live}
+use Rattle.osc_words.specs.declared.command.Command.TheVariants.{Plain, Live, Resume}
+use Rattle.osc_words.specs.Names.{last_two}
 
 -- whether a flag stands among the words
 abbrev pub is_given : Flag → List Row → Bool
@@ -106,6 +108,10 @@ serve_of rows =
     serve_from (transport_of rows) (number_of Port rows) (number_of Links rows)
     (number_of Count rows) (number_of Idle rows) (caps_of rows)
 
+-- a server that goes on from a recording has room for so many bytes at least
+abbrev pub resume_of : List Row → Option Command
+resume_of rows = option_map (λ room. Resume (record { room = room })) (number_of Recording rows)
+
 abbrev pub to_read : Reading → Command
 to_read reading = Plain (Read reading)
 
@@ -118,25 +124,50 @@ said_by verb.Score rows = Some (to_read (score_of rows))
 said_by verb.Gen rows = gen_of rows
 said_by verb.Lanes rows = option_map (λ caps. Live (Lanes caps)) (caps_of rows)
 said_by verb.Serve rows = serve_of rows
+said_by verb.Resume rows = resume_of rows
 
 -- the first word chooses the command
 abbrev pub first_verb : List (List ℕ) → Option Verb
 first_verb [] = None
 first_verb (word ∷ words) = verbs.verb_of word
 
+-- whether this word was found under a name
+abbrev pub is_found : List ℕ → List ℕ → List Row → Bool
+is_found name word rows = option_map_or (λ text. bytes_eq text word) (first_of name rows) false
+
+-- whether OLD and FILE are the last two words
+abbrev pub are_last_two : List (List ℕ) → List Row → Bool
+are_last_two words rows =
+    option_map_or
+    (λ both. is_found (codes "OLD") both.0 rows && is_found (codes "FILE") both.1 rows)
+    (last_two words) false
+
+-- whether the files stand where they are to: those of a `resume` are the last two words
+abbrev pub stands_in_place : Verb → List (List ℕ) → List Row → Bool
+stands_in_place verb.Resume words rows = are_last_two words rows
+stands_in_place _ words rows = true
+
+-- what is said by what was found, where the files stand where they are to
+abbrev pub said_in : List (List ℕ) → Verb → List Row → Option Command
+said_in words verb rows = if stands_in_place verb words rows then said_by verb rows else None
+
 -- the command that the words say; none where they are refused
 unfoldable pub command_of : List (List ℕ) → Option Command
 command_of words =
-    option_and_then (λ verb. option_and_then (said_by verb) (found_by verb words))
+    option_and_then (λ verb. option_and_then (said_in words verb) (found_by verb words))
     (first_verb words)
 
 abbrev pub plain_in : Command → Option PlainCommand
 plain_in (Plain command) = Some command
-plain_in (Live command) = None
+plain_in _ = None
 
 abbrev pub live_in : Command → Option LiveCommand
-live_in (Plain command) = None
 live_in (Live command) = Some command
+live_in _ = None
+
+abbrev pub resume_in : Command → Option ResumeCommand
+resume_in (Resume command) = Some command
+resume_in _ = None
 
 -- the command of `osc` that the words say
 abbrev pub plain_command_of : List (List ℕ) → Option PlainCommand
@@ -153,6 +184,10 @@ reading_of words = option_and_then reading_in (plain_command_of words)
 -- the command of `oscd` that the words say
 abbrev pub live_command_of : List (List ℕ) → Option LiveCommand
 live_command_of words = option_and_then live_in (command_of words)
+
+-- the command of `oscd` that goes on from a recording
+abbrev pub resume_command_of : List (List ℕ) → Option ResumeCommand
+resume_command_of words = option_and_then resume_in (command_of words)
 
 abbrev pub is_over_tcp : LiveCommand → Bool
 is_over_tcp (Lanes caps) = false

@@ -1,4 +1,5 @@
 -- What public contracts cite.
+pub mod Names
 pub mod Numbers
 pub mod Options
 pub mod Verbs

@@ -50,13 +50,15 @@ flag_name Play = codes "play"
 abbrev pub late_name : List ℕ
 late_name = codes "late"
 
--- how each is told to clap: a flag, a number and a policy by a long name, and the file as a word
--- that has to stand, and behind which no option is read and no other word may stand
+-- how each is told to clap: a flag, a number and a policy by a long name, the old file as a word
+-- that has to stand, and the file as another, behind which no option is read and no other word may
+-- stand
 abbrev pub rule_for : Parameter → Rule
 rule_for (parameter.Flag flag) =
     record (new_rule (flag_name flag)) { long = Some (flag_name flag); action = Some SetTrue }
 rule_for (parameter.Number quantity) =
     record (new_rule (row_of quantity).name) { long = Some (row_of quantity).name }
 rule_for parameter.Late = record (new_rule late_name) { long = Some late_name }
+rule_for parameter.Old = record (new_rule (codes "OLD")) { required = true }
 rule_for parameter.File =
     record (new_rule (codes "FILE")) { required = true; trailing_var_arg = true }

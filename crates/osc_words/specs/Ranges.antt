@@ -14,8 +14,9 @@ use Rattle.osc_words.specs.declared.command.PlainCommand.{PlainCommand}
 use Rattle.osc_words.specs.declared.command.PlainCommand.TheVariants.{Read, Gen}
 use Rattle.osc_words.specs.declared.command.LiveCommand.{LiveCommand}
 use Rattle.osc_words.specs.declared.command.LiveCommand.TheVariants.{Lanes, Serve}
+use Rattle.osc_words.specs.declared.command.ResumeCommand.{ResumeCommand}
 use Rattle.osc_words.specs.declared.command.Command.{Command}
-use Rattle.osc_words.specs.declared.command.Command.TheVariants.{Plain, Live}
+use Rattle.osc_words.specs.declared.command.Command.TheVariants.{Plain, Live, Resume}
 
 pub record AreInRange (caps : Capacities) : Type 0 where
   pub units : IsInRange Units caps.units
@@ -49,9 +50,13 @@ abbrev pub IsLawfulLive : LiveCommand → Type 0
 IsLawfulLive (Lanes caps) = AreInRange caps
 IsLawfulLive (Serve transport port links count idle caps) = IsServable port links count idle caps
 
+abbrev pub IsLawfulResume : ResumeCommand → Type 0
+IsLawfulResume command = IsInRange Recording command.room
+
 abbrev pub IsLawful : Command → Type 0
 IsLawful (Plain command) = IsLawfulPlain command
 IsLawful (Live command) = IsLawfulLive command
+IsLawful (Resume command) = IsLawfulResume command
 
 -- the capacities where no option is given
 abbrev pub default_capacities : Capacities

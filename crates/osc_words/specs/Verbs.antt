@@ -6,10 +6,10 @@ use Rattle.osc_words.specs.declared.options.Quantity.TheVariants.{Units, Blocks,
 use Rattle.osc_words.specs.declared.options.Quantity.TheVariants.{Recording, Seed, Lines, Port}
 use Rattle.osc_words.specs.declared.options.Quantity.TheVariants.{Links, Count, Idle}
 use Rattle.osc_words.specs.declared.options.Parameter.{Parameter}
-use Rattle.osc_words.specs.declared.options.Parameter.TheVariants.{Flag, Number, Late, File}
+use Rattle.osc_words.specs.declared.options.Parameter.TheVariants.{Flag, Number, Late, Old, File}
 use Rattle.osc_words.specs.declared.verb.Verb.{Verb}
 use Rattle.osc_words.specs.declared.verb.Verb.TheVariants.{Run, Replay, Dump, Upgrade, Score, Gen}
-use Rattle.osc_words.specs.declared.verb.Verb.TheVariants.{Lanes, Serve}
+use Rattle.osc_words.specs.declared.verb.Verb.TheVariants.{Lanes, Serve, Resume}
 
 abbrev pub verb_of : List ℕ → Option Verb
 verb_of word =
@@ -21,6 +21,7 @@ verb_of word =
     else if bytes_eq word (codes "gen") then Some Gen
     else if bytes_eq word (codes "lanes") then Some Lanes
     else if bytes_eq word (codes "serve") then Some Serve
+    else if bytes_eq word (codes "resume") then Some Resume
     else None
 
 -- the limits of a server, and what becomes of late units
@@ -38,3 +39,4 @@ options_of Gen = Number Seed ∷ Number Lines ∷ []
 options_of Lanes = caps ++ File ∷ []
 options_of Serve =
     Flag Tcp ∷ map Number (Port ∷ Links ∷ Count ∷ Idle ∷ []) ++ caps ++ File ∷ []
+options_of Resume = Number Recording ∷ Old ∷ File ∷ []

@@ -98,9 +98,17 @@ pub enum LiveCommand {
     },
 }
 
+/// A command of `oscd` that goes on from a recording.
+#[derive(Clone, Copy, Debug, PartialEq, Eq)]
+pub struct ResumeCommand {
+    /// How many bytes the recording may have at least.
+    pub room: u32,
+}
+
 /// A command of one of the programs.
 #[derive(Clone, Copy, Debug, PartialEq, Eq)]
 pub enum Command {
     Plain(PlainCommand),
     Live(LiveCommand),
+    Resume(ResumeCommand),
 }

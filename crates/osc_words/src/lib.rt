@@ -3,6 +3,7 @@
 
 mod command;
 pub mod laws;
+mod names;
 mod number;
 mod options;
 mod reading;
@@ -10,7 +11,8 @@ mod said;
 mod verb;
 
 pub use command::{
-    Capacities, Command, LiveCommand, Output, PORTS, PlainCommand, Reading, Transport,
-    default_capacities,
+    Capacities, Command, LiveCommand, Output, PORTS, PlainCommand, Reading, ResumeCommand,
+    Transport, default_capacities,
 };
-pub use said::{command_of, live_command_of, plain_command_of};
+pub use names::last_two;
+pub use said::{command_of, live_command_of, plain_command_of, resume_command_of};

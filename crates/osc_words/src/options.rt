@@ -36,6 +36,7 @@ pub(crate) enum Parameter {
     Flag(Flag),
     Number(Quantity),
     Late,
+    Old,
     File,
 }
 
@@ -114,6 +115,7 @@ impl Parameter {
                 quantity.row().name,
             ),
             Parameter::Late => Arg::new(alloc, "late").long("late"),
+            Parameter::Old => Arg::new(alloc, "OLD").required(true),
             Parameter::File => Arg::new(alloc, "FILE")
                 .required(true)
                 .trailing_var_arg(true),

@@ -4,11 +4,15 @@ ghost use Rattle.clap.specs.Words.{first_of, found_of, rows_of};
 ghost use Rattle.osc_words.specs.Options.{IsInRange};
 ghost use Rattle.osc_words.specs.Commands as commands;
 ghost use Rattle.osc_words.specs.Commands.{caps_of, gen_of, is_given, number_of, said_by, serve_of};
+ghost use Rattle.osc_words.specs.Commands.{resume_of};
 ghost use Rattle.osc_words.specs.Ranges.{AreInRange, IsLawful, IsLawfulPlain, IsLawfulLive};
+ghost use Rattle.osc_words.specs.Ranges.{IsLawfulResume};
 
 use crate::command::{
-    Capacities, Command, LiveCommand, Output, PORTS, PlainCommand, Reading, Transport,
+    Capacities, Command, LiveCommand, Output, PORTS, PlainCommand, Reading, ResumeCommand,
+    Transport,
 };
+use crate::names::last_two;
 use crate::number::number_within;
 use crate::options::{Flag, Quantity};
 use crate::reading::read;
@@ -29,8 +33,8 @@ pub fn command_of(alloc: Global, words: &[String]) -> Result<Option<Command>, Al
         return Ok(None);
     };
     match read(alloc, verb, words)? {
-        Some(found) => Ok(command_from(verb, &found)),
-        None => Ok(None),
+        Some(found) if stands_in_place(verb, words, &found) => Ok(command_from(verb, &found)),
+        _ => Ok(None),
     }
 }
 
@@ -57,6 +61,53 @@ pub fn live_command_of(alloc: Global, words: &[String]) -> Result<Option<LiveCom
     match command_of(alloc, words)? {
         Some(Command::Live(command)) => Ok(Some(command)),
         _ => Ok(None),
+    }
+}
+
+/// The command of `oscd` that goes on from a recording, if the words say it; none where they are refused, or say another
+/// command. An `Err` is want of memory.
+pub fn resume_command_of(
+    alloc: Global,
+    words: &[String],
+) -> Result<Option<ResumeCommand>, AllocError>
+    ensures said { IfOk result
+        (λ command. command ≡ commands.resume_command_of (map string_bytes words.now)) }
+    ensures lawful { IfOk result (λ command. IfSome command IsLawfulResume) }
+{
+    match command_of(alloc, words)? {
+        Some(Command::Resume(command)) => Ok(Some(command)),
+        _ => Ok(None),
+    }
+}
+
+/// Whether the files stand where they are to: OLD and FILE of a `resume` are the last two words.
+fn stands_in_place(verb: Verb, words: &[String], found: &ArgMatches<'_>) -> bool
+    ensures { result ≡ commands.stands_in_place verb (map string_bytes words.now)
+        (rows_of (found_of found.now)) }
+{
+    match verb {
+        Verb::Resume => are_last_two(words, found),
+        _ => true,
+    }
+}
+
+fn are_last_two(words: &[String], found: &ArgMatches<'_>) -> bool
+    ensures { result ≡ commands.are_last_two (map string_bytes words.now)
+        (rows_of (found_of found.now)) }
+{
+    match last_two(words) {
+        Some((old, file)) => is_found(found, "OLD", old) && is_found(found, "FILE", file),
+        None => false,
+    }
+}
+
+/// Whether clap found this word under a name.
+fn is_found(found: &ArgMatches<'_>, name: &str, word: &str) -> bool
+    ensures { result ≡ commands.is_found name.now word.now (rows_of (found_of found.now)) }
+{
+    match text_in(found, name) {
+        Some(text) => text == word,
+        None => false,
     }
 }
 
@@ -87,6 +138,7 @@ fn command_from(verb: Verb, found: &ArgMatches<'_>) -> Option<Command>
             caps: caps_in(found)?,
         })),
         Verb::Serve => serve_in(found),
+        Verb::Resume => resume_in(found),
     }
 }
 
@@ -159,6 +211,15 @@ fn serve_in(found: &ArgMatches<'_>) -> Option<Command>
         count: count as u32,
         idle: idle as u32,
         caps,
+    }))
+}
+
+fn resume_in(found: &ArgMatches<'_>) -> Option<Command>
+    ensures said { result ≡ resume_of (rows_of (found_of found.now)) }
+    ensures lawful { IfSome result IsLawful }
+{
+    Some(Command::Resume(ResumeCommand {
+        room: number(found, Quantity::Recording)? as u32,
     }))
 }
 

@@ -15,6 +15,7 @@ pub enum Verb {
     Gen,
     Lanes,
     Serve,
+    Resume,
 }
 
 static RUN: [Parameter; 7] = [
@@ -59,6 +60,12 @@ static SERVE: [Parameter; 12] = [
     Parameter::File,
 ];
 
+static RESUME: [Parameter; 3] = [
+    Parameter::Number(Quantity::Recording),
+    Parameter::Old,
+    Parameter::File,
+];
+
 impl Verb {
     /// What the word says.
     pub(crate) fn read(word: &str) -> Option<Verb>
@@ -73,6 +80,7 @@ impl Verb {
             "gen" => Some(Verb::Gen),
             "lanes" => Some(Verb::Lanes),
             "serve" => Some(Verb::Serve),
+            "resume" => Some(Verb::Resume),
             _ => None,
         }
     }
@@ -87,6 +95,7 @@ impl Verb {
             Verb::Gen => GEN.as_slice(),
             Verb::Lanes => LANES.as_slice(),
             Verb::Serve => SERVE.as_slice(),
+            Verb::Resume => RESUME.as_slice(),
             Verb::Replay | Verb::Dump | Verb::Upgrade => &[],
         }
     }
