@@ -59,6 +59,10 @@ disagrees_text entry kept computed =
 abbrev pub bank_short_text : ℕ → ℕ → List ℕ
 bank_short_text need have = line (named_room (codes "bank-short") need have)
 
+-- the line of a recording whose callers and lanes together are more than its limits allow
+abbrev pub callers_full_text : ℕ → ℕ → List ℕ
+callers_full_text need have = line (named_room (codes "callers-full") need have)
+
 -- the line of words that are no command
 abbrev pub usage_text : List ℕ
 usage_text = line (codes "usage")

@@ -71,7 +71,7 @@ pub fn read_script<S: Source, O: Sink>(
 }
 
 /// The lines of a script, or the status with which the program ends.
-fn read_lines<O: Sink>(
+pub(crate) fn read_lines<O: Sink>(
     alloc: Global,
     mode: Mode,
     script: &[u8],
@@ -94,7 +94,7 @@ fn read_lines<O: Sink>(
 }
 
 /// Refuses a script that is too long.
-fn refuse_long<O: Sink>(alloc: Global, out: &mut O) -> u8
+pub(crate) fn refuse_long<O: Sink>(alloc: Global, out: &mut O) -> u8
     ensures known { (result ≡ REFUSED) ⊎ (result ≡ NO_MEMORY) }
     ensures refused { (mode : Mode) (script : List ℕ) → MAX_SCRIPT < length script
         → result ≡ REFUSED → IsErrAnd (script_of mode script)

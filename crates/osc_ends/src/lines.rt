@@ -10,6 +10,7 @@ ghost use Rattle.osc_ends.specs.Printing.{
   disagrees_text,
   too_large_text,
   bank_short_text,
+  callers_full_text,
   last_text,
 };
 
@@ -84,6 +85,13 @@ pub(crate) fn bank_short_line(text: &mut Text, need: usize, have: usize) -> Resu
     ensures { OnOk result (text.new ≡ text.old ++ bank_short_text need have) }
 {
     pair_line(text, b"bank-short", need as u64, have as u64)
+}
+
+/// Adds the line of a recording whose callers and lanes together are more than its limits allow.
+pub(crate) fn callers_full_line(text: &mut Text, need: usize, have: usize) -> Result<(), AllocError>
+    ensures { OnOk result (text.new ≡ text.old ++ callers_full_text need have) }
+{
+    pair_line(text, b"callers-full", need as u64, have as u64)
 }
 
 /// Adds a line of a word.

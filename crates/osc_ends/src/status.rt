@@ -24,5 +24,8 @@ pub const RECORDING_FULL: u8 = 6;
 /// A link or the clock failed.
 pub const EDGE_FAILED: u8 = 7;
 
-/// The script has more adds than there are boxes.
+/// There are more adds than boxes.
 pub const BANK_SHORT: u8 = 8;
+
+/// There are more callers, of a recording and of lanes, than the recording's limits allow.
+pub const CALLERS_FULL: u8 = 9;

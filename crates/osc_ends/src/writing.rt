@@ -1,6 +1,7 @@
 //! Writes what the commands print.
 ghost use Rattle.osc_ends.specs.declared.status.TheConstants.{
   BANK_SHORT,
+  CALLERS_FULL,
   DONE,
   NO_MEMORY,
   REFUSED,
@@ -22,6 +23,7 @@ ghost use Rattle.osc_ends.specs.Printing.{
   disagrees_text,
   too_large_text,
   bank_short_text,
+  callers_full_text,
   usage_text,
   recorded_text,
 };
@@ -31,12 +33,12 @@ ghost use Rattle.osc_ends.specs.Recordings.{EndsReplay, EndsDump, EndsUpgrade};
 ghost use Rattle.osc_ends.specs.Sinks.{sink_change};
 
 use crate::lines::{
-    bank_short_line, disagrees_lines, malformed_line, outcome_line, refusal_line, score_fault_line,
-    too_large_line,
+    bank_short_line, callers_full_line, disagrees_lines, malformed_line, outcome_line,
+    refusal_line, score_fault_line, too_large_line,
 };
 use crate::outcome::status_of;
 use crate::recorded::Recorded;
-use crate::status::{BANK_SHORT, DONE, NO_MEMORY, REFUSED, SINK_FAILED, USAGE};
+use crate::status::{BANK_SHORT, CALLERS_FULL, DONE, NO_MEMORY, REFUSED, SINK_FAILED, USAGE};
 use crate::whole::{Written, write_whole};
 use osc_atoms::Bytes;
 use osc_edge::Sink;
@@ -201,7 +203,13 @@ fn too_large<O: Sink>(alloc: Global, need: u64, limit: u32, out: &mut O) -> u8
 }
 
 /// Writes the lines of an entry whose bytes aren't those that the server computes.
-fn disagrees<O: Sink>(alloc: Global, entry: u32, kept: &Bytes, computed: &Bytes, out: &mut O) -> u8
+pub(crate) fn disagrees<O: Sink>(
+    alloc: Global,
+    entry: u32,
+    kept: &Bytes,
+    computed: &Bytes,
+    out: &mut O,
+) -> u8
     ensures { EndsLine REFUSED result (disagrees_text entry kept.now computed.now)
         (sink_change O.held O.faults out.old out.new) }
 {
@@ -226,6 +234,18 @@ pub fn bank_short<O: Sink>(alloc: Global, need: usize, have: usize, out: &mut O)
     let mut text = Text::open(alloc);
     match bank_short_line(&mut text, need, have) {
         Ok(()) => last_line(BANK_SHORT, text.bytes(), out),
+        Err(_) => NO_MEMORY,
+    }
+}
+
+/// Writes the line of a recording whose callers and lanes together are more than its limits allow: 9, or want of memory.
+pub fn callers_full<O: Sink>(alloc: Global, need: usize, have: usize, out: &mut O) -> u8
+    ensures { EndsLine CALLERS_FULL result (callers_full_text need have)
+        (sink_change O.held O.faults out.old out.new) }
+{
+    let mut text = Text::open(alloc);
+    match callers_full_line(&mut text, need, have) {
+        Ok(()) => last_line(CALLERS_FULL, text.bytes(), out),
         Err(_) => NO_MEMORY,
     }
 }
