@@ -5,6 +5,7 @@ pub mod Firsts
 pub mod Hearing
 pub mod Invoking
 pub mod Joins
+pub mod Keeping
 pub mod Played
 pub mod Released
 pub mod Recorded

@@ -8,6 +8,7 @@ pub mod Telling
 -- Inside the crate.
 pub mod Calls
 pub mod Due
+pub mod Found
 pub mod Frames
 pub mod Hearing
 pub mod Recorded

@@ -1,12 +1,15 @@
 // The calls that a release makes.
 ghost use Rattle.osc_model.specs.Limits.{max_methods, release_head_size};
-ghost use Rattle.std.specs.Prelude.{◌≡◌, ◌+◌, ◌*◌, ◌<◌, ◌≤◌, ◌^◌, ℕ, List, length, map, take, Some};
-ghost use Rattle.std.specs.Prelude.{None, IsTrue, IfOk, IfErr, OnOk, OnErr, vec_capacity};
+ghost use Rattle.std.specs.Prelude.{◌≡◌, ◌+◌, ◌*◌, ◌<◌, ◌≤◌, ◌^◌, ◌++◌, ◌∷◌, ℕ, List, length, map};
+ghost use Rattle.std.specs.Prelude.{take, Some, None, true, IsTrue, IfOk, IfErr, OnOk, OnErr};
+ghost use Rattle.std.specs.Prelude.{MatchBool, vec_len, vec_capacity};
 ghost use Rattle.osc_pattern.specs.Methods.{Method};
 ghost use Rattle.osc_record.specs.Writing.{recording_text, with_release};
 ghost use Rattle.osc_model.specs.Heard.{all_hear};
 ghost use Rattle.osc_model.specs.Step.{calls_of, calls_from, hits_of, invocations_of};
 ghost use Rattle.osc_core.specs.Calls.{invocation_by, invoked_ids};
+ghost use Rattle.osc_core.specs.Found.{AreFound, BeginsFound, CountsFound, first_found};
+ghost use Rattle.osc_core.specs.Found.{after_found};
 ghost use Rattle.osc_model.specs.Calls.{call_by};
 ghost use Rattle.osc_core.specs.Ids.{is_ascending};
 ghost use Rattle.osc_core.specs.Telling.{told};
@@ -21,11 +24,15 @@ use osc_method::{Call, Method as Called};
 use osc_record::{Recorder, release_size};
 use osc_tree::{Hits, Tree};
 
+/// How many numbers are kept of what a unit's messages call: for each of them how many methods, and their ids.
+pub(crate) const MAX_KEPT: usize = 16_384;
+
 /// Records the release of a unit, and makes the calls of its messages in order. Where the recording has no room for the
 /// entry, it tells how much the entry needs, and all stays.
 pub(crate) fn release_unit<M: Called>(
     tree: &Tree,
     hits: &mut Hits,
+    kept: &mut Vec<u32>,
     caller: u32,
     unit: u64,
     messages: Messages<'_>,
@@ -52,10 +59,10 @@ pub(crate) fn release_unit<M: Called>(
     ensures limit { hits.new.limit ≡ hits.old.limit }
 {
     let Some(message) = messages.only() else {
-        // The methods of several messages are found once to be counted, and once to be called.
-        let count = count_calls(tree, hits, messages.again());
+        // The methods of several messages are found to be counted, and kept to be called as far as there is room.
+        let count = count_calls(tree, hits, kept, messages.again());
         let calls = start_release(recorder, caller, unit, count)?;
-        invoke_unit(tree, hits, unit, messages, recorder, boxes);
+        invoke_unit(tree, hits, kept, unit, messages, recorder, boxes);
         return Ok(calls);
     };
     let count = count_hits(tree, hits, &message);
@@ -92,20 +99,53 @@ fn start_release(recorder: &mut Recorder, caller: u32, unit: u64, calls: u64) ->
     Ok(calls)
 }
 
-/// How many calls the messages make.
-fn count_calls(tree: &Tree, hits: &mut Hits, messages: Messages<'_>) -> u64
+/// How many calls the messages make. What they call is kept, from the first message on, as long as there is room.
+fn count_calls(tree: &Tree, hits: &mut Hits, kept: &mut Vec<u32>, messages: Messages<'_>) -> u64
     requires limit { tree.now.method_limit ≤ hits.old.limit }
     requires few { length messages < 2 ^ 32 }
     requires few_methods { tree.now.method_limit ≤ max_methods }
     ensures count { result ≡ length (calls_from tree.now.methods 0 messages.entry) }
     ensures small { result < 2 ^ 48 }
+    ensures found { AreFound tree.now.methods messages.entry kept.new.items }
     ensures limit { hits.new.limit ≡ hits.old.limit }
 {
+    kept.clear();
     let mut count = 0;
+    let mut is_whole = true;
     for message in messages {
-        count += count_hits(tree, hits, &message) as u64;
+        let found = count_hits(tree, hits, &message);
+        is_whole = keep(is_whole, &hits.ids()[..found], kept);
+        count += found as u64;
     }
     count
+}
+
+/// Keeps what a message calls, if all before it is kept and there is room.
+fn keep(is_whole: bool, ids: &[u32], kept: &mut Vec<u32>) -> bool
+    requires { length ids.now < 2 ^ 32 }
+    ensures { MatchBool result
+        ((is_whole ≡ true)
+        × (kept.new.items ≡ kept.old.items ++ length ids.now ∷ ids.now))
+        (kept.new.items ≡ kept.old.items) }
+{
+    if !is_whole || kept.capacity() - kept.len() <= ids.len() {
+        return false;
+    }
+    keep_all(ids, kept);
+    true
+}
+
+/// Keeps how many ids there are, and the ids, in room that is there.
+fn keep_all(ids: &[u32], kept: &mut Vec<u32>)
+    requires few { length ids.now < 2 ^ 32 }
+    requires room { vec_len kept.old + (1 + length ids.now) ≤ vec_capacity kept.old }
+    ensures { kept.new.items ≡ kept.old.items ++ length ids.now ∷ ids.now }
+{
+    kept.push_reserved(ids.len() as u32);
+    match kept.extend_from_slice(ids) {
+        Ok(()) => {}
+        Err(_) => unreachable!(),
+    }
 }
 
 /// How many calls a message makes: those of the methods that come first in `hits`.
@@ -131,6 +171,7 @@ fn count_hits(tree: &Tree, hits: &mut Hits, message: &Message<'_>) -> usize
 fn invoke_unit<M: Called>(
     tree: &Tree,
     hits: &mut Hits,
+    kept: &[u32],
     unit: u64,
     messages: Messages<'_>,
     recorder: &mut Recorder,
@@ -138,6 +179,7 @@ fn invoke_unit<M: Called>(
 )
     requires limit { tree.now.method_limit ≤ hits.old.limit }
     requires few { length messages < 2 ^ 32 }
+    requires found { AreFound tree.now.methods messages kept.now }
     requires owed { owed_by recorder.old ≡ length (calls_from tree.now.methods 0 messages) }
     requires ascending { IsTrue (is_ascending (map (λ one. one.0) boxes.old.items)) }
     ensures recorder { recorder.new
@@ -150,19 +192,56 @@ fn invoke_unit<M: Called>(
     ensures limit { hits.new.limit ≡ hits.old.limit }
 {
     let mut index = 0;
+    let mut left = kept;
     for message in messages {
         let call = Call {
             unit,
             index,
             message,
         };
-        invoke_message(tree, hits, &call, recorder, boxes);
+        left = invoke_message(tree, hits, left, &call, recorder, boxes);
         index += 1;
     }
 }
 
-/// Makes the calls of one message.
-fn invoke_message<M: Called>(
+/// Makes the calls of one message, and hands back what is kept of the others. Where nothing is kept of it, its methods
+/// are found again.
+fn invoke_message<'a, M: Called>(
+    tree: &Tree,
+    hits: &mut Hits,
+    kept: &'a [u32],
+    call: &Call<'_>,
+    recorder: &mut Recorder,
+    boxes: &mut Vec<(u32, M)>,
+) -> &'a [u32]
+    requires limit { tree.now.method_limit ≤ hits.old.limit }
+    requires found { BeginsFound tree.now.methods call.now.message kept.now }
+    requires owed { length (calls_of tree.now.methods call.now.index call.now.message)
+        ≤ owed_by recorder.old }
+    requires ascending { IsTrue (is_ascending (map (λ one. one.0) boxes.old.items)) }
+    ensures rest { result.now ≡ after_found kept.now }
+    ensures recorder { recorder.new
+        ≡ with_hits recorder.old
+        (hits_of (calls_of tree.now.methods call.now.index call.now.message)) }
+    ensures boxes { told M.keep M.heard boxes.new.items
+        ≡ all_hear (invocations_of call.now.unit
+        (calls_of tree.now.methods call.now.index call.now.message))
+        (told M.keep M.heard boxes.old.items) }
+    ensures ids { map (λ one. one.0) boxes.new.items ≡ map (λ one. one.0) boxes.old.items }
+    ensures capacity { vec_capacity boxes.old ≤ vec_capacity boxes.new }
+    ensures limit { hits.new.limit ≡ hits.old.limit }
+{
+    if kept.is_empty() {
+        find_and_invoke(tree, hits, call, recorder, boxes);
+        return kept;
+    }
+    let (ids, rest) = split_found(kept);
+    invoke_ids(ids, call, recorder, boxes);
+    rest
+}
+
+/// Makes the calls of one message, whose methods are found.
+fn find_and_invoke<M: Called>(
     tree: &Tree,
     hits: &mut Hits,
     call: &Call<'_>,
@@ -186,6 +265,15 @@ fn invoke_message<M: Called>(
 {
     let count = count_hits(tree, hits, &call.message);
     invoke_ids(&hits.ids()[..count], call, recorder, boxes);
+}
+
+/// The ids of the first message's methods, and what is kept of the others.
+fn split_found(kept: &[u32]) -> (&[u32], &[u32])
+    requires { CountsFound kept.now }
+    ensures ids { result.0.now ≡ first_found kept.now }
+    ensures rest { result.1.now ≡ after_found kept.now }
+{
+    kept[1..].split_at(kept[0] as usize)
 }
 
 /// Makes the call of each of the methods with these ids.

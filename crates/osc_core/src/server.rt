@@ -19,7 +19,7 @@ ghost use Rattle.osc_core.specs.Due.{Releases, made_by};
 ghost use Rattle.osc_core.specs.Playing.{tables};
 
 use crate::answers::{Enrolled, Releasing, Removing, Submitted, Ticking};
-use crate::calls::release_unit;
+use crate::calls::{MAX_KEPT, release_unit};
 use crate::messages::Messages;
 use crate::store::{Store, Stored};
 use crate::units::{enter_all, take_first};
@@ -40,6 +40,8 @@ use std::marker::Model;
 pub(crate) struct Server {
     tree: Tree,
     hits: Hits,
+    /// What the messages of the unit that is released call.
+    kept: Vec<u32>,
     /// The queued units.
     queue: Queue<Stored>,
     /// Their messages.
@@ -94,6 +96,7 @@ impl Server {
         Ok(Server {
             tree: Tree::open(alloc, caps.methods(), caps.nodes())?,
             hits: Hits::open(alloc, caps.methods())?,
+            kept: Vec::with_capacity(alloc, MAX_KEPT)?,
             queue: Queue::open(alloc, caps.units())?,
             store: Store::open(alloc, caps.blocks())?,
             bytes: Vec::with_capacity(alloc, MAX_STORED as usize)?,
@@ -255,6 +258,7 @@ impl Server {
         match release_unit(
             &self.tree,
             &mut self.hits,
+            &mut self.kept,
             caller,
             unit,
             messages,

@@ -1,25 +1,56 @@
-use Rattle.std.proofs.Common.{◌≡◌, ℕ, List, map, take, ap, ◌∙◌}
-use Rattle.osc_model.specs.Step.{calls_of, hits_of, invocations_of}
+use Rattle.std.proofs.Common.{◌≡◌, length, map, sym, ap, ◌∙◌, arith}
+use Rattle.std.proofs.lemmas.Bool.{eqb-false, eqb-true}
+use Rattle.std.proofs.lemmas.List.{length-map}
 use Rattle.osc_model.specs.Calls.{call_by}
+use Rattle.osc_model.specs.Step.{calls_of, hits_of, invocations_of}
+use Rattle.osc_core.specs.Found.{first_found}
 use Rattle.osc_core.specs.Recorded.{with_hits}
 use Rattle.osc_core.proofs.Calling.{hit, invoked}
 use Rattle.osc_core.proofs.Hearing.{hear_same}
+use Rattle.osc_core.proofs.Keeping.{counts_first, calls_first, none_after}
 use Rattle.osc_core.proofs.calls.invoke_message.Goals as goal
+
+pub returns-then-is_empty-clause-rest : goal.returns-then-is_empty-clause-rest
+returns-then-is_empty-clause-rest g c =
+    none_after c.args.kept.now (eqb-true (length c.args.kept.now) 0 (sym c.is_empty.ensures ∙ c.if-is_empty.true))
+
+pub split_found-requires : goal.split_found-requires
+split_found-requires g c =
+    counts_first c.args.tree.now.methods c.args.call.now.message c.args.kept.now c.requires.found
+    (eqb-false (length c.args.kept.now) 0 (sym c.is_empty.ensures ∙ c.if-is_empty.false))
+
+pub invoke_ids-requires-clause-owed : goal.invoke_ids-requires-clause-owed
+invoke_ids-requires-clause-owed g c =
+    let call = c.args.call.now in
+    let methods = c.args.tree.now.methods in
+    let some = eqb-false (length c.args.kept.now) 0 (sym c.is_empty.ensures ∙ c.if-is_empty.false) in
+    let calls = calls_first methods call.message c.args.kept.now call.index c.requires.found some in
+    omega (
+      arith,
+      c.requires.owed,
+      ap length calls,
+      length-map (first_found c.args.kept.now) (call_by methods call.index call.message),
+      ap length c.split_found.ensures.ids,
+    )
 
 pub returns-clause-recorder : goal.returns-clause-recorder
 returns-clause-recorder g c =
     let call = c.args.call.now in
     let methods = c.args.tree.now.methods in
-    let count = c.count_hits-count.result in
-    let calls : map (call_by methods call.index call.message) (take count c.ids.result.now) ≡ calls_of methods call.index call.message =
-    ap (λ (l : List ℕ). map (call_by methods call.index call.message) (take count l)) c.ids.ensures ∙ c.count_hits-count.ensures.calls call.index in
-    c.invoke_ids.ensures.recorder ∙ ap (with_hits c.args.recorder.now) (hit methods call (take count c.ids.result.now) ∙ ap hits_of calls)
+    let ids = c.split_found.result.0.now in
+    let some = eqb-false (length c.args.kept.now) 0 (sym c.is_empty.ensures ∙ c.if-is_empty.false) in
+    let calls : map (call_by methods call.index call.message) ids ≡ calls_of methods call.index call.message =
+    ap (map (call_by methods call.index call.message)) c.split_found.ensures.ids
+    ∙ calls_first methods call.message c.args.kept.now call.index c.requires.found some in
+    c.invoke_ids.ensures.recorder ∙ ap (with_hits c.args.recorder.now) (hit methods call ids ∙ ap hits_of calls)
 
 pub returns-clause-boxes : goal.returns-clause-boxes
 returns-clause-boxes g c =
     let call = c.args.call.now in
     let methods = c.args.tree.now.methods in
-    let count = c.count_hits-count.result in
-    let calls : map (call_by methods call.index call.message) (take count c.ids.result.now) ≡ calls_of methods call.index call.message =
-    ap (λ (l : List ℕ). map (call_by methods call.index call.message) (take count l)) c.ids.ensures ∙ c.count_hits-count.ensures.calls call.index in
-    hear_same _ _ _ _ (c.invoke_ids.ensures.boxes methods) (invoked methods call (take count c.ids.result.now) ∙ ap (invocations_of call.unit) calls)
+    let ids = c.split_found.result.0.now in
+    let some = eqb-false (length c.args.kept.now) 0 (sym c.is_empty.ensures ∙ c.if-is_empty.false) in
+    let calls : map (call_by methods call.index call.message) ids ≡ calls_of methods call.index call.message =
+    ap (map (call_by methods call.index call.message)) c.split_found.ensures.ids
+    ∙ calls_first methods call.message c.args.kept.now call.index c.requires.found some in
+    hear_same _ _ _ _ (c.invoke_ids.ensures.boxes methods) (invoked methods call ids ∙ ap (invocations_of call.unit) calls)

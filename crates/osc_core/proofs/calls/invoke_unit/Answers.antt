@@ -1,9 +1,16 @@
-use Rattle.std.proofs.Common.{length, ap, ◌∙◌, arith}
+use Rattle.std.proofs.Common.{List, ℕ, length, sym, ap, subst, ◌∙◌, arith}
+use Rattle.osc_core.specs.Found.{AreFound}
 use Rattle.osc_core.proofs.Invoking.{unit_put, unit_owes, unit_owed, unit_heard, none_put, none_heard}
+use Rattle.osc_core.proofs.Keeping.{first_and_rest}
 use Rattle.osc_core.proofs.calls.invoke_unit.Goals as goal
 
-pub invoke_message-requires-clause-owed : goal.invoke_message-requires-clause-owed
-invoke_message-requires-clause-owed g c =
+pub invoke_message-left-requires-clause-found : goal.invoke_message-left-requires-clause-found
+invoke_message-left-requires-clause-found g c =
+    (first_and_rest c.args.tree.now.methods c.in-Some.message c.loop-message.message-iterator c.next.new.self c.in-Some.ensures.steps c.loop-message.left.now
+    c.loop-message.invariant.found).0
+
+pub invoke_message-left-requires-clause-owed : goal.invoke_message-left-requires-clause-owed
+invoke_message-left-requires-clause-owed g c =
     unit_owes c.args.tree.now.methods c.loop-message.index c.in-Some.message c.loop-message.message-iterator c.next.new.self c.in-Some.ensures.steps
     c.loop-message.recorder c.loop-message.invariant.owed
 
@@ -15,17 +22,19 @@ loop-message-preserved g c =
     let rest = c.next.new.self in
     let first = c.in-Some.ensures.steps in
     let old = c.loop-message.recorder in
-    let put = c.invoke_message.ensures.recorder in
+    let put = c.invoke_message-left.ensures.recorder in
     record {
       can = tt;
       finite = tt;
-      recorder = unit_put methods index c.in-Some.message left rest first old c.invoke_message.new.recorder put ∙ c.loop-message.invariant.recorder;
-      owed = unit_owed methods index c.in-Some.message left rest first old c.invoke_message.new.recorder put c.loop-message.invariant.owed;
-      boxes = unit_heard methods index c.in-Some.message left rest first c.args.unit _ _ c.invoke_message.ensures.boxes ∙ c.loop-message.invariant.boxes;
-      ids = c.invoke_message.ensures.ids ∙ c.loop-message.invariant.ids;
-      capacity = omega (arith, c.invoke_message.ensures.capacity, c.loop-message.invariant.capacity);
+      recorder = unit_put methods index c.in-Some.message left rest first old c.invoke_message-left.new.recorder put ∙ c.loop-message.invariant.recorder;
+      found = subst (λ (l : List ℕ). AreFound methods rest l) (sym c.invoke_message-left.ensures.rest)
+          (first_and_rest methods c.in-Some.message left rest first c.loop-message.left.now c.loop-message.invariant.found).1;
+      owed = unit_owed methods index c.in-Some.message left rest first old c.invoke_message-left.new.recorder put c.loop-message.invariant.owed;
+      boxes = unit_heard methods index c.in-Some.message left rest first c.args.unit _ _ c.invoke_message-left.ensures.boxes ∙ c.loop-message.invariant.boxes;
+      ids = c.invoke_message-left.ensures.ids ∙ c.loop-message.invariant.ids;
+      capacity = omega (arith, c.invoke_message-left.ensures.capacity, c.loop-message.invariant.capacity);
       numbers = omega (arith, ap length first, c.loop-message.invariant.numbers);
-      limit = c.invoke_message.ensures.limit ∙ c.loop-message.invariant.limit;
+      limit = c.invoke_message-left.ensures.limit ∙ c.loop-message.invariant.limit;
     }
 
 pub returns-clause-recorder : goal.returns-clause-recorder
