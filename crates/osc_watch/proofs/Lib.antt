@@ -1,5 +1,6 @@
 mod Begun
 mod EntriesRead
+pub mod Looking
 mod PartsRead
 mod Places
 mod Publishings

@@ -4,6 +4,7 @@ pub mod Edits
 pub mod Parts
 pub mod Watching
 pub mod Refreshing
+pub mod Tokens
 -- Inside the crate.
 pub mod Rule
 pub mod Reach

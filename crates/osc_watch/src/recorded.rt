@@ -1,11 +1,13 @@
 //! A server whose recording is read while it grows.
 ghost use Rattle.std.specs.Prelude.{◌<◌, ◌+◌, ◌≡◌, ℕ, List};
+ghost use Rattle.osc_turn.specs.declared.view.View.{View};
 ghost use Rattle.osc_turn.specs.History.{StartsWith};
 ghost use Rattle.osc_model.specs.Limits.{Limits};
 ghost use Rattle.osc_model.specs.Events.{Entry};
 ghost use Rattle.osc_model.specs.Recordings.{record_text};
 ghost use Rattle.osc_record.specs.Reading.{IsRecord};
 ghost use Rattle.osc_watch.specs.Parts.{Writes};
+ghost use Rattle.osc_watch.specs.Tokens.{OnlyLooks};
 
 use std::sync::Wait;
 
@@ -25,6 +27,12 @@ pub trait Recorded {
     /// How often it took the turn.
     ghost taken: { Self.Token → ℕ };
 
+    /// The number of its caller.
+    ghost number: { Self.Token → ℕ };
+
+    /// All that it knows of the turn.
+    ghost knows: { Self.Token → View };
+
     /// Writes the bytes of the recording from the place on, as many as there are and fit, and answers their number.
     fn read<W: Wait>(
         &self,
@@ -39,5 +47,7 @@ pub trait Recorded {
         ensures recorded { IsRecord (caps self.now) (seen result.0) }
         ensures writes { Writes (record_text (caps self.now) (seen result.0)) from into.old into.new
             result.1 }
-        ensures taken { taken token < taken result.0 };
+        ensures taken { taken token < taken result.0 }
+        ensures number { number result.0 ≡ number token }
+        ensures looks { OnlyLooks (knows token) (knows result.0) };
 }

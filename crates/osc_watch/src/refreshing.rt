@@ -7,6 +7,7 @@ ghost use Rattle.osc_watch.specs.Edits.{edits_of};
 ghost use Rattle.osc_watch.specs.Notes.{IsPlaceIn, place_in};
 ghost use Rattle.osc_watch.specs.Watching.{noted, published, IsOneBoard};
 ghost use Rattle.osc_watch.specs.Refreshing.{HasRead, HasReadPart, PartNotes, IsWhole};
+ghost use Rattle.osc_watch.specs.Tokens.{OnlyLooks};
 
 use crate::board::Board;
 use crate::entries::note_all;
@@ -51,6 +52,8 @@ impl Board {
         ensures ours { S.ours server.now result.0 }
         ensures board { IsOneBoard self.old self.new }
         ensures goes_on { StartsWith (S.seen result.0) (S.seen token) }
+        ensures number { S.number result.0 ≡ S.number token }
+        ensures looks { OnlyLooks (S.knows token) (S.knows result.0) }
         ensures read { HasReadPart (S.caps server.now) self.new (S.seen result.0) }
         ensures whole { OnOk result.1 (HasRead (S.caps server.now) self.new (S.seen result.0)) }
         ensures published { MatchResult result.1
@@ -81,6 +84,7 @@ const FIRST_ROOM: usize = 4096;
 const MOST_ROOM: usize = 1 << 31;
 
 /// Reads all that is new in the recording.
+#[tactic(auto, using(crate::proofs::Looking::looking))]
 fn read_all<S: Recorded, W: Wait>(
     board: &mut Board,
     rt: &W,
@@ -93,6 +97,8 @@ fn read_all<S: Recorded, W: Wait>(
     ensures board { IsOneBoard board.old board.new }
     ensures published { published board.new ≡ published board.old }
     ensures goes_on { StartsWith (S.seen result.0) (S.seen token) }
+    ensures number { S.number result.0 ≡ S.number token }
+    ensures looks { OnlyLooks (S.knows token) (S.knows result.0) }
     ensures read { HasReadPart (S.caps server.now) board.new (S.seen result.0) }
     ensures whole { OnOk result.1 (HasRead (S.caps server.now) board.new (S.seen result.0)) }
     ensures taken { OnOk result.1 (S.taken token < S.taken result.0) }
@@ -135,6 +141,8 @@ fn read_part<S: Recorded, W: Wait>(
     ensures board { IsOneBoard board.old board.new }
     ensures published { published board.new ≡ published board.old }
     ensures goes_on { StartsWith (S.seen result.0) (S.seen token) }
+    ensures number { S.number result.0 ≡ S.number token }
+    ensures looks { OnlyLooks (S.knows token) (S.knows result.0) }
     ensures taken { S.taken token ≤ S.taken result.0 }
     ensures read { HasReadPart (S.caps server.now) board.new (S.seen result.0) }
     ensures whole { IsWhole result.1 → HasRead (S.caps server.now) board.new (S.seen result.0) }
@@ -161,6 +169,8 @@ fn read_over<S: Recorded, W: Wait>(
     ensures board { IsOneBoard board.old board.new }
     ensures published { published board.new ≡ published board.old }
     ensures goes_on { StartsWith (S.seen result.0) (S.seen token) }
+    ensures number { S.number result.0 ≡ S.number token }
+    ensures looks { OnlyLooks (S.knows token) (S.knows result.0) }
     ensures taken { S.taken token ≤ S.taken result.0 }
     ensures read { HasReadPart (S.caps server.now) board.new (S.seen result.0) }
     ensures whole { IsWhole result.1 → HasRead (S.caps server.now) board.new (S.seen result.0) }

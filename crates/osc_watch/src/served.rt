@@ -20,6 +20,10 @@ impl<M: Method> Recorded for Live<M> {
 
     ghost taken = { λ caller. (view caller.pass).taken };
 
+    ghost number = { λ caller. caller.number };
+
+    ghost knows = { λ caller. view caller.pass };
+
     fn read<W: Wait>(&self, rt: &W, token: Caller, from: u32, into: &mut [u8]) -> (Caller, usize) {
         a_legal_history_is_recordable();
         Live::read(self, rt, token, from, into)

@@ -3,6 +3,7 @@ use Rattle.osc_turn.specs.History.{StartsWith}
 use Rattle.osc_model.specs.Limits.{header_size}
 use Rattle.osc_watch.specs.Watching.{published, IsOneBoard}
 use Rattle.osc_watch.specs.Refreshing.{HasReadPart}
+use Rattle.osc_watch.specs.Tokens.{OnlyLooks}
 use Rattle.osc_watch.proofs.refreshing.read_all.Given as goal
 
 -- so far a beginning was read
@@ -14,5 +15,7 @@ invariant-loop g l = record {
   goes_on : StartsWith (g.S.Recorded.seen l.token) (g.S.Recorded.seen l.fn.token);
   read : HasReadPart (g.S.Recorded.caps l.fn.server) l.board (g.S.Recorded.seen l.token);
   taken : g.S.Recorded.taken l.fn.token < g.S.Recorded.taken l.token;
+  number : g.S.Recorded.number l.token ≡ g.S.Recorded.number l.fn.token;
+  looks : OnlyLooks (g.S.Recorded.knows l.fn.token) (g.S.Recorded.knows l.token);
   header : length l.header.items ≡ header_size;
 }

@@ -1,5 +1,6 @@
 use Rattle.osc_turn.specs.Passes.{view}
 use Rattle.osc_live.specs.Seen.{history_of}
+use Rattle.osc_watch.proofs.Looking.{looks_once}
 use Rattle.osc_watch.proofs.ServerReads.{goes_on, recorded, risen}
 use Rattle.osc_watch.proofs.served.LiveRecorded.read.Goals as goal
 
@@ -17,3 +18,8 @@ returns-clause-writes g c = record { bytes = c.read.ensures.read.writes.bytes; c
 
 pub returns-clause-taken : goal.returns-clause-taken
 returns-clause-taken g c = risen (view c.args.token.pass) (view c.read.result.0.pass) c.read.ensures.read.once
+
+pub returns-clause-looks : goal.returns-clause-looks
+returns-clause-looks g c =
+    let read = c.read.ensures.read in
+    looks_once (view c.args.token.pass) (view c.read.result.0.pass) read.once read.goes_on read.own_same
