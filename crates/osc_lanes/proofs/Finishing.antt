@@ -1,7 +1,9 @@
 -- What is known of a server that is closed.
-use Rattle.std.proofs.Common.{◌≡◌, ℕ, List, [], ◌∷◌, ◌++◌, length, map, Option, refl, sym, ap, subst, ◌∙◌}
+use Rattle.std.proofs.Common.{◌≡◌, ℕ, List, [], ◌∷◌, ◌++◌, length, map, All, Option, refl, sym, ap, subst, ◌∙◌, arith}
 use Rattle.std.specs.List.{AllByRecursion, AllZip}
-use Rattle.std.proofs.lemmas.List.Elements.{recursion_from_All}
+use Rattle.std.proofs.lemmas.List.{length-map}
+use Rattle.std.proofs.lemmas.List.Elements.{All-from_recursion, All-map, recursion_from_All}
+use Rattle.std.proofs.lemmas.Slice.Zip.{AllZip-long}
 use Rattle.osc_model.specs.Limits.{Limits, AreInRange}
 use Rattle.osc_model.specs.State.{opening}
 use Rattle.osc_model.specs.Events.{Entry, Room, record_full}
@@ -19,11 +21,12 @@ use Rattle.osc_live.specs.declared.refusal.EnrolRefusal.{EnrolRefusal}
 use Rattle.osc_live.specs.declared.refusal.EnrolRefusal.TheVariants.{CallersFull}
 use Rattle.osc_live.specs.Enrolments.{refusal_of}
 use Rattle.osc_live.specs.Closing.{known, views_of, Closes}
+use Rattle.osc_lanes.specs.declared.part.LanePart.{LanePart}
 use Rattle.osc_lanes.specs.declared.plan.LanePlan.{LanePlan}
 use Rattle.osc_lanes.specs.declared.plan.LaneEnd.{LaneEnd}
 use Rattle.osc_lanes.specs.Ends.{seen_by, IsReady, IsEndOf}
 use Rattle.osc_lanes.specs.Shares.{Holder}
-use Rattle.osc_lanes.specs.Performs.{IsWhole, IsStage}
+use Rattle.osc_lanes.specs.Performs.{IsWhole, IsStage, part_of}
 use Rattle.osc_lanes.specs.Crews.{names_of, caller_of, part_in, caller_in, IsSilent, HasSeen, IsCrew}
 use Rattle.osc_lanes.proofs.Staging.{all_of_tokens, only_first, alone_from, staged}
 use Rattle.osc_lanes.proofs.Sharing.{Carried}
@@ -64,6 +67,29 @@ module _ {M : Type 0} where
   ready [] whole silent = tt
   ready (plan ∷ plans) whole silent = ((whole.0, silent.0), ready plans whole.1 silent.1)
 
+  -- what holds of all callers holds of those of the plans
+  pub of_plans : (P : Caller → Type 0) (plans : List (LanePlan M)) (callers : List Caller) → map caller_of plans ≡ callers → All P callers
+      → AllByRecursion P (map caller_of plans)
+  of_plans P plans callers are all = recursion_from_All P (map caller_of plans) (subst (All P) (sym are) all)
+
+  pub plans_ours : (P : Caller → Type 0) (plans : List (LanePlan M)) (callers : List Caller) → map caller_of plans ≡ callers → All P callers
+      → All (λ plan. P plan.caller) plans
+  plans_ours P plans callers are all =
+      All-from_recursion (λ (plan : LanePlan M). P plan.caller) plans (from_mapped P caller_of plans (of_plans P plans callers are all))
+
+  -- plans of whole parts for callers that have no entries can be played
+  pub plans_ready : (plans : List (LanePlan M)) (parts : List (LanePart M)) (callers : List Caller) → map part_in plans ≡ map part_of parts
+      → All (λ part. IsWhole (part_of part)) parts → map caller_of plans ≡ callers → All IsSilent callers → AllByRecursion IsReady plans
+  plans_ready plans parts callers are whole callers_are silent =
+      ready plans (recursion_from_All IsWhole (map part_in plans) (subst (All IsWhole) (sym are) (All-map IsWhole part_of parts whole)))
+      (of_plans IsSilent plans callers callers_are silent)
+
+  -- there is an end for each part
+  pub ends_counted : (R : LanePlan M → LaneEnd M → Type 0) (plans : List (LanePlan M)) (ends : List (LaneEnd M)) (parts : List (LanePart M))
+      → AllZip R plans ends → map part_in plans ≡ map part_of parts → length ends ≡ length parts
+  ends_counted R plans ends parts all are =
+      omega (arith, AllZip-long R plans ends all, ap length are, length-map plans part_in, length-map parts part_of)
+
 -- What a close says where caller 0 and these others hand their tokens in, who had no entries in what caller 0 has seen.
 pub record StandsOn (caps : Limits) (start : List Entry) (count : ℕ) (v : View) (history : List Seen) : Type 0 where
   pub starts : StartsWith history v.seen
@@ -98,7 +124,8 @@ module _ (caps : Limits) (start : List Entry) (made : ℕ) (first : Caller) (v :
       subst (λ (n : ℕ). own n history ≡ own n v.seen) crew.token
       (subst (λ (u : View). own (number_of u) history ≡ own (number_of u) u.seen) is carried.0.1) in
       let alone : own 0 v.seen ≡ v.seen =
-      alone_from caps start v enrolled 1 made crew history (first.number, view first.pass) others is none starts (all_of_tokens closes) in
+      alone_from caps start v enrolled 1 made crew history (first.number, view first.pass) others (ap number_of is ∙ crew.token) none starts
+      (all_of_tokens closes) in
       record {
         starts = starts;
         owned = owned;

@@ -21,6 +21,7 @@ use Rattle.osc_turn.specs.declared.view.View.{View}
 use Rattle.osc_turn.specs.History.{StartsWith, texts, entry, entries_of, own}
 use Rattle.osc_turn.specs.Rule.{number_of}
 use Rattle.osc_turn.specs.Passes.{view}
+use Rattle.osc_turn.proofs.Histories.{starts_here, starts_on}
 use Rattle.osc_live.specs.declared.caller.Caller.{Caller}
 use Rattle.osc_live.specs.declared.guest.Guest.{Guest}
 use Rattle.osc_live.specs.declared.refusal.EnrolRefusal.{EnrolRefusal}
@@ -133,6 +134,19 @@ at_place history old new knows placed one off (caller, there, same) =
 known_joined : (callers more : List Caller) → known (callers ++ more) ≡ known callers ++ known more
 known_joined callers more = map-append (λ (caller : Caller). (caller.number, view caller.pass)) callers more
 
+-- Caller 0's token has seen no less than it had, and has no further entry.
+pub record HasGoneOn (v w : View) : Type 0 where
+  pub token : number_of w ≡ number_of v
+  pub starts : StartsWith w.seen v.seen
+  pub own_same : own (number_of v) w.seen ≡ own (number_of v) v.seen
+
+pub same_view : (v w : View) → w ≡ v → HasGoneOn v w
+same_view v w is = record {
+  token = ap number_of is;
+  starts = subst (λ (u : View). StartsWith u.seen v.seen) (sym is) (starts_here v.seen);
+  own_same = ap (λ (u : View). own (number_of v) u.seen) is;
+}
+
 -- What a close says of a server where caller 0, the old callers and these others hand their tokens in.
 pub record StandsLater (caps : Limits) (past : List (List ℕ)) (olds : List Caller) (count : ℕ) (v : View) (history : List Seen) : Type 0 where
   pub starts : StartsWith history v.seen
@@ -141,7 +155,7 @@ pub record StandsLater (caps : Limits) (past : List (List ℕ)) (olds : List Cal
   pub stage : IsLaterStage caps past count history
   pub quiet : AllByRecursion (λ other. own (number_of other.1) history ≡ []) (known olds)
 
-module _ (caps : Limits) (past : List (List ℕ)) (made : ℕ) (first : Caller) (v : View) (olds enrolled : List Caller) (is : view first.pass ≡ v)
+module _ (caps : Limits) (past : List (List ℕ)) (made : ℕ) (first : Caller) (v : View) (olds enrolled : List Caller) (on : HasGoneOn v (view first.pass))
     (zero_is : first.number ≡ 0) (old : AreOld past olds) (crew : IsCrewFrom (1 + length olds) (history_in past) made v enrolled) where
   stands_later : {bytes : List ℕ} {kept : List Told} (others : List Caller) (guests : List Guest) → names_of others ≡ names_of enrolled
       → ((history : List Seen) → StartsWith history v.seen → AllByRecursion (Carried history) others
@@ -152,10 +166,11 @@ module _ (caps : Limits) (past : List (List ℕ)) (made : ℕ) (first : Caller) 
       let history = closes.history in
       let carried = all_carried (first ∷ (olds ++ others)) guests closes in
       let parts = all_split (Carried history) olds others carried.1 in
-      let starts : StartsWith history v.seen = subst (λ (u : View). StartsWith history u.seen) is carried.0.0 in
+      let now : List Seen = (view first.pass).seen in
+      let zeroth : number_of (view first.pass) ≡ 0 = on.token ∙ crew.token in
+      let starts : StartsWith history v.seen = starts_on history now v.seen carried.0.0 on.starts in
       let owned : own 0 history ≡ own 0 v.seen =
-      subst (λ (n : ℕ). own n history ≡ own n v.seen) crew.token
-      (subst (λ (u : View). own (number_of u) history ≡ own (number_of u) u.seen) is carried.0.1) in
+      subst (λ (n : ℕ). own n history ≡ own n now) zeroth carried.0.1 ∙ subst (λ (n : ℕ). own n now ≡ own n v.seen) crew.token on.own_same in
       let quiet = silent_then history olds (recursion_from_All IsSilent olds old.silent) parts.0 in
       let quiet_seen : AllByRecursion (λ (other : ℕ × View). own (number_of other.1) v.seen ≡ []) (known (olds ++ others)) =
       subst (AllByRecursion (λ (other : ℕ × View). own (number_of other.1) v.seen ≡ [])) (sym (known_joined olds others))
@@ -163,7 +178,8 @@ module _ (caps : Limits) (past : List (List ℕ)) (made : ℕ) (first : Caller) 
       (silent_before history v.seen starts (known olds) quiet) (none history starts parts.1)) in
       let tokens = all_of_tokens closes in
       let alone : own 0 v.seen ≡ v.seen =
-      alone_from caps (history_in past) v enrolled (1 + length olds) made crew history (first.number, view first.pass) (olds ++ others) is quiet_seen starts
+      alone_from caps (history_in past) v enrolled (1 + length olds) made crew history (first.number, view first.pass) (olds ++ others) zeroth quiet_seen
+      starts
       tokens in
       let here = crew.alone alone in
       let new = length enrolled in
@@ -172,11 +188,11 @@ module _ (caps : Limits) (past : List (List ℕ)) (made : ℕ) (first : Caller) 
       ∙ (λ i. old.named i ++ (named ∙ here.1) i) ∙ names_joined 1 (length olds) new (length olds + new) refl in
       let most = length olds + new in
       let named_all : AllByRecursion (IsNamed most) (known (first ∷ (olds ++ others))) = (
-        (zero_is ∙ sym (ap number_of is ∙ crew.token), omega (arith, ap number_of is, crew.token)),
+        (zero_is ∙ sym zeroth, omega (arith, zeroth)),
         all_named 1 most most (olds ++ others) all_names (omega arith),
       ) in
       let placed : AllByRecursion (IsPlaced history (old_callers past) new) (known (first ∷ (olds ++ others))) = (
-        inl (inl (ap number_of is ∙ crew.token)),
+        inl (inl zeroth),
         subst (AllByRecursion (IsPlaced history (old_callers past) new)) (sym (known_joined olds others))
             (all_append (IsPlaced history (old_callers past) new) (known olds) (known others)
             (quiet_placed history (old_callers past) new (known olds) quiet)
@@ -215,7 +231,7 @@ module _ (caps : Limits) (past : List (List ℕ)) (made : ℕ) (first : Caller) 
       let silent = all_append IsSilent olds enrolled (recursion_from_All IsSilent olds old.silent) (recursion_from_All IsSilent enrolled crew.silent) in
       let none = silent_then history (olds ++ enrolled) silent carried.1 in
       let whole : own 0 history ≡ history =
-      only_first (first.number, view first.pass) (known (olds ++ enrolled)) history (ap number_of is ∙ crew.token) none (all_of_tokens closes) in
+      only_first (first.number, view first.pass) (known (olds ++ enrolled)) history (on.token ∙ crew.token) none (all_of_tokens closes) in
       let stands =
       stands_later enrolled guests refl
       (λ log starts there. silent_before log v.seen starts (known enrolled)
@@ -266,14 +282,15 @@ module _ {M : Type 0} (keep : M → ℕ) (heard : M → Option (List ℕ)) (caps
       below_all o n number counted (inr (from, to)) = omega (arith, counted, to)
 
   module _ (stays : StaysSound) (opens : OpensSound) (bytes : List ℕ) (kept : List (ℕ × M)) (first : Caller) (v : View) (olds enrolled : List Caller)
-      (is : view first.pass ≡ v) (zero_is : first.number ≡ 0) (old : AreOld past olds) where
+      (on : HasGoneOn v (view first.pass)) (zero_is : first.number ≡ 0) (old : AreOld past olds) where
     -- all lanes were played
     pub finish_later : KeepsRemoved keep heard caps → IsCrewFrom (1 + length olds) (history_in past) (1 + length olds + length enrolled) v enrolled
         → (plans : List (LanePlan M)) (ends : List (LaneEnd M)) → names_of (map caller_of plans) ≡ names_of enrolled → length plans ≡ length enrolled
         → AllByRecursion IsSilent (map caller_of plans) → AllByRecursion (HasSeen v.seen) (map caller_of plans) → AllByRecursion IsReady plans
         → AllZip (IsEndOf keep heard caps) plans ends
-        → Closes caps past (known (first ∷ (olds ++ map caller_in ends))) (views_of (first ∷ (olds ++ map caller_in ends)) []) bytes (told keep heard kept)
-        → PerformsLater keep heard caps past (map part_in plans) bytes kept (map told_of (map told_in ends)) None
+        → (closes : Closes caps past (known (first ∷ (olds ++ map caller_in ends))) (views_of (first ∷ (olds ++ map caller_in ends)) []) bytes (told keep heard kept))
+        → (later : PerformsLater keep heard caps past (map part_in plans) bytes kept (map told_of (map told_in ends)) None)
+        × (later.history ≡ closes.history)
     finish_later law crew plans ends named many silent has all_ready all closes =
         let others = map caller_in ends in
         let history = closes.history in
@@ -282,7 +299,7 @@ module _ {M : Type 0} (keep : M → ℕ) (heard : M → Option (List ℕ)) (caps
         let lanes = (all_split (Carried history) olds others carried.1).1 in
         let back = names_back keep heard caps plans ends all in
         let stands =
-        stands_later caps past (1 + o + length enrolled) first v olds enrolled is zero_is old crew others [] (back ∙ named)
+        stands_later caps past (1 + o + length enrolled) first v olds enrolled on zero_is old crew others [] (back ∙ named)
         (λ log starts there. none_seen v.seen (map caller_of plans) others back silent has) closes in
         let here : names_of (map caller_of plans) ≡ same_names (1 + o) (length plans) =
         named ∙ (crew.alone stands.alone).1 ∙ ap (same_names (1 + o)) (sym many) in
@@ -290,26 +307,29 @@ module _ {M : Type 0} (keep : M → ℕ) (heard : M → Option (List ℕ)) (caps
         let count : length enrolled ≡ length parts = sym many ∙ sym (length-map plans part_in) in
         let stage : IsLaterStage caps past (length parts) history = subst (λ (n : ℕ). IsLaterStage caps past n history) count stands.stage in
         let shared = shares keep heard caps history (1 + o) plans ends here all_ready all lanes in
-        let accounts = map told_of (map told_in ends) in
-        record {
-          history = history;
-          callers = length parts;
-          stage = stage;
-          closed = closed_later stays (opens caps closes.legal.0) bytes kept (known (first ∷ (olds ++ others))) (views_of (first ∷ (olds ++ others)) []) closes
-              accounts (gone_later olds old history stands.quiet parts accounts stage shared)
-              (removed_all keep heard caps history law closes.legal plans ends all lanes);
-          shares = (refl, subst (λ (n : ℕ). Numbered (IsShare keep heard caps history) n parts accounts) (sym old.counted) shared);
-        }
+        let accounts = map told_of (map told_in ends) in (
+          record {
+            history = history;
+            callers = length parts;
+            stage = stage;
+            closed = closed_later stays (opens caps closes.legal.0) bytes kept (known (first ∷ (olds ++ others))) (views_of (first ∷ (olds ++ others)) []) closes
+                accounts (gone_later olds old history stands.quiet parts accounts stage shared)
+                (removed_all keep heard caps history law closes.legal plans ends all lanes);
+            shares = (refl, subst (λ (n : ℕ). Numbered (IsShare keep heard caps history) n parts accounts) (sym old.counted) shared);
+          },
+          refl,
+        )
 
     -- there was no room for an enrolment
     pub finish_unenrolled : IsCrewFrom (1 + length olds) (history_in past) (2 + length olds + length enrolled) v enrolled → (why : EnrolRefusal)
         → FindsNoRoom caps v why → (guests : List Guest) → (parts : List (Part M)) → length enrolled < length parts
-        → Closes caps past (known (first ∷ (olds ++ enrolled))) (views_of (first ∷ (olds ++ enrolled)) guests) bytes (told keep heard kept)
+        → (closes : Closes caps past (known (first ∷ (olds ++ enrolled))) (views_of (first ∷ (olds ++ enrolled)) guests) bytes (told keep heard kept))
         → (room : Room) × (refusal_of why ≡ record_full room)
-        × PerformsLater keep heard caps past parts bytes kept (map (λ part. ended part.boxes None) parts) (Some room)
+        × (later : PerformsLater keep heard caps past parts bytes kept (map (λ part. ended part.boxes None) parts) (Some room))
+        × (later.history ≡ closes.history)
     finish_unenrolled crew why refused guests parts few closes =
         let history = closes.history in
-        let stands = alone_later caps past (2 + length olds + length enrolled) first v olds enrolled is zero_is old crew guests closes in
+        let stands = alone_later caps past (2 + length olds + length enrolled) first v olds enrolled on zero_is old crew guests closes in
         let full = refused stands.0.alone in
         let accounts : List (Account M) = map (λ part. ended part.boxes None) parts in
         let gone_are : gone_ids (history_in (texts history)) ≡ removed_in (history_in past) ++ removed_ids accounts =
@@ -332,40 +352,49 @@ module _ {M : Type 0} (keep : M → ℕ) (heard : M → Option (List ℕ)) (caps
               refl,
             );
           },
+          refl,
         )
 
--- a performance on a server without a past
+-- a performance on a server without a past, of the same history
+pub without_past : {M : Type 0} (keep : M → ℕ) (heard : M → Option (List ℕ)) (caps : Limits) (parts : List (Part M)) (bytes : List ℕ)
+    (kept : List (ℕ × M)) (accounts : List (Account M)) (unenrolled : Option Room)
+    → (later : PerformsLater keep heard caps [] parts bytes kept accounts unenrolled)
+    → (performs : Performs keep heard caps parts bytes kept accounts unenrolled) × (performs.history ≡ later.history)
+without_past {M} keep heard caps parts bytes kept accounts unenrolled later = (
+  record {
+    history = later.history;
+    callers = later.callers;
+    stage = record {
+      legal = later.stage.legal;
+      laws = later.stage.laws;
+      begins = later.stage.begins;
+      enrolled = later.stage.enrolled;
+      named = subst (All (λ one. names one.number one ≡ true)) (sym later.stage.goes_on) later.stage.named;
+      within = λ k d within. below later.callers (get_or later.history k d).number (later.stage.within k d within);
+    };
+    closed = record {
+      recorded = later.closed.recorded;
+      ids = later.closed.ids;
+      ascending = later.closed.ascending;
+      kept_heard = later.closed.kept_heard;
+      kept_marked = later.closed.kept_marked;
+      removed = later.closed.removed;
+    };
+    shares = later.shares;
+  },
+  refl,
+) where
+  below : (n number : ℕ) → IsAtWork 1 n number → number ≤ n
+  below n number (inl is) = omega (arith, is)
+  below n number (inr (from, to)) = omega (arith, to)
+
+-- where the past is none
 pub fresh_performs : {M : Type 0} (keep : M → ℕ) (heard : M → Option (List ℕ)) (caps : Limits) (past : List (List ℕ)) (parts : List (Part M))
     (bytes : List ℕ) (kept : List (ℕ × M)) (accounts : List (Account M)) (unenrolled : Option Room) → past ≡ []
     → PerformsLater keep heard caps past parts bytes kept accounts unenrolled → Performs keep heard caps parts bytes kept accounts unenrolled
-fresh_performs {M} keep heard caps past parts bytes kept accounts unenrolled none later =
-    go (subst (λ (l : List (List ℕ)). PerformsLater keep heard caps l parts bytes kept accounts unenrolled) none later) where
-      below : (n number : ℕ) → IsAtWork 1 n number → number ≤ n
-      below n number (inl is) = omega (arith, is)
-      below n number (inr (from, to)) = omega (arith, to)
-
-      go : PerformsLater keep heard caps [] parts bytes kept accounts unenrolled → Performs keep heard caps parts bytes kept accounts unenrolled
-      go later = record {
-        history = later.history;
-        callers = later.callers;
-        stage = record {
-          legal = later.stage.legal;
-          laws = later.stage.laws;
-          begins = later.stage.begins;
-          enrolled = later.stage.enrolled;
-          named = subst (All (λ one. names one.number one ≡ true)) (sym later.stage.goes_on) later.stage.named;
-          within = λ k d within. below later.callers (get_or later.history k d).number (later.stage.within k d within);
-        };
-        closed = record {
-          recorded = later.closed.recorded;
-          ids = later.closed.ids;
-          ascending = later.closed.ascending;
-          kept_heard = later.closed.kept_heard;
-          kept_marked = later.closed.kept_marked;
-          removed = later.closed.removed;
-        };
-        shares = later.shares;
-      }
+fresh_performs keep heard caps past parts bytes kept accounts unenrolled none later =
+    (without_past keep heard caps parts bytes kept accounts unenrolled
+    (subst (λ (l : List (List ℕ)). PerformsLater keep heard caps l parts bytes kept accounts unenrolled) none later)).0
 
 -- The tokens of a resumed server.
 

@@ -1,5 +1,6 @@
 pub mod Answering
 pub mod Balance
+pub mod Behind
 pub mod Enrolling
 pub mod Finishing
 pub mod Fresh

@@ -101,11 +101,11 @@ all_named first (suc count) most (caller ∷ callers) are few =
 module _ (caps : Limits) (start : List Entry) (v : View) (callers : List Caller) (next made : ℕ) (crew : IsCrewFrom next start made v callers)
     (history : List Seen) where
   -- all that caller 0 has seen is its own
-  pub alone_from : (first : ℕ × View) (others : List Caller) → first.1 ≡ v
+  pub alone_from : (first : ℕ × View) (others : List Caller) → number_of first.1 ≡ 0
       → AllByRecursion (λ other. own (number_of other.1) v.seen ≡ []) (known others)
       → StartsWith history v.seen → AllByRecursion (IsOfToken (first ∷ known others)) history → own 0 v.seen ≡ v.seen
-  alone_from first others is none starts of =
-      only_first first (known others) v.seen (ap number_of is ∙ crew.token) none
+  alone_from first others zero_is none starts of =
+      only_first first (known others) v.seen zero_is none
       (all_before (IsOfToken (first ∷ known others)) v.seen starts.0 history starts.1 of)
 
   -- each entry is of the caller whose number its token has

@@ -8,7 +8,6 @@ ghost use Rattle.osc_live.specs.Closing.{Closes, known, views_of, made_by, Start
 ghost use Rattle.osc_lanes.specs.Shares.{ended};
 ghost use Rattle.osc_lanes.specs.Performs.{part_of, told_of};
 ghost use Rattle.osc_lanes.specs.Crews.{caller_in, told_in};
-ghost use Rattle.osc_record.specs.declared.limits.TheConstants.{MAX_CALLERS};
 
 use crate::part::{LanePart, LaneTold, nothing_told};
 use crate::plan::LaneEnd;
@@ -17,21 +16,16 @@ use osc_live::{Caller, Guest, Live, LiveOut};
 use osc_method::Method;
 use std::alloc::{AllocError, Global};
 
-/// The callers, with the first in the first place and those of the lanes behind the others, and what the lanes told.
-pub(crate) fn part_ends<M: Drop>(
+/// The callers of the lanes, and what the lanes told.
+pub fn split_ends<M: Drop>(
     alloc: Global,
-    first: Caller,
-    others: Vec<Caller>,
     ends: Vec<LaneEnd<M>>,
 ) -> Result<(Vec<Caller>, Vec<LaneTold<M>>), AllocError>
-    requires few { length ends.items ≤ MAX_CALLERS }
-    ensures callers { IfOk result
-        (λ both. both.0.items ≡ first ∷ (others.items ++ map caller_in ends.items)) }
+    ensures callers { IfOk result (λ both. both.0.items ≡ map caller_in ends.items) }
     ensures told { IfOk result (λ both. both.1.items ≡ map told_in ends.items) }
 {
-    let mut callers = others;
+    let mut callers = Vec::with_capacity(alloc, ends.len())?;
     let mut lanes = Vec::with_capacity(alloc, ends.len())?;
-    callers.insert(0, first)?;
     for end in ends {
         let LaneEnd { caller, told, .. } = end;
         callers.push(caller)?;
@@ -40,8 +34,26 @@ pub(crate) fn part_ends<M: Drop>(
     Ok((callers, lanes))
 }
 
+/// The callers, with the first in the first place and those of the lanes behind the others, and what the lanes told.
+pub(crate) fn part_ends<M: Drop>(
+    alloc: Global,
+    first: Caller,
+    others: Vec<Caller>,
+    ends: Vec<LaneEnd<M>>,
+) -> Result<(Vec<Caller>, Vec<LaneTold<M>>), AllocError>
+    ensures callers { IfOk result
+        (λ both. both.0.items ≡ first ∷ (others.items ++ map caller_in ends.items)) }
+    ensures told { IfOk result (λ both. both.1.items ≡ map told_in ends.items) }
+{
+    let (mut lane_callers, lanes) = split_ends(alloc, ends)?;
+    let mut callers = others;
+    callers.insert(0, first)?;
+    callers.append(&mut lane_callers)?;
+    Ok((callers, lanes))
+}
+
 /// What a lane tells that wasn't started, of each part.
-pub(crate) fn none_played<M: Drop>(
+pub fn none_played<M: Drop>(
     alloc: Global,
     parts: Vec<LanePart<M>>,
 ) -> Result<Vec<LaneTold<M>>, AllocError>

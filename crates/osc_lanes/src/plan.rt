@@ -25,7 +25,7 @@ pub struct LaneEnd<M> {
 }
 
 /// A plan for each part, each with the caller in its place.
-pub(crate) fn make_plans<M: Drop>(
+pub fn make_plans<M: Drop>(
     alloc: Global,
     callers: Vec<Caller>,
     parts: Vec<LanePart<M>>,

@@ -43,7 +43,8 @@ use Rattle.osc_lanes.proofs.Balance.{StaysSound, gone_ids}
 use Rattle.osc_lanes.proofs.Enrolling.{own_before}
 use Rattle.osc_lanes.proofs.Finishing.{OpensSound, StandsOn, all_carried, stands_on, stands_alone, none_seen}
 use Rattle.osc_links.proofs.Hosts.{names_served, served_from, gone_beside, gone_alone, removed_of}
-use Rattle.osc_links.proofs.Settling.{all_behind, done_settles, all_seen}
+use Rattle.osc_lanes.proofs.Behind.{all_behind}
+use Rattle.osc_links.proofs.Settling.{done_settles, all_seen}
 use Rattle.osc_lanes.proofs.Sharing.{closed_with}
 use Rattle.osc_lanes.proofs.Staying.{StaySilent}
 

@@ -13,7 +13,7 @@ use Rattle.osc_live.specs.Seen.{past_of, IsTokenOf}
 use Rattle.osc_lanes.specs.Performs.{part_of}
 use Rattle.osc_lanes.specs.Later.{PerformsLater}
 use Rattle.osc_lanes.proofs.Finishing.{never_both}
-use Rattle.osc_lanes.proofs.Later.{finish_unenrolled}
+use Rattle.osc_lanes.proofs.Later.{finish_unenrolled, same_view}
 use Rattle.osc_live.proofs.Closings.{inserted_first}
 use Rattle.osc_lanes.proofs.run.play_none.Goals as goal
 use Rattle.osc_lanes.proofs.run.play_none.Goals.{In_ok-closed}
@@ -30,15 +30,18 @@ finished : (g : _) (c : In_ok-closed g)
     c.in_ok-closed.closed.bytes.items
     c.in_ok-closed.closed.kept.items (map (λ part. ended part.boxes None) (map part_of c.args.parts.items)) (Some room)
 finished g c =
+    let v = view c.args.crew.first.pass in
+    let done =
     finish_unenrolled g.M.Method.keep g.M.Method.heard c.args.live.caps (past_of c.args.live.turn) c.a_server_stays_sound.ensures.step
     c.a_server_stays_sound.ensures.opening
     c.in_ok-closed.closed.bytes.items c.in_ok-closed.closed.kept.items c.args.crew.first (view c.args.crew.first.pass) c.args.others.items
-    c.args.crew.callers.items refl c.requires.number c.requires.old
+    c.args.crew.callers.items (same_view v v refl) c.requires.number c.requires.old
     c.requires.crew c.args.why c.requires.refused c.push.new.self.items (map part_of c.args.parts.items)
     (omega (arith, length-map c.args.parts.items part_of, c.requires.fewer))
     (subst (λ (l : List Caller). Closes c.args.live.caps (past_of c.args.live.turn) (known l) (views_of l c.push.new.self.items) c.in_ok-closed.closed.bytes.items
     (told g.M.Method.keep g.M.Method.heard c.in_ok-closed.closed.kept.items)) (handed c.args.crew.first c.args.others.items c.args.crew.callers.items c.insert.new.self.items c.append.new.self.items c.in_ok-append.ensures.items
-    c.in_ok-insert.ensures.items) c.in_ok-closed.ensures)
+    c.in_ok-insert.ensures.items) c.in_ok-closed.ensures) in
+    (done.0, done.1, done.2)
 
 pub close_later-requires-clause-callers_ours : goal.close_later-requires-clause-callers_ours
 close_later-requires-clause-callers_ours g c =
