@@ -111,8 +111,8 @@ module _ {M : Type 0} where
   AccountsReading keep tells PlayScore status input bank heard left =
       AccountsScore keep tells status input bank heard left
 
-  -- The end of a command, and what becomes of the boxes. But for a source that failed (4), there are
-  -- bytes that a command read, those that the source had left where it tells that.
+  -- The end of a command, and what becomes of the boxes. But for a source that failed (4), there
+  -- are bytes that a command read, those that the source had left where it tells that.
   abbrev pub EndsPlain : (M → ℕ) → (M → Option (List ℕ)) → PlainCommand → ℕ → Option (List ℕ)
       → List M → SinkChange → List (ℕ × M) → List M → Type 0
   EndsPlain keep tells (Read reading) status input bank out heard left =
