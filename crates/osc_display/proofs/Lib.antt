@@ -1,0 +1,4 @@
+mod Listed
+mod Finished
+mod Heard
+mod Same
