@@ -1,10 +1,12 @@
-//! Tests of the lanes and links, over their public calls.
+//! Tests of the lanes, displays and links, over their public calls.
 #![tactic(auto)]
 
 #[cfg(test)]
 mod callers;
 #[cfg(test)]
 mod hold;
+#[cfg(test)]
+mod listed;
 #[cfg(test)]
 mod parts;
 #[cfg(test)]
