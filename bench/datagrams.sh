@@ -1,14 +1,14 @@
 #!/bin/sh
-# Sends datagrams over loopback to `oscd serve` and to a liblo server, one after another, and prints the table of README.md;
-# with --tcp it sends packets over one connection of TCP, each after its size.
+# Sends datagrams over loopback to `oscd serve`, to a liblo server and to a loop that only receives, one after another, and
+# prints the table of README.md; with --tcp it sends packets over one connection of TCP, each after its size, to the first two.
 #
 #     bench/datagrams.sh [--tcp] [RATES [SECONDS [PORT]]]        as bench/datagrams.sh "10000 50000" 5 9000
 #
 # It needs cc, liblo-dev and time, and what bin/oscd and bin/osc need, and at least three processors that are idle.
 set -eu
-over=udp flag=
+over=udp flag= names="bare liblo osc"
 if [ "${1:-}" = --tcp ]; then
-    over=tcp flag="--tcp --units 65536 --blocks 65536" # what a connection held back comes at once
+    names="liblo osc" over=tcp flag="--tcp --units 65536 --blocks 65536" # what a connection held back comes at once
     shift
 fi
 rates=${1:-10000 50000 100000}
@@ -21,6 +21,7 @@ trap 'rm -rf "$work"' EXIT
 
 cc -O2 "$here/send_datagrams.c" -o "$work/send_datagrams"
 cc -O2 "$here/lo_server.c" -o "$work/lo_server" -llo
+cc -O2 "$here/bare_server.c" -o "$work/bare_server"
 "$top/bin/osc" run < /dev/null > /dev/null # builds it
 "$top/bin/oscd" lanes /dev/null < /dev/null > /dev/null
 osc="$top/crates/osc/out/osc"
@@ -38,6 +39,7 @@ await_port() {
 # to $work/time.
 serve() { # NAME COUNT
     case $1 in
+    bare) /usr/bin/time -f '%U %S' -o "$work/time" "$work/bare_server" "$port" "$2" > "$work/out" ;;
     liblo) /usr/bin/time -f '%U %S' -o "$work/time" "$work/lo_server" "$over" "$port" "$2" > "$work/out" ;;
     osc) /usr/bin/time -f '%U %S' -o "$work/time" "$oscd" serve $flag --port "$port" --count "$2" --idle 40 \
         --recording 1073741824 "$work/recording" < "$work/adds" > "$work/out" ;;
@@ -46,14 +48,14 @@ serve() { # NAME COUNT
 
 calls() { # NAME
     case $1 in
-    liblo) cat "$work/out" ;;
+    bare | liblo) cat "$work/out" ;;
     osc) grep -c '^call ' "$work/out" ;;
     esac
 }
 
 # The packets that had no place among the units or the blocks.
 refusals() { # NAME
-    [ "$1" = liblo ] && echo 0 && return
+    [ "$1" != osc ] && echo 0 && return
     grep -c '^submit [0-9]* [a-z]*-full ' "$work/out" || true
 }
 
@@ -64,7 +66,7 @@ processor_time() {
 
 # The microseconds that printing the history from the recording takes, which oscd does at its end.
 printing() { # NAME
-    [ "$1" = liblo ] && echo 0 && return
+    [ "$1" != osc ] && echo 0 && return
     /usr/bin/time -f '%U %S' -o "$work/time" "$osc" replay < "$work/recording" > "$work/out"
     processor_time
 }
@@ -76,7 +78,7 @@ echo "| a second | program | sent | called | refused | milliseconds | microsecon
 echo "|---|---|---|---|---|---|---|---|"
 for rate in $rates; do
     count=$((rate * seconds))
-    for name in liblo osc; do
+    for name in $names; do
         called= refused= sending= least= whole=
         for try in 1 2 3; do
             serve "$name" "$count" &
