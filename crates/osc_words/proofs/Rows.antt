@@ -1,5 +1,5 @@
 -- What some lines of words say.
-use Rattle.std.proofs.Common.{◌≡◌, refl, [], ◌∷◌, Some, None, codes}
+use Rattle.std.proofs.Common.{◌≡◌, refl, true, false, [], ◌∷◌, Some, None, codes}
 use Rattle.clap.proofs.OnLiterals.{clap_on_literals}
 use Rattle.osc_model.specs.declared.late.Late.TheVariants.{Deliver, Discard}
 use Rattle.osc_words.specs.Commands.{command_of, to_read}
@@ -96,7 +96,7 @@ seed_too_large : command_of (codes "gen" ∷ codes "--seed" ∷ codes "184467440
 unfolding clap_on_literals command_of found_by
 seed_too_large = refl
 
-lanes : command_of (codes "lanes" ∷ codes "--recording" ∷ codes "60" ∷ codes "out.rec" ∷ []) ≡ Some (Live (Lanes (record defaults { recording = 60 })))
+lanes : command_of (codes "lanes" ∷ codes "--recording" ∷ codes "60" ∷ codes "out.rec" ∷ []) ≡ Some (Live (Lanes (record defaults { recording = 60 }) false))
 unfolding clap_on_literals command_of found_by
 lanes = refl
 
@@ -112,9 +112,38 @@ two_files : command_of (codes "lanes" ∷ codes "a" ∷ codes "b" ∷ []) ≡ No
 unfolding clap_on_literals command_of found_by
 two_files = refl
 
-hyphen_file : command_of (codes "lanes" ∷ codes "--" ∷ codes "--units" ∷ []) ≡ Some (Live (Lanes defaults))
+hyphen_file : command_of (codes "lanes" ∷ codes "--" ∷ codes "--units" ∷ []) ≡ Some (Live (Lanes defaults false))
 unfolding clap_on_literals command_of found_by
 hyphen_file = refl
+
+watched : command_of (codes "lanes" ∷ codes "--watch" ∷ codes "out.rec" ∷ []) ≡ Some (Live (Lanes defaults true))
+unfolding clap_on_literals command_of found_by
+watched = refl
+
+watched_last : command_of (codes "lanes" ∷ codes "--units=7" ∷ codes "--watch" ∷ codes "out.rec" ∷ [])
+    ≡ Some (Live (Lanes (record defaults { units = 7 }) true))
+unfolding clap_on_literals command_of found_by
+watched_last = refl
+
+unwatched : command_of (codes "lanes" ∷ codes "out.rec" ∷ []) ≡ Some (Live (Lanes defaults false))
+unfolding clap_on_literals command_of found_by
+unwatched = refl
+
+watched_twice : command_of (codes "lanes" ∷ codes "--watch" ∷ codes "--watch" ∷ codes "out.rec" ∷ []) ≡ None
+unfolding clap_on_literals command_of found_by
+watched_twice = refl
+
+watched_by_value : command_of (codes "lanes" ∷ codes "--watch=yes" ∷ codes "out.rec" ∷ []) ≡ None
+unfolding clap_on_literals command_of found_by
+watched_by_value = refl
+
+watched_file : command_of (codes "lanes" ∷ codes "--" ∷ codes "--watch" ∷ []) ≡ Some (Live (Lanes defaults false))
+unfolding clap_on_literals command_of found_by
+watched_file = refl
+
+watched_links : command_of (codes "serve" ∷ codes "--watch" ∷ codes "out.rec" ∷ []) ≡ None
+unfolding clap_on_literals command_of found_by
+watched_links = refl
 
 serve : command_of (codes "serve" ∷ codes "--port" ∷ codes "65528" ∷ codes "--links" ∷ codes "8" ∷ codes "--count" ∷ codes "3" ∷ codes "out.rec" ∷ [])
     ≡ Some (Live (Serve Udp 65528 8 3 1000000 defaults))

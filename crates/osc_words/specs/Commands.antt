@@ -11,7 +11,7 @@ use Rattle.osc_words.specs.Options.{flag_name, late_name, row_of}
 use Rattle.osc_words.specs.Reading.{found_by}
 use Rattle.osc_words.specs.Verbs as verbs
 use Rattle.osc_words.specs.declared.options.Flag.{Flag}
-use Rattle.osc_words.specs.declared.options.Flag.TheVariants.{Bytes, Tcp, Play}
+use Rattle.osc_words.specs.declared.options.Flag.TheVariants.{Bytes, Tcp, Play, Watch}
 use Rattle.osc_words.specs.declared.options.Quantity.{Quantity}
 use Rattle.osc_words.specs.declared.options.Quantity.TheVariants.{Units, Blocks, Methods, Nodes}
 use Rattle.osc_words.specs.declared.options.Quantity.TheVariants.{Recording, Seed, Lines, Port}
@@ -122,7 +122,7 @@ said_by verb.Dump rows = Some (to_read Dump)
 said_by verb.Upgrade rows = Some (to_read Upgrade)
 said_by verb.Score rows = Some (to_read (score_of rows))
 said_by verb.Gen rows = gen_of rows
-said_by verb.Lanes rows = option_map (λ caps. Live (Lanes caps)) (caps_of rows)
+said_by verb.Lanes rows = option_map (λ caps. Live (Lanes caps (is_given Watch rows))) (caps_of rows)
 said_by verb.Serve rows = serve_of rows
 said_by verb.Resume rows = resume_of rows
 
@@ -190,7 +190,7 @@ abbrev pub resume_command_of : List (List ℕ) → Option ResumeCommand
 resume_command_of words = option_and_then resume_in (command_of words)
 
 abbrev pub is_over_tcp : LiveCommand → Bool
-is_over_tcp (Lanes caps) = false
+is_over_tcp (Lanes caps watch) = false
 is_over_tcp (Serve transport.Udp port links count idle caps) = false
 is_over_tcp (Serve transport.Tcp port links count idle caps) = true
 

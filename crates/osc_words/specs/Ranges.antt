@@ -47,7 +47,7 @@ IsLawfulPlain (Read reading) = IsLawfulReading reading
 IsLawfulPlain (Gen seed lines) = IsInRange Lines lines
 
 abbrev pub IsLawfulLive : LiveCommand → Type 0
-IsLawfulLive (Lanes caps) = AreInRange caps
+IsLawfulLive (Lanes caps watch) = AreInRange caps
 IsLawfulLive (Serve transport port links count idle caps) = IsServable port links count idle caps
 
 abbrev pub IsLawfulResume : ResumeCommand → Type 0

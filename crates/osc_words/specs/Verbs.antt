@@ -1,7 +1,7 @@
 -- The first word, and what each command has behind it.
 use Rattle.std.specs.Prelude.{ℕ, if◌then◌else◌, List, [], ◌∷◌, ◌++◌, map, Option, Some, None, codes}
 use Rattle.std.specs.Str.{bytes_eq}
-use Rattle.osc_words.specs.declared.options.Flag.TheVariants.{Bytes, Tcp, Play}
+use Rattle.osc_words.specs.declared.options.Flag.TheVariants.{Bytes, Tcp, Play, Watch}
 use Rattle.osc_words.specs.declared.options.Quantity.TheVariants.{Units, Blocks, Methods, Nodes}
 use Rattle.osc_words.specs.declared.options.Quantity.TheVariants.{Recording, Seed, Lines, Port}
 use Rattle.osc_words.specs.declared.options.Quantity.TheVariants.{Links, Count, Idle}
@@ -36,7 +36,7 @@ options_of Dump = []
 options_of Upgrade = []
 options_of Score = Flag Play ∷ []
 options_of Gen = Number Seed ∷ Number Lines ∷ []
-options_of Lanes = caps ++ File ∷ []
+options_of Lanes = Flag Watch ∷ caps ++ File ∷ []
 options_of Serve =
     Flag Tcp ∷ map Number (Port ∷ Links ∷ Count ∷ Idle ∷ []) ++ caps ++ File ∷ []
 options_of Resume = Number Recording ∷ Old ∷ File ∷ []

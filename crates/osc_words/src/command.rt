@@ -82,9 +82,10 @@ pub enum Transport {
 /// A command of `oscd`.
 #[derive(Clone, Copy, Debug, PartialEq, Eq)]
 pub enum LiveCommand {
-    /// To play the lanes of a script.
+    /// To play the lanes of a script, and with `watch` to have a list of the methods read meanwhile.
     Lanes {
         caps: Capacities,
+        watch: bool,
     },
     /// To serve so many links, whose ports ascend by one from the first, each up to `count` packets or `idle` quiets in
     /// a row.

@@ -12,6 +12,7 @@ pub(crate) enum Flag {
     Bytes,
     Tcp,
     Play,
+    Watch,
 }
 
 /// An option that takes a number.
@@ -58,6 +59,7 @@ impl Flag {
             Flag::Bytes => "bytes",
             Flag::Tcp => "tcp",
             Flag::Play => "play",
+            Flag::Watch => "watch",
         }
     }
 }

@@ -136,6 +136,7 @@ fn command_from(verb: Verb, found: &ArgMatches<'_>) -> Option<Command>
         Verb::Gen => gen_in(found),
         Verb::Lanes => Some(Command::Live(LiveCommand::Lanes {
             caps: caps_in(found)?,
+            watch: flag(found, Flag::Watch),
         })),
         Verb::Serve => serve_in(found),
         Verb::Resume => resume_in(found),

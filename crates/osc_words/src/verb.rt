@@ -35,7 +35,8 @@ static GEN: [Parameter; 2] = [
     Parameter::Number(Quantity::Lines),
 ];
 
-static LANES: [Parameter; 7] = [
+static LANES: [Parameter; 8] = [
+    Parameter::Flag(Flag::Watch),
     Parameter::Number(Quantity::Units),
     Parameter::Number(Quantity::Blocks),
     Parameter::Number(Quantity::Methods),
