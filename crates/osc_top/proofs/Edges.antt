@@ -241,15 +241,15 @@ module _ {M L : Type 0} (keep : M → ℕ) (heard : M → Option (List ℕ)) (le
         (hosts_clock_risen left faults keep heard limits bounds (adds_part lines bank) links clock plays.hosted plays.hosts)))
 
   pub live_still : (command : LiveCommand) (script : List ℕ) → EndsSo command script
-      → ((caps : Capacities) → command ≡ live.Lanes caps → AreStill) → status ≡ 0 → AreStill
-  live_still (live.Lanes caps) script ends lanes zero_is = lanes caps refl
+      → ((caps : Capacities) (watch : Bool) → command ≡ live.Lanes caps watch → AreStill) → status ≡ 0 → AreStill
+  live_still (live.Lanes caps watch) script ends lanes zero_is = lanes caps watch refl
   live_still (live.Serve transport port ports count idle caps) script ends lanes zero_is =
       let all = written_by (live.Serve transport port ports count idle caps) script ends (inl zero_is) in
       played_still (live_limits caps) (record { count = count; idle = idle }) all.0 all.1 all.2 all.3 all.5 (sym all.4 ∙ zero_is)
 
   pub live_edge : (command : LiveCommand) (script : List ℕ) → EndsSo command script → status ≡ 7 → TellsEdge faults links links_after clock out
-  live_edge (live.Lanes caps) script ends seven =
-      let all = written_by (live.Lanes caps) script ends (inr (inr seven)) in
+  live_edge (live.Lanes caps watch) script ends seven =
+      let all = written_by (live.Lanes caps watch) script ends (inr (inr seven)) in
       absurd (not_failed status all.3 (option_or all.5.unenrolled (first_stop all.5.accounts)) all.4 all.5.outcome_is seven)
   live_edge (live.Serve transport port ports count idle caps) script ends seven =
       let all = written_by (live.Serve transport port ports count idle caps) script ends (inr (inr seven)) in
@@ -264,8 +264,8 @@ module _ {M L : Type 0} (keep : M → ℕ) (heard : M → Option (List ℕ)) (le
       }
 
   pub live_history : (command : LiveCommand) (script : List ℕ) → EndsSo command script → IsWritten status → HasOneHistory rec out
-  live_history (live.Lanes caps) script ends written =
-      let all = written_by (live.Lanes caps) script ends written in
+  live_history (live.Lanes caps watch) script ends written =
+      let all = written_by (live.Lanes caps watch) script ends written in
       let performs = all.5.performs in (
         live_limits caps,
         history_in (texts performs.history),

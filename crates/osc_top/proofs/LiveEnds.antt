@@ -244,7 +244,7 @@ written_or_short mode plays script have rec out status ends lawful out_sound rec
       absurd (not_short (script_of mode script) have (λ lines. GainsUnless out (bank_short_text (count_adds lines) have)) lawful (ends.bank_short eight))
 
 pub may_end_short : (status : ℕ) (command : LiveCommand) → status ≡ 3 → MayEnd command status
-may_end_short status (live.Lanes caps) three = inr (inl three)
+may_end_short status (live.Lanes caps watch) three = inr (inl three)
 may_end_short status (live.Serve transport port ports count idle caps) three = inr (inl three)
 
 -- lanes have no link and no clock that fails
@@ -263,9 +263,9 @@ module _ {M L : Type 0} (keep : M → ℕ) (heard : M → Option (List ℕ)) (le
 
   pub live_complete : (command : LiveCommand) (script : List ℕ) → EndsSo command script → IsOkAnd (script_of (mode_of command) script) AreBoxes
       → (Fails out → ⊥) → (Fails rec → ⊥) → MayEnd command status
-  live_complete (live.Lanes caps) script ends lawful out_sound rec_sound =
-      go (written_or_short Lanes (plays_of keep heard left faults (live.Lanes caps) bank added rest links links_after clock) script (length bank) rec out status
-      ends lawful out_sound rec_sound) where
+  live_complete (live.Lanes caps watch) script ends lawful out_sound rec_sound =
+      go (written_or_short Lanes (plays_of keep heard left faults (live.Lanes caps watch) bank added rest links links_after clock) script (length bank) rec out
+      status ends lawful out_sound rec_sound) where
         none_failed : (read : Result (List Line) ScriptFault)
             → IsOkAnd read (λ lines. (count_adds lines ≤ length bank) × (recording : List ℕ) × (text : List ℕ) × (outcome : Outcome)
             × (status ≡ status_of outcome) × PlaysLanes keep heard (live_limits caps) bank added rest lines recording text outcome
@@ -289,7 +289,7 @@ module _ {M L : Type 0} (keep : M → ℕ) (heard : M → Option (List ℕ)) (le
         go (inr three) = inr (inl three)
 
   -- where nothing stops that has room enough, it isn't full then
-  module _ (caps : Capacities) (never : (lines : List Line) (recording text : List ℕ) (outcome : Outcome)
+  module _ (caps : Capacities) (watch : Bool) (never : (lines : List Line) (recording text : List ℕ) (outcome : Outcome)
       → PlaysLanes keep heard (live_limits caps) bank added rest lines recording text outcome → enough_lanes lines ≤ caps.recording → outcome ≡ Done) where
     -- there are boxes and room enough
     abbrev AreEnough : List Line → Type 0
@@ -304,12 +304,12 @@ module _ {M L : Type 0} (keep : M → ℕ) (heard : M → Option (List ℕ)) (le
         absurd (omega (arith, all.4, ap status_of none, six))
     not_full (Err fault) enough all six = absurd all
 
-    pub live_enough : (command : LiveCommand) → command ≡ live.Lanes caps → (script : List ℕ) → EndsSo command script
+    pub live_enough : (command : LiveCommand) → command ≡ live.Lanes caps watch → (script : List ℕ) → EndsSo command script
         → IsOkAnd (script_of Lanes script) AreEnough → (Fails out → ⊥) → (Fails rec → ⊥) → (status ≡ 0) ⊎ (status ≡ 3)
     live_enough command lanes script so enough out_sound rec_sound =
-        go (live_complete (live.Lanes caps) script ends
+        go (live_complete (live.Lanes caps watch) script ends
         (ok_weaker (script_of Lanes script) AreEnough AreBoxes (λ lines both. both.0) enough) out_sound rec_sound) where
-          ends : EndsSo (live.Lanes caps) script
+          ends : EndsSo (live.Lanes caps watch) script
           ends = subst (λ (c : LiveCommand). EndsSo c script) lanes so
 
           go : (status ≡ 0) ⊎ (status ≡ 3) ⊎ (status ≡ 6) → (status ≡ 0) ⊎ (status ≡ 3)
@@ -335,11 +335,11 @@ module _ {M L : Type 0} (keep : M → ℕ) (heard : M → Option (List ℕ)) (le
   PlaysSo = plays_of keep heard left faults command bank added rest links links_after clock
 
   -- lanes
-  pub lanes_end : (caps : Capacities) → command ≡ live.Lanes caps → limits ≡ live_limits caps
+  pub lanes_end : (caps : Capacities) (watch : Bool) → command ≡ live.Lanes caps watch → limits ≡ live_limits caps
       → (staged : IsStaged (PlaysLanes keep heard limits bank played kept lines) limits recording said outcome)
       → EndsBoth (status_of outcome) status recording (recorded_text limits staged.history said outcome) rec out
       → EndsCommand keep heard left faults command status script bank added rest links links_after clock rec out
-  lanes_end caps lanes limits_so staged both =
+  lanes_end caps watch lanes limits_so staged both =
       ends_played (mode_of command) PlaysSo script (length bank) rec out lines is limits recording said outcome status
       (staged_so (PlaysLanes keep heard limits bank played kept lines) (PlaysSo lines) limits recording said outcome
       (λ text plays.

@@ -22,12 +22,12 @@ last_of (word ∷ next ∷ words) = last_of (next ∷ words)
 
 -- the mode of the script that a command of many threads reads
 abbrev pub mode_of : LiveCommand → Mode
-mode_of (live.Lanes caps) = Lanes
+mode_of (live.Lanes caps watch) = Lanes
 mode_of (live.Serve transport port links count idle caps) = Serve
 
 -- the capacities of the server on which a command of many threads plays
 abbrev pub capacities_of : LiveCommand → Capacities
-capacities_of (live.Lanes caps) = caps
+capacities_of (live.Lanes caps watch) = caps
 capacities_of (live.Serve transport port links count idle caps) = caps
 
 -- the limits of a server of lanes
@@ -36,7 +36,7 @@ live_limits caps = limits_for LIVE_CALLERS caps
 
 -- the ports of a `serve`, one for each link, ascending by one
 abbrev pub ports_in : LiveCommand → List ℕ
-ports_in (live.Lanes caps) = []
+ports_in (live.Lanes caps watch) = []
 ports_in (live.Serve transport port links count idle caps) =
     map (λ link. port + link) (range_with_len 0 links)
 

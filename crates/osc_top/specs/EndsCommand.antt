@@ -1,5 +1,5 @@
 -- How each command of many threads ends.
-use Rattle.std.specs.Prelude.{◌≡◌, ◌⊎◌, ℕ, List, length, Option}
+use Rattle.std.specs.Prelude.{◌≡◌, ◌⊎◌, ℕ, Bool, List, length, Option}
 use Rattle.osc_links.specs.Links.{LinkTurn}
 use Rattle.osc_links.specs.Ticks.{ClockRead}
 use Rattle.osc_script.specs.declared.line.Line.{Line}
@@ -21,8 +21,8 @@ use Rattle.osc_ends.specs.Sinks.{SinkChange}
 abbrev pub plays_of : {M L : Type 0} → (M → ℕ) → (M → Option (List ℕ))
     → (L → Option (List LinkTurn)) → (L → ℕ) → LiveCommand → List M → List (ℕ × M) → List M
     → List L → List L → ClockRead → List Line → List ℕ → List ℕ → Outcome → Type 0
-plays_of keep heard left faults (live.Lanes caps) bank boxes_heard boxes_left links links_after
-    clock lines recording text outcome =
+plays_of keep heard left faults (live.Lanes caps watch) bank boxes_heard boxes_left links
+    links_after clock lines recording text outcome =
     PlaysLanes keep heard (live_limits caps) bank boxes_heard boxes_left lines recording text
     outcome
 plays_of keep heard left faults (live.Serve transport port ports count idle caps) bank
@@ -42,7 +42,7 @@ EndsCommand keep heard left faults command status script bank boxes_heard boxes_
 
 -- how a command may end that has enough boxes, and whose input and sinks don't fail
 abbrev pub MayEnd : LiveCommand → ℕ → Type 0
-MayEnd (live.Lanes caps) status =
+MayEnd (live.Lanes caps watch) status =
     (status ≡ DONE) ⊎ (status ≡ NO_MEMORY) ⊎ (status ≡ RECORDING_FULL)
 MayEnd (live.Serve transport port links count idle caps) status =
     (status ≡ DONE) ⊎ (status ≡ NO_MEMORY) ⊎ (status ≡ RECORDING_FULL)
@@ -54,5 +54,5 @@ pub record LeavesAlone {L C R : Type 0} (command : LiveCommand) (status : ℕ)
     (links links_after : List L) (clock clock_after : C) (rec rec_after : R) : Type 0 where
   pub unrecorded : IsUnplayed status → rec_after ≡ rec
   pub unserved : IsUnplayed status → (links_after ≡ links) × (clock_after ≡ clock)
-  pub lanes_serve_none : (caps : Capacities) → command ≡ live.Lanes caps
+  pub lanes_serve_none : (caps : Capacities) (watch : Bool) → command ≡ live.Lanes caps watch
       → (links_after ≡ links) × (clock_after ≡ clock)

@@ -17,6 +17,7 @@ ghost use Rattle.std.specs.Prelude.{
   ◌≤◌,
   ◌<◌,
   ℕ,
+  Bool,
   IsTrue,
   IsOkAnd,
   IsErrAnd,
@@ -162,8 +163,8 @@ pub fn live_top<
     ensures unrecorded { IsUnplayed result.0.status → rec.new ≡ rec.old }
     ensures unserved { IsUnplayed result.0.status
         → (result.1.items ≡ links.items) × (clock.new ≡ clock.old) }
-    ensures lanes_serve_none { (caps : Capacities)
-        → said.live_command_of (map string_bytes words.now) ≡ Some (live.Lanes caps)
+    ensures lanes_serve_none { (caps : Capacities) (watch : Bool)
+        → said.live_command_of (map string_bytes words.now) ≡ Some (live.Lanes caps watch)
         → (result.1.items ≡ links.items) × (clock.new ≡ clock.old) }
 
     // Done means that nothing failed and that the input was read to its end.
@@ -192,8 +193,8 @@ pub fn live_top<
         → MayEnd command result.0.status)) }
 
     // No lane stops where the recording may have as many bytes as `enough_lanes` says.
-    ensures enough { (caps : Capacities)
-        → said.live_command_of (map string_bytes words.now) ≡ Some (live.Lanes caps)
+    ensures enough { (caps : Capacities) (watch : Bool)
+        → said.live_command_of (map string_bytes words.now) ≡ Some (live.Lanes caps watch)
         → IfSome (S.left input.old) (λ script. IsOkAnd (script_of Lanes script)
         (λ lines. (count_adds lines ≤ length bank.items) × (enough_lanes lines ≤ caps.recording))
         → ¬ Rose (S.faults input.old) (S.faults input.new)
@@ -280,7 +281,7 @@ fn play_lines<
         return (unplayed(alloc, status, bank), links);
     }
     match command {
-        LiveCommand::Lanes { caps } => {
+        LiveCommand::Lanes { caps, .. } => {
             match stage(rt, alloc, live_limits(caps), lines, bank, gate) {
                 Ok(played) => (end(alloc, played, out, rec), links),
                 Err(_) => (unplayed(alloc, NO_MEMORY, Vec::new(alloc)), links),

@@ -37,7 +37,7 @@ pub returns-in-Ok-clause-still : goal.returns-in-Ok-clause-still
 returns-in-Ok-clause-still g c =
     let script = in_mode _ _ (g.S.Source.left c.args.input.now) c.in-Ok.lines.items c.mode_of.ensures c.in-Ok.ensures.lines in
     live_still _ _ _ _ _ _ _ _ _ _ _ _ _ c.in-Ok-Some.command script.0 (c.play_lines.ensures.ends script.0 script.2)
-    (λ caps lanes. let same = c.play_lines.ensures.alone.lanes_serve_none caps lanes in
+    (λ caps watch lanes. let same = c.play_lines.ensures.alone.lanes_serve_none caps watch lanes in
     (ap (map g.L.Link.faults) same.0, ap g.C.Clock.faults same.1))
 
 pub returns-in-Ok-clause-sink : goal.returns-in-Ok-clause-sink
@@ -66,14 +66,14 @@ returns-in-Ok-clause-complete g c =
     (in_mode _ _ (g.S.Source.left c.args.input.now) c.in-Ok.lines.items c.mode_of.ensures c.in-Ok.ensures.lines)))
 
 pub returns-in-Ok-clause-enough : goal.returns-in-Ok-clause-enough
-returns-in-Ok-clause-enough g c = λ caps is.
+returns-in-Ok-clause-enough g c = λ caps watch is.
     let same : c.read_script.new.out ≡ c.args.out.now = c.in-Ok.ensures.unwritten (inl refl) in
     let said : Some c.in-Ok-Some.command ≡ said.live_command_of (map string_bytes c.args.words.now) = search rules in
-    let both : Some c.in-Ok-Some.command ≡ Some (live.Lanes caps) = said ∙ is in
-    let lanes : c.in-Ok-Some.command ≡ live.Lanes caps = cc in
+    let both : Some c.in-Ok-Some.command ≡ Some (live.Lanes caps watch) = said ∙ is in
+    let lanes : c.in-Ok-Some.command ≡ live.Lanes caps watch = cc in
     rw (← same)
     (if_so _ _ _
-    (λ script read enough source out_sound rec_sound. live_enough _ _ _ _ _ c.args.bank.items _ _ _ _ _ _ _ caps
+    (λ script read enough source out_sound rec_sound. live_enough _ _ _ _ _ c.args.bank.items _ _ _ _ _ _ _ caps watch
     (λ lines recording text outcome plays room. c.enough_room_stops_no_lane.ensures (live_limits caps) lines c.args.bank.items _ _ recording text outcome
     plays room)
     c.in-Ok-Some.command lanes script (c.play_lines.ensures.ends script read) enough out_sound rec_sound)

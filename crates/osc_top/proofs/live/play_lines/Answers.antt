@@ -19,7 +19,7 @@ returns-in-Ok-clause-ends g c = λ script is.
     let enough : count_adds c.args.lines.items ≤ length c.args.bank.items = search rules in
     let staged = c.in-Ok.ensures in
     lanes_end _ _ _ _ c.args.command c.live_limits.result _ script _ _ _ _ _ _ _ _ _ _ c.args.lines.items _ _ _ is c.end.ensures.heard c.end.ensures.left
-    enough c.in-Lanes.caps c.in-Lanes.is c.live_limits.ensures staged (c.end.ensures.ends c.live_limits.result staged.history staged.recording_of)
+    enough c.in-Lanes.caps c.in-Lanes.watch c.in-Lanes.is c.live_limits.ensures staged (c.end.ensures.ends c.live_limits.result staged.history staged.recording_of)
 
 pub returns-in-Ok-stage_links-clause-ends : goal.returns-in-Ok-stage_links-clause-ends
 returns-in-Ok-stage_links-clause-ends g c = λ script is.
@@ -51,7 +51,7 @@ returns-in-Ok-clause-alone g c =
     record {
       unrecorded = λ unplayed. absurd (both_played _ _ _ _ _ _ both unplayed);
       unserved = λ unplayed. absurd (both_played _ _ _ _ _ _ both unplayed);
-      lanes_serve_none = λ caps lanes. (refl, refl);
+      lanes_serve_none = λ caps watch lanes. (refl, refl);
     }
 
 pub returns-in-Ok-stage_links-clause-back : goal.returns-in-Ok-stage_links-clause-back
@@ -76,8 +76,8 @@ returns-in-Ok-stage_links-clause-alone g c =
       unrecorded = λ unplayed. absurd (both_played _ _ _ _ _ _ both unplayed);
       unserved = λ unplayed. absurd (both_played _ _ _ _ _ _ both unplayed);
       lanes_serve_none =
-          λ caps lanes.
-          let clash : live.Serve c.in-Serve.transport c.in-Serve.port c.in-Serve.links c.in-Serve.count c.in-Serve.idle c.in-Serve.caps ≡ live.Lanes caps =
+          λ caps watch lanes.
+          let clash : live.Serve c.in-Serve.transport c.in-Serve.port c.in-Serve.links c.in-Serve.count c.in-Serve.idle c.in-Serve.caps ≡ live.Lanes caps watch =
           sym c.in-Serve.is ∙ lanes in
           absurd (cc);
     }
