@@ -38,6 +38,7 @@ use Rattle.osc_top.specs.Commands.{mode_of}
 use Rattle.osc_top.specs.Edges.{HasLinkRisen, HasRisen, TellsEdge}
 use Rattle.osc_top.specs.EndsCommand.{EndsCommand, plays_of}
 use Rattle.osc_top.specs.Lanes.{PlaysLanes, first_stop, lane_faults}
+use Rattle.osc_top.specs.Watched.{EndsListed, watched_text}
 use Rattle.osc_ends.specs.Ends.{IsWritten}
 use Rattle.osc_top.specs.Served.{served}
 use Rattle.osc_ends.specs.Outcomes.{stopped, status_of}
@@ -269,7 +270,7 @@ module _ {M L : Type 0} (keep : M → ℕ) (heard : M → Option (List ℕ)) (le
       let performs = all.5.performs in (
         live_limits caps,
         history_in (texts performs.history),
-        lane_faults all.5.accounts ++ last_text all.3,
+        lane_faults all.5.accounts ++ (watched_text watch (history_in (texts performs.history)) ++ last_text all.3),
         performs.stage.legal,
         performs.stage.laws,
         subst (Gains rec) performs.closed.recorded all.6.0,
@@ -286,3 +287,19 @@ module _ {M L : Type 0} (keep : M → ℕ) (heard : M → Option (List ℕ)) (le
         subst (Gains rec) (all.5.recorded ∙ hosts.closed.recorded) all.6.0,
         subst (Gains out) all.5.text_is all.7.0,
       )
+
+  -- lanes that are watched are listed
+  pub live_listed : (caps : Capacities) (command : LiveCommand) → command ≡ live.Lanes caps true → (script : List ℕ) → EndsSo command script
+      → IsWritten status → EndsListed status (live_limits caps) rec out
+  live_listed caps command lanes script ends written =
+      let all = written_by (live.Lanes caps true) script (subst (λ (c : LiveCommand). EndsSo c script) lanes ends) written in
+      let performs = all.5.performs in
+      record {
+        history = history_in (texts performs.history);
+        faults = lane_faults all.5.accounts;
+        outcome = all.3;
+        legal = performs.stage.legal;
+        status_is = all.4;
+        recorded = subst (Gains rec) performs.closed.recorded all.6.0;
+        told = subst (Gains out) all.5.text_is all.7.0;
+      }

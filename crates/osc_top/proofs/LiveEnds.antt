@@ -268,7 +268,7 @@ module _ {M L : Type 0} (keep : M → ℕ) (heard : M → Option (List ℕ)) (le
       status ends lawful out_sound rec_sound) where
         none_failed : (read : Result (List Line) ScriptFault)
             → IsOkAnd read (λ lines. (count_adds lines ≤ length bank) × (recording : List ℕ) × (text : List ℕ) × (outcome : Outcome)
-            × (status ≡ status_of outcome) × PlaysLanes keep heard (live_limits caps) bank added rest lines recording text outcome
+            × (status ≡ status_of outcome) × PlaysLanes keep heard (live_limits caps) watch bank added rest lines recording text outcome
             × GainsAll rec recording × GainsAll out text) → status ≡ 7 → ⊥
         none_failed (Ok lines) all seven = not_failed status all.3 (option_or all.5.unenrolled (first_stop all.5.accounts)) all.4 all.5.outcome_is seven
         none_failed (Err fault) all seven = absurd all
@@ -290,14 +290,14 @@ module _ {M L : Type 0} (keep : M → ℕ) (heard : M → Option (List ℕ)) (le
 
   -- where nothing stops that has room enough, it isn't full then
   module _ (caps : Capacities) (watch : Bool) (never : (lines : List Line) (recording text : List ℕ) (outcome : Outcome)
-      → PlaysLanes keep heard (live_limits caps) bank added rest lines recording text outcome → enough_lanes lines ≤ caps.recording → outcome ≡ Done) where
+      → PlaysLanes keep heard (live_limits caps) watch bank added rest lines recording text outcome → enough_lanes lines ≤ caps.recording → outcome ≡ Done) where
     -- there are boxes and room enough
     abbrev AreEnough : List Line → Type 0
     AreEnough lines = (count_adds lines ≤ length bank) × (enough_lanes lines ≤ caps.recording)
 
     not_full : (read : Result (List Line) ScriptFault) → IsOkAnd read AreEnough
         → IsOkAnd read (λ lines. (count_adds lines ≤ length bank) × (recording : List ℕ) × (text : List ℕ) × (outcome : Outcome)
-        × (status ≡ status_of outcome) × PlaysLanes keep heard (live_limits caps) bank added rest lines recording text outcome
+        × (status ≡ status_of outcome) × PlaysLanes keep heard (live_limits caps) watch bank added rest lines recording text outcome
         × GainsAll rec recording × GainsAll out text) → status ≡ 6 → ⊥
     not_full (Ok lines) enough all six =
         let none : all.3 ≡ Done = never lines all.1 all.2 all.3 all.5 enough.1 in
@@ -336,17 +336,17 @@ module _ {M L : Type 0} (keep : M → ℕ) (heard : M → Option (List ℕ)) (le
 
   -- lanes
   pub lanes_end : (caps : Capacities) (watch : Bool) → command ≡ live.Lanes caps watch → limits ≡ live_limits caps
-      → (staged : IsStaged (PlaysLanes keep heard limits bank played kept lines) limits recording said outcome)
+      → (staged : IsStaged (PlaysLanes keep heard limits watch bank played kept lines) limits recording said outcome)
       → EndsBoth (status_of outcome) status recording (recorded_text limits staged.history said outcome) rec out
       → EndsCommand keep heard left faults command status script bank added rest links links_after clock rec out
   lanes_end caps watch lanes limits_so staged both =
       ends_played (mode_of command) PlaysSo script (length bank) rec out lines is limits recording said outcome status
-      (staged_so (PlaysLanes keep heard limits bank played kept lines) (PlaysSo lines) limits recording said outcome
+      (staged_so (PlaysLanes keep heard limits watch bank played kept lines) (PlaysSo lines) limits recording said outcome
       (λ text plays.
       subst (λ (c : LiveCommand). plays_of keep heard left faults c bank added rest links links_after clock lines recording text outcome) (sym lanes)
-      (subst (λ (l : List M). PlaysLanes keep heard (live_limits caps) bank added l lines recording text outcome) (sym rest_so)
-      (subst (λ (a : List (ℕ × M)). PlaysLanes keep heard (live_limits caps) bank a kept lines recording text outcome) (sym added_so)
-      (subst (λ (l : Limits). PlaysLanes keep heard l bank played kept lines recording text outcome) limits_so plays)))) staged) enough both
+      (subst (λ (l : List M). PlaysLanes keep heard (live_limits caps) watch bank added l lines recording text outcome) (sym rest_so)
+      (subst (λ (a : List (ℕ × M)). PlaysLanes keep heard (live_limits caps) watch bank a kept lines recording text outcome) (sym added_so)
+      (subst (λ (l : Limits). PlaysLanes keep heard l watch bank played kept lines recording text outcome) limits_so plays)))) staged) enough both
 
   -- links
   pub links_end : (transport : Transport) (port ports count idle : ℕ) (caps : Capacities)

@@ -1,6 +1,6 @@
 -- What became of lanes, or of links, and of their boxes, put together.
-use Rattle.std.proofs.Common.{◌≡◌, ℕ, ◌<◌, ◌≤◌, true, nat_lt, List, [], ◌∷◌, ◌++◌, map, length, take, drop, All, Option, None, refl, sym, ap}
-use Rattle.std.proofs.Common.{subst, ◌∙◌, arith}
+use Rattle.std.proofs.Common.{◌≡◌, ℕ, ◌<◌, ◌≤◌, Bool, true, nat_lt, List, [], ◌∷◌, ◌++◌, map, length, take, drop, All, Option, None, refl, sym, ap}
+use Rattle.std.proofs.Common.{subst, ◌∙◌, append_assoc, arith}
 use Rattle.std.specs.List.{list_all, AllByRecursion, flat_map}
 use Rattle.std.specs.List.Sorted.{IsPermutation, IsNonDecreasingBy}
 use Rattle.std.specs.Option.{option_map, option_or}
@@ -18,7 +18,7 @@ use Rattle.osc_links.specs.declared.run.Hosted.{Hosted}
 use Rattle.osc_links.specs.declared.served.Bounds.{Bounds}
 use Rattle.osc_links.specs.Hosts.{Hosts}
 use Rattle.osc_links.specs.Links.{LinkTurn}
-use Rattle.osc_lanes.specs.Performs.{Performs, IsClosedWith, added_ids, removed_ids, told_of, IsWhole}
+use Rattle.osc_lanes.specs.Performs.{IsClosedWith, added_ids, removed_ids, told_of, IsWhole}
 use Rattle.osc_lanes.specs.Shares.{Account, IsRemovedAt, known_of}
 use Rattle.osc_links.specs.Ticks.{ClockRead}
 use Rattle.osc_live.specs.Seen.{performance_in}
@@ -37,6 +37,7 @@ use Rattle.osc_script.specs.Adds.{count_adds}
 use Rattle.osc_ends.specs.Printing.{last_text}
 use Rattle.osc_top.specs.Served.{PlaysLinks, adds_part, link_faults}
 use Rattle.osc_top.specs.Staged.{IsStaged}
+use Rattle.osc_top.specs.Watched.{PerformsWatched, watched_text}
 use Rattle.osc_player.specs.Tally.{IsRising}
 use Rattle.osc_turn.specs.declared.view.Entry.{Entry as Seen}
 use Rattle.osc_turn.specs.History.{texts}
@@ -168,21 +169,25 @@ module _ {M : Type 0} where
         → is_ascending (map (λ one. one.0) added) ≡ true
     ascending_ids caps history recording kept added accounts closed boxes = subst (λ (l : List ℕ). is_ascending l ≡ true) (sym boxes.ids) closed.ascending
 
-    pub lanes_ascending : (caps : Limits) (bank : List M) (added : List (ℕ × M)) (left : List M) (lines : List Line) (recording text : List ℕ)
-        (outcome : Outcome) → PlaysLanes keep heard caps bank added left lines recording text outcome → is_ascending (map (λ one. one.0) added) ≡ true
-    lanes_ascending caps bank added left lines recording text outcome plays =
+    pub lanes_ascending : (caps : Limits) (watched : Bool) (bank : List M) (added : List (ℕ × M)) (left : List M) (lines : List Line) (recording text : List ℕ)
+        (outcome : Outcome) → PlaysLanes keep heard caps watched bank added left lines recording text outcome → is_ascending (map (λ one. one.0) added) ≡ true
+    lanes_ascending caps watched bank added left lines recording text outcome plays =
         ascending_ids caps plays.performs.history recording plays.kept added plays.accounts plays.performs.closed plays.boxes
 
     -- lanes were played
-    pub lanes_staged : (caps : Limits) (lines : List Line) (bank : List M) (recording : List ℕ) (kept : List (ℕ × M)) (accounts : List (Account M))
-        (unenrolled : Option Room) (added : List (ℕ × M)) → Performs keep heard caps (parts_of lines bank) recording kept accounts unenrolled
+    pub lanes_staged : (caps : Limits) (watched : Bool) (lines : List Line) (bank : List M) (recording : List ℕ) (kept : List (ℕ × M))
+        (accounts : List (Account M)) (unenrolled : Option Room) (list : List ℕ) (added : List (ℕ × M))
+        → PerformsWatched keep heard caps watched (parts_of lines bank) recording kept accounts unenrolled list
         → IsPermutation (kept ++ all_removed accounts) added → IsNonDecreasingBy (λ one. one.0) added → (left rest : List M) (said : List ℕ)
         (outcome : Outcome) → left ≡ flat_map (λ account. account.back) accounts ++ rest → rest ≡ drop (count_adds lines) bank
-        → said ≡ lane_faults accounts → outcome ≡ stopped (option_or unenrolled (first_stop accounts))
-        → IsStaged (PlaysLanes keep heard caps bank added left lines) caps recording said outcome
-    lanes_staged caps lines bank recording kept accounts unenrolled added performs moved ordered left rest said outcome left_so rest_so said_so outcome_so =
+        → said ≡ lane_faults accounts ++ list → outcome ≡ stopped (option_or unenrolled (first_stop accounts))
+        → IsStaged (PlaysLanes keep heard caps watched bank added left lines) caps recording said outcome
+    lanes_staged caps watched lines bank recording kept accounts unenrolled list added played moved ordered left rest said outcome left_so rest_so said_so
+        outcome_so =
+        let performs = played.performs in
+        let history = history_in (texts performs.history) in
         record {
-          history = history_in (texts performs.history);
+          history = history;
           recording_of = record { legal = performs.stage.legal; text = performs.closed.recorded };
           played = record {
             kept = kept;
@@ -192,7 +197,9 @@ module _ {M : Type 0} where
             boxes = all_heard caps performs.history recording kept accounts added performs.closed moved ordered;
             left_is = left_so ∙ ap (λ (l : List M). flat_map (λ account. account.back) accounts ++ l) rest_so;
             outcome_is = outcome_so;
-            text_is = ap (λ (l : List ℕ). printed caps (history_in (texts performs.history)) ++ (l ++ last_text outcome)) said_so;
+            text_is =
+                ap (λ (l : List ℕ). printed caps history ++ (l ++ last_text outcome)) (said_so ∙ ap (λ (l : List ℕ). lane_faults accounts ++ l) played.list_is)
+                ∙ ap (λ (l : List ℕ). printed caps history ++ l) (append_assoc (lane_faults accounts) (watched_text watched history) (last_text outcome));
           };
         }
 

@@ -1,5 +1,5 @@
 -- A recording of as many bytes as `enough_lanes` says stops no lane of a script.
-use Rattle.std.proofs.Common.{◌≡◌, ℕ, zero, suc, ◌+◌, ◌*◌, ◌<◌, ◌≤◌, ◌==◌, true, false, List, [], ◌∷◌, length, All, Option, None, sum_by, refl, sym, ap, subst}
+use Rattle.std.proofs.Common.{◌≡◌, ℕ, zero, suc, ◌+◌, ◌*◌, ◌<◌, ◌≤◌, ◌==◌, Bool, true, false, List, [], ◌∷◌, length, All, Option, None, sum_by, refl, sym, ap, subst}
 use Rattle.std.proofs.Common.{◌∙◌, arith}
 use Rattle.std.specs.Option.{option_or}
 use Rattle.std.proofs.lemmas.Bool.Decides.{nat_tests}
@@ -114,9 +114,9 @@ module _ {M : Type 0} where
       → ((caps : Limits) (parts : List (Part M)) (recording : List ℕ) (kept : List (ℕ × M)) (accounts : List (Account M)) (unenrolled : Option Room)
       → Performs keep heard caps parts recording kept accounts unenrolled → enough_for parts ≤ caps.recording
       → (unenrolled ≡ None) × All (λ account. account.stop ≡ None) accounts)
-      → (caps : Limits) (lines : List Line) (bank : List M) (added : List (ℕ × M)) (left : List M) (recording text : List ℕ) (outcome : Outcome)
-      → PlaysLanes keep heard caps bank added left lines recording text outcome → enough_lanes lines ≤ caps.recording → outcome ≡ Done
-  none_stopped keep heard never caps lines bank added left recording text outcome plays enough =
+      → (caps : Limits) (watched : Bool) (lines : List Line) (bank : List M) (added : List (ℕ × M)) (left : List M) (recording text : List ℕ) (outcome : Outcome)
+      → PlaysLanes keep heard caps watched bank added left lines recording text outcome → enough_lanes lines ≤ caps.recording → outcome ≡ Done
+  none_stopped keep heard never caps watched lines bank added left recording text outcome plays enough =
       let none = never caps (parts_of lines bank) recording plays.kept plays.accounts plays.unenrolled plays.performs
       (subst (λ (n : ℕ). n ≤ caps.recording) (sym (enough_parts lines bank)) enough) in
       plays.outcome_is

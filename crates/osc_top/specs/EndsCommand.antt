@@ -23,8 +23,8 @@ abbrev pub plays_of : {M L : Type 0} → (M → ℕ) → (M → Option (List ℕ
     → List L → List L → ClockRead → List Line → List ℕ → List ℕ → Outcome → Type 0
 plays_of keep heard left faults (live.Lanes caps watch) bank boxes_heard boxes_left links
     links_after clock lines recording text outcome =
-    PlaysLanes keep heard (live_limits caps) bank boxes_heard boxes_left lines recording text
-    outcome
+    PlaysLanes keep heard (live_limits caps) watch bank boxes_heard boxes_left lines recording
+    text outcome
 plays_of keep heard left faults (live.Serve transport port ports count idle caps) bank
     boxes_heard boxes_left links links_after clock lines recording text outcome =
     PlaysLinks keep heard left faults (live_limits caps) (record { count = count; idle = idle })

@@ -1,5 +1,5 @@
 -- What a run of lanes comes to.
-use Rattle.std.specs.Prelude.{◌≡◌, ℕ, zero, suc, ◌+◌, ◌==◌, max, List, [], ◌∷◌, ◌++◌, map, filter}
+use Rattle.std.specs.Prelude.{◌≡◌, ℕ, Bool, zero, suc, ◌+◌, ◌==◌, max, List, [], ◌∷◌, ◌++◌, map, filter}
 use Rattle.std.specs.Prelude.{drop, Option, None, if◌then◌else◌}
 use Rattle.std.specs.List.{AllByRecursion, flat_map}
 use Rattle.std.specs.Option.{option_or}
@@ -20,6 +20,7 @@ use Rattle.osc_ends.specs.declared.outcome.Outcome.{Outcome}
 use Rattle.osc_ends.specs.Outcomes.{stopped}
 use Rattle.osc_script.specs.Adds.{is_add, count_adds}
 use Rattle.osc_ends.specs.Printing.{last_text}
+use Rattle.osc_top.specs.Watched.{watched_text}
 
 -- as many lanes as the greatest number of one plus one
 abbrev pub lane_count : List Line → ℕ
@@ -75,10 +76,11 @@ module _ {M : Type 0} where
 
   -- The script's lanes were played on one new server. The boxes that were added have heard its one
   -- history; the others come back, lane by lane, and behind them those that no line took. The text
-  -- is that of the history, then the faults of the lanes, and last the line on the stop, where
-  -- there is one: of the enrolment for which there was no room, or of the least lane.
+  -- is that of the history, then the faults of the lanes, where they are watched the methods that
+  -- stand after the history, and last the line on the stop, where there is one: of the enrolment for
+  -- which there was no room, or of the least lane.
   pub record PlaysLanes (keep : M → ℕ) (heard : M → Option (List ℕ)) (caps : Limits)
-      (bank : List M) (boxes_heard : List (ℕ × M)) (boxes_left : List M) (lines : List Line)
+      (watched : Bool) (bank : List M) (boxes_heard : List (ℕ × M)) (boxes_left : List M) (lines : List Line)
       (recording text : List ℕ) (outcome : Outcome) : Type 0 where
     pub kept : List (ℕ × M)
     pub accounts : List (Account M)
@@ -90,4 +92,5 @@ module _ {M : Type 0} where
         ≡ flat_map (λ account. account.back) accounts ++ drop (count_adds lines) bank
     pub outcome_is : outcome ≡ stopped (option_or unenrolled (first_stop accounts))
     pub text_is : text ≡ printed caps (history_in (texts performs.history))
-        ++ (lane_faults accounts ++ last_text outcome)
+        ++ (lane_faults accounts
+        ++ (watched_text watched (history_in (texts performs.history)) ++ last_text outcome))

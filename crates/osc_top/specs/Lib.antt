@@ -6,6 +6,7 @@ pub mod Lanes
 pub mod Live
 pub mod Served
 pub mod Enough
+pub mod Watched
 -- Inside the crate.
 pub mod Dealt
 pub mod Staged

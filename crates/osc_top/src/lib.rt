@@ -13,6 +13,7 @@ mod played;
 mod serving;
 mod staging;
 mod transport;
+mod watching;
 
 pub use link_ports::ports;
 pub use live::live_top;

@@ -18,6 +18,7 @@ ghost use Rattle.std.specs.Prelude.{
   ◌<◌,
   ℕ,
   Bool,
+  true,
   IsTrue,
   IsOkAnd,
   IsErrAnd,
@@ -59,6 +60,7 @@ ghost use Rattle.osc_ends.specs.Printing.{usage_text, refusal_text};
 ghost use Rattle.osc_ends.specs.Ends.{left_behind, IsUnplayed};
 ghost use Rattle.osc_ends.specs.Ends.{IsWritten};
 ghost use Rattle.osc_top.specs.Enough.{enough_lanes};
+ghost use Rattle.osc_top.specs.Watched.{EndsListed};
 ghost use Rattle.osc_ends.specs.Outcomes.{status_of};
 ghost use Rattle.osc_top.specs.Recorded.{EndsBoth};
 ghost use Rattle.osc_ends.specs.Printing.{recorded_text};
@@ -84,7 +86,8 @@ use std::thread::Threads;
 
 /// Does all that the program of many threads does. `lanes FILE` reads a script from `input` to its end, plays each of
 /// its lanes by a thread of its own on one new server, and writes the recording to `rec`, and then the printed history
-/// and the faults of the lanes' packets to `out`. `serve FILE` reads a script of adds, plays it as caller 0, serves
+/// and the faults of the lanes' packets to `out`; with `--watch` a watcher reads the list of methods meanwhile, and the
+/// list behind the lanes follows the faults. `serve FILE` reads a script of adds, plays it as caller 0, serves
 /// each of `links` by a thread of its own and the ticker, who reads `clock`, by another, and writes the same of them.
 /// `osc replay` prints the same history from the recording.
 ///
@@ -148,12 +151,18 @@ pub fn live_top<
         (sink_change R.held R.faults rec.old rec.new)
         (sink_change O.held O.faults out.old out.new)) }
 
-    // Where all was written, `osc replay` prints from the recording what begins the text.
+    // Where all was written, `osc replay` prints from the recording what begins the text. Of lanes that are watched the
+    // methods behind them are listed last, but for the line on a full recording.
     ensures one_history { IsWritten result.0.status
         → (caps : Limits) × (history : List Entry) × (rest : List ℕ)
         × Legal caps history × KeepsTheLaws caps history
         × Gains (sink_change R.held R.faults rec.old rec.new) (record_text caps history)
         × Gains (sink_change O.held O.faults out.old out.new) (printed caps history ++ rest) }
+    ensures listed { (caps : Capacities)
+        → said.live_command_of (map string_bytes words.now) ≡ Some (live.Lanes caps true)
+        → IsWritten result.0.status → EndsListed result.0.status (commands.live_limits caps)
+        (sink_change R.held R.faults rec.old rec.new)
+        (sink_change O.held O.faults out.old out.new) }
     ensures edge { result.0.status ≡ EDGE_FAILED → TellsEdge L.faults links.items
         result.1.items (clock_read C.left C.faults clock.old clock.new)
         (sink_change O.held O.faults out.old out.new) }
@@ -281,8 +290,8 @@ fn play_lines<
         return (unplayed(alloc, status, bank), links);
     }
     match command {
-        LiveCommand::Lanes { caps, .. } => {
-            match stage(rt, alloc, live_limits(caps), lines, bank, gate) {
+        LiveCommand::Lanes { caps, watch } => {
+            match stage(rt, alloc, live_limits(caps), watch, lines, bank, gate) {
                 Ok(played) => (end(alloc, played, out, rec), links),
                 Err(_) => (unplayed(alloc, NO_MEMORY, Vec::new(alloc)), links),
             }

@@ -17,9 +17,10 @@ ghost use Rattle.osc_top.specs.Staged.{IsStaged};
 
 use crate::dealing::deal;
 use crate::played::Played;
+use crate::watching::{Watched, play_parts};
 use osc_atoms::{Fault, Room};
 use osc_ends::{Recorded, stopped};
-use osc_lanes::{Gate, LaneTold, Performed, run_lanes};
+use osc_lanes::{Gate, LaneTold, Performed};
 use osc_method::Method;
 use osc_player::{gather, keep_rest};
 use osc_print::{Text, fault_line};
@@ -30,12 +31,13 @@ use std::sync::Wait;
 use std::thread::Threads;
 use std::vec::IntoIter;
 
-/// Plays the lanes of the lines on a new server, beside each other; the k-th add gets the k-th box. An `Err` is want of
-/// memory.
+/// Plays the lanes of the lines on a new server, beside each other, and if `watch` says so with a watcher beside them,
+/// whose list stands behind the lines of the faults; the k-th add gets the k-th box. An `Err` is want of memory.
 pub(crate) fn stage<M: Method + Send, W: Threads + Wait + Sync, G: Gate + Sync>(
     rt: &W,
     alloc: Global,
     caps: Caps,
+    watch: bool,
     lines: Vec<Line>,
     bank: Vec<M>,
     gate: &G,
@@ -45,13 +47,15 @@ pub(crate) fn stage<M: Method + Send, W: Threads + Wait + Sync, G: Gate + Sync>(
     requires lanes { AreOf Lanes lines.items }
     ensures { IfOk result
         (λ played. IsStaged
-        (PlaysLanes M.keep M.heard caps bank.items played.heard.items played.left.items
-        lines.items)
+        (PlaysLanes M.keep M.heard caps watch bank.items played.heard.items
+        played.left.items lines.items)
         caps played.recorded.bytes.items played.recorded.faults played.recorded.outcome) }
 {
     let (parts, rest) = deal(alloc, lines, bank)?;
-    let performed = run_lanes(rt, alloc, caps, parts, gate)?;
-    let played = settle(alloc, performed, rest)?;
+    let watched = play_parts(rt, alloc, caps, watch, parts, gate)?;
+    let Watched { performed, list } = watched;
+    let mut played = settle(alloc, performed, rest)?;
+    played.recorded.faults.word(list.bytes())?;
     Ok(played)
 }
 

@@ -1,10 +1,10 @@
-use Rattle.std.proofs.Common.{◌≡◌, Some, inl, map, string_bytes, refl, ap, ◌∙◌, rules}
+use Rattle.std.proofs.Common.{◌≡◌, true, Some, inl, map, string_bytes, refl, ap, ◌∙◌, rules}
 use Rattle.osc_words.specs.Commands as said
 use Rattle.osc_words.specs.declared.command.LiveCommand.TheVariants as live
 use Rattle.osc_ends.proofs.Inputs.{if_so, of_so}
 use Rattle.osc_ends.proofs.Said.{of_said}
 use Rattle.osc_top.specs.Commands.{live_limits, mode_of}
-use Rattle.osc_top.proofs.Edges.{live_history, live_edge, live_short, live_still}
+use Rattle.osc_top.proofs.Edges.{live_edge, live_history, live_listed, live_short, live_still}
 use Rattle.osc_top.proofs.LiveEnds.{cut_fails, done_steady, in_mode, lawful_short, live_complete, live_enough, may_end_short, refused_in, script_refused}
 use Rattle.osc_top.proofs.live.live_top.Goals as goal
 
@@ -25,6 +25,16 @@ returns-in-Ok-clause-one_history g c =
     let script = in_mode _ _ (g.S.Source.left c.args.input.now) c.in-Ok.lines.items c.mode_of.ensures c.in-Ok.ensures.lines in
     rw (← same)
     (live_history _ _ _ _ _ _ _ _ _ _ _ _ _ c.in-Ok-Some.command script.0 (c.play_lines.ensures.ends script.0 script.2))
+
+pub returns-in-Ok-clause-listed : goal.returns-in-Ok-clause-listed
+returns-in-Ok-clause-listed g c = λ caps is written.
+    let same : c.read_script.new.out ≡ c.args.out.now = c.in-Ok.ensures.unwritten (inl refl) in
+    let said : Some c.in-Ok-Some.command ≡ said.live_command_of (map string_bytes c.args.words.now) = search rules in
+    let both : Some c.in-Ok-Some.command ≡ Some (live.Lanes caps true) = said ∙ is in
+    let lanes : c.in-Ok-Some.command ≡ live.Lanes caps true = cc in
+    let script = in_mode _ _ (g.S.Source.left c.args.input.now) c.in-Ok.lines.items c.mode_of.ensures c.in-Ok.ensures.lines in
+    rw (← same)
+    (live_listed _ _ _ _ _ _ _ _ _ _ _ _ _ caps c.in-Ok-Some.command lanes script.0 (c.play_lines.ensures.ends script.0 script.2) written)
 
 pub returns-in-Ok-clause-edge : goal.returns-in-Ok-clause-edge
 returns-in-Ok-clause-edge g c =
@@ -74,7 +84,7 @@ returns-in-Ok-clause-enough g c = λ caps watch is.
     rw (← same)
     (if_so _ _ _
     (λ script read enough source out_sound rec_sound. live_enough _ _ _ _ _ c.args.bank.items _ _ _ _ _ _ _ caps watch
-    (λ lines recording text outcome plays room. c.enough_room_stops_no_lane.ensures (live_limits caps) lines c.args.bank.items _ _ recording text outcome
+    (λ lines recording text outcome plays room. c.enough_room_stops_no_lane.ensures (live_limits caps) watch lines c.args.bank.items _ _ recording text outcome
     plays room)
     c.in-Ok-Some.command lanes script (c.play_lines.ensures.ends script read) enough out_sound rec_sound)
     (in_mode _ _ (g.S.Source.left c.args.input.now) c.in-Ok.lines.items c.mode_of.ensures c.in-Ok.ensures.lines))

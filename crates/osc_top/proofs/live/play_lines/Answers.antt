@@ -39,7 +39,7 @@ returns-in-Ok-clause-back g c =
     record {
       ascending =
           subst (λ l. is_ascending (map (λ one. one.0) l) ≡ true) (sym end.heard)
-          (lanes_ascending _ _ _ _ _ _ _ _ _ _ staged.played);
+          (lanes_ascending _ _ _ _ _ _ _ _ _ _ _ staged.played);
       none_heard = λ unplayed. absurd (both_played _ _ _ _ _ _ both unplayed);
       all_left = λ unplayed. absurd (both_played _ _ _ _ _ _ both unplayed);
     }

@@ -1,39 +1,43 @@
-use Rattle.std.proofs.Common.{ℕ, List, map, sym, subst, arith}
+use Rattle.std.proofs.Common.{ℕ, List, ◌++◌, map, sym, ap, subst, arith}
 use Rattle.std.specs.Option.{option_map}
 use Rattle.osc_record.specs.Shown.{room_of}
-use Rattle.osc_lanes.specs.Performs.{Part, Performs, told_of}
+use Rattle.osc_lanes.specs.Performs.{Part, told_of}
 use Rattle.osc_top.specs.Lanes.{PlaysLanes, parts_of}
 use Rattle.osc_top.specs.Staged.{IsStaged}
+use Rattle.osc_top.specs.Watched.{PerformsWatched}
 use Rattle.osc_top.proofs.Dealt.{parts_whole, few_parts}
 use Rattle.osc_top.proofs.Staged.{lanes_staged}
 use Rattle.osc_top.proofs.staging.stage.Goals as goal
 use Rattle.osc_top.proofs.staging.stage.Goals.{In_ok-played}
 
-pub run_lanes-requires-clause-callers : goal.run_lanes-requires-clause-callers
-run_lanes-requires-clause-callers g c =
+pub play_parts-requires-clause-callers : goal.play_parts-requires-clause-callers
+play_parts-requires-clause-callers g c =
     omega (
       arith,
       c.requires.callers,
       few_parts c.args.lines.items c.args.bank.items _ c.in_ok-parts.ensures.parts c.requires.lanes,
     )
 
-pub run_lanes-requires-clause-whole : goal.run_lanes-requires-clause-whole
-run_lanes-requires-clause-whole g c _ _ =
+pub play_parts-requires-clause-whole : goal.play_parts-requires-clause-whole
+play_parts-requires-clause-whole g c _ _ =
     parts_whole c.args.lines.items c.args.bank.items _ c.in_ok-parts.ensures.parts c.requires.enough
 
 -- what was played, of the lines and the bank
 performed_so : (g : _) (c : In_ok-played g)
-    → Performs g.M.Method.keep g.M.Method.heard c.args.caps (parts_of c.args.lines.items c.args.bank.items) c.in_ok-performed.performed.closed.bytes.items
-    c.in_ok-performed.performed.closed.kept.items (map told_of c.in_ok-performed.performed.lanes.items)
-    (option_map room_of c.in_ok-performed.performed.unenrolled)
+    → PerformsWatched g.M.Method.keep g.M.Method.heard c.args.caps c.args.watch (parts_of c.args.lines.items c.args.bank.items)
+    c.in_ok-watched.watched.performed.closed.bytes.items c.in_ok-watched.watched.performed.closed.kept.items
+    (map told_of c.in_ok-watched.watched.performed.lanes.items) (option_map room_of c.in_ok-watched.watched.performed.unenrolled)
+    c.in_ok-watched.watched.list
 performed_so g c =
     let keep = g.M.Method.keep in
     let heard = g.M.Method.heard in
-    let performed = c.in_ok-performed.performed in
+    let watched = c.in_ok-watched.watched in
+    let performed = watched.performed in
     let accounts = map told_of performed.lanes.items in
     let unenrolled = option_map room_of performed.unenrolled in
-    subst (λ (parts : List (Part g.row.M.Denot)). Performs keep heard c.args.caps parts performed.closed.bytes.items performed.closed.kept.items accounts unenrolled)
-    c.in_ok-parts.ensures.parts c.in_ok-performed.ensures
+    subst (λ (parts : List (Part g.row.M.Denot)). PerformsWatched keep heard c.args.caps c.args.watch parts performed.closed.bytes.items
+    performed.closed.kept.items accounts unenrolled watched.list)
+    c.in_ok-parts.ensures.parts c.in_ok-watched.ensures
 
 pub returns : goal.returns
 returns g c =
@@ -41,13 +45,14 @@ returns g c =
     let heard = g.M.Method.heard in
     let lines = c.args.lines.items in
     let bank = c.args.bank.items in
-    let performed = c.in_ok-performed.performed in
+    let watched = c.in_ok-watched.watched in
+    let performed = watched.performed in
     let played = c.in_ok-played.played in
     let done = c.in_ok-played.ensures in
-    let said = played.recorded.faults in
+    let said = played.recorded.faults ++ watched.list in
     let outcome = played.recorded.outcome in
-    subst (λ (l : List ℕ). IsStaged (PlaysLanes keep heard c.args.caps bank played.heard.items played.left.items lines) c.args.caps l said outcome)
+    subst (λ (l : List ℕ). IsStaged (PlaysLanes keep heard c.args.caps c.args.watch bank played.heard.items played.left.items lines) c.args.caps l said outcome)
     (sym done.bytes)
-    (lanes_staged keep heard c.args.caps lines bank performed.closed.bytes.items performed.closed.kept.items (map told_of performed.lanes.items)
-    (option_map room_of performed.unenrolled) played.heard.items (performed_so g (goal.at.returns g c).In_ok-played)
-    done.each done.ascending played.left.items _ said outcome done.left c.in_ok-parts.ensures.rest done.faults done.outcome)
+    (lanes_staged keep heard c.args.caps c.args.watch lines bank performed.closed.bytes.items performed.closed.kept.items
+    (map told_of performed.lanes.items) (option_map room_of performed.unenrolled) watched.list played.heard.items (performed_so g (goal.at.returns g c).In_ok-played)
+    done.each done.ascending played.left.items _ said outcome done.left c.in_ok-parts.ensures.rest (ap (λ (l : List ℕ). l ++ watched.list) done.faults) done.outcome)
