@@ -1,9 +1,21 @@
-// A gate that holds one line back.
+// Gates that hold a line back until something has been done, for a bounded number of turns.
+use osc_display::WATCHER_LANE;
 use osc_lanes::Gate;
 use std::sync::atomic::{AtomicU64, Ordering};
 use std::thread;
 
-/// Holds line 1 or line 2 of a script until the other one of them was left, for a bounded number of turns.
+/// Looks at the flag until it is set; tells `late` where that takes too many turns.
+fn await_flag(flag: &AtomicU64, late: &AtomicU64) {
+    for _ in 0..100_000_000u32 {
+        if flag.load(Ordering::SeqCst) == 1 {
+            return;
+        }
+        thread::yield_now();
+    }
+    late.store(1, Ordering::SeqCst);
+}
+
+/// Holds line 1 or line 2 of a script until the other one of them was left.
 #[derive(Drop)]
 pub(crate) struct Hold {
     held: u32,
@@ -29,20 +41,58 @@ impl Hold {
 
 impl Gate for Hold {
     fn enter(&self, _lane: u32, line: u32) {
-        if line != self.held {
-            return;
+        if line == self.held {
+            await_flag(&self.left, &self.late);
         }
-        for _ in 0..100_000_000u32 {
-            if self.left.load(Ordering::SeqCst) == 1 {
-                return;
-            }
-            thread::yield_now();
-        }
-        self.late.store(1, Ordering::SeqCst);
     }
 
     fn leave(&self, _lane: u32, line: u32) {
         if line != self.held && line <= 2 {
+            self.left.store(1, Ordering::SeqCst);
+        }
+    }
+}
+
+/// Holds line 2 of a script until a read of the watcher is over that began behind line 1.
+#[derive(Drop)]
+pub(crate) struct HoldForRead {
+    left: AtomicU64,
+    begun: AtomicU64,
+    read: AtomicU64,
+    late: AtomicU64,
+}
+
+impl HoldForRead {
+    pub(crate) fn new() -> HoldForRead {
+        HoldForRead {
+            left: AtomicU64::new(0),
+            begun: AtomicU64::new(0),
+            read: AtomicU64::new(0),
+            late: AtomicU64::new(0),
+        }
+    }
+
+    /// Whether line 2 was played before such a read was over.
+    pub(crate) fn gave_up(&self) -> bool {
+        self.late.load(Ordering::SeqCst) == 1
+    }
+}
+
+impl Gate for HoldForRead {
+    fn enter(&self, lane: u32, line: u32) {
+        if lane == WATCHER_LANE {
+            self.begun
+                .store(self.left.load(Ordering::SeqCst), Ordering::SeqCst);
+        } else if line == 2 {
+            await_flag(&self.read, &self.late);
+        }
+    }
+
+    fn leave(&self, lane: u32, line: u32) {
+        if lane == WATCHER_LANE {
+            self.read
+                .store(self.begun.load(Ordering::SeqCst), Ordering::SeqCst);
+        } else if line == 1 {
             self.left.store(1, Ordering::SeqCst);
         }
     }

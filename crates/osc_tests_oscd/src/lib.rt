@@ -13,3 +13,5 @@ mod program;
 mod serve;
 #[cfg(test)]
 mod streams;
+#[cfg(test)]
+mod watch;

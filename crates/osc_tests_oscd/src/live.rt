@@ -15,7 +15,7 @@ const TWO_LANES: &str = "0 add /a\n1 send 2f610000\n0 pump\n1 send 2f620000\n";
 
 /// What the program is given beside its words and its script.
 #[derive(Clone, Copy)]
-struct Setting {
+pub(crate) struct Setting {
     boxes: usize,
     /// Which call of the source and of each sink fails, counted from 1; 0 where none does.
     source_fails: u32,
@@ -23,7 +23,7 @@ struct Setting {
     recording_fails: u32,
 }
 
-const SETTING: Setting = Setting {
+pub(crate) const SETTING: Setting = Setting {
     boxes: 8,
     source_fails: 0,
     sink_fails: 0,
@@ -32,16 +32,16 @@ const SETTING: Setting = Setting {
 
 /// What the program came to.
 #[derive(Drop)]
-struct Outcome {
-    status: u8,
-    written: Vec<u8>,
-    recorded: Vec<u8>,
+pub(crate) struct Outcome {
+    pub(crate) status: u8,
+    pub(crate) written: Vec<u8>,
+    pub(crate) recorded: Vec<u8>,
     heard: usize,
     left: usize,
 }
 
 /// Does what the words say with the script.
-fn perform<R: Threads + Wait + Sync, G: Gate + Sync>(
+pub(crate) fn perform<R: Threads + Wait + Sync, G: Gate + Sync>(
     rt: &R,
     alloc: Global,
     line: &str,
