@@ -4,6 +4,7 @@
 #     bench/run.sh [KINDS [LENGTHS]]        as bench/run.sh "0 2" "10 100"; all of them by default
 #     bench/run.sh methods [KINDS [COUNTS]] by how many methods stand; as bench/run.sh methods "0 2" "10 1000"
 #     bench/run.sh datagrams [..]           datagrams over loopback, or with --tcp a stream: datagrams.sh
+#     bench/run.sh watch                    a watcher beside lanes: watch.sh
 #
 # It needs cc, liblo-dev, valgrind and time, and what bin/osc needs.
 set -eu
@@ -11,6 +12,7 @@ if [ "${1:-}" = datagrams ]; then
     shift
     exec "$(dirname "$0")/datagrams.sh" "$@"
 fi
+[ "${1:-}" != watch ] || exec "$(dirname "$0")/watch.sh"
 table=lengths
 if [ "${1:-}" = methods ]; then
     table=methods
