@@ -17,7 +17,7 @@ ghost use Rattle.osc_top.specs.Staged.{IsStaged};
 
 use crate::dealing::deal;
 use crate::played::Played;
-use crate::watching::{Watched, play_parts};
+use crate::watching::{Listed, play_parts};
 use osc_atoms::{Fault, Room};
 use osc_ends::{Recorded, stopped};
 use osc_lanes::{Gate, LaneTold, Performed};
@@ -52,8 +52,8 @@ pub(crate) fn stage<M: Method + Send, W: Threads + Wait + Sync, G: Gate + Sync>(
         caps played.recorded.bytes.items played.recorded.faults played.recorded.outcome) }
 {
     let (parts, rest) = deal(alloc, lines, bank)?;
-    let watched = play_parts(rt, alloc, caps, watch, parts, gate)?;
-    let Watched { performed, list } = watched;
+    let listed = play_parts(rt, alloc, caps, watch, parts, gate)?;
+    let Listed { performed, list } = listed;
     let mut played = settle(alloc, performed, rest)?;
     played.recorded.faults.word(list.bytes())?;
     Ok(played)

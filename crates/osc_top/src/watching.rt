@@ -20,7 +20,7 @@ use std::thread::Threads;
 
 /// What came of lanes that may have been watched.
 #[derive(Drop)]
-pub(crate) struct Watched<M> {
+pub(crate) struct Listed<M> {
     pub(crate) performed: Performed<M>,
     /// The lines of the methods that stand behind the lanes; none where nobody watched.
     pub(crate) list: Text,
@@ -35,7 +35,7 @@ pub(crate) fn play_parts<M: Method + Send, W: Threads + Wait + Sync, G: Gate + S
     watch: bool,
     parts: Vec<LanePart<M>>,
     gate: &G,
-) -> Result<Watched<M>, AllocError>
+) -> Result<Listed<M>, AllocError>
     requires callers { length parts.items < caps.callers }
     requires whole { All (λ part. IsWhole (part_of part)) parts.items }
     ensures { IfOk result (λ played. PerformsWatched M.keep M.heard caps watch
@@ -47,11 +47,11 @@ pub(crate) fn play_parts<M: Method + Send, W: Threads + Wait + Sync, G: Gate + S
         let displayed = display_lanes(rt, alloc, caps, parts, gate)?;
         let Displayed { performed, methods } = displayed;
         let list = methods_text(alloc, &methods)?;
-        Ok(Watched { performed, list })
+        Ok(Listed { performed, list })
     } else {
         let performed = run_lanes(rt, alloc, caps, parts, gate)?;
         let list = Text::open(alloc);
-        Ok(Watched { performed, list })
+        Ok(Listed { performed, list })
     }
 }
 

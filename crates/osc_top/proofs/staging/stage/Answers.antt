@@ -25,19 +25,19 @@ play_parts-requires-clause-whole g c _ _ =
 -- what was played, of the lines and the bank
 performed_so : (g : _) (c : In_ok-played g)
     → PerformsWatched g.M.Method.keep g.M.Method.heard c.args.caps c.args.watch (parts_of c.args.lines.items c.args.bank.items)
-    c.in_ok-watched.watched.performed.closed.bytes.items c.in_ok-watched.watched.performed.closed.kept.items
-    (map told_of c.in_ok-watched.watched.performed.lanes.items) (option_map room_of c.in_ok-watched.watched.performed.unenrolled)
-    c.in_ok-watched.watched.list
+    c.in_ok-listed.listed.performed.closed.bytes.items c.in_ok-listed.listed.performed.closed.kept.items
+    (map told_of c.in_ok-listed.listed.performed.lanes.items) (option_map room_of c.in_ok-listed.listed.performed.unenrolled)
+    c.in_ok-listed.listed.list
 performed_so g c =
     let keep = g.M.Method.keep in
     let heard = g.M.Method.heard in
-    let watched = c.in_ok-watched.watched in
-    let performed = watched.performed in
+    let listed = c.in_ok-listed.listed in
+    let performed = listed.performed in
     let accounts = map told_of performed.lanes.items in
     let unenrolled = option_map room_of performed.unenrolled in
     subst (λ (parts : List (Part g.row.M.Denot)). PerformsWatched keep heard c.args.caps c.args.watch parts performed.closed.bytes.items
-    performed.closed.kept.items accounts unenrolled watched.list)
-    c.in_ok-parts.ensures.parts c.in_ok-watched.ensures
+    performed.closed.kept.items accounts unenrolled listed.list)
+    c.in_ok-parts.ensures.parts c.in_ok-listed.ensures
 
 pub returns : goal.returns
 returns g c =
@@ -45,14 +45,14 @@ returns g c =
     let heard = g.M.Method.heard in
     let lines = c.args.lines.items in
     let bank = c.args.bank.items in
-    let watched = c.in_ok-watched.watched in
-    let performed = watched.performed in
+    let listed = c.in_ok-listed.listed in
+    let performed = listed.performed in
     let played = c.in_ok-played.played in
     let done = c.in_ok-played.ensures in
-    let said = played.recorded.faults ++ watched.list in
+    let said = played.recorded.faults ++ listed.list in
     let outcome = played.recorded.outcome in
     subst (λ (l : List ℕ). IsStaged (PlaysLanes keep heard c.args.caps c.args.watch bank played.heard.items played.left.items lines) c.args.caps l said outcome)
     (sym done.bytes)
     (lanes_staged keep heard c.args.caps c.args.watch lines bank performed.closed.bytes.items performed.closed.kept.items
-    (map told_of performed.lanes.items) (option_map room_of performed.unenrolled) watched.list played.heard.items (performed_so g (goal.at.returns g c).In_ok-played)
-    done.each done.ascending played.left.items _ said outcome done.left c.in_ok-parts.ensures.rest (ap (λ (l : List ℕ). l ++ watched.list) done.faults) done.outcome)
+    (map told_of performed.lanes.items) (option_map room_of performed.unenrolled) listed.list played.heard.items (performed_so g (goal.at.returns g c).In_ok-played)
+    done.each done.ascending played.left.items _ said outcome done.left c.in_ok-parts.ensures.rest (ap (λ (l : List ℕ). l ++ listed.list) done.faults) done.outcome)
