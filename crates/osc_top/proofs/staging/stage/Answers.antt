@@ -1,4 +1,4 @@
-use Rattle.std.proofs.Common.{ℕ, List, ◌++◌, map, sym, ap, subst, arith}
+use Rattle.std.proofs.Common.{ℕ, List, ◌++◌, map, sym, ap, subst, ◌∙◌, arith}
 use Rattle.std.specs.Option.{option_map}
 use Rattle.osc_record.specs.Shown.{room_of}
 use Rattle.osc_lanes.specs.Performs.{Part, told_of}
@@ -49,10 +49,11 @@ returns g c =
     let performed = listed.performed in
     let played = c.in_ok-played.played in
     let done = c.in_ok-played.ensures in
-    let said = played.recorded.faults ++ listed.list in
+    let said = c.word.new.self in
     let outcome = played.recorded.outcome in
     subst (λ (l : List ℕ). IsStaged (PlaysLanes keep heard c.args.caps c.args.watch bank played.heard.items played.left.items lines) c.args.caps l said outcome)
     (sym done.bytes)
     (lanes_staged keep heard c.args.caps c.args.watch lines bank performed.closed.bytes.items performed.closed.kept.items
     (map told_of performed.lanes.items) (option_map room_of performed.unenrolled) listed.list played.heard.items (performed_so g (goal.at.returns g c).In_ok-played)
-    done.each done.ascending played.left.items _ said outcome done.left c.in_ok-parts.ensures.rest (ap (λ (l : List ℕ). l ++ listed.list) done.faults) done.outcome)
+    done.each done.ascending played.left.items _ said outcome done.left c.in_ok-parts.ensures.rest
+    (c.in_ok-word.ensures.ok ∙ ap (λ (l : List ℕ). l ++ listed.list) done.faults) done.outcome)
