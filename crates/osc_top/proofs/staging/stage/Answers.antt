@@ -1,4 +1,4 @@
-use Rattle.std.proofs.Common.{ℕ, List, ◌++◌, map, sym, ap, subst, ◌∙◌, arith}
+use Rattle.std.proofs.Common.{ℕ, List, ◌++◌, map, sym, subst, ◌∙◌, arith}
 use Rattle.std.specs.Option.{option_map}
 use Rattle.osc_record.specs.Shown.{room_of}
 use Rattle.osc_lanes.specs.Performs.{Part, told_of}
@@ -56,4 +56,4 @@ returns g c =
     (lanes_staged keep heard c.args.caps c.args.watch lines bank performed.closed.bytes.items performed.closed.kept.items
     (map told_of performed.lanes.items) (option_map room_of performed.unenrolled) listed.list played.heard.items (performed_so g (goal.at.returns g c).In_ok-played)
     done.each done.ascending played.left.items _ said outcome done.left c.in_ok-parts.ensures.rest
-    (c.in_ok-word.ensures.ok ∙ ap (λ (l : List ℕ). l ++ listed.list) done.faults) done.outcome)
+    (c.in_ok-word.ensures.ok ∙ (λ i. done.faults i ++ c.bytes.ensures i)) done.outcome)
