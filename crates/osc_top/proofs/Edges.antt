@@ -2,8 +2,11 @@
 use Rattle.std.proofs.Common.{◌≡◌, ◌≢◌, ◌⊎◌, inl, inr, ℕ, suc, ◌+◌, ◌<◌, Bool, true, false, List, [], ◌∷◌, ◌++◌, map, length, Option, Some, None}
 use Rattle.std.proofs.Common.{if◌then◌else◌, refl, sym, ap, subst, ◌∙◌, append_assoc, arith}
 use Rattle.std.specs.Prelude.{IfSome, MatchOption}
+use Rattle.std.specs.List.{flat_map}
 use Rattle.std.specs.Option.{option_map, option_or}
+use Rattle.std.proofs.lemmas.List.Concat.{flat_map-append}
 use Rattle.osc_edge.specs.Faults.{Rose}
+use Rattle.osc_atoms.specs.declared.fault.Fault.{Fault}
 use Rattle.osc_atoms.specs.declared.room.Room.{Room as CodeRoom}
 use Rattle.osc_model.specs.Events.{Entry, Room}
 use Rattle.osc_model.specs.History.{Legal}
@@ -27,6 +30,8 @@ use Rattle.osc_lanes.specs.Performs.{Part, Numbered, HasNoRoomToEnrol, holder_at
 use Rattle.osc_links.specs.Serves.{failed_from, has_failed, is_clock_failed, link_in, seen_in}
 use Rattle.osc_lanes.specs.Shares.{Holder}
 use Rattle.osc_links.specs.Ticks.{ClockRead, EndsTicks}
+use Rattle.osc_lanes.specs.Shares.{Account}
+use Rattle.osc_print.specs.Lines.{fault_text}
 use Rattle.osc_replay.specs.Printed.{printed}
 use Rattle.osc_script.specs.declared.line.Line.{Line}
 use Rattle.osc_words.specs.declared.command.Capacities.{Capacities}
@@ -38,7 +43,7 @@ use Rattle.osc_top.specs.Commands.{mode_of}
 use Rattle.osc_top.specs.Edges.{HasLinkRisen, HasRisen, TellsEdge}
 use Rattle.osc_top.specs.EndsCommand.{EndsCommand, plays_of}
 use Rattle.osc_top.specs.Lanes.{PlaysLanes, first_stop, lane_faults}
-use Rattle.osc_top.specs.Watched.{EndsListed, watched_text}
+use Rattle.osc_top.specs.Watched.{EndsListed, faults_text, methods_text, watched_text}
 use Rattle.osc_ends.specs.Ends.{IsWritten}
 use Rattle.osc_top.specs.Served.{served}
 use Rattle.osc_ends.specs.Outcomes.{stopped, status_of}
@@ -180,6 +185,17 @@ module _ {M L : Type 0} (left : L → Option (List LinkTurn)) (faults : L → �
           ticks_risen keep heard (holder_at caps (length links + 1)) serves.ticks.3.last (map seen_in serves.ends) serves.ticks.3.between clock
           serves.ticker_end serves.ticks.3.place serves.ticks.1 serves.ticks.3.ends (sym serves.tells.clock_failed_is ∙ is)
 
+-- The faults of lanes, joined.
+
+abbrev all_faults : {M : Type 0} → List (Account M) → List (ℕ × Fault)
+all_faults accounts = flat_map (λ account. account.faults) accounts
+
+faults_joined : {M : Type 0} (accounts : List (Account M)) → lane_faults accounts ≡ faults_text (all_faults accounts)
+faults_joined [] = refl
+faults_joined (account ∷ accounts) =
+    ap (λ (said : List ℕ). faults_text account.faults ++ said) (faults_joined accounts)
+    ∙ sym (flat_map-append (λ (one : ℕ × Fault). fault_text one.0 one.1) account.faults (all_faults accounts))
+
 -- The same of a program's end, and its history.
 
 -- one history was recorded and printed
@@ -294,12 +310,17 @@ module _ {M L : Type 0} (keep : M → ℕ) (heard : M → Option (List ℕ)) (le
   live_listed caps command lanes script ends written =
       let all = written_by (live.Lanes caps true) script (subst (λ (c : LiveCommand). EndsSo c script) lanes ends) written in
       let performs = all.5.performs in
+      let history = history_in (texts performs.history) in
       record {
-        history = history_in (texts performs.history);
-        faults = lane_faults all.5.accounts;
+        history = history;
+        faults = all_faults all.5.accounts;
         outcome = all.3;
         legal = performs.stage.legal;
         status_is = all.4;
         recorded = subst (Gains rec) performs.closed.recorded all.6.0;
-        told = subst (Gains out) all.5.text_is all.7.0;
+        told =
+            subst (Gains out)
+            (all.5.text_is
+            ∙ ap (λ (said : List ℕ). printed (live_limits caps) history ++ (said ++ (methods_text history ++ last_text all.3))) (faults_joined all.5.accounts))
+            all.7.0;
       }

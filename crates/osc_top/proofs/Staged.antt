@@ -36,8 +36,8 @@ use Rattle.osc_ends.specs.Outcomes.{stopped}
 use Rattle.osc_script.specs.Adds.{count_adds}
 use Rattle.osc_ends.specs.Printing.{last_text}
 use Rattle.osc_top.specs.Served.{PlaysLinks, adds_part, link_faults}
-use Rattle.osc_top.specs.Staged.{IsStaged}
-use Rattle.osc_top.specs.Watched.{PerformsWatched, watched_text}
+use Rattle.osc_top.specs.Staged.{IsStaged, PerformsWatched}
+use Rattle.osc_top.specs.Watched.{watched_text}
 use Rattle.osc_player.specs.Tally.{IsRising}
 use Rattle.osc_turn.specs.declared.view.Entry.{Entry as Seen}
 use Rattle.osc_turn.specs.History.{texts}

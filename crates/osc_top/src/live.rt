@@ -151,18 +151,12 @@ pub fn live_top<
         (sink_change R.held R.faults rec.old rec.new)
         (sink_change O.held O.faults out.old out.new)) }
 
-    // Where all was written, `osc replay` prints from the recording what begins the text. Of lanes that are watched the
-    // methods behind them are listed last, but for the line on a full recording.
+    // Where all was written, `osc replay` prints from the recording what begins the text.
     ensures one_history { IsWritten result.0.status
         → (caps : Limits) × (history : List Entry) × (rest : List ℕ)
         × Legal caps history × KeepsTheLaws caps history
         × Gains (sink_change R.held R.faults rec.old rec.new) (record_text caps history)
         × Gains (sink_change O.held O.faults out.old out.new) (printed caps history ++ rest) }
-    ensures listed { (caps : Capacities)
-        → said.live_command_of (map string_bytes words.now) ≡ Some (live.Lanes caps true)
-        → IsWritten result.0.status → EndsListed result.0.status (commands.live_limits caps)
-        (sink_change R.held R.faults rec.old rec.new)
-        (sink_change O.held O.faults out.old out.new) }
     ensures edge { result.0.status ≡ EDGE_FAILED → TellsEdge L.faults links.items
         result.1.items (clock_read C.left C.faults clock.old clock.new)
         (sink_change O.held O.faults out.old out.new) }
@@ -175,6 +169,13 @@ pub fn live_top<
     ensures lanes_serve_none { (caps : Capacities) (watch : Bool)
         → said.live_command_of (map string_bytes words.now) ≡ Some (live.Lanes caps watch)
         → (result.1.items ≡ links.items) × (clock.new ≡ clock.old) }
+
+    // Where lanes are watched, the methods that stand behind them are listed last, but for the line on a full recording.
+    ensures listed { (caps : Capacities)
+        → said.live_command_of (map string_bytes words.now) ≡ Some (live.Lanes caps true)
+        → IsWritten result.0.status → EndsListed result.0.status (commands.live_limits caps)
+        (sink_change R.held R.faults rec.old rec.new)
+        (sink_change O.held O.faults out.old out.new) }
 
     // Done means that nothing failed and that the input was read to its end.
     ensures steady { result.0.status ≡ DONE

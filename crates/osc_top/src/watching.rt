@@ -6,7 +6,8 @@ ghost use Rattle.osc_record.specs.Shown.{room_of};
 ghost use Rattle.osc_lanes.specs.Performs.{part_of, told_of, IsWhole};
 ghost use Rattle.osc_display.specs.Displays.{Lists};
 ghost use Rattle.osc_top.specs.Watched as watched;
-ghost use Rattle.osc_top.specs.Watched.{PerformsWatched, rows_text};
+ghost use Rattle.osc_top.specs.Staged.{PerformsWatched};
+ghost use Rattle.osc_top.specs.Watched.{rows_text};
 
 use osc_display::{Displayed, display_lanes};
 use osc_lanes::{Gate, LanePart, Performed, run_lanes};

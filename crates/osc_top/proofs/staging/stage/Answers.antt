@@ -3,8 +3,7 @@ use Rattle.std.specs.Option.{option_map}
 use Rattle.osc_record.specs.Shown.{room_of}
 use Rattle.osc_lanes.specs.Performs.{Part, told_of}
 use Rattle.osc_top.specs.Lanes.{PlaysLanes, parts_of}
-use Rattle.osc_top.specs.Staged.{IsStaged}
-use Rattle.osc_top.specs.Watched.{PerformsWatched}
+use Rattle.osc_top.specs.Staged.{IsStaged, PerformsWatched}
 use Rattle.osc_top.proofs.Dealt.{parts_whole, few_parts}
 use Rattle.osc_top.proofs.Staged.{lanes_staged}
 use Rattle.osc_top.proofs.staging.stage.Goals as goal
