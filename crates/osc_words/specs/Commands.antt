@@ -1,6 +1,6 @@
 -- What the words of the command line say.
-use Rattle.std.specs.Prelude.{ℕ, ◌+◌, Bool, true, false, nat_le, if◌then◌else◌, List, [], ◌∷◌, Option}
-use Rattle.std.specs.Prelude.{Some, None, option_map, option_and_then, codes, ◌&&◌}
+use Rattle.std.specs.Prelude.{ℕ, ◌+◌, Bool, true, false, nat_le, if◌then◌else◌, List, [], ◌∷◌}
+use Rattle.std.specs.Prelude.{Option, Some, None, option_map, option_and_then, codes, ◌&&◌}
 use Rattle.std.specs.Option.{option_map_or}
 use Rattle.std.specs.Str.{bytes_eq}
 use Rattle.clap.specs.Words.{Row, first_of}
@@ -122,7 +122,8 @@ said_by verb.Dump rows = Some (to_read Dump)
 said_by verb.Upgrade rows = Some (to_read Upgrade)
 said_by verb.Score rows = Some (to_read (score_of rows))
 said_by verb.Gen rows = gen_of rows
-said_by verb.Lanes rows = option_map (λ caps. Live (Lanes caps (is_given Watch rows))) (caps_of rows)
+said_by verb.Lanes rows =
+    option_map (λ caps. Live (Lanes caps (is_given Watch rows))) (caps_of rows)
 said_by verb.Serve rows = serve_of rows
 said_by verb.Resume rows = resume_of rows
 
