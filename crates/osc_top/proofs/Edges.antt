@@ -42,11 +42,11 @@ use Rattle.osc_ends.specs.declared.outcome.Outcome.TheVariants.{Done, Full, Link
 use Rattle.osc_top.specs.Commands.{mode_of}
 use Rattle.osc_top.specs.Edges.{HasLinkRisen, HasRisen, TellsEdge}
 use Rattle.osc_top.specs.EndsCommand.{EndsCommand, plays_of}
-use Rattle.osc_top.specs.Lanes.{PlaysLanes, first_stop, lane_faults}
+use Rattle.osc_top.specs.Lanes.{first_stop, lane_faults}
 use Rattle.osc_top.specs.Watched.{EndsListed, faults_text, methods_text, watched_text}
 use Rattle.osc_ends.specs.Ends.{IsWritten}
 use Rattle.osc_top.specs.Served.{served}
-use Rattle.osc_ends.specs.Outcomes.{stopped, status_of}
+use Rattle.osc_ends.specs.Outcomes.{status_of}
 use Rattle.osc_top.specs.Commands.{live_limits}
 use Rattle.osc_ends.specs.Printing.{last_text}
 use Rattle.osc_top.specs.Served.{PlaysLinks, adds_part, link_faults}

@@ -1,5 +1,9 @@
+mod Continued
 mod Dealt
 mod Staged
 mod Unstopped
 mod LiveEnds
+mod ResumeEnds
 mod Edges
+mod Inputs
+mod OldMarks

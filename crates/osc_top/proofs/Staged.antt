@@ -72,7 +72,7 @@ module _ {X : Type 0} (number : X → ℕ) where
   all_named (x ∷ xs) = ap (λ (l : List Told). named (number x) ∷ l) (all_named xs)
 
   -- sorted items have ascending numbers in their order
-  same_ids : (ids : List ℕ) (sorted : List X) → is_ascending ids ≡ true → IsPermutation ids (map number sorted) → IsNonDecreasingBy number sorted
+  pub same_ids : (ids : List ℕ) (sorted : List X) → is_ascending ids ≡ true → IsPermutation ids (map number sorted) → IsNonDecreasingBy number sorted
       → map number sorted ≡ ids
   same_ids ids sorted ascending moved ordered =
       let there : IsPermutation (map named ids) (map (λ x. named (number x)) sorted) =
@@ -87,37 +87,41 @@ module _ {X : Type 0} (number : X → ℕ) where
 
 -- Boxes of lanes.
 
+-- where none were removed before
+pub none_gone : {X : Type 0} (kept more sorted gone : List X) → IsPermutation (kept ++ (gone ++ more)) sorted → gone ≡ [] → IsPermutation (kept ++ more) sorted
+none_gone {X} kept more sorted gone each none = subst (λ (l : List X). IsPermutation (kept ++ (l ++ more)) sorted) none each
+
 module _ {M : Type 0} where
   -- the boxes that lanes removed
   abbrev pub all_removed : List (Account M) → List (ℕ × M)
   all_removed accounts = flat_map (λ account. account.removed) accounts
 
-  ids_removed : (accounts : List (Account M)) → map (λ one. one.0) (all_removed accounts) ≡ removed_ids accounts
+  pub ids_removed : (accounts : List (Account M)) → map (λ one. one.0) (all_removed accounts) ≡ removed_ids accounts
   ids_removed [] = refl
   ids_removed (account ∷ accounts) =
       map-append (λ (one : ℕ × M). one.0) account.removed (all_removed accounts)
       ∙ ap (λ (l : List ℕ). map (λ one. one.0) account.removed ++ l) (ids_removed accounts)
 
-  each_removed : (P : ℕ × M → Type 0) (accounts : List (Account M)) → All (λ account. AllByRecursion P account.removed) accounts
+  pub each_removed : (P : ℕ × M → Type 0) (accounts : List (Account M)) → All (λ account. AllByRecursion P account.removed) accounts
       → AllByRecursion P (all_removed accounts)
   each_removed P [] each = tt
   each_removed P (account ∷ accounts) each =
       all_append P account.removed (all_removed accounts) (All-head (λ (a : Account M). AllByRecursion P a.removed) account accounts each)
       (each_removed P accounts (All-tail (λ (a : Account M). AllByRecursion P a.removed) account accounts each))
 
-  each_moved : (P : ℕ × M → Type 0) (xs ys : List (ℕ × M)) → IsPermutation xs ys → AllByRecursion P xs → AllByRecursion P ys
+  pub each_moved : (P : ℕ × M → Type 0) (xs ys : List (ℕ × M)) → IsPermutation xs ys → AllByRecursion P xs → AllByRecursion P ys
   each_moved P xs ys moved each = recursion_from_All P ys (All-permutation P xs ys moved (All-from_recursion P xs each))
 
   module _ (keep : M → ℕ) (heard : M → Option (List ℕ)) where
-    told_each : (P : Told → Type 0) (xs : List (ℕ × M)) → AllByRecursion P (told keep heard xs) → AllByRecursion (λ one. P (known_of keep heard one.0 one.1)) xs
+    pub told_each : (P : Told → Type 0) (xs : List (ℕ × M)) → AllByRecursion P (told keep heard xs) → AllByRecursion (λ one. P (known_of keep heard one.0 one.1)) xs
     told_each P [] each = tt
     told_each P (x ∷ xs) each = (each.0, told_each P xs each.1)
 
-    each_told : (P : Told → Type 0) (xs : List (ℕ × M)) → AllByRecursion (λ one. P (known_of keep heard one.0 one.1)) xs → AllByRecursion P (told keep heard xs)
+    pub each_told : (P : Told → Type 0) (xs : List (ℕ × M)) → AllByRecursion (λ one. P (known_of keep heard one.0 one.1)) xs → AllByRecursion P (told keep heard xs)
     each_told P [] each = tt
     each_told P (x ∷ xs) each = (each.0, each_told P xs each.1)
 
-    both_each : (P Q : ℕ × M → Type 0) (xs : List (ℕ × M)) → AllByRecursion P xs → AllByRecursion Q xs → AllByRecursion (λ one. P one × Q one) xs
+    pub both_each : (P Q : ℕ × M → Type 0) (xs : List (ℕ × M)) → AllByRecursion P xs → AllByRecursion Q xs → AllByRecursion (λ one. P one × Q one) xs
     both_each P Q [] p q = tt
     both_each P Q (x ∷ xs) p q = ((p.0, q.0), both_each P Q xs p.1 q.1)
 

@@ -1,4 +1,4 @@
--- What the words of the command line say to `live_top`.
+-- What the words of the command line say to `oscd`'s top calls.
 use Rattle.osc_model.specs.Limits.{Limits}
 use Rattle.osc_script.specs.declared.mode.Mode.{Mode}
 use Rattle.osc_script.specs.declared.mode.Mode.TheVariants.{Lanes, Serve}
@@ -8,6 +8,7 @@ use Rattle.std.specs.List.{range_with_len}
 use Rattle.std.specs.Option.{option_map_or}
 use Rattle.std.specs.Str.{bytes_eq}
 use Rattle.osc_words.specs.Commands as said
+use Rattle.osc_words.specs.Names.{last_two}
 use Rattle.osc_words.specs.declared.command.Capacities.{Capacities}
 use Rattle.osc_words.specs.declared.command.LiveCommand.{LiveCommand}
 use Rattle.osc_words.specs.declared.command.LiveCommand.TheVariants as live
@@ -49,3 +50,8 @@ abbrev pub name_in : List (List ℕ) → Option (List ℕ)
 name_in [] = None
 name_in (word ∷ words) =
     if bytes_eq word (codes "lanes") || bytes_eq word (codes "serve") then last_of words else None
+
+-- the last two of three words or more, of which the first is `resume`
+abbrev pub names_in : List (List ℕ) → Option (List ℕ × List ℕ)
+names_in [] = None
+names_in (word ∷ words) = if bytes_eq word (codes "resume") then last_two words else None

@@ -1,5 +1,5 @@
 -- What failed of links and a clock, and what is told of it.
-use Rattle.std.specs.Prelude.{◌≡◌, ℕ, List, ◌++◌, slice_get, IsSomeAnd}
+use Rattle.std.specs.Prelude.{ℕ, List, ◌++◌, slice_get, IsSomeAnd}
 use Rattle.osc_edge.specs.Faults.{Rose}
 use Rattle.osc_links.specs.Ticks.{ClockRead}
 use Rattle.osc_ends.specs.declared.outcome.Outcome.{Outcome}

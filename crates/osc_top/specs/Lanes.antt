@@ -1,6 +1,6 @@
 -- What a run of lanes comes to.
-use Rattle.std.specs.Prelude.{◌≡◌, ℕ, Bool, zero, suc, ◌+◌, ◌==◌, max, List, [], ◌∷◌, ◌++◌, map, filter}
-use Rattle.std.specs.Prelude.{drop, Option, None, if◌then◌else◌}
+use Rattle.std.specs.Prelude.{◌≡◌, ℕ, Bool, zero, suc, ◌+◌, ◌==◌, max, List, [], ◌∷◌, ◌++◌}
+use Rattle.std.specs.Prelude.{map, filter, drop, Option, None, if◌then◌else◌}
 use Rattle.std.specs.List.{AllByRecursion, flat_map}
 use Rattle.std.specs.Option.{option_or}
 use Rattle.osc_model.specs.Limits.{Limits}
@@ -77,11 +77,11 @@ module _ {M : Type 0} where
   -- The script's lanes were played on one new server. The boxes that were added have heard its one
   -- history; the others come back, lane by lane, and behind them those that no line took. The text
   -- is that of the history, then the faults of the lanes, where they are watched the methods that
-  -- stand after the history, and last the line on the stop, where there is one: of the enrolment for
-  -- which there was no room, or of the least lane.
+  -- stand after the history, and last the line on the stop, where there is one: of the enrolment
+  -- for which there was no room, or of the least lane.
   pub record PlaysLanes (keep : M → ℕ) (heard : M → Option (List ℕ)) (caps : Limits)
-      (watched : Bool) (bank : List M) (boxes_heard : List (ℕ × M)) (boxes_left : List M) (lines : List Line)
-      (recording text : List ℕ) (outcome : Outcome) : Type 0 where
+      (watched : Bool) (bank : List M) (boxes_heard : List (ℕ × M)) (boxes_left : List M)
+      (lines : List Line) (recording text : List ℕ) (outcome : Outcome) : Type 0 where
     pub kept : List (ℕ × M)
     pub accounts : List (Account M)
     pub unenrolled : Option Room

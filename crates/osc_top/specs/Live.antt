@@ -4,8 +4,8 @@ use Rattle.osc_script.specs.declared.line.Line.{Line}
 use Rattle.osc_script.specs.declared.mode.Mode.{Mode}
 use Rattle.osc_script.specs.Scripts.{script_of}
 use Rattle.osc_ends.specs.declared.outcome.Outcome.{Outcome}
-use Rattle.osc_ends.specs.declared.status.TheConstants.{BANK_SHORT, DONE, EDGE_FAILED, NO_MEMORY}
-use Rattle.osc_ends.specs.declared.status.TheConstants.{RECORDING_FULL, REFUSED, SINK_FAILED}
+use Rattle.osc_ends.specs.declared.status.TheConstants.{BANK_SHORT, NO_MEMORY}
+use Rattle.osc_ends.specs.declared.status.TheConstants.{REFUSED, SINK_FAILED}
 use Rattle.osc_ends.specs.Ends.{IsWritten}
 use Rattle.osc_ends.specs.Outcomes.{status_of}
 use Rattle.osc_script.specs.Adds.{count_adds}

@@ -1,11 +1,6 @@
 -- Inside the crate: what is made of a recording, and how writing it ends.
 use Rattle.osc_ends.specs.declared.status.TheConstants.{NO_MEMORY, SINK_FAILED}
-use Rattle.std.specs.Prelude.{◌≡◌, ◌⊎◌, ℕ, List, ◌++◌}
-use Rattle.osc_model.specs.Limits.{Limits}
-use Rattle.osc_model.specs.Events.{Entry}
-use Rattle.osc_replay.specs.Printed.{printed}
-use Rattle.osc_ends.specs.declared.outcome.Outcome.{Outcome}
-use Rattle.osc_ends.specs.Printing.{last_text}
+use Rattle.std.specs.Prelude.{◌≡◌, ◌⊎◌, ℕ, List}
 use Rattle.osc_ends.specs.Sinks.{SinkChange, GainsAll, GainsPart, IsUntouched}
 
 -- The end of writing a recording to one sink and then its text to another: as it was decided, where

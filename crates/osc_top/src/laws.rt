@@ -2,6 +2,7 @@
 ghost use Rattle.std.specs.Prelude.{
   ◌≡◌,
   ◌≤◌,
+  ◌<◌,
   ◌+◌,
   ◌*◌,
   ◌∷◌,
@@ -11,9 +12,13 @@ ghost use Rattle.std.specs.Prelude.{
   List,
   IsOkAnd,
   codes,
+  length,
   map,
 };
+ghost use Rattle.std.specs.List.{AllByRecursion};
 ghost use Rattle.osc_model.specs.Limits.{Limits};
+ghost use Rattle.osc_model.specs.Events.{Entry};
+ghost use Rattle.osc_live.specs.Resuming.{HasMarkOf, added_in};
 ghost use Rattle.osc_script.specs.declared.line.Line.{Line};
 ghost use Rattle.osc_script.specs.declared.mode.Mode.TheVariants.{Lanes};
 ghost use Rattle.osc_script.specs.Scripts.{script_of};
@@ -21,6 +26,7 @@ ghost use Rattle.osc_ends.specs.declared.outcome.Outcome.{Outcome};
 ghost use Rattle.osc_ends.specs.declared.outcome.Outcome.TheVariants.{Done};
 ghost use Rattle.osc_top.specs.Enough.{enough_lanes};
 ghost use Rattle.osc_top.specs.Lanes.{parts_of, PlaysLanes};
+ghost use Rattle.osc_top.specs.Resumed.{PlaysResumed};
 
 use osc_method::Method;
 
@@ -48,4 +54,20 @@ pub fn enough_room_stops_no_lane<M: Method>()
         → enough_lanes lines ≤ caps.recording → outcome ≡ Done }
 {
     osc_lanes::laws::enough_room_never_stops::<M>();
+}
+
+/// Each method that a past adds has the bank's box in the place of its id, whether the past removes it or not.
+pub fn methods_of_a_past_have_the_first_boxes<M: Method>()
+    ensures { (caps : Limits) (before : List Entry) (bank : List M) (boxes_heard : List (ℕ × M))
+        (boxes_left : List M) (lines : List Line) (recording : List ℕ) (text : List ℕ)
+        (outcome : Outcome)
+        → PlaysResumed M.keep M.heard caps before bank boxes_heard boxes_left lines recording text
+        outcome
+        → added_in before ≤ length bank
+        → AllByRecursion (λ one. one.0 < added_in before → HasMarkOf M.keep M.heard bank one)
+        boxes_heard }
+{
+    osc_model::laws::a_server_stays_sound();
+    osc_model::laws::a_legal_history_is_recordable();
+    osc_record::laws::a_written_entry_is_read_again();
 }

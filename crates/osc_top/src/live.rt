@@ -229,7 +229,7 @@ pub fn live_top<
 }
 
 /// The end of a program that played nothing.
-fn unplayed(alloc: Global, status: u8, bank: Vec<Box<dyn Method + Send>>) -> Ended
+pub(crate) fn unplayed(alloc: Global, status: u8, bank: Vec<Box<dyn Method + Send>>) -> Ended
     ensures status { result.status ≡ status }
     ensures heard { result.heard.items ≡ [] }
     ensures left { result.left.items ≡ bank.items }
@@ -314,7 +314,7 @@ fn play_lines<
 }
 
 /// Writes what was played.
-fn end<O: Sink, R: Sink>(
+pub(crate) fn end<O: Sink, R: Sink>(
     alloc: Global,
     played: Played<Box<dyn Method + Send>>,
     out: &mut O,

@@ -54,15 +54,17 @@ pub(crate) fn stage<M: Method + Send, W: Threads + Wait + Sync, G: Gate + Sync>(
     let (parts, rest) = deal(alloc, lines, bank)?;
     let listed = play_parts(rt, alloc, caps, watch, parts, gate)?;
     let Listed { performed, list } = listed;
-    let mut played = settle(alloc, performed, rest)?;
+    let mut played = settle(alloc, performed, Vec::new(alloc), rest)?;
     played.recorded.faults.word(list.bytes())?;
     Ok(played)
 }
 
-/// Puts together what the lanes tell. The boxes that no lane got are among those that are left.
-fn settle<M: Method>(
+/// Puts together what the lanes tell. The boxes that were removed before are among those that heard, and the boxes that
+/// no lane got among those that are left.
+pub(crate) fn settle<M: Method>(
     alloc: Global,
     performed: Performed<M>,
+    mut gone: Vec<(u32, M)>,
     rest: IntoIter<M>,
 ) -> Result<Played<M>, AllocError>
     ensures bytes { IfOk result
@@ -73,7 +75,7 @@ fn settle<M: Method>(
         ≡ outcomes.stopped (option_or (option_map room_of performed.unenrolled)
         (first_stop (map told_of performed.lanes.items)))) }
     ensures each { IfOk result (λ played. IsPermutation (performed.closed.kept.items
-        ++ flat_map (λ account. account.removed) (map told_of performed.lanes.items))
+        ++ (gone.items ++ flat_map (λ account. account.removed) (map told_of performed.lanes.items)))
         played.heard.items) }
     ensures ascending { IfOk result
         (λ played. IsNonDecreasingBy (λ one. one.0) played.heard.items) }
@@ -87,12 +89,13 @@ fn settle<M: Method>(
         unenrolled,
     } = performed;
     let Gathered {
-        removed,
+        mut removed,
         mut left,
         faults,
         stop,
     } = gather_lanes(alloc, lanes)?;
-    let heard = gather(closed.kept, removed)?;
+    gone.append(&mut removed)?;
+    let heard = gather(closed.kept, gone)?;
     keep_rest(&mut left, rest)?;
     let recorded = Recorded {
         bytes: closed.bytes,

@@ -5,7 +5,7 @@ use Rattle.osc_ends.proofs.Inputs.{if_so, of_so}
 use Rattle.osc_ends.proofs.Said.{of_said}
 use Rattle.osc_top.specs.Commands.{live_limits, mode_of}
 use Rattle.osc_top.proofs.Edges.{live_edge, live_history, live_listed, live_short, live_still}
-use Rattle.osc_top.proofs.LiveEnds.{cut_fails, done_steady, in_mode, lawful_short, live_complete, live_enough, may_end_short, refused_in, script_refused}
+use Rattle.osc_top.proofs.LiveEnds.{cut_fails, done_steady, in_mode, live_complete, live_enough, refused_in, script_refused}
 use Rattle.osc_top.proofs.live.live_top.Goals as goal
 
 -- Where a script was read.

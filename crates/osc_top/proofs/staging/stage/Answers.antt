@@ -1,11 +1,12 @@
 use Rattle.std.proofs.Common.{ℕ, List, ◌++◌, map, sym, subst, ◌∙◌, arith}
+use Rattle.std.specs.List.{flat_map}
 use Rattle.std.specs.Option.{option_map}
 use Rattle.osc_record.specs.Shown.{room_of}
 use Rattle.osc_lanes.specs.Performs.{Part, told_of}
 use Rattle.osc_top.specs.Lanes.{PlaysLanes, parts_of}
 use Rattle.osc_top.specs.Staged.{IsStaged, PerformsWatched}
 use Rattle.osc_top.proofs.Dealt.{parts_whole, few_parts}
-use Rattle.osc_top.proofs.Staged.{lanes_staged}
+use Rattle.osc_top.proofs.Staged.{lanes_staged, none_gone}
 use Rattle.osc_top.proofs.staging.stage.Goals as goal
 use Rattle.osc_top.proofs.staging.stage.Goals.{In_ok-played}
 
@@ -54,5 +55,6 @@ returns g c =
     (sym done.bytes)
     (lanes_staged keep heard c.args.caps c.args.watch lines bank performed.closed.bytes.items performed.closed.kept.items
     (map told_of performed.lanes.items) (option_map room_of performed.unenrolled) listed.list played.heard.items (performed_so g (goal.at.returns g c).In_ok-played)
-    done.each done.ascending played.left.items _ said outcome done.left c.in_ok-parts.ensures.rest
+    (none_gone performed.closed.kept.items (flat_map (λ account. account.removed) (map told_of performed.lanes.items)) played.heard.items c.new.result.items
+    done.each c.new.ensures.items) done.ascending played.left.items _ said outcome done.left c.in_ok-parts.ensures.rest
     (c.in_ok-word.ensures.ok ∙ (λ i. done.faults i ++ c.bytes.ensures i)) done.outcome)

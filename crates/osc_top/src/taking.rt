@@ -1,0 +1,123 @@
+// Takes in a past, and the script that is to be played behind it.
+ghost use Rattle.osc_ends.specs.declared.status.TheConstants.{
+  DONE,
+  NO_MEMORY,
+  REFUSED,
+  SOURCE_FAILED,
+};
+ghost use Rattle.std.specs.Prelude.{
+  ◌≡◌,
+  ◌≢◌,
+  ◌⊎◌,
+  ℕ,
+  List,
+  [],
+  Some,
+  IfSome,
+  IfOk,
+  IfErr,
+};
+ghost use Rattle.osc_edge.specs.Faults.{Rose};
+ghost use Rattle.osc_model.specs.Limits.{max_recording};
+ghost use Rattle.osc_script.specs.declared.script.TheConstants.{MAX_SCRIPT};
+ghost use Rattle.osc_script.specs.declared.mode.Mode.TheVariants.{Lanes};
+ghost use Rattle.osc_script.specs.Scripts.{AreOf};
+ghost use Rattle.osc_ends.specs.Ends.{left_behind};
+ghost use Rattle.osc_ends.specs.Inputs.{read_status};
+ghost use Rattle.osc_ends.specs.Judging.{Empties, IsAll, IsReadOf};
+ghost use Rattle.osc_ends.specs.Sinks.{sink_change};
+ghost use Rattle.osc_top.specs.Taken.{OfInputs, TakesIn};
+
+use osc_edge::{Sink, Source};
+use osc_ends::{CheckedRecording, Whole, judge_recording, judge_script, read_input};
+use osc_record::MAX_RECORDING;
+use osc_script::{Line, MAX_SCRIPT, Mode};
+use std::alloc::Global;
+
+/// What is gone on from, and what is to be played on it.
+#[derive(Drop)]
+pub(crate) struct Taken {
+    pub(crate) past: CheckedRecording,
+    pub(crate) lines: Vec<Line>,
+}
+
+/// Reads a past and then a script, each to its end, and then judges them in the same order. The `Err` is the status with
+/// which the program ends: 1, where one of them is refused, of which lines are written, 3 or 4. The script isn't read
+/// where the past's source failed.
+pub(crate) fn take_in<P: Source, S: Source, O: Sink>(
+    alloc: Global,
+    past: &mut P,
+    input: &mut S,
+    out: &mut O,
+) -> Result<Taken, u8>
+    ensures taken { OfInputs (P.left past.old) (S.left input.old) (λ bytes script.
+        TakesIn result bytes script (sink_change O.held O.faults out.old out.new)) }
+    ensures known { IfErr result
+        (λ status. (status ≡ REFUSED) ⊎ (status ≡ NO_MEMORY) ⊎ (status ≡ SOURCE_FAILED)) }
+    ensures fitting { IfOk result (λ taken. AreOf Lanes taken.lines.items) }
+    ensures ended { IfOk result (λ taken.
+        IfSome (P.left past.old) (λ all. P.left past.new ≡ Some [])
+        × IfSome (S.left input.old) (λ all. S.left input.new ≡ Some [])) }
+    ensures source { read_status result ≡ SOURCE_FAILED
+        → (Rose (P.faults past.old) (P.faults past.new) × (input.new ≡ input.old))
+        ⊎ ((P.faults past.new ≡ P.faults past.old)
+        × Rose (S.faults input.old) (S.faults input.new)) }
+    ensures sound { read_status result ≢ NO_MEMORY → read_status result ≢ SOURCE_FAILED
+        → (P.faults past.new ≡ P.faults past.old) × (S.faults input.new ≡ S.faults input.old) }
+    ensures past_read { IfSome (P.left past.old)
+        (λ all. read_status result ≢ NO_MEMORY → read_status result ≢ SOURCE_FAILED
+        → P.left past.new ≡ Some (left_behind max_recording all)) }
+    ensures input_read { IfSome (S.left input.old)
+        (λ all. read_status result ≢ NO_MEMORY → read_status result ≢ SOURCE_FAILED
+        → S.left input.new ≡ Some (left_behind MAX_SCRIPT all)) }
+    ensures unwritten { (read_status result ≡ DONE) ⊎ (read_status result ≡ SOURCE_FAILED)
+        → out.new ≡ out.old }
+{
+    let (past, script) = read_both(alloc, past, input)?;
+    judge_both(alloc, past, script, out)
+}
+
+/// Reads a past and then a script.
+fn read_both<P: Source, S: Source>(
+    alloc: Global,
+    past: &mut P,
+    input: &mut S,
+) -> Result<(Whole, Whole), u8>
+    ensures read { IfOk result (λ both. OfInputs (P.left past.old) (S.left input.old)
+        (λ bytes script. IsReadOf max_recording both.0 bytes × IsReadOf MAX_SCRIPT both.1 script)) }
+    ensures past_whole { IfOk result
+        (λ both. Empties both.0 (P.left past.old) (P.left past.new)) }
+    ensures script_whole { IfOk result
+        (λ both. Empties both.1 (S.left input.old) (S.left input.new)) }
+    ensures known { IfErr result (λ status. (status ≡ NO_MEMORY) ⊎ (status ≡ SOURCE_FAILED)) }
+    ensures source { IfErr result (λ status. status ≡ SOURCE_FAILED
+        → (Rose (P.faults past.old) (P.faults past.new) × (input.new ≡ input.old))
+        ⊎ ((P.faults past.new ≡ P.faults past.old)
+        × Rose (S.faults input.old) (S.faults input.new))) }
+    ensures sound { IfOk result (λ both.
+        (P.faults past.new ≡ P.faults past.old) × (S.faults input.new ≡ S.faults input.old)) }
+    ensures past_read { IfSome (P.left past.old)
+        (λ all. IfOk result (λ both. P.left past.new ≡ Some (left_behind max_recording all))) }
+    ensures script_read { IfSome (S.left input.old)
+        (λ all. IfOk result (λ both. S.left input.new ≡ Some (left_behind MAX_SCRIPT all))) }
+{
+    let past = read_input(alloc, MAX_RECORDING as usize, past)?;
+    let script = read_input(alloc, MAX_SCRIPT, input)?;
+    Ok((past, script))
+}
+
+/// Judges a past, and then a script.
+fn judge_both<O: Sink>(alloc: Global, past: Whole, script: Whole, out: &mut O) -> Result<Taken, u8>
+    requires { (bytes : List ℕ) × IsReadOf max_recording past bytes }
+    ensures taken { (bytes : List ℕ) (text : List ℕ) → IsReadOf max_recording past bytes
+        → IsReadOf MAX_SCRIPT script text
+        → TakesIn result bytes text (sink_change O.held O.faults out.old out.new) }
+    ensures known { IfErr result (λ status. (status ≡ REFUSED) ⊎ (status ≡ NO_MEMORY)) }
+    ensures fitting { IfOk result (λ taken. AreOf Lanes taken.lines.items) }
+    ensures whole { IfOk result (λ taken. IsAll past × IsAll script) }
+    ensures unwritten { IfOk result (λ taken. out.new ≡ out.old) }
+{
+    let past = judge_recording(alloc, past, out)?;
+    let lines = judge_script(alloc, Mode::Lanes, script, out)?;
+    Ok(Taken { past, lines })
+}
