@@ -4,6 +4,8 @@
 #[cfg(test)]
 mod callers;
 #[cfg(test)]
+mod cut;
+#[cfg(test)]
 mod hold;
 #[cfg(test)]
 mod listed;

@@ -1,4 +1,4 @@
-//! Tests of the program of many threads, over its public call.
+//! Tests of the program of many threads, over its public calls.
 #![tactic(auto)]
 
 #[cfg(test)]
@@ -9,6 +9,8 @@ mod live;
 mod loopback;
 #[cfg(test)]
 mod program;
+#[cfg(test)]
+mod resume;
 #[cfg(test)]
 mod serve;
 #[cfg(test)]

@@ -36,8 +36,8 @@ pub(crate) struct Outcome {
     pub(crate) status: u8,
     pub(crate) written: Vec<u8>,
     pub(crate) recorded: Vec<u8>,
-    heard: usize,
-    left: usize,
+    pub(crate) heard: usize,
+    pub(crate) left: usize,
 }
 
 /// Does what the words say with the script.
@@ -82,7 +82,7 @@ pub(crate) fn perform<R: Threads + Wait + Sync, G: Gate + Sync>(
 }
 
 /// The first words of a caller's entries in a printed history, with a space behind each.
-fn entries_of(alloc: Global, printed: &str, caller: &str) -> Result<String, AllocError> {
+pub(crate) fn entries_of(alloc: Global, printed: &str, caller: &str) -> Result<String, AllocError> {
     let mut entries = String::new(alloc);
     for line in printed.lines() {
         let mut words = line.split(' ');

@@ -1,4 +1,4 @@
-// What the program is given, and its recording replayed.
+// What the program is given, and what `osc` makes of an input.
 use osc_edge::{SteadySink, SteadySource};
 use osc_top::plain_top;
 use std::alloc::{AllocError, Global};
@@ -13,11 +13,16 @@ pub(crate) fn words(alloc: Global, line: &str) -> Result<Vec<String>, AllocError
     Ok(words)
 }
 
-/// What a recording prints as, replayed by the plain program.
-pub(crate) fn replayed(alloc: Global, recording: &[u8]) -> Result<(u8, Vec<u8>), Fail> {
-    let words = words(alloc, "replay")?;
-    let mut source = SteadySource::open(Vec::from_slice(alloc, recording)?);
+/// What the plain program makes of an input: the status and what is written.
+pub(crate) fn plain(alloc: Global, line: &str, input: &[u8]) -> Result<(u8, Vec<u8>), Fail> {
+    let words = words(alloc, line)?;
+    let mut source = SteadySource::open(Vec::from_slice(alloc, input)?);
     let mut sink = SteadySink::open(alloc);
     let ended = plain_top(alloc, &words, &mut source, &mut sink, Vec::new(alloc));
     Ok((ended.status, Vec::from_slice(alloc, sink.bytes())?))
+}
+
+/// What a recording prints as, replayed by the plain program.
+pub(crate) fn replayed(alloc: Global, recording: &[u8]) -> Result<(u8, Vec<u8>), Fail> {
+    plain(alloc, "replay", recording)
 }
