@@ -67,6 +67,12 @@ __attribute__((destructor)) static void tell(void) {
     int file;
     if (name == NULL || (file = open(name, O_WRONLY | O_CREAT | O_TRUNC, 0666)) < 0) return;
     snprintf(text, sizeof text, "%lld %lld %lld\n", reads, least_ns, reads == 0 ? 0 : all_ns / reads);
-    if (write(file, text, strlen(text)) < 0) _exit(70);
+    if (write(file, text, strlen(text)) < 0) syscall(SYS_exit_group, 70);
     close(file);
+}
+
+/* A program of threads ends by this, behind which nothing else is called. */
+void _exit(int status) {
+    tell();
+    for (;;) syscall(SYS_exit_group, status);
 }

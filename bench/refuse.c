@@ -7,6 +7,7 @@
 #include <stdio.h>
 #include <stdlib.h>
 #include <string.h>
+#include <sys/syscall.h>
 #include <unistd.h>
 
 extern void *__libc_malloc(size_t size);
@@ -70,6 +71,12 @@ __attribute__((destructor)) static void tell(void) {
     int file;
     if (name == NULL || (file = open(name, O_WRONLY | O_CREAT | O_TRUNC, 0666)) < 0) return;
     snprintf(text, sizeof text, "%ld\n", atomic_load(&made));
-    if (write(file, text, strlen(text)) < 0) _exit(70);
+    if (write(file, text, strlen(text)) < 0) syscall(SYS_exit_group, 70);
     close(file);
+}
+
+/* A program of threads ends by this, behind which nothing else is called. */
+void _exit(int status) {
+    tell();
+    for (;;) syscall(SYS_exit_group, status);
 }

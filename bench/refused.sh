@@ -73,6 +73,9 @@ try 'osc replay' osc replay
 try 'osc dump' osc dump
 cp "$top/examples/four-lanes.osc" "$work/input"
 try 'oscd lanes' oscd lanes rec
+run 0 oscd lanes old
+cp "$top/examples/encore.osc" "$work/input"
+try 'oscd resume' oscd resume old rec
 cp "$top/examples/stage.osc" "$work/input"
 try 'oscd serve' oscd serve --port 9471 --idle 1 rec
 exit "$failed"

@@ -15,6 +15,7 @@ cc -O2 -Wall -shared -fPIC -o "$work/reads.so" "$here/reads.c"
 "$top/bin/oscd" lanes /dev/null < /dev/null > /dev/null # builds it
 program="$top/crates/oscd/out/oscd"
 methods=1000
+around= # what stands in the environment of a run
 
 # Lane 0 adds the methods. Lanes 1 to 4 submit so many messages each, and each pumps after a hundred.
 script() { # SENDS
@@ -28,7 +29,7 @@ script() { # SENDS
 }
 
 lanes() { # [--watch]
-    "$program" lanes "$@" /dev/null < "$work/input" > "$work/out"
+    env $around "$program" lanes "$@" /dev/null < "$work/input" > "$work/out"
 }
 
 least_nanoseconds() { # [--watch]
@@ -49,17 +50,17 @@ count() { # [--watch]
         --callgrind-out-file="$work/calls" "$program" lanes "$@" /dev/null < "$work/input" > "$work/out" 2> "$work/errors"
 }
 
-# The instructions of all threads but the one that watches.
-of_lanes() {
-    grep -L '^fn=.*beside::watch_while' "$work"/calls-* | xargs sed -n 's/^totals: //p' | awk '{ all += $1 } END { print all }'
+# The instructions of the thread of a lane that submits: the most of those that neither watch nor are the first.
+of_lane() {
+    grep -L '^fn=osc_watch::' "$work"/calls-* | grep -v 'calls-01$' | xargs sed -n 's/^totals: //p' | sort -n | tail -n 1
 }
 
-# The instructions of a read in the thread that watches, in the mean.
+# The instructions of the last read, which the first thread makes behind the lanes.
 of_read() {
-    cat $(grep -l '^fn=.*beside::watch_while' "$work"/calls-*) | awk '
+    awk '
         /^cfn=/ { read = /Watcher::list/ }
         /^calls=/ { split($1, parts, "="); if (read) calls += parts[2]; getline; if (read) all += $2; read = 0 }
-        END { if (calls > 0) print int(all / calls) }'
+        END { if (calls > 0) print int(all / calls) }' "$work/calls-01"
 }
 
 lost() { # WITHOUT WITH
@@ -67,19 +68,20 @@ lost() { # WITHOUT WITH
 }
 
 script 50000 > "$work/input"
-ROWS=$methods TIMED="$work/timed" LD_PRELOAD="$work/reads.so" lanes --watch
+around="ROWS=$methods TIMED=$work/timed LD_PRELOAD=$work/reads.so"
+lanes --watch
+around=
 read -r reads least mean < "$work/timed"
 without=$(least_nanoseconds)
 with=$(least_nanoseconds --watch)
 
 script 2000 > "$work/input"
 count
-without_counted=$(of_lanes)
+without_counted=$(of_lane)
 count --watch
-with_counted=$(of_lanes)
+with_counted=$(of_lane)
 
-echo "A read of $methods methods, of $reads that a watcher made while four lanes submitted 50,000 messages each; instructions while they"
-echo "submitted 2,000 each:"
+echo "A read of $methods methods, of $reads that a watcher made while four lanes submitted 50,000 messages each; instructions of the last:"
 echo
 echo "| least ns | mean ns | instructions |"
 echo "|---|---|---|"
@@ -90,4 +92,4 @@ echo
 echo "| of | without | with | lost |"
 echo "|---|---|---|---|"
 echo "| nanoseconds of the whole run | $without | $with | $(lost "$without" "$with") |"
-echo "| instructions of the lanes' threads | $without_counted | $with_counted | $(lost "$without_counted" "$with_counted") |"
+echo "| instructions of a lane's thread | $without_counted | $with_counted | $(lost "$without_counted" "$with_counted") |"
