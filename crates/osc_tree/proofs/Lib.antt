@@ -20,6 +20,7 @@ mod Tables
 pub mod Apart
 pub mod Neighbours
 pub mod Searches
+mod Compared
 pub mod Lookups
 pub mod Spelled
 pub mod Beginnings

@@ -4,6 +4,7 @@
 
 mod adding;
 mod beginning;
+mod guesses;
 mod hits;
 pub mod laws;
 mod literal;

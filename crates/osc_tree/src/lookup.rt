@@ -1,15 +1,16 @@
 // Which methods stand at, above and below an address.
 ghost use Rattle.std.specs.Prelude.{◌≡◌, ◌<◌, if◌then◌else◌, find, length, nat_eq, slice_index};
-ghost use Rattle.std.specs.Prelude.{take, true, All, None, MatchBool};
+ghost use Rattle.std.specs.Prelude.{take, true, All, None, Some, IfSome, MatchBool};
 ghost use Rattle.std.specs.Option.{option_copied};
 ghost use Rattle.std.specs.List.{list_any};
-ghost use Rattle.osc_pattern.specs.Addresses.{is_proper_prefix};
+ghost use Rattle.osc_pattern.specs.Addresses.{is_proper_prefix, IsAddress};
 ghost use Rattle.osc_pattern.specs.Items.{is_slash};
 ghost use Rattle.osc_pattern.specs.Methods.{IsMethodList};
 ghost use Rattle.osc_tree.specs.Order.{IsOrder, IsSearched, StandsAt, begins_with};
 ghost use Rattle.osc_tree.specs.Registry.{NoneAt, id_at, id_above};
 ghost use Rattle.osc_tree.specs.Views.{method_at, methods_of, methods_at};
 
+use crate::guesses::Guesses;
 use crate::registered::Registered;
 use crate::search::{count_before, count_before_both};
 
@@ -39,6 +40,20 @@ pub(crate) fn id_at(methods: &[Registered], places: &[u32], address: &[u8]) -> O
 {
     let at = count_before(methods, places, address);
     id_there(methods, places, at, address)
+}
+
+/// The id of the method at the address, where it stands where it is guessed to.
+pub(crate) fn guessed_id(methods: &[Registered], guesses: &Guesses, address: &[u8]) -> Option<u32>
+    requires { IsMethodList (methods_of methods.now) }
+    ensures id { IfSome result (λ id. id_at (methods_of methods.now) address.now ≡ Some id) }
+    ensures lawful { IfSome result (λ _. IsAddress address.now) }
+    ensures some { IfSome result (λ _. 0 < length methods.now) }
+{
+    let method = methods.get(guesses.place(address)?)?;
+    if method.address.bytes() != address {
+        return None;
+    }
+    Some(method.id)
 }
 
 /// The id of the method that the search for an address came to, if it has it.

@@ -2,7 +2,7 @@
 ghost use Rattle.osc_pattern.specs.declared.limits.TheConstants.{MAX_NAME, MAX_NAMES};
 ghost use Rattle.std.specs.Prelude.{◌≡◌, ◌≤◌, ◌<◌, ◌+◌, ◌++◌, ◌∷◌, ◌==◌, ◌&&◌, [], not, nat_le};
 ghost use Rattle.std.specs.Prelude.{nat_lt, if◌then◌else◌, true, None, length, take, filter, map};
-ghost use Rattle.std.specs.Prelude.{position, All, vec_len, vec_capacity};
+ghost use Rattle.std.specs.Prelude.{position, All, vec_len, vec_capacity, MatchBool};
 ghost use Rattle.std.specs.List.{slice_split, position_or_len};
 ghost use Rattle.std.specs.List.Sorted.{IsPartitionedBy};
 ghost use Rattle.osc_pattern.specs.Items.{is_slash};
@@ -17,12 +17,13 @@ ghost use Rattle.osc_tree.specs.Walking.{most_steps, shared, agreeing, part_step
 ghost use Rattle.osc_tree.specs.Walking.{IsWalked, IsSorted, AreParts};
 
 use crate::beginning::beginning_with;
+use crate::guesses::Guesses;
 use crate::literal::first_special;
-use crate::lookup::id_at;
+use crate::lookup::{guessed_id, id_at};
 use crate::names::{count_names, first_name, names_of, shared_names};
 use crate::parts::{find_parts, read_parts, ready_parts};
 use crate::registered::Registered;
-use osc_pattern::laws::{plain_pattern, tests_are_exact};
+use osc_pattern::laws::{an_address_is_a_pattern, plain_pattern, tests_are_exact};
 use osc_pattern::{MAX_NAMES, Part, Pattern, Steps};
 use std::sync::ledger::Ledger;
 
@@ -32,6 +33,7 @@ use std::sync::ledger::Ledger;
 pub(crate) fn find_ids<L: Ledger>(
     methods: &[Registered],
     places: &[u32],
+    guesses: &Guesses,
     pattern: &Pattern<'_>,
     ids: &mut Vec<u32>,
     steps: &mut Steps<L>,
@@ -46,6 +48,9 @@ pub(crate) fn find_ids<L: Ledger>(
     ensures bounded { steps.new ≤ steps.old + most_steps pattern.now (methods_of methods.now) }
 {
     ids.clear();
+    if add_guessed(methods, guesses, pattern, ids) {
+        return;
+    }
     let text = pattern.bytes();
     match first_special(text) {
         Some(end) => {
@@ -58,6 +63,32 @@ pub(crate) fn find_ids<L: Ledger>(
         }
         None => add_spelled(methods, places, pattern, ids),
     }
+}
+
+/// Adds the id of the method whose address the pattern spells, where it stands where it is guessed to, and answers whether
+/// it does. The pattern matches no other.
+fn add_guessed(
+    methods: &[Registered],
+    guesses: &Guesses,
+    pattern: &Pattern<'_>,
+    ids: &mut Vec<u32>,
+) -> bool
+    requires list { IsMethodList (methods_of methods.now) }
+    requires empty { ids.old.items ≡ [] }
+    requires room { length methods.now ≤ vec_capacity ids.old }
+    ensures ids { MatchBool result
+        (ids.new.items ≡ matching_ids pattern.now (methods_of methods.now))
+        (ids.new.items ≡ []) }
+    ensures len { vec_len ids.new ≤ length methods.now }
+    ensures capacity { vec_capacity ids.old ≤ vec_capacity ids.new }
+{
+    an_address_is_a_pattern();
+    tests_are_exact();
+    let Some(id) = guessed_id(methods, guesses, pattern.bytes()) else {
+        return false;
+    };
+    add_id(id, ids);
+    true
 }
 
 /// Adds the id of the method whose address the pattern spells, if there is one. It matches no other.

@@ -1,5 +1,7 @@
 // Where a text stands in the order of the methods' addresses.
 ghost use Rattle.std.specs.Prelude.{◌≡◌, ◌≤◌, ◌<◌, ◌++◌, length};
+ghost use Rattle.std.specs.Ordering.{nat_cmp};
+ghost use Rattle.std.specs.Cmp.Lexicographic.{slice_cmp};
 ghost use Rattle.osc_tree.specs.Order.{is_before, IsOrder, IsSearched};
 ghost use Rattle.osc_tree.specs.Views.{method_at, methods_at};
 
@@ -47,8 +49,20 @@ fn is_before(methods: &[Registered], place: u32, text: &[u8], tail: &[u8]) -> bo
 {
     let address = methods[place as usize].address.bytes();
     let (front, rest) = address.split_at(text.len().min(address.len()));
-    match front.cmp(text) {
+    match order_of(front, text) {
         Ordering::Equal => rest.cmp(tail).is_lt(),
         order => order.is_lt(),
     }
+}
+
+/// How two texts stand in the order of their bytes.
+fn order_of(text: &[u8], other: &[u8]) -> Ordering
+    ensures { result ≡ slice_cmp nat_cmp text.now other.now }
+{
+    for at in 0..text.len().min(other.len()) {
+        if text[at] != other[at] {
+            return text[at].cmp(&other[at]);
+        }
+    }
+    text.len().cmp(&other.len())
 }

@@ -12,6 +12,7 @@ ghost use Rattle.osc_tree.specs.Views.{methods_of};
 ghost use Rattle.osc_tree.specs.Walking.{most_steps};
 
 use crate::adding::admit;
+use crate::guesses::Guesses;
 use crate::hits::Hits;
 use crate::lookup::{is_there, with_id};
 use crate::matching::find_ids;
@@ -34,6 +35,7 @@ use std::sync::ledger::Ledger;
 pub struct Tree {
     methods: Vec<Registered>,
     places: Vec<u32>,
+    guesses: Guesses,
     method_limit: u32,
     node_limit: u32,
     node_count: u32,
@@ -70,6 +72,7 @@ impl Tree {
         Ok(Tree {
             methods: Vec::with_capacity(alloc, methods as usize)?,
             places: Vec::with_capacity(alloc, methods as usize)?,
+            guesses: Guesses::open(alloc, methods)?,
             method_limit: methods,
             node_limit: nodes,
             node_count: 0,
@@ -107,6 +110,7 @@ impl Tree {
             Err(refusal) => return Err((refusal, address)),
         };
         let place = self.methods.len() as u32;
+        self.guesses.keep(address.bytes(), place);
         match self.methods.push(Registered { id, address }) {
             Ok(()) => {}
             Err(_) => unreachable!(),
@@ -150,7 +154,14 @@ impl Tree {
         ensures counted { steps.old ≤ steps.new }
         ensures bounded { steps.new ≤ steps.old + most_steps pattern.now self.now.methods }
     {
-        find_ids(&self.methods, &self.places, pattern, &mut hits.ids, steps);
+        find_ids(
+            &self.methods,
+            &self.places,
+            &self.guesses,
+            pattern,
+            &mut hits.ids,
+            steps,
+        );
     }
 
     /// The address of the method with the id.

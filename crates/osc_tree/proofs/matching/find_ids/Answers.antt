@@ -3,11 +3,19 @@ use Rattle.std.specs.List.{before_first}
 use Rattle.osc_pattern.specs.Methods.{Method}
 use Rattle.osc_pattern.specs.Patterns.{begins_with_slash, is_special, matches}
 use Rattle.osc_tree.proofs.Bounds.{no_ids}
-use Rattle.osc_tree.proofs.InOrder.{found_is}
+use Rattle.osc_tree.proofs.InOrder.{found_is, order_length}
 use Rattle.osc_tree.specs.Views.{methods_of}
 use Rattle.osc_tree.proofs.Apart.{near_sorted, near_steps}
 use Rattle.osc_tree.proofs.Literals.{front_found}
 use Rattle.osc_tree.proofs.matching.find_ids.Goals as goal
+
+pub add_guessed-requires-clause-room : goal.add_guessed-requires-clause-room
+add_guessed-requires-clause-room g c =
+    omega (arith, order_length c.args.methods.now c.args.places.now c.requires.order, c.requires.room, c.clear.ensures.capacity)
+
+pub returns-then-add_guessed-clause-len : goal.returns-then-add_guessed-clause-len
+returns-then-add_guessed-clause-len g c =
+    omega (arith, order_length c.args.methods.now c.args.places.now c.requires.order, c.add_guessed.ensures.len)
 
 pub walk-requires-clause-sorted : goal.walk-requires-clause-sorted
 walk-requires-clause-sorted g c =
@@ -34,5 +42,5 @@ returns-else-parts-gt-MAX_NAMES-clause-bounded g c =
 
 pub returns-then-parts-gt-MAX_NAMES-clause-ids : goal.returns-then-parts-gt-MAX_NAMES-clause-ids
 returns-then-parts-gt-MAX_NAMES-clause-ids g c =
-    let cleared : c.clear.new.self.items ≡ [] = search rules in
+    let cleared : c.add_guessed.new.ids.items ≡ [] = search rules in
     cleared ∙ sym (no_ids c.args.pattern.now (methods_of c.args.methods.now) c.requires.list (omega (arith, c.parts-parts.ensures.parts)))

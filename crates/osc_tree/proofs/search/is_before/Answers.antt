@@ -11,9 +11,9 @@ returns-in-Equal c =
     let own = c.bytes-address.ensures.value
     ∙ ap (λ (m : Method). m.address) (sym (method_at-get c.args.methods.now c.args.place c.index-methods-place.result c.requires)) in
     c.is_lt.ensures
-    ∙ rest_decides c.bytes-address.result.now c.args.text.now c.args.tail.now c.min.result c.cmp.result c.cmp-in-Equal.result c.min.ensures
-    (c.cmp.ensures ∙ ap (λ l. slice_cmp nat_cmp l c.args.text.now) c.split_at.ensures.front) c.in-Equal.is
-    (c.cmp-in-Equal.ensures ∙ ap (λ l. slice_cmp nat_cmp l c.args.tail.now) c.split_at.ensures.back)
+    ∙ rest_decides c.bytes-address.result.now c.args.text.now c.args.tail.now c.min.result c.order_of.result c.cmp.result c.min.ensures
+    (c.order_of.ensures ∙ ap (λ l. slice_cmp nat_cmp l c.args.text.now) c.split_at.ensures.front) c.in-Equal.is
+    (c.cmp.ensures ∙ ap (λ l. slice_cmp nat_cmp l c.args.tail.now) c.split_at.ensures.back)
     ∙ ap (λ l. lower l (c.args.text.now ++ c.args.tail.now)) own
 
 pub returns-in_default : goal.returns-in_default
@@ -21,6 +21,6 @@ returns-in_default c =
     let own = c.bytes-address.ensures.value
     ∙ ap (λ (m : Method). m.address) (sym (method_at-get c.args.methods.now c.args.place c.index-methods-place.result c.requires)) in
     c.is_lt-in_default.ensures
-    ∙ front_decides c.bytes-address.result.now c.args.text.now c.args.tail.now c.min.result c.cmp.result c.min.ensures
-    (c.cmp.ensures ∙ ap (λ l. slice_cmp nat_cmp l c.args.text.now) c.split_at.ensures.front) c.in_default.not-Equal
+    ∙ front_decides c.bytes-address.result.now c.args.text.now c.args.tail.now c.min.result c.order_of.result c.min.ensures
+    (c.order_of.ensures ∙ ap (λ l. slice_cmp nat_cmp l c.args.text.now) c.split_at.ensures.front) c.in_default.not-Equal
     ∙ ap (λ l. lower l (c.args.text.now ++ c.args.tail.now)) own
