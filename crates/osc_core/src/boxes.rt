@@ -1,6 +1,6 @@
 // The boxes of the registered methods.
 ghost use Rattle.std.specs.Prelude.{◌≡◌, ◌<◌, ◌≤◌, ◌++◌, ◌∷◌, [], List, map, length, Contains};
-ghost use Rattle.std.specs.Prelude.{vec_len, vec_capacity, IsTrue};
+ghost use Rattle.std.specs.Prelude.{vec_len, vec_capacity, IsTrue, Some};
 ghost use Rattle.osc_pattern.specs.Methods.{Method as MethodAt};
 ghost use Rattle.osc_model.specs.Heard.{Told, hear, reset, without_id};
 ghost use Rattle.osc_core.specs.Calls.{invocation_by};
@@ -71,11 +71,15 @@ fn invoke<M: Method>(boxed: &mut (u32, M), call: &Call<'_>)
     boxed.1.invoke(call);
 }
 
-/// The place of the id among the boxes.
+/// The place of the id among the boxes. It is first looked for at the place of that number, where the ids of the methods
+/// added stand until one is removed.
 pub(crate) fn place_of<M>(boxes: &[(u32, M)], id: u32) -> Option<usize>
     requires { IsTrue (is_ascending (map (λ one. one.0) boxes.now)) }
     ensures { IsPlaceOf result id (map (λ one. one.0) boxes.now) }
 {
+    if is_in_its_place(boxes, id) {
+        return Some(id as usize);
+    }
     let place = first_from(boxes, id);
     if place == boxes.len() {
         return None;
@@ -84,6 +88,14 @@ pub(crate) fn place_of<M>(boxes: &[(u32, M)], id: u32) -> Option<usize>
         return None;
     }
     Some(place)
+}
+
+/// Whether the box that stands at the place of this number has the id.
+fn is_in_its_place<M>(boxes: &[(u32, M)], id: u32) -> bool
+    ensures { IsTrue result → IsPlaceOf (Some id) id (map (λ one. one.0) boxes.now) }
+{
+    let place = id as usize;
+    place < boxes.len() && boxes[place].0 == id
 }
 
 /// The place of the first box whose id isn't below this one, or how many boxes there are.
