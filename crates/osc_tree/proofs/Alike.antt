@@ -251,14 +251,6 @@ spent_within f known (part ∷ parts) (name ∷ names) (text ∷ texts) long eac
     first zero part w le = le refl
     first (suc known) part w le = omega arith
 
--- one list has ended, and the first names are the same
-pub shared_one : (names others name other : List ℕ) (rest : List (List ℕ)) → slice_split is_slash names ≡ name ∷ rest → slice_split is_slash others ≡ other ∷ []
-    → bytes_eq name other ≡ true → shared (slice_split is_slash names) (slice_split is_slash others) ≡ 1
-shared_one names others name other rest e f same = rw (e, f, same) (none rest) where
-  none : (rest : List (List ℕ)) → shared rest [] + 1 ≡ 1
-  none [] = refl
-  none (name ∷ rest) = refl
-
 -- the parts from a place on, against names of which the first is cut off
 pub agree_here : (pattern : List ℕ) (place : ℕ) (names : List (List ℕ)) (name : List ℕ) (rest : List (List ℕ)) → place < length (parts_of pattern)
     → names ≡ name ∷ rest

@@ -21,6 +21,7 @@ pub mod Apart
 pub mod Neighbours
 pub mod Searches
 mod Compared
+mod SharedNames
 pub mod Lookups
 pub mod Spelled
 pub mod Beginnings

@@ -1,7 +1,7 @@
 // The names of addresses, one after another.
 ghost use Rattle.osc_pattern.specs.declared.limits.TheConstants.{MAX_NAME};
 ghost use Rattle.std.specs.Prelude.{◌≡◌, ◌≤◌, ◌+◌, ◌∷◌, ◌==◌, [], All, MatchOption, IfSome};
-ghost use Rattle.std.specs.Prelude.{option_map, length, count_by, position};
+ghost use Rattle.std.specs.Prelude.{option_map, length, count_by, position, get_or};
 ghost use Rattle.std.specs.List.{slice_split};
 ghost use Rattle.osc_pattern.specs.Addresses.{IsAddress};
 ghost use Rattle.osc_pattern.specs.Items.{is_slash};
@@ -58,14 +58,30 @@ pub(crate) fn shared_names(names: &[u8], others: &[u8]) -> usize
         ≡ shared (slice_split is_slash names.now) (slice_split is_slash others.now) }
     ensures bound { result ≤ length names.now + 1 }
 {
-    let (name, more) = first_name(names);
-    let (other, rest) = first_name(others);
-    if name != other {
-        return 0;
+    let end = names.len().min(others.len());
+    let mut count = 0;
+    for at in 0..end {
+        if names[at] != others[at] {
+            return count;
+        }
+        if names[at] == b'/' {
+            count += 1;
+        }
     }
-    match (more, rest) {
-        (Some(more), Some(rest)) => shared_names(more, rest) + 1,
-        _ => 1,
+    if ends_at(names, end) && ends_at(others, end) {
+        count + 1
+    } else {
+        count
+    }
+}
+
+/// Whether a name ends at a place, before a slash or at the end of all.
+fn ends_at(names: &[u8], at: usize) -> bool
+    ensures { result ≡ is_slash (get_or names.now at 47) }
+{
+    match names.get(at) {
+        Some(byte) => *byte == b'/',
+        None => true,
     }
 }
 
