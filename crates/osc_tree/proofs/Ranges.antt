@@ -1,5 +1,5 @@
 -- Of methods in the order of their addresses, those that begin with a text stand together.
-use Rattle.std.proofs.Common.{Less, Equal, Greater, ◌≡◌, ℕ, zero, suc, ◌+◌, ◌<◌, ◌≤◌, Bool, true, false, cond, ◌==◌, List, [], ◌∷◌, length, get_or, refl, subst}
+use Rattle.std.proofs.Common.{Less, Equal, Greater, ◌≡◌, ℕ, zero, suc, ◌+◌, ◌<◌, ◌≤◌, Bool, true, false, cond, ◌==◌, List, [], ◌∷◌, ◌++◌, length, get_or, refl, subst}
 use Rattle.std.proofs.Common.{arith, nat_eq, nat_lt}
 use Rattle.std.specs.List.{starts_with}
 use Rattle.std.specs.Ordering.{is_lt, nat_cmp, ordering_then}
@@ -102,4 +102,26 @@ searched_down text methods low high middle d up so above below e =
       behind = λ k other ge lt. behind_greater text (get_or methods middle other) (get_or methods k other)
           (ascend_far methods middle k other up (omega arith) (omega arith))
           (subst (λ m. is_before text m ≡ false) (any_default methods middle d other (omega arith)) e);
+    }
+
+-- what is before a text is before it with a tail
+lower_longer : (address text tail : List ℕ) → lower address text ≡ true → lower address (text ++ tail) ≡ true
+lower_longer [] [] tail e = absurd (cc)
+lower_longer [] (y ∷ text) tail e = refl
+lower_longer (x ∷ address) [] tail e = absurd (cc)
+lower_longer (x ∷ address) (y ∷ text) tail e =
+    let more = lower_longer address text tail in
+    let is = lower_more x y address text in
+    let longer = lower_more x y address (text ++ tail) in
+    grind (arith, nat_tests)
+
+-- where the search for a text came to, that for the text with a tail begins
+pub searched_longer : (text tail : List ℕ) (methods : List Method) (at : ℕ) → IsSearched text methods at at
+    → IsSearched (text ++ tail) methods at (length methods)
+searched_longer text tail methods at so =
+    record {
+      order = so.bound;
+      bound = omega arith;
+      before = λ k d lt. lower_longer (get_or methods k d).address text tail (so.before k d lt);
+      behind = λ k d ge lt. absurd (omega arith);
     }

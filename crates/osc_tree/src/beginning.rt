@@ -5,7 +5,7 @@ ghost use Rattle.osc_tree.specs.Order.{begins_with, IsOrder};
 ghost use Rattle.osc_tree.specs.Views.{methods_of, methods_at};
 
 use crate::registered::Registered;
-use crate::search::{count_before, count_before_both};
+use crate::search::{count_before, count_before_from};
 
 /// The places of the methods that begin with the text, which stand together. They aren't before the text, and are
 /// before it with a byte behind it that is above all of an address.
@@ -22,6 +22,6 @@ pub(crate) fn beginning_with<'a>(
     ensures len { length result.now ≤ length places.now }
 {
     let first = count_before(methods, places, text);
-    let end = count_before_both(methods, places, text, b"\x7f");
+    let end = count_before_from(methods, places, first, text, b"\x7f");
     &places[first..end]
 }

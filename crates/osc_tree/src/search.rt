@@ -17,7 +17,7 @@ pub(crate) fn count_before(methods: &[Registered], places: &[u32], text: &[u8]) 
     count_before_both(methods, places, text, b"")
 }
 
-/// How many methods are before the text with its tail. It halves the range in which the first that isn't must stand.
+/// How many methods are before the text with its tail.
 pub(crate) fn count_before_both(
     methods: &[Registered],
     places: &[u32],
@@ -29,8 +29,53 @@ pub(crate) fn count_before_both(
         result result }
     ensures bound { result ≤ length places.now }
 {
-    let mut low = 0;
-    let mut high = places.len();
+    count_between(methods, places, 0, places.len(), text, tail)
+}
+
+/// The same, where all below a place are known to be. It looks twice as far ahead each time, since few more are mostly.
+pub(crate) fn count_before_from(
+    methods: &[Registered],
+    places: &[u32],
+    from: usize,
+    text: &[u8],
+    tail: &[u8],
+) -> usize
+    requires order { IsOrder methods.now places.now }
+    requires known { IsSearched (text.now ++ tail.now) (methods_at methods.now places.now)
+        from (length places.now) }
+    ensures searched { IsSearched (text.now ++ tail.now) (methods_at methods.now places.now)
+        result result }
+    ensures bound { result ≤ length places.now }
+{
+    let mut low = from;
+    while low - from < places.len() - low {
+        let next = low + (low - from);
+        if !is_before(methods, places[next], text, tail) {
+            return count_between(methods, places, low, next, text, tail);
+        }
+        low = next + 1;
+    }
+    count_between(methods, places, low, places.len(), text, tail)
+}
+
+/// The same, where all below one place are known to be, and none from another on. It halves what is between the two.
+fn count_between(
+    methods: &[Registered],
+    places: &[u32],
+    from: usize,
+    to: usize,
+    text: &[u8],
+    tail: &[u8],
+) -> usize
+    requires order { IsOrder methods.now places.now }
+    requires known { IsSearched (text.now ++ tail.now) (methods_at methods.now places.now)
+        from to }
+    ensures searched { IsSearched (text.now ++ tail.now) (methods_at methods.now places.now)
+        result result }
+    ensures bound { result ≤ length places.now }
+{
+    let mut low = from;
+    let mut high = to;
     while low < high {
         let middle = low + (high - low) / 2;
         if is_before(methods, places[middle], text, tail) {

@@ -1,7 +1,7 @@
 use Rattle.std.proofs.Common.{◌-◌, ◌++◌}
 use Rattle.osc_tree.specs.Order.{IsSearched}
 use Rattle.osc_tree.specs.Views.{methods_at}
-use Rattle.osc_tree.proofs.search.count_before_both.Given as goal
+use Rattle.osc_tree.proofs.search.count_between.Given as goal
 
 abbrev pub invariant-loop-low : goal.invariant-loop-low
 invariant-loop-low l = IsSearched (l.text ++ l.tail) (methods_at l.methods l.places) l.low l.high

@@ -1,0 +1,13 @@
+use Rattle.std.proofs.Common.{◌≤◌, ◌-◌, ◌++◌, length}
+use Rattle.osc_tree.specs.Order.{IsSearched}
+use Rattle.osc_tree.specs.Views.{methods_at}
+use Rattle.osc_tree.proofs.search.count_before_from.Given as goal
+
+abbrev pub invariant-loop-low : goal.invariant-loop-low
+invariant-loop-low l = record {
+  on : l.from ≤ l.low;
+  known : IsSearched (l.text ++ l.tail) (methods_at l.methods l.places) l.low (length l.places);
+}
+
+abbrev pub decreases-loop-low : goal.decreases-loop-low
+decreases-loop-low l = length l.places - l.low
