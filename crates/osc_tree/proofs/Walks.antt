@@ -297,6 +297,16 @@ whole_is n parts names e = go (n == parts) refl (n == names) refl e where
   go true a false b e = absurd (cc)
   go false a b is e = absurd (cc)
 
+-- fewer than all parts or than all names aren't all of both
+pub whole_parts : (n parts names : ℕ) → n < parts → false ≡ (n == parts && n == names)
+whole_parts n parts names lt = grind (arith, nat_tests)
+
+pub whole_names : (n parts names : ℕ) → n < names → false ≡ (n == parts && n == names)
+whole_names n parts names lt = grind (arith, nat_tests)
+
+pub whole_ends : (n parts names : ℕ) → n ≡ names → (n == parts) ≡ (n == parts && n == names)
+whole_ends n parts names e = grind (arith, nat_tests)
+
 -- those that share so many names with a method stand together behind it
 pub sharing_parted : (registered : List Registered) (places : List ℕ) (at least : ℕ) (d : Method) (names : List (List ℕ))
     → IsSorted (methods_at registered places) → at < length places → names ≡ parts_of (get_or (methods_at registered places) at d).address

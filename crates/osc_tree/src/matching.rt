@@ -20,7 +20,7 @@ use crate::beginning::beginning_with;
 use crate::guesses::Guesses;
 use crate::literal::first_special;
 use crate::lookup::{guessed_id, id_at};
-use crate::names::{count_names, first_name, names_of, shared_names};
+use crate::names::{first_name, names_of, shared_names};
 use crate::parts::{find_parts, read_parts, ready_parts};
 use crate::registered::Registered;
 use osc_pattern::laws::{an_address_is_a_pattern, plain_pattern, tests_are_exact};
@@ -235,8 +235,8 @@ fn visit<L: Ledger>(
     let method = &methods[places[at] as usize];
     let names = names_of(&method.address);
     let known = known_at(methods, places, at);
-    let matching = count_matching(pattern, parts, found, known, names, steps);
-    if is_whole(matching, parts, names) {
+    let (matching, whole) = count_matching(pattern, parts, found, known, names, steps);
+    if whole {
         add_id(method.id, ids);
         return at + 1;
     }
@@ -258,7 +258,8 @@ fn known_at(methods: &[Registered], places: &[u32], at: usize) -> usize
     shared_names(names_of(&before.address), names_of(&method.address))
 }
 
-/// How many parts match the names at their places, from the first on. The first `known` are known to.
+/// How many parts match the names at their places, from the first on, and whether these are all parts and all names.
+/// The first `known` are known to match.
 fn count_matching<L: Ledger>(
     pattern: &Pattern<'_>,
     parts: u32,
@@ -266,13 +267,15 @@ fn count_matching<L: Ledger>(
     known: usize,
     names: &[u8],
     steps: &mut Steps<L>,
-) -> u32
+) -> (u32, bool)
     requires parts { parts ≡ length (parts_of pattern.now) }
     requires few { parts ≤ MAX_NAMES }
     requires found { AreParts found.now pattern.now }
     requires short { All (λ name. length name ≤ MAX_NAME) (slice_split is_slash names.now) }
     requires known { known ≤ agreeing (parts_of pattern.now) (slice_split is_slash names.now) }
-    ensures count { result ≡ agreeing (parts_of pattern.now) (slice_split is_slash names.now) }
+    ensures count { result.0 ≡ agreeing (parts_of pattern.now) (slice_split is_slash names.now) }
+    ensures whole { result.1
+        ≡ (result.0 == parts && result.0 == length (slice_split is_slash names.now)) }
     ensures counted { steps.old ≤ steps.new }
     ensures bounded { steps.new
         ≤ steps.old + spent known (parts_of pattern.now) (slice_split is_slash names.now) }
@@ -283,15 +286,15 @@ fn count_matching<L: Ledger>(
         let (name, more) = first_name(rest);
         let left = known.saturating_sub(place as usize);
         if !is_matching(pattern, place, found[place as usize], left, name, steps) {
-            return place;
+            return (place, false);
         }
         place += 1;
         match more {
             Some(more) => rest = more,
-            None => return place,
+            None => return (place, place == parts),
         }
     }
-    place
+    (place, false)
 }
 
 /// Whether the part at this place matches the name, which isn't tried where it is known to.
@@ -313,14 +316,6 @@ fn is_matching<L: Ledger>(
         ≤ steps.old + part_steps known (part_at pattern.now place) }
 {
     known > 0 || pattern.matches_found(place, part, name, steps)
-}
-
-/// Whether so many are all parts and all names.
-fn is_whole(matching: u32, parts: u32, names: &[u8]) -> bool
-    ensures { result
-        ≡ (matching == parts && matching == length (slice_split is_slash names.now)) }
-{
-    matching == parts && matching as usize == count_names(names)
 }
 
 /// How many names are shared by all methods that are passed over with one whose parts match so far.

@@ -1,12 +1,14 @@
 use Rattle.std.proofs.Common.{◌≡◌, ◌≤◌, ◌<◌, ◌+◌, ◌-◌, ◌∷◌, [], true, false, cond, length, drop, All, ap, subst, ◌∙◌, arith, rules}
 use Rattle.std.specs.List.{slice_split}
 use Rattle.std.proofs.lemmas.List.Elements.{All-tail}
+use Rattle.std.proofs.lemmas.List.Splits.{length-slice_split}
 use Rattle.osc_pattern.specs.declared.limits.TheConstants.{MAX_NAME}
 use Rattle.osc_pattern.specs.Items.{is_slash}
 use Rattle.osc_pattern.specs.Reading.{match_part}
 use Rattle.osc_pattern.specs.Patterns.{parts_of, part_at}
 use Rattle.osc_tree.specs.Walking.{agreeing, part_steps, spent}
 use Rattle.osc_tree.proofs.Alike.{agree_here, spent_here, known_matches, none_left, first_piece_is}
+use Rattle.osc_tree.proofs.Walks.{whole_parts, whole_names, whole_ends}
 use Rattle.osc_tree.proofs.matching.count_matching.Goals as goal
 
 pub is_matching-requires-clause-known : goal.is_matching-requires-clause-known
@@ -67,6 +69,7 @@ loop-place-preserved g c =
       short = All-tail (λ name. length name ≤ MAX_NAME) c.first_name.result.0.now (slice_split is_slash c.in-Some.more.now)
           (subst (All (λ name. length name ≤ MAX_NAME)) cut c.loop-place.invariant.short);
       count = omega (arith, c.loop-place.invariant.count);
+      names = omega (arith, c.loop-place.invariant.names, ap length cut);
       known = omega (arith, c.loop-place.invariant.known);
       counted = omega (arith, c.loop-place.invariant.counted, c.is_matching.ensures.counted);
       bounded = omega (arith, c.loop-place.invariant.bounded, c.is_matching.ensures.bounded);
@@ -93,3 +96,18 @@ returns-in-None-clause-bounded g c =
     let cost = spent_here pattern place (c.args.known - place) (slice_split is_slash c.loop-place.rest.now) c.first_name.result.0.now [] within cut in
     let same = ap (λ n. part_steps n (part_at pattern place)) c.saturating_sub-left.ensures in
     omega (arith, c.loop-place.invariant.bounded, c.is_matching.ensures.bounded)
+
+pub returns-then-not-is_matching-clause-whole : goal.returns-then-not-is_matching-clause-whole
+returns-then-not-is_matching-clause-whole g c =
+    whole_parts c.loop-place.place c.args.parts (length (slice_split is_slash c.args.names.now)) (omega arith)
+
+pub returns-in-None-clause-whole : goal.returns-in-None-clause-whole
+returns-in-None-clause-whole g c =
+    let cut : slice_split is_slash c.loop-place.rest.now ≡ c.first_name.result.0.now ∷ [] = search rules in
+    whole_ends (c.loop-place.place + 1) c.args.parts (length (slice_split is_slash c.args.names.now))
+    (omega (arith, c.loop-place.invariant.names, ap length cut))
+
+pub returns-clause-whole : goal.returns-clause-whole
+returns-clause-whole g c =
+    whole_names c.loop-place.place c.args.parts (length (slice_split is_slash c.args.names.now))
+    (omega (arith, c.loop-place.invariant.names, length-slice_split is_slash c.loop-place.rest.now))

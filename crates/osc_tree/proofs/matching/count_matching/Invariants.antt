@@ -11,6 +11,7 @@ invariant-loop-place g l = record {
   bound : l.place ≤ length (parts_of l.pattern);
   short : All (λ name. length name ≤ MAX_NAME) (slice_split is_slash l.rest);
   count : l.place + agreeing (drop l.place (parts_of l.pattern)) (slice_split is_slash l.rest) ≡ agreeing (parts_of l.pattern) (slice_split is_slash l.names);
+  names : l.place + length (slice_split is_slash l.rest) ≡ length (slice_split is_slash l.names);
   known : l.known - l.place ≤ agreeing (drop l.place (parts_of l.pattern)) (slice_split is_slash l.rest);
   counted : l.initial.steps ≤ l.steps;
   bounded : l.steps + spent (l.known - l.place) (drop l.place (parts_of l.pattern)) (slice_split is_slash l.rest)

@@ -16,8 +16,8 @@ add_id-requires g c =
     let few = walked_few c.args.pattern.now (methods_at c.args.methods.now c.args.places.now) c.args.at c.args.ids.now.items c.requires.walked in
     omega (arith, c.requires.room, c.requires.at)
 
-pub returns-then-is_whole-clause-walked : goal.returns-then-is_whole-clause-walked
-returns-then-is_whole-clause-walked g c =
+pub returns-then-whole-clause-walked : goal.returns-then-whole-clause-walked
+returns-then-whole-clause-walked g c =
     let registered = c.args.methods.now in
     let places = c.args.places.now in
     let at = c.args.at in
@@ -27,10 +27,10 @@ returns-then-is_whole-clause-walked g c =
     let here = method_here registered places at c.index-methods-places.result d c.requires.within c.requires.at c.index-methods-places.is in
     let names : slice_split is_slash c.names_of-names.result.now ≡ parts_of (get_or ms at d).address =
     c.names_of-names.ensures.parts ∙ ap (λ (m : Method). parts_of m.address) (sym here) in
-    let whole = whole_is c.count_matching-matching.result c.args.parts (length (slice_split is_slash c.names_of-names.result.now))
-    (sym c.is_whole.ensures ∙ c.if-is_whole.true) in
+    let whole = whole_is c.count_matching-matching.result.0 c.args.parts (length (slice_split is_slash c.names_of-names.result.now))
+    (sym c.count_matching-matching.ensures.whole ∙ c.if-whole.true) in
     subst (λ (n : ℕ). IsWalked c.args.pattern.now ms n c.add_id.new.ids.items) (sym (add-one at))
-    (walked_hit c.args.pattern.now ms at c.args.ids.now.items c.add_id.new.ids.items c.index-methods-places.result.id c.count_matching-matching.result d within
+    (walked_hit c.args.pattern.now ms at c.args.ids.now.items c.add_id.new.ids.items c.index-methods-places.result.id c.count_matching-matching.result.0 d within
     c.requires.walked (c.count_matching-matching.ensures.count ∙ ap (agreeing (parts_of c.args.pattern.now)) names) (whole.0 ∙ c.requires.parts)
     (whole.1 ∙ ap length names) (ap (λ (m : Method). m.id) (sym here)) c.add_id.ensures.ids)
 
@@ -39,8 +39,8 @@ least_shared-least-requires g c =
     let most = agreeing_parts (parts_of c.args.pattern.now) (slice_split is_slash c.names_of-names.result.now) in
     omega (arith, c.count_matching-matching.ensures.count, c.requires.parts)
 
-pub returns-then-is_whole-clause-bounded : goal.returns-then-is_whole-clause-bounded
-returns-then-is_whole-clause-bounded g c =
+pub returns-then-whole-clause-bounded : goal.returns-then-whole-clause-bounded
+returns-then-whole-clause-bounded g c =
     let registered = c.args.methods.now in
     let places = c.args.places.now in
     let at = c.args.at in
@@ -89,21 +89,21 @@ returns-clause-walked g c =
     let here = method_here registered places at c.index-methods-places.result d c.requires.within c.requires.at c.index-methods-places.is in
     let names : slice_split is_slash c.names_of-names.result.now ≡ parts_of (get_or ms at d).address =
     c.names_of-names.ensures.parts ∙ ap (λ (m : Method). parts_of m.address) (sym here) in
-    let whole : (c.count_matching-matching.result == length (parts_of c.args.pattern.now)
-    && c.count_matching-matching.result == length (parts_of (get_or ms at d).address)) ≡ false =
-    ap (λ (n : ℕ). c.count_matching-matching.result == n && c.count_matching-matching.result == length (parts_of (get_or ms at d).address))
+    let whole : (c.count_matching-matching.result.0 == length (parts_of c.args.pattern.now)
+    && c.count_matching-matching.result.0 == length (parts_of (get_or ms at d).address)) ≡ false =
+    ap (λ (n : ℕ). c.count_matching-matching.result.0 == n && c.count_matching-matching.result.0 == length (parts_of (get_or ms at d).address))
     (sym c.requires.parts)
-    ∙ ap (λ l. c.count_matching-matching.result == c.args.parts && c.count_matching-matching.result == length l) (sym names)
-    ∙ sym c.is_whole.ensures ∙ c.if-is_whole.false in
+    ∙ ap (λ l. c.count_matching-matching.result.0 == c.args.parts && c.count_matching-matching.result.0 == length l) (sym names)
+    ∙ sym c.count_matching-matching.ensures.whole ∙ c.if-whole.false in
     let counted = counted_over registered places at c.count_sharing.result
     (λ method. not (nat_le c.least_shared-least.result (shared (slice_split is_slash c.names_of-names.result.now) (parts_of method.address))))
     c.count_sharing.ensures.count in
     let counted_names = counted
     ∙ ap (λ l. position_or_len (λ (method : Method). not (nat_le c.least_shared-least.result (shared l (parts_of method.address)))) (drop (suc at) ms)) names in
     subst (λ (n : ℕ). IsWalked c.args.pattern.now ms (n + c.count_sharing.result) c.args.ids.now.items) (sym (add-one at))
-    (walked_over c.args.pattern.now ms at c.args.ids.now.items c.count_sharing.result c.count_matching-matching.result c.least_shared-least.result d
+    (walked_over c.args.pattern.now ms at c.args.ids.now.items c.count_sharing.result c.count_matching-matching.result.0 c.least_shared-least.result d
     c.requires.sorted within c.requires.walked (c.count_matching-matching.ensures.count ∙ ap (agreeing (parts_of c.args.pattern.now)) names) whole
-    (c.least_shared-least.ensures ∙ ap (λ (n : ℕ). least_of c.count_matching-matching.result n) c.requires.parts) counted_names)
+    (c.least_shared-least.ensures ∙ ap (λ (n : ℕ). least_of c.count_matching-matching.result.0 n) c.requires.parts) counted_names)
 
 pub count_sharing-requires-clause-parted : goal.count_sharing-requires-clause-parted
 count_sharing-requires-clause-parted g c =
