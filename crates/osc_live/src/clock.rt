@@ -17,6 +17,7 @@ use crate::ticking::Tick;
 use osc_core::{Releasing, Ticking};
 use osc_method::Method;
 use std::sync::Wait;
+use std::thread;
 
 impl<M: Method> Live<M> {
     /// Sets the clock to the moment, unless it is before the clock.
@@ -75,6 +76,8 @@ impl<M: Method> Live<M> {
                 Releasing::Released { calls: made, .. } => {
                     released += 1;
                     calls += u64::from(made);
+                    // Whoever waits for the turn gets it before the next release.
+                    thread::yield_now();
                 }
                 Releasing::NothingDue { next } => {
                     let end = PumpEnd::NothingDue { next };
