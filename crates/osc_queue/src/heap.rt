@@ -104,14 +104,15 @@ fn first_below<T, L: Ledger>(
     ensures counted { (steps.old ≤ steps.new) × (steps.new ≤ steps.old + 1) }
     ensures few { length entries.now ≤ 2 * place + 1 → steps.new ≡ steps.old }
 {
-    if place >= entries.len() / 2 {
-        return None;
-    }
     let left = 2 * place + 1;
     let right = left + 1;
-    if right < entries.len() && entries[right].is_before(&entries[left], steps) {
-        Some(right)
-    } else {
+    if right < entries.len() {
+        let is_right = entries[right].is_before(&entries[left], steps);
+        return Some(if is_right { right } else { left });
+    }
+    if left < entries.len() {
         Some(left)
+    } else {
+        None
     }
 }
