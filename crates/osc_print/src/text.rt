@@ -59,7 +59,7 @@ impl Text {
         ensures ok { OnOk result (self.new ≡ self.old ++ spaced word.now) }
         ensures err { OnErr result (BeginsWith self.new self.old) }
     {
-        self.word(b" ")?;
+        self.byte(b' ')?;
         self.word(word)
     }
 
@@ -78,7 +78,8 @@ impl Text {
     {
         // Most numbers have one digit.
         if number < 10 {
-            return self.word(&[b' ', b'0' + number as u8]);
+            self.byte(b' ')?;
+            return self.byte(b'0' + number as u8);
         }
         self.space_word(Buffer::new().format(number).as_bytes())
     }
@@ -88,7 +89,15 @@ impl Text {
         ensures ok { OnOk result (self.new ≡ self.old ++ 10 ∷ []) }
         ensures err { OnErr result (self.new ≡ self.old) }
     {
-        self.word(b"\n")
+        self.byte(b'\n')
+    }
+
+    fn byte(&mut self, byte: u8) -> Result<(), AllocError>
+        ensures ok { OnOk result (self.new ≡ self.old ++ byte ∷ []) }
+        ensures err { OnErr result (self.new ≡ self.old) }
+    {
+        self.bytes.push(byte)?;
+        Ok(())
     }
 
     /// Adds two lower-case hexadecimal digits for each byte.
