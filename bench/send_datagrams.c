@@ -1,5 +1,6 @@
 /* Sends COUNT packets of one kind to a port of this machine, RATE of them a second and no faster, and prints how many
-   milliseconds that took and how many the system refused. Over UDP each is a datagram, over TCP it follows its size.
+   milliseconds that took, how many the system refused, and by how many microseconds one was sent late at most. Over UDP each
+   is a datagram, over TCP it follows its size.
 
        send_datagrams udp|tcp PORT KIND COUNT RATE */
 #define _GNU_SOURCE
@@ -47,12 +48,14 @@ int main(int count_of_words, char **words) {
         put_word(frames[k], (uint32_t)size);
         sizes[k] = SIZE_BYTES + size;
     }
-    double begin = seconds();
+    double begin = seconds(), latest = 0;
     for (long sent = 0; sent < count; sent++) {
-        while ((seconds() - begin) * rate < sent) continue;
+        double late;
+        while ((late = seconds() - begin - (double)sent / rate) < 0) continue;
+        if (late > latest) latest = late;
         int k = (int)(sent % DIFFERENT);
         if (send(to, frames[k] + skipped, sizes[k] - skipped, MSG_NOSIGNAL) < 0) refused++;
     }
-    printf("%.0f %ld\n", (seconds() - begin) * 1000, refused);
+    printf("%.0f %ld %.0f\n", (seconds() - begin) * 1000, refused, latest * 1e6);
     return 0;
 }
