@@ -1,11 +1,11 @@
 -- A board and its watcher stay the same.
-use Rattle.std.proofs.Common.{◌≡◌, ◌∙◌, sym}
+use Rattle.std.proofs.Common.{◌∙◌, sym}
 use Rattle.osc_model.specs.Limits.{Limits}
 use Rattle.osc_turn.specs.declared.view.View.{View}
 use Rattle.osc_turn.specs.History.{StartsWith}
 use Rattle.osc_watch.specs.declared.board.Board.{Board}
 use Rattle.osc_watch.specs.declared.watcher.Watcher.{Watcher}
-use Rattle.osc_watch.specs.Watching.{IsWatcherOf, IsOneBoard, IsOfOneBoard}
+use Rattle.osc_watch.specs.Watching.{IsWatcherOf}
 use Rattle.osc_watch.proofs.Looking.{read_on}
 use Rattle.osc_display.specs.Boards.{Watches, AreSame}
 

@@ -35,8 +35,9 @@ pub struct Displayed<M> {
 
 /// Plays the parts as lanes beside each other on a new server with these limits, as
 /// [`run_lanes`](osc_lanes::run_lanes) does. While they play, caller 0 refreshes a board of the server's methods, and
-/// its watcher reads it, again and again; the gate is called round each read, with [`WATCHER_LANE`](crate::WATCHER_LANE)
-/// and the number of the read, from 1. The last list calls no gate. An `Err` is want of memory.
+/// its watcher reads it, again and again; the gate is called round each read, with
+/// [`WATCHER_LANE`](crate::WATCHER_LANE) and the number of the read, from 1. The last list calls no gate. An `Err` is
+/// want of memory.
 pub fn display_lanes<M: Method + Send, W: Threads + Wait + Sync, G: Gate + Sync>(
     rt: &W,
     alloc: Global,

@@ -41,8 +41,8 @@ pub struct CheckedRecording {
     pub checked: Checked,
 }
 
-/// Reads an input to its end, or to one byte past the limit. The `Err` is the status with which the program ends: 3, or 4
-/// where the source failed.
+/// Reads an input to its end, or to one byte past the limit. The `Err` is the status with which the program ends: 3,
+/// or 4 where the source failed.
 pub fn read_input<S: Source>(alloc: Global, most: usize, input: &mut S) -> Result<Whole, u8>
     requires { most ≤ max_recording }
     ensures bytes { IfOk result (λ whole. OfInput (S.left input.old) (IsReadOf most whole)) }

@@ -18,8 +18,8 @@ use osc_script::{Act, Line};
 use std::alloc::AllocError;
 use std::sync::Wait;
 
-/// Plays a line of the lane; an add takes the next box. The lane's `stop` is then the room where the recording was full.
-/// An `Err` is want of memory.
+/// Plays a line of the lane; an add takes the next box. The lane's `stop` is then the room where the recording was
+/// full. An `Err` is want of memory.
 pub(crate) fn play_line<M: Method, W: Wait>(
     rt: &W,
     live: &Live<M>,

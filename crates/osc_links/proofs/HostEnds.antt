@@ -3,7 +3,6 @@ use Rattle.std.proofs.Common.{◌≡◌, ℕ, suc, ◌+◌, ◌<◌, List, [], �
 use Rattle.std.specs.Prelude.{MatchOption}
 use Rattle.std.specs.List.{AllByRecursion}
 use Rattle.std.specs.List.Sorted.{IsPermutation}
-use Rattle.std.specs.Option.{option_map}
 use Rattle.std.proofs.lemmas.List.{length-map}
 use Rattle.std.proofs.lemmas.List.Elements.{recursion_from_All}
 use Rattle.osc_atoms.specs.declared.room.Room.{Room as CodeRoom}
@@ -27,7 +26,6 @@ use Rattle.osc_live.specs.Closing.{known, views_of, Closes}
 use Rattle.osc_lanes.proofs.Fresh.{all_since}
 use Rattle.osc_links.specs.declared.run.Hosted.{Hosted}
 use Rattle.osc_links.specs.declared.served.Bounds.{Bounds}
-use Rattle.osc_links.specs.declared.served.LinksTold.{LinksTold}
 use Rattle.osc_links.specs.declared.served.ServeEnd.{ServeEnd}
 use Rattle.osc_links.specs.declared.served.TickerEnd.{TickerEnd}
 use Rattle.osc_links.specs.declared.served.TickerEnd.TheVariants.{Done}

@@ -1,15 +1,13 @@
 -- What a history comes to at whose end nothing is due.
-use Rattle.std.proofs.Common.{◌≡◌, ℕ, Bool, true, false, cond, List, [], ◌∷◌, ◌++◌, length, map, get_or, All, Option, Some, None, refl, sym, ap, subst}
-use Rattle.std.proofs.Common.{◌∙◌, arith, length-append, append-nil}
+use Rattle.std.proofs.Common.{◌≡◌, ℕ, Bool, true, false, cond, List, [], ◌∷◌, ◌++◌, map, get_or, All, Option, Some, None, refl, sym, ap, subst}
+use Rattle.std.proofs.Common.{◌∙◌}
 use Rattle.std.specs.Prelude.{MatchOption}
 use Rattle.std.specs.List.{AllByRecursion}
-use Rattle.std.proofs.lemmas.List.Elements.{All-from_recursion, All-contains, recursion_from_All}
+use Rattle.std.proofs.lemmas.List.Elements.{recursion_from_All}
 use Rattle.osc_model.specs.Events.{Answer, Room, release, nothing_due, record_full, room_in}
 use Rattle.osc_model.specs.History.{stepped_in}
 use Rattle.osc_turn.specs.declared.view.Entry.{Entry as Seen}
-use Rattle.osc_turn.specs.declared.view.View.{View}
 use Rattle.osc_turn.specs.History.{StartsWith, texts, own}
-use Rattle.osc_turn.specs.Rule.{number_of}
 use Rattle.osc_turn.proofs.Histories.{starts_here, starts_on}
 use Rattle.osc_live.specs.declared.caller.Caller.{Caller}
 use Rattle.osc_live.specs.Closing.{known, IsOfCaller}

@@ -42,8 +42,8 @@ fn rise_once<T, L: Ledger>(entries: &mut [Entry<T>], place: usize, steps: &mut S
     rises
 }
 
-/// The first entry goes down to where none is below it, and from there up to where no entry above it is taken after it. So
-/// on the way down no entry is compared with it: it was the last one, and most of those belong near the end.
+/// The first entry goes down to where none is below it, and from there up to where no entry above it is taken after
+/// it. So on the way down no entry is compared with it: it was the last one, and most of those belong near the end.
 pub(crate) fn sink<T, L: Ledger>(entries: &mut [Entry<T>], steps: &mut Steps<L>)
     requires heap { Sinks 0 entries.old }
     ensures heap { IsHeap entries.new }

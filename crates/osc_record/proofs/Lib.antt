@@ -1,3 +1,4 @@
+mod AddressRows
 pub mod Lawful
 pub mod Written
 pub mod Again

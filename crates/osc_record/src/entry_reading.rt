@@ -29,9 +29,9 @@ pub(crate) const SUBMIT: [u8; 20] = *b"/osc/submit\0,ibihii\0";
 
 const OLD_SUBMIT: [u8; 20] = *b"/osc/submit\0,ibihi\0\0";
 
-const ADD: [u8; 20] = *b"/osc/add\0\0\0\0,isiii\0\0";
+pub(crate) const ADD: [u8; 20] = *b"/osc/add\0\0\0\0,isiii\0\0";
 
-const REMOVE: [u8; 20] = *b"/osc/remove\0,isii\0\0\0";
+pub(crate) const REMOVE: [u8; 20] = *b"/osc/remove\0,isii\0\0\0";
 
 const TICK: [u8; 20] = *b"/osc/tick\0\0\0,itit\0\0\0";
 
@@ -44,18 +44,19 @@ pub(crate) fn read_message(version: Version, bytes: &[u8]) -> Option<Parts<'_>>
     ensures value { option_map parts_of result ≡ entry_of version bytes.now }
     ensures whole { IfSome result (λ parts. HasWholeHits parts.answer) }
 {
-    if bytes.starts_with(&ENROL) {
-        read_enrol(Args::read(b"ii", bytes, 16)?)
-    } else if begins_submit(version, bytes) {
+    // Most entries are submits and releases.
+    if begins_submit(version, bytes) {
         read_submit(version, submit_args(version, bytes)?)
+    } else if bytes.starts_with(&RELEASE) {
+        read_release(Args::read(b"ihb", bytes, 24)?)
+    } else if bytes.starts_with(&TICK) {
+        read_tick(Args::read(b"itit", bytes, 20)?)
     } else if bytes.starts_with(&ADD) {
         read_add(Args::read(b"isiii", bytes, 20)?)
     } else if bytes.starts_with(&REMOVE) {
         read_remove(Args::read(b"isii", bytes, 20)?)
-    } else if bytes.starts_with(&TICK) {
-        read_tick(Args::read(b"itit", bytes, 20)?)
-    } else if bytes.starts_with(&RELEASE) {
-        read_release(Args::read(b"ihb", bytes, 24)?)
+    } else if bytes.starts_with(&ENROL) {
+        read_enrol(Args::read(b"ii", bytes, 16)?)
     } else {
         None
     }

@@ -1,23 +1,28 @@
 // The header and the messages of entries, appended to bytes that have room for them.
 ghost use Rattle.osc_model.specs.Limits.{max_recording};
 ghost use Rattle.osc_atoms.specs.declared.limits.TheConstants.{MAX_BYTES};
-ghost use Rattle.osc_atoms.specs.Atoms.{word, tag, blob};
+ghost use Rattle.osc_atoms.specs.Atoms.{word, tag, blob, string, has_no_zero};
 ghost use Rattle.osc_record.specs.declared.entry_reading.TheConstants.{SUBMIT};
-ghost use Rattle.std.specs.Prelude.{◌≡◌, ◌+◌, ◌≤◌, ◌++◌, ℤ, length};
+ghost use Rattle.std.specs.Prelude.{◌≡◌, ◌+◌, ◌≤◌, ◌++◌, ℤ, length, IsTrue};
 ghost use Rattle.std.specs.Vec.{vec_len, vec_capacity};
 ghost use Rattle.osc_message.specs.Messages.{AllFit};
 ghost use Rattle.osc_model.specs.Recordings.{sized, row_text, enrol_row, submit_row, add_row};
 ghost use Rattle.osc_model.specs.Recordings.{remove_row, tick_row, header_text};
 
 use crate::caps::Caps;
-use crate::entry_reading::SUBMIT;
+use crate::entry_reading::{ADD, REMOVE, SUBMIT};
 use crate::message::append_message;
 use crate::policy::late_code;
-use osc_atoms::{append_blob, append_tag, append_word, blob_size};
+use osc_atoms::{append_blob, append_string, append_tag, append_word, blob_size, string_size};
 use osc_message::Arg;
 
 /// How many bytes the message of a submit has beside its packet.
 const SUBMIT_HEAD: u32 = 44;
+
+/// How many bytes the message of an add has beside its address, and that of a remove.
+const ADD_HEAD: u32 = 36;
+
+const REMOVE_HEAD: u32 = 32;
 
 /// Appends the header to bytes that have room for it.
 pub fn append_header(out: &mut Vec<u8>, caps: Caps)
@@ -140,18 +145,10 @@ pub(crate) fn append_add(
         ++ sized (row_text (add_row caller address.now (code, first, second))) }
     ensures capacity { vec_capacity out.old ≤ vec_capacity out.new }
 {
-    append_message(
-        out,
-        b"/osc/add",
-        b",isiii",
-        &[
-            Arg::Int(caller as i32),
-            Arg::Str(address),
-            Arg::Int(code as i32),
-            Arg::Int(first as i32),
-            Arg::Int(second as i32),
-        ],
-    );
+    let size = ADD_HEAD + string_size(address.len()) as u32;
+    append_address_row(out, size, &ADD, caller, address, code);
+    append_word(out, first);
+    append_word(out, second);
 }
 
 /// Appends a remove with the code and the id of its answer.
@@ -164,17 +161,31 @@ pub(crate) fn append_remove(out: &mut Vec<u8>, caller: u32, address: &[u8], code
         ++ sized (row_text (remove_row caller address.now (code, id))) }
     ensures capacity { vec_capacity out.old ≤ vec_capacity out.new }
 {
-    append_message(
-        out,
-        b"/osc/remove",
-        b",isii",
-        &[
-            Arg::Int(caller as i32),
-            Arg::Str(address),
-            Arg::Int(code as i32),
-            Arg::Int(id as i32),
-        ],
-    );
+    let size = REMOVE_HEAD + string_size(address.len()) as u32;
+    append_address_row(out, size, &REMOVE, caller, address, code);
+    append_word(out, id);
+}
+
+/// Appends what the message of an add or a remove has before its last numbers, after its size, number by number.
+fn append_address_row(
+    out: &mut Vec<u8>,
+    size: u32,
+    front: &[u8; 20],
+    caller: u32,
+    address: &[u8],
+    code: u32,
+)
+    requires address { IsTrue (has_no_zero address.now) }
+    requires room { vec_len out.old + (32 + length (string address.now)) ≤ vec_capacity out.old }
+    ensures out { out.new.items ≡ out.old.items
+        ++ (word size ++ (front.now ++ (word caller ++ (string address.now ++ word code)))) }
+    ensures capacity { vec_capacity out.old ≤ vec_capacity out.new }
+{
+    append_word(out, size);
+    append_bytes(out, front);
+    append_word(out, caller);
+    append_string(out, address);
+    append_word(out, code);
 }
 
 /// Appends a tick with the code of its answer and the clock after it.

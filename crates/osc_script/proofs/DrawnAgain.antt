@@ -2,7 +2,7 @@
 use Rattle.osc_script.specs.declared.script.TheConstants.{MAX_SCRIPT}
 use Rattle.osc_script.specs.declared.generating.TheConstants.{MAX_GENERATED_LINES}
 use Rattle.std.proofs.Common.{◌≡◌, ◌∙◌, ℕ, zero, suc, ◌+◌, ◌-◌, ◌*◌, ◌/◌, ◌%◌, ◌<◌, ◌≤◌, ◌^◌, min, Bool, true, false, nat_lt, nat_eq, List, [], ◌∷◌, ◌++◌, map}
-use Rattle.std.proofs.Common.{length, replicate, refl, sym, ap, ap₂, subst, arith, length-append, codes, Ok}
+use Rattle.std.proofs.Common.{length, replicate, refl, ap, ap₂, arith, length-append, codes, Ok}
 use Rattle.std.specs.Prelude.{◌&&◌}
 use Rattle.std.specs.Fmt.{digits}
 use Rattle.std.specs.List.{AllByRecursion, flat_map, list_all}

@@ -170,7 +170,8 @@ pub fn live_top<
         → said.live_command_of (map string_bytes words.now) ≡ Some (live.Lanes caps watch)
         → (result.1.items ≡ links.items) × (clock.new ≡ clock.old) }
 
-    // Where lanes are watched, the methods that stand behind them are listed last, but for the line on a full recording.
+    // Where lanes are watched, the methods that stand behind them are listed last, but for the line on a full
+    // recording.
     ensures listed { (caps : Capacities)
         → said.live_command_of (map string_bytes words.now) ≡ Some (live.Lanes caps true)
         → IsWritten result.0.status → EndsListed result.0.status (commands.live_limits caps)

@@ -41,9 +41,9 @@ pub(crate) struct Taken {
     pub(crate) lines: Vec<Line>,
 }
 
-/// Reads a past and then a script, each to its end, and then judges them in the same order. The `Err` is the status with
-/// which the program ends: 1, where one of them is refused, of which lines are written, 3 or 4. The script isn't read
-/// where the past's source failed.
+/// Reads a past and then a script, each to its end, and then judges them in the same order. The `Err` is the status
+/// with which the program ends: 1, where one of them is refused, of which lines are written, 3 or 4. The script isn't
+/// read where the past's source failed.
 pub(crate) fn take_in<P: Source, S: Source, O: Sink>(
     alloc: Global,
     past: &mut P,

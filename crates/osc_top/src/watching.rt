@@ -27,8 +27,8 @@ pub(crate) struct Listed<M> {
     pub(crate) list: Text,
 }
 
-/// Plays the parts as lanes beside each other on a new server, with a watcher of its methods beside them if `watch` says
-/// so. An `Err` is want of memory.
+/// Plays the parts as lanes beside each other on a new server, with a watcher of its methods beside them if `watch`
+/// says so. An `Err` is want of memory.
 pub(crate) fn play_parts<M: Method + Send, W: Threads + Wait + Sync, G: Gate + Sync>(
     rt: &W,
     alloc: Global,

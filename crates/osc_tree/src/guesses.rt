@@ -4,8 +4,9 @@ use std::alloc::{AllocError, Global};
 /// For one method so many guesses have room, so that few addresses share one.
 const GUESSES: usize = 4;
 
-/// The place of the last method that was added with each hash of an address. A guess is wrong where another address has
-/// the hash, and where a method that stood before it was removed, so whoever uses one looks whether the method is there.
+/// The place of the last method that was added with each hash of an address. A guess is wrong where another address
+/// has the hash, and where a method that stood before it was removed, so whoever uses one looks whether the method is
+/// there.
 #[derive(Drop)]
 pub(crate) struct Guesses {
     places: Vec<u32>,

@@ -65,8 +65,8 @@ pub(crate) fn find_ids<L: Ledger>(
     }
 }
 
-/// Adds the id of the method whose address the pattern spells, where it stands where it is guessed to, and answers whether
-/// it does. The pattern matches no other.
+/// Adds the id of the method whose address the pattern spells, where it stands where it is guessed to, and answers
+/// whether it does. The pattern matches no other.
 fn add_guessed(
     methods: &[Registered],
     guesses: &Guesses,
@@ -143,8 +143,8 @@ fn walk<L: Ledger>(
     }
 }
 
-/// The same, for a pattern whose parts are read once. It alone needs their room, some 300 kilobytes, and so is not put into
-/// its caller: a function touches each page of its room when it is entered.
+/// The same, for a pattern whose parts are read once. It alone needs their room, some 300 kilobytes, and so is not
+/// put into its caller: a function touches each page of its room when it is entered.
 #[inline(never)]
 fn walk_read<L: Ledger>(
     methods: &[Registered],

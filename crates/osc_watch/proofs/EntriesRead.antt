@@ -16,7 +16,7 @@ use Rattle.osc_watch.specs.declared.stop.Stop.{Stop}
 use Rattle.osc_watch.specs.declared.stop.Stop.TheVariants.{AtEnd, At, NoMemory}
 use Rattle.osc_watch.specs.Edits.{edit_by, edits_of}
 use Rattle.osc_watch.specs.Parts.{text_of}
-use Rattle.osc_watch.specs.Notes.{NotesNext, AreReadable, AllIn, IsPlaceIn, place_in, NotesOf, Notes}
+use Rattle.osc_watch.specs.Notes.{NotesNext, AreReadable, IsPlaceIn, Notes}
 
 abbrev pub one_text : Entry → List ℕ
 one_text entry = entry_text entry.caller entry.event entry.answer

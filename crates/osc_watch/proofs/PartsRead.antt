@@ -17,8 +17,8 @@ use Rattle.osc_watch.specs.declared.stop.Stop.{Stop}
 use Rattle.osc_watch.specs.declared.stop.Stop.TheVariants.{AtEnd, At, NoMemory}
 use Rattle.osc_watch.specs.Edits.{edits_of}
 use Rattle.osc_watch.specs.Parts.{text_of, part, Writes}
-use Rattle.osc_watch.specs.Notes.{AreReadable, AllIn, IsPlaceIn, place_in, NotesOf, Notes}
-use Rattle.osc_watch.specs.Refreshing.{PartOf, PartNotes}
+use Rattle.osc_watch.specs.Notes.{AreReadable, AllIn, IsPlaceIn, place_in, Notes}
+use Rattle.osc_watch.specs.Refreshing.{PartNotes}
 use Rattle.osc_watch.proofs.EntriesRead.{one_text, edit_in}
 
 pub part_notes : (header part all : List ℕ) (from to : ℕ) (noted then : List Edit) (stop : Stop) → all ≡ header ++ part → length header ≡ header_size

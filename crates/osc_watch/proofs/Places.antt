@@ -1,8 +1,8 @@
 -- Where something stands in a list, or the list's length.
-use Rattle.std.proofs.Common.{◌≡◌, ℕ, suc, ◌+◌, ◌<◌, ◌≤◌, Bool, true, false, not, cond, List, [], ◌∷◌, length, Some, None, position, nat_lt, refl, sym, ap, ◌∙◌}
-use Rattle.std.proofs.Common.{one-add, arith}
+use Rattle.std.proofs.Common.{◌≡◌, ℕ, suc, ◌+◌, ◌≤◌, Bool, true, false, not, cond, List, [], ◌∷◌, length, Some, None, position, nat_lt, refl}
+use Rattle.std.proofs.Common.{arith}
 use Rattle.std.specs.List.{position_or_len}
-use Rattle.std.proofs.lemmas.Bool.{ltb-true, ltb-false}
+use Rattle.std.proofs.lemmas.Bool.{ltb-false}
 
 pub bound : {X : Type 0} (test : X → Bool) (xs : List X) → position_or_len test xs ≤ length xs
 bound test [] = omega arith

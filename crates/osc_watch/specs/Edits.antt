@@ -1,5 +1,5 @@
 -- The edits of the list of methods that a history makes.
-use Rattle.std.specs.Prelude.{ℕ, Bool, true, false, List, Option, Some, None}
+use Rattle.std.specs.Prelude.{true, false, List, Option, Some, None}
 use Rattle.std.specs.List.{filter_map}
 use Rattle.osc_model.specs.Events.{Entry, Event, Answer, add, remove, added, removed}
 use Rattle.osc_watch.specs.declared.edit.Edit.{Edit}

@@ -1,5 +1,5 @@
 -- Rows in ascending byte order of their addresses, as edits change them.
-use Rattle.std.specs.Prelude.{ℕ, ◌==◌, ◌&&◌, not, Bool, true, false, if◌then◌else◌, List, [], ◌∷◌}
+use Rattle.std.specs.Prelude.{ℕ, ◌==◌, ◌&&◌, not, Bool, if◌then◌else◌, List, []}
 use Rattle.std.specs.Prelude.{insert, fold}
 use Rattle.std.specs.List.{position_or_len, remove}
 use Rattle.std.specs.Ordering.{is_lt, nat_cmp}

@@ -1,5 +1,5 @@
 -- How far the one list of edits was reached.
-use Rattle.std.specs.Prelude.{ℕ, nat_lt, if◌then◌else◌, List, length}
+use Rattle.std.specs.Prelude.{nat_lt, if◌then◌else◌}
 use Rattle.osc_watch.specs.declared.reached.Reached.{Reached}
 
 -- the longer of two beginnings

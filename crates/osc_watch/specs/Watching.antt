@@ -1,5 +1,5 @@
 -- What contracts see of a board, its watchers and its notices.
-use Rattle.std.specs.Prelude.{◌≡◌, ℕ, nat_lt, if◌then◌else◌, List, length}
+use Rattle.std.specs.Prelude.{◌≡◌, nat_lt, if◌then◌else◌, List, length}
 use Rattle.osc_watch.specs.declared.edit.Edit.{Edit}
 use Rattle.osc_watch.specs.declared.board.Board.{Board}
 use Rattle.osc_watch.specs.declared.watcher.Watcher.{Watcher}

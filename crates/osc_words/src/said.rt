@@ -64,8 +64,8 @@ pub fn live_command_of(alloc: Global, words: &[String]) -> Result<Option<LiveCom
     }
 }
 
-/// The command of `oscd` that goes on from a recording, if the words say it; none where they are refused, or say another
-/// command. An `Err` is want of memory.
+/// The command of `oscd` that goes on from a recording, if the words say it; none where they are refused, or say
+/// another command. An `Err` is want of memory.
 pub fn resume_command_of(
     alloc: Global,
     words: &[String],

@@ -1,4 +1,4 @@
-use Rattle.std.proofs.Common.{◌≡◌, ℕ, ◌+◌, List, [], ◌∷◌, insert, length, get_or, All, sym, ap, subst, ◌∙◌, arith}
+use Rattle.std.proofs.Common.{◌≡◌, ℕ, List, [], ◌∷◌, insert, length, get_or, All, sym, ap, subst, ◌∙◌, arith}
 use Rattle.std.proofs.lemmas.List.{length-map}
 use Rattle.std.proofs.lemmas.List.Elements.{All-cons}
 use Rattle.osc_core.specs.Telling.{told}
@@ -10,7 +10,6 @@ use Rattle.osc_live.specs.declared.caller.Caller.{Caller}
 use Rattle.osc_live.specs.Closing.{known, views_of, made_by, StartsAtZero, Closes}
 use Rattle.osc_live.specs.Seen.{IsTokenOf}
 use Rattle.osc_live.proofs.Closings.{inserted_first}
-use Rattle.osc_watch.specs.Tokens.{OnlyLooks}
 use Rattle.osc_watch.proofs.Looking.{looks_on}
 use Rattle.osc_display.proofs.Listed.{closed_with, closed_listed}
 use Rattle.osc_display.proofs.Same.{watches_on}

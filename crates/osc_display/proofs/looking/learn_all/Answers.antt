@@ -8,7 +8,7 @@ use Rattle.osc_turn.specs.Passes.{view}
 use Rattle.osc_live.specs.declared.caller.Caller.{Caller}
 use Rattle.osc_live.specs.Closing.{known}
 use Rattle.osc_live.specs.Seen.{IsTokenOf}
-use Rattle.osc_watch.proofs.Looking.{looks_on, looks_told, looks_here}
+use Rattle.osc_watch.proofs.Looking.{looks_on, looks_told}
 use Rattle.osc_display.proofs.Heard.{HasHeard, heard_more}
 use Rattle.osc_display.proofs.looking.learn_all.Goals as goal
 

@@ -1,4 +1,4 @@
-use Rattle.std.proofs.Common.{◌≡◌, ◌+◌, ◌∷◌, List, [], length, map, All, refl, sym, ap, subst, ◌∙◌, arith}
+use Rattle.std.proofs.Common.{◌≡◌, List, length, map, All, sym, ap, subst, ◌∙◌, arith}
 use Rattle.std.specs.List.{AllByRecursion}
 use Rattle.std.proofs.lemmas.List.{length-map}
 use Rattle.std.proofs.lemmas.List.Elements.{All-map, All-from_recursion}
@@ -8,16 +8,15 @@ use Rattle.osc_turn.specs.Passes.{view}
 use Rattle.osc_live.specs.declared.caller.Caller.{Caller}
 use Rattle.osc_live.specs.declared.guest.Guest.{Guest}
 use Rattle.osc_live.specs.Seen.{IsTokenOf}
-use Rattle.osc_lanes.specs.Ends.{IsReady, IsEndOf}
-use Rattle.osc_lanes.specs.Crews.{names_of, caller_of, part_in, caller_in, IsSilent, HasSeen}
+use Rattle.osc_lanes.specs.Ends.{IsReady}
+use Rattle.osc_lanes.specs.Crews.{names_of, part_in, caller_in, IsSilent, HasSeen}
 use Rattle.osc_lanes.specs.Performs.{part_of}
 use Rattle.osc_lanes.proofs.Finishing.{of_plans, plans_ours, plans_ready, ends_counted}
 use Rattle.osc_watch.specs.Tokens.{OnlyLooks}
-use Rattle.osc_watch.proofs.Looking.{looks_here}
 use Rattle.osc_display.specs.Boards.{Watches, ClosesListed}
 use Rattle.osc_display.proofs.Finished.{all_displayed}
 use Rattle.osc_display.proofs.run.play_all.Goals as goal
-use Rattle.osc_display.proofs.run.play_all.Goals.{In_ok-plans, In_ok-caller, In_ok-others}
+use Rattle.osc_display.proofs.run.play_all.Goals.{In_ok-plans, In_ok-others}
 
 all_ready : (g : _) (c : In_ok-plans g) → AllByRecursion IsReady c.in_ok-plans.plans.items
 all_ready g c =

@@ -1,4 +1,4 @@
-use Rattle.std.proofs.Common.{◌≡◌, map, None, Some, refl, sym, ap, subst, ◌∙◌, arith, List, length}
+use Rattle.std.proofs.Common.{◌≡◌, map, None, Some, sym, ap, subst, ◌∙◌, arith, List, length}
 use Rattle.std.proofs.lemmas.List.{length-map}
 use Rattle.osc_model.specs.Events.{Room, record_full}
 use Rattle.osc_record.specs.Shown.{room_of}

@@ -1,5 +1,4 @@
-use Rattle.std.proofs.Common.{◌++◌, ◌∷◌, List, ap, ◌∙◌}
-use Rattle.osc_live.specs.declared.caller.Caller.{Caller}
+use Rattle.std.proofs.Common.{◌++◌, ap, ◌∙◌}
 use Rattle.osc_live.proofs.Closings.{inserted_first}
 use Rattle.osc_lanes.proofs.ends.part_ends.Goals as goal
 

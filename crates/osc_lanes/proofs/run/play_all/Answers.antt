@@ -13,7 +13,7 @@ use Rattle.osc_lanes.specs.Ends.{IsReady}
 use Rattle.osc_lanes.specs.Shares.{Account}
 use Rattle.osc_lanes.specs.Performs.{Part, part_of, told_of}
 use Rattle.osc_lanes.specs.Later.{PerformsLater}
-use Rattle.osc_lanes.specs.Crews.{names_of, caller_of, part_in, caller_in, IsSilent, HasSeen}
+use Rattle.osc_lanes.specs.Crews.{names_of, part_in, caller_in, IsSilent, HasSeen}
 use Rattle.osc_live.specs.Seen.{past_of}
 use Rattle.osc_lanes.proofs.Finishing.{of_plans, plans_ours, plans_ready, ends_counted}
 use Rattle.osc_lanes.proofs.Later.{finish_later, same_view}

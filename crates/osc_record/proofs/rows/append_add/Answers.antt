@@ -1,19 +1,16 @@
-use Rattle.std.proofs.Common.{◌≡◌, ◌++◌, ◌∷◌, [], codes, pos, to_z, w32, arith, ◌∙◌}
-use Rattle.std.proofs.lemmas.Int.{to_z_pos}
-use Rattle.osc_message.specs.Messages.{integer, text}
-use Rattle.osc_model.specs.Recordings.{sized, row_text}
+use Rattle.std.proofs.Common.{◌∙◌, ◌++◌, ℕ, length, length-append, replicate, ap, arith}
+use Rattle.std.proofs.lemmas.List.{length-replicate}
+use Rattle.osc_atoms.specs.Atoms.{word, string, string_end}
+use Rattle.osc_record.specs.declared.entry_reading.TheConstants.{ADD}
+use Rattle.osc_record.proofs.AddressRows.{add_shape, two_more}
 use Rattle.osc_record.proofs.rows.append_add.Goals as goal
 
 pub returns-clause-out : goal.returns-clause-out
 returns-clause-out c =
-    let caller : to_z w32 c.args.caller ≡ pos c.args.caller = to_z_pos w32 c.args.caller (omega (arith, c.requires.fits.0)) in
-    let code : to_z w32 c.args.code ≡ pos c.args.code = to_z_pos w32 c.args.code (omega (arith, c.requires.fits.1.1.0)) in
-    let first : to_z w32 c.args.first ≡ pos c.args.first = to_z_pos w32 c.args.first (omega (arith, c.requires.fits.1.1.1.0)) in
-    let second : to_z w32 c.args.second ≡ pos c.args.second = to_z_pos w32 c.args.second (omega (arith, c.requires.fits.1.1.1.1.0)) in
-    c.append_message.ensures.out
-    ∙ (λ i. c.args.out.now.items
-    ++ sized (row_text
-    (record {
-      address = codes "/osc/add";
-      arguments = integer (caller i) ∷ text c.args.address.now ∷ integer (code i) ∷ integer (first i) ∷ integer (second i) ∷ [];
-    })))
+    let address = c.args.address.now in
+    let padding = string_end (length address) in
+    two_more c.args.out.now.items _ _ _ (word _) ADD (word c.args.caller) (string address) (word c.args.code) (word c.args.first) (word c.args.second)
+    c.append_address_row.ensures.out c.append_word.ensures.out c.append_word-2.ensures.out
+    ∙ ap (λ l. c.args.out.now.items ++ l)
+    (add_shape c.args.caller address c.args.code c.args.first c.args.second _
+    (omega (arith, c.string_size.ensures, length-append address (replicate padding 0), length-replicate {A = ℕ} padding 0)))

@@ -1,8 +1,7 @@
-use Rattle.std.proofs.Common.{◌≡◌, ◌≤◌, ◌+◌, length, refl, sym, ap, ◌∙◌, arith, length-append, rules}
-use Rattle.osc_model.specs.Limits.{header_size}
+use Rattle.std.proofs.Common.{length, refl, ap, ◌∙◌, arith, length-append}
 use Rattle.osc_model.specs.Recordings.{header_text}
 use Rattle.osc_watch.specs.Watching.{noted}
-use Rattle.osc_watch.proofs.EntriesRead.{begins, reads_on, stops, no_header, read_total, read_low, stop_place}
+use Rattle.osc_watch.proofs.EntriesRead.{begins, reads_on, stops, read_total, read_low, stop_place}
 use Rattle.osc_watch.proofs.entries.note_all.Goals as goal
 
 pub loop-stop-init : goal.loop-stop-init

@@ -1,4 +1,4 @@
-use Rattle.std.proofs.Common.{◌≡◌, ◌≤◌, length, All}
+use Rattle.std.proofs.Common.{◌≡◌, length, All}
 use Rattle.left_right.specs.Sides.{view}
 use Rattle.osc_watch.specs.declared.watcher.Watcher.{Watcher}
 use Rattle.osc_watch.proofs.opening.deal.Given as goal

@@ -1,4 +1,4 @@
-use Rattle.std.proofs.Common.{◌≡◌, ◌≤◌, ◌<◌, length}
+use Rattle.std.proofs.Common.{◌≡◌, ◌<◌, length}
 use Rattle.osc_turn.specs.History.{StartsWith}
 use Rattle.osc_model.specs.Limits.{header_size}
 use Rattle.osc_watch.specs.Watching.{published, IsOneBoard}

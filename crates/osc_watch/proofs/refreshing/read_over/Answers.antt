@@ -1,4 +1,4 @@
-use Rattle.std.proofs.Common.{◌≡◌, ◌<◌, true, refl, ap, sym, subst, ◌∙◌, arith}
+use Rattle.std.proofs.Common.{refl, ap, subst}
 use Rattle.osc_watch.specs.Watching.{noted}
 use Rattle.osc_watch.specs.Refreshing.{HasRead}
 use Rattle.osc_watch.proofs.Begun.{onward}

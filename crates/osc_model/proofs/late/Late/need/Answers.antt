@@ -1,4 +1,4 @@
-use Rattle.std.proofs.Common.{arith, length, ap}
+use Rattle.std.proofs.Common.{arith}
 use Rattle.osc_packet.specs.Reading.{units_read}
 use Rattle.osc_model.proofs.Blocks.{valid_few}
 use Rattle.osc_model.proofs.Queues.{kept_few}
