@@ -55,14 +55,14 @@ pub(crate) fn serve_link<M: Method, W: Wait, L: Link + Drop, G: Gate>(
 {
     let LinkPlan { link, caller, from } = plan;
     let mut buffer = vec![in alloc; 0; MAX_DATAGRAM]?;
-    let open = OpenLink {
+    let opened = OpenLink {
         link,
         caller,
         from,
         faults: Vec::new(alloc),
     };
     let space = buffer.as_mut_slice();
-    let (last, over) = take_turns(rt, live, open, space, bounds, gate)?;
+    let (last, over) = take_turns(rt, live, opened, space, bounds, gate)?;
     let OpenLink {
         caller,
         from,
@@ -81,47 +81,47 @@ pub(crate) fn serve_link<M: Method, W: Wait, L: Link + Drop, G: Gate>(
 fn take_turns<M: Method, W: Wait, L: Link + Drop, G: Gate>(
     rt: &W,
     live: &Live<M>,
-    mut open: OpenLink<L>,
+    mut opened: OpenLink<L>,
     space: &mut [u8],
     bounds: Bounds,
     gate: &G,
 ) -> Result<(OpenLink<L>, Over), AllocError>
-    requires ours { IsOurs live.now open.caller }
+    requires ours { IsOurs live.now opened.caller }
     requires space { length space.now ≡ MAX_DATAGRAM }
     requires count { 0 < bounds.count }
     requires idle { 0 < bounds.idle }
     ensures ours { IfOk result (λ r. IsOurs live.now r.0.caller) }
     ensures holder { IfOk result
-        (λ r. holder_of live.now.caps r.0.caller ≡ holder_of live.now.caps open.caller) }
+        (λ r. holder_of live.now.caps r.0.caller ≡ holder_of live.now.caps opened.caller) }
     ensures taken { IfOk result (λ r. TakesAll M.keep M.heard
-        (holder_of live.now.caps open.caller) bounds open.faults.items r.0.faults.items
-        (L.left open.from) (L.left r.0.from) r.1 (seen_by open.caller) (seen_by r.0.caller)) }
+        (holder_of live.now.caps opened.caller) bounds opened.faults.items r.0.faults.items
+        (L.left opened.from) (L.left r.0.from) r.1 (seen_by opened.caller) (seen_by r.0.caller)) }
     ensures cause { IfOk result (λ r.
-        HasEndCause r.1 (L.left r.0.from) (L.faults open.from) (L.faults r.0.from)) }
+        HasEndCause r.1 (L.left r.0.from) (L.faults opened.from) (L.faults r.0.from)) }
 {
     let mut taken = 0;
     let mut quiets = 0;
     for _ in rt.forever() {
         let number = taken + 1;
-        let (next, step) = take_turn(rt, live, open, number, space, gate)?;
-        open = next;
+        let (next, step) = take_turn(rt, live, opened, number, space, gate)?;
+        opened = next;
         match step {
             Step::Sent => {
                 taken = number;
                 quiets = 0;
                 if taken == bounds.count {
-                    return Ok((open, Over::Count));
+                    return Ok((opened, Over::Count));
                 }
             }
             Step::Quiet => {
                 quiets += 1;
                 if quiets == bounds.idle {
-                    return Ok((open, Over::Idle));
+                    return Ok((opened, Over::Idle));
                 }
             }
-            Step::End => return Ok((open, Over::End)),
-            Step::Failed => return Ok((open, Over::Failed)),
-            Step::Full(room) => return Ok((open, Over::Full(room))),
+            Step::End => return Ok((opened, Over::End)),
+            Step::Failed => return Ok((opened, Over::Failed)),
+            Step::Full(room) => return Ok((opened, Over::Full(room))),
         }
     }
     unreachable!()
@@ -131,47 +131,47 @@ fn take_turns<M: Method, W: Wait, L: Link + Drop, G: Gate>(
 fn take_turn<M: Method, W: Wait, L: Link + Drop, G: Gate>(
     rt: &W,
     live: &Live<M>,
-    mut open: OpenLink<L>,
+    mut opened: OpenLink<L>,
     number: u32,
     space: &mut [u8],
     gate: &G,
 ) -> Result<(OpenLink<L>, Step), AllocError>
-    requires ours { IsOurs live.now open.caller }
+    requires ours { IsOurs live.now opened.caller }
     requires space { length space.now ≡ MAX_DATAGRAM }
     ensures space { length space.new ≡ length space.old }
     ensures ours { IfOk result (λ r. IsOurs live.now r.0.caller) }
     ensures holder { IfOk result
-        (λ r. holder_of live.now.caps r.0.caller ≡ holder_of live.now.caps open.caller) }
+        (λ r. holder_of live.now.caps r.0.caller ≡ holder_of live.now.caps opened.caller) }
     ensures takes { IfOk result (λ r. TakesOne M.keep M.heard
-        (holder_of live.now.caps open.caller) number open.faults.items r.0.faults.items
-        (L.left open.from) (L.left r.0.from) (L.faults open.from) (L.faults r.0.from) r.1
-        (seen_by open.caller) (seen_by r.0.caller)) }
+        (holder_of live.now.caps opened.caller) number opened.faults.items r.0.faults.items
+        (L.left opened.from) (L.left r.0.from) (L.faults opened.from) (L.faults r.0.from) r.1
+        (seen_by opened.caller) (seen_by r.0.caller)) }
 {
-    match open.from.next(space) {
+    match opened.from.next(space) {
         Datagram::Got(count) => {
             let OpenLink {
                 link,
                 caller,
                 from,
                 mut faults,
-            } = open;
+            } = opened;
             let bytes = &space[..count];
             gate.enter(link, number);
             let (caller, stop) = send(rt, live, caller, number, bytes, &mut faults)?;
             gate.leave(link, number);
-            let open = OpenLink {
+            let opened = OpenLink {
                 link,
                 caller,
                 from,
                 faults,
             };
             match stop {
-                None => Ok((open, Step::Sent)),
-                Some(room) => Ok((open, Step::Full(room))),
+                None => Ok((opened, Step::Sent)),
+                Some(room) => Ok((opened, Step::Full(room))),
             }
         }
-        Datagram::Quiet => Ok((open, Step::Quiet)),
-        Datagram::End => Ok((open, Step::End)),
-        Datagram::Failed => Ok((open, Step::Failed)),
+        Datagram::Quiet => Ok((opened, Step::Quiet)),
+        Datagram::End => Ok((opened, Step::End)),
+        Datagram::Failed => Ok((opened, Step::Failed)),
     }
 }

@@ -7,32 +7,32 @@ use Rattle.osc_links.proofs.link_worker.take_turns.Goals as goal
 pub returns-then-taken-bounds-clause-taken : goal.returns-then-taken-bounds-clause-taken
 returns-then-taken-bounds-clause-taken g c =
     let inv = c.loop.invariant in
-    turns_over g.M.Method.keep g.M.Method.heard (holder_of c.args.live.now.caps c.args.open.caller) c.args.bounds c.args.open.faults.items
-    (g.L.Link.left c.args.open.from) (seen_by c.args.open.caller) (c.loop.taken + 1) 0 c.in_ok-next.next.faults.items
+    turns_over g.M.Method.keep g.M.Method.heard (holder_of c.args.live.now.caps c.args.opened.caller) c.args.bounds c.args.opened.faults.items
+    (g.L.Link.left c.args.opened.from) (seen_by c.args.opened.caller) (c.loop.taken + 1) 0 c.in_ok-next.next.faults.items
     (g.L.Link.left c.in_ok-next.next.from) (seen_by c.in_ok-next.next.caller) Count
-    (came_sent g.M.Method.keep g.M.Method.heard (holder_of c.args.live.now.caps c.args.open.caller) c.args.bounds c.args.open.faults.items
-    (g.L.Link.left c.args.open.from) (seen_by c.args.open.caller) _ inv.holder c.loop.taken c.loop.quiets c.loop.open.faults.items c.in_ok-next.next.faults.items
-    (g.L.Link.left c.loop.open.from) (g.L.Link.left c.in_ok-next.next.from) (g.L.Link.faults c.loop.open.from) (g.L.Link.faults c.in_ok-next.next.from) c.in_ok-next.step
-    (seen_by c.loop.open.caller) (seen_by c.in_ok-next.next.caller) inv.goes inv.within c.in_ok-next.ensures.takes c.in-Sent.is).0 c.if-taken-bounds.true refl
+    (came_sent g.M.Method.keep g.M.Method.heard (holder_of c.args.live.now.caps c.args.opened.caller) c.args.bounds c.args.opened.faults.items
+    (g.L.Link.left c.args.opened.from) (seen_by c.args.opened.caller) _ inv.holder c.loop.taken c.loop.quiets c.loop.opened.faults.items c.in_ok-next.next.faults.items
+    (g.L.Link.left c.loop.opened.from) (g.L.Link.left c.in_ok-next.next.from) (g.L.Link.faults c.loop.opened.from) (g.L.Link.faults c.in_ok-next.next.from) c.in_ok-next.step
+    (seen_by c.loop.opened.caller) (seen_by c.in_ok-next.next.caller) inv.goes inv.within c.in_ok-next.ensures.takes c.in-Sent.is).0 c.if-taken-bounds.true refl
 
 pub returns-then-quiets-bounds-clause-taken : goal.returns-then-quiets-bounds-clause-taken
 returns-then-quiets-bounds-clause-taken g c =
     let inv = c.loop.invariant in
-    turns_over g.M.Method.keep g.M.Method.heard (holder_of c.args.live.now.caps c.args.open.caller) c.args.bounds c.args.open.faults.items
-    (g.L.Link.left c.args.open.from) (seen_by c.args.open.caller) c.loop.taken (c.loop.quiets + 1) c.in_ok-next.next.faults.items
+    turns_over g.M.Method.keep g.M.Method.heard (holder_of c.args.live.now.caps c.args.opened.caller) c.args.bounds c.args.opened.faults.items
+    (g.L.Link.left c.args.opened.from) (seen_by c.args.opened.caller) c.loop.taken (c.loop.quiets + 1) c.in_ok-next.next.faults.items
     (g.L.Link.left c.in_ok-next.next.from) (seen_by c.in_ok-next.next.caller) Idle
-    (came_quiet g.M.Method.keep g.M.Method.heard (holder_of c.args.live.now.caps c.args.open.caller) c.args.bounds c.args.open.faults.items
-    (g.L.Link.left c.args.open.from) (seen_by c.args.open.caller) _ inv.holder c.loop.taken c.loop.quiets c.loop.open.faults.items c.in_ok-next.next.faults.items
-    (g.L.Link.left c.loop.open.from) (g.L.Link.left c.in_ok-next.next.from) (g.L.Link.faults c.loop.open.from) (g.L.Link.faults c.in_ok-next.next.from) c.in_ok-next.step
-    (seen_by c.loop.open.caller) (seen_by c.in_ok-next.next.caller) inv.goes inv.within c.in_ok-next.ensures.takes c.in-Quiet.is).0 c.if-quiets-bounds.true refl
+    (came_quiet g.M.Method.keep g.M.Method.heard (holder_of c.args.live.now.caps c.args.opened.caller) c.args.bounds c.args.opened.faults.items
+    (g.L.Link.left c.args.opened.from) (seen_by c.args.opened.caller) _ inv.holder c.loop.taken c.loop.quiets c.loop.opened.faults.items c.in_ok-next.next.faults.items
+    (g.L.Link.left c.loop.opened.from) (g.L.Link.left c.in_ok-next.next.from) (g.L.Link.faults c.loop.opened.from) (g.L.Link.faults c.in_ok-next.next.from) c.in_ok-next.step
+    (seen_by c.loop.opened.caller) (seen_by c.in_ok-next.next.caller) inv.goes inv.within c.in_ok-next.ensures.takes c.in-Quiet.is).0 c.if-quiets-bounds.true refl
 
 pub loop-preserved-else-taken-bounds : goal.loop-preserved-else-taken-bounds
 loop-preserved-else-taken-bounds g c =
     let inv = c.loop.invariant in
-    let came = came_sent g.M.Method.keep g.M.Method.heard (holder_of c.args.live.now.caps c.args.open.caller) c.args.bounds c.args.open.faults.items
-    (g.L.Link.left c.args.open.from) (seen_by c.args.open.caller) _ inv.holder c.loop.taken c.loop.quiets c.loop.open.faults.items c.in_ok-next.next.faults.items
-    (g.L.Link.left c.loop.open.from) (g.L.Link.left c.in_ok-next.next.from) (g.L.Link.faults c.loop.open.from) (g.L.Link.faults c.in_ok-next.next.from) c.in_ok-next.step
-    (seen_by c.loop.open.caller) (seen_by c.in_ok-next.next.caller) inv.goes inv.within c.in_ok-next.ensures.takes c.in-Sent.is in
+    let came = came_sent g.M.Method.keep g.M.Method.heard (holder_of c.args.live.now.caps c.args.opened.caller) c.args.bounds c.args.opened.faults.items
+    (g.L.Link.left c.args.opened.from) (seen_by c.args.opened.caller) _ inv.holder c.loop.taken c.loop.quiets c.loop.opened.faults.items c.in_ok-next.next.faults.items
+    (g.L.Link.left c.loop.opened.from) (g.L.Link.left c.in_ok-next.next.from) (g.L.Link.faults c.loop.opened.from) (g.L.Link.faults c.in_ok-next.next.from) c.in_ok-next.step
+    (seen_by c.loop.opened.caller) (seen_by c.in_ok-next.next.caller) inv.goes inv.within c.in_ok-next.ensures.takes c.in-Sent.is in
     record {
       ours = c.in_ok-next.ensures.ours;
       holder = c.in_ok-next.ensures.holder ∙ inv.holder;
@@ -45,10 +45,10 @@ loop-preserved-else-taken-bounds g c =
 pub loop-preserved : goal.loop-preserved
 loop-preserved g c =
     let inv = c.loop.invariant in
-    let came = came_quiet g.M.Method.keep g.M.Method.heard (holder_of c.args.live.now.caps c.args.open.caller) c.args.bounds c.args.open.faults.items
-    (g.L.Link.left c.args.open.from) (seen_by c.args.open.caller) _ inv.holder c.loop.taken c.loop.quiets c.loop.open.faults.items c.in_ok-next.next.faults.items
-    (g.L.Link.left c.loop.open.from) (g.L.Link.left c.in_ok-next.next.from) (g.L.Link.faults c.loop.open.from) (g.L.Link.faults c.in_ok-next.next.from) c.in_ok-next.step
-    (seen_by c.loop.open.caller) (seen_by c.in_ok-next.next.caller) inv.goes inv.within c.in_ok-next.ensures.takes c.in-Quiet.is in
+    let came = came_quiet g.M.Method.keep g.M.Method.heard (holder_of c.args.live.now.caps c.args.opened.caller) c.args.bounds c.args.opened.faults.items
+    (g.L.Link.left c.args.opened.from) (seen_by c.args.opened.caller) _ inv.holder c.loop.taken c.loop.quiets c.loop.opened.faults.items c.in_ok-next.next.faults.items
+    (g.L.Link.left c.loop.opened.from) (g.L.Link.left c.in_ok-next.next.from) (g.L.Link.faults c.loop.opened.from) (g.L.Link.faults c.in_ok-next.next.from) c.in_ok-next.step
+    (seen_by c.loop.opened.caller) (seen_by c.in_ok-next.next.caller) inv.goes inv.within c.in_ok-next.ensures.takes c.in-Quiet.is in
     record {
       ours = c.in_ok-next.ensures.ours;
       holder = c.in_ok-next.ensures.holder ∙ inv.holder;
@@ -61,23 +61,23 @@ loop-preserved g c =
 pub returns-in-End-clause-taken : goal.returns-in-End-clause-taken
 returns-in-End-clause-taken g c =
     let inv = c.loop.invariant in
-    came_end g.M.Method.keep g.M.Method.heard (holder_of c.args.live.now.caps c.args.open.caller) c.args.bounds c.args.open.faults.items
-    (g.L.Link.left c.args.open.from) (seen_by c.args.open.caller) _ inv.holder c.loop.taken c.loop.quiets c.loop.open.faults.items c.in_ok-next.next.faults.items
-    (g.L.Link.left c.loop.open.from) (g.L.Link.left c.in_ok-next.next.from) (g.L.Link.faults c.loop.open.from) (g.L.Link.faults c.in_ok-next.next.from) c.in_ok-next.step
-    (seen_by c.loop.open.caller) (seen_by c.in_ok-next.next.caller) inv.goes inv.within c.in_ok-next.ensures.takes c.in-End.is
+    came_end g.M.Method.keep g.M.Method.heard (holder_of c.args.live.now.caps c.args.opened.caller) c.args.bounds c.args.opened.faults.items
+    (g.L.Link.left c.args.opened.from) (seen_by c.args.opened.caller) _ inv.holder c.loop.taken c.loop.quiets c.loop.opened.faults.items c.in_ok-next.next.faults.items
+    (g.L.Link.left c.loop.opened.from) (g.L.Link.left c.in_ok-next.next.from) (g.L.Link.faults c.loop.opened.from) (g.L.Link.faults c.in_ok-next.next.from) c.in_ok-next.step
+    (seen_by c.loop.opened.caller) (seen_by c.in_ok-next.next.caller) inv.goes inv.within c.in_ok-next.ensures.takes c.in-End.is
 
 pub returns-in-Failed-clause-taken : goal.returns-in-Failed-clause-taken
 returns-in-Failed-clause-taken g c =
     let inv = c.loop.invariant in
-    came_failed g.M.Method.keep g.M.Method.heard (holder_of c.args.live.now.caps c.args.open.caller) c.args.bounds c.args.open.faults.items
-    (g.L.Link.left c.args.open.from) (seen_by c.args.open.caller) _ inv.holder c.loop.taken c.loop.quiets c.loop.open.faults.items c.in_ok-next.next.faults.items
-    (g.L.Link.left c.loop.open.from) (g.L.Link.left c.in_ok-next.next.from) (g.L.Link.faults c.loop.open.from) (g.L.Link.faults c.in_ok-next.next.from) c.in_ok-next.step
-    (seen_by c.loop.open.caller) (seen_by c.in_ok-next.next.caller) inv.goes inv.within c.in_ok-next.ensures.takes c.in-Failed.is
+    came_failed g.M.Method.keep g.M.Method.heard (holder_of c.args.live.now.caps c.args.opened.caller) c.args.bounds c.args.opened.faults.items
+    (g.L.Link.left c.args.opened.from) (seen_by c.args.opened.caller) _ inv.holder c.loop.taken c.loop.quiets c.loop.opened.faults.items c.in_ok-next.next.faults.items
+    (g.L.Link.left c.loop.opened.from) (g.L.Link.left c.in_ok-next.next.from) (g.L.Link.faults c.loop.opened.from) (g.L.Link.faults c.in_ok-next.next.from) c.in_ok-next.step
+    (seen_by c.loop.opened.caller) (seen_by c.in_ok-next.next.caller) inv.goes inv.within c.in_ok-next.ensures.takes c.in-Failed.is
 
 pub returns-in-Full-clause-taken : goal.returns-in-Full-clause-taken
 returns-in-Full-clause-taken g c =
     let inv = c.loop.invariant in
-    came_full g.M.Method.keep g.M.Method.heard (holder_of c.args.live.now.caps c.args.open.caller) c.args.bounds c.args.open.faults.items
-    (g.L.Link.left c.args.open.from) (seen_by c.args.open.caller) _ inv.holder c.loop.taken c.loop.quiets c.loop.open.faults.items c.in_ok-next.next.faults.items
-    (g.L.Link.left c.loop.open.from) (g.L.Link.left c.in_ok-next.next.from) (g.L.Link.faults c.loop.open.from) (g.L.Link.faults c.in_ok-next.next.from) c.in_ok-next.step
-    (seen_by c.loop.open.caller) (seen_by c.in_ok-next.next.caller) inv.goes inv.within c.in_ok-next.ensures.takes c.in-Full.room c.in-Full.is
+    came_full g.M.Method.keep g.M.Method.heard (holder_of c.args.live.now.caps c.args.opened.caller) c.args.bounds c.args.opened.faults.items
+    (g.L.Link.left c.args.opened.from) (seen_by c.args.opened.caller) _ inv.holder c.loop.taken c.loop.quiets c.loop.opened.faults.items c.in_ok-next.next.faults.items
+    (g.L.Link.left c.loop.opened.from) (g.L.Link.left c.in_ok-next.next.from) (g.L.Link.faults c.loop.opened.from) (g.L.Link.faults c.in_ok-next.next.from) c.in_ok-next.step
+    (seen_by c.loop.opened.caller) (seen_by c.in_ok-next.next.caller) inv.goes inv.within c.in_ok-next.ensures.takes c.in-Full.room c.in-Full.is

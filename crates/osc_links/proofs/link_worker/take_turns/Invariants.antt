@@ -8,11 +8,11 @@ use Rattle.osc_links.proofs.link_worker.take_turns.Given as goal
 
 abbrev pub invariant-loop : goal.invariant-loop
 invariant-loop g l = record {
-  ours : IsTokenOf l.live.turn l.live.caps l.open.caller.pass;
-  holder : holder_of l.live.caps l.open.caller ≡ holder_of l.live.caps l.fn.open.caller;
+  ours : IsTokenOf l.live.turn l.live.caps l.opened.caller.pass;
+  holder : holder_of l.live.caps l.opened.caller ≡ holder_of l.live.caps l.fn.opened.caller;
   space : length l.space ≡ MAX_DATAGRAM;
   within : IsOpen l.bounds l.taken l.quiets;
-  count : g.L.Link.faults l.open.from ≡ g.L.Link.faults l.initial.open.from;
-  goes : TurnsGoOn g.M.Method.keep g.M.Method.heard (holder_of l.live.caps l.fn.open.caller) l.bounds l.fn.open.faults.items (g.L.Link.left l.initial.open.from)
-      (seen_by l.fn.open.caller) l.taken l.quiets l.open.faults.items (g.L.Link.left l.open.from) (seen_by l.open.caller);
+  count : g.L.Link.faults l.opened.from ≡ g.L.Link.faults l.initial.opened.from;
+  goes : TurnsGoOn g.M.Method.keep g.M.Method.heard (holder_of l.live.caps l.fn.opened.caller) l.bounds l.fn.opened.faults.items (g.L.Link.left l.initial.opened.from)
+      (seen_by l.fn.opened.caller) l.taken l.quiets l.opened.faults.items (g.L.Link.left l.opened.from) (seen_by l.opened.caller);
 }
