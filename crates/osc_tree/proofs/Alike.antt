@@ -5,6 +5,7 @@ use Rattle.std.specs.Prelude.{sum_by, MatchOption}
 use Rattle.std.specs.List.{list_any, slice_split, onto_first}
 use Rattle.std.specs.Str.{bytes_eq}
 use Rattle.std.proofs.Math.Seq.{drop-cons}
+use Rattle.std.proofs.lemmas.Nat.{mul-le}
 use Rattle.std.proofs.lemmas.Option.{unwrap_or-slice_get}
 use Rattle.std.proofs.lemmas.Cmp.{nat_list_eq_equiv}
 use Rattle.std.proofs.lemmas.Slice.Eq.{bytes_eq-Decides}
@@ -270,14 +271,37 @@ pub none_left : (parts : List (List ℕ)) → agreeing parts [] ≡ 0
 none_left [] = refl
 none_left (part ∷ parts) = refl
 
--- what is known to match does
-pub known_matches : (known rest : ℕ) (t : Bool) → known ≤ cond t (rest + 1) 0 → 0 < known → t ≡ true
-known_matches known rest true le some = refl
-known_matches known rest false le some = absurd (omega arith)
+-- what is known to match is passed over
+spent_none : (known : ℕ) (parts : List (List ℕ)) → spent known parts [] ≡ 0
+spent_none known [] = refl
+spent_none known (part ∷ parts) = refl
 
-pub known_less : (known rest : ℕ) (t : Bool) → known ≤ cond t (rest + 1) 0 → known - 1 ≤ rest
-known_less known rest true le = omega arith
-known_less known rest false le = omega arith
+pub spent_from : (known : ℕ) (parts names : List (List ℕ)) → spent known parts names ≡ spent 0 (drop known parts) (drop known names)
+spent_from zero parts names = refl
+spent_from (suc known) [] names = refl
+spent_from (suc known) (part ∷ parts) [] = sym (spent_none 0 (drop known parts))
+spent_from (suc known) (part ∷ parts) (name ∷ names) =
+    let back : suc known - 1 ≡ known = omega arith in
+    omega (arith, spent_from known parts names, ap (λ (n : ℕ). spent n parts names) back)
+
+pub agree_from : (known : ℕ) (parts names : List (List ℕ)) → known ≤ agreeing parts names
+    → known + agreeing (drop known parts) (drop known names) ≡ agreeing parts names
+agree_from zero parts names le = omega arith
+agree_from (suc known) [] names le = absurd (omega arith)
+agree_from (suc known) (part ∷ parts) [] le = absurd (omega arith)
+agree_from (suc known) (part ∷ parts) (name ∷ names) le = go (match_part part name) le (agree_from known parts names) where
+  go : (t : Bool) → suc known ≤ cond t (agreeing parts names + 1) 0
+      → (known ≤ agreeing parts names → known + agreeing (drop known parts) (drop known names) ≡ agreeing parts names)
+      → suc known + agreeing (drop known parts) (drop known names) ≡ cond t (agreeing parts names + 1) 0
+  go true le more = omega (arith, more (omega arith))
+  go false le more = absurd (omega arith)
+
+-- the steps that one part costs
+pub tried : (part name : List ℕ) → length name ≤ 63 → (length part + 1) * (length name + 1) ≤ part_steps 0 part
+tried part name short =
+    let most : (length part + 1) * (length name + 1) ≤ (length part + 1) * 64 =
+    mul-le (length part + 1) (length name + 1) (length part + 1) 64 (omega arith) (omega arith) in
+    omega arith
 
 -- a first name, whether others follow or not
 pub first_piece_is : (names name : List ℕ) (more : Option (Bor (List ℕ)))

@@ -21,7 +21,7 @@ use Rattle.osc_tree.proofs.Alike.{prefixes_long, prefix_names, prefix_slash, nod
 use Rattle.osc_tree.proofs.Counts.{new_steps, one_more_steps}
 
 -- what stands between two that begin with a text begins with it
-begun_between : (text first middle last : List ℕ) → lower middle first ≡ false → lower last middle ≡ false → starts_with nat_eq first text ≡ true
+pub begun_between : (text first middle last : List ℕ) → lower middle first ≡ false → lower last middle ≡ false → starts_with nat_eq first text ≡ true
     → starts_with nat_eq last text ≡ true → starts_with nat_eq middle text ≡ true
 begun_between text first middle last up more e f = go (starts_with nat_eq middle text) refl where
   go : (t : Bool) → starts_with nat_eq middle text ≡ t → starts_with nat_eq middle text ≡ true

@@ -1,48 +1,58 @@
--- How two texts compare by the first place where they differ.
-use Rattle.std.proofs.Common.{Ordering, Less, Equal, Greater, ◌≡◌, ℕ, ◌+◌, ◌<◌, min, Bool, true, false, cond, nat_eq, nat_lt, List, [], ◌∷◌, length, drop, get_or}
+-- Whether a text is before another by the first place where they differ.
+use Rattle.std.proofs.Common.{◌≡◌, ℕ, ◌+◌, ◌-◌, ◌<◌, ◌≤◌, Bool, true, false, cond, nat_eq, nat_lt, List, [], ◌∷◌, ◌++◌, length, take, drop, get_or}
 use Rattle.std.proofs.Common.{refl, sym, ap, ◌∙◌, arith}
-use Rattle.std.specs.Ordering.{nat_cmp, ordering_then}
-use Rattle.std.specs.Cmp.{nat_cmp_is}
-use Rattle.std.specs.Cmp.Lexicographic.{slice_cmp}
 use Rattle.std.proofs.lemmas.Bool.Decides.{nat_tests}
-use Rattle.std.proofs.lemmas.List.{drop_more, length-drop}
+use Rattle.std.proofs.lemmas.List.{at_drop_more, drop_all, length-drop, take_rest}
+use Rattle.osc_tree.proofs.Ranges.{lower, lower_more}
 
-alike_more : (x : ℕ) (xs ys : List ℕ) → slice_cmp nat_cmp (x ∷ xs) (x ∷ ys) ≡ slice_cmp nat_cmp xs ys
-alike_more x xs ys = ap (λ (o : Ordering). ordering_then o (slice_cmp nat_cmp xs ys)) (sym (nat_cmp_is x x Equal refl))
+cut : (a text tail : List ℕ) (i : ℕ) → i < length a → i < length text
+    → lower (drop i a) (drop i text ++ tail)
+    ≡ cond (nat_lt (get_or a i 0) (get_or text i 0)) true
+    (cond (nat_eq (get_or a i 0) (get_or text i 0)) (lower (drop (i + 1) a) (drop (i + 1) text ++ tail)) false)
+cut a text tail i la lt =
+    at_drop_more (λ l. lower l (drop i text ++ tail)) a i 0 la
+    ∙ at_drop_more (λ l. lower (get_or a i 0 ∷ drop (i + 1) a) (l ++ tail)) text i 0 lt
+    ∙ lower_more (get_or a i 0) (get_or text i 0) (drop (i + 1) a) (drop (i + 1) text ++ tail)
 
-unlike : (x y : ℕ) (rest : Ordering) → (x ≡ y → ⊥) → nat_cmp x y ≡ ordering_then (nat_cmp x y) rest
-unlike x y rest differ = go (nat_lt x y) (nat_eq x y) refl refl where
-  go : (s t : Bool) → nat_lt x y ≡ s → nat_eq x y ≡ t
-      → cond s Less (cond t Equal Greater) ≡ ordering_then (cond s Less (cond t Equal Greater)) rest
-  go true t e f = refl
-  go false true e f = absurd (differ (grind (arith, nat_tests)))
-  go false false e f = refl
+pub alike_here : (a text tail : List ℕ) (i : ℕ) → i < length a → i < length text → get_or a i 0 ≡ get_or text i 0
+    → lower (drop i a) (drop i text ++ tail) ≡ lower (drop (i + 1) a) (drop (i + 1) text ++ tail)
+alike_here a text tail i la lt same =
+    let first : nat_lt (get_or a i 0) (get_or text i 0) ≡ false = grind (arith, nat_tests) in
+    let second : nat_eq (get_or a i 0) (get_or text i 0) ≡ true = grind (arith, nat_tests) in
+    let rest = lower (drop (i + 1) a) (drop (i + 1) text ++ tail) in
+    cut a text tail i la lt ∙ ap (λ (t : Bool). cond t true (cond (nat_eq (get_or a i 0) (get_or text i 0)) rest false)) first
+    ∙ ap (λ (t : Bool). cond t rest false) second
 
-cut : (a b : List ℕ) (i : ℕ) → i < length a → i < length b
-    → slice_cmp nat_cmp (drop i a) (drop i b)
-    ≡ slice_cmp nat_cmp (get_or a i 0 ∷ drop (i + 1) a) (get_or b i 0 ∷ drop (i + 1) b)
-cut a b i la lb =
-    ap (λ l. slice_cmp nat_cmp l (drop i b)) (drop_more a i 0 la)
-    ∙ ap (slice_cmp nat_cmp (get_or a i 0 ∷ drop (i + 1) a)) (drop_more b i 0 lb)
+pub unlike_here : (a text tail : List ℕ) (i : ℕ) → i < length a → i < length text → (get_or a i 0 ≡ get_or text i 0 → ⊥)
+    → nat_lt (get_or a i 0) (get_or text i 0) ≡ lower (drop i a) (drop i text ++ tail)
+unlike_here a text tail i la lt differ =
+    let second : nat_eq (get_or a i 0) (get_or text i 0) ≡ false = grind (arith, nat_tests) in
+    let rest = lower (drop (i + 1) a) (drop (i + 1) text ++ tail) in
+    last (nat_lt (get_or a i 0) (get_or text i 0))
+    ∙ sym (cut a text tail i la lt
+    ∙ ap (λ (t : Bool). cond (nat_lt (get_or a i 0) (get_or text i 0)) true (cond t rest false)) second)
+  where
+    last : (t : Bool) → t ≡ cond t true false
+    last true = refl
+    last false = refl
 
-pub alike_here : (a b : List ℕ) (i : ℕ) → i < length a → i < length b → get_or a i 0 ≡ get_or b i 0
-    → slice_cmp nat_cmp (drop i a) (drop i b) ≡ slice_cmp nat_cmp (drop (i + 1) a) (drop (i + 1) b)
-alike_here a b i la lb same =
-    cut a b i la lb
-    ∙ ap (λ (y : ℕ). slice_cmp nat_cmp (get_or a i 0 ∷ drop (i + 1) a) (y ∷ drop (i + 1) b)) (sym same)
-    ∙ alike_more (get_or a i 0) (drop (i + 1) a) (drop (i + 1) b)
+-- where the first ends within the other it is before it
+pub ended_here : (a text tail : List ℕ) (i : ℕ) → length a ≤ i → i < length text → lower (drop i a) (drop i text ++ tail) ≡ true
+ended_here a text tail i la lt = go (drop i a) (drop i text) refl refl where
+  go : (xs ys : List ℕ) → drop i a ≡ xs → drop i text ≡ ys → lower xs (ys ++ tail) ≡ true
+  go [] (y ∷ ys) e f = refl
+  go xs [] e f = absurd (omega (arith, ap length f, length-drop i text))
+  go (x ∷ xs) (y ∷ ys) e f = absurd (omega (arith, ap length e, length-drop i a))
 
-pub unlike_here : (a b : List ℕ) (i : ℕ) → i < length a → i < length b → (get_or a i 0 ≡ get_or b i 0 → ⊥)
-    → nat_cmp (get_or a i 0) (get_or b i 0) ≡ slice_cmp nat_cmp (drop i a) (drop i b)
-unlike_here a b i la lb differ =
-    unlike (get_or a i 0) (get_or b i 0) (slice_cmp nat_cmp (drop (i + 1) a) (drop (i + 1) b)) differ ∙ sym (cut a b i la lb)
+-- else the rest is compared with the tail, and nothing is before a tail without bytes
+lower_none : (xs : List ℕ) → lower xs [] ≡ false
+lower_none [] = refl
+lower_none (x ∷ xs) = refl
 
--- at the end of one of them the lengths decide
-pub ended_here : (a b : List ℕ) (i : ℕ) → i ≡ min (length a) (length b)
-    → nat_cmp (length a) (length b) ≡ slice_cmp nat_cmp (drop i a) (drop i b)
-ended_here a b i is = go (drop i a) (drop i b) refl refl where
-  go : (xs ys : List ℕ) → drop i a ≡ xs → drop i b ≡ ys → nat_cmp (length a) (length b) ≡ slice_cmp nat_cmp xs ys
-  go [] [] e f = sym (nat_cmp_is (length a) (length b) Equal (omega (arith, is, ap length e, ap length f, length-drop i a, length-drop i b)))
-  go [] (y ∷ ys) e f = sym (nat_cmp_is (length a) (length b) Less (omega (arith, is, ap length e, ap length f, length-drop i a, length-drop i b)))
-  go (x ∷ xs) [] e f = sym (nat_cmp_is (length a) (length b) Greater (omega (arith, is, ap length e, ap length f, length-drop i a, length-drop i b)))
-  go (x ∷ xs) (y ∷ ys) e f = absurd (omega (arith, is, ap length e, ap length f, length-drop i a, length-drop i b))
+pub rest_here : (a text tail : List ℕ) (i : ℕ) → length text ≤ i → lower (drop i a) (drop i text ++ tail) ≡ lower (take (length a - i) (drop i a)) tail
+rest_here a text tail i past =
+    ap (λ l. lower (drop i a) (l ++ tail)) (drop_all i text past) ∙ ap (λ l. lower l tail) (sym (take_rest a i))
+
+pub none_here : (a text tail : List ℕ) (i : ℕ) → length text ≤ i → length tail ≡ 0 → lower (drop i a) (drop i text ++ tail) ≡ false
+none_here a text [] i past none = rest_here a text [] i past ∙ lower_none (take (length a - i) (drop i a))
+none_here a text (x ∷ tail) i past none = absurd (omega arith)

@@ -21,7 +21,9 @@ pub mod Apart
 pub mod Neighbours
 pub mod Searches
 mod Compared
+mod Narrowed
 mod SharedNames
+mod Fronts
 pub mod Lookups
 pub mod Spelled
 pub mod Beginnings

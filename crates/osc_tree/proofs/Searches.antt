@@ -1,12 +1,9 @@
 -- What stands where a search in the order of the addresses comes to.
-use Rattle.std.proofs.Common.{Ordering, Less, Equal, Greater, ◌≡◌, ℕ, ◌+◌, ◌<◌, ◌≤◌, min, Bool, true, false, nat_lt, List, [], ◌∷◌, ◌++◌, length, take, drop}
+use Rattle.std.proofs.Common.{◌≡◌, ℕ, ◌+◌, ◌<◌, ◌≤◌, Bool, true, false, nat_lt, List, [], ◌∷◌, length}
 use Rattle.std.proofs.Common.{get_or, refl, sym, ap, subst, ◌∙◌, arith}
 use Rattle.std.specs.List.{list_any, position_or_len, remove}
-use Rattle.std.specs.Ordering.{is_lt, nat_cmp, ordering_then}
-use Rattle.std.specs.Cmp.Lexicographic.{slice_cmp}
 use Rattle.std.specs.Str.{bytes_eq}
 use Rattle.std.proofs.lemmas.Bool.Decides.{nat_tests}
-use Rattle.std.proofs.lemmas.List.{take_all, drop_all}
 use Rattle.std.proofs.lemmas.List.Edits.{get_or-remove_below, get_or-remove_above, length-remove}
 use Rattle.std.proofs.lemmas.List.Folds.{list_any_at, list_any_none}
 use Rattle.std.proofs.lemmas.List.Sums.{position_or_len_is}
@@ -17,61 +14,6 @@ use Rattle.osc_tree.specs.Matching.{is_below, IsAscending}
 use Rattle.osc_tree.specs.Order.{is_before, begins_with, IsSearched}
 use Rattle.osc_tree.proofs.Places.{any_default}
 use Rattle.osc_tree.proofs.Ranges.{lower, lower_order, lower_more, begun_not_before, begun_no_more, ascend_far}
-
-then_assoc : (a b c : Ordering) → ordering_then (ordering_then a b) c ≡ ordering_then a (ordering_then b c)
-then_assoc Less b c = refl
-then_assoc Equal b c = refl
-then_assoc Greater b c = refl
-
-cmp_cut : (address text tail : List ℕ)
-    → slice_cmp nat_cmp address (text ++ tail)
-    ≡ ordering_then (slice_cmp nat_cmp (take (length text) address) text) (slice_cmp nat_cmp (drop (length text) address) tail)
-cmp_cut address [] tail = refl
-cmp_cut [] (y ∷ text) tail = refl
-cmp_cut (x ∷ address) (y ∷ text) tail =
-    ap (ordering_then (nat_cmp x y)) (cmp_cut address text tail)
-    ∙ sym (then_assoc (nat_cmp x y) (slice_cmp nat_cmp (take (length text) address) text) (slice_cmp nat_cmp (drop (length text) address) tail))
-
--- an address is compared with as much of it as the text has bytes first, and the rest with the tail
-before_cut : (address text tail : List ℕ) (n : ℕ) → n ≡ min (length text) (length address)
-    → is_lt (ordering_then (slice_cmp nat_cmp (take n address) text) (slice_cmp nat_cmp (drop n address) tail)) ≡ lower address (text ++ tail)
-before_cut address text tail n is = go (nat_lt (length address) (length text)) refl where
-  same : take n address ≡ take (length text) address → drop n address ≡ drop (length text) address
-      → is_lt (ordering_then (slice_cmp nat_cmp (take n address) text) (slice_cmp nat_cmp (drop n address) tail)) ≡ lower address (text ++ tail)
-  same front back = ap (λ l. is_lt (ordering_then (slice_cmp nat_cmp l text) (slice_cmp nat_cmp (drop n address) tail))) front
-      ∙ ap (λ l. is_lt (ordering_then (slice_cmp nat_cmp (take (length text) address) text) (slice_cmp nat_cmp l tail))) back
-      ∙ ap is_lt (sym (cmp_cut address text tail))
-
-  go : (t : Bool) → nat_lt (length address) (length text) ≡ t
-      → is_lt (ordering_then (slice_cmp nat_cmp (take n address) text) (slice_cmp nat_cmp (drop n address) tail)) ≡ lower address (text ++ tail)
-  go true e =
-      let short : length address < length text = (let h : nat_lt (length address) (length text) ≡ true = e in grind (arith, nat_tests)) in
-      same (take_all n address (omega arith) ∙ sym (take_all (length text) address (omega arith)))
-      (drop_all n address (omega arith) ∙ sym (drop_all (length text) address (omega arith)))
-  go false e =
-      let long : length text ≤ length address = (let h : nat_lt (length address) (length text) ≡ false = e in grind (arith, nat_tests)) in
-      let whole : n ≡ length text = omega arith in
-      same (ap (λ (k : ℕ). take k address) whole) (ap (λ (k : ℕ). drop k address) whole)
-
-decided : (a b : Ordering) → (a ≡ Equal → ⊥) → is_lt a ≡ is_lt (ordering_then a b)
-decided Less b other = refl
-decided Equal b other = absurd (other refl)
-decided Greater b other = refl
-
-pub front_decides : (address text tail : List ℕ) (n : ℕ) (front : Ordering) → n ≡ min (length text) (length address)
-    → front ≡ slice_cmp nat_cmp (take n address) text → (front ≡ Equal → ⊥) → is_lt front ≡ lower address (text ++ tail)
-front_decides address text tail n front is e other =
-    decided front (slice_cmp nat_cmp (drop n address) tail) other
-    ∙ ap (λ (o : Ordering). is_lt (ordering_then o (slice_cmp nat_cmp (drop n address) tail))) e
-    ∙ before_cut address text tail n is
-
-pub rest_decides : (address text tail : List ℕ) (n : ℕ) (front rest : Ordering) → n ≡ min (length text) (length address)
-    → front ≡ slice_cmp nat_cmp (take n address) text → front ≡ Equal → rest ≡ slice_cmp nat_cmp (drop n address) tail
-    → is_lt rest ≡ lower address (text ++ tail)
-rest_decides address text tail n front rest is e same f =
-    ap is_lt f
-    ∙ ap (λ (o : Ordering). is_lt (ordering_then o (slice_cmp nat_cmp (drop n address) tail))) (sym same ∙ e)
-    ∙ before_cut address text tail n is
 
 -- two texts neither of which is before the other
 level : (a b : List ℕ) → lower a b ≡ false → lower b a ≡ false → a ≡ b

@@ -8,6 +8,7 @@ use Rattle.std.proofs.lemmas.List.{append-nil, get_or-drop, length-drop, length-
 use Rattle.std.proofs.lemmas.List.Elements.{filter-append}
 use Rattle.std.proofs.lemmas.List.Sums.{fails_before_first, passes_at_first, position_or_len_is}
 use Rattle.std.proofs.lemmas.Bool.Decides.{nat_tests}
+use Rattle.std.proofs.lemmas.Cmp.{nat_list_eq_equiv}
 use Rattle.std.proofs.lemmas.Slice.Eq.{bytes_eq-Decides}
 use Rattle.osc_pattern.specs.Addresses.{is_proper_prefix}
 use Rattle.osc_pattern.specs.Items.{is_slash}
@@ -100,6 +101,33 @@ not_all_shared one (x ∷ rest) first second apart le = go (split-cons rest) whe
           let differ = apart.differ in absurd (cc)
       split false a true c f = let below = apart.below in absurd (cc)
       split false a false c f = absurd (cc)
+
+-- two methods that stand side by side don't have all names of one of them in common
+apart_turn : (a b : List ℕ) → AreApart a b → AreApart b a
+apart_turn a b apart = record { differ = nat_list_eq_equiv.symm b a ∙ apart.differ; above = apart.below; below = apart.above }
+
+less_than : (n m : ℕ) → (m ≤ n → ⊥) → n < m
+less_than n m more = go (nat_lt n m) refl where
+  go : (t : Bool) → nat_lt n m ≡ t → n < m
+  go true e = let h : nat_lt n m ≡ true = e in grind (arith, nat_tests)
+  go false e = absurd (more (let h : nat_lt n m ≡ false = e in grind (arith, nat_tests)))
+
+pub neighbours_differ : (registered : List Registered) (places : List ℕ) (at : ℕ) (d : Method) (names before : List (List ℕ))
+    → IsSorted (methods_at registered places) → 0 < at → at < length places → names ≡ parts_of (get_or (methods_at registered places) at d).address
+    → before ≡ parts_of (get_or (methods_at registered places) (at - 1) d).address
+    → (shared names before < length names) × (shared names before < length before)
+neighbours_differ registered places at d names before sorted some within e f =
+    let ms = methods_at registered places in
+    let long : at < length ms = omega (arith, methods_at-length registered places) in
+    let one = at_slash ms (at - 1) d sorted (omega arith) in
+    let two = at_slash ms at d sorted long in
+    let apart = at_apart ms (at - 1) at d sorted (omega arith) long in
+    let turned = shared_turn (parts_of (get_or ms at d).address) (parts_of (get_or ms (at - 1) d).address) in
+    rw (e, f) (
+      less_than _ _ (λ le. not_all_shared (get_or ms (at - 1) d).address (get_or ms at d).address one two apart (omega arith)),
+      less_than _ _ (λ le. not_all_shared (get_or ms at d).address (get_or ms (at - 1) d).address two one
+          (apart_turn (get_or ms (at - 1) d).address (get_or ms at d).address apart) le),
+    )
 
 -- how many names those have in common that are passed over
 abbrev pub least_of : ℕ → ℕ → ℕ

@@ -1,7 +1,7 @@
 -- Inside the crate: the methods in ascending order of their addresses, and the places where they
 -- stand in the order of adding.
 use Rattle.std.specs.Prelude.{◌≡◌, ℕ, ◌≤◌, ◌<◌, Bool, true, false, nat_eq, nat_lt, get_or, ◌-◌}
-use Rattle.std.specs.Prelude.{if◌then◌else◌, List, [], length, fold, All}
+use Rattle.std.specs.Prelude.{if◌then◌else◌, List, [], length, take, fold, All}
 use Rattle.std.specs.List.{starts_with}
 use Rattle.std.specs.Ordering.{is_lt, nat_cmp}
 use Rattle.std.specs.Cmp.Lexicographic.{slice_cmp}
@@ -43,6 +43,16 @@ pub record IsSearched (text : List ℕ) (methods : List Method) (low high : ℕ)
   pub before : (k : ℕ) (d : Method) → k < low → is_before text (get_or methods k d) ≡ true
   pub behind : (k : ℕ) (d : Method) → high ≤ k → k < length methods
       → is_before text (get_or methods k d) ≡ false
+
+-- the methods just outside the range of a search begin with so many bytes of the text
+pub record IsNarrowed (text : List ℕ) (methods : List Method) (low high below above : ℕ) : Type 0
+  where
+    pub few : below ≤ length text
+    pub few_above : above ≤ length text
+    pub first : (d : Method) → 0 < below
+        → (0 < low) × (begins_with (take below text) (get_or methods (low - 1) d) ≡ true)
+    pub second : (d : Method) → 0 < above
+        → (high < length methods) × (begins_with (take above text) (get_or methods high d) ≡ true)
 
 -- where a place stands once another is taken out of a list
 abbrev pub closed_up : ℕ → ℕ → ℕ

@@ -1,7 +1,10 @@
 -- How a pattern is matched along the methods in the order of their addresses, and what it costs.
 use Rattle.std.specs.Prelude.{◌≡◌, ℕ, zero, suc, ◌+◌, ◌-◌, ◌*◌, ◌<◌, ◌≤◌, nat_lt, if◌then◌else◌}
-use Rattle.std.specs.Prelude.{List, [], ◌∷◌, length, take, filter, map, get_or, flat_map, sum_by}
+use Rattle.std.specs.Prelude.{List, [], ◌∷◌, length, take, drop, filter, map, get_or}
+use Rattle.std.specs.Prelude.{flat_map, sum_by}
+use Rattle.std.specs.List.{slice_split}
 use Rattle.std.specs.Str.{bytes_eq}
+use Rattle.osc_pattern.specs.Items.{is_slash}
 use Rattle.osc_pattern.specs.declared.limits.TheConstants.{MAX_PLACES}
 use Rattle.osc_pattern.specs.Patterns.{parts_of, part_at, matches}
 use Rattle.osc_pattern.specs.Reading.{match_part}
@@ -44,6 +47,23 @@ shared_at methods names at =
 abbrev pub shared_before : List Method → List (List ℕ) → ℕ → ℕ
 shared_before methods names zero = 0
 shared_before methods names (suc at) = shared_at methods names at
+
+-- two texts begin with the same names, so many and in so many bytes, each with a slash behind it
+pub record IsBegun (count bytes : ℕ) (names others : List ℕ) : Type 0 where
+  pub few : count ≤ bytes
+  pub first : bytes ≤ length names
+  pub second : bytes ≤ length others
+  pub alike : shared (slice_split is_slash names) (slice_split is_slash others)
+      ≡ count
+      + shared (slice_split is_slash (drop bytes names)) (slice_split is_slash (drop bytes others))
+  pub one : slice_split is_slash (drop bytes names) ≡ drop count (slice_split is_slash names)
+  pub two : slice_split is_slash (drop bytes others) ≡ drop count (slice_split is_slash others)
+
+-- the names of any two of the methods begin so
+abbrev pub IsFront : ℕ → ℕ → List Method → Type 0
+IsFront count bytes methods = (i j : ℕ) (d : Method) → i < length methods → j < length methods
+    → IsBegun count bytes (drop 1 (get_or methods i d).address)
+    (drop 1 (get_or methods j d).address)
 
 -- how many parts match the names at their places, from the first on
 abbrev pub agreeing : List (List ℕ) → List (List ℕ) → ℕ

@@ -1,31 +1,37 @@
 // The methods that a pattern matches.
 ghost use Rattle.osc_pattern.specs.declared.limits.TheConstants.{MAX_NAME, MAX_NAMES};
 ghost use Rattle.std.specs.Prelude.{◌≡◌, ◌≤◌, ◌<◌, ◌+◌, ◌++◌, ◌∷◌, ◌==◌, ◌&&◌, [], not, nat_le};
-ghost use Rattle.std.specs.Prelude.{nat_lt, if◌then◌else◌, true, None, length, take, filter, map};
-ghost use Rattle.std.specs.Prelude.{position, All, vec_len, vec_capacity, MatchBool};
+ghost use Rattle.std.specs.Prelude.{nat_lt, if◌then◌else◌, true, None, length, take, drop, filter};
+ghost use Rattle.std.specs.Prelude.{map, position, get_or, All, vec_len, vec_capacity, MatchBool};
 ghost use Rattle.std.specs.List.{slice_split, position_or_len};
 ghost use Rattle.std.specs.List.Sorted.{IsPartitionedBy};
 ghost use Rattle.osc_pattern.specs.Items.{is_slash};
 ghost use Rattle.osc_pattern.specs.Methods.{IsMethodList};
-ghost use Rattle.osc_pattern.specs.Patterns.{parts_of, part_at, is_special, matches};
-ghost use Rattle.osc_pattern.specs.Reading.{match_part};
-ghost use Rattle.osc_pattern.specs.ReadyParts.{StandsFor};
+ghost use Rattle.osc_pattern.specs.Patterns.{parts_of, is_special, matches};
 ghost use Rattle.osc_tree.specs.Matching.{matching_ids};
 ghost use Rattle.osc_tree.specs.Order.{IsOrder};
 ghost use Rattle.osc_tree.specs.Views.{method_at, methods_of, methods_at};
-ghost use Rattle.osc_tree.specs.Walking.{most_steps, shared, agreeing, part_steps, spent, known_at};
-ghost use Rattle.osc_tree.specs.Walking.{IsWalked, IsSorted, AreParts};
+ghost use Rattle.osc_tree.specs.Walking.{most_steps, shared, agreeing, spent, known_at};
+ghost use Rattle.osc_tree.specs.Walking.{IsWalked, IsSorted, IsFront, AreParts};
 
 use crate::beginning::beginning_with;
 use crate::guesses::Guesses;
 use crate::literal::first_special;
 use crate::lookup::{guessed_id, id_at};
-use crate::names::{first_name, names_of, shared_names};
+use crate::names::{Front, first_name, names_of, shared_front, shared_names, whole_names};
 use crate::parts::{find_parts, read_parts, ready_parts};
 use crate::registered::Registered;
 use osc_pattern::laws::{an_address_is_a_pattern, plain_pattern, tests_are_exact};
 use osc_pattern::{MAX_NAMES, Part, Pattern, Steps};
 use std::sync::ledger::Ledger;
+
+/// What is found of a pattern before its walk: how many parts it has, and the whole names that all methods which are
+/// walked begin with.
+#[derive(Clone, Copy)]
+struct Outline {
+    parts: u32,
+    front: Front,
+}
 
 /// Fills the list with the ids of the methods that the pattern matches, in ascending order of the address. A pattern
 /// without special bytes is looked up; else only the methods that begin with its literal front are tried. One with more
@@ -59,7 +65,8 @@ pub(crate) fn find_ids<L: Ledger>(
                 return;
             }
             let near = beginning_with(methods, places, &text[..end]);
-            walk(methods, near, pattern, parts, ids, steps);
+            let front = whole_names(&text[1..end]);
+            walk(methods, near, pattern, Outline { parts, front }, ids, steps);
         }
         None => add_spelled(methods, places, pattern, ids),
     }
@@ -117,14 +124,16 @@ fn walk<L: Ledger>(
     methods: &[Registered],
     near: &[u32],
     pattern: &Pattern<'_>,
-    parts: u32,
+    outline: Outline,
     ids: &mut Vec<u32>,
     steps: &mut Steps<L>,
 )
-    requires parts { parts ≡ length (parts_of pattern.now) }
-    requires few { parts ≤ MAX_NAMES }
+    requires parts { outline.parts ≡ length (parts_of pattern.now) }
+    requires few { outline.parts ≤ MAX_NAMES }
     requires within { All (λ place. place < length methods.now) near.now }
     requires sorted { IsSorted (methods_at methods.now near.now) }
+    requires front { IsFront outline.front.names outline.front.bytes
+        (methods_at methods.now near.now) }
     requires empty { ids.old.items ≡ [] }
     requires room { length near.now ≤ vec_capacity ids.old }
     ensures ids { ids.new.items ≡ map (λ method. method.id)
@@ -136,10 +145,10 @@ fn walk<L: Ledger>(
         ≤ steps.old + most_steps pattern.now (methods_at methods.now near.now) }
 {
     if pattern.bytes().len() > SHORT_PATTERN {
-        walk_read(methods, near, pattern, parts, ids, steps);
+        walk_read(methods, near, pattern, outline, ids, steps);
     } else {
-        let found = find_parts(pattern, parts);
-        walk_found(methods, near, pattern, parts, &found, ids, steps);
+        let found = find_parts(pattern, outline.parts);
+        walk_found(methods, near, pattern, outline, &found, ids, steps);
     }
 }
 
@@ -150,14 +159,16 @@ fn walk_read<L: Ledger>(
     methods: &[Registered],
     near: &[u32],
     pattern: &Pattern<'_>,
-    parts: u32,
+    outline: Outline,
     ids: &mut Vec<u32>,
     steps: &mut Steps<L>,
 )
-    requires parts { parts ≡ length (parts_of pattern.now) }
-    requires few { parts ≤ MAX_NAMES }
+    requires parts { outline.parts ≡ length (parts_of pattern.now) }
+    requires few { outline.parts ≤ MAX_NAMES }
     requires within { All (λ place. place < length methods.now) near.now }
     requires sorted { IsSorted (methods_at methods.now near.now) }
+    requires front { IsFront outline.front.names outline.front.bytes
+        (methods_at methods.now near.now) }
     requires empty { ids.old.items ≡ [] }
     requires room { length near.now ≤ vec_capacity ids.old }
     ensures ids { ids.new.items ≡ map (λ method. method.id)
@@ -168,9 +179,9 @@ fn walk_read<L: Ledger>(
     ensures bounded { steps.new
         ≤ steps.old + most_steps pattern.now (methods_at methods.now near.now) }
 {
-    let read = read_parts(pattern, parts);
-    let found = ready_parts(pattern, parts, &read);
-    walk_found(methods, near, pattern, parts, &found, ids, steps);
+    let read = read_parts(pattern, outline.parts);
+    let found = ready_parts(pattern, outline.parts, &read);
+    walk_found(methods, near, pattern, outline, &found, ids, steps);
 }
 
 /// The same, for the parts that were found.
@@ -178,16 +189,18 @@ fn walk_found<L: Ledger>(
     methods: &[Registered],
     near: &[u32],
     pattern: &Pattern<'_>,
-    parts: u32,
+    outline: Outline,
     found: &[Part<'_>; MAX_NAMES],
     ids: &mut Vec<u32>,
     steps: &mut Steps<L>,
 )
-    requires parts { parts ≡ length (parts_of pattern.now) }
-    requires few { parts ≤ MAX_NAMES }
+    requires parts { outline.parts ≡ length (parts_of pattern.now) }
+    requires few { outline.parts ≤ MAX_NAMES }
     requires found { AreParts found.now pattern.now }
     requires within { All (λ place. place < length methods.now) near.now }
     requires sorted { IsSorted (methods_at methods.now near.now) }
+    requires front { IsFront outline.front.names outline.front.bytes
+        (methods_at methods.now near.now) }
     requires empty { ids.old.items ≡ [] }
     requires room { length near.now ≤ vec_capacity ids.old }
     ensures ids { ids.new.items ≡ map (λ method. method.id)
@@ -200,7 +213,7 @@ fn walk_found<L: Ledger>(
 {
     let mut at = 0;
     while at < near.len() {
-        at = visit(methods, near, at, pattern, parts, found, ids, steps);
+        at = visit(methods, near, at, pattern, outline, found, ids, steps);
     }
 }
 
@@ -211,16 +224,18 @@ fn visit<L: Ledger>(
     places: &[u32],
     at: usize,
     pattern: &Pattern<'_>,
-    parts: u32,
+    outline: Outline,
     found: &[Part<'_>; MAX_NAMES],
     ids: &mut Vec<u32>,
     steps: &mut Steps<L>,
 ) -> usize
-    requires parts { parts ≡ length (parts_of pattern.now) }
-    requires few { parts ≤ MAX_NAMES }
+    requires parts { outline.parts ≡ length (parts_of pattern.now) }
+    requires few { outline.parts ≤ MAX_NAMES }
     requires found { AreParts found.now pattern.now }
     requires within { All (λ place. place < length methods.now) places.now }
     requires sorted { IsSorted (methods_at methods.now places.now) }
+    requires front { IsFront outline.front.names outline.front.bytes
+        (methods_at methods.now places.now) }
     requires at { at < length places.now }
     requires walked { IsWalked pattern.now (methods_at methods.now places.now) at ids.old.items }
     requires room { length places.now ≤ vec_capacity ids.old }
@@ -234,37 +249,47 @@ fn visit<L: Ledger>(
 {
     let method = &methods[places[at] as usize];
     let names = names_of(&method.address);
-    let known = known_at(methods, places, at);
-    let (matching, whole) = count_matching(pattern, parts, found, known, names, steps);
+    let known = known_at(methods, places, at, names, outline.front);
+    let (matching, whole) = count_matching(pattern, outline.parts, found, known, names, steps);
     if whole {
         add_id(method.id, ids);
         return at + 1;
     }
-    let least = least_shared(matching, parts) as usize;
+    let least = least_shared(matching, outline.parts) as usize;
     at + 1 + count_sharing(methods, &places[at + 1..], names, least)
 }
 
-/// How many names the method at this place has in common with the one before it.
-fn known_at(methods: &[Registered], places: &[u32], at: usize) -> usize
+/// The names that the method at this place has in common with the one before it, if any is. All begin with the front.
+fn known_at(methods: &[Registered], places: &[u32], at: usize, names: &[u8], front: Front) -> Front
     requires within { All (λ place. place < length methods.now) places.now }
+    requires sorted { IsSorted (methods_at methods.now places.now) }
     requires at { at < length places.now }
-    ensures { result ≡ known_at (methods_at methods.now places.now) at (method_at methods.now 0) }
+    requires front { IsFront front.names front.bytes (methods_at methods.now places.now) }
+    requires bytes { names.now
+        ≡ drop 1 (get_or (methods_at methods.now places.now) at (method_at methods.now 0)).address }
+    requires names { slice_split is_slash names.now
+        ≡ parts_of (get_or (methods_at methods.now places.now) at
+        (method_at methods.now 0)).address }
+    ensures count { result.names
+        ≡ known_at (methods_at methods.now places.now) at (method_at methods.now 0) }
+    ensures bound { result.bytes ≤ length names.now }
+    ensures cut { slice_split is_slash (drop result.bytes names.now)
+        ≡ drop result.names (slice_split is_slash names.now) }
 {
     if at == 0 {
-        return 0;
+        return Front { names: 0, bytes: 0 };
     }
     let before = &methods[places[at - 1] as usize];
-    let method = &methods[places[at] as usize];
-    shared_names(names_of(&before.address), names_of(&method.address))
+    shared_front(front, names, names_of(&before.address))
 }
 
 /// How many parts match the names at their places, from the first on, and whether these are all parts and all names.
-/// The first `known` are known to match.
+/// Those that the names are known to begin with match.
 fn count_matching<L: Ledger>(
     pattern: &Pattern<'_>,
     parts: u32,
     found: &[Part<'_>; MAX_NAMES],
-    known: usize,
+    known: Front,
     names: &[u8],
     steps: &mut Steps<L>,
 ) -> (u32, bool)
@@ -272,20 +297,23 @@ fn count_matching<L: Ledger>(
     requires few { parts ≤ MAX_NAMES }
     requires found { AreParts found.now pattern.now }
     requires short { All (λ name. length name ≤ MAX_NAME) (slice_split is_slash names.now) }
-    requires known { known ≤ agreeing (parts_of pattern.now) (slice_split is_slash names.now) }
+    requires known { known.names
+        ≤ agreeing (parts_of pattern.now) (slice_split is_slash names.now) }
+    requires bound { known.bytes ≤ length names.now }
+    requires cut { slice_split is_slash (drop known.bytes names.now)
+        ≡ drop known.names (slice_split is_slash names.now) }
     ensures count { result.0 ≡ agreeing (parts_of pattern.now) (slice_split is_slash names.now) }
     ensures whole { result.1
         ≡ (result.0 == parts && result.0 == length (slice_split is_slash names.now)) }
     ensures counted { steps.old ≤ steps.new }
     ensures bounded { steps.new
-        ≤ steps.old + spent known (parts_of pattern.now) (slice_split is_slash names.now) }
+        ≤ steps.old + spent known.names (parts_of pattern.now) (slice_split is_slash names.now) }
 {
-    let mut place = 0;
-    let mut rest = names;
+    let mut place = known.names as u32;
+    let mut rest = &names[known.bytes..];
     while place < parts {
         let (name, more) = first_name(rest);
-        let left = known.saturating_sub(place as usize);
-        if !is_matching(pattern, place, found[place as usize], left, name, steps) {
+        if !pattern.matches_found(place, found[place as usize], name, steps) {
             return (place, false);
         }
         place += 1;
@@ -295,27 +323,6 @@ fn count_matching<L: Ledger>(
         }
     }
     (place, false)
-}
-
-/// Whether the part at this place matches the name, which isn't tried where it is known to.
-fn is_matching<L: Ledger>(
-    pattern: &Pattern<'_>,
-    place: u32,
-    part: Part<'_>,
-    known: usize,
-    name: &[u8],
-    steps: &mut Steps<L>,
-) -> bool
-    requires place { place < length (parts_of pattern.now) }
-    requires part { StandsFor part (part_at pattern.now place) }
-    requires name { length name.now ≤ MAX_NAME }
-    requires known { 0 < known → match_part (part_at pattern.now place) name.now ≡ true }
-    ensures test { result ≡ match_part (part_at pattern.now place) name.now }
-    ensures counted { steps.old ≤ steps.new }
-    ensures bounded { steps.new
-        ≤ steps.old + part_steps known (part_at pattern.now place) }
-{
-    known > 0 || pattern.matches_found(place, part, name, steps)
 }
 
 /// How many names are shared by all methods that are passed over with one whose parts match so far.

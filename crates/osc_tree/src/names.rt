@@ -1,18 +1,27 @@
 // The names of addresses, one after another.
 ghost use Rattle.osc_pattern.specs.declared.limits.TheConstants.{MAX_NAME};
-ghost use Rattle.std.specs.Prelude.{◌≡◌, ◌≤◌, ◌+◌, ◌∷◌, ◌==◌, [], All, MatchOption, IfSome};
-ghost use Rattle.std.specs.Prelude.{option_map, length, count_by, position, get_or};
+ghost use Rattle.std.specs.Prelude.{◌≡◌, ◌≤◌, ◌<◌, ◌+◌, ◌∷◌, ◌++◌, ◌==◌, ℕ, List, [], All};
+ghost use Rattle.std.specs.Prelude.{MatchOption, IfSome, option_map, length, count_by, position};
+ghost use Rattle.std.specs.Prelude.{get_or, drop};
 ghost use Rattle.std.specs.List.{slice_split};
 ghost use Rattle.osc_pattern.specs.Addresses.{IsAddress};
 ghost use Rattle.osc_pattern.specs.Items.{is_slash};
 ghost use Rattle.osc_pattern.specs.Reading.{cut_at};
 ghost use Rattle.osc_pattern.specs.Patterns.{parts_of};
-ghost use Rattle.osc_tree.specs.Walking.{shared};
+ghost use Rattle.osc_tree.specs.Walking.{shared, IsBegun};
 
 use osc_pattern::Address;
 
+/// Whole names that a text begins with, the slash behind each among their bytes.
+#[derive(Clone, Copy)]
+pub(crate) struct Front {
+    pub(crate) names: usize,
+    pub(crate) bytes: usize,
+}
+
 /// The names of an address, with a slash between two.
 pub(crate) fn names_of(address: &Address) -> &[u8]
+    ensures bytes { result.now ≡ drop 1 address.now }
     ensures parts { slice_split is_slash result.now ≡ parts_of address.now }
     ensures short { All (λ name. length name ≤ MAX_NAME) (slice_split is_slash result.now) }
     ensures lawful { IsAddress address.now }
@@ -73,6 +82,51 @@ pub(crate) fn shared_names(names: &[u8], others: &[u8]) -> usize
     } else {
         count
     }
+}
+
+/// The whole names that names begin with, and so does each text that begins with all of their bytes.
+pub(crate) fn whole_names(names: &[u8]) -> Front
+    ensures { (rest more : List ℕ) → IsBegun result.names result.bytes
+        (names.now ++ rest) (names.now ++ more) }
+{
+    let mut front = Front { names: 0, bytes: 0 };
+    for at in 0..names.len() {
+        if names[at] == b'/' {
+            front = Front {
+                names: front.names + 1,
+                bytes: at + 1,
+            };
+        }
+    }
+    front
+}
+
+/// The names that both begin with, of which some are known. Neither has all of its names in common with the other.
+pub(crate) fn shared_front(known: Front, names: &[u8], others: &[u8]) -> Front
+    requires known { IsBegun known.names known.bytes names.now others.now }
+    requires first { shared (slice_split is_slash names.now) (slice_split is_slash others.now)
+        < length (slice_split is_slash names.now) }
+    requires second { shared (slice_split is_slash names.now) (slice_split is_slash others.now)
+        < length (slice_split is_slash others.now) }
+    ensures count { result.names
+        ≡ shared (slice_split is_slash names.now) (slice_split is_slash others.now) }
+    ensures bound { result.bytes ≤ length names.now }
+    ensures cut { slice_split is_slash (drop result.bytes names.now)
+        ≡ drop result.names (slice_split is_slash names.now) }
+{
+    let mut front = known;
+    for at in known.bytes..names.len().min(others.len()) {
+        if names[at] != others[at] {
+            return front;
+        }
+        if names[at] == b'/' {
+            front = Front {
+                names: front.names + 1,
+                bytes: at + 1,
+            };
+        }
+    }
+    front
 }
 
 /// Whether a name ends at a place, before a slash or at the end of all.

@@ -1,12 +1,23 @@
 // Where a text stands in the order of the methods' addresses.
-ghost use Rattle.std.specs.Prelude.{◌≡◌, ◌≤◌, ◌<◌, ◌++◌, length};
-ghost use Rattle.std.specs.Ordering.{nat_cmp};
-ghost use Rattle.std.specs.Cmp.Lexicographic.{slice_cmp};
-ghost use Rattle.osc_tree.specs.Order.{is_before, IsOrder, IsSearched};
+ghost use Rattle.std.specs.Prelude.{◌≡◌, ◌≤◌, ◌<◌, ◌++◌, length, take, true};
+ghost use Rattle.osc_tree.specs.Order.{is_before, begins_with, IsOrder, IsSearched, IsNarrowed};
 ghost use Rattle.osc_tree.specs.Views.{method_at, methods_at};
 
 use crate::registered::Registered;
-use std::cmp::Ordering;
+
+/// An end of the range where a search goes on, and with how many bytes of the text the method just outside it begins.
+#[derive(Clone, Copy)]
+struct End {
+    place: usize,
+    begun: usize,
+}
+
+/// Whether an address is before a text with its tail, and with how many bytes of the text it begins.
+#[derive(Clone, Copy)]
+struct Standing {
+    is_before: bool,
+    begun: usize,
+}
 
 /// How many methods are before the text.
 pub(crate) fn count_before(methods: &[Registered], places: &[u32], text: &[u8]) -> usize
@@ -29,7 +40,12 @@ pub(crate) fn count_before_both(
         result result }
     ensures bound { result ≤ length places.now }
 {
-    count_between(methods, places, 0, places.len(), text, tail)
+    let first = End { place: 0, begun: 0 };
+    let last = End {
+        place: places.len(),
+        begun: 0,
+    };
+    count_between(methods, places, first, last, text, tail)
 }
 
 /// The same, where all below a place are known to be. It looks twice as far ahead each time, since few more are mostly.
@@ -47,67 +63,95 @@ pub(crate) fn count_before_from(
         result result }
     ensures bound { result ≤ length places.now }
 {
-    let mut low = from;
-    while low - from < places.len() - low {
-        let next = low + (low - from);
-        if !is_before(methods, places[next], text, tail) {
-            return count_between(methods, places, low, next, text, tail);
+    let mut low = End {
+        place: from,
+        begun: 0,
+    };
+    while low.place - from < places.len() - low.place {
+        let next = low.place + (low.place - from);
+        let found = compare(methods, places[next], text, tail, 0);
+        if !found.is_before {
+            let high = End {
+                place: next,
+                begun: found.begun,
+            };
+            return count_between(methods, places, low, high, text, tail);
         }
-        low = next + 1;
+        low = End {
+            place: next + 1,
+            begun: found.begun,
+        };
     }
-    count_between(methods, places, low, places.len(), text, tail)
+    let last = End {
+        place: places.len(),
+        begun: 0,
+    };
+    count_between(methods, places, low, last, text, tail)
 }
 
-/// The same, where all below one place are known to be, and none from another on. It halves what is between the two.
+/// The same, where all below one place are known to be, and none from another on. It halves what is between the two,
+/// and compares no byte with which the methods at both ends begin.
 fn count_between(
     methods: &[Registered],
     places: &[u32],
-    from: usize,
-    to: usize,
+    from: End,
+    to: End,
     text: &[u8],
     tail: &[u8],
 ) -> usize
     requires order { IsOrder methods.now places.now }
     requires known { IsSearched (text.now ++ tail.now) (methods_at methods.now places.now)
-        from to }
+        from.place to.place }
+    requires narrowed { IsNarrowed text.now (methods_at methods.now places.now)
+        from.place to.place from.begun to.begun }
     ensures searched { IsSearched (text.now ++ tail.now) (methods_at methods.now places.now)
         result result }
     ensures bound { result ≤ length places.now }
 {
     let mut low = from;
     let mut high = to;
-    while low < high {
-        let middle = low + (high - low) / 2;
-        if is_before(methods, places[middle], text, tail) {
-            low = middle + 1;
+    while low.place < high.place {
+        let middle = low.place + (high.place - low.place) / 2;
+        let known = low.begun.min(high.begun);
+        let found = compare(methods, places[middle], text, tail, known);
+        if found.is_before {
+            low = End {
+                place: middle + 1,
+                begun: found.begun,
+            };
         } else {
-            high = middle;
+            high = End {
+                place: middle,
+                begun: found.begun,
+            };
         }
     }
-    low
+    low.place
 }
 
-/// Whether the address of the method at a place is before the text with its tail, in the order of their bytes.
-fn is_before(methods: &[Registered], place: u32, text: &[u8], tail: &[u8]) -> bool
-    requires { place < length methods.now }
-    ensures { result ≡ is_before (text.now ++ tail.now) (method_at methods.now place) }
+/// How the address of the method at a place stands to the text with its tail, in the order of their bytes, where it is
+/// known to begin with some bytes of the text.
+fn compare(methods: &[Registered], place: u32, text: &[u8], tail: &[u8], known: usize) -> Standing
+    requires place { place < length methods.now }
+    requires known { begins_with (take known text.now) (method_at methods.now place) ≡ true }
+    requires bound { known ≤ length text.now }
+    ensures before { result.is_before
+        ≡ is_before (text.now ++ tail.now) (method_at methods.now place) }
+    ensures begun { begins_with (take result.begun text.now) (method_at methods.now place) ≡ true }
+    ensures bound { result.begun ≤ length text.now }
 {
     let address = methods[place as usize].address.bytes();
-    let (front, rest) = address.split_at(text.len().min(address.len()));
-    match order_of(front, text) {
-        Ordering::Equal => rest.cmp(tail).is_lt(),
-        order => order.is_lt(),
-    }
-}
-
-/// How two texts stand in the order of their bytes.
-fn order_of(text: &[u8], other: &[u8]) -> Ordering
-    ensures { result ≡ slice_cmp nat_cmp text.now other.now }
-{
-    for at in 0..text.len().min(other.len()) {
-        if text[at] != other[at] {
-            return text[at].cmp(&other[at]);
+    let end = address.len().min(text.len());
+    for at in known..end {
+        if address[at] != text[at] {
+            return Standing {
+                is_before: address[at] < text[at],
+                begun: at,
+            };
         }
     }
-    text.len().cmp(&other.len())
+    Standing {
+        is_before: end < text.len() || (!tail.is_empty() && address[end..].cmp(tail).is_lt()),
+        begun: end,
+    }
 }

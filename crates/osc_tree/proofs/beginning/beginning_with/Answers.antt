@@ -1,4 +1,4 @@
-use Rattle.std.proofs.Common.{length, ℕ, ◌++◌, ◌∷◌, [], subst}
+use Rattle.std.proofs.Common.{ℕ, ◌++◌, ◌∷◌, [], subst}
 use Rattle.osc_tree.proofs.InOrder.{methods_at-length}
 use Rattle.osc_tree.proofs.Ranges.{searched_longer}
 use Rattle.osc_tree.specs.Order.{IsSearched}

@@ -1,32 +1,52 @@
-use Rattle.std.proofs.Common.{◌≡◌, ◌≤◌, ◌<◌, ◌+◌, ◌-◌, ◌∷◌, [], true, false, cond, length, drop, All, ap, subst, ◌∙◌, arith, rules}
+use Rattle.std.proofs.Common.{◌≡◌, ◌≤◌, ◌<◌, ◌+◌, ◌∷◌, [], true, false, cond, length, drop, All, ap, sym, subst, ◌∙◌, arith, rules}
 use Rattle.std.specs.List.{slice_split}
-use Rattle.std.proofs.lemmas.List.Elements.{All-tail}
+use Rattle.std.proofs.lemmas.List.{length-drop}
+use Rattle.std.proofs.lemmas.List.Elements.{All-drop, All-head, All-tail}
 use Rattle.std.proofs.lemmas.List.Splits.{length-slice_split}
 use Rattle.osc_pattern.specs.declared.limits.TheConstants.{MAX_NAME}
 use Rattle.osc_pattern.specs.Items.{is_slash}
 use Rattle.osc_pattern.specs.Reading.{match_part}
 use Rattle.osc_pattern.specs.Patterns.{parts_of, part_at}
-use Rattle.osc_tree.specs.Walking.{agreeing, part_steps, spent}
-use Rattle.osc_tree.proofs.Alike.{agree_here, spent_here, known_matches, none_left, first_piece_is}
+use Rattle.osc_tree.specs.Walking.{agreeing, spent}
+use Rattle.osc_tree.proofs.Alike.{agree_here, spent_here, agree_from, spent_from, tried, agreeing_parts, agreeing_names, none_left, first_piece_is}
+use Rattle.osc_tree.proofs.Fronts.{names_behind}
 use Rattle.osc_tree.proofs.Walks.{whole_parts, whole_names, whole_ends}
 use Rattle.osc_tree.proofs.matching.count_matching.Goals as goal
 
-pub is_matching-requires-clause-known : goal.is_matching-requires-clause-known
-is_matching-requires-clause-known g c =
-    let pattern = c.args.pattern.now in
-    let place = c.loop-place.place in
-    let within : place < length (parts_of pattern) = omega (arith, c.requires.parts) in
+pub overflow_cast-place : goal.overflow_cast-place
+overflow_cast-place g c =
+    omega (arith, agreeing_parts (parts_of c.args.pattern.now) (slice_split is_slash c.args.names.now), c.requires.known, c.requires.parts, c.requires.few)
+
+pub loop-place-init : goal.loop-place-init
+loop-place-init g c =
+    let parts = parts_of c.args.pattern.now in
+    let names = c.args.names.now in
+    let known = c.args.known.names in
+    let behind = names_behind names known c.args.known.bytes c.requires.cut in
+    let most = agreeing_parts parts (slice_split is_slash names) in
+    let within = agreeing_names parts (slice_split is_slash names) in
+    let le = c.requires.known in
+    record {
+      bound = omega arith;
+      short = subst (All (λ name. length name ≤ MAX_NAME)) (sym behind)
+          (All-drop (λ name. length name ≤ MAX_NAME) known (slice_split is_slash names) c.requires.short);
+      count = ap (λ l. known + agreeing (drop known parts) l) behind ∙ agree_from known parts (slice_split is_slash names) le;
+      names = omega (arith, ap length behind, length-drop known (slice_split is_slash names));
+      counted = omega arith;
+      bounded = omega (arith, spent_from known parts (slice_split is_slash names), ap (spent 0 (drop known parts)) behind);
+    }
+
+pub matches_found-requires-clause-name : goal.matches_found-requires-clause-name
+matches_found-requires-clause-name g c =
     let cut = first_piece_is c.loop-place.rest.now c.first_name.result.0.now c.first_name.result.1 c.first_name.ensures.names in
-    let here = agree_here pattern place (slice_split is_slash c.loop-place.rest.now) c.first_name.result.0.now cut.0 within cut.1 in
-    λ some. known_matches (c.args.known - place) _ (match_part (part_at pattern place) c.first_name.result.0.now)
-    (subst (λ n. c.args.known - place ≤ n) here c.loop-place.invariant.known) (omega (arith, c.saturating_sub-left.ensures))
+    All-head (λ name. length name ≤ MAX_NAME) c.first_name.result.0.now cut.0
+    (subst (All (λ name. length name ≤ MAX_NAME)) cut.1 c.loop-place.invariant.short)
 
-pub is_matching-requires-clause-part : goal.is_matching-requires-clause-part
-is_matching-requires-clause-part g c =
-    c.requires.found c.loop-place.place _ (omega (arith, c.requires.parts))
+pub matches_found-requires-clause-found : goal.matches_found-requires-clause-found
+matches_found-requires-clause-found g c = c.requires.found c.loop-place.place _ (omega (arith, c.requires.parts))
 
-pub returns-then-not-is_matching-clause-count : goal.returns-then-not-is_matching-clause-count
-returns-then-not-is_matching-clause-count g c =
+pub returns-then-not-matches_found-clause-count : goal.returns-then-not-matches_found-clause-count
+returns-then-not-matches_found-clause-count g c =
     let pattern = c.args.pattern.now in
     let place = c.loop-place.place in
     let within : place < length (parts_of pattern) = omega (arith, c.requires.parts) in
@@ -37,15 +57,16 @@ returns-then-not-is_matching-clause-count g c =
     ∙ ap (λ t. cond t (agreeing (drop (place + 1) (parts_of pattern)) cut.0 + 1) 0) no in
     omega (arith, c.loop-place.invariant.count)
 
-pub returns-then-not-is_matching-clause-bounded : goal.returns-then-not-is_matching-clause-bounded
-returns-then-not-is_matching-clause-bounded g c =
+pub returns-then-not-matches_found-clause-bounded : goal.returns-then-not-matches_found-clause-bounded
+returns-then-not-matches_found-clause-bounded g c =
     let pattern = c.args.pattern.now in
     let place = c.loop-place.place in
     let within : place < length (parts_of pattern) = omega (arith, c.requires.parts) in
     let cut = first_piece_is c.loop-place.rest.now c.first_name.result.0.now c.first_name.result.1 c.first_name.ensures.names in
-    let here = spent_here pattern place (c.args.known - place) (slice_split is_slash c.loop-place.rest.now) c.first_name.result.0.now cut.0 within cut.1 in
-    let same = ap (λ n. part_steps n (part_at pattern place)) c.saturating_sub-left.ensures in
-    omega (arith, c.loop-place.invariant.bounded, c.is_matching.ensures.bounded)
+    let here = spent_here pattern place 0 (slice_split is_slash c.loop-place.rest.now) c.first_name.result.0.now cut.0 within cut.1 in
+    let most = tried (part_at pattern place) c.first_name.result.0.now (All-head (λ name. length name ≤ MAX_NAME) c.first_name.result.0.now _
+    (subst (All (λ name. length name ≤ MAX_NAME)) cut.1 c.loop-place.invariant.short)) in
+    omega (arith, c.loop-place.invariant.bounded, c.matches_found.ensures.bounded)
 
 pub loop-place-preserved : goal.loop-place-preserved
 loop-place-preserved g c =
@@ -59,20 +80,18 @@ loop-place-preserved g c =
     let agree : agreeing (drop place (parts_of pattern)) (slice_split is_slash c.loop-place.rest.now)
     ≡ agreeing (drop (place + 1) (parts_of pattern)) (slice_split is_slash c.in-Some.more.now) + 1 =
     here ∙ ap (λ t. cond t (agreeing (drop (place + 1) (parts_of pattern)) (slice_split is_slash c.in-Some.more.now) + 1) 0) yes in
-    let cost = spent_here pattern place (c.args.known - place) (slice_split is_slash c.loop-place.rest.now) c.first_name.result.0.now
+    let cost = spent_here pattern place 0 (slice_split is_slash c.loop-place.rest.now) c.first_name.result.0.now
     (slice_split is_slash c.in-Some.more.now) within cut in
-    let same = ap (λ n. part_steps n (part_at pattern place)) c.saturating_sub-left.ensures in
-    let fewer : c.args.known - place - 1 ≡ c.args.known - (place + 1) = omega arith in
-    let left = ap (λ n. spent n (drop (place + 1) (parts_of pattern)) (slice_split is_slash c.in-Some.more.now)) fewer in
+    let most = tried (part_at pattern place) c.first_name.result.0.now (All-head (λ name. length name ≤ MAX_NAME) c.first_name.result.0.now _
+    (subst (All (λ name. length name ≤ MAX_NAME)) cut c.loop-place.invariant.short)) in
     record {
       bound = omega arith;
       short = All-tail (λ name. length name ≤ MAX_NAME) c.first_name.result.0.now (slice_split is_slash c.in-Some.more.now)
           (subst (All (λ name. length name ≤ MAX_NAME)) cut c.loop-place.invariant.short);
       count = omega (arith, c.loop-place.invariant.count);
       names = omega (arith, c.loop-place.invariant.names, ap length cut);
-      known = omega (arith, c.loop-place.invariant.known);
-      counted = omega (arith, c.loop-place.invariant.counted, c.is_matching.ensures.counted);
-      bounded = omega (arith, c.loop-place.invariant.bounded, c.is_matching.ensures.bounded);
+      counted = omega (arith, c.loop-place.invariant.counted, c.matches_found.ensures.counted);
+      bounded = omega (arith, c.loop-place.invariant.bounded, c.matches_found.ensures.bounded);
     }
 
 pub returns-in-None-clause-count : goal.returns-in-None-clause-count
@@ -93,12 +112,13 @@ returns-in-None-clause-bounded g c =
     let place = c.loop-place.place in
     let within : place < length (parts_of pattern) = omega (arith, c.requires.parts) in
     let cut : slice_split is_slash c.loop-place.rest.now ≡ c.first_name.result.0.now ∷ [] = search rules in
-    let cost = spent_here pattern place (c.args.known - place) (slice_split is_slash c.loop-place.rest.now) c.first_name.result.0.now [] within cut in
-    let same = ap (λ n. part_steps n (part_at pattern place)) c.saturating_sub-left.ensures in
-    omega (arith, c.loop-place.invariant.bounded, c.is_matching.ensures.bounded)
+    let cost = spent_here pattern place 0 (slice_split is_slash c.loop-place.rest.now) c.first_name.result.0.now [] within cut in
+    let most = tried (part_at pattern place) c.first_name.result.0.now (All-head (λ name. length name ≤ MAX_NAME) c.first_name.result.0.now []
+    (subst (All (λ name. length name ≤ MAX_NAME)) cut c.loop-place.invariant.short)) in
+    omega (arith, c.loop-place.invariant.bounded, c.matches_found.ensures.bounded)
 
-pub returns-then-not-is_matching-clause-whole : goal.returns-then-not-is_matching-clause-whole
-returns-then-not-is_matching-clause-whole g c =
+pub returns-then-not-matches_found-clause-whole : goal.returns-then-not-matches_found-clause-whole
+returns-then-not-matches_found-clause-whole g c =
     whole_parts c.loop-place.place c.args.parts (length (slice_split is_slash c.args.names.now)) (omega arith)
 
 pub returns-in-None-clause-whole : goal.returns-in-None-clause-whole

@@ -12,10 +12,9 @@ invariant-loop-place g l = record {
   short : All (λ name. length name ≤ MAX_NAME) (slice_split is_slash l.rest);
   count : l.place + agreeing (drop l.place (parts_of l.pattern)) (slice_split is_slash l.rest) ≡ agreeing (parts_of l.pattern) (slice_split is_slash l.names);
   names : l.place + length (slice_split is_slash l.rest) ≡ length (slice_split is_slash l.names);
-  known : l.known - l.place ≤ agreeing (drop l.place (parts_of l.pattern)) (slice_split is_slash l.rest);
   counted : l.initial.steps ≤ l.steps;
-  bounded : l.steps + spent (l.known - l.place) (drop l.place (parts_of l.pattern)) (slice_split is_slash l.rest)
-      ≤ l.initial.steps + spent l.known (parts_of l.pattern) (slice_split is_slash l.names);
+  bounded : l.steps + spent 0 (drop l.place (parts_of l.pattern)) (slice_split is_slash l.rest)
+      ≤ l.initial.steps + spent l.fn.known.names (parts_of l.pattern) (slice_split is_slash l.names);
 }
 
 abbrev pub decreases-loop-place : goal.decreases-loop-place

@@ -1,10 +1,11 @@
-use Rattle.std.proofs.Common.{◌≡◌, true, filter, map, take, ap, sym, subst, ◌∙◌, arith, rules, []}
+use Rattle.std.proofs.Common.{◌≡◌, true, filter, map, take, drop, ◌-◌, ap, sym, subst, ◌∙◌, arith, rules, []}
 use Rattle.std.specs.List.{before_first}
 use Rattle.osc_pattern.specs.Methods.{Method}
 use Rattle.osc_pattern.specs.Patterns.{begins_with_slash, is_special, matches}
 use Rattle.osc_tree.proofs.Bounds.{no_ids}
 use Rattle.osc_tree.proofs.InOrder.{found_is, order_length}
-use Rattle.osc_tree.specs.Views.{methods_of}
+use Rattle.osc_tree.specs.Views.{methods_of, methods_at}
+use Rattle.osc_tree.proofs.Fronts.{front_cut, near_front}
 use Rattle.osc_tree.proofs.Apart.{near_sorted, near_steps}
 use Rattle.osc_tree.proofs.Literals.{front_found}
 use Rattle.osc_tree.proofs.matching.find_ids.Goals as goal
@@ -44,3 +45,11 @@ pub returns-then-parts-gt-MAX_NAMES-clause-ids : goal.returns-then-parts-gt-MAX_
 returns-then-parts-gt-MAX_NAMES-clause-ids g c =
     let cleared : c.add_guessed.new.ids.items ≡ [] = search rules in
     cleared ∙ sym (no_ids c.args.pattern.now (methods_of c.args.methods.now) c.requires.list (omega (arith, c.parts-parts.ensures.parts)))
+
+pub walk-requires-clause-front : goal.walk-requires-clause-front
+walk-requires-clause-front g c =
+    let text = c.bytes-text.result.now in
+    let cut = front_cut text c.in-Some.end c.bytes-text.ensures.lawful.slash (sym c.first_special.ensures ∙ c.in-Some.is) in
+    near_front (take c.in-Some.end text) (take (c.in-Some.end - 1) (drop 1 text)) c.whole_names-front.result.names c.whole_names-front.result.bytes
+    (methods_at c.args.methods.now c.args.places.now) (methods_at c.args.methods.now c.beginning_with-near.result.now)
+    c.beginning_with-near.ensures.those cut.0 cut.1 c.whole_names-front.ensures

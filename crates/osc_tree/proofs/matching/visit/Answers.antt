@@ -27,7 +27,7 @@ returns-then-whole-clause-walked g c =
     let here = method_here registered places at c.index-methods-places.result d c.requires.within c.requires.at c.index-methods-places.is in
     let names : slice_split is_slash c.names_of-names.result.now ≡ parts_of (get_or ms at d).address =
     c.names_of-names.ensures.parts ∙ ap (λ (m : Method). parts_of m.address) (sym here) in
-    let whole = whole_is c.count_matching-matching.result.0 c.args.parts (length (slice_split is_slash c.names_of-names.result.now))
+    let whole = whole_is c.count_matching-matching.result.0 c.args.outline.parts (length (slice_split is_slash c.names_of-names.result.now))
     (sym c.count_matching-matching.ensures.whole ∙ c.if-whole.true) in
     subst (λ (n : ℕ). IsWalked c.args.pattern.now ms n c.add_id.new.ids.items) (sym (add-one at))
     (walked_hit c.args.pattern.now ms at c.args.ids.now.items c.add_id.new.ids.items c.index-methods-places.result.id c.count_matching-matching.result.0 d within
@@ -50,9 +50,9 @@ returns-then-whole-clause-bounded g c =
     let here = method_here registered places at c.index-methods-places.result d c.requires.within c.requires.at c.index-methods-places.is in
     let names : slice_split is_slash c.names_of-names.result.now ≡ parts_of (get_or ms at d).address =
     c.names_of-names.ensures.parts ∙ ap (λ (m : Method). parts_of m.address) (sym here) in
-    let spends : spent c.known_at-known.result (parts_of c.args.pattern.now) (slice_split is_slash c.names_of-names.result.now)
+    let spends : spent c.known_at-known.result.names (parts_of c.args.pattern.now) (slice_split is_slash c.names_of-names.result.now)
     ≡ spent (known_at ms at d) (parts_of c.args.pattern.now) (parts_of (get_or ms at d).address) =
-    ap (λ (n : ℕ). spent n (parts_of c.args.pattern.now) (slice_split is_slash c.names_of-names.result.now)) c.known_at-known.ensures
+    ap (λ (n : ℕ). spent n (parts_of c.args.pattern.now) (slice_split is_slash c.names_of-names.result.now)) c.known_at-known.ensures.count
     ∙ ap (spent (known_at ms at d) (parts_of c.args.pattern.now)) names in
     let most = charged c.args.pattern.now ms at d c.requires.sorted within in
     let next = ap (λ (n : ℕ). most_steps c.args.pattern.now (take n ms)) (add-one at) in
@@ -69,9 +69,9 @@ returns-clause-bounded g c =
     let here = method_here registered places at c.index-methods-places.result d c.requires.within c.requires.at c.index-methods-places.is in
     let names : slice_split is_slash c.names_of-names.result.now ≡ parts_of (get_or ms at d).address =
     c.names_of-names.ensures.parts ∙ ap (λ (m : Method). parts_of m.address) (sym here) in
-    let spends : spent c.known_at-known.result (parts_of c.args.pattern.now) (slice_split is_slash c.names_of-names.result.now)
+    let spends : spent c.known_at-known.result.names (parts_of c.args.pattern.now) (slice_split is_slash c.names_of-names.result.now)
     ≡ spent (known_at ms at d) (parts_of c.args.pattern.now) (parts_of (get_or ms at d).address) =
-    ap (λ (n : ℕ). spent n (parts_of c.args.pattern.now) (slice_split is_slash c.names_of-names.result.now)) c.known_at-known.ensures
+    ap (λ (n : ℕ). spent n (parts_of c.args.pattern.now) (slice_split is_slash c.names_of-names.result.now)) c.known_at-known.ensures.count
     ∙ ap (spent (known_at ms at d) (parts_of c.args.pattern.now)) names in
     let most = charged c.args.pattern.now ms at d c.requires.sorted within in
     let next = ap (λ (n : ℕ). most_steps c.args.pattern.now (take n ms)) (add-one at) in
@@ -93,7 +93,7 @@ returns-clause-walked g c =
     && c.count_matching-matching.result.0 == length (parts_of (get_or ms at d).address)) ≡ false =
     ap (λ (n : ℕ). c.count_matching-matching.result.0 == n && c.count_matching-matching.result.0 == length (parts_of (get_or ms at d).address))
     (sym c.requires.parts)
-    ∙ ap (λ l. c.count_matching-matching.result.0 == c.args.parts && c.count_matching-matching.result.0 == length l) (sym names)
+    ∙ ap (λ l. c.count_matching-matching.result.0 == c.args.outline.parts && c.count_matching-matching.result.0 == length l) (sym names)
     ∙ sym c.count_matching-matching.ensures.whole ∙ c.if-whole.false in
     let counted = counted_over registered places at c.count_sharing.result
     (λ method. not (nat_le c.least_shared-least.result (shared (slice_split is_slash c.names_of-names.result.now) (parts_of method.address))))
@@ -114,3 +114,19 @@ count_sharing-requires-clause-parted g c =
     let here = method_here registered places at c.index-methods-places.result d c.requires.within c.requires.at c.index-methods-places.is in
     sharing_parted registered places at c.least_shared-least.result d (slice_split is_slash c.names_of-names.result.now) c.requires.sorted c.requires.at
     (c.names_of-names.ensures.parts ∙ ap (λ (m : Method). parts_of m.address) (sym here))
+
+pub known_at-known-requires-clause-names : goal.known_at-known-requires-clause-names
+known_at-known-requires-clause-names g c =
+    let registered = c.args.methods.now in
+    let places = c.args.places.now in
+    let d = method_at registered 0 in
+    let here = method_here registered places c.args.at c.index-methods-places.result d c.requires.within c.requires.at c.index-methods-places.is in
+    c.names_of-names.ensures.parts ∙ ap (λ (m : Method). parts_of m.address) (sym here)
+
+pub known_at-known-requires-clause-bytes : goal.known_at-known-requires-clause-bytes
+known_at-known-requires-clause-bytes g c =
+    let registered = c.args.methods.now in
+    let places = c.args.places.now in
+    let d = method_at registered 0 in
+    let here = method_here registered places c.args.at c.index-methods-places.result d c.requires.within c.requires.at c.index-methods-places.is in
+    c.names_of-names.ensures.bytes ∙ ap (λ (m : Method). drop 1 m.address) (sym here)

@@ -1,4 +1,4 @@
-use Rattle.std.proofs.Common.{length, ℕ, ◌++◌, subst}
+use Rattle.std.proofs.Common.{ℕ, ◌++◌, subst}
 use Rattle.osc_tree.specs.Order.{IsSearched}
 use Rattle.osc_tree.specs.Views.{methods_at}
 use Rattle.osc_tree.proofs.Ranges.{searched_none}
