@@ -1,8 +1,13 @@
-//! Tests of the readers, the writers and the tables of the server. Each module is named after the crate that it tries.
+//! Tests of the readers, the writers, the tables of the server, the turn, and the links, clocks, files and streams. Each
+//! module is named after the crate or the call that it tries.
 #![tactic(auto)]
 
 #[cfg(test)]
 mod atoms;
+#[cfg(test)]
+mod edges;
+#[cfg(test)]
+mod files;
 #[cfg(test)]
 mod message;
 #[cfg(test)]
@@ -16,4 +21,8 @@ mod pool;
 #[cfg(test)]
 mod queue;
 #[cfg(test)]
+mod streams;
+#[cfg(test)]
 mod tree;
+#[cfg(test)]
+mod turn;

@@ -105,14 +105,6 @@ fn a_pattern_is_refused_at_its_first_fault(rt: HostRuntime) {
     }
 }
 
-#[test]
-fn a_pattern_has_as_many_parts_as_slashes(rt: HostRuntime) -> Result<(), Fail> {
-    let pattern = Pattern::check(b"/a//{b,c}").ok().ok_or("a pattern")?;
-    assert_eq!(rt; pattern.parts(), 3);
-    assert_eq!(rt; pattern.bytes(), b"/a//{b,c}".as_slice());
-    Ok(())
-}
-
 /// An address of names with so many letters.
 fn named(alloc: Global, lengths: &[usize]) -> Result<Vec<u8>, AllocError> {
     let mut bytes = Vec::new(alloc);
@@ -161,15 +153,5 @@ fn an_address_of_255_bytes_or_16_names_is_read(rt: HostRuntime) -> Result<(), Fa
         assert_eq!(rt; address.bytes(), bytes.as_slice());
         assert_eq!(rt; address.copied(rt.alloc())?, address);
     }
-    Ok(())
-}
-
-#[test]
-fn addresses_are_ordered_by_their_bytes(rt: HostRuntime) -> Result<(), Fail> {
-    let first = Address::read(rt.alloc(), b"/a-b/x")
-        .ok()
-        .ok_or("an address")?;
-    let second = Address::read(rt.alloc(), b"/a/x").ok().ok_or("an address")?;
-    assert!(rt; first < second);
     Ok(())
 }

@@ -18,7 +18,7 @@ enum Event {
     Pop(u64),
 }
 
-#[derive(Clone, Copy, Debug, PartialEq, Eq)]
+#[derive(Clone, Copy, PartialEq)]
 enum Answer {
     Added,
     Full(UnitsFull, u32),
@@ -84,9 +84,8 @@ fn play_all<L: Ledger, R: Abort>(rt: &R, alloc: Global, blank: Blank) -> Result<
     let mut queue: Queue<u32> = Queue::open(alloc, 3)?;
     let mut row = 0;
     for (event, answer, free, first) in &ROWS {
-        assert_eq!(rt;
-            play(&mut queue, row, *event, &mut steps),
-            *answer,
+        assert!(rt;
+            play(&mut queue, row, *event, &mut steps) == *answer,
             "row {row}"
         );
         assert_eq!(rt; queue.free(), *free, "row {row}");

@@ -17,7 +17,7 @@ enum Event {
     Remove(&'static [u8]),
 }
 
-#[derive(Clone, Copy, Debug, PartialEq, Eq)]
+#[derive(Clone, Copy, PartialEq)]
 enum Answer {
     Added(u32),
     Refused(TreeRefusal),
@@ -94,7 +94,7 @@ fn an_address_is_added_where_none_is_at_it_above_it_or_below_it(
     let mut tree = Tree::open(rt.alloc(), 3, 3)?;
     let mut next = 0;
     for (event, answer) in &ROWS {
-        assert_eq!(rt; play(rt.alloc(), &mut tree, &mut next, *event)?, *answer);
+        assert!(rt; play(rt.alloc(), &mut tree, &mut next, *event)? == *answer);
     }
     assert_eq!(rt;
         tree.address_of(2).map(|address| address.bytes()),
@@ -127,9 +127,9 @@ fn an_address_is_refused_past_the_limit_of_methods_or_of_nodes(
         let mut tree = Tree::open(rt.alloc(), methods, nodes)?;
         let mut next = 0;
         let first = play(rt.alloc(), &mut tree, &mut next, Event::Add(texts[0]))?;
-        assert_eq!(rt; first, Answer::Added(0));
+        assert!(rt; first == Answer::Added(0));
         let second = play(rt.alloc(), &mut tree, &mut next, Event::Add(texts[1]))?;
-        assert_eq!(rt; second, Answer::Refused(refusal));
+        assert!(rt; second == Answer::Refused(refusal));
     }
     Ok(())
 }

@@ -1,4 +1,5 @@
-//! Tests of the sequential server and of the server of many callers, over their public calls.
+//! Tests of the sequential server and of the server of many callers, over their public calls, of watchers, and of the pages of
+//! `osc_uses`, each in a module named after the page.
 #![tactic(auto)]
 
 #[cfg(test)]
@@ -8,12 +9,30 @@ mod busy_turn;
 #[cfg(test)]
 mod core_calls;
 #[cfg(test)]
+mod first_server;
+#[cfg(test)]
 mod late;
 #[cfg(test)]
 mod live_calls;
 #[cfg(test)]
+mod live_server;
+#[cfg(test)]
 mod live_threads;
+#[cfg(test)]
+mod live_uses;
+#[cfg(test)]
+mod matched_addresses;
+#[cfg(test)]
+mod printed_recording;
+#[cfg(test)]
+mod refused_packet;
+#[cfg(test)]
+mod servers;
 #[cfg(test)]
 mod tables;
 #[cfg(test)]
+mod timed_bundle;
+#[cfg(test)]
 mod tokens;
+#[cfg(test)]
+mod watching;

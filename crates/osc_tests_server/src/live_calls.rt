@@ -78,30 +78,6 @@ fn two_callers_share_one_history(rt: HostRuntime) -> Result<(), Fail> {
     Ok(())
 }
 
-/// What a round at a boxed method comes to.
-fn play_boxed<W: Wait>(rt: &W, alloc: Global) -> Option<((u64, u64), Option<u32>)> {
-    let packet = packet()?;
-    let trace = Trace::open(alloc, 16).ok()?;
-    let method: Box<dyn Method + Send> = Box::new(alloc, trace).ok()?;
-    play_unnamed(rt, alloc, method, &packet)
-}
-
-fn play_unnamed<M: Method, W: Wait>(
-    rt: &W,
-    alloc: Global,
-    method: M,
-    packet: &Packet<'_>,
-) -> Option<((u64, u64), Option<u32>)> {
-    let round = play_round(rt, alloc, method, packet)?;
-    Some((round.fronts, told(&round)))
-}
-
-#[test]
-fn boxes_are_methods_too(rt: HostRuntime) -> Result<(), Fail> {
-    assert_eq!(rt; play_boxed(&rt, rt.alloc()), Some(((1, 4), Some(16))));
-    Ok(())
-}
-
 /// A server is closed without a guest's token, and then with it.
 fn close_after_a_guest<M: Method>(alloc: Global) -> Option<(u32, u32)> {
     let (live, caller) = open::<M>(alloc)?;

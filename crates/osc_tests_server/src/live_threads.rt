@@ -2,13 +2,12 @@
 ghost use Rattle.std.specs.Prelude.{◌≡◌, None};
 ghost use Rattle.osc_live.specs.Tokens.{IsOurs};
 
-use crate::tokens::{close_both, enrolled, open};
-use osc_core::{Adding, Closed, Releasing, Submitted};
+use crate::tokens::{enrolled, open};
+use osc_core::{Adding, Releasing, Submitted};
 use osc_live::{Busy, Caller, Live};
-use osc_method::{Call, Method, Mute};
+use osc_method::{Call, Method};
 use osc_packet::{MAX_PACKET, Packet};
 use osc_pattern::Address;
-use osc_record::{Answer, Reader};
 use std::alloc::Global;
 use std::sync::atomic::{AtomicBool, Ordering};
 use std::sync::{Arc, Wait};
@@ -62,7 +61,7 @@ pub(crate) fn flag(alloc: Global) -> Option<Flag> {
 }
 
 /// What caller 0 is answered while another call makes its calls.
-#[derive(Drop, Debug, PartialEq, Eq)]
+#[derive(Drop, PartialEq)]
 pub(crate) struct Meanwhile {
     pub(crate) submitted: Result<Submitted, Busy>,
     pub(crate) released: Result<Releasing, Busy>,
@@ -139,7 +138,7 @@ fn at_once<M: Method + Send, R: Threads + Wait + Sync>(
 }
 
 /// What comes of a release while which caller 0 tries its calls.
-#[derive(Drop, Debug, PartialEq, Eq)]
+#[derive(Drop, PartialEq)]
 struct Held {
     enrolled: u64,
     meanwhile: Option<Meanwhile>,
@@ -193,135 +192,6 @@ fn a_call_that_does_not_wait_finds_the_turn_taken(rt: HostRuntime) -> Result<(),
         })),
         front: 5,
     };
-    assert_eq!(rt; hold(&rt, rt.alloc()), Some(held));
-    Ok(())
-}
-
-/// The numbers of the units that a caller's submits were answered, and how many units its pumps released.
-#[derive(Clone, Copy, PartialEq, Eq, Debug)]
-struct Answered {
-    firsts: [Option<u64>; 3],
-    released: u32,
-}
-
-fn submit_and_pump<M: Method, W: Wait>(
-    rt: &W,
-    live: &Live<M>,
-    caller: Caller,
-) -> (Caller, Option<u64>, u32)
-    requires ours { IsOurs live.now caller }
-    ensures ours { IsOurs live.now result.0 }
-    ensures number { result.0.number ≡ caller.number }
-{
-    let Ok(packet) = Packet::check(MESSAGE, MAX_PACKET) else {
-        return (caller, None, 0);
-    };
-    let (caller, submitted) = live.submit(rt, caller, &packet);
-    let (caller, pumped) = live.pump(rt, caller);
-    let first = match submitted {
-        Submitted::Queued {
-            first,
-            count: 1,
-            ..
-        } => Some(first),
-        _ => None,
-    };
-    (caller, first, pumped.released)
-}
-
-fn three_times<M: Method, W: Wait>(rt: &W, live: &Live<M>, caller: Caller) -> (Caller, Answered)
-    requires ours { IsOurs live.now caller }
-    ensures ours { IsOurs live.now result.0 }
-    ensures number { result.0.number ≡ caller.number }
-{
-    let (caller, one, first) = submit_and_pump(rt, live, caller);
-    let (caller, two, second) = submit_and_pump(rt, live, caller);
-    let (caller, three, third) = submit_and_pump(rt, live, caller);
-    let answered = Answered {
-        firsts: [one, two, three],
-        released: first.saturating_add(second).saturating_add(third),
-    };
-    (caller, answered)
-}
-
-fn both_three_times<M: Method + Send, R: Threads + Wait + Sync>(
-    rt: &R,
-    live: &Live<M>,
-    caller: Caller,
-    new: Caller,
-) -> ((Caller, Answered), (Caller, Answered))
-    requires ours { IsOurs live.now caller }
-    requires new { IsOurs live.now new }
-    ensures ours { IsOurs live.now result.0.0 }
-    ensures number { result.0.0.number ≡ caller.number }
-    ensures new { IsOurs live.now result.1.0 }
-{
-    join(
-        rt,
-        || -> (Caller, Answered)
-            requires { IsOurs live.now caller }
-            ensures { IsOurs live.entry.now result.0 × (result.0.number ≡ caller.number) }
-        { three_times(rt, live, caller) },
-        || -> (Caller, Answered)
-            requires { IsOurs live.now new }
-            ensures { IsOurs live.entry.now result.0 }
-        { three_times(rt, live, new) },
-    )
-}
-
-/// What two callers were answered, and the recording of it.
-#[derive(Drop)]
-struct Run {
-    answered: [Answered; 2],
-    closed: Closed<Mute>,
-}
-
-fn run_both<R: Threads + Wait + Sync>(rt: &R, alloc: Global) -> Option<Run> {
-    let (live, caller) = open::<Mute>(alloc)?;
-    let (caller, new) = enrolled(rt, &live, caller)?;
-    let ((caller, one), (new, two)) = both_three_times(rt, &live, caller, new);
-    let closed = close_both(alloc, live, caller, new)?;
-    Some(Run {
-        answered: [one, two],
-        closed,
-    })
-}
-
-/// A caller's entries in a recording: the units of its submits in order, and how many releases there are.
-fn recorded(bytes: &[u8], caller: u32) -> Option<(Answered, u32)> {
-    if bytes.len() > 4096 {
-        return None;
-    }
-    let reader = Reader::check(bytes).ok()?;
-    let mut entries = 0u32;
-    let mut released = 0u32;
-    let mut firsts = [None; 3];
-    let mut submits = 0usize;
-    for entry in reader.entries() {
-        if entry.caller == caller {
-            entries = entries.saturating_add(1);
-            match entry.answer {
-                Answer::Queued { first, .. } if submits < 3 => {
-                    firsts[submits] = Some(first);
-                    submits += 1;
-                }
-                Answer::Released { .. } => released = released.saturating_add(1),
-                _ => {}
-            }
-        }
-    }
-    Some((Answered { firsts, released }, entries))
-}
-
-#[test]
-fn each_call_of_two_threads_is_recorded_once(rt: HostRuntime) -> Result<(), Fail> {
-    let run = run_both(&rt, rt.alloc()).ok_or("memory")?;
-    let [one, two] = run.answered;
-    let first = recorded(&run.closed.bytes, 0).ok_or("a recording")?;
-    let second = recorded(&run.closed.bytes, 1).ok_or("a recording")?;
-    // The enrolment is an entry of caller 0.
-    assert_eq!(rt; first, (one, one.released.saturating_add(4)));
-    assert_eq!(rt; second, (two, two.released.saturating_add(3)));
-    assert_eq!(rt; one.released.saturating_add(two.released), 6);
+    assert!(rt; hold(&rt, rt.alloc()) == Some(held));
     Ok(())
 }

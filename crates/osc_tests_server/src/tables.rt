@@ -3,7 +3,7 @@ ghost use Rattle.std.specs.Prelude.{◌<◌};
 
 use crate::core_calls::{add, open, release, remove, tick};
 use osc_core::{AddRefusal, Adding, Core, Enrolled, Releasing, Removing, Submitted, Ticking};
-use osc_method::Mute;
+use osc_method::{Method, Mute};
 use osc_packet::{MAX_PACKET, Packet};
 use std::alloc::Global;
 use std::test::*;
@@ -20,8 +20,10 @@ enum Event {
 }
 
 /// An answer, with what is needed and what is free in place of a `Room`.
-#[derive(Clone, Copy, Debug, PartialEq, Eq)]
-enum Answer {
+#[derive(Clone, Copy, PartialEq)]
+pub(crate) enum Answer {
+    /// The number of a caller or of the first unit that is queued, or the unit that is released.
+    Number(u64),
     Done,
     CallersFull,
     UnitsFull(u64, u64),
@@ -37,13 +39,14 @@ const MESSAGE: &[u8] = b"/a\0\0";
 
 const EMPTY: &[u8] = b"#bundle\0\0\0\0\0\0\0\0\x01";
 
-fn submitted(core: &mut Core<Mute>, bytes: &[u8]) -> Answer {
+/// What a packet is answered.
+pub(crate) fn submitted<M: Method>(core: &mut Core<M>, bytes: &[u8]) -> Answer {
     let Ok(packet) = Packet::check(bytes, MAX_PACKET) else {
         return Answer::Other;
     };
     let _ = core.callers();
     match core.submit(0, &packet) {
-        Submitted::Queued { .. } => Answer::Done,
+        Submitted::Queued { first, .. } => Answer::Number(first),
         Submitted::UnitsFull(room) => Answer::UnitsFull(room.need, room.free),
         Submitted::PoolFull(room) => Answer::PoolFull(room.need, room.free),
         Submitted::RecordFull(room) => Answer::RecordFull(room.need, room.free),
@@ -53,7 +56,7 @@ fn submitted(core: &mut Core<Mute>, bytes: &[u8]) -> Answer {
 fn enrolled(core: &mut Core<Mute>) -> Answer {
     let _ = core.callers();
     match core.enrol(0) {
-        Enrolled::Number(_) => Answer::Done,
+        Enrolled::Number(number) => Answer::Number(u64::from(number)),
         Enrolled::CallersFull => Answer::CallersFull,
         Enrolled::RecordFull(room) => Answer::RecordFull(room.need, room.free),
     }
@@ -91,21 +94,34 @@ fn play(core: &mut Core<Mute>, alloc: Global, event: Event) -> Result<Answer, Fa
             Ticking::RecordFull(room) => Answer::RecordFull(room.need, room.free),
         },
         Event::Release => match release(core) {
-            Releasing::Released { .. } => Answer::Done,
+            Releasing::Released { unit, .. } => Answer::Number(unit),
             Releasing::NothingDue { .. } => Answer::Other,
             Releasing::RecordFull(room) => Answer::RecordFull(room.need, room.free),
         },
     })
 }
 
-/// Calls that come first, the call that is tried, and how many bytes their entries have, without it and by itself.
-const NEEDS: [(&[Event], Event, u32, u32); 6] = [
-    (&[], Event::Enrol, 0, 28),
-    (&[], Event::Add(b"/a"), 0, 44),
-    (&[Event::Add(b"/a")], Event::Remove(b"/a"), 44, 40),
-    (&[], Event::Tick, 0, 48),
-    (&[], Event::Submit(MESSAGE), 0, 56),
-    (&[Event::Submit(EMPTY)], Event::Release, 68, 44),
+/// Calls that come first, the call that is tried, its answer, and how many bytes their entries have, without it and by
+/// itself.
+const NEEDS: [(&[Event], Event, Answer, u32, u32); 6] = [
+    (&[], Event::Enrol, Answer::Number(1), 0, 28),
+    (&[], Event::Add(b"/a"), Answer::Done, 0, 44),
+    (
+        &[Event::Add(b"/a")],
+        Event::Remove(b"/a"),
+        Answer::Done,
+        44,
+        40,
+    ),
+    (&[], Event::Tick, Answer::Done, 0, 48),
+    (&[], Event::Submit(MESSAGE), Answer::Number(0), 0, 56),
+    (
+        &[Event::Submit(EMPTY)],
+        Event::Release,
+        Answer::Number(0),
+        68,
+        44,
+    ),
 ];
 
 /// What the call is answered, where the recording has so many bytes behind its header of 60.
@@ -114,49 +130,56 @@ fn within(alloc: Global, before: &[Event], event: Event, room: u32) -> Result<An
 {
     let mut core: Core<Mute> = open(alloc, [9, 9, 9, 9, 2, 60 + room])?;
     for one in before {
-        if play(&mut core, alloc, *one)? != Answer::Done {
-            return Err(Fail::new("a call that comes first"));
-        }
+        play(&mut core, alloc, *one)?;
     }
     play(&mut core, alloc, event)
 }
 
 #[test]
 fn an_event_is_recorded_in_exactly_the_bytes_that_it_needs(rt: HostRuntime) -> Result<(), Fail> {
-    for (before, event, others, need) in NEEDS {
-        assert_eq!(rt;
-            within(rt.alloc(), before, event, others + need)?,
-            Answer::Done
-        );
+    for (before, event, answer, others, need) in NEEDS {
+        assert!(rt; within(rt.alloc(), before, event, others + need)? == answer);
         let full = Answer::RecordFull(u64::from(need), u64::from(need) - 1);
-        assert_eq!(rt; within(rt.alloc(), before, event, others + need - 1)?, full);
+        assert!(rt; within(rt.alloc(), before, event, others + need - 1)? == full);
     }
     Ok(())
 }
 
+/// A message to `/a` with the number 1, in one block; a bundle with one message, and a bundle in it with one; and a
+/// message with a blob of 48 bytes, which fills a block, and of 52.
+const ONE: &[u8] = b"/a\0\0,i\0\0\0\0\0\x01";
+
+const TWO: &[u8] =
+    b"#bundle\0\0\0\0\0\0\0\0\x01\0\0\0\x04/a\0\0\0\0\0\x18#bundle\0\0\0\0\0\0\0\0\x01\0\0\0\x04/b\0\0";
+
+const FULL: &[u8] = b"/a\0\0,b\0\0\0\0\0\x30................................................";
+
+const OVER: &[u8] = b"/a\0\0,b\0\0\0\0\0\x34....................................................";
+
 /// A server's limits of units, blocks, methods, nodes and callers, and calls with the answers that they have to get.
 type Table = ([u32; 5], &'static [(Event, Answer)]);
 
-static TABLES: [Table; 5] = [
+static TABLES: [Table; 10] = [
+    // A full table takes one more once one has left.
     (
         [2, 9, 1, 9, 1],
         &[
-            (Event::Submit(MESSAGE), Answer::Done),
-            (Event::Submit(MESSAGE), Answer::Done),
+            (Event::Submit(MESSAGE), Answer::Number(0)),
+            (Event::Submit(MESSAGE), Answer::Number(1)),
             (Event::Submit(MESSAGE), Answer::UnitsFull(1, 0)),
-            (Event::Release, Answer::Done),
-            (Event::Submit(MESSAGE), Answer::Done),
+            (Event::Release, Answer::Number(0)),
+            (Event::Submit(MESSAGE), Answer::Number(2)),
             (Event::Submit(MESSAGE), Answer::UnitsFull(1, 0)),
         ],
     ),
     (
         [9, 2, 1, 9, 1],
         &[
-            (Event::Submit(MESSAGE), Answer::Done),
-            (Event::Submit(MESSAGE), Answer::Done),
+            (Event::Submit(MESSAGE), Answer::Number(0)),
+            (Event::Submit(MESSAGE), Answer::Number(1)),
             (Event::Submit(MESSAGE), Answer::PoolFull(1, 0)),
-            (Event::Release, Answer::Done),
-            (Event::Submit(MESSAGE), Answer::Done),
+            (Event::Release, Answer::Number(0)),
+            (Event::Submit(MESSAGE), Answer::Number(2)),
             (Event::Submit(MESSAGE), Answer::PoolFull(1, 0)),
         ],
     ),
@@ -176,7 +199,7 @@ static TABLES: [Table; 5] = [
         &[
             (Event::Add(b"/a/b"), Answer::Done),
             (Event::Add(b"/c"), Answer::Done),
-            (Event::Add(b"/d"), Answer::NodesFull(1, 0)),
+            (Event::Add(b"/a/d"), Answer::NodesFull(1, 0)),
             (Event::Remove(b"/c"), Answer::Done),
             (Event::Add(b"/d"), Answer::Done),
             (Event::Add(b"/e"), Answer::NodesFull(1, 0)),
@@ -185,25 +208,61 @@ static TABLES: [Table; 5] = [
     (
         [9, 9, 9, 9, 3],
         &[
-            (Event::Enrol, Answer::Done),
-            (Event::Enrol, Answer::Done),
+            (Event::Enrol, Answer::Number(1)),
+            (Event::Enrol, Answer::Number(2)),
             (Event::Enrol, Answer::CallersFull),
             (Event::Add(b"/a"), Answer::Done),
             (Event::Remove(b"/a"), Answer::Done),
-            (Event::Submit(MESSAGE), Answer::Done),
-            (Event::Release, Answer::Done),
+            (Event::Submit(MESSAGE), Answer::Number(0)),
+            (Event::Release, Answer::Number(0)),
             (Event::Enrol, Answer::CallersFull),
+        ],
+    ),
+    // A message is stored in one block, and takes it until it leaves.
+    (
+        [9, 1, 1, 9, 1],
+        &[
+            (Event::Submit(ONE), Answer::Number(0)),
+            (Event::Submit(ONE), Answer::PoolFull(1, 0)),
+            (Event::Release, Answer::Number(0)),
+            (Event::Submit(ONE), Answer::Number(1)),
+        ],
+    ),
+    // A block has 64 bytes.
+    (
+        [9, 1, 1, 9, 1],
+        &[
+            (Event::Submit(OVER), Answer::PoolFull(2, 1)),
+            (Event::Submit(FULL), Answer::Number(0)),
+        ],
+    ),
+    // A refused packet keeps no block and no number.
+    (
+        [9, 1, 1, 9, 1],
+        &[
+            (Event::Submit(TWO), Answer::PoolFull(2, 1)),
+            (Event::Submit(ONE), Answer::Number(0)),
+        ],
+    ),
+    // One caller is the most that one limit admits, and two are the most that another does.
+    ([9, 9, 1, 9, 1], &[(Event::Enrol, Answer::CallersFull)]),
+    (
+        [9, 9, 1, 9, 2],
+        &[
+            (Event::Enrol, Answer::Number(1)),
+            (Event::Enrol, Answer::CallersFull),
+            (Event::Release, Answer::Other),
         ],
     ),
 ];
 
 #[test]
-fn a_full_table_takes_one_more_once_one_has_left(rt: HostRuntime) -> Result<(), Fail> {
+fn calls_get_the_answers_of_the_tables(rt: HostRuntime) -> Result<(), Fail> {
     for ([units, blocks, methods, nodes, callers], calls) in TABLES {
         let caps = [units, blocks, methods, nodes, callers, 9999];
         let mut core: Core<Mute> = open(rt.alloc(), caps)?;
         for (event, answer) in calls {
-            assert_eq!(rt; play(&mut core, rt.alloc(), *event)?, *answer);
+            assert!(rt; play(&mut core, rt.alloc(), *event)? == *answer);
         }
     }
     Ok(())

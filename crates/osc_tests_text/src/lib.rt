@@ -1,7 +1,9 @@
-//! Tests of the recording, of what is printed, of scripts and of scores. Each module is named after the crate or the call
-//! that it tries.
+//! Tests of the recording, of what is printed, of scripts and of scores, and of the program `osc`. Each module is named after
+//! the crate or the call that it tries; `file` tries the sink to a file.
 #![tactic(auto)]
 
+#[cfg(test)]
+mod file;
 #[cfg(test)]
 mod print;
 #[cfg(test)]
@@ -11,6 +13,12 @@ mod replay;
 #[cfg(test)]
 mod score;
 #[cfg(test)]
+mod score_top;
+#[cfg(test)]
 mod script;
 #[cfg(test)]
+mod top;
+#[cfg(test)]
 mod upgrade;
+#[cfg(test)]
+mod upgrade_top;

@@ -180,35 +180,37 @@ fn calls_faults_and_words_are_printed(rt: HostRuntime) -> Result<(), Fail> {
     Ok(())
 }
 
+/// Moments, and the line of a tick to each, dumped.
+const DATES: [(u64, &[u8]); 6] = [
+    (
+        0,
+        b"60 tick 7 0000000000000000 ticked 1900-01-01T00:00:00Z\n",
+    ),
+    (
+        0xffff_ffff,
+        b"60 tick 7 00000000ffffffff ticked 1900-01-01T00:00:00Z\n",
+    ),
+    (
+        0x0309_6280_0000_0000,
+        b"60 tick 7 0309628000000000 ticked 1901-08-13T15:51:28Z\n",
+    ),
+    (
+        0x83aa_7e80_0000_0000,
+        b"60 tick 7 83aa7e8000000000 ticked 1970-01-01T00:00:00Z\n",
+    ),
+    (
+        0xbc66_dbff_8000_0000,
+        b"60 tick 7 bc66dbff80000000 ticked 2000-02-29T23:59:59Z\n",
+    ),
+    (
+        u64::MAX,
+        b"60 tick 7 ffffffffffffffff ticked 2036-02-07T06:28:15Z\n",
+    ),
+];
+
 #[test]
 fn dumped_ticks_have_their_dates(rt: HostRuntime) -> Result<(), Fail> {
-    let rows: [(u64, &[u8]); 6] = [
-        (
-            0,
-            b"60 tick 7 0000000000000000 ticked 1900-01-01T00:00:00Z\n",
-        ),
-        (
-            0xffff_ffff,
-            b"60 tick 7 00000000ffffffff ticked 1900-01-01T00:00:00Z\n",
-        ),
-        (
-            0x0309_6280_0000_0000,
-            b"60 tick 7 0309628000000000 ticked 1901-08-13T15:51:28Z\n",
-        ),
-        (
-            0x83aa_7e80_0000_0000,
-            b"60 tick 7 83aa7e8000000000 ticked 1970-01-01T00:00:00Z\n",
-        ),
-        (
-            0xbc66_dbff_8000_0000,
-            b"60 tick 7 bc66dbff80000000 ticked 2000-02-29T23:59:59Z\n",
-        ),
-        (
-            u64::MAX,
-            b"60 tick 7 ffffffffffffffff ticked 2036-02-07T06:28:15Z\n",
-        ),
-    ];
-    for (moment, want) in rows {
+    for (moment, want) in DATES {
         let mut text = Text::open(rt.alloc());
         let entry = Entry {
             at: 60,

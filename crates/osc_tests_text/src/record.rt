@@ -15,19 +15,21 @@ const TICK: [u8; 48] =
 const RELEASE: [u8; 60] =
     *b"\0\0\0\x38/osc/release\0\0\0\0,ihb\0\0\0\0\0\0\0\x03\0\0\0\0\0\0\0\x07\0\0\0\x10\0\0\0\0\0\0\0\x05\0\0\0\x01\0\0\0\x04";
 
+/// Limits, and the field of the first that is outside its range.
+const LIMITS: [([u32; 6], Option<u8>); 8] = [
+    ([0, 1, 1, 1, 1, 60], Some(1)),
+    ([1, 1048577, 0, 1, 1, 60], Some(2)),
+    ([1, 1, 65537, 1, 1, 60], Some(3)),
+    ([1, 1, 1, 0, 1, 60], Some(4)),
+    ([1, 1, 1, 1, 1025, 60], Some(5)),
+    ([1, 1, 1, 1, 1, 59], Some(6)),
+    ([1, 1, 1, 1, 1, 60], None),
+    ([1048576, 1048576, 65536, 1048576, 1024, 1073741824], None),
+];
+
 #[test]
 fn the_first_limit_outside_its_range_is_named(rt: HostRuntime) {
-    let rows: [([u32; 6], Option<u8>); 8] = [
-        ([0, 1, 1, 1, 1, 60], Some(1)),
-        ([1, 1048577, 0, 1, 1, 60], Some(2)),
-        ([1, 1, 65537, 1, 1, 60], Some(3)),
-        ([1, 1, 1, 0, 1, 60], Some(4)),
-        ([1, 1, 1, 1, 1025, 60], Some(5)),
-        ([1, 1, 1, 1, 1, 59], Some(6)),
-        ([1, 1, 1, 1, 1, 60], None),
-        ([1048576, 1048576, 65536, 1048576, 1024, 1073741824], None),
-    ];
-    for ([units, blocks, methods, nodes, callers, recording], want) in rows {
+    for ([units, blocks, methods, nodes, callers, recording], want) in LIMITS {
         let caps = Caps::new(
             units,
             blocks,

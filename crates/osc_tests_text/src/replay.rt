@@ -144,19 +144,22 @@ fn the_first_malformed_place_is_told(rt: HostRuntime) -> Result<(), AllocError> 
     Ok(())
 }
 
+/// A release without its hit; where the limit is 211 there is no room for that.
+const BARE: [u8; 44] =
+    *b"\0\0\0\x28/osc/release\0\0\0\0,ihb\0\0\0\0\0\0\0\0\0\0\0\0\0\0\0\0\0\0\0\0";
+
+/// A limit, three entries, the number of the first that disagrees, its bytes, and those that are computed.
+const DISAGREES: [(u8, &[u8], &[u8], &[u8], u32, &[u8], &[u8]); 5] = [
+    (212, &ADD, &SUBMIT, &OTHER, 2, &OTHER, &RELEASE),
+    (212, &STRANGER, &TICK, b"", 0, &STRANGER, b""),
+    (212, &ADD, &RELEASE, b"", 1, &RELEASE, b""),
+    (212, &ADD, &SUBMIT, &BARE, 2, &BARE, &RELEASE),
+    (211, &ADD, &SUBMIT, &BARE, 2, &BARE, b""),
+];
+
 #[test]
 fn the_first_entry_that_disagrees_is_told(rt: HostRuntime) -> Result<(), AllocError> {
-    // A release without its hit; where the limit is 211 there is no room for that.
-    let bare: [u8; 44] =
-        *b"\0\0\0\x28/osc/release\0\0\0\0,ihb\0\0\0\0\0\0\0\0\0\0\0\0\0\0\0\0\0\0\0\0";
-    let rows: [(u8, &[u8], &[u8], &[u8], u32, &[u8], &[u8]); 5] = [
-        (212, &ADD, &SUBMIT, &OTHER, 2, &OTHER, &RELEASE),
-        (212, &STRANGER, &TICK, b"", 0, &STRANGER, b""),
-        (212, &ADD, &RELEASE, b"", 1, &RELEASE, b""),
-        (212, &ADD, &SUBMIT, &bare, 2, &bare, &RELEASE),
-        (211, &ADD, &SUBMIT, &bare, 2, &bare, b""),
-    ];
-    for (limit, first, second, third, number, own, given) in rows {
+    for (limit, first, second, third, number, own, given) in DISAGREES {
         let bytes = recording(rt.alloc(), limit, first, second, third)?;
         assert!(rt; bytes.len() <= 212);
         match replay(rt.alloc(), &bytes) {

@@ -2,104 +2,93 @@
 use osc_script::{Act, Mode, Script, ScriptFault, ScriptRefusal};
 use std::test::Fail;
 
+/// Scripts by their mode, and the first line outside the rules with its kind.
+const REFUSED: [(Mode, &str, u32, u8); 54] = [
+    (Mode::Plain, "add foo", 1, ScriptFault::ADDRESS),
+    (Mode::Plain, "remove /a /b", 1, ScriptFault::COUNT),
+    (Mode::Plain, "jump", 1, ScriptFault::WORD),
+    (Mode::Plain, "send 123", 1, ScriptFault::HEX),
+    (Mode::Plain, "send 12 3g", 1, ScriptFault::HEX),
+    (Mode::Plain, "tick 5", 1, ScriptFault::TAG),
+    (Mode::Plain, "tick 000000000000000g", 1, ScriptFault::TAG),
+    (Mode::Plain, "add", 1, ScriptFault::COUNT),
+    (Mode::Plain, "pump now", 1, ScriptFault::COUNT),
+    (Mode::Plain, "jump now", 1, ScriptFault::WORD),
+    (Mode::Plain, " # show", 1, ScriptFault::WORD),
+    (Mode::Plain, "pump\r", 1, ScriptFault::WORD),
+    (Mode::Plain, "pump\r\r\n", 1, ScriptFault::WORD),
+    (
+        Mode::Plain,
+        "\n\npump\nadd foo\njump\n",
+        4,
+        ScriptFault::ADDRESS,
+    ),
+    (Mode::Lanes, "add /a", 1, ScriptFault::LANE),
+    (Mode::Lanes, "jump", 1, ScriptFault::LANE),
+    (Mode::Lanes, "16 pump", 1, ScriptFault::LANE),
+    (Mode::Lanes, "99 jump", 1, ScriptFault::LANE),
+    (Mode::Lanes, "100 pump", 1, ScriptFault::LANE),
+    (Mode::Lanes, "4294967297 pump", 1, ScriptFault::LANE),
+    (Mode::Lanes, "00 pump", 1, ScriptFault::LANE),
+    (Mode::Lanes, "01 pump", 1, ScriptFault::LANE),
+    (Mode::Lanes, "+1 pump", 1, ScriptFault::LANE),
+    (Mode::Lanes, "1: pump", 1, ScriptFault::LANE),
+    (Mode::Lanes, "0x1 pump", 1, ScriptFault::LANE),
+    (Mode::Lanes, "pump 0", 1, ScriptFault::LANE),
+    (Mode::Lanes, "0", 1, ScriptFault::COUNT),
+    (Mode::Lanes, "15 ", 1, ScriptFault::COUNT),
+    (Mode::Lanes, "3 pump now", 1, ScriptFault::COUNT),
+    (Mode::Lanes, "3 add", 1, ScriptFault::COUNT),
+    (Mode::Lanes, "3 jump now", 1, ScriptFault::WORD),
+    (Mode::Lanes, "3 3 pump", 1, ScriptFault::WORD),
+    (Mode::Lanes, "3 add foo", 1, ScriptFault::ADDRESS),
+    (Mode::Lanes, "3 remove foo", 1, ScriptFault::ADDRESS),
+    (Mode::Lanes, "3 send 123", 1, ScriptFault::HEX),
+    (Mode::Lanes, "3 tick 5", 1, ScriptFault::TAG),
+    (
+        Mode::Lanes,
+        "0 pump\n1 add foo\npump",
+        2,
+        ScriptFault::ADDRESS,
+    ),
+    (Mode::Serve, "pump", 1, ScriptFault::NOT_HERE),
+    (
+        Mode::Serve,
+        "tick 0000000000000005",
+        1,
+        ScriptFault::NOT_HERE,
+    ),
+    (Mode::Serve, "tick 5", 1, ScriptFault::NOT_HERE),
+    (Mode::Serve, "remove /a", 1, ScriptFault::NOT_HERE),
+    (Mode::Serve, "remove foo", 1, ScriptFault::NOT_HERE),
+    (Mode::Serve, "send", 1, ScriptFault::NOT_HERE),
+    (Mode::Serve, "send 2f610000", 1, ScriptFault::NOT_HERE),
+    (Mode::Serve, "send 123 4", 1, ScriptFault::NOT_HERE),
+    (Mode::Serve, "add", 1, ScriptFault::COUNT),
+    (Mode::Serve, "add /a /b", 1, ScriptFault::COUNT),
+    (Mode::Serve, "pump now", 1, ScriptFault::COUNT),
+    (Mode::Serve, "tick", 1, ScriptFault::COUNT),
+    (Mode::Serve, "remove /a /b", 1, ScriptFault::COUNT),
+    (Mode::Serve, "jump", 1, ScriptFault::WORD),
+    (Mode::Serve, "0 add /a", 1, ScriptFault::WORD),
+    (Mode::Serve, "add foo", 1, ScriptFault::ADDRESS),
+    (
+        Mode::Serve,
+        "add /a\n\n# show\nadd /b\npump\njump",
+        5,
+        ScriptFault::NOT_HERE,
+    ),
+];
+
 #[test]
 fn the_first_line_outside_the_rules_is_told(rt: HostRuntime) -> Result<(), Fail> {
     let alloc = rt.alloc();
-    let cases = [
-        ("add foo", 1, ScriptFault::ADDRESS),
-        ("remove /a /b", 1, ScriptFault::COUNT),
-        ("jump", 1, ScriptFault::WORD),
-        ("send 123", 1, ScriptFault::HEX),
-        ("send 12 3g", 1, ScriptFault::HEX),
-        ("tick 5", 1, ScriptFault::TAG),
-        ("tick 000000000000000g", 1, ScriptFault::TAG),
-        ("add", 1, ScriptFault::COUNT),
-        ("pump now", 1, ScriptFault::COUNT),
-        ("jump now", 1, ScriptFault::WORD),
-        (" # show", 1, ScriptFault::WORD),
-        ("pump\r", 1, ScriptFault::WORD),
-        ("pump\r\r\n", 1, ScriptFault::WORD),
-        ("\n\npump\nadd foo\njump\n", 4, ScriptFault::ADDRESS),
-    ];
-    for (script, line, kind) in cases {
-        let refused = Script::read(alloc, script.as_bytes(), Mode::Plain).err();
+    for (mode, script, line, kind) in REFUSED {
+        let refused = Script::read(alloc, script.as_bytes(), mode).err();
         assert_eq!(rt;
             refused,
-            Some(ScriptRefusal::Fault(ScriptFault { line, kind }))
-        );
-    }
-    Ok(())
-}
-
-#[test]
-fn a_line_of_a_lane_begins_with_its_number(rt: HostRuntime) -> Result<(), Fail> {
-    let alloc = rt.alloc();
-    let cases = [
-        ("add /a", 1, ScriptFault::LANE),
-        ("jump", 1, ScriptFault::LANE),
-        ("16 pump", 1, ScriptFault::LANE),
-        ("99 jump", 1, ScriptFault::LANE),
-        ("100 pump", 1, ScriptFault::LANE),
-        ("4294967297 pump", 1, ScriptFault::LANE),
-        ("00 pump", 1, ScriptFault::LANE),
-        ("01 pump", 1, ScriptFault::LANE),
-        ("+1 pump", 1, ScriptFault::LANE),
-        ("1: pump", 1, ScriptFault::LANE),
-        ("0x1 pump", 1, ScriptFault::LANE),
-        ("pump 0", 1, ScriptFault::LANE),
-        ("0", 1, ScriptFault::COUNT),
-        ("15 ", 1, ScriptFault::COUNT),
-        ("3 pump now", 1, ScriptFault::COUNT),
-        ("3 add", 1, ScriptFault::COUNT),
-        ("3 jump now", 1, ScriptFault::WORD),
-        ("3 3 pump", 1, ScriptFault::WORD),
-        ("3 add foo", 1, ScriptFault::ADDRESS),
-        ("3 remove foo", 1, ScriptFault::ADDRESS),
-        ("3 send 123", 1, ScriptFault::HEX),
-        ("3 tick 5", 1, ScriptFault::TAG),
-        ("0 pump\n1 add foo\npump", 2, ScriptFault::ADDRESS),
-    ];
-    for (script, line, kind) in cases {
-        let refused = Script::read(alloc, script.as_bytes(), Mode::Lanes).err();
-        assert_eq!(rt;
-            refused,
-            Some(ScriptRefusal::Fault(ScriptFault { line, kind }))
-        );
-    }
-    Ok(())
-}
-
-#[test]
-fn only_adds_are_lawful_where_a_server_serves(rt: HostRuntime) -> Result<(), Fail> {
-    let alloc = rt.alloc();
-    let cases = [
-        ("pump", 1, ScriptFault::NOT_HERE),
-        ("tick 0000000000000005", 1, ScriptFault::NOT_HERE),
-        ("tick 5", 1, ScriptFault::NOT_HERE),
-        ("remove /a", 1, ScriptFault::NOT_HERE),
-        ("remove foo", 1, ScriptFault::NOT_HERE),
-        ("send", 1, ScriptFault::NOT_HERE),
-        ("send 2f610000", 1, ScriptFault::NOT_HERE),
-        ("send 123 4", 1, ScriptFault::NOT_HERE),
-        ("add", 1, ScriptFault::COUNT),
-        ("add /a /b", 1, ScriptFault::COUNT),
-        ("pump now", 1, ScriptFault::COUNT),
-        ("tick", 1, ScriptFault::COUNT),
-        ("remove /a /b", 1, ScriptFault::COUNT),
-        ("jump", 1, ScriptFault::WORD),
-        ("0 add /a", 1, ScriptFault::WORD),
-        ("add foo", 1, ScriptFault::ADDRESS),
-        (
-            "add /a\n\n# show\nadd /b\npump\njump",
-            5,
-            ScriptFault::NOT_HERE,
-        ),
-    ];
-    for (script, line, kind) in cases {
-        let refused = Script::read(alloc, script.as_bytes(), Mode::Serve).err();
-        assert_eq!(rt;
-            refused,
-            Some(ScriptRefusal::Fault(ScriptFault { line, kind }))
+            Some(ScriptRefusal::Fault(ScriptFault { line, kind })),
+            "{script}"
         );
     }
     Ok(())
@@ -116,74 +105,54 @@ fn shown(act: &Act) -> (&str, &[u8]) {
     }
 }
 
-#[test]
-fn lines_that_say_something_keep_their_numbers(rt: HostRuntime) -> Result<(), Fail> {
-    let alloc = rt.alloc();
-    let bytes =
-        b"# show\n\nadd   /a\r\n   \nremove /b \n send 2F61  0a\ntick 00000000000001fF\n#\npump\nsend";
-    let script = Script::read(alloc, bytes, Mode::Plain)
-        .ok()
-        .ok_or("a script")?;
-    let lines = [
-        (3, "add", b"/a".as_slice()),
-        (5, "remove", b"/b".as_slice()),
-        (6, "send", b"/a\n".as_slice()),
-        (7, "tick", b"511".as_slice()),
-        (9, "pump", b"".as_slice()),
-        (10, "send", b"".as_slice()),
-    ];
-    for (line, (number, word, operand)) in script.lines().iter().zip(lines) {
-        assert_eq!(rt; line.number, number);
-        assert_eq!(rt; line.lane, 0);
-        let (said, with) = shown(&line.act);
-        assert_eq!(rt; said, word);
-        assert_eq!(rt; with, operand);
-    }
-    assert_eq!(rt; script.into_lines().len(), lines.len());
-    Ok(())
-}
+/// A line that says something: its number, its lane, the word and what stands behind it.
+type Said = (u32, u32, &'static str, &'static [u8]);
+
+/// A script in its mode, and its lines that say something.
+const SCRIPTS: [(Mode, &[u8], &[Said]); 3] = [
+    (
+        Mode::Plain,
+        b"# show\n\nadd   /a\r\n   \nremove /b \n send 2F61  0a\ntick 00000000000001fF\n#\npump\nsend",
+        &[
+            (3, 0, "add", b"/a"),
+            (5, 0, "remove", b"/b"),
+            (6, 0, "send", b"/a\n"),
+            (7, 0, "tick", b"511"),
+            (9, 0, "pump", b""),
+            (10, 0, "send", b""),
+        ],
+    ),
+    (
+        Mode::Lanes,
+        b"0 add /a\n1 send 2f610000\n\n  \n# 2 pump\n 15   pump\r\n1 send 2f 620000\n10 tick 00000000000001ff",
+        &[
+            (1, 0, "add", b"/a"),
+            (2, 1, "send", b"/a\0\0"),
+            (6, 15, "pump", b""),
+            (7, 1, "send", b"/b\0\0"),
+            (8, 10, "tick", b"511"),
+        ],
+    ),
+    (
+        Mode::Serve,
+        b"# show\nadd /1/fader1\n add  /b \r\n",
+        &[(2, 0, "add", b"/1/fader1"), (3, 0, "add", b"/b")],
+    ),
+];
 
 #[test]
-fn lines_keep_their_lanes(rt: HostRuntime) -> Result<(), Fail> {
+fn lines_that_say_something_keep_their_numbers_and_lanes(rt: HostRuntime) -> Result<(), Fail> {
     let alloc = rt.alloc();
-    let bytes =
-        b"0 add /a\n1 send 2f610000\n\n  \n# 2 pump\n 15   pump\r\n1 send 2f 620000\n10 tick 00000000000001ff";
-    let script = Script::read(alloc, bytes, Mode::Lanes)
-        .ok()
-        .ok_or("a script")?;
-    let lines = [
-        (1, 0, "add", b"/a".as_slice()),
-        (2, 1, "send", b"/a\0\0".as_slice()),
-        (6, 15, "pump", b"".as_slice()),
-        (7, 1, "send", b"/b\0\0".as_slice()),
-        (8, 10, "tick", b"511".as_slice()),
-    ];
-    for (line, (number, lane, word, operand)) in script.lines().iter().zip(lines) {
-        assert_eq!(rt; line.number, number);
-        assert_eq!(rt; line.lane, lane);
-        let (said, with) = shown(&line.act);
-        assert_eq!(rt; said, word);
-        assert_eq!(rt; with, operand);
+    for (mode, bytes, lines) in SCRIPTS {
+        let script = Script::read(alloc, bytes, mode).ok().ok_or("a script")?;
+        for (line, (number, lane, word, operand)) in script.lines().iter().zip(lines) {
+            assert_eq!(rt; (line.number, line.lane), (*number, *lane));
+            let (said, with) = shown(&line.act);
+            assert_eq!(rt; said, *word);
+            assert_eq!(rt; with, *operand);
+        }
+        assert_eq!(rt; script.into_lines().len(), lines.len());
     }
-    assert_eq!(rt; script.into_lines().len(), lines.len());
-    Ok(())
-}
-
-#[test]
-fn adds_are_read_where_a_server_serves(rt: HostRuntime) -> Result<(), Fail> {
-    let alloc = rt.alloc();
-    let script = Script::read(alloc, b"# show\nadd /1/fader1\n add  /b \r\n", Mode::Serve)
-        .ok()
-        .ok_or("a script")?;
-    let lines = [(2, b"/1/fader1".as_slice()), (3, b"/b".as_slice())];
-    for (line, (number, address)) in script.lines().iter().zip(lines) {
-        assert_eq!(rt; line.number, number);
-        assert_eq!(rt; line.lane, 0);
-        let (said, with) = shown(&line.act);
-        assert_eq!(rt; said, "add");
-        assert_eq!(rt; with, address);
-    }
-    assert_eq!(rt; script.into_lines().len(), lines.len());
     Ok(())
 }
 
