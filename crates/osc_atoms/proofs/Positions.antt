@@ -1,5 +1,5 @@
 -- The first place at which a test holds: what stands before it, and the bytes that are zero or not.
-use Rattle.std.proofs.Common.{◌≡◌, ℕ, zero, suc, ◌+◌, ◌<◌, ◌≤◌, Bool, true, false, cond, not, ◌&&◌, ltb, List, [], ◌∷◌, ◌++◌, length, replicate, position}
+use Rattle.std.proofs.Common.{◌≡◌, ℕ, zero, suc, ◌+◌, ◌<◌, ◌≤◌, Bool, true, false, cond, not, ◌&&◌, ltb, List, [], ◌∷◌, ◌++◌, length, replicate, position, take}
 use Rattle.std.proofs.Common.{Option, Some, None, refl, ap, subst, inl, inr, arith, length-append}
 use Rattle.std.specs.List.{list_all, position_or_len}
 use Rattle.std.proofs.lemmas.Bool.{cases_eq, ltb-true, lt-ltb, le-ltb}
@@ -97,3 +97,19 @@ are_zeros (x ∷ xs) zeros = elim (cases_eq x 0) [
       grind (arith, nat_tests)
   | inr isnt ↦ absurd (grind (arith, nat_tests))
 ]
+
+-- a place among the first elements is the first place of all
+pub place_among : (p : ℕ → Bool) (n : ℕ) (xs : List ℕ) → position_or_len p (take n xs) < n → n ≤ length xs → position_or_len p xs ≡ position_or_len p (take n xs)
+place_among p zero xs lt le = absurd (omega arith)
+place_among p (suc n) [] lt le = absurd (omega arith)
+place_among p (suc n) (x ∷ xs) lt le = go (p x) lt (place_among p n xs) where
+  go : (t : Bool) → cond (not t) (1 + position_or_len p (take n xs)) 0 < suc n
+      → (position_or_len p (take n xs) < n → n ≤ length xs → position_or_len p xs ≡ position_or_len p (take n xs))
+      → cond (not t) (1 + position_or_len p xs) 0 ≡ cond (not t) (1 + position_or_len p (take n xs)) 0
+  go true lt more = refl
+  go false lt more = omega (arith, more (omega arith) (omega arith))
+
+pub found_among : (p : ℕ → Bool) (n : ℕ) (xs : List ℕ) → position_or_len p (take n xs) < n → n ≤ length xs → position p xs ≡ Some (position_or_len p (take n xs))
+found_among p n xs lt le =
+    let e = place_among p n xs lt le in
+    rw (lt-ltb (position_or_len p xs) (length xs) (omega arith)) (ap Some e)

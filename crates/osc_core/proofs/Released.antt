@@ -1,12 +1,13 @@
 -- What a release leaves of a performance.
-use Rattle.std.proofs.Common.{◌≡◌, ℕ, ◌+◌, ◌*◌, ◌<◌, length, refl, sym, ap, subst, ◌∙◌}
+use Rattle.std.proofs.Common.{◌≡◌, ℕ, ◌+◌, ◌*◌, ◌<◌, List, length, refl, sym, ap, subst, ◌∙◌}
 use Rattle.osc_model.specs.State.{State}
 use Rattle.osc_model.specs.Events.{release, adds_entry}
 use Rattle.osc_model.specs.Recordings.{entry_size}
-use Rattle.osc_model.specs.Step.{decided}
+use Rattle.osc_model.specs.Step.{decided, calls_from, invocations_of}
+use Rattle.osc_pattern.specs.Methods.{Method}
 use Rattle.osc_model.specs.History.{Performance, state_of, stepped_in, onward}
 use Rattle.osc_record.specs.Writing.{Recording, with_release}
-use Rattle.osc_core.specs.Answers.{TellsRelease}
+use Rattle.osc_core.specs.Answers.{TellsRelease, OnReleased}
 use Rattle.osc_core.specs.Due.{Releases, made_by}
 use Rattle.osc_core.specs.Playing.{IsPlaying, performance_of}
 use Rattle.osc_core.specs.declared.answers.Releasing.{Releasing}
@@ -53,3 +54,13 @@ release_leaves played full (releasing.RecordFull room) server next before after 
       playing = same_playing server next before after entries is.state is.recorder playing;
       invocations = kept.silent;
     }
+
+-- what was read of a unit is what its release invokes
+pub read_leaves : (answer : Releasing) (now : Performance) (server : State) (read : List (List ℕ))
+    → (stepped_in now release).invocations ≡ made_by answer (decided server release).invocations → server.methods ≡ (state_of now).methods
+    → OnReleased answer (λ unit. (decided server release).invocations ≡ invocations_of unit (calls_from server.methods 0 read))
+    → OnReleased answer (λ unit. (stepped_in now release).invocations ≡ invocations_of unit (calls_from (state_of now).methods 0 read))
+read_leaves (releasing.Released unit calls) now server read invocations methods is =
+    invocations ∙ is ∙ ap (λ (l : List Method). invocations_of unit (calls_from l 0 read)) methods
+read_leaves (releasing.NothingDue least) now server read invocations methods is = tt
+read_leaves (releasing.RecordFull room) now server read invocations methods is = tt

@@ -34,10 +34,10 @@ length-framed (message ∷ messages) =
 first_again : (message rest : List ℕ) → length message < 2 ^ 32 → first_length (word (length message) ++ (message ++ rest)) ≡ length message
 first_again message rest small = from_be_bytes-to_be_bytes_4 (length message) small
 
-message_again : (message rest : List ℕ) → length message < 2 ^ 32 → first_framed (word (length message) ++ (message ++ rest)) ≡ message
+pub message_again : (message rest : List ℕ) → length message < 2 ^ 32 → first_framed (word (length message) ++ (message ++ rest)) ≡ message
 message_again message rest small = ap (λ (n : ℕ). take n (message ++ rest)) (first_again message rest small) ∙ take_at message rest (length message) refl
 
-rest_again : (message rest : List ℕ) → length message < 2 ^ 32 → after_framed (word (length message) ++ (message ++ rest)) ≡ rest
+pub rest_again : (message rest : List ℕ) → length message < 2 ^ 32 → after_framed (word (length message) ++ (message ++ rest)) ≡ rest
 rest_again message rest small = ap (λ (n : ℕ). drop n (message ++ rest)) (first_again message rest small) ∙ drop_at message rest (length message) refl
 
 -- where there are bytes, there is a first message

@@ -96,3 +96,8 @@ TellsRelease (releasing.Released unit calls) answer =
     (hits : List Hit) × (answer ≡ released unit hits) × (calls ≡ length hits)
 TellsRelease (releasing.NothingDue next) answer = answer ≡ nothing_due next
 TellsRelease (releasing.RecordFull room) answer = answer ≡ record_full (room_of room)
+
+-- where a unit is released, this holds of its number
+abbrev pub OnReleased : Releasing → (ℕ → Type 0) → Type 0
+OnReleased (releasing.Released unit calls) holds = holds unit
+OnReleased _ holds = Unit {0}

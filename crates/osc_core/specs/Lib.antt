@@ -1,5 +1,6 @@
 -- What public contracts cite.
 pub mod Answers
+pub mod Frames
 pub mod Ids
 pub mod Playing
 pub mod Redoing
@@ -9,7 +10,6 @@ pub mod Telling
 pub mod Calls
 pub mod Due
 pub mod Found
-pub mod Frames
 pub mod Hearing
 pub mod Recorded
 pub mod Stored

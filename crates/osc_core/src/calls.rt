@@ -65,13 +65,13 @@ pub(crate) fn release_unit<M: Called>(
         invoke_unit(tree, hits, kept, unit, messages, recorder, boxes);
         return Ok(calls);
     };
-    let count = count_hits(tree, hits, &message);
-    let calls = start_release(recorder, caller, unit, count as u64)?;
     let call = Call {
         unit,
         index: 0,
         message,
     };
+    let count = count_hits(tree, hits, &call.message);
+    let calls = start_release(recorder, caller, unit, count as u64)?;
     invoke_ids(&hits.ids()[..count], &call, recorder, boxes);
     Ok(calls)
 }
@@ -149,6 +149,7 @@ fn keep_all(ids: &[u32], kept: &mut Vec<u32>)
 }
 
 /// How many calls a message makes: those of the methods that come first in `hits`.
+#[inline(always)]
 fn count_hits(tree: &Tree, hits: &mut Hits, message: &Message<'_>) -> usize
     requires { tree.now.method_limit ≤ hits.old.limit }
     ensures count { result ≡ length (invoked_ids tree.now.methods message.now) }
@@ -277,6 +278,7 @@ fn split_found(kept: &[u32]) -> (&[u32], &[u32])
 }
 
 /// Makes the call of each of the methods with these ids.
+#[inline(always)]
 fn invoke_ids<M: Called>(
     ids: &[u32],
     call: &Call<'_>,

@@ -76,6 +76,7 @@ impl<'a> Iterator for Messages<'a> {
 }
 
 /// The first message, and the bytes after it.
+#[inline(always)]
 fn split_first(bytes: &[u8]) -> (Message<'_>, &[u8])
     requires { BeginsFramed bytes.now }
     ensures message { result.0 ≡ first_framed bytes.now }

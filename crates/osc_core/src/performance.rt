@@ -10,7 +10,10 @@ ghost use Rattle.osc_model.specs.Refusals.{IsRefusal};
 ghost use Rattle.osc_model.specs.History.{IsLawful, Legal, state_of, stepped_in, onward};
 ghost use Rattle.osc_record.specs.Shown.{event_of, answer_of};
 ghost use Rattle.osc_core.specs.Answers.{enrolled_of, submitted_of, refusal_of, removing_of};
-ghost use Rattle.osc_core.specs.Answers.{ticking_of, OnRemoved, TellsRelease};
+ghost use Rattle.osc_core.specs.Answers.{ticking_of, OnRemoved, TellsRelease, OnReleased};
+ghost use Rattle.osc_core.specs.Frames.{messages_in, AreFramed};
+ghost use Rattle.osc_packet.specs.declared.limits.TheConstants.{MAX_STORED};
+ghost use Rattle.osc_model.specs.Step.{calls_from, invocations_of};
 ghost use Rattle.osc_core.specs.Ids.{is_ascending, without};
 ghost use Rattle.osc_core.specs.Telling.{told};
 
@@ -181,8 +184,14 @@ impl Performance {
     }
 
     /// Takes the least unit that is due, and makes its calls.
-    pub(crate) fn release<M: Method>(&mut self, caller: u32, boxes: &mut Vec<(u32, M)>) -> Releasing
+    pub(crate) fn release<M: Method>(
+        &mut self,
+        caller: u32,
+        boxes: &mut Vec<(u32, M)>,
+        messages: &mut Vec<u8>,
+    ) -> Releasing
         requires caller { caller < (state_of self.old).callers }
+        requires room { MAX_STORED ≤ vec_capacity messages.old }
         requires ascending { IsTrue (is_ascending (map (λ one. one.0) boxes.old.items)) }
         ensures answer { TellsRelease result (stepped_in self.old release).answer }
         ensures performance { self.new ≡ onward self.old caller release }
@@ -191,9 +200,16 @@ impl Performance {
             (told M.keep M.heard boxes.old.items) }
         ensures ids { map (λ one. one.0) boxes.new.items ≡ map (λ one. one.0) boxes.old.items }
         ensures capacity { vec_capacity boxes.old ≤ vec_capacity boxes.new }
+        ensures messages { OnReleased result (λ unit. (stepped_in self.old release).invocations
+            ≡ invocations_of unit
+            (calls_from (state_of self.old).methods 0 (messages_in messages.new.items))) }
+        ensures framed { OnReleased result (λ unit. AreFramed messages.new.items) }
+        ensures reserved { vec_capacity messages.old ≤ vec_capacity messages.new }
     {
         a_performance_is_played();
-        let releasing = self.server.release(caller, &mut self.recorder, boxes);
+        let releasing = self
+            .server
+            .release(caller, &mut self.recorder, boxes, messages);
         if let Releasing::Released { .. } = releasing {
             self.entries += 1;
         }

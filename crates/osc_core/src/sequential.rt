@@ -11,7 +11,10 @@ ghost use Rattle.osc_record.specs.Shown.{event_of, answer_of};
 ghost use Rattle.osc_laws.specs.Laws.{KeepsTheLaws};
 ghost use Rattle.osc_core.specs.Answers.{enrolled_of, submitted_of, adding_of, removing_of};
 ghost use Rattle.osc_core.specs.Answers.{ticking_of, TellsRelease, OnAdded, OnRefused, OnRemoved};
-ghost use Rattle.osc_core.specs.Answers.{OnKept};
+ghost use Rattle.osc_core.specs.Answers.{OnKept, OnReleased};
+ghost use Rattle.osc_core.specs.Frames.{messages_in, AreFramed};
+ghost use Rattle.osc_packet.specs.declared.limits.TheConstants.{MAX_STORED};
+ghost use Rattle.osc_model.specs.Step.{calls_from, invocations_of};
 ghost use Rattle.osc_core.specs.Ids.{is_ascending};
 ghost use Rattle.osc_core.specs.Telling.{told};
 ghost use Rattle.osc_core.specs.Standing.{StandsFor, GoesOn};
@@ -25,7 +28,7 @@ use crate::standing::a_server_stands_for_more;
 use osc_laws::laws::every_history_keeps_the_laws;
 use osc_method::Method;
 use osc_model::laws::{a_performance_goes_on, a_server_stays_sound, boxes_hear_the_history};
-use osc_packet::Packet;
+use osc_packet::{MAX_STORED, Packet};
 use osc_pattern::Address;
 use osc_record::{Answer, Caps, Event};
 use std::alloc::{AllocError, Global};
@@ -40,6 +43,9 @@ use std::alloc::{AllocError, Global};
 pub struct Core<M: Method> {
     performance: Performance,
     boxes: Vec<(u32, M)>,
+    /// The messages of the unit that was released last.
+    unit: Vec<u8>,
+    ghost room: { MAX_STORED ≤ vec_capacity unit },
     ghost alike: { map (λ one. one.0) boxes.items
         ≡ map (λ method. method.id) (state_of performance).methods },
     ghost ascending: { IsTrue (is_ascending (map (λ one. one.0) boxes.items)) },
@@ -63,6 +69,7 @@ impl<M: Method> Core<M> {
         Ok(Core {
             performance: Performance::open(alloc, caps)?,
             boxes: Vec::with_capacity(alloc, caps.methods() as usize)?,
+            unit: Vec::with_capacity(alloc, MAX_STORED as usize)?,
         })
     }
 
@@ -73,6 +80,7 @@ impl<M: Method> Core<M> {
         ensures performance { self.new.performance ≡ onward self.old.performance caller enrol }
         ensures boxes { told M.keep M.heard self.new.boxes.items
             ≡ told M.keep M.heard self.old.boxes.items }
+        ensures unit { self.new.unit ≡ self.old.unit }
         ensures stands { GoesOn enrol self.old.performance
             (told M.keep M.heard self.old.boxes.items)
             self.new.performance (told M.keep M.heard self.new.boxes.items) }
@@ -91,6 +99,7 @@ impl<M: Method> Core<M> {
             ≡ onward self.old.performance caller (submit packet.now) }
         ensures boxes { told M.keep M.heard self.new.boxes.items
             ≡ told M.keep M.heard self.old.boxes.items }
+        ensures unit { self.new.unit ≡ self.old.unit }
         ensures stands { GoesOn (submit packet.now) self.old.performance
             (told M.keep M.heard self.old.boxes.items)
             self.new.performance (told M.keep M.heard self.new.boxes.items) }
@@ -117,6 +126,7 @@ impl<M: Method> Core<M> {
             ≡ told M.keep M.heard self.old.boxes.items) }
         ensures handed_back { OnRefused result
             (λ back untouched. (back ≡ address) × (untouched ≡ method)) }
+        ensures unit { self.new.unit ≡ self.old.unit }
         ensures stands { GoesOn (add address) self.old.performance
             (told M.keep M.heard self.old.boxes.items)
             self.new.performance (told M.keep M.heard self.new.boxes.items) }
@@ -154,6 +164,7 @@ impl<M: Method> Core<M> {
             ≡ without_id id (told M.keep M.heard self.old.boxes.items)) }
         ensures boxes { OnKept result
             (told M.keep M.heard self.new.boxes.items ≡ told M.keep M.heard self.old.boxes.items) }
+        ensures unit { self.new.unit ≡ self.old.unit }
         ensures stands { GoesOn (remove address.now) self.old.performance
             (told M.keep M.heard self.old.boxes.items)
             self.new.performance (told M.keep M.heard self.new.boxes.items) }
@@ -180,6 +191,7 @@ impl<M: Method> Core<M> {
         ensures performance { self.new.performance ≡ onward self.old.performance caller (tick now) }
         ensures boxes { told M.keep M.heard self.new.boxes.items
             ≡ told M.keep M.heard self.old.boxes.items }
+        ensures unit { self.new.unit ≡ self.old.unit }
         ensures stands { GoesOn (tick now) self.old.performance
             (told M.keep M.heard self.old.boxes.items)
             self.new.performance (told M.keep M.heard self.new.boxes.items) }
@@ -199,6 +211,12 @@ impl<M: Method> Core<M> {
         ensures boxes { told M.keep M.heard self.new.boxes.items
             ≡ all_hear (stepped_in self.old.performance release).invocations
             (told M.keep M.heard self.old.boxes.items) }
+        ensures unit { OnReleased result (λ unit.
+            (stepped_in self.old.performance release).invocations
+            ≡ invocations_of unit
+            (calls_from (state_of self.old.performance).methods 0
+            (messages_in self.new.unit.items))) }
+        ensures framed { OnReleased result (λ unit. AreFramed self.new.unit.items) }
         ensures stands { GoesOn release self.old.performance
             (told M.keep M.heard self.old.boxes.items)
             self.new.performance (told M.keep M.heard self.new.boxes.items) }
@@ -206,7 +224,8 @@ impl<M: Method> Core<M> {
         boxes_stay();
         a_server_stands_for_more();
         boxes_hear_the_history();
-        self.performance.release(caller, &mut self.boxes)
+        self.performance
+            .release(caller, &mut self.boxes, &mut self.unit)
     }
 
     /// Records the entry of an event that was refused, as the history has it.
@@ -247,6 +266,13 @@ impl<M: Method> Core<M> {
         ensures { result ≡ length self.now.performance.history }
     {
         self.performance.entries()
+    }
+
+    /// The messages of the unit that was released last, each after its size in 4 bytes.
+    pub fn unit(&self) -> &[u8]
+        ensures { result.now ≡ self.now.unit.items }
+    {
+        self.unit.as_slice()
     }
 
     /// The recording so far (docs/FORMATS.md, "The recording").

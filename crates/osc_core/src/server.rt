@@ -10,12 +10,15 @@ ghost use Rattle.osc_model.specs.State.{opening};
 ghost use Rattle.osc_model.specs.Events.{enrol, submit, add, remove, tick, release, added, refused};
 ghost use Rattle.osc_model.specs.Events.{adds_entry};
 ghost use Rattle.osc_model.specs.Heard.{all_hear};
-ghost use Rattle.osc_model.specs.Step.{decided};
+ghost use Rattle.osc_model.specs.Step.{decided, calls_from, invocations_of};
+ghost use Rattle.osc_packet.specs.declared.limits.TheConstants.{MAX_STORED};
 ghost use Rattle.osc_core.specs.Answers.{enrolled_of, submitted_of, removing_of, ticking_of};
 ghost use Rattle.osc_core.specs.Answers.{OnRemoved};
 ghost use Rattle.osc_core.specs.Ids.{is_ascending, without};
 ghost use Rattle.osc_core.specs.Telling.{told};
 ghost use Rattle.osc_core.specs.Due.{Releases, made_by};
+ghost use Rattle.osc_core.specs.Answers.{OnReleased};
+ghost use Rattle.osc_core.specs.Frames.{messages_in, AreFramed};
 ghost use Rattle.osc_core.specs.Playing.{tables};
 
 use crate::answers::{Enrolled, Releasing, Removing, Submitted, Ticking};
@@ -233,7 +236,9 @@ impl Server {
         caller: u32,
         recorder: &mut Recorder,
         boxes: &mut Vec<(u32, M)>,
+        messages: &mut Vec<u8>,
     ) -> Releasing
+        requires room { MAX_STORED ≤ vec_capacity messages.old }
         requires methods { self.old.caps.methods ≤ max_methods }
         requires caller { caller < 2 ^ 31 }
         requires units { self.old.next_unit < 2 ^ 63 }
@@ -246,6 +251,11 @@ impl Server {
             (told M.keep M.heard boxes.old.items) }
         ensures ids { map (λ one. one.0) boxes.new.items ≡ map (λ one. one.0) boxes.old.items }
         ensures capacity { vec_capacity boxes.old ≤ vec_capacity boxes.new }
+        ensures messages { OnReleased result (λ unit. (decided self.old release).invocations
+            ≡ invocations_of unit
+            (calls_from self.old.methods 0 (messages_in messages.new.items))) }
+        ensures framed { OnReleased result (λ unit. AreFramed messages.new.items) }
+        ensures reserved { vec_capacity messages.old ≤ vec_capacity messages.new }
     {
         let Some((due, unit, stored)) = self.queue.first() else {
             return Releasing::NothingDue { next: None };
@@ -253,15 +263,15 @@ impl Server {
         if due > self.clock {
             return Releasing::NothingDue { next: Some(due) };
         }
-        self.store.read(stored, &mut self.bytes);
-        let messages = Messages::new(&self.bytes);
+        self.store.read(stored, messages);
+        let read = Messages::new(messages.as_slice());
         match release_unit(
             &self.tree,
             &mut self.hits,
             &mut self.kept,
             caller,
             unit,
-            messages,
+            read,
             recorder,
             boxes,
         ) {

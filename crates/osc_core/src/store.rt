@@ -26,6 +26,9 @@ pub(crate) struct Stored {
     chain: Chain,
 }
 
+/// The most bytes of a message that stands in a block beside its length.
+const MOST_BESIDE: usize = 60;
+
 /// Blocks of 64 bytes, in which the messages of units are chains. A contract sees what a pool holds.
 ///
 /// No call but `open` takes memory.
@@ -67,6 +70,7 @@ impl Store {
     }
 
     /// Stores the messages of a unit.
+    #[inline(always)]
     pub(crate) fn put(&mut self, unit: &Unit<'_>) -> Stored
         requires { used_blocks self.old + blocks unit.now ≤ length self.old }
         ensures stored { IsStored self.new result }
@@ -76,6 +80,15 @@ impl Store {
         ensures used { used_blocks self.new ≡ used_blocks self.old + blocks unit.now }
         ensures limit { length self.new ≡ length self.old }
     {
+        if let Some(message) = unit.alone()
+            && message.len() <= MOST_BESIDE
+        {
+            let size = (message.len() as u32).to_be_bytes();
+            return Stored {
+                tag: unit.tag(),
+                chain: self.pool.store_pair(&size, message),
+            };
+        }
         spell(&mut self.bytes, unit);
         let chain = match self.pool.store(&self.bytes) {
             Ok(chain) => chain,
@@ -119,9 +132,14 @@ fn spell(bytes: &mut Vec<u8>, unit: &Unit<'_>)
     ensures read { IsTrue (list_all (is_message MAX_BYTES) unit.now.messages) }
     ensures capacity { vec_capacity bytes.old ≤ vec_capacity bytes.new }
 {
-    prove!(unit.stored() <= MAX_STORED);
     bytes.clear();
-    append(bytes, unit.messages());
+    match unit.alone() {
+        Some(message) => append_message(bytes, message),
+        None => {
+            prove!(unit.stored() <= MAX_STORED);
+            append(bytes, unit.messages());
+        }
+    }
 }
 
 /// Adds the messages, each after its length, in room that is there.
@@ -137,6 +155,7 @@ fn append(bytes: &mut Vec<u8>, messages: UnitMessages<'_>)
 }
 
 /// Adds a message after its length.
+#[inline(always)]
 fn append_message(bytes: &mut Vec<u8>, message: &[u8])
     requires room { vec_len bytes.old + (4 + length message.now) ≤ vec_capacity bytes.old }
     requires small { length message.now < 2 ^ 32 }

@@ -35,6 +35,10 @@ pub(crate) fn enter_all(
     ensures places { queue.new.limit ≡ queue.old.limit }
     ensures limit { length store.new ≡ length store.old }
 {
+    if let Some(unit) = packet.alone() {
+        enter_kept(queue, store, &unit, late, clock, first);
+        return;
+    }
     let mut number = first;
     for unit in packet.units() {
         enter_kept(queue, store, &unit, late, clock, number);
@@ -43,6 +47,7 @@ pub(crate) fn enter_all(
 }
 
 /// One unit enters, if it is kept.
+#[inline(always)]
 fn enter_kept(
     queue: &mut Queue<Stored>,
     store: &mut Store,
@@ -73,6 +78,7 @@ fn enter_kept(
 }
 
 /// One unit enters, due at its tag or at the clock, whichever is greater.
+#[inline(always)]
 fn enter(queue: &mut Queue<Stored>, store: &mut Store, unit: &Unit<'_>, clock: u64, number: u64)
     requires running { AreQueued store.old queue.old.items number }
     requires place { length queue.old.items < queue.old.limit }

@@ -1,5 +1,5 @@
 -- What a check answers, by the fault that is read.
-use Rattle.std.proofs.Common.{◌≡◌, ◌↔◌, ◌⊎◌, ℕ, ◌%◌, ◌<◌, ◌≤◌, List, length, Option, Some, None, Result, Ok, Err, IsOk, refl, sym, ◌∙◌, ap, subst, inl, inr}
+use Rattle.std.proofs.Common.{◌≡◌, ◌↔◌, ◌⊎◌, ℕ, ◌%◌, ◌<◌, ◌≤◌, List, length, Some, None, Result, Ok, Err, IsOk, refl, sym, ◌∙◌, ap, subst, inl, inr}
 use Rattle.std.proofs.lemmas.Option.{none-some, same_Some}
 use Rattle.std.specs.Prelude.{IfErr, slice_index}
 use Rattle.std.specs.Result.{result_err}

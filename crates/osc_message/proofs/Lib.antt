@@ -1,3 +1,4 @@
+mod WordTags
 pub mod LawfulPatterns
 pub mod ArrayBrackets
 pub mod ArgumentAtoms

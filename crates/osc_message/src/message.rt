@@ -39,7 +39,7 @@ impl<'a> Message<'a> {
     ghost use Rattle.osc_atoms.specs.declared.limits.TheConstants.{MAX_BYTES};
     ghost use Rattle.osc_message.specs.Left.{left};
     ghost use Rattle.std.specs.Prelude.{◌≡◌, ◌↔◌, ◌≤◌, ℕ, length, IsTrue, IsOk, IfOk, IfErr, Some};
-    ghost use Rattle.std.specs.Prelude.{Err, IsSome, is_ok, option_map};
+    ghost use Rattle.std.specs.Prelude.{Err, IsSome, IfSome, is_ok, option_map};
     ghost use Rattle.std.specs.Result.{result_err};
     ghost use Rattle.osc_atoms.specs.declared.fault.Fault.{Fault};
     ghost use Rattle.osc_message.specs.Messages.{IsMessage};
@@ -63,8 +63,22 @@ impl<'a> Message<'a> {
         Ok(Message { bytes, slices })
     }
 
+    /// The first fault of the bytes, where they aren't exactly one message of at most `max` bytes, as `check` tells it.
+    #[inline(always)]
+    pub fn first_fault(bytes: &[u8], max: u32) -> Option<Fault>
+        requires { max ≤ MAX_BYTES }
+        ensures read { result ≡ message_fault max bytes.now }
+        ensures within { IfSome result (λ fault. fault.at ≤ length bytes.now) }
+    {
+        match read_limited(bytes, max) {
+            Ok(_) => None,
+            Err(fault) => Some(fault),
+        }
+    }
+
     /// The message that the bytes were checked to be. Looks for the ends of the pattern and of the tag string, and at
     /// the tags, and at nothing else.
+    #[inline(always)]
     pub fn known(bytes: &'a [u8]) -> Message<'a>
         requires { IsTrue (is_message MAX_BYTES bytes.now) }
         ensures { result ≡ bytes.now }
@@ -119,6 +133,7 @@ impl<'a> Message<'a> {
 }
 
 /// The parts of bytes that are a message of at most `max` bytes.
+#[inline(always)]
 fn read_limited(bytes: &[u8], max: u32) -> Result<Slices<'_>, Fault>
     requires { max ≤ MAX_BYTES }
     ensures read { result_map_both seen (λ fault. fault) result ≡ limited_read max bytes.now }

@@ -1,17 +1,18 @@
 // A message: its parts, or its first fault.
 ghost use Rattle.osc_atoms.specs.declared.limits.TheConstants.{MAX_BYTES};
 ghost use Rattle.std.specs.Prelude.{◌≡◌, ◌+◌, ◌%◌, ◌≤◌, IsTrue, IfOk, drop, length, false, is_ok};
-ghost use Rattle.std.specs.Prelude.{Ok};
-ghost use Rattle.std.specs.List.{list_any};
+ghost use Rattle.std.specs.Prelude.{Ok, ℕ, None, find};
+ghost use Rattle.std.specs.List.{list_all, list_any};
 ghost use Rattle.std.specs.Result.{result_map_both};
-ghost use Rattle.osc_message.specs.Tags.{is_unknown};
+ghost use Rattle.osc_message.specs.Tags.{is_unknown, is_word_tag};
+ghost use Rattle.osc_message.specs.ArgumentReading.{arguments_end};
 ghost use Rattle.osc_message.specs.Reading.{message_read, lawful_read, comma_read, tagged_read};
 ghost use Rattle.osc_message.specs.Reading.{tags_read, arguments_read, begins, has_arguments};
 ghost use Rattle.osc_message.specs.Reading.{is_message, IsReadable};
 ghost use Rattle.osc_message.specs.Seen.{seen, KeepsUnknown};
 
 use crate::argument_reading::end_of_arguments;
-use crate::tags::{check_brackets, first_unknown};
+use crate::tags::{check_brackets, first_unknown, is_word_tag};
 use osc_atoms::{Fault, known_string_at, string_at};
 use osc_pattern::Pattern;
 
@@ -26,6 +27,7 @@ pub(crate) struct Slices<'a> {
 
 /// Reads the message that the bytes are.
 #[tactic(auto, unfolding(crate::specs::Reading::message_read))]
+#[inline(always)]
 pub(crate) fn read_message(bytes: &[u8]) -> Result<Slices<'_>, Fault>
     requires whole { length bytes.now % 4 ≡ 0 }
     requires small { length bytes.now ≤ MAX_BYTES }
@@ -46,6 +48,7 @@ pub(crate) fn read_message(bytes: &[u8]) -> Result<Slices<'_>, Fault>
 }
 
 /// Checks the pattern that the bytes begin with, and reads what follows it.
+#[inline(always)]
 fn read_pattern<'a>(bytes: &'a [u8], pattern: &'a [u8], end: u32) -> Result<Slices<'a>, Fault>
     requires pattern { length pattern.now ≤ MAX_BYTES }
     requires whole { length bytes.now % 4 ≡ 0 }
@@ -68,6 +71,7 @@ fn read_pattern<'a>(bytes: &'a [u8], pattern: &'a [u8], end: u32) -> Result<Slic
     read_after_pattern(bytes, pattern, end)
 }
 
+#[inline(always)]
 fn read_after_pattern<'a>(bytes: &'a [u8], pattern: &'a [u8], at: u32) -> Result<Slices<'a>, Fault>
     requires whole { length bytes.now % 4 ≡ 0 }
     requires aligned { at % 4 ≡ 0 }
@@ -98,6 +102,7 @@ fn read_after_pattern<'a>(bytes: &'a [u8], pattern: &'a [u8], at: u32) -> Result
 }
 
 /// Reads the tag string at `at`, and what follows it.
+#[inline(always)]
 fn read_tag_string<'a>(bytes: &'a [u8], pattern: &'a [u8], at: u32) -> Result<Slices<'a>, Fault>
     requires whole { length bytes.now % 4 ≡ 0 }
     requires aligned { at % 4 ≡ 0 }
@@ -113,6 +118,14 @@ fn read_tag_string<'a>(bytes: &'a [u8], pattern: &'a [u8], at: u32) -> Result<Sl
 {
     let (text, place) = string_at(bytes, at)?;
     let tags = &text[1..];
+    if end_as_words(bytes, tags, place) {
+        return Ok(Slices {
+            pattern,
+            tags: Some(tags),
+            place,
+            unknown: None,
+        });
+    }
     let unknown = first_unknown(tags);
     if unknown.is_none() {
         check_tags(bytes, at + 1, tags, place)?;
@@ -123,6 +136,27 @@ fn read_tag_string<'a>(bytes: &'a [u8], pattern: &'a [u8], at: u32) -> Result<Sl
         place,
         unknown,
     })
+}
+
+/// Whether all tags are of words, and so many words fill the bytes from `start` on. Most messages are so, and then no more
+/// is to be checked.
+#[tactic(auto, using(crate::proofs::WordTags::words_known, crate::proofs::WordTags::words_end))]
+fn end_as_words(bytes: &[u8], tags: &[u8], start: u32) -> bool
+    requires small { length bytes.now ≤ MAX_BYTES }
+    requires few { length tags.now ≤ MAX_BYTES }
+    ensures known { IsTrue result → list_any is_unknown tags.now ≡ false }
+    ensures none { IsTrue result → find is_unknown tags.now ≡ None }
+    ensures read { IsTrue result → (place : ℕ)
+        → tags_read bytes.now place tags.now start ≡ Ok tt }
+    ensures arguments { IsTrue result → IsTrue (is_ok (arguments_end tags.now bytes.now start)) }
+{
+    are_words(tags) && start as usize + 4 * tags.len() == bytes.len()
+}
+
+fn are_words(tags: &[u8]) -> bool
+    ensures { result ≡ list_all is_word_tag tags.now }
+{
+    tags.iter().all(|tag| is_word_tag(*tag))
 }
 
 /// Checks known tags, which stand from `place` on, and their arguments, which stand from `start` on.
@@ -160,6 +194,7 @@ pub(crate) fn check_arguments(bytes: &[u8], tags: &[u8], start: u32) -> Result<(
 /// The parts of the message that the bytes were checked to be. Looks for the ends of the pattern and of the tag string,
 /// and at the tags.
 #[tactic(auto, unfolding(crate::specs::Reading::message_read))]
+#[inline(always)]
 pub(crate) fn known_message(bytes: &[u8]) -> Slices<'_>
     requires { IsTrue (is_message MAX_BYTES bytes.now) }
     ensures readable { IsReadable bytes.now (seen result) }

@@ -45,6 +45,9 @@ impl Late {
             places: 0,
             blocks: 0,
         };
+        if let Some(unit) = packet.alone() {
+            return with_unit(need, self, clock, &unit);
+        }
         for unit in packet.units() {
             need = with_unit(need, self, clock, &unit);
         }

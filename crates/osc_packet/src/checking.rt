@@ -40,6 +40,9 @@ pub(crate) fn check_packet(bytes: &[u8], max: u32) -> Result<(), Fault>
             at: bytes.len() as u32,
         });
     }
+    if bytes[0] == b'/' {
+        return check_message(bytes, 0);
+    }
     check_element(bytes, 0, MAX_DEPTH as u32, None)
 }
 
@@ -75,13 +78,14 @@ pub(crate) fn check_element(
     }
 }
 
+#[inline(always)]
 fn check_message(bytes: &[u8], at: u32) -> Result<(), Fault>
     requires inside { at + length bytes.now ≤ MAX_PACKET }
     ensures { result_err result ≡ message_fault_at at bytes.now }
 {
-    match Message::check(bytes, bytes.len() as u32) {
-        Ok(_) => Ok(()),
-        Err(fault) => Err(Fault {
+    match Message::first_fault(bytes, bytes.len() as u32) {
+        None => Ok(()),
+        Some(fault) => Err(Fault {
             kind: fault.kind,
             at: at + fault.at,
         }),

@@ -1,8 +1,9 @@
 // Packets, borrowed from their bytes.
 
-use crate::Units;
-use crate::checking::check_packet;
+use crate::checking::{IMMEDIATELY, check_packet, is_bundle};
+use crate::content::Content;
 use crate::laws::{of_messages, units_are_read_again};
+use crate::{Unit, Units};
 use osc_atoms::Fault;
 use std::marker::Model;
 
@@ -27,12 +28,14 @@ impl<'a> Model for Packet<'a> {
 impl<'a> Packet<'a> {
     ghost use Rattle.osc_packet.specs.declared.limits.TheConstants.{MAX_PACKET};
     ghost use Rattle.std.specs.Prelude.{◌≡◌, ◌≤◌, ◌↔◌, length, IsTrue, IsOk, IfOk, IfErr, is_ok};
+    ghost use Rattle.std.specs.Prelude.{◌∷◌, [], IfSome, IsNone};
     ghost use Rattle.std.specs.Result.{result_err};
     ghost use Rattle.osc_atoms.specs.declared.fault.Fault.{Fault};
     ghost use Rattle.osc_packet.specs.Packets.{Packet as Written, packet_text, IsValid, IsPacket};
     ghost use Rattle.osc_packet.specs.Units.{units_of, blocks_of};
     ghost use Rattle.osc_packet.specs.Wants.{FirstFault};
     ghost use Rattle.osc_packet.specs.Reading.{packet_fault, is_packet, units_read};
+    ghost use Rattle.osc_packet.specs.Reading;
 
     /// Accepts exactly one packet of at most `max` bytes, whole, and borrows it. Else tells its first fault, of the
     /// kinds 1 to 18; docs/FORMATS.md has the order of the checks. Takes no memory.
@@ -57,6 +60,17 @@ impl<'a> Packet<'a> {
         ensures { result ≡ bytes.now }
     {
         Packet { bytes }
+    }
+
+    /// The only unit, where the packet is a message.
+    pub fn alone(&self) -> Option<Unit<'a>>
+        ensures only { IfSome result (λ unit. units_read self.now ≡ unit ∷ []) }
+        ensures none { IsNone result ↔ IsTrue (Reading.is_bundle self.now) }
+    {
+        if is_bundle(self.bytes) {
+            return None;
+        }
+        Some(Unit::new(IMMEDIATELY, Content::Alone(self.bytes)))
     }
 
     /// The whole packet.

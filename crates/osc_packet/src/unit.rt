@@ -25,8 +25,10 @@ impl<'a> Model for Unit<'a> {
 }
 
 impl<'a> Unit<'a> {
-    ghost use Rattle.std.specs.Prelude.{◌≡◌, ◌≤◌, length};
-    ghost use Rattle.osc_packet.specs.declared.limits.TheConstants.{MAX_STORED};
+    ghost use Rattle.std.specs.Prelude.{◌≡◌, ◌≤◌, ◌∷◌, [], length, IsTrue, IfSome};
+    ghost use Rattle.osc_atoms.specs.declared.limits.TheConstants.{MAX_BYTES};
+    ghost use Rattle.osc_packet.specs.declared.limits.TheConstants.{MAX_PACKET, MAX_STORED};
+    ghost use Rattle.osc_message.specs.Reading.{is_message};
     ghost use Rattle.osc_packet.specs.Units.{stored_size, blocks};
     ghost use Rattle.osc_packet.specs.Contents.{messages_of, IsSound};
 
@@ -43,6 +45,18 @@ impl<'a> Unit<'a> {
         ensures { result ≡ self.now.tag }
     {
         self.tag
+    }
+
+    /// The message, where it is one alone.
+    pub fn alone(&self) -> Option<&'a [u8]>
+        ensures value { IfSome result (λ message. self.now.messages ≡ message.now ∷ []) }
+        ensures read { IfSome result (λ message. IsTrue (is_message MAX_BYTES message.now)) }
+        ensures small { IfSome result (λ message. length message.now ≤ MAX_PACKET) }
+    {
+        match self.content {
+            Content::Alone(message) => Some(message),
+            Content::Among(_) => None,
+        }
     }
 
     /// How many messages there are.
@@ -63,6 +77,9 @@ impl<'a> Unit<'a> {
         ensures size { result ≡ stored_size self.now.messages }
         ensures small { result ≤ MAX_STORED }
     {
+        if let Content::Alone(message) = self.content {
+            return 4 + message.len() as u32;
+        }
         let mut rest = self.content;
         let mut size = 0;
         while let Some((message, after)) = rest.split_first() {

@@ -4,12 +4,13 @@ pub mod Cutting
 mod Readings
 mod Openings
 mod Cuts
-mod Matches
+pub mod Matches
 mod Reaches
 mod Moves
 mod Onward
 mod ReadOnce
 pub mod PatternLaws
+mod BarePatterns
 mod AddressLaws
 pub mod Parts
 pub mod PlainPatterns

@@ -1,10 +1,10 @@
 -- A part matches by its first item, and then by the rest.
 use Rattle.std.proofs.Common.{◌≡◌, ◌⊎◌, inl, inr, Bor, ℕ, Bool, true, false, ◌||◌, ◌&&◌, ◌==◌, Some, None, Result, Ok, Err, List, [], ◌∷◌, length, refl, arith}
-use Rattle.std.proofs.Common.{sym, ap, ◌∙◌}
+use Rattle.std.proofs.Common.{sym, ap, ◌∙◌, get_or}
 use Rattle.std.specs.List.{list_any}
 use Rattle.std.proofs.lemmas.Bool.Decides.{nat_tests}
-use Rattle.osc_pattern.specs.Items.{Item}
-use Rattle.osc_pattern.specs.Cuts.{has_byte, after_byte, after_item}
+use Rattle.osc_pattern.specs.Items.{Item, star}
+use Rattle.osc_pattern.specs.Cuts.{rests, has_byte, after_byte, after_item}
 use Rattle.osc_pattern.specs.Reading.{first_item, with_first, read_part, match_read, match_part}
 use Rattle.osc_pattern.specs.declared.item.Item.{Item as Borrowed}
 use Rattle.osc_pattern.specs.declared.item.Item.TheVariants.{Any, Set, Plain}
@@ -68,3 +68,17 @@ pub no_byte : (part : List ℕ) (item : Borrowed) (others name : List ℕ) → f
     → name ≡ [] → match_part part name ≡ false
 no_byte part item others name found single empty = byte_item part item others name found single
     ∙ ap (λ n. list_any (match_part others) (after_byte (item_of item) n)) empty
+
+-- a star alone matches each name
+star_last : (name : List ℕ) → list_any (match_part []) (rests name) ≡ true
+star_last [] = ap (λ r. match_read r [] || false) read_part-nil
+star_last (x ∷ name) = go (match_part [] (x ∷ name)) (star_last name) where
+  go : (t : Bool) → list_any (match_part []) (rests name) ≡ true → (t || list_any (match_part []) (rests name)) ≡ true
+  go true e = refl
+  go false e = e
+
+pub star_matches : (part name : List ℕ) → length part ≡ 1 → get_or part 0 0 ≡ 42 → match_part part name ≡ true
+star_matches [] name one is = absurd (omega arith)
+star_matches (x ∷ []) name one is =
+    ap (λ b. match_part (b ∷ []) name) is ∙ match_part-item (42 ∷ []) star [] name refl ∙ star_last name
+star_matches (x ∷ y ∷ part) name one is = absurd (omega arith)

@@ -17,6 +17,8 @@ use Rattle.osc_pattern.specs.declared.bytes.ByteSet.{ByteSet}
 use Rattle.osc_pattern.specs.ReadyParts.{is_one_of, is_as, after_one, after_ready, match_ready, ready_size, all_ready_size, IsReady}
 use Rattle.osc_pattern.specs.declared.ready.Ready.{Ready}
 use Rattle.osc_pattern.proofs.Reaches.{bits-added, next_row, rows_split}
+use Rattle.std.proofs.Common.{nat_eq}
+use Rattle.osc_pattern.proofs.Matches.{star_matches}
 use Rattle.osc_pattern.proofs.Moves.{same_any, rows_less}
 
 -- one byte is added
@@ -104,3 +106,11 @@ pub set_read : (own : ℕ → Bool) (list : List ℕ) → ((byte : ℕ) → own 
     → (name : List ℕ) → after_one own name ≡ after_byte (set list) name
 set_read own list same [] = refl
 set_read own list same (byte ∷ name) = ap (λ t. if t then name ∷ [] else []) (same byte)
+
+-- a part that is a star alone matches each name
+pub star_ready : (items : List Ready) (rest name : List ℕ) → length items ≡ 0 → length rest ≡ 1 → (nat_eq (get_or rest 0 0) 42) ≡ true
+    → match_ready items rest name ≡ true
+star_ready [] rest name none one is =
+    let first : get_or rest 0 0 ≡ 42 = (let h : nat_eq (get_or rest 0 0) 42 ≡ true = is in grind (arith, nat_tests)) in
+    star_matches rest name one first
+star_ready (item ∷ items) rest name none one is = absurd (omega arith)

@@ -4,6 +4,7 @@ pub mod Parts
 pub mod Cuts
 pub mod Reading
 pub mod Patterns
+pub mod Bare
 pub mod Addresses
 pub mod Methods
 pub mod ReadyParts

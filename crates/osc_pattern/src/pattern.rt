@@ -49,6 +49,7 @@ impl<'a> Pattern<'a> {
     ///
     /// The faults are tried in this order, each over the whole text before the next: no `/` first, a byte out of
     /// range, a bracket that isn't closed.
+    #[inline(always)]
     pub fn check(bytes: &'a [u8]) -> Result<Pattern<'a>, PatternFault>
         requires { length bytes.now ≤ MAX_PATTERN }
         ensures ok { IfOk result (λ pattern. pattern ≡ bytes.now) }

@@ -1,10 +1,10 @@
 //! Parts whose lists are read once for all names.
 ghost use Rattle.osc_pattern.specs.declared.limits.TheConstants.{MOST_READY};
-ghost use Rattle.std.specs.Prelude.{◌≡◌, ◌≤◌, ◌+◌, ℕ, List, [], length, take};
+ghost use Rattle.std.specs.Prelude.{◌≡◌, ◌≤◌, ◌+◌, ℕ, List, [], length, take, true};
 ghost use Rattle.osc_pattern.specs.Items.{item_text};
 ghost use Rattle.osc_pattern.specs.Cuts.{after_item};
 ghost use Rattle.osc_pattern.specs.Views.{item_of};
-ghost use Rattle.osc_pattern.specs.ReadyParts.{after_ready, ready_size, IsReadOf, StandsFor};
+ghost use Rattle.osc_pattern.specs.ReadyParts.{after_ready, match_ready, ready_size, IsReadOf, StandsFor};
 
 use crate::bytes::ReadSet;
 use crate::item::{Item, first_item};
@@ -77,6 +77,20 @@ impl<'a> ReadyPart<'a> {
 }
 
 impl<'a> Part<'a> {
+    /// Whether the part is a star alone, which each name matches.
+    pub fn is_star(&self) -> bool
+        ensures { result ≡ true → (name : List ℕ)
+            → match_ready self.now.items.now self.now.rest.now name ≡ true }
+    {
+        if !self.items.is_empty() {
+            return false;
+        }
+        if self.rest.len() != 1 {
+            return false;
+        }
+        self.rest[0] == b'*'
+    }
+
     /// The part as it stands.
     pub fn whole(part: &'a [u8]) -> Part<'a>
         ensures { StandsFor result part.now }

@@ -428,3 +428,11 @@ last_within {blocks} {next} {links} {sizes} {first} {free} {last} {count} chain 
     let size : get_or sizes chain.first 0 ≡ chain.len = live_size is chain live' some in
     let ends' : last ≡ behind next (blocks_for (get_or sizes chain.first 0) - 1) chain.first = ends ∙ rw (links_are, counts, size) refl in
     omega (arith, is.linked, last_inside is chain.first last (live_inside is chain live' some) (omega arith) ends')
+
+-- the same, where the size is known otherwise
+pub stored_as : {next links sizes : List ℕ} {first free behind_it need : ℕ} (blocks now old : List (List ℕ)) (bytes : List ℕ) (size : ℕ) → size ≡ length bytes
+    → IsSound (filled_up (length next) blocks) next sizes first free → texts_from (filled_up (length next) blocks) next 0 sizes ≡ old → 0 < length bytes
+    → need ≡ blocks_for (length bytes) → need ≤ free → links ≡ next
+    → IsWritten (filled_up (length links) blocks) (filled_up (length links) now) links first behind_it bytes
+    → IsStored (filled_up (length next) now) next (set sizes first size) behind_it (free - need) (record { first = first; len = size }) bytes old
+stored_as blocks now old bytes size sized is view some needs few links_are written = rw sized (stored blocks now old bytes is view some needs few links_are written)

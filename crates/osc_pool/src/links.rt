@@ -1,6 +1,6 @@
 // Blocks that follow one another by their links.
 ghost use Rattle.osc_pool.specs.declared.limits.TheConstants.{BLOCK_SIZE};
-ghost use Rattle.std.specs.Prelude.{◌≡◌, ◌-◌, ◌<◌, ◌≤◌, ◌^◌, ℕ, IfOk, length, max, replicate, take};
+ghost use Rattle.std.specs.Prelude.{◌≡◌, ◌-◌, ◌<◌, ◌≤◌, ◌^◌, ◌++◌, ℕ, IfOk, length, max, replicate, take};
 ghost use Rattle.std.specs.Prelude.{vec_capacity};
 ghost use Rattle.std.specs.List.{range_with_len};
 ghost use Rattle.osc_pool.specs.Holding.{blocks_for};
@@ -77,6 +77,47 @@ pub(crate) fn write(blocks: &mut Vec<Block>, next: &[u32], first: u32, bytes: &[
     block
 }
 
+/// Writes a head and the bytes behind it into one block, and answers the block behind that.
+#[inline(always)]
+pub(crate) fn write_pair(
+    blocks: &mut Vec<Block>,
+    next: &[u32],
+    first: u32,
+    head: &[u8; 4],
+    bytes: &[u8],
+) -> u32
+    requires fits { length (head.now ++ bytes.now) ≤ BLOCK_SIZE }
+    requires some { 0 < length (head.now ++ bytes.now) }
+    requires linked { length blocks.old.items ≤ length next.now }
+    requires room { length next.now ≤ vec_capacity blocks.old }
+    requires path { IsPath next.now (blocks_for (length (head.now ++ bytes.now))) first
+        (length next.now) }
+    requires whole { AreWhole (filled_up (length next.now) blocks.old.items) }
+    ensures written { IsWritten (filled_up (length next.now) blocks.old.items)
+        (filled_up (length next.now) blocks.new.items) next.now first result
+        (head.now ++ bytes.now) }
+    ensures reached { AreReached
+        (path next.now (blocks_for (length (head.now ++ bytes.now))) first)
+        (length blocks.old.items) (length blocks.new.items) (length next.now) }
+    ensures capacity { vec_capacity blocks.old ≤ vec_capacity blocks.new }
+{
+    put_pair(blocks, first as usize, head, bytes);
+    next[first as usize]
+}
+
+/// Writes a head and the bytes behind it over the beginning of a block.
+#[inline(always)]
+fn put_pair(blocks: &mut Vec<Block>, block: usize, head: &[u8; 4], bytes: &[u8])
+    requires room { block < vec_capacity blocks.old }
+    requires small { length (head.now ++ bytes.now) ≤ BLOCK_SIZE }
+    ensures put { (limit : ℕ) → block < limit → length blocks.old.items ≤ limit →
+        IsPut limit blocks.old.items blocks.new.items block (head.now ++ bytes.now) }
+    ensures capacity { vec_capacity blocks.old ≤ vec_capacity blocks.new }
+{
+    reach(blocks, block + 1);
+    fill_pair(&mut blocks[block], head, bytes);
+}
+
 /// Writes the piece over the beginning of a block.
 fn put(blocks: &mut Vec<Block>, block: usize, piece: &[u8])
     requires room { block < vec_capacity blocks.old }
@@ -115,6 +156,17 @@ fn fill(block: &mut Block, piece: &[u8])
     block[..piece.len()].copy_from_slice(piece);
 }
 
+/// Writes a head and the bytes behind it over the beginning of a block.
+#[inline(always)]
+fn fill_pair(block: &mut Block, head: &[u8; 4], bytes: &[u8])
+    requires { length (head.now ++ bytes.now) ≤ BLOCK_SIZE }
+    ensures taken { take (length (head.now ++ bytes.now)) block.new ≡ head.now ++ bytes.now }
+    ensures whole { length block.new ≡ BLOCK_SIZE }
+{
+    block[..4].copy_from_slice(head);
+    block[4..4 + bytes.len()].copy_from_slice(bytes);
+}
+
 /// Reads as many bytes as `out` has room for, from the first block on.
 pub(crate) fn read(blocks: &[Block], next: &[u32], first: u32, out: &mut [u8])
     requires linked { length blocks.now ≤ length next.now }
@@ -123,6 +175,11 @@ pub(crate) fn read(blocks: &[Block], next: &[u32], first: u32, out: &mut [u8])
     ensures { out.new
         ≡ text blocks.now next.now (blocks_for (length out.old)) first (length out.old) }
 {
+    let len = out.len();
+    if len > 0 && len <= BLOCK_SIZE {
+        out.copy_from_slice(&blocks[first as usize][..len]);
+        return;
+    }
     let mut block = first;
     let mut done = 0;
     while done < out.len() {

@@ -1,6 +1,6 @@
 //! The pool: blocks of 64 bytes that are reserved at opening, in which bytes are stored as chains.
 ghost use Rattle.osc_pool.specs.declared.limits.TheConstants.{MAX_BLOCKS};
-ghost use Rattle.std.specs.Prelude.{◌≡◌, ◌+◌, ◌<◌, ◌≤◌, ◌↔◌, [], length, replicate, IsErr, IfOk};
+ghost use Rattle.std.specs.Prelude.{◌≡◌, ◌+◌, ◌<◌, ◌≤◌, ◌↔◌, ◌++◌, [], length, replicate, IsErr, IfOk};
 ghost use Rattle.std.specs.Prelude.{IfErr, OnOk, OnErr};
 ghost use Rattle.osc_pool.specs.Holding.{blocks_for, used_blocks, held_by, with_chain, IsLive};
 ghost use Rattle.osc_pool.specs.Holding.{IsNew, KeepsLive, KeepsOthers};
@@ -98,6 +98,27 @@ impl Pool {
         self.sizes[first as usize] = len;
         self.free -= need as u32;
         Ok(Chain { first, len })
+    }
+
+    /// Stores a head and the bytes behind it, which fit into one block, where one is free.
+    #[inline(always)]
+    pub fn store_pair(&mut self, head: &[u8; 4], bytes: &[u8]) -> Chain
+        requires fits { length (head.now ++ bytes.now) ≤ 64 }
+        requires room { used_blocks self.old < length self.old }
+        ensures len { result.len ≡ length (head.now ++ bytes.now) }
+        ensures stored { held_by result self.new ≡ head.now ++ bytes.now }
+        ensures new { IsNew result self.old }
+        ensures kept { KeepsLive self.old self.new }
+        ensures ok { self.new ≡ with_chain result (head.now ++ bytes.now) self.old }
+        ensures used { used_blocks self.new ≡ used_blocks self.old + 1 }
+        ensures limit { length self.new ≡ length self.old }
+    {
+        let block = self.first;
+        let len = 4 + bytes.len() as u32;
+        self.first = links::write_pair(&mut self.blocks, &self.next, block, head, bytes);
+        self.sizes[block as usize] = len;
+        self.free -= 1;
+        Chain { first: block, len }
     }
 
     /// Writes what the chain holds over `out`.

@@ -52,6 +52,9 @@ pub(crate) fn sink<T, L: Ledger>(entries: &mut [Entry<T>], steps: &mut Steps<L>)
     ensures bounded { 2 ^ (steps.new - steps.old)
         ≤ (length entries.old + 1) * (length entries.old + 1) }
 {
+    if entries.len() < 2 {
+        return;
+    }
     let place = fall(entries, steps);
     rise(entries, place, steps);
 }

@@ -10,6 +10,7 @@ use crate::event::{Answer, Event};
 use crate::rows::{append_add, append_enrol, append_remove, append_submit, append_tick};
 
 /// Appends an entry of any event but a release.
+#[inline(always)]
 pub(crate) fn append_entry(out: &mut Vec<u8>, caller: u32, event: Event<'_>, answer: Answer<'_>)
     requires no_release { event_of event ≢ release }
     requires fits { FitsRow (row_of caller (event_of event) (answer_of answer)) }
@@ -46,6 +47,7 @@ fn enrol_entry(out: &mut Vec<u8>, caller: u32, answer: Answer<'_>)
     }
 }
 
+#[inline(always)]
 fn submit_entry(out: &mut Vec<u8>, caller: u32, packet: &[u8], answer: Answer<'_>)
     requires fits { FitsRow (row_of caller (submit packet.now) (answer_of answer)) }
     requires small { length (entry_text caller (submit packet.now) (answer_of answer))

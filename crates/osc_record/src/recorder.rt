@@ -8,11 +8,10 @@ ghost use Rattle.osc_record.specs.Writing.{release_head};
 
 use crate::caps::Caps;
 use crate::entries::append_entry;
-use crate::entry_reading::RELEASE;
 use crate::event::{Answer, Event};
 use crate::limits::HEADER_SIZE;
 use crate::rows::{append_bytes, append_header};
-use osc_atoms::{append_tag, append_word};
+use osc_atoms::{write_tag, write_word};
 use std::alloc::{AllocError, Global};
 use std::marker::Model;
 
@@ -83,6 +82,7 @@ impl Recorder {
     }
 
     /// Appends an entry of any event but a release.
+    #[inline(always)]
     pub fn put(&mut self, caller: u32, event: Event<'_>, answer: Answer<'_>)
         requires no_release { event_of event ≢ release }
         requires lawful { IsRecordable caller (event_of event) (answer_of answer) }
@@ -159,11 +159,20 @@ fn append_release_head(out: &mut Vec<u8>, caller: u32, unit: u64, hits: u32)
     ensures out { out.new.items ≡ out.old.items ++ release_head caller unit hits }
     ensures capacity { vec_capacity out.old ≤ vec_capacity out.new }
 {
-    append_word(out, 40 + 8 * hits);
-    append_bytes(out, &RELEASE);
-    append_word(out, caller);
-    append_tag(out, unit);
-    append_word(out, 8 * hits);
+    append_bytes(out, &release_front(caller, unit, hits));
+}
+
+/// What stands before the hits of a release, for one copy.
+fn release_front(caller: u32, unit: u64, hits: u32) -> [u8; 44]
+    requires { hits ≤ 134217728 }
+    ensures { result ≡ release_head caller unit hits }
+{
+    let mut front = *b"\0\0\0\0/osc/release\0\0\0\0,ihb\0\0\0\0\0\0\0\0\0\0\0\0\0\0\0\0\0\0\0\0";
+    write_word(&mut front, 0, 40 + 8 * hits);
+    write_word(&mut front, 28, caller);
+    write_tag(&mut front, 32, unit);
+    write_word(&mut front, 40, 8 * hits);
+    front
 }
 
 fn append_hit(out: &mut Vec<u8>, index: u32, id: u32)
@@ -171,6 +180,14 @@ fn append_hit(out: &mut Vec<u8>, index: u32, id: u32)
     ensures out { out.new.items ≡ out.old.items ++ hit_text (record { index = index; id = id }) }
     ensures capacity { vec_capacity out.old ≤ vec_capacity out.new }
 {
-    append_word(out, index);
-    append_word(out, id);
+    append_bytes(out, &hit_bytes(index, id));
+}
+
+fn hit_bytes(index: u32, id: u32) -> [u8; 8]
+    ensures { result ≡ hit_text (record { index = index; id = id }) }
+{
+    let mut bytes = [0; 8];
+    write_word(&mut bytes, 0, index);
+    write_word(&mut bytes, 4, id);
+    bytes
 }

@@ -1,19 +1,19 @@
 // The header and the messages of entries, appended to bytes that have room for them.
 ghost use Rattle.osc_model.specs.Limits.{max_recording};
 ghost use Rattle.osc_atoms.specs.declared.limits.TheConstants.{MAX_BYTES};
-ghost use Rattle.osc_atoms.specs.Atoms.{word, tag, blob, string, has_no_zero};
+ghost use Rattle.osc_atoms.specs.Atoms.{word, tag, blob, blob_end, string, has_no_zero};
 ghost use Rattle.osc_record.specs.declared.entry_reading.TheConstants.{SUBMIT};
-ghost use Rattle.std.specs.Prelude.{◌≡◌, ◌+◌, ◌≤◌, ◌++◌, ℤ, length, IsTrue};
+ghost use Rattle.std.specs.Prelude.{◌≡◌, ◌+◌, ◌≤◌, ◌++◌, ℤ, length, replicate, IsTrue};
 ghost use Rattle.std.specs.Vec.{vec_len, vec_capacity};
 ghost use Rattle.osc_message.specs.Messages.{AllFit};
 ghost use Rattle.osc_model.specs.Recordings.{sized, row_text, enrol_row, submit_row, add_row};
 ghost use Rattle.osc_model.specs.Recordings.{remove_row, tick_row, header_text};
 
 use crate::caps::Caps;
-use crate::entry_reading::{ADD, REMOVE, SUBMIT};
+use crate::entry_reading::{ADD, REMOVE};
 use crate::message::append_message;
 use crate::policy::late_code;
-use osc_atoms::{append_blob, append_string, append_tag, append_word, blob_size, string_size};
+use osc_atoms::{append_string, append_word, blob_size, string_size, write_tag, write_word};
 use osc_message::Arg;
 
 /// How many bytes the message of a submit has beside its packet.
@@ -63,6 +63,7 @@ pub(crate) fn append_enrol(out: &mut Vec<u8>, caller: u32, answer: i32)
 }
 
 /// Appends a submit with the code and the three numbers of its answer.
+#[inline(always)]
 pub(crate) fn append_submit(
     out: &mut Vec<u8>,
     caller: u32,
@@ -87,6 +88,7 @@ pub(crate) fn append_submit(
 }
 
 /// Appends the message of a submit after its size, number by number: a packet comes more often than anything else.
+#[inline(always)]
 fn append_submit_row(
     out: &mut Vec<u8>,
     size: u32,
@@ -104,14 +106,48 @@ fn append_submit_row(
         ++ (word code ++ (tag first ++ (word second ++ word third))))))) }
     ensures capacity { vec_capacity out.old ≤ vec_capacity out.new }
 {
-    append_word(out, size);
-    append_bytes(out, &SUBMIT);
-    append_word(out, caller);
-    append_blob(out, packet);
-    append_word(out, code);
-    append_tag(out, first);
-    append_word(out, second);
-    append_word(out, third);
+    append_bytes(out, &submit_front(size, caller, packet.len() as u32));
+    append_padded(out, packet);
+    append_bytes(out, &submit_back(code, first, second, third));
+}
+
+/// The bytes of a submit before its packet, for one copy.
+fn submit_front(size: u32, caller: u32, count: u32) -> [u8; 32]
+    ensures { result ≡ word size ++ (SUBMIT ++ (word caller ++ word count)) }
+{
+    let mut front = *b"\0\0\0\0/osc/submit\0,ibihii\0\0\0\0\0\0\0\0\0";
+    write_word(&mut front, 0, size);
+    write_word(&mut front, 24, caller);
+    write_word(&mut front, 28, count);
+    front
+}
+
+/// The bytes of a submit behind its packet.
+fn submit_back(code: u32, first: u64, second: u32, third: u32) -> [u8; 20]
+    ensures { result ≡ word code ++ (tag first ++ (word second ++ word third)) }
+{
+    let mut back = [0; 20];
+    write_word(&mut back, 0, code);
+    write_tag(&mut back, 4, first);
+    write_word(&mut back, 12, second);
+    write_word(&mut back, 16, third);
+    back
+}
+
+/// Appends bytes and the zero bytes that pad a blob of them, mostly none.
+fn append_padded(out: &mut Vec<u8>, bytes: &[u8])
+    requires small { length bytes.now ≤ MAX_BYTES }
+    requires room { vec_len out.old + (length bytes.now + blob_end (length bytes.now))
+        ≤ vec_capacity out.old }
+    ensures out { out.new.items
+        ≡ out.old.items ++ (bytes.now ++ replicate (blob_end (length bytes.now)) 0) }
+    ensures capacity { vec_capacity out.old ≤ vec_capacity out.new }
+{
+    append_bytes(out, bytes);
+    let end = (4 - bytes.len() % 4) % 4;
+    if end > 0 {
+        append_bytes(out, &[0; 4][..end]);
+    }
 }
 
 /// Appends bytes for which there is room.

@@ -17,7 +17,7 @@ use Rattle.osc_tree.proofs.Leaving.{sorted_at}
 use Rattle.osc_tree.proofs.Ranges.{lower, lower_more, begun_not_before}
 
 -- a text is before another and a byte above all of its own, if it is before the other or begins with it
-before_end : (address text : List ℕ) (most : ℕ) → All (λ byte. byte < most) address
+pub before_end : (address text : List ℕ) (most : ℕ) → All (λ byte. byte < most) address
     → lower address (text ++ most ∷ []) ≡ (lower address text || starts_with nat_eq address text)
 before_end [] [] most all = refl
 before_end [] (y ∷ text) most all = refl
@@ -53,7 +53,7 @@ names_low (byte ∷ rest) all = go (is_slash byte) refl (split-cons rest) all (n
       All-cons (λ byte. byte < 127) byte rest (good_byte byte first.0)
       (more (subst (All fine) (sym e) (All-cons fine name names first.1 (All-tail fine (byte ∷ name) names those))))
 
-address_low : (address : List ℕ) → IsAddress address → All (λ byte. byte < 127) address
+pub address_low : (address : List ℕ) → IsAddress address → All (λ byte. byte < 127) address
 address_low [] spelled = All-nil (λ byte. byte < 127)
 address_low (byte ∷ rest) spelled =
     All-cons (λ byte. byte < 127) byte rest (let h : is_slash byte ≡ true = spelled.slash in grind (arith, nat_tests))

@@ -45,7 +45,7 @@ ended_here a text tail i la lt = go (drop i a) (drop i text) refl refl where
   go (x ∷ xs) (y ∷ ys) e f = absurd (omega (arith, ap length e, length-drop i a))
 
 -- else the rest is compared with the tail, and nothing is before a tail without bytes
-lower_none : (xs : List ℕ) → lower xs [] ≡ false
+pub lower_none : (xs : List ℕ) → lower xs [] ≡ false
 lower_none [] = refl
 lower_none (x ∷ xs) = refl
 

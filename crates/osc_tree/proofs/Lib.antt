@@ -27,4 +27,7 @@ mod Fronts
 pub mod Lookups
 pub mod Spelled
 pub mod Beginnings
+pub mod Onward
+pub mod Choices
+pub mod Advances
 mod Bounds

@@ -14,7 +14,7 @@ use Rattle.osc_pattern.proofs.Parts.{split-cons}
 use Rattle.osc_tree.proofs.Lists.{position-some}
 
 -- a part without bytes matches the name without bytes alone
-empty_part : (x : ℕ) (name : List ℕ) → match_part [] (x ∷ name) ≡ false
+pub empty_part : (x : ℕ) (name : List ℕ) → match_part [] (x ∷ name) ≡ false
 unfolding read_part
 empty_part x name = refl
 
@@ -155,7 +155,7 @@ matched_begins (x ∷ pattern) (y ∷ address) p a e =
     let found = literal_begins pattern address e in
     (found.0, ap (λ b. b ∷ address) second ∙ ap (λ l. 47 ∷ l) found.1 ∙ rw (first, one-add) refl)
 
-own_beginning : (text rest : List ℕ) → starts_with nat_eq (text ++ rest) text ≡ true
+pub own_beginning : (text rest : List ℕ) → starts_with nat_eq (text ++ rest) text ≡ true
 own_beginning [] rest = refl
 own_beginning (x ∷ text) rest = let more = own_beginning text rest in grind (arith, nat_tests)
 

@@ -66,7 +66,7 @@ walked_hit pattern methods at ids more id matching d within so is parts names sa
           (omega arith);
     }
 
-filter_far : (test : Method → Bool) (methods : List Method) (at more : ℕ) (d : Method) → at + more ≤ length methods
+pub filter_far : (test : Method → Bool) (methods : List Method) (at more : ℕ) (d : Method) → at + more ≤ length methods
     → ((k : ℕ) → at ≤ k → k < at + more → test (get_or methods k d) ≡ false) → filter test (take (at + more) methods) ≡ filter test (take at methods)
 filter_far test methods at zero d within none = ap (λ (n : ℕ). filter test (take n methods)) (add-zero at)
 filter_far test methods at (suc more) d within none =
@@ -76,7 +76,7 @@ filter_far test methods at (suc more) d within none =
     ∙ filter_far test methods at more d (omega arith) (λ k le lt. none k le (omega arith))
 
 -- an address has no more names than it has in common with another: it is the other or above it
-not_all_shared : (one other : List ℕ) → begins_with_slash one ≡ true → begins_with_slash other ≡ true → AreApart one other
+pub not_all_shared : (one other : List ℕ) → begins_with_slash one ≡ true → begins_with_slash other ≡ true → AreApart one other
     → length (parts_of other) ≤ shared (parts_of one) (parts_of other) → ⊥
 not_all_shared one [] first second apart le = absurd (cc)
 not_all_shared one (x ∷ rest) first second apart le = go (split-cons rest) where

@@ -1,5 +1,8 @@
 -- How a pattern is matched along the methods in the order of their addresses, and what it costs.
 use Rattle.std.specs.Prelude.{◌≡◌, ℕ, zero, suc, ◌+◌, ◌-◌, ◌*◌, ◌<◌, ◌≤◌, nat_lt, if◌then◌else◌}
+use Rattle.std.specs.Prelude.{Bool, true, false, All, ◌++◌}
+use Rattle.std.specs.Ordering.{is_lt, nat_cmp}
+use Rattle.std.specs.Cmp.Lexicographic.{slice_cmp}
 use Rattle.std.specs.Prelude.{List, [], ◌∷◌, length, take, drop, filter, map, get_or}
 use Rattle.std.specs.Prelude.{flat_map, sum_by}
 use Rattle.std.specs.List.{slice_split}
@@ -116,3 +119,29 @@ AreParts found pattern = (place : ℕ) (d : Part) → place < length (parts_of p
 abbrev pub AreReadyParts : List ReadyPart → List ℕ → Type 0
 AreReadyParts read pattern = (place : ℕ) (d : ReadyPart) → place < length (parts_of pattern)
     → IsReadOf (get_or read place d) (part_at pattern place)
+
+-- the first text is before the second, in the order of their bytes
+abbrev pub is_ahead : List ℕ → List ℕ → Bool
+is_ahead first second = is_lt (slice_cmp nat_cmp first second)
+
+-- a text without a slash behind what is left of an address: what is left of a later one, and begins with a name that
+-- the part matches, isn't before the text
+pub record IsAim (part rest text : List ℕ) : Type 0 where
+  pub ahead : is_ahead rest text ≡ true
+  pub one : length (slice_split is_slash text) ≡ 1
+  pub reach : (other name : List ℕ) (names : List (List ℕ)) → All (λ byte. byte < 127) other
+      → slice_split is_slash other ≡ name ∷ names → match_part part name ≡ true
+      → is_ahead other rest ≡ false → is_ahead other text ≡ false
+
+-- what begins with a text, and isn't before what is left of an address, isn't before another text either; the byte is above
+-- all that stands behind the first text
+abbrev pub IsReached : List ℕ → ℕ → List ℕ → List ℕ → Type 0
+IsReached rest end text aim = (other : List ℕ) → is_ahead other text ≡ false → is_ahead other (text ++ end ∷ []) ≡ true
+    → is_ahead other rest ≡ false → is_ahead other aim ≡ false
+
+-- the names behind the first that parts match, and where the walk goes on behind them
+pub record IsOnward (pattern names : List ℕ) (matching at : ℕ) (text : List ℕ) : Type 0 where
+  pub part : matching < length (parts_of pattern)
+  pub bound : at ≤ length names
+  pub cut : slice_split is_slash (drop at names) ≡ drop matching (slice_split is_slash names)
+  pub aim : IsAim (part_at pattern matching) (drop at names) text

@@ -3,6 +3,7 @@
 #![tactic(auto)]
 
 mod adding;
+mod aim;
 mod beginning;
 mod guesses;
 mod hits;

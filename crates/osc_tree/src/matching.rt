@@ -1,26 +1,32 @@
 // The methods that a pattern matches.
 ghost use Rattle.osc_pattern.specs.declared.limits.TheConstants.{MAX_NAME, MAX_NAMES};
-ghost use Rattle.std.specs.Prelude.{◌≡◌, ◌≤◌, ◌<◌, ◌+◌, ◌++◌, ◌∷◌, ◌==◌, ◌&&◌, [], not, nat_le};
+ghost use Rattle.std.specs.Prelude.{◌≡◌, ◌≤◌, ◌<◌, ◌+◌, ◌*◌, ◌++◌, ◌∷◌, ◌==◌, ◌&&◌, [], not, nat_le};
 ghost use Rattle.std.specs.Prelude.{nat_lt, if◌then◌else◌, true, None, length, take, drop, filter};
-ghost use Rattle.std.specs.Prelude.{map, position, get_or, All, vec_len, vec_capacity, MatchBool};
-ghost use Rattle.std.specs.List.{slice_split, position_or_len};
+ghost use Rattle.std.specs.Prelude.{map, position, get_or, All, vec_len, vec_capacity, MatchBool, IfSome, false};
+ghost use Rattle.std.specs.List.{list_any, slice_split, position_or_len};
 ghost use Rattle.std.specs.List.Sorted.{IsPartitionedBy};
 ghost use Rattle.osc_pattern.specs.Items.{is_slash};
 ghost use Rattle.osc_pattern.specs.Methods.{IsMethodList};
-ghost use Rattle.osc_pattern.specs.Patterns.{parts_of, is_special, matches};
+ghost use Rattle.osc_pattern.specs.Patterns.{parts_of, part_at, is_special, matches};
+ghost use Rattle.osc_pattern.specs.Reading.{match_part};
+ghost use Rattle.osc_pattern.specs.ReadyParts.{StandsFor};
 ghost use Rattle.osc_tree.specs.Matching.{matching_ids};
 ghost use Rattle.osc_tree.specs.Order.{IsOrder};
 ghost use Rattle.osc_tree.specs.Views.{method_at, methods_of, methods_at};
 ghost use Rattle.osc_tree.specs.Walking.{most_steps, shared, agreeing, spent, known_at};
-ghost use Rattle.osc_tree.specs.Walking.{IsWalked, IsSorted, IsFront, AreParts};
+ghost use Rattle.osc_tree.specs.Walking.{IsWalked, IsSorted, IsFront, IsOnward, AreParts};
 
+use crate::aim::find_aim;
 use crate::beginning::beginning_with;
 use crate::guesses::Guesses;
 use crate::literal::first_special;
 use crate::lookup::{guessed_id, id_at};
-use crate::names::{Front, first_name, names_of, shared_front, shared_names, whole_names};
+use crate::names::{
+    Front, first_name, names_at, names_of, shared_front, shared_names, whole_names,
+};
 use crate::parts::{find_parts, read_parts, ready_parts};
 use crate::registered::Registered;
+use crate::search::count_before_after;
 use osc_pattern::laws::{an_address_is_a_pattern, plain_pattern, tests_are_exact};
 use osc_pattern::{MAX_NAMES, Part, Pattern, Steps};
 use std::sync::ledger::Ledger;
@@ -36,6 +42,7 @@ struct Outline {
 /// Fills the list with the ids of the methods that the pattern matches, in ascending order of the address. A pattern
 /// without special bytes is looked up; else only the methods that begin with its literal front are tried. One with more
 /// parts than an address has names matches none.
+#[inline(always)]
 pub(crate) fn find_ids<L: Ledger>(
     methods: &[Registered],
     places: &[u32],
@@ -57,6 +64,28 @@ pub(crate) fn find_ids<L: Ledger>(
     if add_guessed(methods, guesses, pattern, ids) {
         return;
     }
+    look_up(methods, places, pattern, ids, steps);
+}
+
+/// The same, where the method isn't where it is guessed to be.
+#[inline(never)]
+fn look_up<L: Ledger>(
+    methods: &[Registered],
+    places: &[u32],
+    pattern: &Pattern<'_>,
+    ids: &mut Vec<u32>,
+    steps: &mut Steps<L>,
+)
+    requires list { IsMethodList (methods_of methods.now) }
+    requires order { IsOrder methods.now places.now }
+    requires empty { ids.old.items ≡ [] }
+    requires room { length places.now ≤ vec_capacity ids.old }
+    ensures ids { ids.new.items ≡ matching_ids pattern.now (methods_of methods.now) }
+    ensures len { vec_len ids.new ≤ length places.now }
+    ensures capacity { vec_capacity ids.old ≤ vec_capacity ids.new }
+    ensures counted { steps.old ≤ steps.new }
+    ensures bounded { steps.new ≤ steps.old + most_steps pattern.now (methods_of methods.now) }
+{
     let text = pattern.bytes();
     match first_special(text) {
         Some(end) => {
@@ -144,6 +173,9 @@ fn walk<L: Ledger>(
     ensures bounded { steps.new
         ≤ steps.old + most_steps pattern.now (methods_at methods.now near.now) }
 {
+    if near.is_empty() {
+        return;
+    }
     if pattern.bytes().len() > SHORT_PATTERN {
         walk_read(methods, near, pattern, outline, ids, steps);
     } else {
@@ -211,14 +243,54 @@ fn walk_found<L: Ledger>(
     ensures bounded { steps.new
         ≤ steps.old + most_steps pattern.now (methods_at methods.now near.now) }
 {
+    let wild = count_wild(pattern, outline.parts);
     let mut at = 0;
+    let mut idle = 0;
     while at < near.len() {
-        at = visit(methods, near, at, pattern, outline, found, ids, steps);
+        let (next, after) = visit(
+            methods, near, at, pattern, outline, found, wild, idle, ids, steps,
+        );
+        at = next;
+        idle = after;
     }
+}
+
+/// How many parts there are up to the last that has a special byte.
+fn count_wild(pattern: &Pattern<'_>, parts: u32) -> u32
+    requires { parts ≡ length (parts_of pattern.now) }
+    ensures { All (λ part. list_any is_special part ≡ false) (drop result (parts_of pattern.now)) }
+{
+    let mut wild = parts;
+    while wild > 0 {
+        if first_special(pattern.part(wild - 1)).is_some() {
+            return wild;
+        }
+        wild -= 1;
+    }
+    0
+}
+
+/// How many bytes the names take up to the last part that isn't plain. With these names no other method matches.
+fn find_past(names: &[u8], wild: u32, parts: u32) -> Option<usize>
+    ensures bound { IfSome result (λ at. at ≤ length names.now) }
+    ensures cut { IfSome result (λ at. slice_split is_slash (drop at names.now)
+        ≡ drop wild (slice_split is_slash names.now)) }
+    ensures some { IfSome result (λ at. wild < parts) }
+{
+    if wild >= parts {
+        return None;
+    }
+    names_at(names, wild as usize)
+}
+
+/// Whether to look for where a walk goes on, after so many methods without: each time twice as rarely.
+fn looks(idle: u32) -> bool {
+    idle & idle.saturating_sub(1) == 0
 }
 
 /// Tries the method at this place, and tells where to go on: behind all methods below the first node whose part doesn't
 /// match. What the method has in common with the one before it isn't matched again.
+#[inline(always)]
 fn visit<L: Ledger>(
     methods: &[Registered],
     places: &[u32],
@@ -226,9 +298,11 @@ fn visit<L: Ledger>(
     pattern: &Pattern<'_>,
     outline: Outline,
     found: &[Part<'_>; MAX_NAMES],
+    wild: u32,
+    idle: u32,
     ids: &mut Vec<u32>,
     steps: &mut Steps<L>,
-) -> usize
+) -> (usize, u32)
     requires parts { outline.parts ≡ length (parts_of pattern.now) }
     requires few { outline.parts ≤ MAX_NAMES }
     requires found { AreParts found.now pattern.now }
@@ -236,27 +310,53 @@ fn visit<L: Ledger>(
     requires sorted { IsSorted (methods_at methods.now places.now) }
     requires front { IsFront outline.front.names outline.front.bytes
         (methods_at methods.now places.now) }
+    requires plain { All (λ part. list_any is_special part ≡ false)
+        (drop wild (parts_of pattern.now)) }
     requires at { at < length places.now }
     requires walked { IsWalked pattern.now (methods_at methods.now places.now) at ids.old.items }
     requires room { length places.now ≤ vec_capacity ids.old }
-    ensures on { at < result }
-    ensures walked { IsWalked pattern.now (methods_at methods.now places.now) result ids.new.items }
+    ensures on { at < result.0 }
+    ensures walked { IsWalked pattern.now (methods_at methods.now places.now) result.0 ids.new.items }
     ensures capacity { vec_capacity ids.old ≤ vec_capacity ids.new }
     ensures counted { steps.old ≤ steps.new }
     ensures bounded { steps.new + most_steps pattern.now
         (take at (methods_at methods.now places.now))
-        ≤ steps.old + most_steps pattern.now (take result (methods_at methods.now places.now)) }
+        ≤ steps.old + most_steps pattern.now (take result.0 (methods_at methods.now places.now)) }
 {
     let method = &methods[places[at] as usize];
     let names = names_of(&method.address);
     let known = known_at(methods, places, at, names, outline.front);
-    let (matching, whole) = count_matching(pattern, outline.parts, found, known, names, steps);
+    let (matching, whole, last) = count_matching(
+        pattern,
+        outline.parts,
+        found,
+        known,
+        names,
+        steps,
+    );
     if whole {
         add_id(method.id, ids);
-        return at + 1;
+        if let Some(bytes) = find_past(names, wild, outline.parts) {
+            let text = &method.address.bytes()[..1 + bytes];
+            return (
+                count_before_after(methods, places, at + 1, text, b"\x7f"),
+                0,
+            );
+        }
+        return (at + 1, idle);
+    }
+    if looks(idle)
+        && let Some((bytes, kept, tail)) = find_onward(pattern, outline.parts, matching, names)
+    {
+        let text = &method.address.bytes()[..1 + bytes + kept];
+        return (count_before_after(methods, places, at + 1, text, tail), 0);
+    }
+    if last {
+        return (at + 1, idle.saturating_add(1));
     }
     let least = least_shared(matching, outline.parts) as usize;
-    at + 1 + count_sharing(methods, &places[at + 1..], names, least)
+    let more = count_sharing(methods, &places[at + 1..], names, least);
+    (at + 1 + more, idle.saturating_add(1))
 }
 
 /// The names that the method at this place has in common with the one before it, if any is. All begin with the front.
@@ -283,7 +383,31 @@ fn known_at(methods: &[Registered], places: &[u32], at: usize, names: &[u8], fro
     shared_front(front, names, names_of(&before.address))
 }
 
-/// How many parts match the names at their places, from the first on, and whether these are all parts and all names.
+/// Whether a part matches a name. A star alone does, and takes no step.
+#[inline(always)]
+fn matches_name<L: Ledger>(
+    pattern: &Pattern<'_>,
+    place: u32,
+    part: Part<'_>,
+    name: &[u8],
+    steps: &mut Steps<L>,
+) -> bool
+    requires part { place < length (parts_of pattern.now) }
+    requires found { StandsFor part (part_at pattern.now place) }
+    requires name { length name.now ≤ MAX_NAME }
+    ensures test { result ≡ match_part (part_at pattern.now place) name.now }
+    ensures counted { steps.old ≤ steps.new }
+    ensures bounded { steps.new
+        ≤ steps.old + (length (part_at pattern.now place) + 1) * (length name.now + 1) }
+{
+    if part.is_star() {
+        return true;
+    }
+    pattern.matches_found(place, part, name, steps)
+}
+
+/// How many parts match the names at their places, from the first on, whether these are all parts and all names, and
+/// whether no more than one name stands behind them.
 /// Those that the names are known to begin with match.
 fn count_matching<L: Ledger>(
     pattern: &Pattern<'_>,
@@ -292,7 +416,7 @@ fn count_matching<L: Ledger>(
     known: Front,
     names: &[u8],
     steps: &mut Steps<L>,
-) -> (u32, bool)
+) -> (u32, bool, bool)
     requires parts { parts ≡ length (parts_of pattern.now) }
     requires few { parts ≤ MAX_NAMES }
     requires found { AreParts found.now pattern.now }
@@ -305,6 +429,9 @@ fn count_matching<L: Ledger>(
     ensures count { result.0 ≡ agreeing (parts_of pattern.now) (slice_split is_slash names.now) }
     ensures whole { result.1
         ≡ (result.0 == parts && result.0 == length (slice_split is_slash names.now)) }
+    ensures last { result.2 ≡ true
+        → length (slice_split is_slash names.now) ≤ result.0 + 1 }
+    ensures more { result.2 ≡ true → result.1 ≡ false → result.0 < parts }
     ensures counted { steps.old ≤ steps.new }
     ensures bounded { steps.new
         ≤ steps.old + spent known.names (parts_of pattern.now) (slice_split is_slash names.now) }
@@ -313,16 +440,39 @@ fn count_matching<L: Ledger>(
     let mut rest = &names[known.bytes..];
     while place < parts {
         let (name, more) = first_name(rest);
-        if !pattern.matches_found(place, found[place as usize], name, steps) {
-            return (place, false);
+        if !matches_name(pattern, place, found[place as usize], name, steps) {
+            return (place, false, more.is_none());
         }
         place += 1;
         match more {
             Some(more) => rest = more,
-            None => return (place, place == parts),
+            None => return (place, place == parts, true),
         }
     }
-    (place, false)
+    (place, false, false)
+}
+
+/// Where the walk goes on behind names of which so many match: how many bytes those take, how many more stay, and a text
+/// behind them.
+#[inline(never)]
+fn find_onward<'a>(
+    pattern: &Pattern<'a>,
+    parts: u32,
+    matching: u32,
+    names: &[u8],
+) -> Option<(usize, usize, &'a [u8])>
+    requires parts { parts ≡ length (parts_of pattern.now) }
+    requires low { All (λ byte. byte < 127) names.now }
+    ensures kept { IfSome result (λ on. on.0 + on.1 ≤ length names.now) }
+    ensures on { IfSome result (λ on. IsOnward pattern.now names.now matching on.0
+        (take on.1 (drop on.0 names.now) ++ on.2.now)) }
+{
+    if matching >= parts {
+        return None;
+    }
+    let at = names_at(names, matching as usize)?;
+    let (kept, tail) = find_aim(pattern.part(matching), &names[at..])?;
+    Some((at, kept, tail))
 }
 
 /// How many names are shared by all methods that are passed over with one whose parts match so far.

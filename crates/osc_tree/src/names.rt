@@ -61,6 +61,24 @@ fn first_slash(names: &[u8]) -> Option<usize>
     names.iter().position(|byte| *byte == b'/')
 }
 
+/// Where the names behind so many of them begin, if there are more.
+pub(crate) fn names_at(names: &[u8], count: usize) -> Option<usize>
+    ensures bound { IfSome result (λ at. at ≤ length names.now) }
+    ensures cut { IfSome result (λ at. slice_split is_slash (drop at names.now)
+        ≡ drop count (slice_split is_slash names.now)) }
+{
+    let mut left = count;
+    for at in 0..names.len() {
+        if left == 0 {
+            return Some(at);
+        }
+        if names[at] == b'/' {
+            left -= 1;
+        }
+    }
+    None
+}
+
 /// How many names are the same in both, from the first on.
 pub(crate) fn shared_names(names: &[u8], others: &[u8]) -> usize
     ensures count { result

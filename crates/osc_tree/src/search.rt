@@ -1,5 +1,8 @@
 // Where a text stands in the order of the methods' addresses.
-ghost use Rattle.std.specs.Prelude.{◌≡◌, ◌≤◌, ◌<◌, ◌++◌, length, take, true};
+ghost use Rattle.std.specs.Prelude.{◌≡◌, ◌≤◌, ◌<◌, ◌++◌, length, take, true, All};
+ghost use Rattle.std.specs.Ordering.{is_lt, nat_cmp};
+ghost use Rattle.std.specs.Cmp.Lexicographic.{slice_cmp};
+ghost use Rattle.osc_tree.specs.Matching.{IsAscending};
 ghost use Rattle.osc_tree.specs.Order.{is_before, begins_with, IsOrder, IsSearched, IsNarrowed};
 ghost use Rattle.osc_tree.specs.Views.{method_at, methods_at};
 
@@ -56,7 +59,8 @@ pub(crate) fn count_before_from(
     text: &[u8],
     tail: &[u8],
 ) -> usize
-    requires order { IsOrder methods.now places.now }
+    requires within { All (λ place. place < length methods.now) places.now }
+    requires ascending { IsAscending (methods_at methods.now places.now) }
     requires known { IsSearched (text.now ++ tail.now) (methods_at methods.now places.now)
         from (length places.now) }
     ensures searched { IsSearched (text.now ++ tail.now) (methods_at methods.now places.now)
@@ -89,6 +93,40 @@ pub(crate) fn count_before_from(
     count_between(methods, places, low, last, text, tail)
 }
 
+/// Up to so many methods, a search of all of them takes fewer steps than one that looks further each time.
+const FEW: usize = 2048;
+
+/// The same, where as many may follow as not.
+#[inline(never)]
+pub(crate) fn count_before_after(
+    methods: &[Registered],
+    places: &[u32],
+    from: usize,
+    text: &[u8],
+    tail: &[u8],
+) -> usize
+    requires within { All (λ place. place < length methods.now) places.now }
+    requires ascending { IsAscending (methods_at methods.now places.now) }
+    requires known { IsSearched (text.now ++ tail.now) (methods_at methods.now places.now)
+        from (length places.now) }
+    ensures searched { IsSearched (text.now ++ tail.now) (methods_at methods.now places.now)
+        result result }
+    ensures bound { result ≤ length places.now }
+{
+    if places.len() > FEW {
+        return count_before_from(methods, places, from, text, tail);
+    }
+    let low = End {
+        place: from,
+        begun: 0,
+    };
+    let high = End {
+        place: places.len(),
+        begun: 0,
+    };
+    count_between(methods, places, low, high, text, tail)
+}
+
 /// The same, where all below one place are known to be, and none from another on. It halves what is between the two,
 /// and compares no byte with which the methods at both ends begin.
 fn count_between(
@@ -99,7 +137,8 @@ fn count_between(
     text: &[u8],
     tail: &[u8],
 ) -> usize
-    requires order { IsOrder methods.now places.now }
+    requires within { All (λ place. place < length methods.now) places.now }
+    requires ascending { IsAscending (methods_at methods.now places.now) }
     requires known { IsSearched (text.now ++ tail.now) (methods_at methods.now places.now)
         from.place to.place }
     requires narrowed { IsNarrowed text.now (methods_at methods.now places.now)
@@ -151,7 +190,17 @@ fn compare(methods: &[Registered], place: u32, text: &[u8], tail: &[u8], known: 
         }
     }
     Standing {
-        is_before: end < text.len() || (!tail.is_empty() && address[end..].cmp(tail).is_lt()),
+        is_before: end < text.len() || (!tail.is_empty() && is_rest_before(&address[end..], tail)),
         begun: end,
     }
+}
+
+/// Whether what is left of an address is before a text. Its first byte mostly tells.
+fn is_rest_before(rest: &[u8], text: &[u8]) -> bool
+    ensures { result ≡ is_lt (slice_cmp nat_cmp rest.now text.now) }
+{
+    if !rest.is_empty() && !text.is_empty() && rest[0] != text[0] {
+        return rest[0] < text[0];
+    }
+    rest.cmp(text).is_lt()
 }

@@ -145,6 +145,7 @@ impl Tree {
     /// Steps are counted as in `Pattern::matches_part`. A part is tried at most once for each node, and only for
     /// those that stand right below one whose part matches. To find and to read the parts, once for all methods, and
     /// to search takes none.
+    #[inline(always)]
     pub fn matches<L: Ledger>(&self, pattern: &Pattern<'_>, hits: &mut Hits, steps: &mut Steps<L>)
         requires { self.now.method_limit ≤ hits.old.limit }
         ensures hits { AreHits pattern.now self.now.methods hits.new.ids }

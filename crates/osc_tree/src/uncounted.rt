@@ -16,6 +16,7 @@ impl Tree {
     ghost use Rattle.osc_tree.specs.Matching.{matching, matching_ids};
 
     /// Fills `hits` with the ids of the methods that the pattern matches, as `matches` does.
+    #[inline(always)]
     pub fn find(&self, pattern: &Pattern<'_>, hits: &mut Hits)
         requires { self.now.method_limit ≤ hits.old.limit }
         ensures ids { hits.new.ids ≡ matching_ids pattern.now self.now.methods }
@@ -30,6 +31,7 @@ impl Tree {
     }
 }
 
+#[inline(always)]
 fn find_in<L: Ledger>(tree: &Tree, pattern: &Pattern<'_>, hits: &mut Hits, blank: Blank)
     requires name { blank.name ≡ L.name }
     requires parts { blank.parts ≡ L.parts }

@@ -1,5 +1,5 @@
 use Rattle.std.proofs.Common.{ℕ, ◌++◌, ◌∷◌, [], subst}
-use Rattle.osc_tree.proofs.InOrder.{methods_at-length}
+use Rattle.osc_tree.proofs.InOrder.{methods_at-length, order_ascends}
 use Rattle.osc_tree.proofs.Ranges.{searched_longer}
 use Rattle.osc_tree.specs.Order.{IsSearched}
 use Rattle.osc_tree.proofs.Beginnings.{ends_of, ends_in_order, places_between}
@@ -31,3 +31,6 @@ returns-clause-those c =
     places_between c.args.text.now c.args.methods.now c.args.places.now c.count_before-first.result c.count_before_from-end.result
     (ends_of c.args.text.now c.args.methods.now c.args.places.now c.count_before-first.result c.count_before_from-end.result c.requires.list c.requires.order
     c.count_before-first.ensures.searched c.count_before_from-end.ensures.searched)
+
+pub count_before_from-end-requires-clause-ascending : goal.count_before_from-end-requires-clause-ascending
+count_before_from-end-requires-clause-ascending c = order_ascends c.args.methods.now c.args.places.now c.requires.order

@@ -11,6 +11,8 @@ use Rattle.osc_tree.specs.Walking.{agreeing, spent}
 use Rattle.osc_tree.proofs.Alike.{agree_here, spent_here, agree_from, spent_from, tried, agreeing_parts, agreeing_names, none_left, first_piece_is}
 use Rattle.osc_tree.proofs.Fronts.{names_behind}
 use Rattle.osc_tree.proofs.Walks.{whole_parts, whole_names, whole_ends}
+use Rattle.std.specs.Prelude.{is_none}
+use Rattle.osc_tree.proofs.Advances.{one_left}
 use Rattle.osc_tree.proofs.matching.count_matching.Goals as goal
 
 pub overflow_cast-place : goal.overflow_cast-place
@@ -36,17 +38,17 @@ loop-place-init g c =
       bounded = omega (arith, spent_from known parts (slice_split is_slash names), ap (spent 0 (drop known parts)) behind);
     }
 
-pub matches_found-requires-clause-name : goal.matches_found-requires-clause-name
-matches_found-requires-clause-name g c =
+pub matches_name-requires-clause-name : goal.matches_name-requires-clause-name
+matches_name-requires-clause-name g c =
     let cut = first_piece_is c.loop-place.rest.now c.first_name.result.0.now c.first_name.result.1 c.first_name.ensures.names in
     All-head (λ name. length name ≤ MAX_NAME) c.first_name.result.0.now cut.0
     (subst (All (λ name. length name ≤ MAX_NAME)) cut.1 c.loop-place.invariant.short)
 
-pub matches_found-requires-clause-found : goal.matches_found-requires-clause-found
-matches_found-requires-clause-found g c = c.requires.found c.loop-place.place _ (omega (arith, c.requires.parts))
+pub matches_name-requires-clause-found : goal.matches_name-requires-clause-found
+matches_name-requires-clause-found g c = c.requires.found c.loop-place.place _ (omega (arith, c.requires.parts))
 
-pub returns-then-not-matches_found-clause-count : goal.returns-then-not-matches_found-clause-count
-returns-then-not-matches_found-clause-count g c =
+pub returns-then-not-matches_name-clause-count : goal.returns-then-not-matches_name-clause-count
+returns-then-not-matches_name-clause-count g c =
     let pattern = c.args.pattern.now in
     let place = c.loop-place.place in
     let within : place < length (parts_of pattern) = omega (arith, c.requires.parts) in
@@ -57,8 +59,8 @@ returns-then-not-matches_found-clause-count g c =
     ∙ ap (λ t. cond t (agreeing (drop (place + 1) (parts_of pattern)) cut.0 + 1) 0) no in
     omega (arith, c.loop-place.invariant.count)
 
-pub returns-then-not-matches_found-clause-bounded : goal.returns-then-not-matches_found-clause-bounded
-returns-then-not-matches_found-clause-bounded g c =
+pub returns-then-not-matches_name-clause-bounded : goal.returns-then-not-matches_name-clause-bounded
+returns-then-not-matches_name-clause-bounded g c =
     let pattern = c.args.pattern.now in
     let place = c.loop-place.place in
     let within : place < length (parts_of pattern) = omega (arith, c.requires.parts) in
@@ -66,7 +68,7 @@ returns-then-not-matches_found-clause-bounded g c =
     let here = spent_here pattern place 0 (slice_split is_slash c.loop-place.rest.now) c.first_name.result.0.now cut.0 within cut.1 in
     let most = tried (part_at pattern place) c.first_name.result.0.now (All-head (λ name. length name ≤ MAX_NAME) c.first_name.result.0.now _
     (subst (All (λ name. length name ≤ MAX_NAME)) cut.1 c.loop-place.invariant.short)) in
-    omega (arith, c.loop-place.invariant.bounded, c.matches_found.ensures.bounded)
+    omega (arith, c.loop-place.invariant.bounded, c.matches_name.ensures.bounded)
 
 pub loop-place-preserved : goal.loop-place-preserved
 loop-place-preserved g c =
@@ -90,8 +92,8 @@ loop-place-preserved g c =
           (subst (All (λ name. length name ≤ MAX_NAME)) cut c.loop-place.invariant.short);
       count = omega (arith, c.loop-place.invariant.count);
       names = omega (arith, c.loop-place.invariant.names, ap length cut);
-      counted = omega (arith, c.loop-place.invariant.counted, c.matches_found.ensures.counted);
-      bounded = omega (arith, c.loop-place.invariant.bounded, c.matches_found.ensures.bounded);
+      counted = omega (arith, c.loop-place.invariant.counted, c.matches_name.ensures.counted);
+      bounded = omega (arith, c.loop-place.invariant.bounded, c.matches_name.ensures.bounded);
     }
 
 pub returns-in-None-clause-count : goal.returns-in-None-clause-count
@@ -115,10 +117,10 @@ returns-in-None-clause-bounded g c =
     let cost = spent_here pattern place 0 (slice_split is_slash c.loop-place.rest.now) c.first_name.result.0.now [] within cut in
     let most = tried (part_at pattern place) c.first_name.result.0.now (All-head (λ name. length name ≤ MAX_NAME) c.first_name.result.0.now []
     (subst (All (λ name. length name ≤ MAX_NAME)) cut c.loop-place.invariant.short)) in
-    omega (arith, c.loop-place.invariant.bounded, c.matches_found.ensures.bounded)
+    omega (arith, c.loop-place.invariant.bounded, c.matches_name.ensures.bounded)
 
-pub returns-then-not-matches_found-clause-whole : goal.returns-then-not-matches_found-clause-whole
-returns-then-not-matches_found-clause-whole g c =
+pub returns-then-not-matches_name-clause-whole : goal.returns-then-not-matches_name-clause-whole
+returns-then-not-matches_name-clause-whole g c =
     whole_parts c.loop-place.place c.args.parts (length (slice_split is_slash c.args.names.now)) (omega arith)
 
 pub returns-in-None-clause-whole : goal.returns-in-None-clause-whole
@@ -131,3 +133,9 @@ pub returns-clause-whole : goal.returns-clause-whole
 returns-clause-whole g c =
     whole_names c.loop-place.place c.args.parts (length (slice_split is_slash c.args.names.now))
     (omega (arith, c.loop-place.invariant.names, length-slice_split is_slash c.loop-place.rest.now))
+
+pub returns-then-not-matches_name-clause-last : goal.returns-then-not-matches_name-clause-last
+returns-then-not-matches_name-clause-last g c =
+    λ last. (let none : is_none c.first_name.result.1 ≡ true = search rules in
+    let one = one_left c.loop-place.rest.now c.first_name.result.0.now c.first_name.result.1 none c.first_name.ensures.names in
+    omega (arith, c.loop-place.invariant.names))

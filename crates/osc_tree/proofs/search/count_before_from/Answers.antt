@@ -2,7 +2,7 @@ use Rattle.std.proofs.Common.{◌≡◌, ◌+◌, ◌-◌, ◌++◌, true, false
 use Rattle.osc_tree.specs.Order.{is_before, begins_with}
 use Rattle.osc_tree.specs.Views.{method_at, methods_at}
 use Rattle.osc_tree.proofs.Ranges.{searched_up, searched_down}
-use Rattle.osc_tree.proofs.InOrder.{order_ascends, methods_at-get, methods_at-length}
+use Rattle.osc_tree.proofs.InOrder.{methods_at-get, methods_at-length}
 use Rattle.osc_tree.proofs.Narrowed.{is_so, is_not, narrowed_up}
 use Rattle.osc_tree.proofs.search.count_before_from.Goals as goal
 
@@ -21,7 +21,7 @@ loop-low-preserved c =
     record {
       on = omega arith;
       known = searched_up text (methods_at methods places) c.loop-low.low.place (length places) next
-          d (order_ascends methods places c.requires.order) c.loop-low.invariant.known (omega arith) here;
+          d c.requires.ascending c.loop-low.invariant.known (omega arith) here;
       narrowed = narrowed_up c.args.text.now (methods_at methods places) c.loop-low.low.place (length places) c.loop-low.low.begun 0
           next c.compare-found.result.begun d c.loop-low.invariant.narrowed (omega arith) c.compare-found.ensures.bound
           (ap (begins_with (take c.compare-found.result.begun c.args.text.now)) is ∙ c.compare-found.ensures.begun);
@@ -36,4 +36,4 @@ count_between-requires-clause-known c =
     let here : is_before text (get_or (methods_at methods places) next (method_at methods 0)) ≡ false =
     ap (is_before text) (methods_at-get methods places next (method_at methods 0) (omega arith)) ∙ sym c.compare-found.ensures.before ∙ is_not c.compare-found.result.is_before c.if-not-found.true in
     searched_down text (methods_at methods places) c.loop-low.low.place (length places) next
-    (method_at methods 0) (order_ascends methods places c.requires.order) c.loop-low.invariant.known (omega arith) (omega arith) here
+    (method_at methods 0) c.requires.ascending c.loop-low.invariant.known (omega arith) (omega arith) here

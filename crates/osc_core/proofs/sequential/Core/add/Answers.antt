@@ -17,6 +17,7 @@ invariant_of-self g c =
     let ids = c.keep_box.ensures.ids ∙ ap (λ (l : List ℕ). l ++ id ∷ []) old.alike in
     let ascending = subst (λ (l : List ℕ). is_ascending l ≡ true) old.alike old.ascending in
     record {
+      room = c.args.self.now.room;
       alike = ids ∙ sym c.in-Ok.ensures.ids;
       ascending = subst (λ (l : List ℕ). is_ascending l ≡ true) (sym ids)
           (ascending_pushed (map (λ method. method.id) methods) id ascending (ids_below methods id c.in-Ok.ensures.new));
@@ -34,6 +35,7 @@ invariant_of-self-in-Err-1 g c =
     let next = onward old.performance c.args.caller (add c.args.address) in
     let refused = subst IsRefusal (sym c.in-Err.ensures.refused) (refusals_refuse _) in
     record {
+      room = c.args.self.now.room;
       alike = still_alike old.performance c.add.new.self next _ c.add.ensures.performance
           (c.boxes_stay.ensures.refused_methods old.performance c.args.caller (add c.args.address) refused) old.alike;
       ascending = old.ascending;

@@ -10,6 +10,7 @@ invariant_of-self g c =
     let old = c.args.self.now in
     let next = onward old.performance c.args.caller enrol in
     record {
+      room = c.args.self.now.room;
       alike = still_alike old.performance c.enrol.new.self next _ c.enrol.ensures.performance
           (c.boxes_stay.ensures.quiet_methods old.performance c.args.caller enrol tt) old.alike;
       ascending = old.ascending;

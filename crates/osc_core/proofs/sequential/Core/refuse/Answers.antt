@@ -12,6 +12,7 @@ invariant_of-self g c =
     let next = onward old.performance c.args.caller event in
     let refused = subst IsRefusal c.requires.answer c.requires.refusal in
     record {
+      room = c.args.self.now.room;
       alike = still_alike old.performance c.refuse.new.self next _ c.refuse.ensures.performance
           (c.boxes_stay.ensures.refused_methods old.performance c.args.caller event refused) old.alike;
       ascending = old.ascending;

@@ -15,6 +15,7 @@ invariant_of-self g c =
     let id = c.in-Removed.id in
     let event = remove c.args.address.now in
     record {
+      room = c.args.self.now.room;
       alike = c.hand_out.ensures.ids ∙ ap (without id) old.alike ∙ sym c.in-Removed.ensures.others;
       ascending = subst (λ (l : List ℕ). is_ascending l ≡ true) (sym c.hand_out.ensures.ids)
           (ascending_without id (map (λ one. one.0) old.boxes.items) old.ascending);
@@ -32,6 +33,7 @@ invariant_of-self-in-NotThere g c =
     let next = onward old.performance c.args.caller event in
     let refused = subst IsRefusal c.in-NotThere.ensures.answer tt in
     record {
+      room = c.args.self.now.room;
       alike = still_alike old.performance c.remove.new.self next _ c.remove.ensures.performance
           (c.boxes_stay.ensures.refused_methods old.performance c.args.caller event refused) old.alike;
       ascending = old.ascending;

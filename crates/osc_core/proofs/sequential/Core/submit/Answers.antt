@@ -10,6 +10,7 @@ invariant_of-self g c =
     let old = c.args.self.now in
     let next = onward old.performance c.args.caller (submit c.args.packet.now) in
     record {
+      room = c.args.self.now.room;
       alike = still_alike old.performance c.submit.new.self next _ c.submit.ensures.performance
           (c.boxes_stay.ensures.quiet_methods old.performance c.args.caller (submit c.args.packet.now) tt) old.alike;
       ascending = old.ascending;

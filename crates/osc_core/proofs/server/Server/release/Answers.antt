@@ -53,7 +53,7 @@ returns-in-Ok-clause-answer g c =
     let calls = calls_from s.tree.methods 0 (unit_in s.store c.in-Some.stored.now).messages in
     let item = is_item (the_view s) s.store s.queue.items c.in-Some.due unit s.next_unit c.in-Some.stored.now refl c.self.invariant.units
     c.in-Some.ensures.head (omega (arith, c.if-due-self.false)) in
-    let kept = c.new-messages.ensures.value ∙ ap messages_in c.deref.ensures.value ∙ c.read.ensures.messages in
+    let kept = c.new-read.ensures.value ∙ ap messages_in c.as_slice.ensures.value ∙ c.read.ensures.messages in
     let begun = with_release c.args.recorder.now c.args.caller unit c.in-Ok.calls in
     let invocations = ap (λ (state : State). (decided state release).invocations) (sym c.self.view_is) ∙ item.invocations_are in
     record {
@@ -74,7 +74,7 @@ returns-in-Ok-clause-boxes g c =
     let item = is_item (the_view s) s.store s.queue.items c.in-Some.due unit s.next_unit c.in-Some.stored.now refl c.self.invariant.units
     c.in-Some.ensures.head (omega (arith, c.if-due-self.false)) in
     let invocations = ap (λ (state : State). (decided state release).invocations) (sym c.self.view_is) ∙ item.invocations_are in
-    let kept = c.new-messages.ensures.value ∙ ap messages_in c.deref.ensures.value ∙ c.read.ensures.messages in
+    let kept = c.new-read.ensures.value ∙ ap messages_in c.as_slice.ensures.value ∙ c.read.ensures.messages in
     hear_same _ _ _ _ c.in-Ok.ensures.boxes
     (ap (λ (l : List (List ℕ)). invocations_of unit (calls_from s.tree.methods 0 l)) kept ∙ sym invocations)
 
@@ -85,8 +85,8 @@ returns-in-Err-clause-answer g c =
     let calls = calls_from s.tree.methods 0 (unit_in s.store c.in-Some.stored.now).messages in
     let item = is_item (the_view s) s.store s.queue.items c.in-Some.due unit s.next_unit c.in-Some.stored.now refl c.self.invariant.units
     c.in-Some.ensures.head (omega (arith, c.if-due-self.false)) in
-    let kept = c.new-messages.ensures.value ∙ ap messages_in c.deref.ensures.value ∙ c.read.ensures.messages in
-    let many : length (calls_from s.tree.methods 0 c.new-messages.result) ≡ length (hits_of calls) =
+    let kept = c.new-read.ensures.value ∙ ap messages_in c.as_slice.ensures.value ∙ c.read.ensures.messages in
+    let many : length (calls_from s.tree.methods 0 c.new-read.result) ≡ length (hits_of calls) =
     ap (λ (l : List (List ℕ)). length (calls_from s.tree.methods 0 l)) kept ∙ sym (length-hits_of calls) in
     record {
       unit = unit;
@@ -99,3 +99,16 @@ returns-in-Err-clause-answer g c =
 
 pub returns-in-Err-clause-boxes : goal.returns-in-Err-clause-boxes
 returns-in-Err-clause-boxes g c = rw c.in-Err.ensures.silent (hears_nothing _ _ refl)
+
+pub returns-in-Ok-clause-messages : goal.returns-in-Ok-clause-messages
+returns-in-Ok-clause-messages g c =
+    let s = c.self.inside in
+    let unit = c.in-Some.unit in
+    let item = is_item (the_view s) s.store s.queue.items c.in-Some.due unit s.next_unit c.in-Some.stored.now refl c.self.invariant.units
+    c.in-Some.ensures.head (omega (arith, c.if-due-self.false)) in
+    ap (λ (state : State). (decided state release).invocations) (sym c.self.view_is) ∙ item.invocations_are
+    ∙ ap (λ (l : List (List ℕ)). invocations_of unit (calls_from s.tree.methods 0 l)) (sym c.read.ensures.messages)
+    ∙ ap (λ (state : State). invocations_of unit (calls_from state.methods 0 (messages_in c.read.new.bytes.items))) c.self.view_is
+
+pub returns-in-Ok-clause-framed : goal.returns-in-Ok-clause-framed
+returns-in-Ok-clause-framed g c = c.read.ensures.framed
