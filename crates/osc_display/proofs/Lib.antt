@@ -1,4 +1,2 @@
-mod Listed
-mod Finished
-mod Heard
-mod Same
+-- Inside the crate.
+pub mod Looking

@@ -1,4 +1,2 @@
 -- What public contracts cite.
 pub mod Displays
--- Inside the crate.
-pub mod Boards

@@ -2,10 +2,9 @@
 //! and again; behind them it lists the methods that stand after all of it.
 #![tactic(auto)]
 
-mod beside;
-mod closing;
-mod looking;
+mod display;
 mod run;
+mod watch;
 
-pub use beside::WATCHER_LANE;
+pub use display::WATCHER_LANE;
 pub use run::{Displayed, display_lanes};

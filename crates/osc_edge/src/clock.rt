@@ -1,5 +1,5 @@
 // A clock that gives moments.
-ghost use Rattle.std.specs.Prelude.{ℕ, List, Option};
+ghost use Rattle.std.specs.Prelude.{◌≡◌, ℕ, List, Option};
 ghost use Rattle.osc_edge.specs.Clock.{GivesMoment, HasMoments, HasClockCause};
 
 /// What a call of a clock answers.
@@ -24,4 +24,11 @@ pub trait Clock {
         ensures moments { GivesMoment (left self.old) (left self.new) result }
         ensures some { HasMoments (left self.new) }
         ensures cause { HasClockCause (faults self.old) (faults self.new) result };
+
+    /// Tells that nothing is to be done before the moment `next`, or before something new comes: the clock may wait
+    /// until then. A clock that waits at each `now` need not.
+    fn until(&mut self, _next: Option<u64>)
+        ensures same { left self.new ≡ left self.old }
+        ensures steady { faults self.new ≡ faults self.old }
+    {}
 }

@@ -39,6 +39,6 @@ pub use sink::{Put, Sink};
 pub use source::{Source, Taken};
 pub use standard::{StdSink, StdSource};
 pub use steady::{SteadySink, SteadySource};
-pub use system_clock::SystemClock;
+pub use system_clock::{SystemClock, system_moment};
 pub use tcp_source::TcpSource;
 pub use udp_link::UdpLink;

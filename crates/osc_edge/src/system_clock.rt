@@ -29,12 +29,13 @@ impl SystemClock {
     {
         SystemClock { rt: *rt, faults: 0 }
     }
+}
 
-    /// The time since 1970.
-    fn since_1970(&self) -> Option<Duration> {
-        let now = SystemTime::now(&self.rt).ok()?;
-        now.duration_since(UNIX_EPOCH).ok()
-    }
+/// The moment that the system's clock tells: none for every error of the system, and where the seconds since 1900 aren't
+/// 32 bits.
+pub fn system_moment(rt: &HostRuntime) -> Option<u64> {
+    let now = SystemTime::now(rt).ok()?;
+    time_tag_of(now.duration_since(UNIX_EPOCH).ok()?)
 }
 
 impl Clock for SystemClock {
@@ -44,7 +45,7 @@ impl Clock for SystemClock {
 
     fn now(&mut self) -> Moment {
         thread::sleep(&self.rt, Duration::from_millis(SLEEP));
-        match self.since_1970().and_then(time_tag_of) {
+        match system_moment(&self.rt) {
             Some(moment) => Moment::At(moment),
             None => {
                 self.faults = self.faults.saturating_add(1);

@@ -14,8 +14,9 @@ use Rattle.osc_live.specs.declared.caller.Caller.{Caller}
 use Rattle.osc_live.specs.Calls.{Calls, EndsWith, AddsNone}
 use Rattle.osc_live.specs.declared.pumped.Pumped.{Pumped}
 use Rattle.osc_live.specs.Pumps.{Releases as Released, Pumps, end_of}
-use Rattle.osc_lanes.specs.Shares.{Holder, Onward, EntersOne, Answered, Releases}
-use Rattle.osc_lanes.specs.Ends.{seen_by, holder_of}
+use Rattle.osc_life.specs.Holders.{Holder, Onward}
+use Rattle.osc_lanes.specs.Shares.{EntersOne, Answered, Releases}
+use Rattle.osc_life.specs.Holders.{seen_by, holder_of}
 
 -- what was seen has one entry less, where one was added
 shorter : (n : ℕ) (one : Seen) (before seen past : List Seen) → seen ≡ before ++ one ∷ [] → StartsWith seen past

@@ -7,7 +7,8 @@ use Rattle.osc_record.specs.Shown.{room_of}
 use Rattle.osc_script.specs.declared.act.Act.{Act}
 use Rattle.osc_script.specs.declared.line.Line.{Line}
 use Rattle.osc_turn.specs.declared.view.Entry.{Entry as Seen}
-use Rattle.osc_lanes.specs.Shares.{Holder, Account, then_told, ended, Plays}
+use Rattle.osc_life.specs.Holders.{Holder}
+use Rattle.osc_lanes.specs.Shares.{Account, then_told, ended, Plays}
 use Rattle.osc_lanes.specs.Tells.{TellsAct, TellsLines}
 
 module _ {M : Type 0} where

@@ -22,9 +22,12 @@ use Rattle.osc_turn.specs.declared.view.Entry.{Entry as Seen}
 use Rattle.osc_turn.specs.History.{texts, entry, own}
 use Rattle.osc_turn.proofs.Histories.{own_append, own_of_mine}
 use Rattle.osc_live.specs.Seen.{performance_in}
-use Rattle.osc_lanes.specs.Shares.{Holder, Answered, EntersOne, Releases, Account, then_told, ended, id_in, PlaysAct, Plays, LaneOf}
-use Rattle.osc_lanes.specs.Performs.{Part, Numbered, removed_ids}
-use Rattle.osc_lanes.proofs.Balance.{gone_ids, unchanged}
+use Rattle.osc_life.specs.Holders.{Holder}
+use Rattle.osc_life.specs.Lives.{id_in}
+use Rattle.osc_lanes.specs.Shares.{Answered, EntersOne, Releases, Account, then_told, ended, PlaysAct, Plays, LaneOf}
+use Rattle.osc_life.specs.Lives.{Numbered}
+use Rattle.osc_lanes.specs.Performs.{Part, removed_ids}
+use Rattle.osc_life.proofs.Balance.{gone_ids, unchanged}
 use Rattle.osc_lanes.proofs.Parting.{given_by, given_in}
 
 -- the id of the method that an entry removes, if one is

@@ -17,7 +17,8 @@ use Rattle.osc_turn.specs.declared.view.Entry.{Entry as Seen}
 use Rattle.osc_turn.specs.History.{StartsWith, texts, entry, own}
 use Rattle.osc_turn.proofs.Histories.{own_append, own_of_mine}
 use Rattle.osc_live.specs.Seen.{performance_in}
-use Rattle.osc_lanes.specs.Shares.{Holder, Account, EntersOne, Answered, Releases, then_told, ended, PlaysAct, Plays, LaneOf}
+use Rattle.osc_life.specs.Holders.{Holder}
+use Rattle.osc_lanes.specs.Shares.{Account, EntersOne, Answered, Releases, then_told, ended, PlaysAct, Plays, LaneOf}
 use Rattle.osc_lanes.proofs.Weights.{weighs, weighed}
 
 -- an answer that tells a stop is that the recording is full, and adds no entry

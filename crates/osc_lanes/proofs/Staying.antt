@@ -28,7 +28,9 @@ use Rattle.osc_turn.specs.History.{StartsWith, texts, entry}
 use Rattle.osc_turn.proofs.Histories.{starts_here, starts_on, starts_texts}
 use Rattle.osc_live.proofs.Answered.{texts_more}
 use Rattle.osc_live.proofs.Asks.{history_starts}
-use Rattle.osc_lanes.specs.Shares.{Holder, Answered, EntersOne, Releases, Account, then_told, ended, id_in, known_of, IsRemovedAt, PlaysAct, Plays}
+use Rattle.osc_life.specs.Holders.{Holder}
+use Rattle.osc_life.specs.Lives.{id_in}
+use Rattle.osc_lanes.specs.Shares.{Answered, EntersOne, Releases, Account, then_told, ended, known_of, IsRemovedAt, PlaysAct, Plays}
 
 -- no invocation of an id stands after its method was removed
 abbrev pub StaySilent : Type 0

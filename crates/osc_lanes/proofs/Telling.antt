@@ -23,7 +23,9 @@ use Rattle.osc_live.specs.declared.pumped.PumpEnd.{PumpEnd}
 use Rattle.osc_live.specs.declared.pumped.PumpEnd.TheVariants as pumped
 use Rattle.osc_live.specs.Pumps.{end_of}
 use Rattle.osc_live.specs.Seen.{performance_in}
-use Rattle.osc_lanes.specs.Shares.{Holder, Answered, Releases, EndsPump, Account, ended, id_in, back_by, known_of, IsMarkedBy, IsRemovedAt}
+use Rattle.osc_life.specs.Holders.{Holder}
+use Rattle.osc_life.specs.Lives.{id_in}
+use Rattle.osc_lanes.specs.Shares.{Answered, Releases, EndsPump, Account, ended, back_by, known_of, IsMarkedBy, IsRemovedAt}
 use Rattle.osc_lanes.specs.Tells.{TellsAct}
 
 module _ {M : Type 0} where

@@ -19,10 +19,13 @@ use Rattle.osc_turn.proofs.Histories.{starts_here}
 use Rattle.osc_live.specs.Seen.{performance_in}
 use Rattle.osc_script.specs.Adds.{adds_of, count_adds}
 use Rattle.osc_lanes.specs.Shares.{Account, LaneOf}
-use Rattle.osc_lanes.specs.Performs.{Part, IsStage, Numbered, Performs, holder_at}
+use Rattle.osc_life.specs.Holders.{holder_at}
+use Rattle.osc_life.specs.Lives.{Numbered}
+use Rattle.osc_lanes.specs.Performs.{Part, IsStage, Performs}
 use Rattle.osc_script.specs.Enough.{event_size, act_size, act_units, act_messages}
 use Rattle.osc_lanes.specs.Enough.{all_lines, enough_for}
 use Rattle.osc_script.proofs.Costs.{units_cost, units_cost_is, event_cost, more_methods, spent, full_takes}
+use Rattle.osc_lanes.proofs.Performing.{shares_behind}
 use Rattle.osc_lanes.proofs.Spending.{Covers, FillsIn, SpendsIn, lane_spends}
 use Rattle.osc_lanes.proofs.Weights.{weighed, weighed_in, weighed_read, weighed_starts, enrolments_weigh, all_weigh}
 
@@ -184,8 +187,11 @@ module _ {M : Type 0} (keep : M → ℕ) (heard : M → Option (List ℕ)) (caps
 pub never_stops : {M : Type 0} (keep : M → ℕ) (heard : M → Option (List ℕ)) (caps : Limits) (parts : List (Part M)) (recording : List ℕ)
     (kept : List (ℕ × M)) (accounts : List (Account M)) (unenrolled : Option Room) → Performs keep heard caps parts recording kept accounts unenrolled
     → enough_for parts ≤ caps.recording → (unenrolled ≡ None) × All (λ account. account.stop ≡ None) accounts
-never_stops keep heard caps parts recording kept accounts None performs enough =
-    (refl, stops_none keep heard caps performs.history parts performs.callers performs.stage enough accounts performs.shares.0 performs.shares.1)
+never_stops keep heard caps parts recording kept accounts None performs enough = (
+  refl,
+  stops_none keep heard caps performs.history parts performs.callers performs.stage enough accounts performs.shares.0
+      (shares_behind keep heard caps (own 0 performs.history) performs.history 1 parts accounts performs.shares.1),
+)
 never_stops keep heard caps parts recording kept accounts (Some room) performs enough =
     absurd (enrols_all keep heard caps performs.history parts performs.callers performs.stage enough room performs.shares.0 performs.shares.1.1
     performs.shares.1.0)

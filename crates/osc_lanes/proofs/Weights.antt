@@ -9,7 +9,7 @@ use Rattle.osc_model.specs.Events.{Event, Entry, enrol, number}
 use Rattle.osc_core.specs.Standing.{history_in}
 use Rattle.osc_turn.specs.declared.view.Entry.{Entry as Seen}
 use Rattle.osc_turn.specs.History.{StartsWith, texts, own}
-use Rattle.osc_lanes.specs.Performs.{enrolments}
+use Rattle.osc_life.specs.Crews.{enrolments}
 use Rattle.osc_script.proofs.Costs.{spent}
 use Rattle.osc_lanes.proofs.Parting.{given_by, given_in, parted}
 

@@ -1,24 +1,14 @@
 -- What a lane's end has to do with its plan.
 use Rattle.std.specs.Prelude.{◌≡◌, ℕ, List, [], Option}
 use Rattle.osc_model.specs.Limits.{Limits}
-use Rattle.osc_turn.specs.declared.view.Entry.{Entry as Seen}
 use Rattle.osc_turn.specs.History.{own}
 use Rattle.osc_turn.specs.Rule.{number_of}
 use Rattle.osc_turn.specs.Passes.{view}
-use Rattle.osc_live.specs.declared.caller.Caller.{Caller}
 use Rattle.osc_lanes.specs.declared.plan.LanePlan.{LanePlan}
 use Rattle.osc_lanes.specs.declared.plan.LaneEnd.{LaneEnd}
 use Rattle.osc_lanes.specs.Performs.{part_of, told_of, IsWhole}
-use Rattle.osc_lanes.specs.Shares.{Holder, Plays}
-
--- what the caller's token has seen
-abbrev pub seen_by : Caller → List Seen
-seen_by caller = (view caller.pass).seen
-
--- a caller of a server with these limits, as the holder of its token
-abbrev pub holder_of : Limits → Caller → Holder
-holder_of caps caller =
-    record { caps = caps; token = number_of (view caller.pass); caller = caller.number }
+use Rattle.osc_life.specs.Holders.{seen_by, holder_of}
+use Rattle.osc_lanes.specs.Shares.{Plays}
 
 module _ {M : Type 0} where
   -- there is a box for each line that adds a method, and the token has no entries yet

@@ -1,13 +1,13 @@
 -- What a performance of lanes comes to: one history, and each lane's share of it.
-use Rattle.std.specs.Prelude.{◌≡◌, ℕ, zero, suc, ◌+◌, ◌<◌, ◌≤◌, true, IsTrue, List, [], ◌∷◌, ◌++◌}
+use Rattle.std.specs.Prelude.{◌≡◌, ℕ, ◌<◌, ◌≤◌, true, IsTrue, List, [], ◌++◌}
 use Rattle.std.specs.Prelude.{length, map, All, Option, None, MatchOption}
 use Rattle.std.specs.List.{AllByRecursion, flat_map}
 use Rattle.std.specs.List.Sorted.{IsPermutation}
 use Rattle.std.specs.Option.{option_map}
 use Rattle.osc_model.specs.Limits.{Limits}
-use Rattle.osc_model.specs.Events.{Answer, Entry, Room, enrol, number, added, record_full}
+use Rattle.osc_model.specs.Events.{Entry, Room}
 use Rattle.osc_model.specs.Recordings.{record_text}
-use Rattle.osc_model.specs.History.{Legal, HaveHeard, stepped_in}
+use Rattle.osc_model.specs.History.{Legal, HaveHeard}
 use Rattle.osc_laws.specs.Laws.{KeepsTheLaws}
 use Rattle.osc_record.specs.Shown.{room_of}
 use Rattle.osc_core.specs.Ids.{is_ascending}
@@ -20,26 +20,10 @@ use Rattle.osc_live.specs.Seen.{performance_in, names}
 use Rattle.osc_lanes.specs.declared.part.LanePart.{LanePart}
 use Rattle.osc_lanes.specs.declared.part.LaneTold.{LaneTold}
 use Rattle.osc_script.specs.Adds.{count_adds}
-use Rattle.osc_lanes.specs.Shares.{Holder, Account, LaneOf, IsRemovedAt, ended}
-
--- the id of a method that was added, if one was
-abbrev pub added_id : Answer → List ℕ
-added_id (added id) = id ∷ []
-added_id _ = []
-
--- the ids of the methods that a history adds, in order
-abbrev pub added_ids : List Entry → List ℕ
-added_ids entries = flat_map (λ entry. added_id entry.answer) entries
-
--- caller 0 enrols the callers from this number on, so many
-abbrev pub enrolments : ℕ → ℕ → List Entry
-enrolments first zero = []
-enrolments first (suc count) =
-    record { caller = 0; event = enrol; answer = number first } ∷ enrolments (first + 1) count
-
--- the caller with this number, whose token has the same number
-abbrev pub holder_at : Limits → ℕ → Holder
-holder_at caps caller = record { caps = caps; token = caller; caller = caller }
+use Rattle.osc_life.specs.Crews.{enrolments}
+use Rattle.osc_life.specs.Holders.{holder_at}
+use Rattle.osc_life.specs.Lives.{Numbered, HasNoRoomToEnrol, added_ids}
+use Rattle.osc_lanes.specs.Shares.{Account, LaneBehind, IsRemovedAt, ended}
 
 -- The history of a server with these limits, on which caller 0 has these first entries, then
 -- enrolled so many callers, and did nothing else. It is legal, keeps the four laws, and begins with
@@ -52,20 +36,6 @@ pub record IsStage (caps : Limits) (first : List Entry) (callers : ℕ)
   pub enrolled : history_in (texts (own 0 history)) ≡ first ++ enrolments 1 callers
   pub named : All (λ one. names one.number one ≡ true) history
   pub within : All (λ one. one.number ≤ callers) history
-
--- there was no room for an enrolment behind this history, which is caller 0's alone
-abbrev pub HasNoRoomToEnrol : Limits → List Seen → Room → Type 0
-HasNoRoomToEnrol caps history room =
-    (record_full room ≡ (stepped_in (performance_in caps (texts history)) enrol).answer)
-    × (own 0 history ≡ history)
-
--- Each item of one list has this relation to the item in its place of the other, where the first
--- items have this number.
-abbrev pub Numbered : {X Y : Type 0} → (ℕ → X → Y → Type 0) → ℕ → List X → List Y → Type 0
-Numbered relation first [] [] = Unit {0}
-Numbered relation first (x ∷ xs) (y ∷ ys) =
-    relation first x y × Numbered relation (first + 1) xs ys
-Numbered relation first _ _ = ⊥
 
 -- a lane's lines, and a box for each of them that adds a method
 pub record Part (M : Type 0) : Type 0 where
@@ -93,13 +63,14 @@ module _ {M : Type 0} where
   abbrev pub removed_ids : List (Account M) → List ℕ
   removed_ids accounts = flat_map (λ account. map (λ one. one.0) account.removed) accounts
 
-  -- the k-th lane was played by caller k, and nothing else was done under its token
+  -- the k-th lane was played by caller k, behind caller 0's entries, and nothing else was done
+  -- under its token
   abbrev pub AreShares : (M → ℕ) → (M → Option (List ℕ)) → Limits → List Seen → List (Part M)
       → List (Account M) → Type 0
   AreShares keep heard caps history parts accounts =
       Numbered
-      (λ number part account. LaneOf keep heard (holder_at caps number) part.lines part.boxes
-      account history) 1 parts accounts
+      (λ number part account. LaneBehind keep heard (holder_at caps number) part.lines part.boxes
+      account (own 0 history) history) 1 parts accounts
 
   -- The history is recorded. The ids that it adds are those of the boxes that are kept and of those
   -- that were removed, each once; and these boxes have heard the history, each with the mark of its

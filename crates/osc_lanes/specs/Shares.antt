@@ -7,7 +7,7 @@ use Rattle.osc_packet.specs.declared.limits.TheConstants.{MAX_PACKET}
 use Rattle.osc_packet.specs.Reading.{packet_fault}
 use Rattle.osc_model.specs.Limits.{Limits}
 use Rattle.osc_model.specs.Events.{Event, Answer, Entry, Hit, Room, adds_entry, add, remove, submit}
-use Rattle.osc_model.specs.Events.{tick, release, added, removed, released, nothing_due}
+use Rattle.osc_model.specs.Events.{tick, release, added, released, nothing_due}
 use Rattle.osc_model.specs.Events.{record_full, room_in}
 use Rattle.osc_model.specs.Heard.{Told}
 use Rattle.osc_model.specs.History.{Legal, stepped_in, invoked_in, HasHeard}
@@ -18,17 +18,9 @@ use Rattle.osc_script.specs.declared.act.Act.TheVariants.{Add, Remove, Send, Tic
 use Rattle.osc_script.specs.declared.line.Line.{Line}
 use Rattle.osc_turn.specs.declared.view.Entry.{Entry as Seen}
 use Rattle.osc_turn.specs.History.{StartsWith, texts, entry, own}
+use Rattle.osc_life.specs.Holders.{Holder, Onward}
+use Rattle.osc_life.specs.Lives.{id_in}
 use Rattle.osc_live.specs.Seen.{performance_in}
-
--- who holds a token: the server's limits, the number of the token, and the number of its caller
-pub record Holder : Type 0 where
-  pub caps : Limits
-  pub token : ℕ
-  pub caller : ℕ
-
--- what is found goes on from what was seen, with no further entry of the token
-abbrev pub Onward : ℕ → List Seen → List Seen → Type 0
-Onward token seen found = StartsWith found seen × (own token found ≡ own token seen)
 
 -- the token's entry stands behind what was found
 pub record EntersOne (token : ℕ) (one : Entry) (found there : List Seen) : Type 0 where
@@ -50,11 +42,6 @@ pub record Answered (holder : Holder) (event : Event) (answer : Answer)
       (EntersOne holder.token
       (record { caller = holder.caller; event = event; answer = answer }) found there)
       (there ≡ found)
-
--- the id of the method that was removed, if one was
-abbrev pub id_in : Answer → List ℕ
-id_in (removed id) = id ∷ []
-id_in _ = []
 
 -- a pump ends where nothing is due, or where there is no room for the entry
 abbrev pub EndsPump : Answer → Type 0
@@ -160,4 +147,10 @@ module _ {M : Type 0} where
     abbrev pub LaneOf : Holder → List Line → List M → Account M → List Seen → Type 0
     LaneOf holder lines boxes account history =
         (here : List Seen) × (there : List Seen) × (own holder.token here ≡ [])
+        × Plays holder lines boxes account here there × Onward holder.token there history
+
+    -- the same of a token that came in behind these entries
+    abbrev pub LaneBehind : Holder → List Line → List M → Account M → List Seen → List Seen → Type 0
+    LaneBehind holder lines boxes account first history =
+        (here : List Seen) × (there : List Seen) × StartsWith here first × (own holder.token here ≡ [])
         × Plays holder lines boxes account here there × Onward holder.token there history

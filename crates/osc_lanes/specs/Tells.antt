@@ -3,7 +3,8 @@ use Rattle.std.specs.Prelude.{◌≡◌, ℕ, List, Option}
 use Rattle.osc_turn.specs.declared.view.Entry.{Entry as Seen}
 use Rattle.osc_script.specs.declared.act.Act.{Act}
 use Rattle.osc_script.specs.declared.line.Line.{Line}
-use Rattle.osc_lanes.specs.Shares.{Holder, Account, then_told, PlaysAct, Plays}
+use Rattle.osc_life.specs.Holders.{Holder}
+use Rattle.osc_lanes.specs.Shares.{Account, then_told, PlaysAct, Plays}
 
 module _ {M : Type 0} where
   -- An act was played between two places of the history: what is told then is what was told before,

@@ -5,7 +5,7 @@ ghost use Rattle.osc_core.specs.Answers.{handed_back, handed_out};
 ghost use Rattle.osc_turn.specs.Passes.{view};
 ghost use Rattle.osc_live.specs.Tokens.{IsOurs};
 ghost use Rattle.osc_script.specs.Adds.{adds_of};
-ghost use Rattle.osc_lanes.specs.Ends.{seen_by, holder_of};
+ghost use Rattle.osc_life.specs.Holders.{seen_by, holder_of};
 ghost use Rattle.osc_lanes.specs.Performs.{told_of};
 ghost use Rattle.osc_lanes.specs.Tells.{TellsAct};
 

@@ -1,13 +1,14 @@
 //! Plays many lanes beside each other.
-ghost use Rattle.std.specs.Prelude.{◌≡◌, map, All, IfOk, Ok};
+ghost use Rattle.std.specs.Prelude.{All, IfOk};
 ghost use Rattle.std.specs.List.{AllZip, AllByRecursion};
 ghost use Rattle.osc_live.specs.Tokens.{IsOurs};
-ghost use Rattle.osc_lanes.specs.Ends.{seen_by, IsReady, IsEndOf};
+ghost use Rattle.osc_life.specs.Holders.{seen_by};
+ghost use Rattle.osc_lanes.specs.Ends.{IsReady, IsEndOf};
 ghost use Rattle.osc_lanes.specs.Shares.{IsRemovedAt};
 
-use crate::gate::Gate;
 use crate::plan::{LaneEnd, LanePlan};
 use crate::worker::play_lane;
+use osc_life::{Gate, all_ended};
 use osc_live::Live;
 use osc_method::Method;
 use osc_model::laws::a_method_is_called_while_it_is_registered;
@@ -43,19 +44,5 @@ pub fn play_lanes<M: Method + Send, W: Threads + Wait + Sync, G: Gate + Sync>(
     { play_lane(rt, alloc, live, plan, gate) };
     let ends = thread::map_vec(rt, plans, &worker)?;
     let all = all_ended(alloc, ends)?;
-    Ok(all)
-}
-
-/// The ends, unless there was no memory for one.
-pub fn all_ended<E: Drop>(
-    alloc: Global,
-    ends: Vec<Result<E, AllocError>>,
-) -> Result<Vec<E>, AllocError>
-    ensures { IfOk result (λ all. ends.items ≡ map Ok all.items) }
-{
-    let mut all = Vec::with_capacity(alloc, ends.len())?;
-    for end in ends {
-        all.push(end?)?;
-    }
     Ok(all)
 }

@@ -11,11 +11,15 @@ ghost use Rattle.osc_core.specs.Standing.{history_in};
 ghost use Rattle.osc_lanes.specs.declared.plan.LanePlan.{LanePlan};
 ghost use Rattle.osc_lanes.specs.declared.plan.LaneEnd.{LaneEnd};
 ghost use Rattle.osc_script.specs.declared.act.Act.TheVariants.{Add, Send};
-ghost use Rattle.osc_lanes.specs.Shares.{Account, Onward, LaneOf, IsRemovedAt};
-ghost use Rattle.osc_lanes.specs.Performs.{enrolments, added_ids, removed_ids, Numbered, Part};
+ghost use Rattle.osc_life.specs.Holders.{Onward};
+ghost use Rattle.osc_lanes.specs.Shares.{Account, LaneOf, IsRemovedAt};
+ghost use Rattle.osc_life.specs.Crews.{enrolments};
+ghost use Rattle.osc_life.specs.Lives.{added_ids, Numbered};
+ghost use Rattle.osc_lanes.specs.Performs.{removed_ids, Part};
 ghost use Rattle.osc_lanes.specs.Performs.{Performs, told_of};
 ghost use Rattle.osc_lanes.specs.Enough.{enough_for};
-ghost use Rattle.osc_lanes.specs.Ends.{seen_by, holder_of, IsReady, IsEndOf};
+ghost use Rattle.osc_life.specs.Holders.{seen_by, holder_of};
+ghost use Rattle.osc_lanes.specs.Ends.{IsReady, IsEndOf};
 
 use osc_method::Method;
 use osc_model::laws::a_method_is_called_while_it_is_registered;

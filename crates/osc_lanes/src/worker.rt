@@ -5,15 +5,16 @@ ghost use Rattle.osc_turn.specs.Passes.{view};
 ghost use Rattle.osc_live.specs.Tokens.{IsOurs};
 ghost use Rattle.osc_script.specs.Adds.{count_adds};
 ghost use Rattle.osc_lanes.specs.Shares.{then_told, ended};
-ghost use Rattle.osc_lanes.specs.Ends.{seen_by, holder_of, IsEndOf};
+ghost use Rattle.osc_life.specs.Holders.{seen_by, holder_of};
+ghost use Rattle.osc_lanes.specs.Ends.{IsEndOf};
 ghost use Rattle.osc_lanes.specs.Performs.{part_of, told_of, IsWhole};
 ghost use Rattle.osc_lanes.specs.Tells.{TellsLines};
 
 use crate::acts::play_line;
-use crate::gate::Gate;
 use crate::lane::Lane;
 use crate::part::{LanePart, nothing_told};
 use crate::plan::{LaneEnd, LanePlan};
+use osc_life::Gate;
 use osc_live::{Caller, Live};
 use osc_method::Method;
 use osc_script::Line;

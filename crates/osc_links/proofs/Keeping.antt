@@ -5,11 +5,12 @@ use Rattle.osc_model.specs.Events.{Room}
 use Rattle.osc_record.specs.Shown.{room_of}
 use Rattle.osc_script.specs.declared.act.Act.TheVariants.{Send}
 use Rattle.osc_turn.specs.declared.view.Entry.{Entry as Seen}
-use Rattle.osc_links.specs.declared.link_plan.Over.{Over}
+use Rattle.osc_links.specs.declared.link_work.Over.{Over}
 use Rattle.osc_links.specs.declared.served.Bounds.{Bounds}
 use Rattle.osc_links.specs.declared.served.TickerEnd.{TickerEnd}
 use Rattle.osc_links.specs.declared.served.TickerEnd.TheVariants.{Done, ClockFailed, Full}
-use Rattle.osc_lanes.specs.Shares.{Holder, Onward, Account, then_told, ended}
+use Rattle.osc_life.specs.Holders.{Holder, Onward}
+use Rattle.osc_lanes.specs.Shares.{Account, then_told, ended}
 use Rattle.osc_links.specs.Links.{LinkTurn, stop_by, PlaysTurns}
 use Rattle.osc_links.specs.Ticks.{ClockRead, round_lines, last_after, PlaysRound, PlaysRounds, EndsTicks, Ticks}
 use Rattle.osc_lanes.proofs.Removals.{gone, own_gone, ids_told, nothing_told, act_gone, gone_on, plays_gone}

@@ -1,8 +1,8 @@
-pub mod HostEnds
-pub mod Hosts
+pub mod Hosting
 pub mod Keeping
 pub mod Opening
 pub mod Settling
+pub mod Tickings
 pub mod Ticking
 pub mod Totals
 pub mod Turning

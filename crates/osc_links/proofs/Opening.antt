@@ -18,24 +18,15 @@ use Rattle.osc_script.specs.declared.act.Act.{Act}
 use Rattle.osc_script.specs.declared.act.Act.TheVariants.{Add, Remove, Send, Tick, Pump}
 use Rattle.osc_script.specs.declared.line.Line.{Line}
 use Rattle.osc_turn.specs.declared.view.Entry.{Entry as Seen}
-use Rattle.osc_turn.specs.declared.view.View.{View}
 use Rattle.osc_turn.specs.History.{StartsWith, texts, entry, own}
 use Rattle.osc_turn.proofs.Histories.{starts_here, starts_on}
 use Rattle.osc_live.specs.Seen.{performance_in}
 use Rattle.osc_live.proofs.Answered.{texts_more}
-use Rattle.osc_turn.specs.Rule.{number_of}
-use Rattle.osc_turn.specs.Rule as rule
-use Rattle.osc_turn.specs.Passes.{view}
-use Rattle.osc_lanes.specs.declared.plan.LanePlan.{LanePlan}
-use Rattle.osc_lanes.specs.declared.plan.LaneEnd.{LaneEnd}
-use Rattle.osc_lanes.specs.Crews.{HasNotEnrolled, part_in}
-use Rattle.osc_links.specs.Opened.{HasOpened}
-use Rattle.osc_lanes.specs.Ends.{seen_by, holder_of, IsEndOf}
-use Rattle.osc_lanes.specs.Performs.{told_of}
 use Rattle.osc_model.specs.Limits.{Limits}
-use Rattle.osc_lanes.specs.Performs.{Part, holder_at}
-use Rattle.osc_lanes.specs.Shares.{Holder, Answered, EntersOne, Releases, Account, then_told, ended, PlaysAct, Plays}
-use Rattle.osc_lanes.proofs.Enrolling.{own_before}
+use Rattle.osc_life.specs.Holders.{holder_at}
+use Rattle.osc_life.specs.Holders.{Holder}
+use Rattle.osc_lanes.specs.Shares.{Answered, EntersOne, Releases, Account, then_told, ended, PlaysAct, Plays}
+use Rattle.osc_life.proofs.Enrolling.{own_before}
 
 -- An event that isn't an enrolment enrols none.
 
@@ -157,26 +148,10 @@ module _ (holder : Holder) where
           go (Some room) (is, same) counts =
               counts_on here place there (counts_act line.number line.act boxes left first here place one) (counts_same place there same)
 
--- after its lines, caller 0 has enrolled none
-pub opened_alone : {M : Type 0} (keep : M → ℕ) (heard : M → Option (List ℕ)) (caps : Limits) (part : Part M) (account : Account M) (first : View)
-    → HasOpened keep heard caps part account first → HasNotEnrolled first
-opened_alone keep heard caps part account first opened = record {
-  token = opened.token;
-  made_is = opened.made_is;
-  counted = (counts_plays (holder_at caps 0) keep heard part.lines part.boxes account [] first.seen opened.plays).1;
-}
-
--- a plan that caller 0 played on a new server
-pub opened_by : {M : Type 0} (keep : M → ℕ) (heard : M → Option (List ℕ)) (caps : Limits) (kind : List ℕ) (plan : LanePlan M) (end : LaneEnd M)
-    → plan.caller.number ≡ 0 → view plan.caller.pass ≡ rule.opening kind → IsEndOf keep heard caps plan end
-    → HasOpened keep heard caps (part_in plan) (told_of end.told) (view end.caller.pass)
-opened_by {M} keep heard caps kind plan end number new is =
-    let holder : holder_of caps plan.caller ≡ holder_at caps 0 =
-    λ i. record { caps = caps; token = (ap number_of new) i; caller = number i } in
-    record {
-      token = ap (λ (p : Holder). p.token) (is.holder ∙ holder);
-      made_is = is.made ∙ ap (λ (v : View). v.made) new;
-      plays = subst (λ (q : Holder × List Seen).
-          Plays keep heard q.0 plan.part.lines.items plan.part.boxes.items (told_of end.told) q.1 (seen_by end.caller))
-          (λ i. (holder i, (ap (λ (v : View). v.seen) new) i)) is.plays;
-    }
+-- lines that caller 0 has played enrol none
+pub plays_enrol_none : {M : Type 0} (keep : M → ℕ) (heard : M → Option (List ℕ)) (caps : Limits) (lines : List Line) (boxes : List M) (account : Account M)
+    (here there : List Seen) → Plays keep heard (holder_at caps 0) lines boxes account here there → own 0 there ≡ there
+    → (own 0 here ≡ here) × (callers_in (history_in (texts there)) ≡ callers_in (history_in (texts here)))
+plays_enrol_none keep heard caps lines boxes account here there plays alone =
+    let counts = counts_plays (holder_at caps 0) keep heard lines boxes account here there plays in
+    (own_before 0 there here counts.0 alone, counts.1 alone)

@@ -1,27 +1,19 @@
 -- What a history comes to at whose end nothing is due.
-use Rattle.std.proofs.Common.{◌≡◌, ℕ, Bool, true, false, cond, List, [], ◌∷◌, ◌++◌, map, get_or, All, Option, Some, None, refl, sym, ap, subst}
+use Rattle.std.proofs.Common.{◌≡◌, ℕ, Bool, true, false, cond, List, [], ◌∷◌, ◌++◌, get_or, All, Option, Some, None, refl, sym, ap, subst}
 use Rattle.std.proofs.Common.{◌∙◌}
 use Rattle.std.specs.Prelude.{MatchOption}
-use Rattle.std.specs.List.{AllByRecursion}
-use Rattle.std.proofs.lemmas.List.Elements.{recursion_from_All}
 use Rattle.osc_model.specs.Events.{Answer, Room, release, nothing_due, record_full, room_in}
 use Rattle.osc_model.specs.History.{stepped_in}
 use Rattle.osc_turn.specs.declared.view.Entry.{Entry as Seen}
-use Rattle.osc_turn.specs.History.{StartsWith, texts, own}
+use Rattle.osc_turn.specs.History.{StartsWith, texts}
 use Rattle.osc_turn.proofs.Histories.{starts_here, starts_on}
-use Rattle.osc_live.specs.declared.caller.Caller.{Caller}
-use Rattle.osc_live.specs.Closing.{known, IsOfCaller}
 use Rattle.osc_live.specs.Seen.{performance_in}
-use Rattle.osc_links.specs.declared.link_plan.LinkEnd.{LinkEnd}
 use Rattle.osc_links.specs.declared.served.TickerEnd.TheVariants.{Done}
-use Rattle.osc_lanes.specs.Ends.{seen_by}
 use Rattle.osc_links.specs.Hosts.{IsSettled}
-use Rattle.osc_links.specs.Serves.{caller_in, seen_in}
-use Rattle.osc_lanes.specs.Shares.{Holder, Answered, Account, then_told, ended, EndsPump, Plays}
+use Rattle.osc_life.specs.Holders.{Holder}
+use Rattle.osc_lanes.specs.Shares.{Answered, Account, then_told, ended, EndsPump, Plays}
 use Rattle.osc_links.specs.Ticks.{ClockRead, is_later, last_after, tick_line, pump_line, round_lines, PlaysRound, PlaysRounds, EndsTicks, Ticks}
 use Rattle.osc_links.proofs.Opening.{counts_plays}
-use Rattle.osc_lanes.proofs.Behind.{all_behind, IsWithin, nothing_behind}
-use Rattle.osc_lanes.proofs.Sharing.{Carried}
 
 none_appended : {X : Type 0} (xs ys : List X) → xs ++ ys ≡ [] → ys ≡ []
 none_appended [] ys is = is
@@ -93,22 +85,3 @@ module _ {M : Type 0} (keep : M → ℕ) (heard : M → Option (List ℕ)) (hold
           λ k d within. starts_on there start (get_or tokens k d) starts (all k d within),
           round_settles ticks.last moment start there plays,
         )
-
-module _ {L : Type 0} (history there : List Seen) (after : Caller) (same : seen_by after ≡ there) where
-  -- all that links and ticker have seen is within what the ticker has seen
-  within_each : (ends : List (LinkEnd L)) → AllByRecursion (StartsWith there) (map seen_in ends)
-      → AllByRecursion (Carried history) (map caller_in ends ++ after ∷ [])
-      → AllByRecursion (IsWithin history there) (known (map caller_in ends ++ after ∷ []))
-  within_each [] starts carried = ((subst (StartsWith there) (sym same) (starts_here there), carried.0.1), tt)
-  within_each (end ∷ ends) starts carried = ((starts.0, carried.0.1), within_each ends starts.1 carried.1)
-
-  -- then nothing stands behind it
-  pub all_seen : (first : Caller) (ends : List (LinkEnd L)) → StartsWith there (seen_by first) → All (StartsWith there) (map seen_in ends)
-      → AllByRecursion (Carried history) (first ∷ (map caller_in ends ++ after ∷ []))
-      → All (IsOfCaller (known (first ∷ (map caller_in ends ++ after ∷ [])))) history → history ≡ there
-  all_seen first ends before starts carried of =
-      let knows = known (first ∷ (map caller_in ends ++ after ∷ [])) in
-      let last : Carried history after = (all_behind (Carried history) (map caller_in ends) (after ∷ []) carried.1).0 in
-      nothing_behind knows there history (subst (StartsWith history) same last.0)
-      ((before, carried.0.1), within_each ends (recursion_from_All (StartsWith there) (map seen_in ends) starts) carried.1)
-      (recursion_from_All (IsOfCaller knows) history of)

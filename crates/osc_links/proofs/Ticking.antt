@@ -14,14 +14,14 @@ use Rattle.osc_turn.specs.History.{StartsWith}
 use Rattle.osc_turn.proofs.Histories.{starts_here, starts_on}
 use Rattle.osc_links.specs.declared.served.TickerEnd.{TickerEnd}
 use Rattle.osc_links.specs.declared.served.TickerEnd.TheVariants.{Done, ClockFailed, Full}
-use Rattle.osc_links.specs.declared.ticker.Round.{Round}
 use Rattle.osc_links.specs.declared.ticker.Round.TheVariants as round
-use Rattle.osc_lanes.specs.Shares.{Holder, Onward, Account, then_told, ended, Plays}
+use Rattle.osc_life.specs.Holders.{Holder, Onward}
+use Rattle.osc_lanes.specs.Shares.{Account, then_told, ended, Plays}
 use Rattle.osc_lanes.specs.Tells.{TellsAct}
 use Rattle.osc_lanes.proofs.Going.{stop_told}
 use Rattle.osc_links.specs.Ticks.{is_later, last_after, tick_line, pump_line, Reads, ClockRead, PlaysRound, PlaysRounds, EndsTicks}
 use Rattle.osc_links.specs.Ticks.{Ticks}
-use Rattle.osc_links.specs.Rounds.{IsRound, TicksMeanwhile}
+use Rattle.osc_links.specs.Rounds.{IsRound, TicksMeanwhile, RoundsGoOn}
 
 pub onward_same : (token : ℕ) (here : List Seen) → Onward token here here
 onward_same token here = (starts_here here, refl)
@@ -53,33 +53,16 @@ module _ {M : Type 0} (keep : M → ℕ) (heard : M → Option (List ℕ)) (hold
         (ended [] (option_map room_of stop), ap (λ (a : Account M). then_told a (ended [] (option_map room_of stop))) p.told_is, rest),
   )
 
-  -- a tick that finds no room
-  pub ticks_full : (moment : ℕ) (room : CodeRoom) (here there : List Seen)
-      → TellsAct keep heard holder 0 (Tick moment) [] [] (ended [] None) (ended [] (Some (room_of room))) here there
-      → Plays keep heard holder (tick_line moment ∷ pump_line ∷ []) [] (ended [] (Some (room_of room))) here there
-  ticks_full moment room here there p =
-      ([], p.first, there, p.plays, rw (stop_told p) (ap (λ (a : Account M). then_told a (ended [] (Some (room_of room)))) p.told_is, refl))
-
-  -- Whatever comes of further rounds comes of all.
-  abbrev pub RoundsGoOn : Option (List ℕ) → List Seen → Option ℕ → Option (List ℕ) → List Seen → Type 0
-  RoundsGoOn start here last left now =
-      (more : List ℕ) (later : Option ℕ) (after : Option (List ℕ)) (there : List Seen) → Reads left more after
-      → PlaysRounds keep heard holder last more later now there
-      → (all : List ℕ) × Reads start all after × PlaysRounds keep heard holder None all later here there
-
-  pub rounds_begun : (start : Option (List ℕ)) (here : List Seen) → RoundsGoOn start here None start here
-  rounds_begun start here more later after there reads plays = (more, reads, plays)
-
   pub rounds_on : (start : Option (List ℕ)) (here : List Seen) (last later : Option ℕ) (moment : ℕ) (left between : Option (List ℕ)) (now place : List Seen)
-      → RoundsGoOn start here last left now → GivesMoment left between (At moment) → PlaysRound keep heard holder last moment None now place
-      → later ≡ last_after last moment → RoundsGoOn start here later between place
+      → RoundsGoOn keep heard holder start here last left now → GivesMoment left between (At moment) → PlaysRound keep heard holder last moment None now place
+      → later ≡ last_after last moment → RoundsGoOn keep heard holder start here later between place
   rounds_on start here last later moment left between now place goes gives plays is more final after there reads rest =
       goes (moment ∷ more) final after there (between, gives, reads)
       (place, plays, subst (λ (l : Option ℕ). PlaysRounds keep heard holder l more final place there) is rest)
 
   -- no round is left
   pub rounds_over : (start : Option (List ℕ)) (here : List Seen) (last : Option ℕ) (left : Option (List ℕ)) (now : List Seen)
-      → RoundsGoOn start here last left now
+      → RoundsGoOn keep heard holder start here last left now
       → (moments : List ℕ) × Reads start moments left × PlaysRounds keep heard holder None moments last here now
   rounds_over start here last left now goes = goes [] last left now refl (refl, refl)
 
@@ -94,7 +77,7 @@ module _ {M : Type 0} (keep : M → ℕ) (heard : M → Option (List ℕ)) (hold
 
   -- the ticker ends in a round
   pub rounds_end : (start : Option (List ℕ)) (here : List Seen) (last : Option ℕ) (left after : Option (List ℕ)) (first faults now : ℕ) (end : TickerEnd)
-      (place there : List Seen) → RoundsGoOn start here last left place → faults ≡ first
+      (place there : List Seen) → RoundsGoOn keep heard holder start here last left place → faults ≡ first
       → IsRound keep heard holder last (record { before = left; after = after; faults = faults; now = now }) (round.Over end) place there
       → TicksMeanwhile keep heard holder (record { before = start; after = after; faults = first; now = now }) (round.Over end) here there
   rounds_end start here last left after first faults now end place there goes same ends = let all = rounds_over start here last left place goes in (
@@ -219,27 +202,3 @@ module _ {M : Type 0} (keep : M → ℕ) (heard : M → Option (List ℕ)) (hold
       (ended [] (option_map room_of s)) here place) none ticked)
       (pumps stop place there
       (subst (λ (q : Holder). TellsAct keep heard q 0 Pump [] [] (ended [] None) (ended [] (option_map room_of stop)) place there) same pumped)))
-
-  -- another holder of the same number played a round
-  module _ (other : Holder) (same : other ≡ holder) (start : Option (List ℕ)) (here : List Seen) (last : Option ℕ) (left after : Option (List ℕ))
-      (first faults now : ℕ) (came : Round) (place there : List Seen) (goes : RoundsGoOn start here last left place) (count : faults ≡ first)
-      (one : IsRound keep heard other last (record { before = left; after = after; faults = faults; now = now }) came place there) where
-    round_so : (to : Round) → came ≡ to
-        → IsRound keep heard holder last (record { before = left; after = after; faults = faults; now = now }) to place there
-    round_so to is = subst
-        (λ (p : Holder × Round). IsRound keep heard p.0 last (record { before = left; after = after; faults = faults; now = now }) p.1 place there)
-        (λ i. (same i, is i)) one
-
-    pub round_played : (later : Option ℕ) → came ≡ round.Played later → RoundsGoOn start here later after there × (now ≡ first)
-    round_played later is = let r = round_so (round.Played later) is in
-        (rounds_on start here last later r.1 left after place there goes r.2 r.3 r.4, r.0 ∙ count)
-
-    pub round_over : (end : TickerEnd) → came ≡ round.Over end
-        → TicksMeanwhile keep heard holder (record { before = start; after = after; faults = first; now = now }) (round.Over end) here there
-    round_over end is = rounds_end start here last left after first faults now end place there goes count (round_so (round.Over end) is)
-
-  -- another holder of the same number played a round that came to this
-  pub round_as : (other : Holder) (last : Option ℕ) (clock : ClockRead) (came to : Round) (here there : List Seen) → other ≡ holder → came ≡ to
-      → IsRound keep heard other last clock came here there → IsRound keep heard holder last clock to here there
-  round_as other last clock came to here there same is one = subst (λ (p : Holder × Round). IsRound keep heard p.0 last clock p.1 here there)
-      (λ i. (same i, is i)) one

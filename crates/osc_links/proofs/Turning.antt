@@ -6,12 +6,13 @@ use Rattle.osc_atoms.specs.declared.room.Room.{Room as CodeRoom}
 use Rattle.osc_record.specs.Shown.{room_of}
 use Rattle.osc_script.specs.declared.act.Act.TheVariants.{Send}
 use Rattle.osc_turn.specs.declared.view.Entry.{Entry as Seen}
-use Rattle.osc_links.specs.declared.link_plan.Over.{Over}
-use Rattle.osc_links.specs.declared.link_plan.Over.TheVariants.{Full, End, Failed}
+use Rattle.osc_links.specs.declared.link_work.Over.{Over}
+use Rattle.osc_links.specs.declared.link_work.Over.TheVariants.{Full, End, Failed}
 use Rattle.osc_links.specs.declared.link_worker.Step.{Step}
 use Rattle.osc_links.specs.declared.link_worker.Step.TheVariants as came
 use Rattle.osc_links.specs.declared.served.Bounds.{Bounds}
-use Rattle.osc_lanes.specs.Shares.{Holder, Account, then_told, ended}
+use Rattle.osc_life.specs.Holders.{Holder}
+use Rattle.osc_lanes.specs.Shares.{Account, then_told, ended}
 use Rattle.osc_links.specs.Links.{LinkTurn, IsOpen, EndsAfter, stop_by, link_account, PlaysTurns}
 use Rattle.osc_lanes.specs.Tells.{TellsAct}
 use Rattle.osc_links.specs.Taken.{TakesOne, TakesAll}

@@ -1,5 +1,5 @@
 -- What the whole life of a server with links comes to: one history, and each link's share of it.
-use Rattle.std.specs.Prelude.{◌≡◌, ℕ, ◌+◌, ◌<◌, false, List, [], ◌∷◌, ◌++◌, length, map, Option}
+use Rattle.std.specs.Prelude.{◌≡◌, ℕ, ◌+◌, ◌<◌, false, List, [], ◌∷◌, ◌++◌, length, Option}
 use Rattle.std.specs.Prelude.{None, MatchOption}
 use Rattle.std.specs.Option.{option_map}
 use Rattle.osc_model.specs.Limits.{Limits}
@@ -11,16 +11,18 @@ use Rattle.osc_turn.specs.declared.view.Entry.{Entry as Seen}
 use Rattle.osc_turn.specs.History.{StartsWith, texts, own}
 use Rattle.osc_live.specs.Seen.{performance_in}
 use Rattle.osc_links.specs.declared.run.Hosted.{Hosted}
-use Rattle.osc_links.specs.declared.link_plan.LinkEnd.{LinkEnd}
+use Rattle.osc_links.specs.declared.link_work.LinkEnd.{LinkEnd}
 use Rattle.osc_links.specs.declared.served.Bounds.{Bounds}
 use Rattle.osc_links.specs.declared.served.LinksTold.{LinksTold}
 use Rattle.osc_links.specs.declared.served.TickerEnd.{TickerEnd}
 use Rattle.osc_links.specs.declared.served.TickerEnd.TheVariants.{Done}
 use Rattle.osc_links.specs.Links.{LinkTurn, LinkOf, HasEndCause, link_account, stop_by}
-use Rattle.osc_lanes.specs.Performs.{Part, Numbered, IsStage, IsClosedWith, HasNoRoomToEnrol}
-use Rattle.osc_lanes.specs.Performs.{holder_at, told_of}
-use Rattle.osc_links.specs.Serves.{seen_in, TellsLinks}
-use Rattle.osc_lanes.specs.Shares.{Onward, Plays}
+use Rattle.osc_life.specs.Lives.{HasNoRoomToEnrol}
+use Rattle.osc_lanes.specs.Performs.{Part, IsStage, IsClosedWith}
+use Rattle.osc_life.specs.Holders.{holder_at}
+use Rattle.osc_lanes.specs.Performs.{told_of}
+use Rattle.osc_links.specs.Serves.{TellsLinks}
+use Rattle.osc_lanes.specs.Shares.{Plays}
 use Rattle.osc_links.specs.Ticks.{ClockRead, TickOf}
 
 -- no unit is due behind this history
@@ -45,28 +47,40 @@ module _ {L : Type 0} where
 module _ {L : Type 0} (left : L → Option (List LinkTurn)) (faults : L → ℕ) where
   module _ {M : Type 0} (keep : M → ℕ) (heard : M → Option (List ℕ)) (caps : Limits) where
     -- The share of a history of the link that caller `number` submits for: its turns were played
-    -- from where its token came in, and the history has no other entry of it, nor any behind what
-    -- the token has seen. Where the link tells, what it had left are these turns and what it has
-    -- left after them.
+    -- from where its token came in, behind caller 0's entries, to what the token has seen then; and
+    -- the history has no other entry of it. Where the link tells, what it had left are these turns
+    -- and what it has left after them.
     pub record IsServed (bounds : Bounds) (history : List Seen) (number : ℕ) (link : L)
-        (end : LinkEnd L) : Type 0 where
+        (end : LinkEnd L) (there : List Seen) : Type 0 where
       pub turns : List LinkTurn
       pub share : LinkOf keep heard (holder_at caps number) bounds turns end.over
           (link_account end.faults.items (stop_by end.over)) history
-      pub onward : Onward number (seen_in end) history
+      pub behind : StartsWith share.0 (own 0 history)
+      pub there_is : there ≡ share.1
       pub taken : left link ≡ option_map (λ after. turns ++ after) (left end.from)
       pub cause : HasEndCause end.over (left end.from) (faults link) (faults end.from)
 
+    -- links with their ends and what their tokens have seen, numbered from this one on
+    abbrev pub AreServed : Bounds → List Seen → ℕ → List L → List (LinkEnd L) → List (List Seen)
+        → Type 0
+    AreServed bounds history number [] [] [] = Unit {0}
+    AreServed bounds history number (link ∷ links) (end ∷ ends) (there ∷ tokens) =
+        IsServed bounds history number link end there
+        × AreServed bounds history (number + 1) links ends tokens
+    AreServed bounds history number _ _ _ = ⊥
+
     -- The links were served beside each other, the k-th by caller k, and the ticker ticked under
-    -- the caller behind them, whose last round is behind all that the links have done: then no unit
-    -- is due.
+    -- the caller behind them, which came in behind caller 0's entries, and whose last round is
+    -- behind all that the links have done: then no unit is due.
     pub record ServesAll (bounds : Bounds) (history : List Seen) (links : List L)
         (clock : ClockRead) (told : LinksTold L) : Type 0 where
       pub ends : List (LinkEnd L)
+      pub tokens : List (List Seen)
       pub ticker_end : TickerEnd
-      pub shares : Numbered (IsServed bounds history) 1 links ends
-      pub ticks : TickOf keep heard (holder_at caps (length links + 1)) (map seen_in ends) clock
-          ticker_end history
+      pub shares : AreServed bounds history 1 links ends tokens
+      pub ticks : TickOf keep heard (holder_at caps (length links + 1)) tokens clock ticker_end
+          history
+      pub behind : StartsWith ticks.0 (own 0 history)
       pub settled : ticker_end ≡ Done → IsSettled caps history
       pub tells : TellsLinks ends ticker_end told
 

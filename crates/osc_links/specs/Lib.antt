@@ -4,6 +4,6 @@ pub mod Links
 pub mod Serves
 pub mod Ticks
 -- Inside the crate.
-pub mod Opened
 pub mod Rounds
 pub mod Taken
+pub mod Works

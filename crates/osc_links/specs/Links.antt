@@ -3,19 +3,17 @@ use Rattle.std.specs.Prelude.{◌≡◌, ℕ, ◌+◌, ◌<◌, List, [], ◌∷
 use Rattle.std.specs.Prelude.{IfSome, MatchOption}
 use Rattle.osc_atoms.specs.declared.fault.Fault.{Fault}
 use Rattle.osc_edge.specs.Faults.{Rose}
-use Rattle.osc_model.specs.Limits.{Limits}
 use Rattle.osc_model.specs.Events.{Room}
 use Rattle.osc_record.specs.Shown.{room_of}
 use Rattle.osc_script.specs.declared.act.Act.TheVariants.{Send}
 use Rattle.osc_turn.specs.declared.view.Entry.{Entry as Seen}
 use Rattle.osc_turn.specs.History.{own}
-use Rattle.osc_links.specs.declared.link_plan.LinkPlan.{LinkPlan}
-use Rattle.osc_links.specs.declared.link_plan.LinkEnd.{LinkEnd}
-use Rattle.osc_links.specs.declared.link_plan.Over.{Over}
-use Rattle.osc_links.specs.declared.link_plan.Over.TheVariants.{Count, Idle, End, Failed, Full}
+use Rattle.osc_links.specs.declared.link_work.LinkEnd.{LinkEnd}
+use Rattle.osc_links.specs.declared.link_work.Over.{Over}
+use Rattle.osc_links.specs.declared.link_work.Over.TheVariants.{Count, Idle, End, Failed, Full}
 use Rattle.osc_links.specs.declared.served.Bounds.{Bounds}
-use Rattle.osc_lanes.specs.Shares.{Holder, Onward, Account, then_told, ended, PlaysAct}
-use Rattle.osc_lanes.specs.Ends.{seen_by, holder_of}
+use Rattle.osc_life.specs.Holders.{Holder, Onward}
+use Rattle.osc_lanes.specs.Shares.{Account, then_told, ended, PlaysAct}
 
 -- a turn of a link: the bytes of a datagram, or none where it wasn't ready
 abbrev pub LinkTurn : Type 0
@@ -78,15 +76,14 @@ module _ {M : Type 0} where
         × PlaysTurns holder bounds 0 0 turns over account here there
         × Onward holder.token there history
 
-    -- A link's end has to do with its plan as this says: the caller comes back with its token, and
-    -- the turns taken were played between what it had seen and what it has seen then. Where the
-    -- link tells, what it had left are these turns and what it has left after them.
-    pub record IsLinkEnd {L : Type 0} (left : L → Option (List LinkTurn)) (faults : L → ℕ)
-        (caps : Limits) (bounds : Bounds) (plan : LinkPlan L) (end : LinkEnd L) : Type 0 where
+    -- A link was served between two places as this says, and ended so: the turns that it took were
+    -- played there. Where the link tells, what it had left are these turns and what it has left
+    -- after them.
+    pub record ServesLink {L : Type 0} (left : L → Option (List LinkTurn)) (faults : L → ℕ)
+        (holder : Holder) (bounds : Bounds) (from : L) (end : LinkEnd L)
+        (here there : List Seen) : Type 0 where
       pub turns : List LinkTurn
-      pub holder : holder_of caps end.caller ≡ holder_of caps plan.caller
-      pub plays : PlaysTurns (holder_of caps plan.caller) bounds 0 0 turns end.over
-          (link_account end.faults.items (stop_by end.over)) (seen_by plan.caller)
-          (seen_by end.caller)
-      pub taken : left plan.from ≡ option_map (λ after. turns ++ after) (left end.from)
-      pub cause : HasEndCause end.over (left end.from) (faults plan.from) (faults end.from)
+      pub plays : PlaysTurns holder bounds 0 0 turns end.over
+          (link_account end.faults.items (stop_by end.over)) here there
+      pub taken : left from ≡ option_map (λ after. turns ++ after) (left end.from)
+      pub cause : HasEndCause end.over (left end.from) (faults from) (faults end.from)

@@ -7,20 +7,25 @@ use Rattle.osc_atoms.specs.declared.fault.Fault.{Fault}
 use Rattle.osc_model.specs.Limits.{Limits}
 use Rattle.osc_model.specs.Events.{Room}
 use Rattle.osc_record.specs.Shown.{room_of}
-use Rattle.osc_turn.specs.declared.view.Entry.{Entry as Seen}
 use Rattle.osc_live.specs.declared.caller.Caller.{Caller}
-use Rattle.osc_links.specs.declared.link_plan.LinkPlan.{LinkPlan}
-use Rattle.osc_links.specs.declared.link_plan.LinkEnd.{LinkEnd}
-use Rattle.osc_links.specs.declared.link_plan.Over.{Over}
-use Rattle.osc_links.specs.declared.link_plan.Over.TheVariants.{Failed}
+use Rattle.osc_links.specs.declared.link_work.LinkWork.{LinkWork}
+use Rattle.osc_links.specs.declared.link_work.LinkEnd.{LinkEnd}
+use Rattle.osc_links.specs.declared.link_work.Over.{Over}
+use Rattle.osc_links.specs.declared.link_work.Over.TheVariants.{Failed}
 use Rattle.osc_links.specs.declared.served.Bounds.{Bounds}
 use Rattle.osc_links.specs.declared.served.LinksTold.{LinksTold}
 use Rattle.osc_links.specs.declared.served.ServeEnd.{ServeEnd}
 use Rattle.osc_links.specs.declared.served.TickerEnd.{TickerEnd}
 use Rattle.osc_links.specs.declared.served.TickerEnd.TheVariants.{ClockFailed, Full}
-use Rattle.osc_lanes.specs.Ends.{seen_by, holder_of}
-use Rattle.osc_links.specs.Links.{LinkTurn, stop_by, IsLinkEnd}
-use Rattle.osc_links.specs.Ticks.{ClockRead, Ticks}
+use Rattle.osc_life.specs.Holders.{seen_by, holder_of}
+use Rattle.osc_life.specs.Works.{IsDone, caller_of, work_of, caller_in, end_in}
+use Rattle.osc_life.specs.declared.worker.Done.{Done}
+use Rattle.osc_life.specs.declared.worker.Job.{Job}
+use Rattle.osc_live.specs.Closing.{known}
+use Rattle.osc_links.specs.Links.{LinkTurn, stop_by}
+use Rattle.osc_links.specs.Rounds.{HasEnded}
+use Rattle.osc_links.specs.Ticks.{ClockRead}
+use Rattle.osc_links.specs.Works.{link_plays}
 
 -- the link failed
 abbrev pub has_failed : Over → Bool
@@ -55,21 +60,18 @@ module _ {L : Type 0} where
   stop_of_all [] ticker = ticker_stop ticker
   stop_of_all (end ∷ ends) ticker = option_or (stop_by end.over) (stop_of_all ends ticker)
 
-  abbrev pub caller_of : LinkPlan L → Caller
-  caller_of plan = plan.caller
+  abbrev pub link_of : LinkWork L → L
+  link_of work = work.from
 
-  abbrev pub link_of : LinkPlan L → L
-  link_of plan = plan.from
+  -- a link, and when it ends by itself
+  abbrev pub link_at : LinkWork L → L × Bounds
+  link_at work = (work.from, work.bounds)
 
-  abbrev pub caller_in : LinkEnd L → Caller
-  caller_in end = end.caller
+  abbrev pub bound_to : Bounds → L → L × Bounds
+  bound_to bounds link = (link, bounds)
 
   abbrev pub link_in : LinkEnd L → L
   link_in end = end.from
-
-  -- what the token of a link has seen
-  abbrev pub seen_in : LinkEnd L → List Seen
-  seen_in end = seen_by end.caller
 
   -- What is told are the links, their faults, the least link that failed, whether the clock failed,
   -- and the room of the first of them that found the recording full, the ticker being the last.
@@ -82,20 +84,20 @@ module _ {L : Type 0} where
     pub stop_is : option_map room_of told.stop ≡ stop_of_all ends ticker_end
 
   -- The links were served beside each other, each under the caller in its place, and the ticker
-  -- ticked under the last one.
+  -- ticked under the last one. These callers come back with what their tokens know.
   pub record Serves {M : Type 0} (keep : M → ℕ) (heard : M → Option (List ℕ))
       (left : L → Option (List LinkTurn)) (faults : L → ℕ) (caps : Limits) (bounds : Bounds)
       (callers : List Caller) (links : List L) (clock : ClockRead) (end : ServeEnd L) : Type 0 where
-    pub plans : List (LinkPlan L)
-    pub ends : List (LinkEnd L)
+    pub jobs : List (Job (LinkWork L))
+    pub all : List (Done (LinkEnd L))
     pub ticker : Caller
     pub ticker_after : Caller
     pub ticker_end : TickerEnd
-    pub callers_are : callers ≡ map caller_of plans ++ ticker ∷ []
-    pub callers_then : end.callers.items ≡ map caller_in ends ++ ticker_after ∷ []
-    pub links_are : links ≡ map link_of plans
-    pub served : AllZip (IsLinkEnd keep heard left faults caps bounds) plans ends
+    pub callers_are : callers ≡ map caller_of jobs ++ ticker ∷ []
+    pub callers_then : known end.callers.items ≡ known (map caller_in all ++ ticker_after ∷ [])
+    pub links_are : map link_at (map work_of jobs) ≡ map (bound_to bounds) links
+    pub served : AllZip (IsDone (link_plays keep heard left faults) caps) jobs all
     pub ticker_holder : holder_of caps ticker_after ≡ holder_of caps ticker
-    pub ticks : Ticks keep heard (holder_of caps ticker) (map seen_in ends) clock ticker_end
-        (seen_by ticker) (seen_by ticker_after)
-    pub tells : TellsLinks ends ticker_end end.told
+    pub ticks : HasEnded keep heard (holder_of caps ticker) (map seen_by (map caller_in all)) clock
+        ticker_end (seen_by ticker) (seen_by ticker_after)
+    pub tells : TellsLinks (map end_in all) ticker_end end.told

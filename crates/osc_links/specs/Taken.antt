@@ -5,13 +5,12 @@ use Rattle.osc_edge.specs.Faults.{Rose}
 use Rattle.osc_record.specs.Shown.{room_of}
 use Rattle.osc_script.specs.declared.act.Act.TheVariants.{Send}
 use Rattle.osc_turn.specs.declared.view.Entry.{Entry as Seen}
-use Rattle.osc_turn.specs.Passes.{view}
-use Rattle.osc_links.specs.declared.link_plan.LinkEnd.{LinkEnd}
-use Rattle.osc_links.specs.declared.link_plan.Over.{Over}
+use Rattle.osc_links.specs.declared.link_work.Over.{Over}
 use Rattle.osc_links.specs.declared.link_worker.Step.{Step}
 use Rattle.osc_links.specs.declared.link_worker.Step.TheVariants.{Sent, Quiet, End, Failed, Full}
 use Rattle.osc_links.specs.declared.served.Bounds.{Bounds}
-use Rattle.osc_lanes.specs.Shares.{Holder, Account, then_told}
+use Rattle.osc_life.specs.Holders.{Holder}
+use Rattle.osc_lanes.specs.Shares.{Account, then_told}
 use Rattle.osc_links.specs.Links.{LinkTurn, stop_by, link_account, PlaysTurns}
 use Rattle.osc_lanes.specs.Tells.{TellsAct}
 
@@ -45,12 +44,3 @@ module _ {M : Type 0} (keep : M → ℕ) (heard : M → Option (List ℕ)) where
     pub plays : PlaysTurns keep heard holder bounds 0 0 turns over account here there
     pub told_is : link_account now (stop_by over) ≡ then_told (link_account told None) account
     pub taken : left ≡ option_map (λ more. turns ++ more) after
-
-module _ {L : Type 0} where
-  -- The end is the same, but for what its token has met: nothing was added to what that has seen.
-  pub record IsSameEnd (end other : LinkEnd L) : Type 0 where
-    pub number : other.caller.number ≡ end.caller.number
-    pub view_is : view other.caller.pass ≡ view end.caller.pass
-    pub from : other.from ≡ end.from
-    pub faults : other.faults ≡ end.faults
-    pub over : other.over ≡ end.over

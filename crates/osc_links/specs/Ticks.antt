@@ -12,7 +12,8 @@ use Rattle.osc_turn.specs.declared.view.Entry.{Entry as Seen}
 use Rattle.osc_turn.specs.History.{StartsWith, own}
 use Rattle.osc_links.specs.declared.served.TickerEnd.{TickerEnd}
 use Rattle.osc_links.specs.declared.served.TickerEnd.TheVariants.{Done, ClockFailed, Full}
-use Rattle.osc_lanes.specs.Shares.{Holder, Onward, ended, Plays}
+use Rattle.osc_life.specs.Holders.{Holder, Onward}
+use Rattle.osc_lanes.specs.Shares.{ended, Plays}
 
 -- a moment is handed in if it is the first, or greater than the last one that was
 abbrev pub is_later : Option ℕ → ℕ → Bool

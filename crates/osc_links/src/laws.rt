@@ -4,14 +4,14 @@ ghost use Rattle.osc_turn.specs.History.{own};
 ghost use Rattle.osc_turn.specs.declared.view.Entry.{Entry};
 ghost use Rattle.osc_model.specs.Limits.{Limits};
 ghost use Rattle.osc_live.specs.declared.caller.Caller.{Caller};
-ghost use Rattle.osc_lanes.specs.Ends.{seen_by, holder_of};
-ghost use Rattle.osc_lanes.specs.Shares.{Onward, Holder, ended};
-ghost use Rattle.osc_links.specs.declared.link_plan.Over.TheVariants.{Idle};
-ghost use Rattle.osc_links.specs.declared.link_plan.LinkPlan.{LinkPlan};
-ghost use Rattle.osc_links.specs.declared.link_plan.LinkEnd.{LinkEnd};
+ghost use Rattle.osc_life.specs.Holders.{seen_by, holder_of};
+ghost use Rattle.osc_life.specs.Holders.{Onward, Holder};
+ghost use Rattle.osc_lanes.specs.Shares.{ended};
+ghost use Rattle.osc_links.specs.declared.link_work.Over.TheVariants.{Idle};
+ghost use Rattle.osc_links.specs.declared.link_work.LinkEnd.{LinkEnd};
 ghost use Rattle.osc_links.specs.declared.served.Bounds.{Bounds};
 ghost use Rattle.osc_links.specs.declared.served.TickerEnd.{TickerEnd};
-ghost use Rattle.osc_links.specs.Links.{PlaysTurns, IsLinkEnd, LinkOf, link_account, stop_by};
+ghost use Rattle.osc_links.specs.Links.{PlaysTurns, ServesLink, LinkOf, link_account, stop_by};
 ghost use Rattle.osc_links.specs.Ticks.{ClockRead, Reads, Ticks, TickOf, round_lines, tick_line};
 ghost use Rattle.osc_links.specs.Ticks.{pump_line};
 
@@ -21,12 +21,11 @@ use osc_method::Method;
 /// A link's share is its share of every history that goes on with no further entry of its token, where the token came
 /// in with none.
 pub fn a_link_keeps_its_share<M: Method, L: Link>()
-    ensures { (caps : Limits) (bounds : Bounds) (plan : LinkPlan L) (end : LinkEnd L)
-        (history : List Entry)
-        → (served : IsLinkEnd M.keep M.heard L.left L.faults caps bounds plan end)
-        → own (holder_of caps plan.caller).token (seen_by plan.caller) ≡ []
-        → Onward (holder_of caps plan.caller).token (seen_by end.caller) history
-        → LinkOf M.keep M.heard (holder_of caps plan.caller) bounds served.turns end.over
+    ensures { (holder : Holder) (bounds : Bounds) (from : L) (end : LinkEnd L)
+        (here there history : List Entry)
+        → (served : ServesLink M.keep M.heard L.left L.faults holder bounds from end here there)
+        → own holder.token here ≡ [] → Onward holder.token there history
+        → LinkOf M.keep M.heard holder bounds served.turns end.over
         (link_account end.faults.items (stop_by end.over)) history }
 {}
 

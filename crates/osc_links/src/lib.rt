@@ -5,7 +5,7 @@
 pub mod laws;
 mod limits;
 mod link_ends;
-mod link_plan;
+mod link_work;
 mod link_worker;
 mod links;
 mod run;
@@ -13,7 +13,7 @@ mod served;
 mod ticker;
 
 pub use limits::MAX_LINKS;
-pub use link_plan::{LinkEnd, LinkPlan, Over};
+pub use link_work::{LinkEnd, LinkWork, Over};
 pub use links::serve_links;
 pub use run::{Hosted, run_links};
 pub use served::{Bounds, LinksPart, LinksTold, ServeEnd, TickerEnd};

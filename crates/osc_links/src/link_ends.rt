@@ -1,45 +1,26 @@
 // The ends of links, put together.
-ghost use Rattle.std.specs.Prelude.{◌≡◌, ◌+◌, ◌≤◌, ◌∷◌, [], ◌++◌, length, map, IfOk, OnOk, Some};
+ghost use Rattle.std.specs.Prelude.{◌≡◌, ◌≤◌, ◌++◌, length, map, IfOk, OnOk, Some};
 ghost use Rattle.std.specs.Prelude.{None, if◌then◌else◌};
 ghost use Rattle.std.specs.Option.{option_map};
 ghost use Rattle.osc_record.specs.Shown.{room_of};
 ghost use Rattle.osc_links.specs.Links.{stop_by};
-ghost use Rattle.osc_links.specs.Serves.{
-  has_failed,
-  is_clock_failed,
-  ticker_stop,
-  caller_in,
-  TellsLinks,
-};
+ghost use Rattle.osc_links.specs.Serves.{has_failed, is_clock_failed, ticker_stop, TellsLinks};
 ghost use Rattle.osc_links.specs.declared.limits.TheConstants.{MAX_LINKS};
 
-use crate::link_plan::{LinkEnd, Over};
-use crate::served::{LinksTold, ServeEnd, TickerEnd};
+use crate::link_work::{LinkEnd, Over};
+use crate::served::{LinksTold, TickerEnd};
 use osc_atoms::{Fault, Room};
-use osc_live::Caller;
 use std::alloc::{AllocError, Global};
 
-/// Links that have ended, and the ticker behind them.
-#[derive(Drop)]
-pub(crate) struct LinkEnds<L> {
-    pub(crate) links: Vec<LinkEnd<L>>,
-    pub(crate) ticker: Caller,
-    pub(crate) ticker_end: TickerEnd,
-}
-
 /// What the links and the ticker come to together.
-pub(crate) fn gather<L: Drop>(alloc: Global, ends: LinkEnds<L>) -> Result<ServeEnd<L>, AllocError>
-    requires few { length ends.links.items ≤ MAX_LINKS }
-    ensures callers { IfOk result
-        (λ all. all.callers.items ≡ map caller_in ends.links.items ++ ends.ticker ∷ []) }
-    ensures told { IfOk result (λ all. TellsLinks ends.links.items ends.ticker_end all.told) }
+pub(crate) fn gather<L: Drop>(
+    alloc: Global,
+    ends: Vec<LinkEnd<L>>,
+    ticker_end: TickerEnd,
+) -> Result<LinksTold<L>, AllocError>
+    requires few { length ends.items ≤ MAX_LINKS }
+    ensures { IfOk result (TellsLinks ends.items ticker_end) }
 {
-    let LinkEnds {
-        links: ends,
-        ticker,
-        ticker_end,
-    } = ends;
-    let mut callers = Vec::with_capacity(alloc, ends.len() + 1)?;
     let mut links = Vec::with_capacity(alloc, ends.len())?;
     let mut faults = Vec::new(alloc);
     let mut failed = None;
@@ -47,7 +28,6 @@ pub(crate) fn gather<L: Drop>(alloc: Global, ends: LinkEnds<L>) -> Result<ServeE
     let mut link = 0;
     for end in ends {
         let LinkEnd {
-            caller,
             from,
             faults: told,
             over,
@@ -55,19 +35,16 @@ pub(crate) fn gather<L: Drop>(alloc: Global, ends: LinkEnds<L>) -> Result<ServeE
         failed = failed.or(failed_at(link, over));
         stop = stop.or(link_stop(over));
         append_faults(&mut faults, link, told)?;
-        callers.push(caller)?;
         links.push(from)?;
         link += 1;
     }
-    callers.push(ticker)?;
-    let told = LinksTold {
+    Ok(LinksTold {
         links,
         faults,
         failed,
         clock_failed: clock_failed(ticker_end),
         stop: stop.or(round_stop(ticker_end)),
-    };
-    Ok(ServeEnd { callers, told })
+    })
 }
 
 /// The link, if it failed.

@@ -1,19 +1,21 @@
 // The worker of one link.
-ghost use Rattle.std.specs.Prelude.{◌≡◌, ◌+◌, ◌<◌, length, IfOk};
+ghost use Rattle.std.specs.Prelude.{◌≡◌, ◌<◌, length, IfOk};
 ghost use Rattle.osc_edge.specs.declared.limits.TheConstants.{MAX_DATAGRAM};
+ghost use Rattle.osc_turn.specs.Passes.{view};
 ghost use Rattle.osc_live.specs.Tokens.{IsOurs};
-ghost use Rattle.osc_lanes.specs.Ends.{seen_by, holder_of};
-ghost use Rattle.osc_links.specs.Links.{HasEndCause, IsLinkEnd};
+ghost use Rattle.osc_life.specs.Holders.{seen_by, holder_of};
+ghost use Rattle.osc_links.specs.Links.{HasEndCause, ServesLink};
 ghost use Rattle.osc_links.specs.Taken.{TakesOne, TakesAll};
 
-use crate::link_plan::{LinkEnd, LinkPlan, Over};
+use crate::link_work::{LinkEnd, LinkWork, Over};
 use crate::served::Bounds;
 use osc_atoms::{Fault, Room};
 use osc_edge::{Datagram, Link, MAX_DATAGRAM};
-use osc_lanes::{Gate, send};
+use osc_lanes::send;
+use osc_life::{Desk, Done, Gate, Worker};
 use osc_live::{Caller, Live};
 use osc_method::Method;
-use std::alloc::{AllocError, Global};
+use std::alloc::AllocError;
 use std::sync::Wait;
 
 /// A link that isn't over, and the faults of its datagrams so far.
@@ -37,44 +39,38 @@ pub(crate) enum Step {
     Full(Room),
 }
 
-/// Serves a link until it is over. An `Err` is want of memory.
-pub(crate) fn serve_link<M: Method, W: Wait, L: Link + Drop, G: Gate>(
-    rt: &W,
-    alloc: Global,
-    live: &Live<M>,
-    plan: LinkPlan<L>,
-    bounds: Bounds,
-    gate: &G,
-) -> Result<LinkEnd<L>, AllocError>
-    requires ours { IsOurs live.now plan.caller }
-    requires count { 0 < bounds.count }
-    requires idle { 0 < bounds.idle }
-    ensures ours { IfOk result (λ end. IsOurs live.now end.caller) }
-    ensures end { IfOk result (λ end.
-        IsLinkEnd M.keep M.heard L.left L.faults live.now.caps bounds plan end) }
-{
-    let LinkPlan { link, caller, from } = plan;
-    let mut buffer = vec![in alloc; 0; MAX_DATAGRAM]?;
-    let opened = OpenLink {
-        link,
-        caller,
-        from,
-        faults: Vec::new(alloc),
-    };
-    let space = buffer.as_mut_slice();
-    let (last, over) = take_turns(rt, live, opened, space, bounds, gate)?;
-    let OpenLink {
-        caller,
-        from,
-        faults,
-        ..
-    } = last;
-    Ok(LinkEnd {
-        caller,
-        from,
-        faults,
-        over,
-    })
+impl<M: Method, L: Link + Send + Drop> Worker<M> for LinkWork<L> {
+    type End = LinkEnd<L>;
+
+    ghost ready = { λ work. (0 < work.bounds.count) × (0 < work.bounds.idle) };
+
+    ghost plays = { λ work end holder here there. ServesLink M.keep M.heard L.left L.faults holder
+        work.bounds work.from end here there };
+
+    fn work<W: Wait, G: Gate>(
+        self,
+        desk: &Desk<'_, M, W, G>,
+        caller: Caller,
+    ) -> Result<Done<LinkEnd<L>>, AllocError> {
+        let LinkWork { link, from, bounds } = self;
+        let mut buffer = vec![in desk.alloc; 0; MAX_DATAGRAM]?;
+        let opened = OpenLink {
+            link,
+            caller,
+            from,
+            faults: Vec::new(desk.alloc),
+        };
+        let space = buffer.as_mut_slice();
+        let (last, over) = take_turns(desk.rt, desk.live, opened, space, bounds, desk.gate)?;
+        let OpenLink {
+            caller,
+            from,
+            faults,
+            ..
+        } = last;
+        let end = LinkEnd { from, faults, over };
+        Ok(Done { caller, end })
+    }
 }
 
 /// Takes turns of the link until it is over.
@@ -93,6 +89,8 @@ fn take_turns<M: Method, W: Wait, L: Link + Drop, G: Gate>(
     ensures ours { IfOk result (λ r. IsOurs live.now r.0.caller) }
     ensures holder { IfOk result
         (λ r. holder_of live.now.caps r.0.caller ≡ holder_of live.now.caps opened.caller) }
+    ensures made { IfOk result
+        (λ r. (view r.0.caller.pass).made ≡ (view opened.caller.pass).made) }
     ensures taken { IfOk result (λ r. TakesAll M.keep M.heard
         (holder_of live.now.caps opened.caller) bounds opened.faults.items r.0.faults.items
         (L.left opened.from) (L.left r.0.from) r.1 (seen_by opened.caller) (seen_by r.0.caller)) }
@@ -142,6 +140,8 @@ fn take_turn<M: Method, W: Wait, L: Link + Drop, G: Gate>(
     ensures ours { IfOk result (λ r. IsOurs live.now r.0.caller) }
     ensures holder { IfOk result
         (λ r. holder_of live.now.caps r.0.caller ≡ holder_of live.now.caps opened.caller) }
+    ensures made { IfOk result
+        (λ r. (view r.0.caller.pass).made ≡ (view opened.caller.pass).made) }
     ensures takes { IfOk result (λ r. TakesOne M.keep M.heard
         (holder_of live.now.caps opened.caller) number opened.faults.items r.0.faults.items
         (L.left opened.from) (L.left r.0.from) (L.faults opened.from) (L.faults r.0.from) r.1

@@ -2,21 +2,22 @@
 ghost use Rattle.std.specs.Prelude.{◌≡◌, [], None};
 ghost use Rattle.std.specs.Option.{option_map};
 ghost use Rattle.osc_record.specs.Shown.{room_of};
+ghost use Rattle.osc_turn.specs.Passes.{view};
 ghost use Rattle.osc_live.specs.Tokens.{IsOurs};
 ghost use Rattle.osc_script.specs.declared.act.Act.TheVariants.{Tick, Pump};
 ghost use Rattle.osc_lanes.specs.Shares.{ended};
-ghost use Rattle.osc_lanes.specs.Ends.{seen_by, holder_of};
+ghost use Rattle.osc_life.specs.Holders.{seen_by, holder_of};
 ghost use Rattle.osc_lanes.specs.Tells.{TellsAct};
 ghost use Rattle.osc_links.specs.Ticks.{is_later, last_after, clock_read, PlaysRound};
-ghost use Rattle.osc_links.specs.Rounds.{IsRound, TicksMeanwhile};
+ghost use Rattle.osc_links.specs.Rounds.{IsRound, HasTicked, HasEnded, Keeps, end_of};
 
 use crate::served::TickerEnd;
 use osc_atoms::Room;
 use osc_edge::{Clock, Moment};
-use osc_live::{Caller, Live};
+use osc_life::{Desk, Done, Gate, Meanwhile};
+use osc_live::{Caller, Live, PumpEnd};
 use osc_method::Method;
 use std::sync::Wait;
-use std::sync::atomic::{AtomicU64, Ordering};
 
 /// What rounds came to.
 #[derive(Clone, Copy)]
@@ -27,48 +28,89 @@ pub(crate) enum Round {
     Over(TickerEnd),
 }
 
-/// Plays rounds until the links are over.
-pub(crate) fn tick_while<M: Method, W: Wait, C: Clock>(
-    rt: &W,
-    live: &Live<M>,
-    mut caller: Caller,
-    clock: &mut C,
-    over: &AtomicU64,
-) -> (Caller, Round)
-    requires ours { IsOurs live.now caller }
-    ensures ours { IsOurs live.now result.0 }
-    ensures holder { holder_of live.now.caps result.0 ≡ holder_of live.now.caps caller }
-    ensures ticks { TicksMeanwhile M.keep M.heard (holder_of live.now.caps caller)
-        (clock_read C.left C.faults clock.old clock.new)
-        result.1 (seen_by caller) (seen_by result.0) }
-{
-    let mut last = None;
-    for _ in rt.forever() {
-        let ended = over.load(Ordering::SeqCst) != 0;
-        if ended {
-            return (caller, Round::Played(last));
-        }
-        let (next, round) = play_round(rt, live, caller, clock, last);
-        caller = next;
-        match round {
-            Round::Played(after) => last = after,
-            Round::Over(end) => return (caller, Round::Over(end)),
+impl<M: Method, C: Clock> Meanwhile<M, C> for Round {
+    type End = TickerEnd;
+
+    ghost rounds = { λ before now state holder v w. HasTicked M.keep M.heard holder
+        (clock_read C.left C.faults before now) state v.seen w.seen };
+
+    ghost ends = { λ before after end holder tokens v w. HasEnded M.keep M.heard holder tokens
+        (clock_read C.left C.faults before after) end v.seen w.seen };
+
+    fn round<W: Wait, G: Gate>(
+        &mut self,
+        on: &mut C,
+        desk: &Desk<'_, M, W, G>,
+        caller: Caller,
+    ) -> (Caller, bool) {
+        match *self {
+            Round::Played(last) => {
+                let (caller, round, due) = play_round(desk.rt, desk.live, caller, on, last);
+                *self = round;
+                let more = goes_on(round);
+                wait_until(on, more, due);
+                (caller, more)
+            }
+            Round::Over(_) => (caller, false),
         }
     }
-    unreachable!()
+
+    fn last<W: Wait, G: Gate>(
+        self,
+        on: &mut C,
+        desk: &Desk<'_, M, W, G>,
+        caller: Caller,
+    ) -> Done<TickerEnd> {
+        match self {
+            Round::Played(last) => {
+                let (caller, round, _due) = play_round(desk.rt, desk.live, caller, on, last);
+                let end = end_of(round);
+                Done { caller, end }
+            }
+            Round::Over(end) => Done { caller, end },
+        }
+    }
 }
 
-/// Plays one round, after the one that has handed in `last`, if one has.
-pub(crate) fn play_round<M: Method, W: Wait, C: Clock>(
+fn goes_on(round: Round) -> bool {
+    match round {
+        Round::Played(_) => true,
+        Round::Over(_) => false,
+    }
+}
+
+fn end_of(round: Round) -> TickerEnd
+    ensures { result ≡ end_of round }
+{
+    match round {
+        Round::Played(_) => TickerEnd::Done,
+        Round::Over(end) => end,
+    }
+}
+
+/// Tells the clock until when nothing is to be done, where rounds go on.
+fn wait_until<C: Clock>(clock: &mut C, goes_on: bool, due: Option<u64>)
+    ensures same { C.left clock.new ≡ C.left clock.old }
+    ensures steady { C.faults clock.new ≡ C.faults clock.old }
+{
+    if goes_on {
+        clock.until(due);
+    }
+}
+
+/// Plays one round, after the one that has handed in `last`, if one has. The third value is the least due moment that is
+/// left in the queue.
+fn play_round<M: Method, W: Wait, C: Clock>(
     rt: &W,
     live: &Live<M>,
     caller: Caller,
     clock: &mut C,
     last: Option<u64>,
-) -> (Caller, Round)
+) -> (Caller, Round, Option<u64>)
     requires ours { IsOurs live.now caller }
     ensures ours { IsOurs live.now result.0 }
     ensures holder { holder_of live.now.caps result.0 ≡ holder_of live.now.caps caller }
+    ensures keeps { Keeps (view caller.pass) (view result.0.pass) }
     ensures round { IsRound M.keep M.heard (holder_of live.now.caps caller) last
         (clock_read C.left C.faults clock.old clock.new)
         result.1 (seen_by caller) (seen_by result.0) }
@@ -76,13 +118,13 @@ pub(crate) fn play_round<M: Method, W: Wait, C: Clock>(
     match clock.now() {
         Moment::At(moment) => {
             let after = later(last, moment);
-            let (caller, stop) = play_moment(rt, live, caller, last, moment);
+            let (caller, stop, due) = play_moment(rt, live, caller, last, moment);
             match stop {
-                None => (caller, Round::Played(after)),
-                Some(room) => (caller, Round::Over(TickerEnd::Full(room))),
+                None => (caller, Round::Played(after), due),
+                Some(room) => (caller, Round::Over(TickerEnd::Full(room)), None),
             }
         }
-        Moment::Failed => (caller, Round::Over(TickerEnd::ClockFailed)),
+        Moment::Failed => (caller, Round::Over(TickerEnd::ClockFailed), None),
     }
 }
 
@@ -92,10 +134,11 @@ fn play_moment<M: Method, W: Wait>(
     caller: Caller,
     last: Option<u64>,
     moment: u64,
-) -> (Caller, Option<Room>)
+) -> (Caller, Option<Room>, Option<u64>)
     requires ours { IsOurs live.now caller }
     ensures ours { IsOurs live.now result.0 }
     ensures holder { holder_of live.now.caps result.0 ≡ holder_of live.now.caps caller }
+    ensures keeps { Keeps (view caller.pass) (view result.0.pass) }
     ensures plays { PlaysRound M.keep M.heard (holder_of live.now.caps caller) last moment
         (option_map room_of result.1) (seen_by caller) (seen_by result.0) }
 {
@@ -105,7 +148,7 @@ fn play_moment<M: Method, W: Wait>(
     let (caller, stop) = tick(rt, live, caller, moment);
     match stop {
         None => pump(rt, live, caller),
-        Some(room) => (caller, Some(room)),
+        Some(room) => (caller, Some(room), None),
     }
 }
 
@@ -118,6 +161,7 @@ fn tick<M: Method, W: Wait>(
     requires ours { IsOurs live.now caller }
     ensures ours { IsOurs live.now result.0 }
     ensures holder { holder_of live.now.caps result.0 ≡ holder_of live.now.caps caller }
+    ensures keeps { Keeps (view caller.pass) (view result.0.pass) }
     ensures played { TellsAct M.keep M.heard (holder_of live.now.caps caller) 0 (Tick moment) [] []
         (ended [] None) (ended [] (option_map room_of result.1)) (seen_by caller)
         (seen_by result.0) }
@@ -126,16 +170,29 @@ fn tick<M: Method, W: Wait>(
     (caller, answer.stop())
 }
 
-fn pump<M: Method, W: Wait>(rt: &W, live: &Live<M>, caller: Caller) -> (Caller, Option<Room>)
+fn pump<M: Method, W: Wait>(
+    rt: &W,
+    live: &Live<M>,
+    caller: Caller,
+) -> (Caller, Option<Room>, Option<u64>)
     requires ours { IsOurs live.now caller }
     ensures ours { IsOurs live.now result.0 }
     ensures holder { holder_of live.now.caps result.0 ≡ holder_of live.now.caps caller }
+    ensures keeps { Keeps (view caller.pass) (view result.0.pass) }
     ensures played { TellsAct M.keep M.heard (holder_of live.now.caps caller) 0 Pump [] []
         (ended [] None) (ended [] (option_map room_of result.1)) (seen_by caller)
         (seen_by result.0) }
 {
     let (caller, pumped) = live.pump(rt, caller);
-    (caller, pumped.end.stop())
+    (caller, pumped.end.stop(), next_due(pumped.end))
+}
+
+/// The least due moment that is left in the queue.
+fn next_due(end: PumpEnd) -> Option<u64> {
+    match end {
+        PumpEnd::NothingDue { next } => next,
+        PumpEnd::RecordFull(_) => None,
+    }
 }
 
 /// Whether the moment is the first, or greater than the last one that was handed in.

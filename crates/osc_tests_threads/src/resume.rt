@@ -22,11 +22,16 @@ const DUE: &str = "0 add /a\n0 send 2f610000\n";
 /// The clock is moved to that moment.
 const GOING_ON: &str = "0 tick 0000000000000005\n0 pump\n";
 
+/// A lane whose message is due at once, and isn't released.
+const DUE: &str = "0 add /a\n0 send 2f610000\n";
+
 /// A recording that is gone on from.
 #[derive(Clone, Copy)]
 enum Past {
     /// That of the lane whose bundle waits.
     Waiting,
+    /// That of the lane whose message is due.
+    Due,
     /// The same without its last byte.
     Cut,
     /// The same, of a server whose recording has no room for more.
@@ -60,6 +65,7 @@ fn recording<R: Threads + Wait + Sync>(
 fn bytes_of<R: Threads + Wait + Sync>(rt: &R, alloc: Global, past: Past) -> Result<Vec<u8>, Fail> {
     match past {
         Past::Waiting => recording(rt, alloc, "lanes f", WAITING),
+        Past::Due => recording(rt, alloc, "lanes f", DUE),
         Past::Cut => {
             let mut bytes = recording(rt, alloc, "lanes f", WAITING)?;
             bytes.pop();
@@ -152,6 +158,14 @@ const ENDS: [(Given, u8, [&str; 2], usize, (usize, usize)); 25] = [
         0,
         [WAITING_TEXT, GOING_ON_TEXT],
         336,
+        (1, 7),
+    ),
+    // What was due then is released now.
+    (
+        ("resume o f", Past::Due, "0 pump\n", 8, Failing::None),
+        0,
+        [WAITING_TEXT, "enrol 0 2\nrelease 2 0 1\ncall 0 0 0 /a -\n"],
+        268,
         (1, 7),
     ),
     (

@@ -270,7 +270,8 @@ const PLAYED: [(Given, u8, &str, &[Datagram], u64); 12] = [
         &[Datagram::Got(30), Datagram::Quiet],
         7,
     ),
-    // No edge is called so often but the link, by this test.
+    // No edge is called so often but the link, by this test. How often the recording is written while it grows isn't
+    // told.
     (
         (
             USUAL,
@@ -279,7 +280,7 @@ const PLAYED: [(Given, u8, &str, &[Datagram], u64); 12] = [
             &[
                 (Edge::Source, 3),
                 (Edge::Sink, 2),
-                (Edge::Recording, 2),
+                (Edge::Recording, 100),
                 (Edge::FirstLink, 3),
             ],
         ),

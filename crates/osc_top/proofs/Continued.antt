@@ -34,7 +34,8 @@ use Rattle.osc_live.specs.declared.caller.Caller.{Caller}
 use Rattle.osc_live.proofs.Resumed.{RemovedLaw, opened_texts}
 use Rattle.osc_lanes.specs.Shares.{Account, IsRemovedAt, known_of}
 use Rattle.osc_lanes.specs.declared.part.LanePart.{LanePart}
-use Rattle.osc_lanes.specs.Performs.{Part, added_ids, part_of, removed_ids}
+use Rattle.osc_life.specs.Lives.{added_ids}
+use Rattle.osc_lanes.specs.Performs.{Part, part_of, removed_ids}
 use Rattle.osc_lanes.specs.Later.{IsClosedLater, PerformsLater}
 use Rattle.osc_player.proofs.Rising.{all_weaker}
 use Rattle.osc_replay.specs.Printed.{printed}

@@ -18,17 +18,19 @@ use Rattle.osc_core.specs.Standing.{history_in}
 use Rattle.osc_turn.specs.declared.view.Entry.{Entry as Seen}
 use Rattle.osc_turn.specs.History.{own, texts}
 use Rattle.osc_links.specs.declared.run.Hosted.{Hosted}
-use Rattle.osc_links.specs.declared.link_plan.LinkEnd.{LinkEnd}
-use Rattle.osc_links.specs.declared.link_plan.Over.{Over}
-use Rattle.osc_links.specs.declared.link_plan.Over.TheVariants.{Count, Idle, End, Failed, Full as OverFull}
+use Rattle.osc_links.specs.declared.link_work.LinkEnd.{LinkEnd}
+use Rattle.osc_links.specs.declared.link_work.Over.{Over}
+use Rattle.osc_links.specs.declared.link_work.Over.TheVariants.{Count, Idle, End, Failed, Full as OverFull}
 use Rattle.osc_links.specs.declared.served.Bounds.{Bounds}
 use Rattle.osc_links.specs.declared.served.TickerEnd.{TickerEnd}
 use Rattle.osc_links.specs.declared.served.TickerEnd.TheVariants.{Done as TickerDone, ClockFailed as TickerFailed, Full as TickerFull}
-use Rattle.osc_links.specs.Hosts.{IsServed, IsUnserved, ServesAll, Hosts}
+use Rattle.osc_links.specs.Hosts.{AreServed, IsUnserved, ServesAll, Hosts}
 use Rattle.osc_links.specs.Links.{LinkTurn, HasEndCause}
-use Rattle.osc_lanes.specs.Performs.{Part, Numbered, HasNoRoomToEnrol, holder_at}
-use Rattle.osc_links.specs.Serves.{failed_from, has_failed, is_clock_failed, link_in, seen_in}
-use Rattle.osc_lanes.specs.Shares.{Holder}
+use Rattle.osc_life.specs.Holders.{holder_at}
+use Rattle.osc_life.specs.Lives.{HasNoRoomToEnrol}
+use Rattle.osc_lanes.specs.Performs.{Part}
+use Rattle.osc_links.specs.Serves.{failed_from, has_failed, is_clock_failed, link_in}
+use Rattle.osc_life.specs.Holders.{Holder}
 use Rattle.osc_links.specs.Ticks.{ClockRead, EndsTicks}
 use Rattle.osc_lanes.specs.Shares.{Account}
 use Rattle.osc_print.specs.Lines.{fault_text}
@@ -101,17 +103,19 @@ none_failed None false stop is = (refl, refl)
 
 module _ {M L : Type 0} (left : L → Option (List LinkTurn)) (faults : L → ℕ) (keep : M → ℕ) (heard : M → Option (List ℕ)) (caps : Limits) (bounds : Bounds) where
   module _ (history : List Seen) where
-    abbrev AreServed : ℕ → List L → List (LinkEnd L) → Type 0
-    AreServed number links ends = Numbered (IsServed left faults keep heard caps bounds history) number links ends
+    abbrev Served : ℕ → List L → List (LinkEnd L) → List (List Seen) → Type 0
+    Served number links ends tokens = AreServed left faults keep heard caps bounds history number links ends tokens
 
     -- no link failed
-    links_still : (number first : ℕ) (links : List L) (ends : List (LinkEnd L)) → AreServed number links ends → failed_from first ends ≡ None
-        → map faults (map link_in ends) ≡ map faults links
-    links_still number first [] [] shares none = refl
-    links_still number first [] (end ∷ ends) shares none = absurd shares
-    links_still number first (link ∷ links) [] shares none = absurd shares
-    links_still number first (link ∷ links) (end ∷ ends) shares none =
-        go (has_failed end.over) refl none (links_still (number + 1) (first + 1) links ends shares.1) where
+    links_still : (number first : ℕ) (links : List L) (ends : List (LinkEnd L)) (tokens : List (List Seen)) → Served number links ends tokens
+        → failed_from first ends ≡ None → map faults (map link_in ends) ≡ map faults links
+    links_still number first [] [] [] shares none = refl
+    links_still number first [] [] (there ∷ tokens) shares none = absurd shares
+    links_still number first [] (end ∷ ends) tokens shares none = absurd shares
+    links_still number first (link ∷ links) [] tokens shares none = absurd shares
+    links_still number first (link ∷ links) (end ∷ ends) [] shares none = absurd shares
+    links_still number first (link ∷ links) (end ∷ ends) (there ∷ tokens) shares none =
+        go (has_failed end.over) refl none (links_still (number + 1) (first + 1) links ends tokens shares.1) where
           go : (test : Bool) → has_failed end.over ≡ test → (if test then Some first else failed_from (first + 1) ends) ≡ None
               → (failed_from (first + 1) ends ≡ None → map faults (map link_in ends) ≡ map faults links)
               → faults end.from ∷ map faults (map link_in ends) ≡ faults link ∷ map faults links
@@ -124,13 +128,14 @@ module _ {M L : Type 0} (left : L → Option (List LinkTurn)) (faults : L → �
     abbrev RisenFrom : ℕ → ℕ → List L → List (LinkEnd L) → Type 0
     RisenFrom first link links ends = (place : ℕ) × (link ≡ first + place) × HasLinkRisen faults place links (map link_in ends)
 
-    link_risen : (number first link : ℕ) (links : List L) (ends : List (LinkEnd L)) → AreServed number links ends → failed_from first ends ≡ Some link
-        → RisenFrom first link links ends
-    link_risen number first link [] [] shares is = absurd (cc)
-    link_risen number first link [] (end ∷ ends) shares is = absurd shares
-    link_risen number first link (one ∷ links) [] shares is = absurd shares
-    link_risen number first link (one ∷ links) (end ∷ ends) shares is =
-        go (has_failed end.over) refl is (link_risen (number + 1) (first + 1) link links ends shares.1) where
+    link_risen : (number first link : ℕ) (links : List L) (ends : List (LinkEnd L)) (tokens : List (List Seen)) → Served number links ends tokens
+        → failed_from first ends ≡ Some link → RisenFrom first link links ends
+    link_risen number first link [] [] tokens shares is = absurd (cc)
+    link_risen number first link [] (end ∷ ends) tokens shares is = absurd shares
+    link_risen number first link (one ∷ links) [] tokens shares is = absurd shares
+    link_risen number first link (one ∷ links) (end ∷ ends) [] shares is = absurd shares
+    link_risen number first link (one ∷ links) (end ∷ ends) (there ∷ tokens) shares is =
+        go (has_failed end.over) refl is (link_risen (number + 1) (first + 1) link links ends tokens shares.1) where
           same : Some first ≡ Some link → link ≡ first + 0
           same told = let equal : first ≡ link = cc in omega (arith, equal)
 
@@ -162,8 +167,8 @@ module _ {M L : Type 0} (left : L → Option (List LinkTurn)) (faults : L → �
       go : Serving ⊎ IsUnserved links clock hosted.links → (map faults hosted.links.links.items ≡ map faults links) × (clock.now ≡ clock.faults)
       go (inr unserved) = (ap (map faults) unserved.links_are, unserved.clock_is.1)
       go (inl serves) = (
-        ap (map faults) serves.tells.links_are ∙ links_still hosts.history 1 0 links serves.ends serves.shares (sym serves.tells.failed_is ∙ none),
-        ticks_still keep heard (holder_at caps (length links + 1)) serves.ticks.3.last (map seen_in serves.ends) serves.ticks.3.between clock serves.ticker_end
+        ap (map faults) serves.tells.links_are ∙ links_still hosts.history 1 0 links serves.ends serves.tokens serves.shares (sym serves.tells.failed_is ∙ none),
+        ticks_still keep heard (holder_at caps (length links + 1)) serves.ticks.3.last serves.tokens serves.ticks.3.between clock serves.ticker_end
             serves.ticks.3.place serves.ticks.1 serves.ticks.3.ends (sym serves.tells.clock_failed_is ∙ sound),
       )
 
@@ -172,7 +177,7 @@ module _ {M L : Type 0} (left : L → Option (List LinkTurn)) (faults : L → �
       go : Serving ⊎ IsUnserved links clock hosted.links → HasLinkRisen faults link links hosted.links.links.items
       go (inr unserved) = let none : None ≡ Some link = sym unserved.failed_is ∙ is in absurd (cc)
       go (inl serves) =
-          let risen = link_risen hosts.history 1 0 link links serves.ends serves.shares (sym serves.tells.failed_is ∙ is) in
+          let risen = link_risen hosts.history 1 0 link links serves.ends serves.tokens serves.shares (sym serves.tells.failed_is ∙ is) in
           let same : risen.0 ≡ link = omega (arith, risen.1) in
           subst (λ (l : List L). HasLinkRisen faults link links l) (sym serves.tells.links_are)
           (subst (λ (n : ℕ). HasLinkRisen faults n links (map link_in serves.ends)) same risen.2)
@@ -182,7 +187,7 @@ module _ {M L : Type 0} (left : L → Option (List LinkTurn)) (faults : L → �
       go : Serving ⊎ IsUnserved links clock hosted.links → Rose clock.faults clock.now
       go (inr unserved) = let none : false ≡ true = sym unserved.clock_failed_is ∙ is in absurd (cc)
       go (inl serves) =
-          ticks_risen keep heard (holder_at caps (length links + 1)) serves.ticks.3.last (map seen_in serves.ends) serves.ticks.3.between clock
+          ticks_risen keep heard (holder_at caps (length links + 1)) serves.ticks.3.last serves.tokens serves.ticks.3.between clock
           serves.ticker_end serves.ticks.3.place serves.ticks.1 serves.ticks.3.ends (sym serves.tells.clock_failed_is ∙ is)
 
 -- The faults of lanes, joined.

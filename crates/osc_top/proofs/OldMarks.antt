@@ -26,7 +26,7 @@ use Rattle.osc_core.proofs.Texts.{TextLaws, last_read}
 use Rattle.osc_turn.specs.History.{texts}
 use Rattle.osc_live.specs.Resuming.{HasMarkOf, added_in, removed_id, removed_in}
 use Rattle.osc_live.proofs.PlayedAgain.{ids_counted}
-use Rattle.osc_lanes.specs.Performs.{added_id, added_ids}
+use Rattle.osc_life.specs.Lives.{added_id, added_ids}
 use Rattle.osc_lanes.specs.Shares.{known_of}
 use Rattle.osc_script.specs.declared.line.Line.{Line}
 use Rattle.osc_ends.specs.declared.outcome.Outcome.{Outcome}

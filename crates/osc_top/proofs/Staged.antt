@@ -18,7 +18,8 @@ use Rattle.osc_links.specs.declared.run.Hosted.{Hosted}
 use Rattle.osc_links.specs.declared.served.Bounds.{Bounds}
 use Rattle.osc_links.specs.Hosts.{Hosts}
 use Rattle.osc_links.specs.Links.{LinkTurn}
-use Rattle.osc_lanes.specs.Performs.{IsClosedWith, added_ids, removed_ids, told_of, IsWhole}
+use Rattle.osc_life.specs.Lives.{added_ids}
+use Rattle.osc_lanes.specs.Performs.{IsClosedWith, removed_ids, told_of, IsWhole}
 use Rattle.osc_lanes.specs.Shares.{Account, IsRemovedAt, known_of}
 use Rattle.osc_links.specs.Ticks.{ClockRead}
 use Rattle.osc_live.specs.Seen.{performance_in}

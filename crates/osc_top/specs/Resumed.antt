@@ -15,7 +15,7 @@ use Rattle.osc_turn.specs.History.{texts}
 use Rattle.osc_live.specs.Resuming.{HasMarkOf, added_in, removed_in, roomier}
 use Rattle.osc_live.specs.Seen.{performance_in}
 use Rattle.osc_lanes.specs.Shares.{Account, known_of}
-use Rattle.osc_lanes.specs.Performs.{added_ids}
+use Rattle.osc_life.specs.Lives.{added_ids}
 use Rattle.osc_lanes.specs.Later.{PerformsLater}
 use Rattle.osc_replay.specs.Disagreeing.{IsRecordingOf}
 use Rattle.osc_replay.specs.Printed.{printed}

@@ -62,6 +62,7 @@ ghost use Rattle.osc_ends.specs.Ends.{IsWritten};
 ghost use Rattle.osc_top.specs.Enough.{enough_lanes};
 ghost use Rattle.osc_top.specs.Watched.{EndsListed};
 ghost use Rattle.osc_ends.specs.Outcomes.{status_of};
+ghost use Rattle.osc_growing.specs.Growing.{HasGrown, IsWithin};
 ghost use Rattle.osc_top.specs.Recorded.{EndsBoth};
 ghost use Rattle.osc_ends.specs.Printing.{recorded_text};
 ghost use Rattle.osc_ends.specs.Sinks.{sink_change, Fails, IsSteady, Gains, GainsUnless};
@@ -75,6 +76,7 @@ use crate::staging::stage;
 use osc_edge::{Clock, Link, Sink, Source};
 use osc_ends::status::NO_MEMORY;
 use osc_ends::{Ended, bank_short, count_adds, read_script, usage};
+use osc_growing::Growth;
 use osc_lanes::Gate;
 use osc_links::Bounds;
 use osc_method::Method;
@@ -88,7 +90,8 @@ use std::thread::Threads;
 /// its lanes by a thread of its own on one new server, and writes the recording to `rec`, and then the printed history
 /// and the faults of the lanes' packets to `out`; with `--watch` a watcher reads the list of methods meanwhile, and the
 /// list behind the lanes follows the faults. `serve FILE` reads a script of adds, plays it as caller 0, serves
-/// each of `links` by a thread of its own and the ticker, who reads `clock`, by another, and writes the same of them.
+/// each of `links` by a thread of its own and the ticker, who reads `clock`, by another, and writes the same of them; what
+/// is recorded is written to `rec` while the links are served.
 /// `osc replay` prints the same history from the recording.
 ///
 /// `words` are those of the command line, without the program's name. The k-th add of the script, whatever its lane,
@@ -306,15 +309,19 @@ fn play_lines<
         } => {
             let bounds = Bounds { count, idle };
             let caps = live_limits(caps);
-            match stage_links(rt, alloc, caps, lines, bank, links, clock, bounds, gate) {
-                Ok((played, links)) => (end(alloc, played, out, rec), links),
+            match stage_links(
+                rt, alloc, caps, lines, bank, links, clock, rec, bounds, gate,
+            ) {
+                Ok((played, links, growth)) => {
+                    (end_grown(alloc, played, growth, out, rec), links)
+                }
                 Err(_) => (unplayed(alloc, NO_MEMORY, Vec::new(alloc)), Vec::new(alloc)),
             }
         }
     }
 }
 
-/// Writes what was played.
+/// Writes what was played, of which nothing was written yet.
 pub(crate) fn end<O: Sink, R: Sink>(
     alloc: Global,
     played: Played<Box<dyn Method + Send>>,
@@ -332,13 +339,38 @@ pub(crate) fn end<O: Sink, R: Sink>(
     ensures heard { result.heard.items ≡ played.heard.items }
     ensures left { result.left.items ≡ played.left.items }
 {
+    end_grown(alloc, played, Growth::Written(0), out, rec)
+}
+
+/// Writes what was played and isn't written yet.
+fn end_grown<O: Sink, R: Sink>(
+    alloc: Global,
+    played: Played<Box<dyn Method + Send>>,
+    growth: Growth,
+    out: &mut O,
+    rec: &mut R,
+) -> Ended
+    requires recording { (caps : Limits) × (history : List Entry)
+        × IsRecordingOf played.recorded.bytes.items caps history }
+    requires within { IsWithin growth (length played.recorded.bytes.items) }
+    ensures ends { (start : R) (caps : Limits) (history : List Entry)
+        → HasGrown growth (sink_change R.held R.faults start rec.old)
+        played.recorded.bytes.items
+        → IsRecordingOf played.recorded.bytes.items caps history →
+        EndsBoth (status_of played.recorded.outcome) result.status played.recorded.bytes.items
+        (recorded_text caps history played.recorded.faults played.recorded.outcome)
+        (sink_change R.held R.faults start rec.new)
+        (sink_change O.held O.faults out.old out.new) }
+    ensures heard { result.heard.items ≡ played.heard.items }
+    ensures left { result.left.items ≡ played.left.items }
+{
     let Played {
         recorded,
         heard,
         left,
     } = played;
     Ended {
-        status: write_both(alloc, &recorded, out, rec),
+        status: write_both(alloc, &recorded, growth, out, rec),
         heard,
         left,
     }

@@ -1,5 +1,6 @@
 // Writes what a script came to on many threads.
-ghost use Rattle.std.specs.Prelude.{List};
+ghost use Rattle.std.specs.Prelude.{List, length};
+ghost use Rattle.osc_growing.specs.Growing.{HasGrown, IsWithin};
 ghost use Rattle.osc_model.specs.Limits.{Limits};
 ghost use Rattle.osc_model.specs.Events.{Entry};
 ghost use Rattle.osc_replay.specs.Disagreeing.{IsRecordingOf};
@@ -10,26 +11,31 @@ ghost use Rattle.osc_ends.specs.Sinks.{sink_change};
 
 use osc_edge::Sink;
 use osc_ends::status::DONE;
-use osc_ends::{Recorded, write_run_text, write_text};
+use osc_ends::{Recorded, write_run_text};
+use osc_growing::{Growth, write_rest};
 use std::alloc::Global;
 
-/// Writes the recording, and then its text, for which it is replayed.
+/// Writes what is left of the recording, which was written so far while it grew, and then its text, for which it is
+/// replayed.
 pub(crate) fn write_both<O: Sink, R: Sink>(
     alloc: Global,
     recorded: &Recorded,
+    growth: Growth,
     out: &mut O,
     rec: &mut R,
 ) -> u8
-    requires { (caps : Limits) × (history : List Entry)
+    requires recording { (caps : Limits) × (history : List Entry)
         × IsRecordingOf recorded.now.bytes.items caps history }
-    ensures { (caps : Limits) (history : List Entry)
+    requires within { IsWithin growth (length recorded.now.bytes.items) }
+    ensures { (start : R) (caps : Limits) (history : List Entry)
+        → HasGrown growth (sink_change R.held R.faults start rec.old) recorded.now.bytes.items
         → IsRecordingOf recorded.now.bytes.items caps history →
         EndsBoth (status_of recorded.now.outcome) result recorded.now.bytes.items
         (recorded_text caps history recorded.now.faults recorded.now.outcome)
-        (sink_change R.held R.faults rec.old rec.new)
+        (sink_change R.held R.faults start rec.new)
         (sink_change O.held O.faults out.old out.new) }
 {
-    let status = write_text(DONE, &recorded.bytes, rec);
+    let status = write_rest(&recorded.bytes, growth, rec);
     if status != DONE {
         return status;
     }

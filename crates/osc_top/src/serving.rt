@@ -5,6 +5,8 @@ ghost use Rattle.std.specs.Prelude.{◌≡◌, ◌++◌, ◌≤◌, ◌<◌, len
 ghost use Rattle.std.specs.Option.{option_map, option_or};
 ghost use Rattle.std.specs.List.Sorted.{IsPermutation, IsNonDecreasingBy};
 ghost use Rattle.osc_record.specs.Shown.{room_of};
+ghost use Rattle.osc_ends.specs.Sinks.{sink_change};
+ghost use Rattle.osc_growing.specs.Growing.{HasGrown};
 ghost use Rattle.osc_links.specs.Ticks.{clock_read};
 ghost use Rattle.osc_script.specs.Adds.{count_adds};
 ghost use Rattle.osc_top.specs.Served as ends;
@@ -13,8 +15,9 @@ ghost use Rattle.osc_top.specs.Staged.{IsStaged};
 
 use crate::played::Played;
 use osc_atoms::{Fault, Room};
-use osc_edge::{Clock, Link};
+use osc_edge::{Clock, Link, Sink};
 use osc_ends::{Outcome, Recorded, count_adds, stopped};
+use osc_growing::Growth;
 use osc_lanes::{Gate, LanePart, LaneTold};
 use osc_links::{Bounds, Hosted, LinksPart, run_links};
 use osc_method::Method;
@@ -27,13 +30,15 @@ use std::sync::Wait;
 use std::thread::Threads;
 
 /// Plays the lines on a new server as caller 0, the k-th add with the k-th box, and serves the links beside each other.
-/// The links come back in their order. An `Err` is want of memory.
+/// While the links are served, what is recorded is written to `rec`. The links come back in their order. An `Err` is want
+/// of memory.
 pub(crate) fn stage_links<
     M: Method + Send,
     L: Link + Send + Drop,
     C: Clock + Send,
     W: Threads + Wait + Sync,
     G: Gate + Sync,
+    R: Sink,
 >(
     rt: &W,
     alloc: Global,
@@ -42,20 +47,23 @@ pub(crate) fn stage_links<
     mut bank: Vec<M>,
     links: Vec<L>,
     clock: &mut C,
+    rec: &mut R,
     bounds: Bounds,
     gate: &G,
-) -> Result<(Played<M>, Vec<L>), AllocError>
+) -> Result<(Played<M>, Vec<L>, Growth), AllocError>
     requires callers { caps.callers ≡ LIVE_CALLERS }
     requires enough { count_adds lines.items ≤ length bank.items }
     requires few { length links.items ≤ MAX_LINKS }
     requires count { 0 < bounds.count }
     requires idle { 0 < bounds.idle }
-    ensures { IfOk result (λ staged. IsStaged
+    ensures staged { IfOk result (λ staged. IsStaged
         (PlaysLinks M.keep M.heard L.left L.faults caps bounds bank.items links.items
         (clock_read C.left C.faults clock.old clock.new) staged.0.heard.items
         staged.0.left.items staged.1.items lines.items)
         caps staged.0.recorded.bytes.items staged.0.recorded.faults
         staged.0.recorded.outcome) }
+    ensures grown { IfOk result (λ staged. HasGrown staged.2
+        (sink_change R.held R.faults rec.old rec.new) staged.0.recorded.bytes.items) }
 {
     let rest = bank.split_off(count_adds(&lines))?;
     let part = LanePart { lines, boxes: bank };
@@ -63,9 +71,11 @@ pub(crate) fn stage_links<
         from: links,
         bounds,
     };
-    let hosted = run_links(rt, alloc, caps, part, links, clock, gate)?;
+    let hosted = run_links(rt, alloc, caps, part, links, clock, rec, gate)?;
+    let growth = hosted.growth;
     let settled = settle_links(alloc, hosted, rest)?;
-    Ok(settled)
+    let (played, links) = settled;
+    Ok((played, links, growth))
 }
 
 /// Puts together what caller 0 and the links tell. The boxes that no line took are among those that are left.
@@ -95,6 +105,7 @@ fn settle_links<M: Method, L: Drop>(
         opening,
         unenrolled,
         links: told,
+        ..
     } = hosted;
     let LaneTold {
         removed,

@@ -3,11 +3,12 @@ use Rattle.std.specs.List.{AllZip, AllByRecursion}
 use Rattle.osc_live.specs.Seen.{IsTokenOf}
 use Rattle.osc_lanes.specs.declared.plan.LanePlan.{LanePlan}
 use Rattle.osc_lanes.specs.declared.plan.LaneEnd.{LaneEnd}
-use Rattle.osc_lanes.specs.Ends.{seen_by, holder_of, IsEndOf}
+use Rattle.osc_life.specs.Holders.{seen_by, holder_of}
+use Rattle.osc_lanes.specs.Ends.{IsEndOf}
 use Rattle.osc_lanes.specs.Performs.{told_of}
 use Rattle.osc_lanes.specs.Shares.{IsRemovedAt}
 use Rattle.osc_lanes.proofs.Staying.{removed_then}
-use Rattle.osc_lanes.proofs.Zipping.{zipped_jobs, all_of_zip, weaker_zip}
+use Rattle.osc_life.proofs.Zipping.{zipped_jobs, all_of_zip, weaker_zip}
 use Rattle.osc_lanes.proofs.lanes.play_lanes.Goals as goal
 use Rattle.osc_lanes.proofs.lanes.play_lanes.Goals.{In_ok-all}
 

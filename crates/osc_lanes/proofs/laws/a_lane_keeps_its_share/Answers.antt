@@ -1,4 +1,4 @@
-use Rattle.osc_lanes.specs.Ends.{seen_by, holder_of}
+use Rattle.osc_life.specs.Holders.{seen_by, holder_of}
 use Rattle.osc_lanes.specs.Performs.{told_of}
 use Rattle.osc_lanes.proofs.Staying.{removed_later}
 use Rattle.osc_lanes.proofs.laws.a_lane_keeps_its_share.Goals as goal

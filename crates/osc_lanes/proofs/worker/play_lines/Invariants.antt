@@ -3,7 +3,7 @@ use Rattle.std.specs.Vec.Iter.{into_iter_items}
 use Rattle.osc_turn.specs.Passes.{view}
 use Rattle.osc_live.specs.Tokens.{IsOurs}
 use Rattle.osc_script.specs.Adds.{count_adds}
-use Rattle.osc_lanes.specs.Ends.{seen_by, holder_of}
+use Rattle.osc_life.specs.Holders.{seen_by, holder_of}
 use Rattle.osc_lanes.specs.Performs.{told_of}
 use Rattle.osc_lanes.proofs.Going.{GoesOn}
 use Rattle.osc_lanes.proofs.worker.play_lines.Given as goal

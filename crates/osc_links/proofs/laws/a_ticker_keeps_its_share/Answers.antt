@@ -1,4 +1,4 @@
-use Rattle.osc_lanes.specs.Ends.{seen_by}
+use Rattle.osc_life.specs.Holders.{seen_by}
 use Rattle.osc_links.proofs.laws.a_ticker_keeps_its_share.Goals as goal
 
 pub returns : goal.returns

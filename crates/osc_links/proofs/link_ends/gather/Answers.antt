@@ -1,6 +1,6 @@
 use Rattle.std.proofs.Common.{length, ap, arith}
 use Rattle.std.specs.Vec.Iter.{into_iter_items}
-use Rattle.osc_links.specs.Serves.{caller_in, link_in}
+use Rattle.osc_links.specs.Serves.{link_in}
 use Rattle.osc_links.proofs.Totals.{mapped_on, faults_on, failed_on, stop_on}
 use Rattle.osc_links.proofs.link_ends.gather.Goals as goal
 
@@ -12,13 +12,12 @@ loop-end-preserved g c =
     let rest = into_iter_items c.next.new.self in
     let before = into_iter_items c.loop-end.end-iterator in
     record {
-      callers = mapped_on caller_in end rest before c.loop-end.callers.items c.push.new.self.items _ c.in_ok-push.ensures.items steps inv.callers;
-      links = mapped_on link_in end rest before c.loop-end.links.items c.push-in-loop-end.new.self.items _ c.in_ok-push-2.ensures.items steps inv.links;
+      links = mapped_on link_in end rest before c.loop-end.links.items c.push.new.self.items _ c.in_ok-push.ensures.items steps inv.links;
       faults = faults_on end rest before steps c.loop-end.link c.loop-end.faults.items c.append_faults.new.all.items _ c.in_ok-append_faults.ensures
           inv.faults;
       failed = failed_on end rest before steps c.loop-end.link c.loop-end.failed c.failed_at.result c.or-failed.result _ c.or-failed.ensures
           c.failed_at.ensures inv.failed;
-      stop = stop_on end rest before steps c.args.ends.ticker_end c.loop-end.stop c.link_stop.result c.or-stop.result _ c.or-stop.ensures c.link_stop.ensures
+      stop = stop_on end rest before steps c.args.ticker_end c.loop-end.stop c.link_stop.result c.or-stop.result _ c.or-stop.ensures c.link_stop.ensures
           inv.stop;
       count = omega (arith, inv.count, ap length steps);
     }

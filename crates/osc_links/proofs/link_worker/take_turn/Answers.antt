@@ -1,5 +1,5 @@
 use Rattle.std.proofs.Common.{[], None, Some}
-use Rattle.osc_lanes.specs.Ends.{holder_of}
+use Rattle.osc_life.specs.Holders.{holder_of}
 use Rattle.osc_links.proofs.Turning.{sent_so}
 use Rattle.osc_links.proofs.link_worker.take_turn.Goals as goal
 

@@ -1,6 +1,6 @@
 use Rattle.std.proofs.Common.{refl, ◌+◌, ◌∙◌, arith}
-use Rattle.osc_links.specs.declared.link_plan.Over.TheVariants.{Count, Idle}
-use Rattle.osc_lanes.specs.Ends.{seen_by, holder_of}
+use Rattle.osc_links.specs.declared.link_work.Over.TheVariants.{Count, Idle}
+use Rattle.osc_life.specs.Holders.{seen_by, holder_of}
 use Rattle.osc_links.proofs.Turning.{turns_over, came_sent, came_quiet, came_end, came_failed, came_full}
 use Rattle.osc_links.proofs.link_worker.take_turns.Goals as goal
 
@@ -36,6 +36,7 @@ loop-preserved-else-taken-bounds g c =
     record {
       ours = c.in_ok-next.ensures.ours;
       holder = c.in_ok-next.ensures.holder ∙ inv.holder;
+      made = c.in_ok-next.ensures.made ∙ inv.made;
       space = c.in_ok-next.ensures.space ∙ inv.space;
       within = (omega (arith, inv.within.0, c.if-taken-bounds.false), c.requires.idle);
       count = came.1 ∙ inv.count;
@@ -52,6 +53,7 @@ loop-preserved g c =
     record {
       ours = c.in_ok-next.ensures.ours;
       holder = c.in_ok-next.ensures.holder ∙ inv.holder;
+      made = c.in_ok-next.ensures.made ∙ inv.made;
       space = c.in_ok-next.ensures.space ∙ inv.space;
       within = (inv.within.0, omega (arith, inv.within.1, c.if-quiets-bounds.false));
       count = came.1 ∙ inv.count;

@@ -1,7 +1,8 @@
 use Rattle.std.proofs.Common.{◌≡◌, true, rules}
-use Rattle.osc_lanes.specs.Ends.{seen_by, holder_of}
+use Rattle.osc_life.specs.Holders.{seen_by, holder_of}
 use Rattle.osc_links.specs.Ticks.{is_later}
 use Rattle.osc_links.proofs.Ticking.{round_later}
+use Rattle.osc_links.proofs.Tickings.{keeps_on}
 use Rattle.osc_links.proofs.ticker.play_moment.Goals as goal
 
 pub returns-in-None-clause-plays : goal.returns-in-None-clause-plays
@@ -11,3 +12,6 @@ returns-in-None-clause-plays g c =
     (holder_of c.args.live.now.caps c.tick-caller.result.0) c.tick-caller.result.1 c.pump-in-None.result.1 (seen_by c.args.caller)
     (seen_by c.tick-caller.result.0) (seen_by c.pump-in-None.result.0) later c.in-None.is c.tick-caller.ensures.played c.tick-caller.ensures.holder
     c.pump-in-None.ensures.played
+
+pub returns-in-None-clause-keeps : goal.returns-in-None-clause-keeps
+returns-in-None-clause-keeps g c = keeps_on _ _ _ c.tick-caller.ensures.keeps c.pump-in-None.ensures.keeps

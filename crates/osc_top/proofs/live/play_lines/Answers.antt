@@ -4,6 +4,8 @@ use Rattle.osc_words.specs.declared.command.LiveCommand.TheVariants as live
 use Rattle.osc_script.specs.Adds.{count_adds}
 use Rattle.osc_top.proofs.LiveEnds.{ends_short, lanes_end, links_end, both_played}
 use Rattle.osc_top.proofs.Staged.{lanes_ascending, links_ascending}
+use Rattle.osc_ends.specs.Sinks.{sink_change}
+use Rattle.osc_growing.proofs.Growths.{grown_within}
 use Rattle.osc_top.proofs.live.play_lines.Goals as goal
 
 pub returns-then-len-need-clause-ends : goal.returns-then-len-need-clause-ends
@@ -24,12 +26,17 @@ returns-in-Ok-clause-ends g c = λ script is.
 pub returns-in-Ok-stage_links-clause-ends : goal.returns-in-Ok-stage_links-clause-ends
 returns-in-Ok-stage_links-clause-ends g c = λ script is.
     let enough : count_adds c.args.lines.items ≤ length c.args.bank.items = search rules in
-    let staged = c.in-Ok-stage_links.ensures in
-    let end = c.end-in-Ok-stage_links.ensures in
+    let staged = c.in-Ok-stage_links.ensures.staged in
+    let grown = c.in-Ok-stage_links.ensures.grown in
+    let end = c.end_grown.ensures in
     let limits = c.live_limits-caps.result in
     links_end _ _ _ _ c.args.command limits _ script _ _ _ _ _ _ _ _ _ _ c.args.lines.items _ _ _ is end.heard end.left enough
     c.in-Serve.transport c.in-Serve.port c.in-Serve.links c.in-Serve.count c.in-Serve.idle c.in-Serve.caps c.in-Serve.is c.live_limits-caps.ensures staged
-    (end.ends limits staged.history staged.recording_of)
+    (end.ends c.args.rec.now limits staged.history grown staged.recording_of)
+
+pub end_grown-requires-clause-within : goal.end_grown-requires-clause-within
+end_grown-requires-clause-within g c =
+    grown_within c.in-Ok-stage_links.growth (sink_change g.R.Sink.held g.R.Sink.faults c.args.rec.now c.stage_links.new.rec) c.in-Ok-stage_links.played.recorded.bytes.items c.in-Ok-stage_links.ensures.grown
 
 pub returns-in-Ok-clause-back : goal.returns-in-Ok-clause-back
 returns-in-Ok-clause-back g c =
@@ -56,9 +63,10 @@ returns-in-Ok-clause-alone g c =
 
 pub returns-in-Ok-stage_links-clause-back : goal.returns-in-Ok-stage_links-clause-back
 returns-in-Ok-stage_links-clause-back g c =
-    let staged = c.in-Ok-stage_links.ensures in
-    let end = c.end-in-Ok-stage_links.ensures in
-    let both = end.ends c.live_limits-caps.result staged.history staged.recording_of in
+    let staged = c.in-Ok-stage_links.ensures.staged in
+    let grown = c.in-Ok-stage_links.ensures.grown in
+    let end = c.end_grown.ensures in
+    let both = end.ends c.args.rec.now c.live_limits-caps.result staged.history grown staged.recording_of in
     record {
       ascending =
           subst (λ l. is_ascending (map (λ one. one.0) l) ≡ true) (sym end.heard)
@@ -69,9 +77,10 @@ returns-in-Ok-stage_links-clause-back g c =
 
 pub returns-in-Ok-stage_links-clause-alone : goal.returns-in-Ok-stage_links-clause-alone
 returns-in-Ok-stage_links-clause-alone g c =
-    let staged = c.in-Ok-stage_links.ensures in
-    let end = c.end-in-Ok-stage_links.ensures in
-    let both = end.ends c.live_limits-caps.result staged.history staged.recording_of in
+    let staged = c.in-Ok-stage_links.ensures.staged in
+    let grown = c.in-Ok-stage_links.ensures.grown in
+    let end = c.end_grown.ensures in
+    let both = end.ends c.args.rec.now c.live_limits-caps.result staged.history grown staged.recording_of in
     record {
       unrecorded = λ unplayed. absurd (both_played _ _ _ _ _ _ both unplayed);
       unserved = λ unplayed. absurd (both_played _ _ _ _ _ _ both unplayed);

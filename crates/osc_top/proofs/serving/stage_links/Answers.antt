@@ -1,4 +1,6 @@
-use Rattle.std.proofs.Common.{◌≡◌, ℕ, List, take, drop, ap, subst, ◌∙◌, rules}
+use Rattle.std.proofs.Common.{◌≡◌, ℕ, List, take, drop, ap, subst, sym, ◌∙◌, rules}
+use Rattle.osc_ends.specs.Sinks.{sink_change}
+use Rattle.osc_growing.specs.Growing.{HasGrown}
 use Rattle.osc_links.specs.Hosts.{Hosts}
 use Rattle.osc_links.specs.Ticks.{clock_read}
 use Rattle.osc_script.specs.Adds.{count_adds}
@@ -11,8 +13,8 @@ run_links-requires-clause-whole g c _ _ =
     adds_whole c.args.lines.items c.args.bank.items _ c.requires.enough
     (c.in_ok-rest.ensures.items ∙ ap (λ (n : ℕ). take n c.args.bank.items) adds)
 
-pub returns : goal.returns
-returns g c =
+pub returns-clause-staged : goal.returns-clause-staged
+returns-clause-staged g c =
     let keep = g.M.Method.keep in
     let heard = g.M.Method.heard in
     let turns = g.L.Link.left in
@@ -27,6 +29,11 @@ returns g c =
     let boxes = c.in_ok-rest.ensures.items ∙ ap (λ (n : ℕ). take n bank) adds in
     let hosts =
     subst (λ (l : List g.row.M.Denot). Hosts turns faults keep heard caps c.args.bounds (record { lines = lines; boxes = l }) c.args.links.items clock hosted)
-    boxes c.in_ok-hosted.ensures in
+    boxes c.in_ok-hosted.ensures.hosts in
     links_staged keep heard turns faults caps c.args.bounds lines bank c.args.links.items clock hosted _ hosts done.each done.ascending _ _ _ _ _ _
     done.bytes done.left (c.in_ok-rest.ensures.tail ∙ ap (λ (n : ℕ). drop n bank) adds) done.links done.faults done.outcome
+
+pub returns-clause-grown : goal.returns-clause-grown
+returns-clause-grown g c =
+    subst (HasGrown c.in_ok-hosted.hosted.growth (sink_change g.R.Sink.held g.R.Sink.faults c.args.rec.now c.run_links.new.rec)) (sym c.in_ok-settled.ensures.bytes)
+    c.in_ok-hosted.ensures.grown

@@ -1,0 +1,28 @@
+use Rattle.std.proofs.Common.{refl, ◌∙◌}
+use Rattle.osc_turn.specs.Passes.{view}
+use Rattle.osc_growing.specs.Growing.{recorded}
+use Rattle.osc_growing.proofs.Growths.{grown_none, looked_none, looked_on}
+use Rattle.osc_growing.proofs.growing.write_while.Goals as goal
+
+pub loop-init : goal.loop-init
+loop-init g c = record {
+  ours = c.requires.ours;
+  number = refl;
+  looked = looked_none (view c.args.first.pass);
+  grown = grown_none (g.R.Sink.held c.args.rec.now) (g.R.Sink.faults c.args.rec.now) (recorded c.args.live.now.caps (view c.args.first.pass));
+}
+
+pub loop-preserved : goal.loop-preserved
+loop-preserved g c = record {
+  ours = c.write_new-next.ensures.ours;
+  number = c.write_new-next.ensures.number ∙ c.loop.invariant.number;
+  looked = looked_on (view c.args.first.pass) (view c.loop.first.pass) (view c.write_new-next.result.0.pass) c.loop.invariant.looked c.write_new-next.ensures.looked;
+  grown = c.write_new-next.ensures.grown c.args.rec.now c.loop.invariant.grown;
+}
+
+pub returns-then-is_done-clause-looked : goal.returns-then-is_done-clause-looked
+returns-then-is_done-clause-looked g c =
+    looked_on (view c.args.first.pass) (view c.loop.first.pass) (view c.write_new-next.result.0.pass) c.loop.invariant.looked c.write_new-next.ensures.looked
+
+pub returns-then-is_done-clause-grown : goal.returns-then-is_done-clause-grown
+returns-then-is_done-clause-grown g c = c.write_new-next.ensures.grown c.args.rec.now c.loop.invariant.grown

@@ -1,0 +1,13 @@
+pub mod Balance
+pub mod Behind
+pub mod Ending
+pub mod Enrolling
+pub mod Finishing
+pub mod Learning
+pub mod Looks
+pub mod Resumed
+pub mod Rounds
+pub mod Sharing
+pub mod Staging
+pub mod Under
+pub mod Zipping
