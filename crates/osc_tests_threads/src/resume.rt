@@ -16,9 +16,6 @@ use std::thread::Threads;
 /// A lane whose bundle waits for the moment 5.
 const WAITING: &str = "0 add /a\n0 send 2362756e646c6500 0000000000000005 00000004 2f610000\n";
 
-/// A lane whose message waits for nothing.
-const DUE: &str = "0 add /a\n0 send 2f610000\n";
-
 /// The clock is moved to that moment.
 const GOING_ON: &str = "0 tick 0000000000000005\n0 pump\n";
 
@@ -36,8 +33,6 @@ enum Past {
     Cut,
     /// The same, of a server whose recording has no room for more.
     Full,
-    /// That of a lane whose message is due.
-    Due,
     /// That of `osc run` on an empty script, which has one caller.
     Plain,
 }
@@ -72,7 +67,6 @@ fn bytes_of<R: Threads + Wait + Sync>(rt: &R, alloc: Global, past: Past) -> Resu
             Ok(bytes)
         }
         Past::Full => recording(rt, alloc, "lanes --recording 208 f", WAITING),
-        Past::Due => recording(rt, alloc, "lanes f", DUE),
         Past::Plain => Ok(plain(alloc, "run --bytes", b"")?.1),
     }
 }
@@ -160,7 +154,7 @@ const ENDS: [(Given, u8, [&str; 2], usize, (usize, usize)); 25] = [
         336,
         (1, 7),
     ),
-    // What was due then is released now.
+    // A pump that is the first of its lane releases what the past left due.
     (
         ("resume o f", Past::Due, "0 pump\n", 8, Failing::None),
         0,
@@ -181,14 +175,6 @@ const ENDS: [(Given, u8, [&str; 2], usize, (usize, usize)); 25] = [
         ["malformed 132\n", ""],
         0,
         (0, 8),
-    ),
-    // A pump that is the first of its lane releases what the past left.
-    (
-        ("resume o f", Past::Due, "0 pump\n", 8, Failing::None),
-        0,
-        [WAITING_TEXT, "enrol 0 2\nrelease 2 0 1\ncall 0 0 0 /a -\n"],
-        268,
-        (1, 7),
     ),
     // Nothing is done: what was recorded is written again.
     (
