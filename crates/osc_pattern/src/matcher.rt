@@ -350,7 +350,8 @@ fn after_plain<L: Ledger>(
     reached.behind(marks[own as usize])
 }
 
-/// The places that stand one byte after one of these, where the set matches the byte. The list is read once for all places.
+/// The places that stand one byte after one of these, where the set matches the byte. The list is read once for all places,
+/// a step for each range.
 fn after_set<L: Ledger>(list: &[u8], reached: &Places, name: &[u8], steps: &mut Steps<L>) -> Places
     requires { length name.now ≤ MAX_NAME }
     ensures value { (test : List ℕ → Bool) → passes test result name.now
@@ -359,7 +360,7 @@ fn after_set<L: Ledger>(list: &[u8], reached: &Places, name: &[u8], steps: &mut 
     ensures bounded { steps.new
         ≤ steps.old + (length name.now + 1) * length (item_text (set list.now)) }
 {
-    let set = ReadSet::of(list);
+    let set = ReadSet::of(list, steps);
     after_one(&set.bytes, set.within, reached, name, steps)
 }
 

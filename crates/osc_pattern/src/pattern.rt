@@ -108,9 +108,9 @@ impl<'a> Pattern<'a> {
 
     /// Whether the part at this place, counted from 0, matches the name. It takes no memory.
     ///
-    /// A step is to examine one byte of the part, or its end, for one place of the name or for all of them at once. A
-    /// range of a list counts as one byte. To look for the end of a part or of a bracket, and to pass stars and `{}` that
-    /// add nothing, takes none.
+    /// A step is to examine one byte of the part, or its end, for one place of the name or for all of them at once. Each
+    /// range of a list counts as one byte; a list that was read for all places at once takes one step more for each place.
+    /// To look for the end of a part or of a bracket, and to pass stars and `{}` that add nothing, takes none.
     #[tactic(auto, using(crate::proofs::PatternLaws::laws))]
     pub fn matches_part<L: Ledger>(&self, part: u32, name: &[u8], steps: &mut Steps<L>) -> bool
         requires part { part < length (parts_of self.now) }

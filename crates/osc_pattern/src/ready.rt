@@ -45,7 +45,7 @@ impl<'a> ReadyPart<'a> {
         }
     }
 
-    /// Reads the part's lists, and leaves out what adds nothing.
+    /// Reads the part's lists, and leaves out what adds nothing. It takes no step.
     pub fn read(part: &'a [u8]) -> ReadyPart<'a>
         ensures { IsReadOf result part.now }
     {
@@ -109,7 +109,7 @@ fn ready_item(item: Item<'_>) -> Ready<'_>
     ensures size { ready_size result ≤ length (item_text (item_of item.entry)) }
 {
     match item {
-        Item::Set(list) => Ready::Set(ReadSet::of(list)),
+        Item::Set(list) => Ready::Set(ReadSet::uncounted(list)),
         Item::Any | Item::Star | Item::Choice(_) | Item::Plain(_) => Ready::Other(item),
     }
 }

@@ -7,5 +7,5 @@ use Rattle.osc_pattern.proofs.ready.ready_item.Goals as goal
 
 pub returns-in-Set-clause-same : goal.returns-in-Set-clause-same
 returns-in-Set-clause-same c name =
-    set_read (is_as c.of.result.bytes c.of.result.within) c.in-Set.list.now c.of.ensures name
+    set_read (is_as c.uncounted.result.bytes c.uncounted.result.within) c.in-Set.list.now c.uncounted.ensures name
     ∙ sym (ap (λ i. after_item (item_of i) name) c.in-Set.is)
