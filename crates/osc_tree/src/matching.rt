@@ -260,6 +260,9 @@ fn count_wild(pattern: &Pattern<'_>, parts: u32) -> u32
     requires { parts ≡ length (parts_of pattern.now) }
     ensures { All (λ part. list_any is_special part ≡ false) (drop result (parts_of pattern.now)) }
 {
+    if ends_special(pattern.bytes()) {
+        return parts;
+    }
     let mut wild = parts;
     while wild > 0 {
         if first_special(pattern.part(wild - 1)).is_some() {
@@ -268,6 +271,14 @@ fn count_wild(pattern: &Pattern<'_>, parts: u32) -> u32
         wild -= 1;
     }
     0
+}
+
+/// Whether the last part is seen to have a special byte by its last byte alone.
+fn ends_special(text: &[u8]) -> bool {
+    match text {
+        [.., b'*' | b'?' | b']' | b'}'] => true,
+        _ => false,
+    }
 }
 
 /// How many bytes the names take up to the last part that isn't plain. With these names no other method matches.
