@@ -20,7 +20,7 @@ pub use appending::{
 pub use blob::{blob_at, known_blob_at};
 pub use bytes::Bytes;
 pub use fault::Fault;
-pub use limits::MAX_BYTES;
+pub use limits::{MAX_BYTES, MAX_PACKET};
 pub use number::{known_tag_at, known_word_at, tag_at, word_at};
 pub use room::Room;
 pub use sizes::{blob_size, string_size};

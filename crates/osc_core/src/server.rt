@@ -28,7 +28,7 @@ use crate::store::{Store, Stored};
 use crate::units::{enter_all, take_first};
 use osc_atoms::Room;
 use osc_method::Method;
-use osc_model::{Late, Need};
+use osc_model::{Late, Need, need_of};
 use osc_packet::{MAX_STORED, Packet};
 use osc_pattern::Address;
 use osc_queue::Queue;
@@ -136,7 +136,7 @@ impl Server {
             count,
             places: keeps,
             blocks: need,
-        } = self.late.need(self.clock, packet);
+        } = need_of(self.late, self.clock, packet);
         let places = self.queue.free();
         if keeps > places {
             return Submitted::UnitsFull(Room::new(u64::from(keeps), u64::from(places)));

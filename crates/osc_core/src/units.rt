@@ -8,7 +8,7 @@ ghost use Rattle.osc_model.specs.Step as step;
 ghost use Rattle.osc_core.specs.Views.{queue_of, AreKept, AreQueued};
 
 use crate::store::{Store, Stored};
-use osc_model::Late;
+use osc_model::{Late, keeps};
 use osc_packet::{Packet, Unit};
 use osc_queue::Queue;
 
@@ -72,7 +72,7 @@ fn enter_kept(
     ensures places { queue.new.limit ≡ queue.old.limit }
     ensures limit { length store.new ≡ length store.old }
 {
-    if late.keeps(clock, unit) {
+    if keeps(late, clock, unit) {
         enter(queue, store, unit, clock, number);
     }
 }

@@ -6,7 +6,7 @@ use Rattle.std.specs.Prelude.{MatchOption}
 use Rattle.std.specs.Option.{option_map_or}
 use Rattle.std.proofs.lemmas.List.Sums.{sum_by-cons, sum_by_push}
 use Rattle.osc_atoms.specs.declared.fault.Fault.{Fault}
-use Rattle.osc_packet.specs.declared.limits.TheConstants.{MAX_PACKET}
+use Rattle.osc_atoms.specs.declared.limits.TheConstants.{MAX_PACKET}
 use Rattle.osc_packet.specs.Reading.{packet_fault}
 use Rattle.osc_model.specs.Events.{Event, Answer, Entry, Room, adds_entry, add, remove, submit, tick, release, released, record_full, room_in}
 use Rattle.osc_model.specs.History.{stepped_in}

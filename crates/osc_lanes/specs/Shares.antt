@@ -3,7 +3,7 @@ use Rattle.std.specs.Prelude.{◌≡◌, ℕ, zero, suc, List, [], ◌∷◌, �
 use Rattle.std.specs.Prelude.{MatchOption, MatchBool}
 use Rattle.std.specs.List.{AllByRecursion}
 use Rattle.osc_atoms.specs.declared.fault.Fault.{Fault}
-use Rattle.osc_packet.specs.declared.limits.TheConstants.{MAX_PACKET}
+use Rattle.osc_atoms.specs.declared.limits.TheConstants.{MAX_PACKET}
 use Rattle.osc_packet.specs.Reading.{packet_fault}
 use Rattle.osc_model.specs.Limits.{Limits}
 use Rattle.osc_model.specs.Events.{Event, Answer, Entry, Hit, Room, adds_entry, add, remove, submit}

@@ -23,3 +23,4 @@ pub use build_fault::BuildFault;
 pub use builder::Builder;
 pub use limits::{MAX_BUILT, MAX_BUILT_PATTERN};
 pub use message::Message;
+pub use osc_atoms::Bytes;

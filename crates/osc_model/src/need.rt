@@ -1,7 +1,8 @@
 // Which units of a packet are kept, and what they need.
-ghost use Rattle.std.specs.Prelude.{◌≡◌, ◌+◌, ◌<◌, ◌^◌, ◌∷◌, [], length};
+ghost use Rattle.std.specs.Prelude.{◌≡◌, ◌+◌, ◌<◌, ◌≤◌, ◌^◌, ◌∷◌, [], length};
+ghost use Rattle.osc_packet.specs.Reading.{units_read};
 ghost use Rattle.osc_packet.specs.Units.{blocks_of};
-ghost use Rattle.osc_model.specs.Step.{is_late, kept};
+ghost use Rattle.osc_model.specs.Step.{is_kept, is_late, kept};
 
 use crate::late::Late;
 use osc_packet::{Packet, Unit};
@@ -15,44 +16,37 @@ pub struct Need {
     pub blocks: u32,
 }
 
-impl Late {
-    ghost use Rattle.std.specs.Prelude.{◌≡◌, ◌≤◌, length};
-    ghost use Rattle.osc_packet.specs.Reading.{units_read};
-    ghost use Rattle.osc_packet.specs.Units.{blocks_of};
-    ghost use Rattle.osc_model.specs.Step.{is_kept, kept};
-
-    /// Whether a unit is kept that is submitted at this clock.
-    pub fn keeps(self, clock: u64, unit: &Unit<'_>) -> bool
-        ensures { result ≡ is_kept self clock unit.now }
-    {
-        match self {
-            Late::Deliver => true,
-            Late::Discard => !is_late(clock, unit),
-        }
+/// Whether a unit is kept that is submitted at this clock.
+pub fn keeps(late: Late, clock: u64, unit: &Unit<'_>) -> bool
+    ensures { result ≡ is_kept late clock unit.now }
+{
+    match late {
+        Late::Deliver => true,
+        Late::Discard => !is_late(clock, unit),
     }
+}
 
-    /// What the units of a packet need that are kept at this clock.
-    pub fn need(self, clock: u64, packet: &Packet<'_>) -> Need
-        ensures count { result.count ≡ length (units_read packet.now) }
-        ensures places { result.places ≡ length (kept self clock (units_read packet.now)) }
-        ensures blocks { result.blocks ≡ blocks_of (kept self clock (units_read packet.now)) }
-        ensures few { result.places ≤ length (units_read packet.now) }
-    {
-        // The packet is valid, as it tells.
-        let _ = packet.bytes();
-        let mut need = Need {
-            count: 0,
-            places: 0,
-            blocks: 0,
-        };
-        if let Some(unit) = packet.alone() {
-            return with_unit(need, self, clock, &unit);
-        }
-        for unit in packet.units() {
-            need = with_unit(need, self, clock, &unit);
-        }
-        need
+/// What the units of a packet need that are kept at this clock.
+pub fn need_of(late: Late, clock: u64, packet: &Packet<'_>) -> Need
+    ensures count { result.count ≡ length (units_read packet.now) }
+    ensures places { result.places ≡ length (kept late clock (units_read packet.now)) }
+    ensures blocks { result.blocks ≡ blocks_of (kept late clock (units_read packet.now)) }
+    ensures few { result.places ≤ length (units_read packet.now) }
+{
+    // The packet is valid, as it tells.
+    let _ = packet.bytes();
+    let mut need = Need {
+        count: 0,
+        places: 0,
+        blocks: 0,
+    };
+    if let Some(unit) = packet.alone() {
+        return with_unit(need, late, clock, &unit);
     }
+    for unit in packet.units() {
+        need = with_unit(need, late, clock, &unit);
+    }
+    need
 }
 
 /// Whether a unit is late at a clock.
@@ -72,7 +66,7 @@ fn with_unit(need: Need, late: Late, clock: u64, unit: &Unit<'_>) -> Need
     ensures blocks { result.blocks ≡ need.blocks + blocks_of (kept late clock (unit.now ∷ [])) }
 {
     let count = need.count + 1;
-    if late.keeps(clock, unit) {
+    if keeps(late, clock, unit) {
         Need {
             count,
             places: need.places + 1,

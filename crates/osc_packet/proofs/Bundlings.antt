@@ -1,5 +1,5 @@
 -- Bundles of messages: what their bytes stand for, and that they are packets of one unit.
-use Rattle.osc_packet.specs.declared.limits.TheConstants.{MAX_PACKET}
+use Rattle.osc_atoms.specs.declared.limits.TheConstants.{MAX_PACKET}
 use Rattle.osc_atoms.specs.declared.limits.TheConstants.{MAX_BYTES}
 use Rattle.std.proofs.Common.{◌≡◌, ℕ, ◌+◌, ◌<◌, ◌≤◌, ◌^◌, max, true, List, [], ◌∷◌, ◌++◌, length, map, Result, Ok, Err, is_ok, None, refl, sym, ap, ◌∙◌, subst}
 use Rattle.std.proofs.Common.{arith}
@@ -188,3 +188,9 @@ texts_are (form ∷ forms) =
 pub text_is : (own : ℕ) (forms : List Form)
     → bundled (record { tag = own; messages = map message_text forms }) ≡ packet_text (bundle own (elements_of forms))
 text_is own forms = ap (λ (l : List ℕ). bundle_word ++ (tag own ++ l)) (texts_are forms)
+
+-- the text of a bundling whose messages are written from forms
+pub written_is : (bundling : Bundling) (forms : List Form) → bundling.messages ≡ map message_text forms
+    → bundled bundling ≡ packet_text (bundle bundling.tag (elements_of forms))
+written_is bundling forms are =
+    ap (λ (l : List (List ℕ)). bundle_word ++ (tag bundling.tag ++ flat_map sized l)) are ∙ text_is bundling.tag forms

@@ -1,5 +1,5 @@
 -- What a unit holds.
-use Rattle.osc_packet.specs.declared.limits.TheConstants.{MAX_PACKET}
+use Rattle.osc_atoms.specs.declared.limits.TheConstants.{MAX_PACKET}
 use Rattle.std.specs.Prelude.{◌≡◌, ℕ, ◌≤◌, if◌then◌else◌, List, [], ◌∷◌, length, Option, None}
 use Rattle.osc_atoms.specs.declared.fault.Fault.{Fault}
 use Rattle.osc_packet.specs.declared.content.Content.{Content}

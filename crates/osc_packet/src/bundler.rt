@@ -1,5 +1,5 @@
 // Bundles that are built message by message.
-ghost use Rattle.osc_packet.specs.declared.limits.TheConstants.{MAX_PACKET};
+ghost use Rattle.osc_atoms.specs.declared.limits.TheConstants.{MAX_PACKET};
 ghost use Rattle.osc_atoms.specs.declared.limits.TheConstants.{MAX_BYTES};
 ghost use Rattle.std.specs.Prelude.{◌≡◌, ◌++◌, ◌≤◌, length, IsTrue, IfOk, OnOk, OnErr};
 ghost use Rattle.osc_message.specs.Reading.{is_message};
@@ -9,8 +9,7 @@ ghost use Rattle.osc_atoms.specs.Atoms;
 
 use crate::BundleFault;
 use crate::laws::of_messages;
-use crate::limits::MAX_PACKET;
-use osc_atoms::Bytes;
+use osc_atoms::{Bytes, MAX_PACKET};
 use osc_message::Message;
 use std::alloc::{AllocError, Global};
 use std::marker::Model;
@@ -34,12 +33,13 @@ impl Model for Bundler {
 }
 
 impl Bundler {
-    ghost use Rattle.osc_packet.specs.declared.limits.TheConstants.{MAX_PACKET};
+    ghost use Rattle.osc_atoms.specs.declared.limits.TheConstants.{MAX_PACKET};
     ghost use Rattle.std.specs.Prelude.{◌≡◌, ◌≤◌, ◌<◌, ◌⊎◌, [], ◌∷◌, Err, length, IsTrue, IfOk};
-    ghost use Rattle.std.specs.Prelude.{IfErr, OnOk, OnErr};
-    ghost use Rattle.osc_packet.specs.Packets.{IsPacket};
+    ghost use Rattle.std.specs.Prelude.{IfErr, OnOk, OnErr, List, map};
+    ghost use Rattle.osc_message.specs.Messages.{Form, message_text};
+    ghost use Rattle.osc_packet.specs.Packets.{IsPacket, bundle, packet_text};
     ghost use Rattle.osc_packet.specs.Reading.{is_packet, units_read};
-    ghost use Rattle.osc_packet.specs.Bundling.{with_message, bundled};
+    ghost use Rattle.osc_packet.specs.Bundling.{with_message, bundled, elements_of};
     ghost use Rattle.osc_packet.specs.declared.bundle_fault.BundleFault.{BundleFault};
 
     /// A bundle with this tag and no message.
@@ -79,6 +79,8 @@ impl Bundler {
         ensures read { IsTrue (is_packet MAX_PACKET (bundled self.now)) }
         ensures unit { units_read (bundled self.now)
             ≡ record { tag = self.now.tag; messages = self.now.messages } ∷ [] }
+        ensures written { (forms : List Form) → self.now.messages ≡ map message_text forms
+            → bundled self.now ≡ packet_text (bundle self.now.tag (elements_of forms)) }
     {
         of_messages();
         Bytes::copied(self.alloc, &self.bytes)

@@ -1,5 +1,6 @@
 // The checks of a packet, in their order.
-ghost use Rattle.osc_packet.specs.declared.limits.TheConstants.{BUNDLE_HEAD, MAX_PACKET};
+ghost use Rattle.osc_atoms.specs.declared.limits.TheConstants.{MAX_PACKET};
+ghost use Rattle.osc_packet.specs.declared.limits.TheConstants.{BUNDLE_HEAD};
 ghost use Rattle.std.specs.Prelude.{◌≡◌, ◌+◌, ◌%◌, ◌<◌, ◌≤◌, length, take, drop, IfOk, Some};
 ghost use Rattle.std.specs.Result.{result_err};
 ghost use Rattle.osc_packet.specs.Packets;

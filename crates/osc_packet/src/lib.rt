@@ -18,7 +18,8 @@ mod walk;
 
 pub use bundle_fault::BundleFault;
 pub use bundler::Bundler;
-pub use limits::{BLOCK_SIZE, MAX_PACKET, MAX_STORED};
+pub use limits::{BLOCK_SIZE, MAX_STORED};
+pub use osc_atoms::MAX_PACKET;
 pub use packet::Packet;
 pub use unit::Unit;
 pub use unit_messages::UnitMessages;

@@ -1,7 +1,4 @@
-// The limits of packets, the size of a block, and the most bytes of a unit that is kept.
-
-/// The most bytes of a packet.
-pub const MAX_PACKET: u32 = 65_504;
+// The limits of bundles, the size of a block, and the most bytes of a unit that is kept.
 
 /// The most bytes of the messages of one unit where they are kept, each after its length in 4 bytes.
 pub const MAX_STORED: u32 = 65_508;

@@ -14,7 +14,7 @@ pub struct Packet<'a> {
 }
 
 impl<'a> Model for Packet<'a> {
-    ghost use Rattle.osc_packet.specs.declared.limits.TheConstants.{MAX_PACKET};
+    ghost use Rattle.osc_atoms.specs.declared.limits.TheConstants.{MAX_PACKET};
     ghost use Rattle.std.specs.Prelude.{List, ℕ, ◌≡◌, None};
     ghost use Rattle.osc_packet.specs.Reading.{packet_fault};
 
@@ -26,7 +26,7 @@ impl<'a> Model for Packet<'a> {
 }
 
 impl<'a> Packet<'a> {
-    ghost use Rattle.osc_packet.specs.declared.limits.TheConstants.{MAX_PACKET};
+    ghost use Rattle.osc_atoms.specs.declared.limits.TheConstants.{MAX_PACKET};
     ghost use Rattle.std.specs.Prelude.{◌≡◌, ◌≤◌, ◌↔◌, length, IsTrue, IsOk, IfOk, IfErr, is_ok};
     ghost use Rattle.std.specs.Prelude.{◌∷◌, [], IfSome, IsNone};
     ghost use Rattle.std.specs.Result.{result_err};

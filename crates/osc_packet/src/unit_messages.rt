@@ -1,5 +1,5 @@
 // The messages of a unit, one after another.
-ghost use Rattle.osc_packet.specs.declared.limits.TheConstants.{MAX_PACKET};
+ghost use Rattle.osc_atoms.specs.declared.limits.TheConstants.{MAX_PACKET};
 ghost use Rattle.std.specs.Prelude.{◌≡◌, ◌≤◌, length, None};
 ghost use Rattle.osc_packet.specs.Reading.{message_fault_at};
 ghost use Rattle.osc_packet.specs.Contents.{IsSound};

@@ -20,7 +20,8 @@ pub struct Units<'a> {
 }
 
 impl<'a> Model for Units<'a> {
-    ghost use Rattle.osc_packet.specs.declared.limits.TheConstants.{MAX_DEPTH, MAX_PACKET};
+    ghost use Rattle.osc_atoms.specs.declared.limits.TheConstants.{MAX_PACKET};
+    ghost use Rattle.osc_packet.specs.declared.limits.TheConstants.{MAX_DEPTH};
     ghost use Rattle.std.specs.Prelude.{List, ◌++◌, ◌≤◌, length};
     ghost use Rattle.std.specs.Option.{option_to_list};
     ghost use Rattle.osc_packet.specs.Units.{TimedUnit};
@@ -37,7 +38,7 @@ impl<'a> Model for Units<'a> {
 }
 
 impl<'a> Units<'a> {
-    ghost use Rattle.osc_packet.specs.declared.limits.TheConstants.{MAX_PACKET};
+    ghost use Rattle.osc_atoms.specs.declared.limits.TheConstants.{MAX_PACKET};
     ghost use Rattle.std.specs.Prelude.{◌≡◌, None, true, false};
     ghost use Rattle.osc_packet.specs.Reading.{packet_fault, units_read};
     ghost use Rattle.osc_packet.specs.Reading;

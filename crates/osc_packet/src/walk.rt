@@ -1,5 +1,6 @@
 // A packet, gone through from front to back, one bundle after another.
-ghost use Rattle.osc_packet.specs.declared.limits.TheConstants.{MAX_DEPTH, MAX_PACKET};
+ghost use Rattle.osc_atoms.specs.declared.limits.TheConstants.{MAX_PACKET};
+ghost use Rattle.osc_packet.specs.declared.limits.TheConstants.{MAX_DEPTH};
 ghost use Rattle.std.specs.Prelude.{◌≡◌, ◌+◌, ◌≤◌, [], ◌∷◌, length, MatchOption};
 ghost use Rattle.osc_packet.specs.Walks.{units_from, IsWalk, IsNext};
 

@@ -1,5 +1,5 @@
 // Plays lines on a server, event by event.
-ghost use Rattle.osc_packet.specs.declared.limits.TheConstants.{MAX_PACKET};
+ghost use Rattle.osc_atoms.specs.declared.limits.TheConstants.{MAX_PACKET};
 ghost use Rattle.std.specs.Prelude.{◌≡◌, ◌++◌, ◌<◌, ◌≤◌, [], length, IfOk, OnOk};
 ghost use Rattle.std.specs.Vec.Iter.{into_iter_items};
 ghost use Rattle.osc_packet.specs.Reading.{packet_fault};

@@ -6,6 +6,7 @@ use Rattle.std.proofs.lemmas.Bool.{cases_eq}
 use Rattle.std.proofs.lemmas.List.{length-replicate, get_or-replicate}
 use Rattle.std.proofs.lemmas.List.FromFn.{length-range_with_len, get_or-range_with_len}
 use Rattle.std.proofs.lemmas.List.Sums.{sum_by-cons}
+use Rattle.osc_pool.specs.declared.limits.TheConstants.{MAX_BLOCKS}
 use Rattle.osc_pool.specs.Holding.{blocks_for}
 use Rattle.osc_pool.specs.Paths.{path, paths_from, texts_from, times, IsSound, IsLaid}
 use Rattle.osc_pool.proofs.Counts.{times_head, times_other}
@@ -61,7 +62,7 @@ no_texts blocks next (suc n) from = ap (λ (l : List (List ℕ)). [] ∷ l) (no_
 pub opened_view : (blocks : List (List ℕ)) (next sizes : List ℕ) (limit : ℕ) → sizes ≡ replicate limit 0 → texts_from blocks next 0 sizes ≡ replicate limit []
 opened_view blocks next sizes limit none = ap (texts_from blocks next 0) none ∙ no_texts blocks next limit 0
 
-opened_sound : (block : List ℕ) (limit : ℕ) → length block ≡ 64 → limit ≤ 1048576
+opened_sound : (block : List ℕ) (limit : ℕ) → length block ≡ 64 → limit ≤ MAX_BLOCKS
     → IsSound (replicate limit block) (range_with_len 1 limit) (replicate limit 0) 0 limit
 opened_sound block limit whole few = record {
   linked = length-range_with_len 1 limit ∙ sym (length-replicate limit block);
@@ -74,7 +75,7 @@ opened_sound block limit whole few = record {
   counted = omega (arith, no_sizes limit, length-replicate limit block);
 }
 
-pub opened_laid : (limit capacity : ℕ) → limit ≤ 1048576 → limit ≤ capacity → IsLaid [] (range_with_len 1 limit) (replicate limit 0) 0 limit capacity
+pub opened_laid : (limit capacity : ℕ) → limit ≤ MAX_BLOCKS → limit ≤ capacity → IsLaid [] (range_with_len 1 limit) (replicate limit 0) 0 limit capacity
 opened_laid limit capacity few room =
     let long = length-range_with_len 1 limit in
     let all : limit - 0 ≡ limit = omega arith in

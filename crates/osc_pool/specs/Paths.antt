@@ -1,5 +1,5 @@
 -- Inside the crate: how chains and the free blocks lie in the blocks of a pool.
-use Rattle.osc_pool.specs.declared.limits.TheConstants.{BLOCK_SIZE}
+use Rattle.osc_pool.specs.declared.limits.TheConstants.{BLOCK_SIZE, MAX_BLOCKS}
 use Rattle.std.specs.Prelude.{◌≡◌, ℕ, zero, suc, ◌+◌, ◌-◌, ◌<◌, ◌≤◌, ◌==◌, min, if◌then◌else◌, List}
 use Rattle.std.specs.Prelude.{[], ◌∷◌, ◌++◌, length, replicate, take, slice_index_or, slice_set}
 use Rattle.std.specs.List.{sum_by}
@@ -93,7 +93,7 @@ pub record IsWritten (before after : List (List ℕ)) (next : List ℕ) (first b
 pub record IsSound (blocks : List (List ℕ)) (next sizes : List ℕ) (first free : ℕ) : Type 0 where
   pub linked : length next ≡ length blocks
   pub sized : length sizes ≡ length blocks
-  pub few : length blocks ≤ 1048576
+  pub few : length blocks ≤ MAX_BLOCKS
   pub whole : AreWhole blocks
   pub apart : (block : ℕ) → uses next sizes first free block ≤ 1
   pub inside : (block : ℕ) → length blocks ≤ block → uses next sizes first free block ≡ 0

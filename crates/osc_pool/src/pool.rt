@@ -6,7 +6,6 @@ ghost use Rattle.osc_pool.specs.Holding.{blocks_for, used_blocks, held_by, with_
 ghost use Rattle.osc_pool.specs.Holding.{IsNew, KeepsLive, KeepsOthers};
 
 use crate::chain::Chain;
-use crate::limits::MAX_BLOCKS;
 use crate::links::{self, Block};
 use osc_atoms::Room;
 use std::alloc::{AllocError, Global};
@@ -44,15 +43,11 @@ impl Model for Pool {
 }
 
 impl Pool {
-    /// A pool of so many blocks, all free. The `Err` means that there is no memory for them, as there never is for more
-    /// than `MAX_BLOCKS`.
+    /// A pool of so many blocks, all free. The `Err` means that there is no memory for them.
     pub fn open(alloc: Global, blocks: u32) -> Result<Pool, AllocError>
-        ensures ok { IfOk result (λ pool. pool ≡ replicate blocks []) }
-        ensures few { OnOk result (blocks ≤ MAX_BLOCKS) }
+        requires { blocks ≤ MAX_BLOCKS }
+        ensures { IfOk result (λ pool. pool ≡ replicate blocks []) }
     {
-        if blocks > MAX_BLOCKS {
-            return Err(AllocError);
-        }
         Ok(Pool {
             blocks: Vec::with_capacity(alloc, blocks as usize)?,
             next: links::linked(alloc, blocks)?,

@@ -66,6 +66,7 @@ impl<'a> Unread<'a> {
         ensures read { IfOk result
             (λ next. IfSome next (λ entry. Reads self.old (placed_of entry) self.new)) }
         ensures err { IfErr result (λ malformed. HasNoNext self.old malformed.at) }
+        ensures still { IfOk result (λ next. IfNone next (self.new ≡ self.old)) }
         ensures unchanged { OnErr result (self.new ≡ self.old) }
     {
         if self.rest.is_empty() {

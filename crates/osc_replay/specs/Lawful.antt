@@ -1,5 +1,5 @@
 -- Inside the crate: events whose packets and addresses are lawful.
-use Rattle.osc_packet.specs.declared.limits.TheConstants.{MAX_PACKET}
+use Rattle.osc_atoms.specs.declared.limits.TheConstants.{MAX_PACKET}
 use Rattle.std.specs.Prelude.{Bool, true, nat_lt, ◌^◌}
 use Rattle.osc_pattern.specs.Addresses.{is_address}
 use Rattle.osc_packet.specs.Reading.{is_packet}

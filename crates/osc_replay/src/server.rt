@@ -11,7 +11,7 @@ use crate::event::LawfulEvent;
 use crate::outcome::Outcome;
 use crate::units::{Queued, enter_all};
 use osc_atoms::Room;
-use osc_model::{Late, Need};
+use osc_model::{Late, Need, need_of};
 use osc_packet::Packet;
 use osc_pattern::Address;
 use osc_queue::Queue;
@@ -193,7 +193,7 @@ impl<'a> Server<'a> {
             count,
             places: keeps,
             blocks: need,
-        } = self.late.need(self.clock, packet);
+        } = need_of(self.late, self.clock, packet);
         let places = self.queue.free();
         if keeps > places {
             return Answer::UnitsFull(Room::new(keeps as u64, places as u64));

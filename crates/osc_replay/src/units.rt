@@ -4,7 +4,7 @@ ghost use Rattle.osc_queue.specs.Timed as timed;
 ghost use Rattle.osc_model.specs.State.{AreNumbered};
 ghost use Rattle.osc_model.specs.Step as step;
 
-use osc_model::Late;
+use osc_model::{Late, keeps};
 use osc_packet::{Packet, Unit, UnitMessages, Units};
 use osc_queue::Queue;
 use std::marker::Model;
@@ -101,7 +101,7 @@ fn enter_kept<'a>(
         ≡ length queue.old.items + length (step.kept late clock (unit.entry ∷ [])) }
     ensures limit { queue.new.limit ≡ queue.old.limit }
 {
-    if late.keeps(clock, &unit) {
+    if keeps(late, clock, &unit) {
         enter(queue, Queued::new(unit), clock, number);
     }
 }

@@ -1,5 +1,5 @@
 -- What is kept goes on with a note.
-use Rattle.osc_packet.specs.declared.limits.TheConstants.{MAX_PACKET}
+use Rattle.osc_atoms.specs.declared.limits.TheConstants.{MAX_PACKET}
 use Rattle.std.proofs.Common.{◌≡◌, ℕ, ◌<◌, ◌≤◌, ◌^◌, Bool, true, false, cond, nat_lt, List, [], ◌∷◌, ◌++◌, length, fold, Option, Some, None, Result, Ok, Err, refl, sym, ap, ◌∙◌, subst, arith}
 use Rattle.std.proofs.lemmas.Bool.Decides.{nat_tests}
 use Rattle.osc_packet.specs.Bundling.{Bundling}

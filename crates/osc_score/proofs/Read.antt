@@ -1,5 +1,5 @@
 -- What is read is a score, and its lines are no longer than the input.
-use Rattle.osc_packet.specs.declared.limits.TheConstants.{MAX_PACKET}
+use Rattle.osc_atoms.specs.declared.limits.TheConstants.{MAX_PACKET}
 use Rattle.osc_score.specs.declared.limits.TheConstants.{MAX_SCORE}
 use Rattle.std.proofs.Common.{◌≡◌, ◌↔◌, ℕ, ◌+◌, ◌<◌, ◌≤◌, ◌^◌, Bool, true, false, cond, nat_lt, IsTrue, List, [], ◌∷◌, ◌++◌, length, map, Option, Some, None, Result, Ok, Err, is_ok, ok_or, IfSome, IfOk, inl, inr, codes, refl, sym, ap, subst, arith}
 use Rattle.std.specs.Prelude.{nat_eq}

@@ -1,5 +1,5 @@
 -- Scores, read: the notes of the lines, or the first fault.
-use Rattle.osc_packet.specs.declared.limits.TheConstants.{MAX_PACKET}
+use Rattle.osc_atoms.specs.declared.limits.TheConstants.{MAX_PACKET}
 use Rattle.osc_score.specs.declared.limits.TheConstants.{MAX_SCORE}
 use Rattle.std.specs.Prelude.{ℕ, ◌+◌, ◌≤◌, Bool, nat_lt, nat_eq, ◌==◌, if◌then◌else◌, List, [], ◌∷◌}
 use Rattle.std.specs.Prelude.{◌++◌, length, map, fold, codes, Option, Some, None, ok_or, Result}

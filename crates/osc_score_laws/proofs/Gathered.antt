@@ -1,5 +1,5 @@
 -- What the laws of the lower crates give.
-use Rattle.osc_packet.specs.declared.limits.TheConstants.{MAX_PACKET}
+use Rattle.osc_atoms.specs.declared.limits.TheConstants.{MAX_PACKET}
 use Rattle.std.proofs.Common.{◌≡◌, ◌↔◌, ◌<◌, ◌^◌, true, refl, ap, arith}
 use Rattle.std.specs.Prelude.{is_none}
 use Rattle.osc_packet.specs.Known.{OfMessages}

@@ -1,5 +1,5 @@
 -- Inside the crate: what the laws of the lower crates say, as one.
-use Rattle.osc_packet.specs.declared.limits.TheConstants.{MAX_PACKET}
+use Rattle.osc_atoms.specs.declared.limits.TheConstants.{MAX_PACKET}
 use Rattle.std.specs.Prelude.{◌≡◌, ◌↔◌, ℕ, true, IsTrue, List, map, Some, None}
 use Rattle.osc_message.specs.Messages.{Argument, tag_of, known, message_text, IsLawful}
 use Rattle.osc_message.specs.Reading.{pattern_of}

@@ -1,7 +1,7 @@
 -- How many bytes of recording are enough for a script.
 use Rattle.std.specs.Prelude.{ℕ, ◌+◌, ◌*◌, List, length, if◌then◌else◌}
 use Rattle.std.specs.List.{sum_by}
-use Rattle.osc_packet.specs.declared.limits.TheConstants.{MAX_PACKET}
+use Rattle.osc_atoms.specs.declared.limits.TheConstants.{MAX_PACKET}
 use Rattle.osc_packet.specs.Reading.{is_packet, units_read}
 use Rattle.osc_model.specs.Limits.{header_size, release_head_size}
 use Rattle.osc_model.specs.Events.{Event, add, remove, submit, tick, ticked}

@@ -5,7 +5,7 @@ use Rattle.std.specs.Int.{w32, from_be_bytes}
 use Rattle.osc_atoms.specs.Atoms.{word}
 use Rattle.osc_stream.specs.declared.front.Front.{Front}
 use Rattle.osc_stream.specs.declared.front.Front.TheVariants.{Short, Whole, Bad}
-use Rattle.osc_stream.specs.declared.limits.TheConstants.{MAX_PACKET}
+use Rattle.osc_atoms.specs.declared.limits.TheConstants.{MAX_PACKET}
 
 -- a packet, written: its size, and its bytes
 abbrev pub frame : List ℕ → List ℕ

@@ -1,6 +1,7 @@
 -- What a link over a stream has left to give, and what its calls do.
 use Rattle.std.specs.Prelude.{◌≡◌, ℕ, ◌+◌, ◌^◌, ◌<◌, ◌≤◌, Bool, true, false, nat_lt, IsTrue, List}
 use Rattle.std.specs.Prelude.{[], ◌∷◌, ◌++◌, length, take, map, Option, Some, None, option_map}
+use Rattle.osc_atoms.specs.declared.limits.TheConstants.{MAX_PACKET}
 use Rattle.osc_edge.specs.declared.link.Datagram.{Datagram}
 use Rattle.osc_edge.specs.declared.link.Datagram.TheVariants.{Got, Quiet, End, Failed}
 use Rattle.osc_edge.specs.Faults.{Rose}
@@ -65,7 +66,7 @@ is_sound SourceFailed held = is_short (front held)
 abbrev pub HasFound : StreamState → StreamView → StreamView → Option (List ℕ) → Option (List ℕ)
     → Type 0
 HasFound Going old new before after = (packet : List ℕ) × (new.packet ≡ Some packet)
-    × (length packet ≤ 65504)
+    × (length packet ≤ MAX_PACKET)
     × (frames_left old before ≡ option_map (with_packet packet) (frames_left new after))
 HasFound Clean old new before after = frames_left old before ≡ framing_left Clean new after
 HasFound (Cut at) old new before after = frames_left old before ≡ framing_left (Cut at) new after
@@ -114,6 +115,14 @@ HasRead (Some found) old new before after =
 abbrev pub HasReadCause : Option StreamState → ℕ → ℕ → Type 0
 HasReadCause None before now = now ≡ before
 HasReadCause (Some found) before now = HasSourceCause found before now
+
+-- neither cut within a frame nor ended by a failure of the source
+abbrev pub IsAtLimit : StreamState → Type 0
+IsAtLimit Going = Unit {0}
+IsAtLimit Clean = Unit {0}
+IsAtLimit (Cut at) = ⊥
+IsAtLimit (Broken at size) = Unit {0}
+IsAtLimit SourceFailed = ⊥
 
 -- one fault more once the frames ended within a frame or at a word that is no size
 abbrev pub own_faults : StreamState → ℕ

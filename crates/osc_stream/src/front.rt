@@ -3,7 +3,7 @@ ghost use Rattle.std.specs.Prelude.{◌≡◌, ◌≤◌, ◌-◌, ◌+◌, leng
 ghost use Rattle.std.specs.Int.{w32, from_be_bytes};
 ghost use Rattle.osc_stream.specs.Frames.{is_length, front, wanted};
 
-use crate::limits::MAX_PACKET;
+use osc_atoms::MAX_PACKET;
 
 /// What stands at the front of bytes.
 #[derive(Clone, Copy, Debug, PartialEq, Eq)]

@@ -15,7 +15,7 @@ mod stream;
 mod stream_link;
 
 pub use fed::Fed;
-pub use limits::MAX_PACKET;
+pub use osc_atoms::MAX_PACKET;
 pub use state::StreamState;
 pub use stream::Stream;
 pub use stream_link::StreamLink;

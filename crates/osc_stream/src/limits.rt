@@ -1,8 +1,5 @@
 // Limits of this crate.
 
-/// How many bytes a packet on a stream has at most.
-pub const MAX_PACKET: u32 = 65_504;
-
 /// How many bytes a size and its packet have at most.
 pub(crate) const MAX_FRAME: usize = 65_508;
 

@@ -1,11 +1,11 @@
 // Reads a source through a stream, up to the end of a frame.
-ghost use Rattle.std.specs.Prelude.{◌≡◌, ◌<◌, ◌≤◌, ◌^◌, length, IsTrue};
+ghost use Rattle.std.specs.Prelude.{◌≡◌, ◌<◌, ◌≤◌, ◌^◌, length, IfSome, IsTrue};
 ghost use Rattle.osc_edge.specs.declared.limits.TheConstants.{MAX_DATAGRAM};
 ghost use Rattle.osc_stream.specs.declared.front.Front.TheVariants.{Short};
 ghost use Rattle.osc_stream.specs.Frames.{front, wanted};
 ghost use Rattle.osc_stream.specs.Feeding.{taken};
 ghost use Rattle.osc_stream.specs.Links.{HasFound, HasRead, HasReadCause, HasSourceCause, is_below};
-ghost use Rattle.osc_stream.specs.Links.{is_sound, ending_of, found_of};
+ghost use Rattle.osc_stream.specs.Links.{is_sound, ending_of, found_of, IsAtLimit};
 
 use crate::fed::Fed;
 use crate::state::StreamState;
@@ -28,6 +28,7 @@ pub(crate) fn read_frame<S: Source>(
     ensures told { IsTrue (is_below stream.new (S.left source.new)) }
     ensures sound { IsTrue (is_sound result stream.new.held) }
     ensures limit { 2 ^ 63 ≤ taken stream.old → result ≡ StreamState.Clean }
+    ensures reached { 2 ^ 63 ≤ taken stream.new → IsAtLimit result }
 {
     while stream.can_take() {
         if let Some(found) = read_some(stream, source, into) {
@@ -46,6 +47,8 @@ fn read_some<S: Source>(stream: &mut Stream, source: &mut S, into: &mut [u8]) ->
     requires told { IsTrue (is_below stream.old (S.left source.old)) }
     ensures read { HasRead result stream.old stream.new (S.left source.old) (S.left source.new) }
     ensures cause { HasReadCause result (S.faults source.old) (S.faults source.new) }
+    ensures reached { IfSome result
+        (λ found. 2 ^ 63 ≤ taken stream.new → IsAtLimit found) }
     ensures told { IsTrue (is_below stream.new (S.left source.new)) }
 {
     let room = stream.wanted();
@@ -64,6 +67,8 @@ fn read_piece<S: Source>(
     requires told { IsTrue (is_below stream.old (S.left source.old)) }
     ensures read { HasRead result stream.old stream.new (S.left source.old) (S.left source.new) }
     ensures cause { HasReadCause result (S.faults source.old) (S.faults source.new) }
+    ensures reached { IfSome result
+        (λ found. 2 ^ 63 ≤ taken stream.new → IsAtLimit found) }
     ensures told { IsTrue (is_below stream.new (S.left source.new)) }
 {
     match source.read(piece) {

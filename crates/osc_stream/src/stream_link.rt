@@ -53,12 +53,12 @@ impl<S: Source + Drop> StreamLink<S> {
 }
 
 impl<S: Source> Link for StreamLink<S> {
-    ghost use Rattle.std.specs.Prelude.{◌+◌, ◌^◌};
+    ghost use Rattle.std.specs.Prelude.{◌+◌, ◌^◌, false};
     ghost use Rattle.osc_stream.specs.Feeding.{taken};
     ghost use Rattle.osc_edge.specs.Link.{IsGotWithin, TakesTurn, HasLinkCause, HasQuietCause};
     ghost use Rattle.osc_edge.specs.declared.limits.TheConstants.{MAX_DATAGRAM};
     ghost use Rattle.osc_stream.specs.Links.{turns_left, framing_left, own_faults, TakesFrame};
-    ghost use Rattle.osc_stream.specs.Links.{HasAnswered, IsSourceCause};
+    ghost use Rattle.osc_stream.specs.Links.{HasAnswered, IsSourceCause, IsAtLimit, is_end};
 
     ghost left = { λ l. turns_left l.state l.stream (S.left l.source) };
 
@@ -80,6 +80,8 @@ impl<S: Source> Link for StreamLink<S> {
             (framing_left self.new.state self.new.stream (S.left self.new.source)) result into.new }
         ensures answer { HasAnswered self.old.state self.new.state result }
         ensures limit { 2 ^ 63 ≤ taken self.old.stream → result ≡ Datagram.End }
+        ensures reached { is_end self.old.state ≡ false → 2 ^ 63 ≤ taken self.new.stream
+            → IsAtLimit self.new.state }
         ensures source { IsSourceCause self.old.state self.new.state (S.faults self.old.source)
             (S.faults self.new.source) }
     {

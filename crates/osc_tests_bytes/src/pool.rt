@@ -3,7 +3,7 @@ ghost use Rattle.std.specs.Prelude.{IfOk};
 ghost use Rattle.osc_pool.specs.Holding.{AreApart, IsLive};
 
 use osc_atoms::Room;
-use osc_pool::{Chain, MAX_BLOCKS, Pool};
+use osc_pool::{Chain, Pool};
 use std::alloc::Global;
 use std::process::Abort;
 use std::test::Fail;
@@ -100,11 +100,6 @@ fn a_chain_reads_its_bytes_while_others_come_and_go(rt: HostRuntime) -> Result<(
     let second = counting(alloc, 100, 1)?;
     let third = counting(alloc, 120, 128)?;
     take_turns(&rt, alloc, &first, &second, &third)
-}
-
-#[test]
-fn no_pool_has_more_than_the_most_blocks(rt: HostRuntime) {
-    assert!(rt; Pool::open(rt.alloc(), MAX_BLOCKS + 1).is_err());
 }
 
 #[test]

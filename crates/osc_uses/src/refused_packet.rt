@@ -1,5 +1,5 @@
 //! Bytes that may be no packet: the first fault is told by its kind and its place, and the server stays as it was.
-ghost use Rattle.osc_packet.specs.declared.limits.TheConstants.{MAX_PACKET};
+ghost use Rattle.osc_atoms.specs.declared.limits.TheConstants.{MAX_PACKET};
 ghost use Rattle.std.specs.Prelude.{◌≡◌, ◌↔◌, [], ◌∷◌, IsOk, IfOk, IfErr, OnOk, OnErr};
 ghost use Rattle.osc_packet.specs.Packets.{IsPacket};
 ghost use Rattle.osc_packet.specs.Wants.{FirstFault};

@@ -1,4 +1,4 @@
-use Rattle.osc_packet.specs.declared.limits.TheConstants.{MAX_PACKET}
+use Rattle.osc_atoms.specs.declared.limits.TheConstants.{MAX_PACKET}
 use Rattle.osc_packet.specs.Known.{OfMessages}
 use Rattle.osc_packet.proofs.Known.{of_messages}
 use Rattle.osc_score_laws.proofs.Gathered.{small, text_accepted, both}

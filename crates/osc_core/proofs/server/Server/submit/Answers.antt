@@ -23,7 +23,7 @@ returns-then-need-free-clause-answer c =
       c.new-then-need-free.ensures.free,
       c.from-then-need-free.ensures,
       c.from-then-need-free-2.ensures,
-      c.need-count.ensures.blocks,
+      c.need_of-count.ensures.blocks,
     )
     refl
 
@@ -46,7 +46,7 @@ returns-clause-answer c =
     let free : c.free-free.result ≡ length s.store - queued_blocks (queue_of s.store s.queue.items) =
     omega (arith, c.self.invariant.units.kept.counted, c.free-free.ensures) in
     let enters = queues_the_units (the_view s) (units_read c.args.packet.now) c.free-places.result c.free-free.result places free (omega arith) (omega arith) in
-    rw (← c.self.view_is, enters, c.need-count.ensures.count, c.need-count.ensures.places) refl
+    rw (← c.self.view_is, enters, c.need_of-count.ensures.count, c.need_of-count.ensures.places) refl
 
 pub returns-clause-state : goal.returns-clause-state
 returns-clause-state c =
@@ -63,6 +63,6 @@ returns-clause-state c =
       c.enter_all.ensures.places,
       c.enter_all.ensures.limit,
       c.from-2.ensures,
-      c.need-count.ensures.count,
+      c.need_of-count.ensures.count,
     )
     refl

@@ -1,5 +1,5 @@
 use Rattle.std.proofs.Common.{arith, ◌<◌, ℕ, List, length, sym, ap, subst}
-use Rattle.osc_packet.specs.declared.limits.TheConstants.{MAX_PACKET}
+use Rattle.osc_atoms.specs.declared.limits.TheConstants.{MAX_PACKET}
 use Rattle.osc_packet.specs.Bundling.{Bundling, with_message, bundled, bundling_of}
 use Rattle.osc_packet.proofs.Bundlings.{pushed_on, size_on}
 use Rattle.osc_packet.proofs.bundler.Bundler.push.Goals as goal

@@ -19,7 +19,7 @@ invariant_of-self c =
         copies,
         all_blocks s.late s.clock s.next_unit
             (units_read c.args.packet.now) s.queue.items,
-        c.need-count.ensures.blocks,
+        c.need_of-count.ensures.blocks,
         c.self.invariant.counted,
       );
     }
