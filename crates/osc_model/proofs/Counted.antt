@@ -69,7 +69,7 @@ bundle_few (suc left) outer bytes is =
     omega (arith, ap length (bundle_step (suc left) outer bytes (omega arith)), length-drop 16 bytes, bundle_some bytes is)
 
 -- no bytes have more units than there are bytes, but for a message of none
-units_fit : (bytes : List ℕ) → length (units_read bytes) ≤ 1 + length bytes
+pub units_fit : (bytes : List ℕ) → length (units_read bytes) ≤ 1 + length bytes
 units_fit bytes = go (is_bundle bytes) refl where
   go : (test : Bool) → is_bundle bytes ≡ test
       → length (cond test (bundle_read 16 None bytes) (record { tag = 1; messages = bytes ∷ [] } ∷ [])) ≤ 1 + length bytes

@@ -308,29 +308,26 @@ unit_hits exactly state unit small few =
     (invocations_of (unit_of unit) (calls_of_unit state.methods unit)) (unit_calls exactly state unit))
 
 release_fits : MatchesExactly → (caller : ℕ) (state : State) → caller < 2 ^ 31 → IsSmall state → adds_entry (decided state release).answer ≡ true
-    → entry_size release (decided state release).answer ≤ free_bytes state
+    → entry_size release (decided state release).answer ≤ 1073741824
     → IsRecordable caller release (decided state release).answer
 release_fits exactly caller state few small adds room = go state.queue small.sound.numbers small.sound.few_blocks adds room where
-  recording : state.caps.recording ≤ 1073741824
-  recording = small.sound.caps.recording.below
-
   most : state.caps.blocks ≤ 1048576
   most = small.sound.caps.blocks.below
 
   go : (queue : List Queued) → AreNumbered state.next_unit queue → queued_blocks queue ≤ state.caps.blocks
-      → adds_entry (release_first state queue).answer ≡ true → entry_size release (release_first state queue).answer ≤ free_bytes state
+      → adds_entry (release_first state queue).answer ≡ true → entry_size release (release_first state queue).answer ≤ 1073741824
       → IsRecordable caller release (release_first state queue).answer
   go [] numbers size some fits = absurd (cc)
   go (unit ∷ units) numbers size some fits = due (nat_le (due_of unit) state.clock) some fits where
     due : (t : Bool) → adds_entry (cond t (releases state unit units) (leaves state (nothing_due (Some (due_of unit))))).answer ≡ true
-        → entry_size release (cond t (releases state unit units) (leaves state (nothing_due (Some (due_of unit))))).answer ≤ free_bytes state
+        → entry_size release (cond t (releases state unit units) (leaves state (nothing_due (Some (due_of unit))))).answer ≤ 1073741824
         → IsRecordable caller release (cond t (releases state unit units) (leaves state (nothing_due (Some (due_of unit))))).answer
     due false some fits = absurd (cc)
     due true some fits =
         let hits = hits_of (calls_of_unit state.methods unit) in
         let below : unit_of unit < state.next_unit = numbers.0 in
         let last : state.next_unit < 2 ^ 31 = (given state small).units in
-        let entry : 44 + 8 * length hits ≤ free_bytes state = fits in
+        let entry : 44 + 8 * length hits ≤ 1073741824 = fits in
         record {
           fits = (int_fits caller few, (long_fits (unit_of unit) (omega arith), (omega (arith, length-hits_text hits), tt)));
           sound = unit_hits exactly state unit small (few_messages unit units (omega arith));
@@ -341,18 +338,18 @@ pub record OfAnswers : Type 0 where
   pub spelled : (bytes : List ℕ) → (IsTrue (is_address bytes) ↔ IsAddress bytes)
   pub exactly : MatchesExactly
 
--- where the answer adds an entry for which there is room, it can be recorded
-pub decided_fits : OfAnswers → (caller : ℕ) (state : State) (event : Event) → caller < state.callers → IsSmall state → IsLawful event
-    → adds_entry (decided state event).answer ≡ true → entry_size event (decided state event).answer ≤ free_bytes state
+-- an answer whose entry isn't larger than a recording can be recorded
+pub sized_fits : OfAnswers → (caller : ℕ) (state : State) (event : Event) → caller < state.callers → IsSmall state → IsLawful event
+    → adds_entry (decided state event).answer ≡ true → entry_size event (decided state event).answer ≤ 1073741824
     → IsRecordable caller event (decided state event).answer
-decided_fits of caller state event enrolled small lawful adds room = go event lawful adds room where
+sized_fits of caller state event enrolled small lawful adds room = go event lawful adds room where
   many : state.callers ≤ 1024
   many = let callers = small.sound.callers in let most = small.sound.caps.callers.below in omega arith
 
   few : caller < 2 ^ 31
   few = omega arith
 
-  go : (event : Event) → IsLawful event → adds_entry (decided state event).answer ≡ true → entry_size event (decided state event).answer ≤ free_bytes state
+  go : (event : Event) → IsLawful event → adds_entry (decided state event).answer ≡ true → entry_size event (decided state event).answer ≤ 1073741824
       → IsRecordable caller event (decided state event).answer
   go enrol lawful adds room = enrol_fits caller state few (omega arith)
   go (submit packet) lawful adds room = submit_fits caller state packet few small lawful
@@ -360,3 +357,11 @@ decided_fits of caller state event enrolled small lawful adds room = go event la
   go (remove address) lawful adds room = remove_fits caller state address few small ((of.spelled address).0 lawful)
   go (tick now) lawful adds room = tick_fits caller state now few small.clock lawful
   go release lawful adds room = release_fits of.exactly caller state few small adds room
+
+-- where the answer adds an entry for which there is room, it can be recorded
+pub decided_fits : OfAnswers → (caller : ℕ) (state : State) (event : Event) → caller < state.callers → IsSmall state → IsLawful event
+    → adds_entry (decided state event).answer ≡ true → entry_size event (decided state event).answer ≤ free_bytes state
+    → IsRecordable caller event (decided state event).answer
+decided_fits of caller state event enrolled small lawful adds room =
+    let most = small.sound.caps.recording.below in
+    sized_fits of caller state event enrolled small lawful adds (omega arith)

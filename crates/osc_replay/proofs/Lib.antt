@@ -12,3 +12,6 @@ pub mod Tallies
 pub mod Unlawful
 pub mod Older
 pub mod Upgraded
+pub mod OldFormed
+pub mod OnePlace
+pub mod OneDisagreement

@@ -1,6 +1,6 @@
 // Whether the packets and addresses of a recording are lawful.
-ghost use Rattle.std.specs.Prelude.{◌≡◌, ◌≤◌, [], List, length, IfOk, IfErr, IsOkAnd, IfSome};
-ghost use Rattle.std.specs.Prelude.{IfNone, true, false};
+ghost use Rattle.std.specs.Prelude.{◌≡◌, ◌≤◌, ℕ, [], List, length, Err, IfOk, IfErr, IsOkAnd};
+ghost use Rattle.std.specs.Prelude.{IfSome, IfNone, true, false};
 ghost use Rattle.osc_model.specs.Limits.{Limits, header_size, max_recording};
 ghost use Rattle.osc_model.specs.Events.{Entry as Recorded};
 ghost use Rattle.osc_model.specs.Recordings.{record_text};
@@ -32,6 +32,7 @@ pub fn well_formed(bytes: &[u8]) -> Result<Reader<'_>, Malformed>
         → IsOkAnd result
         (λ reader. (reader.caps ≡ limits)
         × (reader.entries ≡ placed_from header_size entries)) }
+    ensures exact { (at : ℕ) → IsUnformedAt bytes.now at → result ≡ Err (record { at = at }) }
 {
     let unread = Unread::open(bytes)?;
     match first_malformed(unread) {

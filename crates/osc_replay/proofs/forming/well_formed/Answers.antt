@@ -1,5 +1,6 @@
-use Rattle.std.proofs.Common.{◌≡◌, [], Err, inl, inr, rules}
+use Rattle.std.proofs.Common.{◌≡◌, ◌∙◌, [], Err, inl, inr, rules}
 use Rattle.osc_replay.proofs.Formed.{never_err, opened, no_place, read_formed}
+use Rattle.osc_replay.proofs.OnePlace.{told_is}
 use Rattle.osc_replay.proofs.forming.well_formed.Goals as goal
 
 pub returns-in_err-unread-clause-first : goal.returns-in_err-unread-clause-first
@@ -36,3 +37,20 @@ returns-in-None-clause-first c =
 
 pub returns-in-None-clause-complete : goal.returns-in-None-clause-complete
 returns-in-None-clause-complete c = λ limits entries formed text. c.check.ensures.complete limits entries formed.record_ text
+
+pub returns-in_err-unread-clause-exact : goal.returns-in_err-unread-clause-exact
+returns-in_err-unread-clause-exact c = λ at unformed.
+    let same : c.from_residual.result ≡ Err c.in_err-unread.field-0.0 = search rules in
+    same ∙ told_is c.args.bytes.now c.in_err-unread.field-0.0.at at (inl c.in_err-unread.ensures.err) unformed
+
+pub returns-in-Some-clause-exact : goal.returns-in-Some-clause-exact
+returns-in-Some-clause-exact c = λ at unformed.
+    let unread = c.in_ok-unread.unread in
+    told_is c.args.bytes.now c.in-Some.at at
+    (inr (c.in-Some.ensures.some c.args.bytes.now unread.caps [] (opened c.args.bytes.now unread c.in_ok-unread.ensures.ok))) unformed
+
+pub returns-in-None-clause-exact : goal.returns-in-None-clause-exact
+returns-in-None-clause-exact c = λ at unformed.
+    let unread = c.in_ok-unread.unread in
+    let all = c.in-None.ensures.none c.args.bytes.now unread.caps [] (opened c.args.bytes.now unread c.in_ok-unread.ensures.ok) in
+    absurd (no_place c.args.bytes.now at unread.caps all.0 all.1 all.2 unformed)
