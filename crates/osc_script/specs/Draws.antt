@@ -1,7 +1,7 @@
 -- Numbers that are drawn from a seed.
 use Rattle.std.specs.Prelude.{ℕ, zero, suc, ◌+◌, ◌*◌, ◌/◌, ◌%◌, ◌^◌}
 
--- the number behind this one
+-- the number after this one
 unfoldable pub following : ℕ → ℕ
 following number = (number * 6364136223846793005 + 1442695040888963407) % 2 ^ 64
 

@@ -24,7 +24,7 @@ any_with member = codes "/g?/n" ++ decimal member
 abbrev pub message : List ℕ → ℕ → List ℕ
 message pattern value = string pattern ++ (string (codes ",i") ++ word value)
 
--- an element of a bundle, behind its size
+-- an element of a bundle, after its size
 abbrev pub element : List ℕ → List ℕ
 element packet = word (length packet) ++ packet
 
@@ -46,7 +46,7 @@ abbrev pub to_any : ℕ → List ℕ
 to_any number = message (any_with (drawn 1 16 number)) (drawn 2 1000000 number)
 
 -- a bundle of two messages, and one of a message and an enclosed bundle; six draws and seven, of
--- which the first says by how much the bundle's moment lies behind the last tick's
+-- which the first says by how much the bundle's moment lies after the last tick's
 unfoldable pub two_of : ℕ → ℕ → List ℕ
 two_of moment number =
     bundle (moment + drawn 1 4096 number)
@@ -94,7 +94,7 @@ draws_of kind.All = 2
 draws_of kind.Two = 6
 draws_of kind.Nested = 7
 
--- the moment of the last tick behind it
+-- the moment of the last tick after it
 abbrev pub moment_after : LineKind → ℕ → ℕ → ℕ
 moment_after kind.Tick moment number = moment + drawn 1 1024 number
 moment_after _ moment number = moment

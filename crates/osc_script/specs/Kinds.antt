@@ -9,7 +9,7 @@ too_long_kind = 1
 abbrev pub word_kind : ℕ
 word_kind = 2
 
--- a known word with too few or too many words behind it, or no word behind a lane's number
+-- a known word with too few or too many words after it, or no word after a lane's number
 abbrev pub count_kind : ℕ
 count_kind = 3
 
@@ -30,6 +30,6 @@ tag_kind = 6
 abbrev pub lane_kind : ℕ
 lane_kind = 7
 
--- a known word with as many words behind it as it takes, which isn't lawful in this mode
+-- a known word with as many words after it as it takes, which isn't lawful in this mode
 abbrev pub not_here_kind : ℕ
 not_here_kind = 8

@@ -20,12 +20,12 @@ use Rattle.osc_script.specs.Acts.{and_then, act_of, served_of, IsLawfulAct}
 abbrev pub on_lane : ℕ → Result Act ℕ → Result Said ℕ
 on_lane lane read = and_then read (λ act. Ok (record { lane = lane; act = act }))
 
--- what the words behind a lane's number say; there is one at least
+-- what the words after a lane's number say; there is one at least
 abbrev pub in_lane : ℕ → List (List ℕ) → Result Said ℕ
 in_lane lane [] = Err count_kind
 in_lane lane (word ∷ operands) = on_lane lane (act_of word operands)
 
--- what a first word and the words behind it say; in mode Lanes the first word is the lane's number
+-- what a first word and the words after it say; in mode Lanes the first word is the lane's number
 abbrev pub said_of : Mode → List ℕ → List (List ℕ) → Result Said ℕ
 said_of Plain word operands = on_lane 0 (act_of word operands)
 said_of Lanes word operands =

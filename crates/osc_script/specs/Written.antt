@@ -8,7 +8,7 @@ use Rattle.osc_script.specs.declared.act.Act.{Act}
 use Rattle.osc_script.specs.declared.act.Act.TheVariants.{Add, Remove, Send, Tick, Pump}
 use Rattle.osc_script.specs.declared.line.Line.{Line}
 
--- a word, and an operand behind a space
+-- a word, and an operand after a space
 abbrev pub with_operand : List ℕ → List ℕ → List ℕ
 with_operand word operand = word ++ 32 ∷ operand
 

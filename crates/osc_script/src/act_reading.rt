@@ -19,7 +19,7 @@ use osc_atoms::Bytes;
 use osc_pattern::{Address, AddressFault};
 use std::alloc::{AllocError, Global};
 
-/// What a word and the words behind it say.
+/// What a word and the words after it say.
 #[tactic(auto, unfolding(crate::specs::Acts::act_of))]
 pub(crate) fn read_act(alloc: Global, word: &[u8], operands: &[u8]) -> Result<Act, LineRefusal>
     ensures { Says result (act_of word.now (words_of operands.now)) }
@@ -42,7 +42,7 @@ pub(crate) fn read_act(alloc: Global, word: &[u8], operands: &[u8]) -> Result<Ac
     Err(LineRefusal::Kind(ScriptFault::WORD))
 }
 
-/// What a word and the words behind it say in mode `Serve`.
+/// What a word and the words after it say in mode `Serve`.
 #[tactic(auto, unfolding(crate::specs::Acts::served_of))]
 pub(crate) fn read_served(alloc: Global, word: &[u8], operands: &[u8]) -> Result<Act, LineRefusal>
     ensures { Says result (served_of word.now (words_of operands.now)) }
@@ -71,7 +71,7 @@ fn is_known(word: &[u8]) -> bool
         || word == b"pump".as_slice()
 }
 
-/// Whether as many words stand behind a known word as it takes.
+/// Whether as many words stand after a known word as it takes.
 fn has_count(word: &[u8], operands: &[u8]) -> bool
     ensures { result ≡ Acts.has_count word.now (length (words_of operands.now)) }
 {

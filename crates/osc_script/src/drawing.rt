@@ -58,7 +58,7 @@ fn to_any(alloc: Global, draws: &mut Draws) -> Result<Vec<u8>, AllocError>
     message(alloc, pattern.as_str(), value as u32)
 }
 
-/// A bundle of two messages, at the drawn number behind the moment.
+/// A bundle of two messages, at the drawn number after the moment.
 #[tactic(auto, unfolding(crate::specs::Generated::two_of))]
 pub(crate) fn two_of(alloc: Global, moment: u64, draws: &mut Draws) -> Result<Vec<u8>, AllocError>
     requires { moment < 2 ^ 63 }
@@ -75,7 +75,7 @@ pub(crate) fn two_of(alloc: Global, moment: u64, draws: &mut Draws) -> Result<Ve
     bundle(alloc, due, elements.as_slice())
 }
 
-/// A bundle of a message and an enclosed bundle, at the drawn number behind the moment.
+/// A bundle of a message and an enclosed bundle, at the drawn number after the moment.
 #[tactic(auto, unfolding(crate::specs::Generated::nested_of))]
 pub(crate) fn nested_of(
     alloc: Global,

@@ -21,7 +21,7 @@ impl ScriptFault {
     pub const TOO_LONG: u8 = 1;
     /// An unknown word, whatever follows it.
     pub const WORD: u8 = 2;
-    /// A wrong number of words for a known word, or none behind a lane's number.
+    /// A wrong number of words for a known word, or none after a lane's number.
     pub const COUNT: u8 = 3;
     /// The operand of `add` or `remove` isn't a lawful address.
     pub const ADDRESS: u8 = 4;
@@ -31,7 +31,7 @@ impl ScriptFault {
     pub const TAG: u8 = 6;
     /// In mode `Lanes` the first word isn't a lane's number.
     pub const LANE: u8 = 7;
-    /// A known word with as many words behind it as it takes, which isn't lawful in this mode.
+    /// A known word with as many words after it as it takes, which isn't lawful in this mode.
     pub const NOT_HERE: u8 = 8;
 }
 

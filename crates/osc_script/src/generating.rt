@@ -53,7 +53,7 @@ fn put_drawn(alloc: Global, script: &mut Vec<u8>, seed: u64, lines: u32) -> Resu
     Ok(())
 }
 
-/// Draws a kind and adds a line of it, and gives the moment of the last tick behind it.
+/// Draws a kind and adds a line of it, and gives the moment of the last tick after it.
 fn put_next(
     alloc: Global,
     script: &mut Vec<u8>,

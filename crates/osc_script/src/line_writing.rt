@@ -1,5 +1,6 @@
 // Writes the lines of a generated script.
-ghost use Rattle.std.specs.Prelude.{◌≡◌, ◌++◌, ◌∷◌, [], ◌+◌, ◌<◌, ◌≤◌, ◌^◌, IfOk, OnOk};
+ghost use Rattle.std.specs.Prelude.{◌≡◌, ◌++◌, ◌∷◌, [], ◌+◌, ◌<◌, ◌≤◌, ◌^◌, IfOk, OnOk, OnErr};
+ghost use Rattle.std.specs.Prelude.{length, take};
 ghost use Rattle.hex.specs.Hex.{encode_lower};
 ghost use Rattle.osc_script.specs.Written.{act_line, with_operand};
 ghost use Rattle.osc_script.specs.Generated.{act_of_kind, draws_of, moment_after};
@@ -10,7 +11,7 @@ use crate::draws::Draws;
 use crate::line_kind::LineKind;
 use std::alloc::{AllocError, Global};
 
-/// Adds a line of this kind, and gives the moment of the last tick behind it.
+/// Adds a line of this kind, and gives the moment of the last tick after it.
 pub(crate) fn put_drawn_line(
     alloc: Global,
     script: &mut Vec<u8>,
@@ -61,11 +62,28 @@ pub(crate) fn put_drawn_line(
     Ok(moment)
 }
 
-/// Adds a line of a word and its operand.
+/// Adds a line of a word and its operand, or nothing where memory is refused.
 pub fn put_line(script: &mut Vec<u8>, word: &[u8], operand: &[u8]) -> Result<(), AllocError>
-    ensures { OnOk result
+    ensures ok { OnOk result
         (script.new.items
         ≡ script.old.items ++ (with_operand word.now operand.now ++ 10 ∷ [])) }
+    ensures err { OnErr result (script.new.items ≡ script.old.items) }
+{
+    let before = script.len();
+    if let Err(error) = put_words(script, word, operand) {
+        script.truncate(before);
+        return Err(error);
+    }
+    Ok(())
+}
+
+/// Adds a word, its operand and the end of the line, as far as memory goes.
+fn put_words(script: &mut Vec<u8>, word: &[u8], operand: &[u8]) -> Result<(), AllocError>
+    ensures ok { OnOk result
+        (script.new.items
+        ≡ script.old.items ++ (with_operand word.now operand.now ++ 10 ∷ [])) }
+    ensures err { OnErr result
+        (take (length script.old.items) script.new.items ≡ script.old.items) }
 {
     script.extend_from_slice(word)?;
     script.extend_from_slice(b" ")?;
@@ -73,16 +91,17 @@ pub fn put_line(script: &mut Vec<u8>, word: &[u8], operand: &[u8]) -> Result<(),
     script.extend_from_slice(b"\n")
 }
 
-/// Adds a line of a word and, as its operand, the digits of these bytes.
+/// Adds a line of a word and, as its operand, the digits of these bytes, or nothing where memory is refused.
 pub fn put_digits(
     alloc: Global,
     script: &mut Vec<u8>,
     word: &[u8],
     bytes: &[u8],
 ) -> Result<(), AllocError>
-    ensures { OnOk result
+    ensures ok { OnOk result
         (script.new.items
         ≡ script.old.items ++ (with_operand word.now (encode_lower bytes.now) ++ 10 ∷ [])) }
+    ensures err { OnErr result (script.new.items ≡ script.old.items) }
 {
     let digits = hex::encode(alloc, bytes)?;
     put_line(script, word, digits.as_bytes())

@@ -21,7 +21,7 @@ pub(crate) fn message(alloc: Global, pattern: &str, value: u32) -> Result<Vec<u8
     Ok(packet)
 }
 
-/// Adds an element of a bundle, behind its size.
+/// Adds an element of a bundle, after its size.
 pub(crate) fn put_element(elements: &mut Vec<u8>, packet: &[u8]) -> Result<(), AllocError>
     requires { length packet.now < 2 ^ 32 }
     ensures { OnOk result

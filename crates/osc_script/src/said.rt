@@ -32,7 +32,7 @@ pub(crate) fn read_line(alloc: Global, mode: Mode, text: &[u8]) -> Result<Option
     }
 }
 
-/// What a first word and the words behind it say.
+/// What a first word and the words after it say.
 fn read_words(alloc: Global, mode: Mode, word: &[u8], after: &[u8]) -> Result<Said, LineRefusal>
     ensures { Says result (said_of mode word.now (words_of after.now)) }
 {
@@ -52,7 +52,7 @@ fn read_words(alloc: Global, mode: Mode, word: &[u8], after: &[u8]) -> Result<Sa
     }
 }
 
-/// What the words behind a lane's number say.
+/// What the words after a lane's number say.
 fn read_in_lane(alloc: Global, lane: u32, text: &[u8]) -> Result<Said, LineRefusal>
     ensures { Says result (in_lane lane (words_of text.now)) }
 {

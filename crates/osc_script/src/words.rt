@@ -34,7 +34,7 @@ fn without_return(line: &[u8]) -> &[u8]
 }
 
 #[tactic(auto, using(crate::proofs::Cutting::words))]
-/// The first word, and what follows the space behind it.
+/// The first word, and what follows the space after it.
 pub fn next_word(text: &[u8]) -> Option<(&[u8], &[u8])>
     ensures words { MatchOption result (words_of text.now ≡ [])
         (λ parts. words_of text.now ≡ parts.0.now ∷ words_of parts.1.now) }
