@@ -146,7 +146,7 @@ type Given = (&'static str, Past, &'static str, usize, Failing);
 
 /// What is given, the status, what is printed, how many bytes are recorded, and how many boxes have an id and how many
 /// are left.
-const ENDS: [(Given, u8, [&str; 2], usize, (usize, usize)); 25] = [
+const ENDS: [(Given, u8, [&str; 2], usize, (usize, usize)); 26] = [
     (
         ("resume o f", Past::Waiting, GOING_ON, 8, Failing::None),
         0,
@@ -236,6 +236,19 @@ const ENDS: [(Given, u8, [&str; 2], usize, (usize, usize)); 25] = [
     (
         (
             "resume o --recording 300 f",
+            Past::Waiting,
+            GOING_ON,
+            8,
+            Failing::None,
+        ),
+        2,
+        ["usage\n", ""],
+        0,
+        (0, 8),
+    ),
+    (
+        (
+            "resume 300 --recording 300 f",
             Past::Waiting,
             GOING_ON,
             8,

@@ -1,5 +1,6 @@
 -- What clap answers is what its statement says of a command that is simple.
-use Rattle.std.proofs.Common.{◌≡◌, ◌∙◌, ℕ, true, refl, sym, ap, List, [], ◌∷◌, Some, None, Ok, inl, inr}
+use Rattle.std.specs.Prelude.{is_some}
+use Rattle.std.proofs.Common.{◌≡◌, ◌∙◌, ℕ, true, false, refl, sym, ap, List, [], ◌∷◌, Some, None, Ok, inl, inr}
 use Rattle.std.proofs.lemmas.Bool.{and_parts}
 use Rattle.clap.specs.Words.{App, FailsBy, HasKind, HasMatchesOf, Kinds, Row, fault_of, found_of, is_simple, is_simple_and_free, kind_of, matches_of, rows_of}
 use Rattle.clap.specs.Faults.{is_free_app}
@@ -7,7 +8,8 @@ use Rattle.clap.specs.Simple.{built}
 use Rattle.clap.specs.declared.error.Error.{Error}
 use Rattle.clap.specs.declared.error.kind.ErrorKind.TheVariants.{OutOfMemory}
 use Rattle.clap.specs.declared.parser.matches.ArgMatches.{ArgMatches}
-use Rattle.osc_words.specs.Reading.{app_for, found_by, unless_refused}
+use Rattle.osc_words.specs.Reading.{app_for, app_with, are_options, found_by, unless_refused}
+use Rattle.osc_words.specs.Verbs.{before_files}
 use Rattle.osc_words.specs.declared.verb.Verb.{Verb}
 use Rattle.osc_words.specs.declared.verb.Verb.TheVariants.{Run, Replay, Dump, Upgrade, Score, Gen, Lanes, Serve, Resume}
 
@@ -44,3 +46,27 @@ unfolding found_by
 refused verb app words error is kinds other =
     refuses (fault_of app words) (matches_of app words) error (kinds (ap is_simple_and_free is ∙ simple verb)) other
     ∙ ap (λ a. unless_refused (fault_of a words) (matches_of a words)) is
+
+simple_options : is_simple_and_free (app_with before_files) ≡ true
+simple_options = refl
+
+pub options_taken : (app : App) (words : List (List ℕ)) (matches : ArgMatches) → app ≡ app_with before_files
+    → (is_simple_and_free app ≡ true → FailsBy (fault_of app words) (Ok matches)) → true ≡ are_options words
+unfolding are_options
+options_taken app words matches is kinds =
+    let none = kinds (ap is_simple_and_free is ∙ simple_options) in
+    sym (ap (λ ks. is_some (unless_refused ks [])) none)
+    ∙ ap (λ a. is_some (unless_refused (fault_of a words) [])) is
+
+not_some : (kinds : Kinds) (error : Error) → HasKind kinds error → ¬ (kind_of error ≡ OutOfMemory) → false ≡ is_some (unless_refused kinds [])
+not_some [] error (inl memory) other = absurd (other memory)
+not_some [] error (inr none) other = absurd none
+not_some (kind ∷ kinds) error has other = refl
+
+pub options_refused : (app : App) (words : List (List ℕ)) (error : Error) → app ≡ app_with before_files
+    → (is_simple_and_free app ≡ true → HasKind (fault_of app words) error) → ¬ (kind_of error ≡ OutOfMemory)
+    → false ≡ are_options words
+unfolding are_options
+options_refused app words error is kinds other =
+    not_some (fault_of app words) error (kinds (ap is_simple_and_free is ∙ simple_options)) other
+    ∙ ap (λ a. is_some (unless_refused (fault_of a words) [])) is

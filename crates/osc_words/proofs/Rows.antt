@@ -3,7 +3,7 @@ use Rattle.std.proofs.Common.{◌≡◌, refl, true, false, [], ◌∷◌, Some,
 use Rattle.clap.proofs.OnLiterals.{clap_on_literals}
 use Rattle.osc_model.specs.declared.late.Late.TheVariants.{Deliver, Discard}
 use Rattle.osc_words.specs.Commands.{command_of, to_read}
-use Rattle.osc_words.specs.Reading.{found_by}
+use Rattle.osc_words.specs.Reading.{are_options, found_by}
 use Rattle.osc_words.specs.declared.command.Capacities.{Capacities}
 use Rattle.osc_words.specs.declared.command.Output.TheVariants as output
 use Rattle.osc_words.specs.declared.command.Reading.TheVariants.{Run, Replay, Upgrade, Score, PlayScore}
@@ -196,42 +196,46 @@ unfolding clap_on_literals command_of found_by
 same_number = refl
 
 resume : command_of (codes "resume" ∷ codes "old.rec" ∷ codes "new.rec" ∷ []) ≡ Some (Resume (record { room = 67108864 }))
-unfolding clap_on_literals command_of found_by
+unfolding clap_on_literals command_of found_by are_options
 resume = refl
 
 resume_room : command_of (codes "resume" ∷ codes "--recording" ∷ codes "60" ∷ codes "old.rec" ∷ codes "new.rec" ∷ [])
     ≡ Some (Resume (record { room = 60 }))
-unfolding clap_on_literals command_of found_by
+unfolding clap_on_literals command_of found_by are_options
 resume_room = refl
 
 old_first : command_of (codes "resume" ∷ codes "old.rec" ∷ codes "--recording" ∷ codes "60" ∷ codes "new.rec" ∷ []) ≡ None
-unfolding clap_on_literals command_of found_by
+unfolding clap_on_literals command_of found_by are_options
 old_first = refl
 
+number_first : command_of (codes "resume" ∷ codes "60" ∷ codes "--recording" ∷ codes "60" ∷ codes "new.rec" ∷ []) ≡ None
+unfolding clap_on_literals command_of found_by are_options
+number_first = refl
+
 files_first : command_of (codes "resume" ∷ codes "old.rec" ∷ codes "new.rec" ∷ codes "--recording=60" ∷ []) ≡ None
-unfolding clap_on_literals command_of found_by
+unfolding clap_on_literals command_of found_by are_options
 files_first = refl
 
 old_apart : command_of (codes "resume" ∷ codes "old.rec" ∷ codes "--" ∷ codes "new.rec" ∷ []) ≡ None
-unfolding clap_on_literals command_of found_by
+unfolding clap_on_literals command_of found_by are_options
 old_apart = refl
 
 hyphen_files : command_of (codes "resume" ∷ codes "--" ∷ codes "-a" ∷ codes "-b" ∷ []) ≡ Some (Resume (record { room = 67108864 }))
-unfolding clap_on_literals command_of found_by
+unfolding clap_on_literals command_of found_by are_options
 hyphen_files = refl
 
 one_file : command_of (codes "resume" ∷ codes "old.rec" ∷ []) ≡ None
-unfolding clap_on_literals command_of found_by
+unfolding clap_on_literals command_of found_by are_options
 one_file = refl
 
 three_files : command_of (codes "resume" ∷ codes "a" ∷ codes "b" ∷ codes "c" ∷ []) ≡ None
-unfolding clap_on_literals command_of found_by
+unfolding clap_on_literals command_of found_by are_options
 three_files = refl
 
 little_room : command_of (codes "resume" ∷ codes "--recording" ∷ codes "59" ∷ codes "a" ∷ codes "b" ∷ []) ≡ None
-unfolding clap_on_literals command_of found_by
+unfolding clap_on_literals command_of found_by are_options
 little_room = refl
 
 other_limits : command_of (codes "resume" ∷ codes "--units" ∷ codes "7" ∷ codes "a" ∷ codes "b" ∷ []) ≡ None
-unfolding clap_on_literals command_of found_by
+unfolding clap_on_literals command_of found_by are_options
 other_limits = refl

@@ -1,5 +1,5 @@
 -- What the words of the command line say.
-use Rattle.std.specs.Prelude.{ℕ, ◌+◌, Bool, true, false, nat_le, if◌then◌else◌, List, [], ◌∷◌}
+use Rattle.std.specs.Prelude.{◌≡◌, ℕ, ◌+◌, Bool, true, false, nat_le, if◌then◌else◌, List, [], ◌∷◌}
 use Rattle.std.specs.Prelude.{Option, Some, None, option_map, option_and_then, codes, ◌&&◌}
 use Rattle.std.specs.Option.{option_map_or}
 use Rattle.std.specs.Str.{bytes_eq}
@@ -8,7 +8,7 @@ use Rattle.osc_words.specs.Numbers.{number_within}
 use Rattle.osc_model.specs.declared.late.Late.{Late}
 use Rattle.osc_model.specs.declared.late.Late.TheVariants.{Deliver, Discard}
 use Rattle.osc_words.specs.Options.{flag_name, late_name, row_of}
-use Rattle.osc_words.specs.Reading.{found_by}
+use Rattle.osc_words.specs.Reading.{are_options, found_by}
 use Rattle.osc_words.specs.Verbs as verbs
 use Rattle.osc_words.specs.declared.options.Flag.{Flag}
 use Rattle.osc_words.specs.declared.options.Flag.TheVariants.{Bytes, Tcp, Play, Watch}
@@ -34,7 +34,7 @@ use Rattle.osc_words.specs.declared.command.LiveCommand.TheVariants.{Lanes, Serv
 use Rattle.osc_words.specs.declared.command.ResumeCommand.{ResumeCommand}
 use Rattle.osc_words.specs.declared.command.Command.{Command}
 use Rattle.osc_words.specs.declared.command.Command.TheVariants.{Plain, Live, Resume}
-use Rattle.osc_words.specs.Names.{last_two}
+use Rattle.osc_words.specs.Names.{before_last_two, last_two}
 
 -- whether a flag stands among the words
 abbrev pub is_given : Flag → List Row → Bool
@@ -136,16 +136,18 @@ first_verb (word ∷ words) = verbs.verb_of word
 abbrev pub is_found : List ℕ → List ℕ → List Row → Bool
 is_found name word rows = option_map_or (λ text. bytes_eq text word) (first_of name rows) false
 
--- whether OLD and FILE are the last two words
+-- whether OLD and FILE are as the last two words
 abbrev pub are_last_two : List (List ℕ) → List Row → Bool
 are_last_two words rows =
     option_map_or
     (λ both. is_found (codes "OLD") both.0 rows && is_found (codes "FILE") both.1 rows)
     (last_two words) false
 
--- whether the files stand where they are to: those of a `resume` are the last two words
+-- Whether the files stand where they are to: those of a `resume` are the last two words, since all
+-- before them are options.
 abbrev pub stands_in_place : Verb → List (List ℕ) → List Row → Bool
-stands_in_place verb.Resume words rows = are_last_two words rows
+stands_in_place verb.Resume words rows =
+    are_last_two words rows && are_options (before_last_two words)
 stands_in_place _ words rows = true
 
 -- what is said by what was found, where the files stand where they are to
@@ -198,3 +200,15 @@ is_over_tcp (Serve transport.Tcp port links count idle caps) = true
 -- whether the words say to serve links over TCP
 abbrev pub wants_tcp : List (List ℕ) → Bool
 wants_tcp words = option_map_or is_over_tcp (live_command_of words) false
+
+-- The files of a `resume` are its last two words: clap finds these as OLD and FILE, and all words
+-- before them are options.
+pub record EndsInFiles (words : List (List ℕ)) : Type 0 where
+  pub rows : List Row
+  pub old : List ℕ
+  pub file : List ℕ
+  pub found : found_by verb.Resume words ≡ Some rows
+  pub last : last_two words ≡ Some (old, file)
+  pub is_old : first_of (codes "OLD") rows ≡ Some old
+  pub is_file : first_of (codes "FILE") rows ≡ Some file
+  pub options : are_options (before_last_two words) ≡ true

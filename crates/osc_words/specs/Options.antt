@@ -52,7 +52,7 @@ abbrev pub late_name : List ℕ
 late_name = codes "late"
 
 -- how each is told to clap: a flag, a number and a policy by a long name, the old file as a word
--- that has to stand, and the file as another, behind which no option is read and no other word may
+-- that has to stand, and the file as another, after which no option is read and no other word may
 -- stand
 abbrev pub rule_for : Parameter → Rule
 rule_for (parameter.Flag flag) =

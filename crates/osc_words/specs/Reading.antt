@@ -1,18 +1,21 @@
 -- What clap finds in the words.
 use Rattle.std.specs.Prelude.{ℕ, ◌-◌, ◌==◌, Bool, true, take, drop, length, List, [], ◌∷◌, map}
-use Rattle.std.specs.Prelude.{fold, Option, Some, None, codes}
+use Rattle.std.specs.Prelude.{fold, Option, Some, None, codes, is_some}
 use Rattle.clap.specs.Words.{App, Kinds, Row, Rule, built, fault_of, matches_of, new_app, new_rule}
 use Rattle.clap.specs.Words.{with_rule}
 use Rattle.clap.specs.Walk.{nothing_held, walk}
 use Rattle.osc_words.specs.Options.{rule_for}
-use Rattle.osc_words.specs.Verbs.{options_of}
+use Rattle.osc_words.specs.Verbs.{before_files, options_of}
 use Rattle.osc_words.specs.declared.options.Parameter.{Parameter}
 use Rattle.osc_words.specs.declared.options.Parameter.TheVariants.{File}
 use Rattle.osc_words.specs.declared.verb.Verb.{Verb}
 
 -- the command of clap that has these options, and no subcommand
+abbrev pub app_with : List Parameter → App
+app_with options = fold with_rule (new_app (codes "osc")) (map rule_for options)
+
 abbrev pub app_for : Verb → App
-app_for verb = fold with_rule (new_app (codes "osc")) (map rule_for (options_of verb))
+app_for verb = app_with (options_of verb)
 
 abbrev pub unless_refused : Kinds → List Row → Option (List Row)
 unless_refused [] rows = Some rows
@@ -24,7 +27,12 @@ unfoldable pub found_by : Verb → List (List ℕ) → Option (List Row)
 found_by verb words =
     unless_refused (fault_of (app_for verb) words) (matches_of (app_for verb) words)
 
--- the plain command, by which options are read behind the file too
+-- whether the words, of which the first is the command's name, are options of a `resume` alone: the
+-- command that has its options, and no file, takes them
+unfoldable pub are_options : List (List ℕ) → Bool
+are_options words = is_some (unless_refused (fault_of (app_with before_files) words) [])
+
+-- the plain command, by which options are read after the file too
 abbrev pub plain_rule_for : Parameter → Rule
 plain_rule_for File = record (new_rule (codes "FILE")) { required = true }
 plain_rule_for option = rule_for option

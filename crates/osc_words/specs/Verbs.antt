@@ -1,4 +1,4 @@
--- The first word, and what each command has behind it.
+-- The first word, and what each command has after it.
 use Rattle.std.specs.Prelude.{ℕ, if◌then◌else◌, List, [], ◌∷◌, ◌++◌, map, Option, Some, None, codes}
 use Rattle.std.specs.Str.{bytes_eq}
 use Rattle.osc_words.specs.declared.options.Flag.TheVariants.{Bytes, Tcp, Play, Watch}
@@ -28,7 +28,11 @@ verb_of word =
 abbrev pub caps : List Parameter
 caps = map Number (Units ∷ Blocks ∷ Methods ∷ Nodes ∷ Recording ∷ []) ++ Late ∷ []
 
--- what may stand behind the first word
+-- what may stand before the files of a `resume`
+abbrev pub before_files : List Parameter
+before_files = Number Recording ∷ []
+
+-- what may stand after the first word
 abbrev pub options_of : Verb → List Parameter
 options_of Run = Flag Bytes ∷ caps
 options_of Replay = []
@@ -39,4 +43,4 @@ options_of Gen = Number Seed ∷ Number Lines ∷ []
 options_of Lanes = Flag Watch ∷ caps ++ File ∷ []
 options_of Serve =
     Flag Tcp ∷ map Number (Port ∷ Links ∷ Count ∷ Idle ∷ []) ++ caps ++ File ∷ []
-options_of Resume = Number Recording ∷ Old ∷ File ∷ []
+options_of Resume = before_files ++ Old ∷ File ∷ []

@@ -12,3 +12,10 @@ pub fn last_two(words: &[String]) -> Option<(&str, &str)>
         _ => None,
     }
 }
+
+/// All words but the last two.
+pub(crate) fn before_last_two(words: &[String]) -> &[String]
+    ensures { map string_bytes result.now ≡ names.before_last_two (map string_bytes words.now) }
+{
+    &words[..words.len().saturating_sub(2)]
+}

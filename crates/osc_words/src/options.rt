@@ -31,7 +31,7 @@ pub(crate) enum Quantity {
     Idle,
 }
 
-/// What may stand behind the first word.
+/// What may stand after the first word.
 #[derive(Clone, Copy, Debug, PartialEq, Eq)]
 pub(crate) enum Parameter {
     Flag(Flag),
@@ -51,7 +51,7 @@ pub(crate) struct NumberOption {
 }
 
 impl Flag {
-    /// The name behind its two hyphens.
+    /// The name after its two hyphens.
     pub(crate) fn name(self) -> &'static str
         ensures { result.now ≡ flag_name self }
     {

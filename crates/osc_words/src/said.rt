@@ -12,10 +12,10 @@ use crate::command::{
     Capacities, Command, LiveCommand, Output, PORTS, PlainCommand, Reading, ResumeCommand,
     Transport,
 };
-use crate::names::last_two;
+use crate::names::{before_last_two, last_two};
 use crate::number::number_within;
 use crate::options::{Flag, Quantity};
-use crate::reading::read;
+use crate::reading::{are_options, read};
 use crate::verb::Verb;
 use clap::ArgMatches;
 use osc_model::Late;
@@ -33,7 +33,9 @@ pub fn command_of(alloc: Global, words: &[String]) -> Result<Option<Command>, Al
         return Ok(None);
     };
     match read(alloc, verb, words)? {
-        Some(found) if stands_in_place(verb, words, &found) => Ok(command_from(verb, &found)),
+        Some(found) if stands_in_place(alloc, verb, words, &found)? => {
+            Ok(command_from(verb, &found))
+        }
         _ => Ok(None),
     }
 }
@@ -80,14 +82,22 @@ pub fn resume_command_of(
     }
 }
 
-/// Whether the files stand where they are to: OLD and FILE of a `resume` are the last two words.
-fn stands_in_place(verb: Verb, words: &[String], found: &ArgMatches<'_>) -> bool
-    ensures { result ≡ commands.stands_in_place verb (map string_bytes words.now)
-        (rows_of (found_of found.now)) }
+/// Whether the files stand where they are to: OLD and FILE of a `resume` are the last two words, and all before them
+/// are options. An `Err` means out of memory.
+fn stands_in_place(
+    alloc: Global,
+    verb: Verb,
+    words: &[String],
+    found: &ArgMatches<'_>,
+) -> Result<bool, AllocError>
+    ensures { IfOk result (λ stands. stands
+        ≡ commands.stands_in_place verb (map string_bytes words.now)
+        (rows_of (found_of found.now))) }
 {
     match verb {
-        Verb::Resume => are_last_two(words, found),
-        _ => true,
+        Verb::Resume if are_last_two(words, found) => are_options(alloc, before_last_two(words)),
+        Verb::Resume => Ok(false),
+        _ => Ok(true),
     }
 }
 

@@ -1,4 +1,4 @@
-// The first word, and what each command has behind it.
+// The first word, and what each command has after it.
 ghost use Rattle.std.specs.Prelude.{◌≡◌};
 ghost use Rattle.osc_words.specs.Verbs;
 
@@ -61,6 +61,9 @@ static SERVE: [Parameter; 12] = [
     Parameter::File,
 ];
 
+/// What may stand before the files of a `resume`.
+pub(crate) static BEFORE_FILES: [Parameter; 1] = [Parameter::Number(Quantity::Recording)];
+
 static RESUME: [Parameter; 3] = [
     Parameter::Number(Quantity::Recording),
     Parameter::Old,
@@ -86,7 +89,7 @@ impl Verb {
         }
     }
 
-    /// What may stand behind it.
+    /// What may stand after it.
     pub(crate) fn options(self) -> &'static [Parameter]
         ensures { result.now ≡ Verbs.options_of self }
     {
