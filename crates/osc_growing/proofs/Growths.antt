@@ -82,7 +82,7 @@ pub record Follows (one other : SinkChange) : Type 0 where
   pub held : other.held ≡ one.held_after
   pub faults : other.faults ≡ one.faults_after
 
--- a piece was written behind what was written
+-- a piece was written after what was written
 pub piece_grown : (one other : SinkChange) (text old new piece : List ℕ) (from count : ℕ) → Follows one other → Writes text from old new count → piece ≡ take count new
     → HasGrown (Written from) one text → GainsAll other piece → HasGrown (Written (from + count)) (then_changed one other) text
 piece_grown one other text old new piece from count follows writes is grown gains =
@@ -97,7 +97,7 @@ piece_grown one other text old new piece from count follows writes is grown gain
       ),
     )
 
--- the sink failed behind what was written
+-- the sink failed after what was written
 pub piece_failed : (one other : SinkChange) (text old new piece : List ℕ) (from count : ℕ) → Follows one other → Writes text from old new count → piece ≡ take count new
     → HasGrown (Written from) one text → GainsPart other piece → HasGrown Failed (then_changed one other) text
 piece_failed one other text old new piece from count follows writes is grown gains =

@@ -9,7 +9,7 @@ use Rattle.osc_growing.specs.Growing.{HasGrown}
 use Rattle.osc_growing.proofs.Fronts.{Gained, Front, gained_both, front_both}
 use Rattle.osc_growing.proofs.Growths.{Follows, then_changed}
 
--- the rest was written behind what was written, or a front of it
+-- the rest was written after what was written, or a front of it
 pub rest_written : (one other : SinkChange) (text : List ℕ) (at status : ℕ) → Follows one other → HasGrown (Written at) one text
     → EndsText 0 status (drop at text) other → EndsText 0 status text (then_changed one other)
 rest_written one other text at status follows grown ends =
@@ -32,7 +32,7 @@ rest_written one other text at status follows grown ends =
           );
     }
 
--- nothing was written behind a failure
+-- nothing was written after a failure
 pub rest_failed : (sink : SinkChange) (text : List ℕ) → HasGrown Failed sink text → EndsText 0 5 text sink
 rest_failed sink text grown = record { known = inr (inr refl); done = λ is. absurd (omega (arith, is)); cut_short = λ is. grown }
 

@@ -28,7 +28,7 @@ use Rattle.osc_life.proofs.Ending.{gone_is}
 use Rattle.osc_life.proofs.Enrolling.{left_history}
 use Rattle.osc_lanes.specs.declared.part.LaneTold.{LaneTold}
 use Rattle.osc_lanes.specs.declared.work.LaneWork.{LaneWork}
-use Rattle.osc_lanes.specs.Shares.{Account, IsRemovedAt, LaneBehind, LaneOf, Plays, ended}
+use Rattle.osc_lanes.specs.Shares.{Account, IsRemovedAt, LaneAfter, LaneOf, Plays, ended}
 use Rattle.osc_lanes.specs.Performs.{Part, IsStage, IsClosedWith, Performs, told_of, removed_ids}
 use Rattle.osc_lanes.specs.Later.{old_callers, IsLaterStage, IsClosedLater, PerformsLater}
 use Rattle.osc_lanes.specs.Works.{part_at}
@@ -42,7 +42,7 @@ enrolments_keep : (first count : ℕ) → gone_ids (enrolments first count) ≡ 
 enrolments_keep first zero = refl
 enrolments_keep first (suc count) = enrolments_keep (first + 1) count
 
--- enrolments behind a history remove nothing
+-- enrolments after a history remove nothing
 pub gone_enrolled : (history : List Entry) (first count : ℕ) → gone_ids (history ++ enrolments first count) ≡ removed_in history
 gone_enrolled history first count =
     flat_map-append (λ (one : Entry). id_in one.answer) history (enrolments first count)
@@ -85,31 +85,31 @@ module _ {M : Type 0} (keep : M → ℕ) (heard : M → Option (List ℕ)) where
   lane_plays work end holder here there = Plays keep heard holder work.part.lines.items work.part.boxes.items (told_of end) here there
 
   module _ (caps : Limits) (first history : List Seen) where
-    abbrev pub IsBehind : ℕ → Part M → Account M → Type 0
-    IsBehind number part account = LaneBehind keep heard (holder_at caps number) part.lines part.boxes account first history
+    abbrev pub IsAfter : ℕ → Part M → Account M → Type 0
+    IsAfter number part account = LaneAfter keep heard (holder_at caps number) part.lines part.boxes account first history
 
     abbrev pub IsShare : ℕ → Part M → Account M → Type 0
     IsShare number part account = LaneOf keep heard (holder_at caps number) part.lines part.boxes account history
 
     lanes_of : (next : ℕ) (works : List (LaneWork M)) (ends : List (LaneTold M)) (tokens : List (List Seen))
-        → AreShares lane_plays caps first history next works ends tokens → Numbered IsBehind next (map part_at works) (map told_of ends)
+        → AreShares lane_plays caps first history next works ends tokens → Numbered IsAfter next (map part_at works) (map told_of ends)
     lanes_of next [] [] [] all = tt
     lanes_of next (work ∷ works) (end ∷ ends) (there ∷ tokens) all =
-        ((all.0.here, there, all.0.behind, all.0.fresh, all.0.played, all.0.onward), lanes_of (next + 1) works ends tokens all.1)
+        ((all.0.here, there, all.0.comes_after, all.0.fresh, all.0.played, all.0.onward), lanes_of (next + 1) works ends tokens all.1)
     lanes_of next [] [] (there ∷ tokens) all = absurd all
     lanes_of next [] (end ∷ ends) tokens all = absurd all
     lanes_of next (work ∷ works) [] tokens all = absurd all
     lanes_of next (work ∷ works) (end ∷ ends) [] all = absurd all
 
-    -- a lane's share behind these entries is its share
-    pub shares_behind : (next : ℕ) (parts : List (Part M)) (accounts : List (Account M)) → Numbered IsBehind next parts accounts
+    -- a lane's share after these entries is its share
+    pub shares_after : (next : ℕ) (parts : List (Part M)) (accounts : List (Account M)) → Numbered IsAfter next parts accounts
         → Numbered IsShare next parts accounts
-    shares_behind next [] [] all = tt
-    shares_behind next [] (account ∷ accounts) all = absurd all
-    shares_behind next (part ∷ parts) [] all = absurd all
-    shares_behind next (part ∷ parts) (account ∷ accounts) all = (
+    shares_after next [] [] all = tt
+    shares_after next [] (account ∷ accounts) all = absurd all
+    shares_after next (part ∷ parts) [] all = absurd all
+    shares_after next (part ∷ parts) (account ∷ accounts) all = (
       (all.0.0, all.0.1, all.0.3, all.0.4, all.0.5),
-      shares_behind (next + 1) parts accounts all.1,
+      shares_after (next + 1) parts accounts all.1,
     )
 
     -- the ids that the history removes are those that the lanes tell
@@ -236,15 +236,15 @@ module _ {M : Type 0} (keep : M → ℕ) (heard : M → Option (List ℕ)) where
           let parts = map part_at works in
           let accounts = map told_of ends in
           let number : callers ≡ length parts = many ∙ sym (length-map works part_at) in
-          let behind = lanes_of caps (own 0 history) history (old_callers past) works ends tokens all in
-          let shared = shares_behind caps (own 0 history) history (old_callers past) parts accounts behind in (
+          let lanes_after = lanes_of caps (own 0 history) history (old_callers past) works ends tokens all in
+          let shared = shares_after caps (own 0 history) history (old_callers past) parts accounts lanes_after in (
             record {
               history = history;
               callers = callers;
               stage = stage;
               closed = closed_later accounts (gone_later old counted parts accounts number shared)
                   (removed_all caps (own 0 history) history law stage.legal (old_callers past) parts accounts shared);
-              shares = (number, behind);
+              shares = (number, lanes_after);
             },
             refl,
           )
@@ -332,7 +332,7 @@ fresh_performs keep heard caps past parts bytes kept accounts unenrolled none la
       shares = subst (λ (l : List (List ℕ)). MatchOption unenrolled
           ((later.callers ≡ length parts)
           × Numbered
-          (λ number part account. LaneBehind keep heard (holder_at caps number) part.lines part.boxes account (own 0 later.history) later.history)
+          (λ number part account. LaneAfter keep heard (holder_at caps number) part.lines part.boxes account (own 0 later.history) later.history)
           (old_callers l) parts accounts)
           (λ room. (later.callers < length parts) × HasNoRoomToEnrol caps later.history room × (accounts ≡ map (λ part. ended part.boxes None) parts)))
           none later.shares;

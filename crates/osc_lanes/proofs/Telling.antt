@@ -115,7 +115,7 @@ module _ {M : Type 0} where
       told_is = λ i. told (kept i) (sym (append-nil rs) i) (sym (append-nil bs) i) None;
     }
 
-    -- bytes that were sent, told behind what stopped otherwise
+    -- bytes that were sent, told after what stopped otherwise
     pub played_bytes : (bytes shown : List ℕ) (now : Account M) → shown ≡ bytes
         → TellsAct keep heard holder number (Send shown) boxes boxes (told fs rs bs None) now here there
         → TellsAct keep heard holder number (Send bytes) boxes boxes (told fs rs bs was) now here there

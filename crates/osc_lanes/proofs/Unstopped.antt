@@ -25,7 +25,7 @@ use Rattle.osc_lanes.specs.Performs.{Part, IsStage, Performs}
 use Rattle.osc_script.specs.Enough.{event_size, act_size, act_units, act_messages}
 use Rattle.osc_lanes.specs.Enough.{all_lines, enough_for}
 use Rattle.osc_script.proofs.Costs.{units_cost, units_cost_is, event_cost, more_methods, spent, full_takes}
-use Rattle.osc_lanes.proofs.Performing.{shares_behind}
+use Rattle.osc_lanes.proofs.Performing.{shares_after}
 use Rattle.osc_lanes.proofs.Spending.{Covers, FillsIn, SpendsIn, lane_spends}
 use Rattle.osc_lanes.proofs.Weights.{weighed, weighed_in, weighed_read, weighed_starts, enrolments_weigh, all_weigh}
 
@@ -190,7 +190,7 @@ pub never_stops : {M : Type 0} (keep : M → ℕ) (heard : M → Option (List �
 never_stops keep heard caps parts recording kept accounts None performs enough = (
   refl,
   stops_none keep heard caps performs.history parts performs.callers performs.stage enough accounts performs.shares.0
-      (shares_behind keep heard caps (own 0 performs.history) performs.history 1 parts accounts performs.shares.1),
+      (shares_after keep heard caps (own 0 performs.history) performs.history 1 parts accounts performs.shares.1),
 )
 never_stops keep heard caps parts recording kept accounts (Some room) performs enough =
     absurd (enrols_all keep heard caps performs.history parts performs.callers performs.stage enough room performs.shares.0 performs.shares.1.1

@@ -16,7 +16,7 @@ use Rattle.osc_turn.specs.declared.view.View.{View}
 use Rattle.osc_turn.specs.History.{texts, own}
 use Rattle.osc_live.specs.Resuming.{removed_in}
 use Rattle.osc_live.specs.Seen.{performance_in}
-use Rattle.osc_lanes.specs.Shares.{Account, IsRemovedAt, LaneBehind, ended}
+use Rattle.osc_lanes.specs.Shares.{Account, IsRemovedAt, LaneAfter, ended}
 use Rattle.osc_life.specs.Lives.{IsLife, Numbered, HasNoRoomToEnrol, added_ids}
 use Rattle.osc_lanes.specs.Performs.{Part}
 use Rattle.osc_life.specs.Holders.{Holder, holder_at}
@@ -29,7 +29,7 @@ old_callers past = callers_in (history_in past)
 -- The history of a server with these limits that goes on from the entries of a past, on which
 -- caller 0 has then enrolled so many callers, and did nothing else. It is legal, keeps the four
 -- laws, and begins with the entries of the past and these enrolments, which are all entries of
--- caller 0's token. The new callers are numbered behind the old ones, of whom none but caller 0 has
+-- caller 0's token. The new callers are numbered after the old ones, of whom none but caller 0 has
 -- an entry since then; and each entry since then is of the caller whose number its token has.
 abbrev pub IsLaterStage : Limits → List (List ℕ) → ℕ → List Seen → Type 0
 IsLaterStage caps past callers history =
@@ -52,7 +52,7 @@ module _ {M : Type 0} where
         account.removed) accounts
 
   -- The parts were played on a server that goes on from a past, each as a lane beside the others,
-  -- the first by the caller behind the old ones, unless the recording had no room for an enrolment:
+  -- the first by the caller after the old ones, unless the recording had no room for an enrolment:
   -- then no lane was started, so that all entries are those of caller 0's token, and all boxes come
   -- back. There is one history, with which the server was closed, and each lane has its share of
   -- it.
@@ -66,12 +66,12 @@ module _ {M : Type 0} where
     pub shares : MatchOption unenrolled
         ((callers ≡ length parts)
         × Numbered
-        (λ number part account. LaneBehind keep heard (holder_at caps number) part.lines part.boxes
+        (λ number part account. LaneAfter keep heard (holder_at caps number) part.lines part.boxes
         account (own 0 history) history) (old_callers past) parts accounts)
         (λ room. (callers < length parts) × HasNoRoomToEnrol caps history room
         × (accounts ≡ map (λ part. ended part.boxes None) parts))
 
-  -- The parts were performed so, and something else meanwhile, by caller 0, which ended behind all of
+  -- The parts were performed so, and something else meanwhile, by caller 0, which ended after all of
   -- the one history.
   pub record PerformsBeside {X F : Type 0} (ends : X → X → F → Holder → List (List Seen) → View → View → Type 0)
       (keep : M → ℕ) (heard : M → Option (List ℕ)) (caps : Limits) (past : List (List ℕ))

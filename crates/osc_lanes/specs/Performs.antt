@@ -23,7 +23,7 @@ use Rattle.osc_script.specs.Adds.{count_adds}
 use Rattle.osc_life.specs.Crews.{enrolments}
 use Rattle.osc_life.specs.Holders.{holder_at}
 use Rattle.osc_life.specs.Lives.{Numbered, HasNoRoomToEnrol, added_ids}
-use Rattle.osc_lanes.specs.Shares.{Account, LaneBehind, IsRemovedAt, ended}
+use Rattle.osc_lanes.specs.Shares.{Account, LaneAfter, IsRemovedAt, ended}
 
 -- The history of a server with these limits, on which caller 0 has these first entries, then
 -- enrolled so many callers, and did nothing else. It is legal, keeps the four laws, and begins with
@@ -63,13 +63,13 @@ module _ {M : Type 0} where
   abbrev pub removed_ids : List (Account M) → List ℕ
   removed_ids accounts = flat_map (λ account. map (λ one. one.0) account.removed) accounts
 
-  -- the k-th lane was played by caller k, behind caller 0's entries, and nothing else was done
+  -- the k-th lane was played by caller k, after caller 0's entries, and nothing else was done
   -- under its token
   abbrev pub AreShares : (M → ℕ) → (M → Option (List ℕ)) → Limits → List Seen → List (Part M)
       → List (Account M) → Type 0
   AreShares keep heard caps history parts accounts =
       Numbered
-      (λ number part account. LaneBehind keep heard (holder_at caps number) part.lines part.boxes
+      (λ number part account. LaneAfter keep heard (holder_at caps number) part.lines part.boxes
       account (own 0 history) history) 1 parts accounts
 
   -- The history is recorded. The ids that it adds are those of the boxes that are kept and of those

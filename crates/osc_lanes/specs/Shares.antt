@@ -22,7 +22,7 @@ use Rattle.osc_life.specs.Holders.{Holder, Onward}
 use Rattle.osc_life.specs.Lives.{id_in}
 use Rattle.osc_live.specs.Seen.{performance_in}
 
--- the token's entry stands behind what was found
+-- the token's entry stands after what was found
 pub record EntersOne (token : ℕ) (one : Entry) (found there : List Seen) : Type 0 where
   pub text : List ℕ
   pub mark : ℕ
@@ -149,8 +149,8 @@ module _ {M : Type 0} where
         (here : List Seen) × (there : List Seen) × (own holder.token here ≡ [])
         × Plays holder lines boxes account here there × Onward holder.token there history
 
-    -- the same of a token that came in behind these entries
-    abbrev pub LaneBehind : Holder → List Line → List M → Account M → List Seen → List Seen → Type 0
-    LaneBehind holder lines boxes account first history =
+    -- the same of a token that came in after these entries
+    abbrev pub LaneAfter : Holder → List Line → List M → Account M → List Seen → List Seen → Type 0
+    LaneAfter holder lines boxes account first history =
         (here : List Seen) × (there : List Seen) × StartsWith here first × (own holder.token here ≡ [])
         × Plays holder lines boxes account here there × Onward holder.token there history

@@ -19,7 +19,7 @@ use std::thread::Threads;
 
 /// Plays the plans, each by a thread of its own where one can be made. The ends stand in the order of the plans. An
 /// `Err` is want of memory.
-pub fn play_lanes<M: Method + Send, W: Threads + Wait + Sync, G: Gate + Sync>(
+pub fn play<M: Method + Send, W: Threads + Wait + Sync, G: Gate + Sync>(
     rt: &W,
     alloc: Global,
     live: &Live<M>,
@@ -32,7 +32,7 @@ pub fn play_lanes<M: Method + Send, W: Threads + Wait + Sync, G: Gate + Sync>(
     ensures ends { IfOk result
         (λ ends. AllZip (IsEndOf M.keep M.heard live.now.caps) plans.items ends.items) }
     ensures removed { IfOk result (λ ends. All (λ end. AllByRecursion
-        (IsRemovedAt M.keep M.heard live.now.caps (seen_by end.caller)) end.told.removed.items)
+        (IsRemovedAt M.keep M.heard live.now.caps (seen_by end.caller)) end.removed.items)
         ends.items) }
 {
     a_method_is_called_while_it_is_registered();

@@ -16,10 +16,10 @@ ghost use Rattle.osc_lanes.specs.Shares.{Account, LaneOf, IsRemovedAt};
 ghost use Rattle.osc_life.specs.Crews.{enrolments};
 ghost use Rattle.osc_life.specs.Lives.{added_ids, Numbered};
 ghost use Rattle.osc_lanes.specs.Performs.{removed_ids, Part};
-ghost use Rattle.osc_lanes.specs.Performs.{Performs, told_of};
+ghost use Rattle.osc_lanes.specs.Performs.{Performs};
 ghost use Rattle.osc_lanes.specs.Enough.{enough_for};
 ghost use Rattle.osc_life.specs.Holders.{seen_by, holder_of};
-ghost use Rattle.osc_lanes.specs.Ends.{IsReady, IsEndOf};
+ghost use Rattle.osc_lanes.specs.Ends.{told_in, IsReady, IsEndOf};
 
 use osc_method::Method;
 use osc_model::laws::a_method_is_called_while_it_is_registered;
@@ -30,12 +30,12 @@ pub fn a_lane_keeps_its_share<M: Method>()
     ensures share { (caps : Limits) (plan : LanePlan M) (end : LaneEnd M) (history : List Entry)
         → IsReady plan → IsEndOf M.keep M.heard caps plan end
         → Onward (holder_of caps plan.caller).token (seen_by end.caller) history
-        → LaneOf M.keep M.heard (holder_of caps plan.caller) plan.part.lines.items
-        plan.part.boxes.items (told_of end.told) history }
+        → LaneOf M.keep M.heard (holder_of caps plan.caller) plan.lines.items plan.boxes.items
+        (told_in end) history }
     ensures removed { (caps : Limits) (plan : LanePlan M) (end : LaneEnd M) (history : List Entry)
         → IsEndOf M.keep M.heard caps plan end → StartsWith history (seen_by end.caller)
         → Legal caps (history_in (texts history))
-        → AllByRecursion (IsRemovedAt M.keep M.heard caps history) end.told.removed.items }
+        → AllByRecursion (IsRemovedAt M.keep M.heard caps history) end.removed.items }
 {
     a_method_is_called_while_it_is_registered();
 }

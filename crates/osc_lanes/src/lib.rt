@@ -13,7 +13,7 @@ mod run;
 mod work;
 mod worker;
 
-pub use lanes::play_lanes;
+pub use lanes::play;
 pub use osc_life::{Gate, OpenGate};
 pub use packet::send;
 pub use part::{LanePart, LaneTold};

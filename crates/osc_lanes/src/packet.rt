@@ -32,8 +32,8 @@ pub fn send<M: Method, W: Wait>(
     ensures made { IfOk result
         (λ r. (view r.0.pass).made ≡ (view caller.pass).made) }
     ensures played { IfOk result (λ r. (boxes back : List M) (removed : List (ℕ × M))
-        → TellsAct M.keep M.heard (holder_of live.now.caps caller) number (Send bytes.now) boxes boxes
-        (record { faults = faults.old.items; removed = removed; back = back; stop = None })
+        → TellsAct M.keep M.heard (holder_of live.now.caps caller) number (Send bytes.now) boxes
+        boxes (record { faults = faults.old.items; removed = removed; back = back; stop = None })
         (record {
           faults = faults.new.items;
           removed = removed;

@@ -65,7 +65,7 @@ pub fn run_lanes<M: Method + Send, W: Threads + Wait + Sync, G: Gate + Sync>(
     Ok(performed)
 }
 
-/// Enrols a caller for each part on a server that goes on from a recording, behind the callers that it had, plays the
+/// Enrols a caller for each part on a server that goes on from a recording, after the callers that it had, plays the
 /// parts as lanes beside each other, and closes the server. `callers` are the tokens that
 /// [`Live::resume`](osc_live::Live::resume) gave. An `Err` is want of memory.
 pub fn resume_lanes<M: Method + Send, W: Threads + Wait + Sync, G: Gate + Sync>(
@@ -126,12 +126,8 @@ pub fn perform_beside<
     let alloc = life.alloc();
     let works = number_parts(alloc, parts)?;
     let lived = live_on(rt, life, works, meanwhile, on, gate)?;
-    let Lived {
-        closed,
-        played,
-        end,
-    } = lived;
-    match played {
+    let Lived { closed, works, end } = lived;
+    match works {
         Played::Each(lanes) => {
             let performed = Performed {
                 closed,

@@ -35,10 +35,28 @@ impl<M: Method + Send> Worker<M> for LaneWork<M> {
         caller: Caller,
     ) -> Result<Done<LaneTold<M>>, AllocError> {
         let LaneWork { lane, part } = self;
-        let plan = LanePlan { lane, caller, part };
-        let LaneEnd { caller, told, .. } = play_lane(
-            desk.rt, desk.alloc, desk.live, plan, desk.gate,
-        )?;
+        let LanePart { lines, boxes } = part;
+        let plan = LanePlan {
+            lane,
+            caller,
+            lines,
+            boxes,
+        };
+        let end = play_lane(desk.rt, desk.alloc, desk.live, plan, desk.gate)?;
+        let LaneEnd {
+            caller,
+            faults,
+            removed,
+            back,
+            stop,
+            ..
+        } = end;
+        let told = LaneTold {
+            faults,
+            removed,
+            back,
+            stop,
+        };
         Ok(Done { caller, end: told })
     }
 }

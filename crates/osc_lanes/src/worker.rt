@@ -6,13 +6,13 @@ ghost use Rattle.osc_live.specs.Tokens.{IsOurs};
 ghost use Rattle.osc_script.specs.Adds.{count_adds};
 ghost use Rattle.osc_lanes.specs.Shares.{then_told, ended};
 ghost use Rattle.osc_life.specs.Holders.{seen_by, holder_of};
-ghost use Rattle.osc_lanes.specs.Ends.{IsEndOf};
-ghost use Rattle.osc_lanes.specs.Performs.{part_of, told_of, IsWhole};
+ghost use Rattle.osc_lanes.specs.Ends.{part_in, IsEndOf};
+ghost use Rattle.osc_lanes.specs.Performs.{told_of, IsWhole};
 ghost use Rattle.osc_lanes.specs.Tells.{TellsLines};
 
 use crate::acts::play_line;
 use crate::lane::Lane;
-use crate::part::{LanePart, nothing_told};
+use crate::part::{LaneTold, nothing_told};
 use crate::plan::{LaneEnd, LanePlan};
 use osc_life::Gate;
 use osc_live::{Caller, Live};
@@ -31,12 +31,16 @@ pub fn play_lane<M: Method, W: Wait, G: Gate>(
     gate: &G,
 ) -> Result<LaneEnd<M>, AllocError>
     requires ours { IsOurs live.now plan.caller }
-    requires whole { IsWhole (part_of plan.part) }
+    requires whole { IsWhole (part_in plan) }
     ensures ours { IfOk result (λ end. IsOurs live.now end.caller) }
     ensures end { IfOk result (λ end. IsEndOf M.keep M.heard live.now.caps plan end) }
 {
-    let LanePlan { lane, caller, part } = plan;
-    let LanePart { lines, boxes } = part;
+    let LanePlan {
+        lane,
+        caller,
+        lines,
+        boxes,
+    } = plan;
     let mut lane = Lane {
         number: lane,
         boxes: boxes.into_iter(),
@@ -49,10 +53,19 @@ pub fn play_lane<M: Method, W: Wait, G: Gate>(
         mut told,
     } = lane;
     keep_rest(&mut told.back, boxes)?;
+    let LaneTold {
+        faults,
+        removed,
+        back,
+        stop,
+    } = told;
     Ok(LaneEnd {
         lane: number,
         caller,
-        told,
+        faults,
+        removed,
+        back,
+        stop,
     })
 }
 

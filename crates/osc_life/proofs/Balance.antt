@@ -43,9 +43,9 @@ all_stay (method ∷ methods) address others = go (bytes_eq method.address addre
   go true e rest = absurd (others.0 ((bytes_eq-Decides method.address address).0 e))
   go false e rest = ap (λ (l : List Method). method ∷ l) rest
 
-pairs_behind : (method : Method) (methods : List Method) → AllPairs (λ a b. a.address ≢ b.address) (method ∷ methods)
+pairs_after : (method : Method) (methods : List Method) → AllPairs (λ a b. a.address ≢ b.address) (method ∷ methods)
     → AllPairs (λ a b. a.address ≢ b.address) methods
-pairs_behind method methods apart = λ i j d lt within. apart (suc i) (suc j) d (omega arith) (omega arith)
+pairs_after method methods apart = λ i j d lt within. apart (suc i) (suc j) d (omega arith) (omega arith)
 
 pairs_ahead : (method : Method) (methods : List Method) → AllPairs (λ a b. a.address ≢ b.address) (method ∷ methods)
     → AllByRecursion (λ other. other.address ≢ method.address) methods
@@ -56,7 +56,7 @@ one_less : (methods : List Method) (address : List ℕ) (id : ℕ) → AllPairs 
     → IsPermutation (ids_of methods) (id ∷ ids_of (without methods address))
 one_less [] address id apart at = absurd (cc)
 one_less (method ∷ methods) address id apart at =
-    go (bytes_eq method.address address) refl (one_less methods address id (pairs_behind method methods apart)) where
+    go (bytes_eq method.address address) refl (one_less methods address id (pairs_after method methods apart)) where
       go : (t : Bool) → bytes_eq method.address address ≡ t
           → (id_at methods address ≡ Some id → IsPermutation (ids_of methods) (id ∷ ids_of (without methods address)))
           → IsPermutation (method.id ∷ ids_of methods) (id ∷ ids_of (cond (not t) (method ∷ without methods address) (without methods address)))

@@ -33,7 +33,7 @@ use Rattle.osc_life.specs.Crews.{names_of, same_names, IsSilent, HasSeen, IsCrew
 use Rattle.osc_life.specs.Lives.{IsAtWork, IsLife, IsClosed, HasNoRoomToEnrol, AreShares, HasPlayed, Lives, added_ids}
 use Rattle.osc_life.specs.Works.{IsDone, caller_of, work_of, caller_in, end_in}
 use Rattle.osc_life.proofs.Balance.{StaysSound, gone_ids, balance, ascends}
-use Rattle.osc_life.proofs.Behind.{IsWithin, within_seen, within_none, nothing_behind}
+use Rattle.osc_life.proofs.After.{IsWithin, within_seen, within_none, nothing_after}
 use Rattle.osc_life.proofs.Learning.{HasHeard}
 use Rattle.osc_life.proofs.Staging.{IsNamed, IsOfToken, all_named, all_of_tokens, none_named, only_first, alone_from, each_named}
 use Rattle.osc_life.proofs.Sharing.{Carried, all_carried, silent_then, silent_before, none_seen, names_back, shares}
@@ -216,7 +216,7 @@ module _ (caps : Limits) (past : List (List ℕ)) (start : List Entry) (made : �
         subst (AllByRecursion (IsWithin history now)) (sym (known_joined olds others))
             (all_append (IsWithin history now) (known olds) (known others) (within_olds history now olds quiet) (within_told history now others parts.1 told)),
       ) in
-      sym (nothing_behind (known (first ∷ (olds ++ others))) now history carried.0.0 within (all_of_tokens closes))
+      sym (nothing_after (known (first ∷ (olds ++ others))) now history carried.0.0 within (all_of_tokens closes))
 
   -- where no other has played, all entries are of caller 0's token
   pub stands_alone : {bytes : List ℕ} {kept : List Told} (guests : List Guest)
@@ -236,7 +236,7 @@ module _ (caps : Limits) (past : List (List ℕ)) (start : List Entry) (made : �
       (silent_then log enrolled (recursion_from_All IsSilent enrolled crew.silent) there)) closes in
       (both, whole, sym whole ∙ both.0.owned ∙ both.0.alone)
 
--- A server was closed behind the last round: caller 0's token ended so, and has seen what those of
+-- A server was closed after the last round: caller 0's token ended so, and has seen what those of
 -- these callers have.
 pub record Finishes (ends_so : View → Type 0) (caps : Limits) (past : List (List ℕ))
     (others callers : List Caller) (guests : List Guest) (bytes : List ℕ)

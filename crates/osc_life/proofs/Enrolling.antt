@@ -142,7 +142,7 @@ pub record CountsCallers : Type 0 where
 -- One enrolment more.
 
 module _ (next : ℕ) (caps : Limits) (start : List Entry) (made : ℕ) (v w : View) (callers : List Caller) (crew : IsCrewFrom next start made v callers) where
-  -- what stands behind so many enrolments
+  -- what stands after so many enrolments
   abbrev Enrolled : ℕ → List Entry
   Enrolled count = start ++ enrolments next count
 

@@ -94,7 +94,7 @@ module _ {M : Type 0} {G : Ghosts M} (live : Live M G) {P : Type 0} (ready : P �
 module _ {M : Type 0} {G : Ghosts M} (live : Live M G) {X T F : Type 0} (rounds : X → X → T → Holder → View → View → Type 0)
     (ends : X → X → F → Holder → List (List Seen) → View → View → Type 0) (past : List (List ℕ)) (on after : X) (state : T) (end : F) (caller last : Caller)
     (others back olds : List Caller) (guests : List Guest) (bytes : List ℕ) (kept : List Told) where
-  -- a server was closed behind the last round of caller 0
+  -- a server was closed after the last round of caller 0
   pub finishes : caller.number ≡ 0 → holder_of live.caps caller ≡ holder_at live.caps 0
       → IsOver live rounds ends on after state end caller last others back → (before : X) (v : View)
       → rounds before on state (holder_at live.caps 0) v (view caller.pass)

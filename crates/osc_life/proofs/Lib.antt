@@ -1,5 +1,5 @@
 pub mod Balance
-pub mod Behind
+pub mod After
 pub mod Ending
 pub mod Enrolling
 pub mod Finishing

@@ -91,7 +91,7 @@ resumed_left caps past first others is =
       },
     )
 
--- the first of a list, and what is left behind it
+-- the first of a list, and what is left after it
 pub first_taken : (callers rest : List Caller) (first : Caller) → 0 < length callers → first ≡ slice_index_or callers 0 first
     → rest ≡ remove callers 0 → callers ≡ first ∷ rest
 first_taken [] rest first some value left = absurd (omega arith)

@@ -91,7 +91,7 @@ module _ {P E : Type 0} (plays : P → E → Holder → List Seen → List Seen 
         subst (λ (p : Holder). HasShare plays p first history job.work done.end (seen_by done.caller)) holder
         (record {
           here = seen_by job.caller;
-          behind = has;
+          comes_after = has;
           fresh = silent;
           played = is.played;
           onward = (carried.0, subst (λ (n : ℕ). own n history ≡ own n (seen_by done.caller)) token carried.1);

@@ -75,10 +75,10 @@ only_first first others seen zero_is none of =
     go one off (caller, there, same) = cases (head_or_behind first caller others there) where
       cases : (first ≡ caller) ⊎ Contains others caller → one.number ≡ 0
       cases (inl is) = sym same ∙ (ap (λ (c : ℕ × View). number_of c.1) (sym is) ∙ zero_is)
-      cases (inr behind) =
+      cases (inr later) =
           absurd (off (number_of caller.1)
           (All-contains (λ (other : ℕ × View). own (number_of other.1) seen ≡ []) others caller
-          (All-from_recursion (λ (other : ℕ × View). own (number_of other.1) seen ≡ []) others none) behind) (sym same))
+          (All-from_recursion (λ (other : ℕ × View). own (number_of other.1) seen ≡ []) others none) later) (sym same))
 
 -- the caller has its token's number, which is one of the first so many
 abbrev pub IsNamed : ℕ → ℕ × View → Type 0

@@ -28,7 +28,7 @@ use Rattle.osc_life.specs.Crews.{names_of, same_names, IsSilent, HasSeen, IsCrew
 use Rattle.osc_life.specs.Lives.{IsLife, HasNoRoomToEnrol, AreShares, IsUnder, HasPlayedUnder, LivesUnder}
 use Rattle.osc_life.specs.Works.{IsDone, caller_of, work_of, caller_in, end_in}
 use Rattle.osc_life.proofs.Balance.{StaysSound}
-use Rattle.osc_life.proofs.Behind.{IsWithin, within_seen, nothing_behind}
+use Rattle.osc_life.proofs.After.{IsWithin, within_seen, nothing_after}
 use Rattle.osc_life.proofs.Ending.{OpensSound, known_joined, all_split, closed_so, within_olds, within_told, stands, stands_alone}
 use Rattle.osc_life.proofs.Enrolling.{init_same, names_push}
 use Rattle.osc_life.proofs.Learning.{HasHeard}
@@ -133,7 +133,7 @@ module _ {P E X F : Type 0} (plays : P → E → Holder → List Seen → List S
             (all_append (HasHeard there) (known mine) (known (own1 ∷ [])) heard (starts_here there, tt))))),
       ) in
       let whole : there ≡ history =
-      sym (nothing_behind (known (first ∷ (olds ++ others))) there history parts.1.0.0 within (all_of_tokens closes)) in
+      sym (nothing_after (known (first ∷ (olds ++ others))) there history parts.1.0.0 within (all_of_tokens closes)) in
       record {
         history = history;
         callers = length enrolled;
@@ -145,7 +145,7 @@ module _ {P E X F : Type 0} (plays : P → E → Holder → List Seen → List S
             (record {
               start = view own0.pass;
               last = view own1.pass;
-              behind = subst (StartsWith (seen_by own0)) (sym own_first) seens.1.0;
+              comes_after = subst (StartsWith (seen_by own0)) (sym own_first) seens.1.0;
               fresh = subst (λ (n : ℕ). own n (seen_by own0) ≡ []) (ap (λ (h : Holder). h.token) at) silents.1.0;
               ended = subst (λ (h : Holder). ends before after how h tokens (view own0.pass) (view own1.pass)) at ended;
               whole = whole;

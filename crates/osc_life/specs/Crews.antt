@@ -41,7 +41,7 @@ IsSilent caller = own (number_of (view caller.pass)) (seen_by caller) ≡ []
 abbrev pub HasSeen : List Seen → Caller → Type 0
 HasSeen seen caller = StartsWith (seen_by caller) seen
 
--- Caller 0 enrolled these callers behind these entries, and they have no entries of their own, and
+-- Caller 0 enrolled these callers after these entries, and they have no entries of their own, and
 -- so many tokens were made. If it has seen no entries but those of its token, these are the first
 -- ones and the enrolments, and the callers are numbered as their tokens are, from this number on.
 pub record IsCrewFrom (next : ℕ) (first_entries : List Entry) (made : ℕ) (first : View)
@@ -66,7 +66,7 @@ FindsNoRoom caps first why = own 0 first.seen ≡ first.seen
     → (room : Room) × (refusal_of why ≡ record_full room)
     × (record_full room ≡ (stepped_in (performance_in caps (texts first.seen)) enrol).answer)
 
--- all callers were enrolled behind these entries, or there was no room for the next one
+-- all callers were enrolled after these entries, or there was no room for the next one
 abbrev pub HasEnrolledFrom : ℕ → Limits → List Entry → ℕ → View → List Caller
     → Option (EnrolRefusal × Guest) → Type 0
 HasEnrolledFrom next caps first_entries count first callers None =

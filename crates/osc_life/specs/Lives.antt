@@ -69,7 +69,7 @@ pub record IsClosed (caps : Limits) (history : List Seen) (recording : List ℕ)
   pub heard : HaveHeard (performance_in caps (texts history)) kept
   pub marked : AreMarked (texts history) kept
 
--- there was no room for an enrolment behind this history, which is caller 0's alone
+-- there was no room for an enrolment after this history, which is caller 0's alone
 abbrev pub HasNoRoomToEnrol : Limits → List Seen → Room → Type 0
 HasNoRoomToEnrol caps history room =
     (record_full room ≡ (stepped_in (performance_in caps (texts history)) enrol).answer)
@@ -83,15 +83,15 @@ Numbered relation first (x ∷ xs) (y ∷ ys) =
     relation first x y × Numbered relation (first + 1) xs ys
 Numbered relation first _ _ = ⊥
 
--- Something else was done under the token of this holder, which came in behind these entries, and in
--- the end behind all that these tokens have seen: the history has no other entry of it, and the token
+-- Something else was done under the token of this holder, which came in after these entries, and in
+-- the end after all that these tokens have seen: the history has no other entry of it, and the token
 -- has seen all of it.
 pub record IsUnder {X F : Type 0} (ends : X → X → F → Holder → List (List Seen) → View → View → Type 0)
     (holder : Holder) (first history : List Seen) (tokens : List (List Seen)) (before after : X)
     (end : F) : Type 0 where
   pub start : View
   pub last : View
-  pub behind : StartsWith start.seen first
+  pub comes_after : StartsWith start.seen first
   pub fresh : own holder.token start.seen ≡ []
   pub ended : ends before after end holder tokens start last
   pub whole : last.seen ≡ history
@@ -136,7 +136,7 @@ module _ {P E : Type 0} (plays : P → E → Holder → List Seen → List Seen 
     pub ended : ends before after end (holder_at caps 0) tokens start last
     pub whole : last.seen ≡ history
 
-  -- The same of works and of something else that was done by one caller more, behind those of the
+  -- The same of works and of something else that was done by one caller more, after those of the
   -- works; or there was no room for an enrolment: then nothing was done.
   abbrev pub HasPlayedUnder : {X F : Type 0} → (X → X → F → Holder → List (List Seen) → View → View → Type 0)
       → Limits → ℕ → ℕ → List Seen → List P → X → X → Played P E → Option F → Type 0

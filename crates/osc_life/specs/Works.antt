@@ -63,7 +63,7 @@ module _ {M : Type 0} {G : Ghosts M} (live : Live M G) where
           → rounds before then_on then (holder_of live.caps caller) v (view after.pass)
 
     -- whatever rounds were played before the token was told of what others have seen, they ended
-    -- then, behind all that these tokens have seen
+    -- then, after all that these tokens have seen
     pub record Ends {F : Type 0} (ends : X → X → F → Holder → List (List Seen) → View → View → Type 0)
         (on then_on : X) (state : T) (end : F) (caller after : Caller) : Type 0 where
       pub ours : IsOurs live after
@@ -75,7 +75,7 @@ module _ {M : Type 0} {G : Ghosts M} (live : Live M G) where
           → Learns met (view caller.pass) → All (StartsWith (seen_by caller)) tokens
           → ends before then_on end (holder_of live.caps caller) tokens v (view after.pass)
 
-    -- whatever rounds were played before, they were ended so, behind all that these others have
+    -- whatever rounds were played before, they were ended so, after all that these others have
     -- seen, who come back as they were
     pub record IsOver {F : Type 0} (ends : X → X → F → Holder → List (List Seen) → View → View → Type 0)
         (on then_on : X) (state : T) (end : F) (caller after : Caller)
@@ -101,12 +101,12 @@ module _ {P E : Type 0} (plays : P → E → Holder → List Seen → List Seen 
     pub played : plays job.work done.end (holder_of caps job.caller) (seen_by job.caller)
         (seen_by done.caller)
 
-  -- A worker's share of a history: its work was played from where its token came in, behind these
+  -- A worker's share of a history: its work was played from where its token came in, after these
   -- entries, to what the token has seen then, and the history has no other entry of it.
   pub record HasShare (holder : Holder) (first history : List Seen) (work : P) (end : E)
       (there : List Seen) : Type 0 where
     pub here : List Seen
-    pub behind : StartsWith here first
+    pub comes_after : StartsWith here first
     pub fresh : own holder.token here ≡ []
     pub played : plays work end holder here there
     pub onward : Onward holder.token there history
@@ -115,7 +115,7 @@ module _ {M : Type 0} {G : Ghosts M} (live : Live M G) {P E X T F : Type 0}
     (plays : P → E → Holder → List Seen → List Seen → Type 0)
     (rounds : X → X → T → Holder → View → View → Type 0)
     (ends : X → X → F → Holder → List (List Seen) → View → View → Type 0) where
-  -- The jobs were played, and rounds meanwhile, that were ended behind all that the jobs' tokens have
+  -- The jobs were played, and rounds meanwhile, that were ended after all that the jobs' tokens have
   -- seen.
   pub record ArePlayed (jobs : List (Job P)) (on then_on : X) (state : T) (caller : Caller)
       (both : Beside E F) : Type 0 where

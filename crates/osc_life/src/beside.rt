@@ -36,7 +36,8 @@ fn go_on<M: Method, W: Wait, X, T: Meanwhile<M, X>, G: Gate>(
     over: &AtomicU64,
 ) -> Caller
     requires { CanGoOn desk.now.live.now T.rounds on.old meanwhile.old caller }
-    ensures { PlaysOn desk.now.live.now T.rounds on.old on.new meanwhile.old meanwhile.new caller result }
+    ensures { PlaysOn desk.now.live.now T.rounds on.old on.new meanwhile.old meanwhile.new
+        caller result }
 {
     for _ in desk.rt.forever() {
         let ended = over.load(Ordering::SeqCst) != 0;
@@ -70,9 +71,10 @@ fn play_both<
 ) -> (Caller, Result<Vec<Done<P::End>>, AllocError>)
     requires jobs { All (CanPlay desk.now.live.now P.ready) jobs.items }
     requires goes { CanGoOn desk.now.live.now T.rounds on.old meanwhile.old caller }
-    ensures plays { PlaysOn desk.now.live.now T.rounds on.old on.new meanwhile.old meanwhile.new caller
-        result.0 }
-    ensures ours { IfOk result.1 (λ all. All (λ done. IsOurs desk.now.live.now done.caller) all.items) }
+    ensures plays { PlaysOn desk.now.live.now T.rounds on.old on.new meanwhile.old meanwhile.new
+        caller result.0 }
+    ensures ours { IfOk result.1
+        (λ all. All (λ done. IsOurs desk.now.live.now done.caller) all.items) }
     ensures done { IfOk result.1
         (λ all. AllZip (IsDone P.plays desk.now.live.now.caps) jobs.items all.items) }
 {
@@ -83,11 +85,10 @@ fn play_both<
     let over = AtomicU64::new(0);
     let mut token = Some(caller);
     let mut given = Some(jobs);
-    let (caller, ends) = join_mut(
+    join_mut(
         rt,
         &mut || -> Caller
-            requires { IsSomeAnd token (λ c.
-                CanGoOn live.now T.rounds on.now meanwhile.now c) }
+            requires { IsSomeAnd token (CanGoOn live.now T.rounds on.now meanwhile.now) }
             ensures { IsSomeAnd token.entry (λ c. PlaysOn live.entry.now T.rounds on.entry.now
                 on.exit.now meanwhile.entry.now meanwhile.exit.now c result) }
         {
@@ -115,8 +116,7 @@ fn play_both<
             over.store(1, Ordering::SeqCst);
             ends
         },
-    );
-    (caller, ends)
+    )
 }
 
 /// Tells the first caller what the others have seen, and plays the last round.
@@ -142,7 +142,7 @@ pub(crate) fn last_round<M: Method, W: Wait, X, T: Meanwhile<M, X> + Drop, G: Ga
 }
 
 /// Plays the jobs, each by a thread of its own where one can be made, and rounds of something else meanwhile; then the
-/// last round of that, behind all that the workers have done. An `Err` is want of memory.
+/// last round of that, after all that the workers have done. An `Err` is want of memory.
 pub fn play_beside<
     M: Method + Send,
     W: Threads + Wait + Sync,

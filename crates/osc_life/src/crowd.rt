@@ -23,7 +23,8 @@ pub fn play_each<
     G: Gate + Sync,
 >(desk: &Desk<'_, M, W, G>, jobs: Vec<Job<P>>) -> Result<Vec<Done<P::End>>, AllocError>
     requires { All (CanPlay desk.now.live.now P.ready) jobs.items }
-    ensures ours { IfOk result (λ all. All (λ done. IsOurs desk.now.live.now done.caller) all.items) }
+    ensures ours { IfOk result
+        (λ all. All (λ done. IsOurs desk.now.live.now done.caller) all.items) }
     ensures done { IfOk result
         (λ all. AllZip (IsDone P.plays desk.now.live.now.caps) jobs.items all.items) }
 {

@@ -48,7 +48,7 @@ pub enum Played<P, E> {
 pub struct Lived<M, P, E, F> {
     /// The recording of the one history, and the methods that are registered at its end.
     pub closed: Closed<M>,
-    pub played: Played<P, E>,
+    pub works: Played<P, E>,
     /// How what went on meanwhile ended.
     pub end: F,
 }

@@ -1,5 +1,5 @@
 //! Plays works on a server, each under a caller of its own, while something else goes on, and closes it.
-ghost use Rattle.std.specs.Prelude.{◌≡◌, ◌≤◌, ◌+◌, ◌∷◌, ◌++◌, List, [], length, All, IfOk};
+ghost use Rattle.std.specs.Prelude.{◌≡◌, ◌≢◌, ◌≤◌, ◌+◌, ◌∷◌, ◌++◌, List, [], length, All, IfOk};
 ghost use Rattle.osc_core.specs.Telling.{told};
 ghost use Rattle.osc_record.specs.declared.limits.TheConstants.{MAX_CALLERS};
 ghost use Rattle.osc_turn.specs.declared.limits.TheConstants.{MAX_PASSES};
@@ -9,6 +9,7 @@ ghost use Rattle.osc_turn.specs.History.{StartsWith};
 ghost use Rattle.osc_turn.specs.Passes.{view};
 ghost use Rattle.osc_live.specs.Closing.{Closes, known, views_of};
 ghost use Rattle.osc_live.specs.Seen.{past_of};
+ghost use Rattle.osc_live.specs.declared.refusal.EnrolRefusal.TheVariants.{CallersFull, RecordFull};
 ghost use Rattle.osc_live.specs.Tokens.{IsOurs, IsOurGuest};
 ghost use Rattle.osc_life.specs.Holders.{Holder, Stays, holder_at};
 ghost use Rattle.osc_life.specs.Lives.{Lives, LivesUnder};
@@ -24,8 +25,9 @@ use crate::desk::Desk;
 use crate::gate::Gate;
 use crate::life::{Life, Lived, Played};
 use crate::meanwhile::Meanwhile;
-use crate::seeing::{Looker, SeenBeside, play_seen};
+use crate::seeing::{Looker, play_seen};
 use crate::worker::Worker;
+use osc_atoms::Room;
 use osc_core::Closed;
 use osc_live::{Caller, EnrolRefusal, Guest, Live};
 use osc_method::Method;
@@ -35,7 +37,7 @@ use std::sync::Wait;
 use std::thread::Threads;
 
 /// Enrols a caller for each work, plays the works beside each other, each under the caller in its place, while caller 0
-/// plays rounds of something else; then a last round, behind all that the works have done; and closes the server. An
+/// plays rounds of something else; then a last round, after all that the works have done; and closes the server. An
 /// `Err` is want of memory.
 pub fn live_on<
     M: Method + Send,
@@ -62,7 +64,7 @@ pub fn live_on<
         → T.ends on.old after end (holder_at life.live.caps 0) tokens v w → Stays v w }
     ensures { IfOk result (λ lived. Lives P.plays T.ends life.live.caps (past_of life.live.turn)
         (view life.first.pass) works.items on.old on.new lived.closed.bytes.items
-        (told M.keep M.heard lived.closed.kept.items) lived.played lived.end) }
+        (told M.keep M.heard lived.closed.kept.items) lived.works lived.end) }
 {
     a_server_stays_sound();
     let Life {
@@ -84,31 +86,22 @@ pub fn live_on<
             let jobs = make_jobs(alloc, callers, works)?;
             let Beside { crew, ends, end } = play_beside(&desk, jobs, first, meanwhile, on)?;
             let closed = hand_in(alloc, live, others, crew, Vec::new(alloc))?;
-            Ok(Lived {
-                closed,
-                played: Played::Each(ends),
-                end,
-            })
+            let works = Played::Each(ends);
+            Ok(Lived { closed, works, end })
         }
         Some((why, guest)) => {
             let (crew, end) = last_round(&desk, crew, meanwhile, on)?;
             let mut guests = Vec::with_capacity(alloc, 1)?;
             guests.push(guest)?;
             let closed = hand_in(alloc, live, others, crew, guests)?;
-            match why {
-                EnrolRefusal::RecordFull(room) => Ok(Lived {
-                    closed,
-                    played: Played::NoRoom(room, works),
-                    end,
-                }),
-                EnrolRefusal::CallersFull => unreachable!(),
-            }
+            let works = Played::NoRoom(room_in(why), works);
+            Ok(Lived { closed, works, end })
         }
     }
 }
 
 /// Enrols a caller for each work and one more, plays the works beside each other, each under the caller in its place,
-/// while the last one plays rounds of something else and caller 0 looks; then a last round, behind all that the works
+/// while the last one plays rounds of something else and caller 0 looks; then a last round, after all that the works
 /// have done; and closes the server. Where an enrolment finds no room, nobody looks. An `Err` is want of memory.
 pub fn live_under<
     M: Method + Send,
@@ -136,7 +129,7 @@ pub fn live_under<
     requires begun { (holder : Holder) (v : View) → T.rounds on.old on.old meanwhile holder v v }
     ensures lives { IfOk result (λ both. LivesUnder P.plays T.ends life.live.caps
         (past_of life.live.turn) (view life.first.pass) works.items on.old on.new
-        both.0.closed.bytes.items (told M.keep M.heard both.0.closed.kept.items) both.0.played
+        both.0.closed.bytes.items (told M.keep M.heard both.0.closed.kept.items) both.0.works
         both.0.end) }
     ensures looked { IfOk result (λ both. HasLookedOn A.looks life.live.caps lent.old lent.new
         both.0.closed.bytes.items both.1) }
@@ -163,43 +156,36 @@ pub fn live_under<
                 gate,
             };
             let looker = Looker { first, aside };
-            let seen = play_seen(&desk, jobs, own, meanwhile, on, looker, lent)?;
-            let SeenBeside {
-                both,
-                first,
-                looked,
-            } = seen;
+            let (both, first, seen) = play_seen(&desk, jobs, own, meanwhile, on, looker, lent)?;
             let Beside { crew, ends, end } = both;
             let callers = all_callers(crew)?;
             let crew = Crew { first, callers };
             let closed = hand_in(alloc, live, others, crew, Vec::new(alloc))?;
-            let lived = Lived {
-                closed,
-                played: Played::Each(ends),
-                end: Some(end),
-            };
-            Ok((lived, Some(looked)))
+            let (works, end) = (Played::Each(ends), Some(end));
+            Ok((Lived { closed, works, end }, Some(seen)))
         }
         Some((why, guest)) => {
             let mut guests = Vec::with_capacity(alloc, 1)?;
             guests.push(guest)?;
             let closed = hand_in(alloc, live, others, crew, guests)?;
-            match why {
-                EnrolRefusal::RecordFull(room) => {
-                    let lived = Lived {
-                        closed,
-                        played: Played::NoRoom(room, works),
-                        end: None,
-                    };
-                    Ok((lived, None))
-                }
-                EnrolRefusal::CallersFull => unreachable!(),
-            }
+            let (works, end) = (Played::NoRoom(room_in(why), works), None);
+            Ok((Lived { closed, works, end }, None))
         }
     }
 }
 
-/// The callers, and the first of them behind the others.
+/// The room for an enrolment that was refused for want of it.
+fn room_in(why: EnrolRefusal) -> Room
+    requires { why ≢ CallersFull }
+    ensures { why ≡ RecordFull result }
+{
+    match why {
+        EnrolRefusal::RecordFull(room) => room,
+        EnrolRefusal::CallersFull => unreachable!(),
+    }
+}
+
+/// The callers, and the first of them after the others.
 fn all_callers(crew: Crew) -> Result<Vec<Caller>, AllocError>
     ensures { IfOk result (λ all. all.items ≡ crew.callers.items ++ crew.first ∷ []) }
 {

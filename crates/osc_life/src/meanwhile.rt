@@ -21,7 +21,7 @@ pub trait Meanwhile<M: Method, X> {
     /// holder knew the first of these and knows the second.
     ghost rounds: { X → X → Self → Holder → View → View → Type 0 };
 
-    /// Rounds were played, and the last one behind all that these tokens have seen; and it ended so.
+    /// Rounds were played, and the last one after all that these tokens have seen; and it ended so.
     ghost ends: { X → X → Self.End → Holder → List (List Seen) → View → View → Type 0 };
 
     /// Plays a round. It has ended where this answers `false`.
@@ -32,9 +32,10 @@ pub trait Meanwhile<M: Method, X> {
         caller: Caller,
     ) -> (Caller, bool)
         requires { CanGoOn desk.now.live.now rounds on.old self.old caller }
-        ensures { PlaysOn desk.now.live.now rounds on.old on.new self.old self.new caller result.0 };
+        ensures { PlaysOn desk.now.live.now rounds on.old on.new self.old self.new caller
+            result.0 };
 
-    /// Plays the last round, behind all that the workers have done, unless it has ended.
+    /// Plays the last round, after all that the workers have done, unless it has ended.
     fn last<W: Wait, G: Gate>(
         self,
         on: &mut X,
@@ -42,5 +43,6 @@ pub trait Meanwhile<M: Method, X> {
         caller: Caller,
     ) -> Done<Self::End>
         requires { CanEnd desk.now.live.now rounds on.old self caller }
-        ensures { Ends desk.now.live.now rounds ends on.old on.new self result.end caller result.caller };
+        ensures { Ends desk.now.live.now rounds ends on.old on.new self result.end caller
+            result.caller };
 }

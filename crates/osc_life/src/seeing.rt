@@ -25,17 +25,9 @@ pub(crate) struct Looker<A> {
     pub(crate) aside: A,
 }
 
-/// What came of jobs and of what went on meanwhile, and of looking.
-#[derive(Drop)]
-pub(crate) struct SeenBeside<E, F, D> {
-    pub(crate) both: Beside<E, F>,
-    /// The caller who has looked.
-    pub(crate) first: Caller,
-    pub(crate) looked: D,
-}
-
 /// Plays the jobs and something else meanwhile as `play_beside` does, in a thread of its own where one can be made, while
-/// someone looks. An `Err` is want of memory.
+/// someone looks. With what came of these stand the caller who has looked, and what came of that. An `Err` means out of
+/// memory.
 pub(crate) fn play_seen<
     M: Method + Send,
     W: Threads + Wait + Sync,
@@ -53,18 +45,17 @@ pub(crate) fn play_seen<
     on: &mut X,
     looker: Looker<A>,
     lent: &mut Y,
-) -> Result<SeenBeside<P::End, T::End, A::End>, AllocError>
+) -> Result<(Beside<P::End, T::End>, Caller, A::End), AllocError>
     requires jobs { All (CanPlay desk.now.live.now P.ready) jobs.items }
     requires goes { CanGoOn desk.now.live.now T.rounds on.old meanwhile caller }
     requires ours { IsOurs desk.now.live.now looker.first }
     ensures played { IfOk result (λ seen. ArePlayed desk.now.live.now P.plays T.rounds T.ends
-        jobs.items on.old on.new meanwhile caller seen.both) }
-    ensures ours { IfOk result (λ seen. IsOurs desk.now.live.now seen.first) }
-    ensures number { IfOk result (λ seen. seen.first.number ≡ looker.first.number) }
-    ensures looked { IfOk result
-        (λ seen. HasLooked (view looker.first.pass) (view seen.first.pass)) }
-    ensures looks { IfOk result (λ seen. A.looks lent.old lent.new seen.looked
-        desk.now.live.now.caps (view seen.first.pass)) }
+        jobs.items on.old on.new meanwhile caller seen.0) }
+    ensures ours { IfOk result (λ seen. IsOurs desk.now.live.now seen.1) }
+    ensures number { IfOk result (λ seen. seen.1.number ≡ looker.first.number) }
+    ensures looked { IfOk result (λ seen. HasLooked (view looker.first.pass) (view seen.1.pass)) }
+    ensures looks { IfOk result (λ seen. A.looks lent.old lent.new seen.2
+        desk.now.live.now.caps (view seen.1.pass)) }
 {
     let rt = desk.rt;
     let alloc = desk.alloc;
@@ -113,9 +104,5 @@ pub(crate) fn play_seen<
         },
     );
     let both = both?;
-    Ok(SeenBeside {
-        both,
-        first,
-        looked,
-    })
+    Ok((both, first, looked))
 }

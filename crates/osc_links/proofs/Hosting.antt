@@ -119,7 +119,7 @@ module _ {M L : Type 0} (left : L → Option (List LinkTurn)) (faults : L → �
         record {
           turns = serves.turns;
           share = (share.here, there, share.fresh, serves.plays, share.onward);
-          behind = share.behind;
+          comes_after = share.comes_after;
           there_is = refl;
           taken = serves.taken;
           cause = serves.cause;
@@ -160,7 +160,7 @@ module _ {M L : Type 0} (left : L → Option (List LinkTurn)) (faults : L → �
   -- the ticker's share, and that it removed nothing
   pub record TickerServed (number : ℕ) (tokens : List (List Seen)) (clock : ClockRead) (end : TickerEnd) : Type 0 where
     pub ticks : TickOf keep heard (holder_at caps number) tokens clock end history
-    pub behind : StartsWith ticks.0 (own 0 history)
+    pub comes_after : StartsWith ticks.0 (own 0 history)
     pub settled : end ≡ Done → IsSettled caps history
     pub kept : given_by gone history number ≡ []
 
@@ -176,7 +176,7 @@ module _ {M L : Type 0} (left : L → Option (List LinkTurn)) (faults : L → �
       let onward : Onward number ended.0 history = subst (Onward number ended.0) under.whole ended.2 in
       record {
         ticks = (here, ended.0, under.fresh, ended.1, onward);
-        behind = under.behind;
+        comes_after = under.comes_after;
         settled = λ done.
             subst (IsSettled caps) (sym (ended.3 done) ∙ under.whole)
             (done_settles keep heard holder tokens clock here ended.0

@@ -36,7 +36,7 @@ module _ {M : Type 0} (keep : M → ℕ) (heard : M → Option (List ℕ)) (hold
     go (record_full room) None is stop_is a ends more = let some = ap (λ (one : Account M). one.stop) is in absurd (cc)
     go _ None is stop_is a ends more = absurd ends
 
-  -- what is told behind nothing, where it comes to nothing
+  -- what is told after nothing, where it comes to nothing
   rest_ended : (first rest : Account M) → ended [] None ≡ then_told first rest → rest ≡ ended [] None
   rest_ended first rest is =
       λ i. record {
@@ -52,17 +52,17 @@ module _ {M : Type 0} (keep : M → ℕ) (heard : M → Option (List ℕ)) (hold
     go : (t : Bool) → Plays keep heard holder (cond t (tick_line moment ∷ pump_line ∷ []) (pump_line ∷ [])) [] (ended [] None) here there
         → IsSettled holder.caps there
     go false plays = pump_settles here there plays
-    go true (left, first, place, one, more) = behind first.stop more where
-      behind : (stop : Option Room)
+    go true (left, first, place, one, more) = rest_after first.stop more where
+      rest_after : (stop : Option Room)
           → MatchOption stop ((rest : Account M) × (ended [] None ≡ then_told first rest) × Plays keep heard holder (pump_line ∷ []) left rest place there)
           (λ room. (ended [] None ≡ then_told first (ended left (Some room))) × (there ≡ place))
           → IsSettled holder.caps there
-      behind None (rest, told_is, plays) =
+      rest_after None (rest, told_is, plays) =
           let same : left ≡ [] = one.0 in
           let is : rest ≡ ended [] None = rest_ended first rest told_is in
           pump_settles place there
           (subst (λ (q : List M × Account M). Plays keep heard holder (pump_line ∷ []) q.0 q.1 place there) (λ i. (same i, is i)) plays)
-      behind (Some room) (told_is, same) = let none = ap (λ (one : Account M). one.stop) told_is in absurd (cc)
+      rest_after (Some room) (told_is, same) = let none = ap (λ (one : Account M). one.stop) told_is in absurd (cc)
 
   -- the ticker's rounds go on from what it had seen
   rounds_start : (first : Option ℕ) (moments : List ℕ) (last : Option ℕ) (here there : List Seen)

@@ -66,7 +66,7 @@ module _ {M : Type 0} (keep : M → ℕ) (heard : M → Option (List ℕ)) (hold
   ticked_over last before left first faults here place ticked =
       let all = rounds_over keep heard holder before here last left place ticked.1 in (ticked.0, all.0, all.1, all.2)
 
-  -- the last round, behind all that these tokens have seen
+  -- the last round, after all that these tokens have seen
   pub ticked_last : (tokens : List (List Seen)) (last : Option ℕ) (before left after : Option (List ℕ)) (first faults now : ℕ) (came : Round)
       (here place start there : List Seen)
       → HasTicked keep heard holder (record { before = before; after = left; faults = first; now = faults }) (round.Played last) here place

@@ -25,7 +25,7 @@ use Rattle.osc_links.specs.Serves.{TellsLinks}
 use Rattle.osc_lanes.specs.Shares.{Plays}
 use Rattle.osc_links.specs.Ticks.{ClockRead, TickOf}
 
--- no unit is due behind this history
+-- no unit is due after this history
 abbrev pub IsSettled : Limits → List Seen → Type 0
 IsSettled caps history = (next : Option ℕ)
     × (nothing_due next ≡ (stepped_in (performance_in caps (texts history)) release).answer)
@@ -47,7 +47,7 @@ module _ {L : Type 0} where
 module _ {L : Type 0} (left : L → Option (List LinkTurn)) (faults : L → ℕ) where
   module _ {M : Type 0} (keep : M → ℕ) (heard : M → Option (List ℕ)) (caps : Limits) where
     -- The share of a history of the link that caller `number` submits for: its turns were played
-    -- from where its token came in, behind caller 0's entries, to what the token has seen then; and
+    -- from where its token came in, after caller 0's entries, to what the token has seen then; and
     -- the history has no other entry of it. Where the link tells, what it had left are these turns
     -- and what it has left after them.
     pub record IsServed (bounds : Bounds) (history : List Seen) (number : ℕ) (link : L)
@@ -55,7 +55,7 @@ module _ {L : Type 0} (left : L → Option (List LinkTurn)) (faults : L → ℕ)
       pub turns : List LinkTurn
       pub share : LinkOf keep heard (holder_at caps number) bounds turns end.over
           (link_account end.faults.items (stop_by end.over)) history
-      pub behind : StartsWith share.0 (own 0 history)
+      pub comes_after : StartsWith share.0 (own 0 history)
       pub there_is : there ≡ share.1
       pub taken : left link ≡ option_map (λ after. turns ++ after) (left end.from)
       pub cause : HasEndCause end.over (left end.from) (faults link) (faults end.from)
@@ -70,8 +70,8 @@ module _ {L : Type 0} (left : L → Option (List LinkTurn)) (faults : L → ℕ)
     AreServed bounds history number _ _ _ = ⊥
 
     -- The links were served beside each other, the k-th by caller k, and the ticker ticked under
-    -- the caller behind them, which came in behind caller 0's entries, and whose last round is
-    -- behind all that the links have done: then no unit is due.
+    -- the caller after them, which came in after caller 0's entries, and whose last round is
+    -- after all that the links have done: then no unit is due.
     pub record ServesAll (bounds : Bounds) (history : List Seen) (links : List L)
         (clock : ClockRead) (told : LinksTold L) : Type 0 where
       pub ends : List (LinkEnd L)
@@ -80,7 +80,7 @@ module _ {L : Type 0} (left : L → Option (List LinkTurn)) (faults : L → ℕ)
       pub shares : AreServed bounds history 1 links ends tokens
       pub ticks : TickOf keep heard (holder_at caps (length links + 1)) tokens clock ticker_end
           history
-      pub behind : StartsWith ticks.0 (own 0 history)
+      pub comes_after : StartsWith ticks.0 (own 0 history)
       pub settled : ticker_end ≡ Done → IsSettled caps history
       pub tells : TellsLinks ends ticker_end told
 

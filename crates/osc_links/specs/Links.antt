@@ -52,7 +52,7 @@ module _ {M : Type 0} where
     -- The turns that a link takes are played between two places, one after another, after so many
     -- datagrams and so many quiets in a row. A datagram is played as a line that sends it, under
     -- the datagram's number. The last turn is the one that reaches a bound, or whose submit finds
-    -- no room; or the link ends or fails behind it.
+    -- no room; or the link ends or fails after it.
     abbrev pub PlaysTurns : Holder → Bounds → ℕ → ℕ → List LinkTurn → Over → Account M → List Seen
         → List Seen → Type 0
     PlaysTurns holder bounds taken quiets [] over account here there =

@@ -21,6 +21,7 @@ use Rattle.osc_life.specs.Holders.{seen_by, holder_of}
 use Rattle.osc_life.specs.Works.{IsDone, caller_of, work_of, caller_in, end_in}
 use Rattle.osc_life.specs.declared.worker.Done.{Done}
 use Rattle.osc_life.specs.declared.worker.Job.{Job}
+use Rattle.osc_turn.specs.Passes.{view}
 use Rattle.osc_live.specs.Closing.{known}
 use Rattle.osc_links.specs.Links.{LinkTurn, stop_by}
 use Rattle.osc_links.specs.Rounds.{HasEnded}
@@ -83,8 +84,18 @@ module _ {L : Type 0} where
     pub clock_failed_is : told.clock_failed ≡ is_clock_failed ticker_end
     pub stop_is : option_map room_of told.stop ≡ stop_of_all ends ticker_end
 
+  abbrev pub told_in : ServeEnd L → LinksTold L
+  told_in end =
+      record {
+        links = end.links;
+        faults = end.faults;
+        failed = end.failed;
+        clock_failed = end.clock_failed;
+        stop = end.stop;
+      }
+
   -- The links were served beside each other, each under the caller in its place, and the ticker
-  -- ticked under the last one. These callers come back with what their tokens know.
+  -- ticked under the last one. These callers come back with what their tokens know, which made none.
   pub record Serves {M : Type 0} (keep : M → ℕ) (heard : M → Option (List ℕ))
       (left : L → Option (List LinkTurn)) (faults : L → ℕ) (caps : Limits) (bounds : Bounds)
       (callers : List Caller) (links : List L) (clock : ClockRead) (end : ServeEnd L) : Type 0 where
@@ -98,6 +109,7 @@ module _ {L : Type 0} where
     pub links_are : map link_at (map work_of jobs) ≡ map (bound_to bounds) links
     pub served : AllZip (IsDone (link_plays keep heard left faults) caps) jobs all
     pub ticker_holder : holder_of caps ticker_after ≡ holder_of caps ticker
+    pub ticker_made : (view ticker_after.pass).made ≡ (view ticker.pass).made
     pub ticks : HasEnded keep heard (holder_of caps ticker) (map seen_by (map caller_in all)) clock
         ticker_end (seen_by ticker) (seen_by ticker_after)
-    pub tells : TellsLinks (map end_in all) ticker_end end.told
+    pub tells : TellsLinks (map end_in all) ticker_end (told_in end)

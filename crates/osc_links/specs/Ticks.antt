@@ -81,7 +81,7 @@ module _ {M : Type 0} (keep : M → ℕ) (heard : M → Option (List ℕ)) where
       × Onward holder.token here start × All (StartsWith start) tokens
       × PlaysRound holder last moment stop start there
 
-  -- How a ticker ends after its rounds. Done, it plays one more, which begins behind all that these
+  -- How a ticker ends after its rounds. Done, it plays one more, which begins after all that these
   -- tokens have seen. It ends earlier where the clock fails, whose count of faults rose, or where a
   -- round finds no room.
   abbrev pub EndsTicks : Holder → Option ℕ → List (List Seen) → Option (List ℕ) → ClockRead

@@ -14,6 +14,6 @@ mod ticker;
 
 pub use limits::MAX_LINKS;
 pub use link_work::{LinkEnd, LinkWork, Over};
-pub use links::serve_links;
+pub use links::serve;
 pub use run::{Hosted, run_links};
 pub use served::{Bounds, LinksPart, LinksTold, ServeEnd, TickerEnd};

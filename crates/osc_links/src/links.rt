@@ -7,7 +7,7 @@ ghost use Rattle.osc_links.specs.declared.limits.TheConstants.{MAX_LINKS};
 
 use crate::link_ends::gather;
 use crate::link_work::number_links;
-use crate::served::{LinksPart, ServeEnd};
+use crate::served::{Bounds, LinksPart, LinksTold, ServeEnd};
 use crate::ticker::Round;
 use osc_edge::{Clock, Link};
 use osc_life::{Beside, Crew, Desk, Gate, make_jobs, play_beside};
@@ -18,9 +18,9 @@ use std::sync::Wait;
 use std::thread::Threads;
 
 /// Serves the links, each by a thread of its own where one can be made, the k-th under the k-th caller, while a ticker
-/// plays rounds under the last caller, and one more behind all that the links have done. An `Err` is want of memory,
+/// plays rounds under the last caller, and one more after all that the links have done. An `Err` is want of memory,
 /// and the links are gone then.
-pub fn serve_links<
+pub fn serve<
     M: Method + Send,
     W: Threads + Wait + Sync,
     L: Link + Send + Drop,
@@ -31,24 +31,28 @@ pub fn serve_links<
     alloc: Global,
     live: &Live<M>,
     mut callers: Vec<Caller>,
-    links: LinksPart<L>,
+    links: Vec<L>,
     clock: &mut C,
+    bounds: Bounds,
     gate: &G,
 ) -> Result<ServeEnd<L>, AllocError>
     requires ours { All (IsOurs live.now) callers.items }
-    requires many { length callers.items ≡ length links.from.items + 1 }
-    requires few { length links.from.items ≤ MAX_LINKS }
-    requires count { 0 < links.bounds.count }
-    requires idle { 0 < links.bounds.idle }
+    requires many { length callers.items ≡ length links.items + 1 }
+    requires few { length links.items ≤ MAX_LINKS }
+    requires count { 0 < bounds.count }
+    requires idle { 0 < bounds.idle }
     ensures ours { IfOk result (λ end. All (IsOurs live.now) end.callers.items) }
     ensures serves { IfOk result (λ end. Serves M.keep M.heard L.left L.faults live.now.caps
-        links.bounds callers.items links.from.items
-        (clock_read C.left C.faults clock.old clock.new) end) }
+        bounds callers.items links.items (clock_read C.left C.faults clock.old clock.new) end) }
 {
     let Some(ticker) = callers.pop() else {
         unreachable!()
     };
-    let works = number_links(alloc, links)?;
+    let part = LinksPart {
+        from: links,
+        bounds,
+    };
+    let works = number_links(alloc, part)?;
     let jobs = make_jobs(alloc, callers, works)?;
     let desk = Desk {
         rt,
@@ -61,5 +65,19 @@ pub fn serve_links<
     let told = gather(alloc, ends, end)?;
     let Crew { first, mut callers } = crew;
     callers.push(first)?;
-    Ok(ServeEnd { callers, told })
+    let LinksTold {
+        links,
+        faults,
+        failed,
+        clock_failed,
+        stop,
+    } = told;
+    Ok(ServeEnd {
+        callers,
+        links,
+        faults,
+        failed,
+        clock_failed,
+        stop,
+    })
 }

@@ -40,7 +40,7 @@ pub struct Hosted<M, L> {
 }
 
 /// Opens a server with these limits, plays `part` as caller 0, enrols a caller for each link and one for the ticker,
-/// serves the links as [`serve_links`](crate::serve_links) does, and closes the server. Caller k submits for the k-th
+/// serves the links as [`serve`](crate::serve) does, and closes the server. Caller k submits for the k-th
 /// link, counted from 1. While the links are served, what is recorded is written to `rec`, under caller 0's token. An
 /// `Err` is want of memory, and the links are gone then.
 pub fn run_links<
@@ -80,56 +80,52 @@ pub fn run_links<
             let works: Vec<LinkWork<L>> = Vec::new(alloc);
             let lived = live_on(rt, life, works, Nobody, &mut (), gate)?;
             let Lived { closed, .. } = lived;
-            Ok(Hosted {
-                closed,
-                opening,
-                unenrolled: None,
-                links: unserved(alloc, links.from),
-                growth: Growth::Written(0),
-            })
+            let links = unserved(alloc, links.from);
+            Ok(put_together(closed, opening, None, links, Growth::Written(0)))
         }
         None => {
             let works = number_links(alloc, links)?;
-            let (lived, looked) = live_under(
-                rt,
-                life,
-                works,
-                Round::Played(None),
-                clock,
-                Writer,
-                rec,
-                gate,
-            )?;
+            let round = Round::Played(None);
+            let (lived, looked) = live_under(rt, life, works, round, clock, Writer, rec, gate)?;
             let growth = growth_of(looked);
-            let Lived {
-                closed,
-                played,
-                end,
-            } = lived;
-            match played {
+            let Lived { closed, works, end } = lived;
+            match works {
                 Played::Each(ends) => {
                     let Some(end) = end else { unreachable!() };
                     let links = gather(alloc, ends, end)?;
-                    Ok(Hosted {
-                        closed,
-                        opening,
-                        unenrolled: None,
-                        links,
-                        growth,
-                    })
+                    Ok(put_together(closed, opening, None, links, growth))
                 }
                 Played::NoRoom(room, works) => {
                     let links = links_back(alloc, works)?;
-                    Ok(Hosted {
-                        closed,
-                        opening,
-                        unenrolled: Some(room),
-                        links: unserved(alloc, links),
-                        growth,
-                    })
+                    let links = unserved(alloc, links);
+                    Ok(put_together(closed, opening, Some(room), links, growth))
                 }
             }
         }
+    }
+}
+
+fn put_together<M, L>(
+    closed: Closed<M>,
+    opening: LaneTold<M>,
+    unenrolled: Option<Room>,
+    links: LinksTold<L>,
+    growth: Growth,
+) -> Hosted<M, L>
+    ensures { result ≡ record {
+      closed = closed;
+      opening = opening;
+      unenrolled = unenrolled;
+      links = links;
+      growth = growth;
+    } }
+{
+    Hosted {
+        closed,
+        opening,
+        unenrolled,
+        links,
+        growth,
     }
 }
 

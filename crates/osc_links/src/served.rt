@@ -50,5 +50,15 @@ pub struct LinksTold<L> {
 pub struct ServeEnd<L> {
     /// The callers that were handed in, in their order.
     pub callers: Vec<Caller>,
-    pub told: LinksTold<L>,
+    /// The links that were handed in, in their order.
+    pub links: Vec<L>,
+    /// Link, number of the datagram and fault of each datagram that was refused, link by link in the order of the
+    /// datagrams. Links are numbered from 0, and the datagrams of each from 1.
+    pub faults: Vec<(u32, u32, Fault)>,
+    /// The least link that failed.
+    pub failed: Option<u32>,
+    /// Whether the clock failed.
+    pub clock_failed: bool,
+    /// The room where the recording was full: of the least link that found it so, or else of the ticker.
+    pub stop: Option<Room>,
 }

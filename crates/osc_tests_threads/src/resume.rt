@@ -27,12 +27,14 @@ const DUE: &str = "0 add /a\n0 send 2f610000\n";
 enum Past {
     /// That of the lane whose bundle waits.
     Waiting,
-    /// That of the lane whose message is due.
-    Due,
     /// The same without its last byte.
     Cut,
     /// The same, of a server whose recording has no room for more.
     Full,
+    /// That of the lane whose message is due.
+    Due,
+    /// The same, of a server whose recording has no room for more.
+    DueFull,
     /// That of `osc run` on an empty script, which has one caller.
     Plain,
 }
@@ -60,13 +62,14 @@ fn recording<R: Threads + Wait + Sync>(
 fn bytes_of<R: Threads + Wait + Sync>(rt: &R, alloc: Global, past: Past) -> Result<Vec<u8>, Fail> {
     match past {
         Past::Waiting => recording(rt, alloc, "lanes f", WAITING),
-        Past::Due => recording(rt, alloc, "lanes f", DUE),
         Past::Cut => {
             let mut bytes = recording(rt, alloc, "lanes f", WAITING)?;
             bytes.pop();
             Ok(bytes)
         }
         Past::Full => recording(rt, alloc, "lanes --recording 208 f", WAITING),
+        Past::Due => recording(rt, alloc, "lanes f", DUE),
+        Past::DueFull => recording(rt, alloc, "lanes --recording 188 f", DUE),
         Past::Plain => Ok(plain(alloc, "run --bytes", b"")?.1),
     }
 }
@@ -154,12 +157,25 @@ const ENDS: [(Given, u8, [&str; 2], usize, (usize, usize)); 26] = [
         336,
         (1, 7),
     ),
-    // A pump that is the first of its lane releases what the past left due.
+    // A pump that is the first of its lane releases what the past left due, and stops where that finds no room.
     (
         ("resume o f", Past::Due, "0 pump\n", 8, Failing::None),
         0,
         [WAITING_TEXT, "enrol 0 2\nrelease 2 0 1\ncall 0 0 0 /a -\n"],
         268,
+        (1, 7),
+    ),
+    (
+        (
+            "resume --recording 216 o f",
+            Past::DueFull,
+            "0 pump\n",
+            8,
+            Failing::None,
+        ),
+        6,
+        [WAITING_TEXT, "enrol 0 2\nrecording-full 52 0\n"],
+        216,
         (1, 7),
     ),
     (

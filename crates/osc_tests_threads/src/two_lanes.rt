@@ -6,7 +6,7 @@ use crate::callers::enrolled;
 use crate::hold::Hold;
 use crate::parts::{address, empty, push_add, push_line};
 use osc_atoms::{Bytes, Fault};
-use osc_lanes::{Gate, LaneEnd, LanePart, LanePlan, play_lanes};
+use osc_lanes::{Gate, LaneEnd, LanePart, LanePlan, play};
 use osc_live::Live;
 use osc_method::Mute;
 use osc_record::{Caps, Late};
@@ -54,18 +54,22 @@ fn play_both<R: Threads + Wait + Sync, G: Gate + Sync>(
     let (live, first) = Live::open(alloc, caps)?;
     let (first, one) = enrolled(rt, &live, first)?;
     let (_, two) = enrolled(rt, &live, first)?;
+    let calling = calling(alloc)?;
+    let adding = adding(alloc)?;
     let mut plans = Vec::with_capacity(alloc, 2)?;
     plans.push_reserved(LanePlan {
         lane: 1,
         caller: one,
-        part: calling(alloc)?,
+        lines: calling.lines,
+        boxes: calling.boxes,
     });
     plans.push_reserved(LanePlan {
         lane: 2,
         caller: two,
-        part: adding(alloc)?,
+        lines: adding.lines,
+        boxes: adding.boxes,
     });
-    let ends = play_lanes(rt, alloc, &live, plans, gate)?;
+    let ends = play(rt, alloc, &live, plans, gate)?;
     Ok(ends)
 }
 
@@ -79,13 +83,13 @@ fn two_lanes_play_at_once(rt: HostRuntime) -> Result<(), Fail> {
         assert!(rt; ends.is_empty());
         assert!(rt; !gate.gave_up());
         assert_eq!(rt; (one.lane, two.lane), (1, 2));
-        assert!(rt; one.told.faults.is_empty() && one.told.back.is_empty());
-        assert!(rt; two.told.removed.is_empty());
-        assert_eq!(rt; (one.told.removed.len(), two.told.back.len()), (1, 1));
-        let fault = two.told.faults.pop().ok_or("a fault")?;
+        assert!(rt; one.faults.is_empty() && one.back.is_empty());
+        assert!(rt; two.removed.is_empty());
+        assert_eq!(rt; (one.removed.len(), two.back.len()), (1, 1));
+        let fault = two.faults.pop().ok_or("a fault")?;
         assert_eq!(rt; fault, (2, Fault { kind: 8, at: 0 }));
-        assert!(rt; two.told.faults.is_empty());
-        assert_eq!(rt; (one.told.stop, two.told.stop), (None, None));
+        assert!(rt; two.faults.is_empty());
+        assert_eq!(rt; (one.stop, two.stop), (None, None));
     }
     Ok(())
 }

@@ -7,7 +7,7 @@ use crate::parts::address;
 use osc_atoms::Bytes;
 use osc_edge::{MemoryClock, MemoryLink};
 use osc_lanes::Gate;
-use osc_links::{Bounds, LinksPart, ServeEnd, serve_links};
+use osc_links::{Bounds, ServeEnd, serve};
 use osc_live::Live;
 use osc_method::{Call, Method, Mute};
 use osc_record::{Caps, Late};
@@ -71,11 +71,8 @@ fn serve_both<M: Method + Send, R: Threads + Wait + Sync, G: Gate + Sync>(
     links.push_reserved(first_link);
     links.push_reserved(second_link);
     let mut clock = MemoryClock::open(Vec::from_array(alloc, [5])?, Vec::new(alloc));
-    let links = LinksPart {
-        from: links,
-        bounds: Bounds { count: 8, idle: 2 },
-    };
-    let end = serve_links(rt, alloc, &live, callers, links, &mut clock, gate)?;
+    let bounds = Bounds { count: 8, idle: 2 };
+    let end = serve(rt, alloc, &live, callers, links, &mut clock, bounds, gate)?;
     Ok(end)
 }
 
@@ -101,8 +98,8 @@ fn two_links_are_served_at_once(rt: HostRuntime) -> Result<(), Fail> {
         let gate = Hold::of(held);
         let end = serve_both(&rt, alloc, Mute, once(alloc)?, once(alloc)?, &gate)?;
         assert!(rt; !gate.gave_up());
-        assert!(rt; end.told.faults.is_empty() && !end.told.clock_failed);
-        assert_eq!(rt; (end.told.failed, end.told.stop), (None, None));
+        assert!(rt; end.faults.is_empty() && !end.clock_failed);
+        assert_eq!(rt; (end.failed, end.stop), (None, None));
     }
     Ok(())
 }
@@ -117,7 +114,7 @@ fn the_ticker_plays_rounds_while_a_link_is_at_work(rt: HostRuntime) -> Result<()
     let gate = HoldSecond::until(called);
     let end = serve_both(&rt, alloc, method, twice(alloc)?, once(alloc)?, &gate)?;
     assert!(rt; !gate.gave_up());
-    assert!(rt; end.told.faults.is_empty() && !end.told.clock_failed);
-    assert_eq!(rt; (end.told.failed, end.told.stop), (None, None));
+    assert!(rt; end.faults.is_empty() && !end.clock_failed);
+    assert_eq!(rt; (end.failed, end.stop), (None, None));
     Ok(())
 }

@@ -1,4 +1,4 @@
--- What became of lanes behind a past, and of the boxes of both, put together.
+-- What became of lanes after a past, and of the boxes of both, put together.
 use Rattle.std.proofs.Common.{◌≡◌, ◌≢◌, ℕ, zero, suc, ◌+◌, ◌<◌, ◌≤◌, ◌==◌, Bool, true, cond, nat_lt, ne_eqb, List, [], ◌∷◌, ◌++◌, map, length}
 use Rattle.std.proofs.Common.{drop, filter, Option, Some, None, append_assoc, refl, sym, ap, subst, ◌∙◌, arith}
 use Rattle.std.specs.Prelude.{slice_get}
@@ -86,11 +86,11 @@ one_at P [] x all (k, within, is) = absurd (omega arith)
 one_at P (y ∷ xs) x all (zero, within, is) = subst P is all.0
 one_at P (y ∷ xs) x all (suc k, within, is) = one_at P xs x all.1 (k, omega arith, is)
 
-behind_all : {X : Type 0} (P : X → Type 0) (xs ys : List X) → AllByRecursion P (xs ++ ys) → AllByRecursion P ys
-behind_all P [] ys all = all
-behind_all P (x ∷ xs) ys all = behind_all P xs ys all.1
+all_after : {X : Type 0} (P : X → Type 0) (xs ys : List X) → AllByRecursion P (xs ++ ys) → AllByRecursion P ys
+all_after P [] ys all = all
+all_after P (x ∷ xs) ys all = all_after P xs ys all.1
 
--- Nothing calls the id of a method behind a past that removed it.
+-- Nothing calls the id of a method after a past that removed it.
 
 removed_so : (answer : Answer) (id : ℕ) → removed_id answer ≡ Some id → answer ≡ removed id
 removed_so (removed other) id is = let same : other ≡ id = cc in ap removed same
@@ -122,9 +122,9 @@ none_called id (call ∷ calls) all =
     ∙ none_called id calls all.1
 
 module _ (law : RemovedLaw) (caps : Limits) (before since : List Entry) (legal : Legal caps (before ++ since)) where
-  silent_behind : (id : ℕ) → Contains (removed_in before) id
+  silent_after : (id : ℕ) → Contains (removed_in before) id
       → AllByRecursion (λ call. call.call.id ≢ id) (invocations (after (opening caps) before) since)
-  silent_behind id held =
+  silent_after id held =
       let place = removed_place before id held in
       let first = place.0 in
       let entry = place.1 in
@@ -138,18 +138,18 @@ module _ (law : RemovedLaw) (caps : Limits) (before since : List Entry) (legal :
       sym (after_more (opening caps) (first ++ entry ∷ []) later)
       ∙ ap (after (opening caps)) (append_assoc first (entry ∷ []) later ∙ sym place.3) in
       subst (λ (s : State). AllByRecursion (λ call. call.call.id ≢ id) (invocations s since)) there
-      (behind_all (λ call. call.call.id ≢ id) (invocations start later) (invocations (after start later) since)
+      (all_after (λ call. call.call.id ≢ id) (invocations start later) (invocations (after start later) since)
       (subst (AllByRecursion (λ call. call.call.id ≢ id)) (invoked_more start later since) all))
 
-  heard_behind : (told : Told) → Contains (removed_in before) told.id → HasHeard (invocations (opening caps) before) told
+  heard_after : (told : Told) → Contains (removed_in before) told.id → HasHeard (invocations (opening caps) before) told
       → HasHeard (invocations (opening caps) (before ++ since)) told
-  heard_behind told held heard =
+  heard_after told held heard =
       let p : Invocation → Bool = λ call. call.call.id == told.id in
       let first = invocations (opening caps) before in
       let more = invocations (after (opening caps) before) since in
       let same : filter p (invocations (opening caps) (before ++ since)) ≡ filter p first =
       ap (filter p) (invoked_more (opening caps) before since) ∙ filter-append p first more
-      ∙ ap (λ (l : List Invocation). filter p first ++ l) (none_called told.id more (silent_behind told.id held)) ∙ append-nil (filter p first) in
+      ∙ ap (λ (l : List Invocation). filter p first ++ l) (none_called told.id more (silent_after told.id held)) ∙ append-nil (filter p first) in
       heard ∙ ap (λ (l : List Invocation). option_map (λ _. last_of told.keep (flat_map bytes_of l)) told.heard) (sym same)
 
 -- A mark that texts carry is carried by more of them.
@@ -242,7 +242,7 @@ module _ {M : Type 0} (keep : M → ℕ) (heard : M → Option (List ℕ)) where
         let old_heard : AllByRecursion heard_so gone =
         each_at heard_so gone
         (λ one held. subst (λ (h : List Entry). HasHeard (invocations (opening caps) h) (known_of keep heard one.0 one.1)) (sym whole)
-        (heard_behind law caps before more (subst (Legal caps) whole legal) (known_of keep heard one.0 one.1) (gone_is one held)
+        (heard_after law caps before more (subst (Legal caps) whole legal) (known_of keep heard one.0 one.1) (gone_is one held)
         (one_at (λ one. HasHeard (invocations (opening caps) before) (known_of keep heard one.0 one.1)) gone one hears held))) in
         record {
           ids = ids_since;
@@ -298,7 +298,7 @@ module _ {M : Type 0} (keep : M → ℕ) (heard : M → Option (List ℕ)) where
     pub resumed_boxes : (lines : List Line) → boxes_for before lines ≤ length bank → count_adds lines ≤ length left
     resumed_boxes lines enough = omega (arith, enough, ap length is.rest, length-drop (added_in before) bank)
 
-    -- lanes were played behind it
+    -- lanes were played after it
     module _ (lines : List Line) (recording : List ℕ) (kept added : List (ℕ × M)) (accounts : List (Account M)) (unenrolled : Option Room)
         (performs : PerformsLater keep heard limits opened (parts_of lines (drop (added_in before) bank)) recording kept accounts unenrolled)
         (moved : IsPermutation (kept ++ (gone ++ all_removed accounts)) added) (ordered : IsNonDecreasingBy (λ one. one.0) added) where

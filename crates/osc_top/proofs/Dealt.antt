@@ -52,8 +52,8 @@ module _ {M : Type 0} where
       let lines_so : part.lines ≡ lines_in lane lines = sym (append-nil part.lines) ∙ dealt.0 in
       let boxes_so : part.boxes ≡ boxes_in lane lines bank = sym (append-nil part.boxes) ∙ dealt.1 in
       let here : part ≡ record { lines = lines_in lane lines; boxes = boxes_in lane lines bank } = λ i. record { lines = lines_so i; boxes = boxes_so i } in
-      let behind : parts ≡ parts_from (lane + 1) (length parts) lines bank = all_dealt (lane + 1) parts boxes lines bank dealt.2 in
-      cc (here, behind)
+      let later : parts ≡ parts_from (lane + 1) (length parts) lines bank = all_dealt (lane + 1) parts boxes lines bank dealt.2 in
+      cc (here, later)
 
   module _ (line : Line) (rest : List Line) (boxes : List M) (lines : List Line) (bank : List M) (handed : adds_of line.act ≤ length boxes) where
     boxes_here : (lane : ℕ) → (line.lane == lane) ≡ true
@@ -63,15 +63,15 @@ module _ {M : Type 0} where
     boxes_other : (lane : ℕ) → (line.lane == lane) ≡ false → boxes_in lane (line ∷ rest) boxes ≡ boxes_in lane rest (drop (adds_of line.act) boxes)
     boxes_other lane is = boxes_by lane line (filter (λ other. is_add other.act) rest) boxes (is_add line.act) false handed is
 
-    -- the parts behind that of the line
-    behind_dealt : (lane : ℕ) (parts : List (Part M)) → line.lane < lane → AreDealt lane parts (line ∷ rest) boxes lines bank
+    -- the parts after that of the line
+    dealt_after : (lane : ℕ) (parts : List (Part M)) → line.lane < lane → AreDealt lane parts (line ∷ rest) boxes lines bank
         → AreDealt lane parts rest (drop (adds_of line.act) boxes) lines bank
-    behind_dealt lane [] below dealt = tt
-    behind_dealt lane (part ∷ parts) below dealt =
+    dealt_after lane [] below dealt = tt
+    dealt_after lane (part ∷ parts) below dealt =
         let other : (line.lane == lane) ≡ false = grind (arith, nat_tests) in (
           ap (λ (l : List Line). part.lines ++ l) (sym (lines_other lane line rest other)) ∙ dealt.0,
           ap (λ (l : List M). part.boxes ++ l) (sym (boxes_other lane other)) ∙ dealt.1,
-          behind_dealt (lane + 1) parts (omega arith) dealt.2,
+          dealt_after (lane + 1) parts (omega arith) dealt.2,
         )
 
     -- the part in the line's place has it, with its box
@@ -84,7 +84,7 @@ module _ {M : Type 0} where
           append_assoc part.lines (line ∷ []) (lines_in lane rest) ∙ ap (λ (l : List Line). part.lines ++ l) (sym (lines_here lane line rest here)) ∙ dealt.0,
           append_assoc part.boxes taken (boxes_in lane rest (drop (adds_of line.act) boxes))
               ∙ ap (λ (l : List M). part.boxes ++ l) (sym (boxes_here lane here)) ∙ dealt.1,
-          behind_dealt (lane + 1) parts (omega arith) dealt.2,
+          dealt_after (lane + 1) parts (omega arith) dealt.2,
         )
     line_dealt lane (suc place) (part ∷ parts) at dealt =
         let other : (line.lane == lane) ≡ false = grind (arith, nat_tests) in (

@@ -142,7 +142,7 @@ module _ {M L : Type 0} (left : L → Option (List LinkTurn)) (faults : L → �
           go : (test : Bool) → has_failed end.over ≡ test → (if test then Some first else failed_from (first + 1) ends) ≡ Some link
               → (failed_from (first + 1) ends ≡ Some link → RisenFrom (first + 1) link links ends) → RisenFrom first link (one ∷ links) (end ∷ ends)
           go true failed told rest = (0, same told, over_risen end.over (left end.from) (faults one) (faults end.from) shares.0.cause failed)
-          go false failed told rest = let behind = rest told in (suc behind.0, omega (arith, behind.1), behind.2)
+          go false failed told rest = let later = rest told in (suc later.0, omega (arith, later.1), later.2)
 
   module _ (part : Part M) (links : List L) (clock : ClockRead) (hosted : Hosted M L)
       (hosts : Hosts left faults keep heard caps bounds part links clock hosted) where

@@ -37,7 +37,7 @@ faultless : (read : Result (List Line) ScriptFault) (P : ScriptFault → Type 0)
 faultless (Ok got) P lines and is = and
 faultless (Err fault) P lines and is = absurd (cc)
 
--- a script was refused behind a past that is one
+-- a script was refused after a past that is one
 pub script_judged : (bytes script : List ℕ) (out : SinkChange) (status : ℕ) (checked : CheckedRecording) → IsChecked checked bytes
     → (status ≡ 1 → IsErrAnd (script_of Lanes script) (λ fault. GainsUnless out (refusal_text fault))) → TakesIn (Err status) bytes script out
 script_judged bytes script out status checked past refused = record {

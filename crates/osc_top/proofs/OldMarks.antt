@@ -94,7 +94,7 @@ in_map f [] x (k, within, is) = absurd (omega (arith, within))
 in_map f (y ∷ xs) x (zero, within, is) = (0, omega arith, ap f is)
 in_map f (y ∷ xs) x (suc k, within, is) = let there = in_map f xs x (k, omega (arith, within), is) in (suc there.0, omega (arith, there.1), there.2)
 
--- a method that a past adds is registered behind it, or was removed
+-- a method that a past adds is registered after it, or was removed
 pub registered_or_removed : StaysSound → ((caps : Limits) → AreInRange caps → IsSound (opening caps)) → (caps : Limits) (before : List Entry)
     → Legal caps before → (id : ℕ) → id < added_in before
     → Contains (map (λ one. one.id) (after (opening caps) before).methods) id ⊎ Contains (removed_in before) id
@@ -118,13 +118,13 @@ registered_or_removed stays opens caps before legal id below = go made (removed_
 
 -- One id has one text.
 
-ascends_behind : (ids others : List ℕ) → is_ascending (ids ++ others) ≡ true → is_ascending others ≡ true
-ascends_behind [] others all = all
-ascends_behind (id ∷ ids) others all = ascends_behind ids others (and_parts (list_all (nat_lt id) (ids ++ others)) (is_ascending (ids ++ others)) all).1
+ascends_after : (ids others : List ℕ) → is_ascending (ids ++ others) ≡ true → is_ascending others ≡ true
+ascends_after [] others all = all
+ascends_after (id ∷ ids) others all = ascends_after ids others (and_parts (list_all (nat_lt id) (ids ++ others)) (is_ascending (ids ++ others)) all).1
 
-all_behind : (p : ℕ → Bool) (ids others : List ℕ) → list_all p (ids ++ others) ≡ true → list_all p others ≡ true
-all_behind p [] others all = all
-all_behind p (id ∷ ids) others all = all_behind p ids others (and_parts (p id) (list_all p (ids ++ others)) all).1
+all_after : (p : ℕ → Bool) (ids others : List ℕ) → list_all p (ids ++ others) ≡ true → list_all p others ≡ true
+all_after p [] others all = all
+all_after p (id ∷ ids) others all = all_after p ids others (and_parts (p id) (list_all p (ids ++ others)) all).1
 
 abbrev first_ids : Option Entry → List ℕ
 first_ids None = []
@@ -154,7 +154,7 @@ module _ (id : ℕ) where
       omega (arith, below)
   none_above (first ∷ texts) text adds (suc k, within, is) all =
       none_above texts text adds (k, omega (arith, within), is)
-      (all_behind (nat_lt id) (first_ids (entry_in first)) (added_ids (history_in texts))
+      (all_after (nat_lt id) (first_ids (entry_in first)) (added_ids (history_in texts))
       (subst (λ (l : List ℕ). list_all (nat_lt id) l ≡ true) (ids_split (entry_in first) (history_in texts)) all))
 
   later_above : (first : List ℕ) (texts : List (List ℕ)) → Adds first → is_ascending (added_ids (history_in (first ∷ texts))) ≡ true
@@ -174,15 +174,15 @@ module _ (id : ℕ) where
       absurd (none_above texts text adds (k, omega (arith, within), is) (later_above first texts (subst Adds (sym at) also) all))
   one_text (first ∷ texts) text other all adds also (suc j, within, is) (suc k, inside, at) =
       one_text texts text other
-      (ascends_behind (first_ids (entry_in first)) (added_ids (history_in texts))
+      (ascends_after (first_ids (entry_in first)) (added_ids (history_in texts))
       (subst (λ (l : List ℕ). is_ascending l ≡ true) (ids_split (entry_in first) (history_in texts)) all))
       adds also (j, omega (arith, within), is) (k, omega (arith, inside), at)
 
 last_same : (xs : List ℕ) (m n : ℕ) → xs ++ m ∷ [] ≡ xs ++ n ∷ [] → m ≡ n
 last_same [] m n is = cc
-last_same (x ∷ xs) m n is = let behind : xs ++ m ∷ [] ≡ xs ++ n ∷ [] = cc in last_same xs m n behind
+last_same (x ∷ xs) m n is = let later : xs ++ m ∷ [] ≡ xs ++ n ∷ [] = cc in last_same xs m n later
 
--- each entry of a history is read from its text, whatever mark stands behind it
+-- each entry of a history is read from its text, whatever mark stands after it
 abbrev pub AreReadAgain : List (List ℕ) → Type 0
 AreReadAgain texts = (entry : Entry) (mark : ℕ) → Contains (history_in texts) entry → entry_in (text_with mark entry) ≡ Some entry
 

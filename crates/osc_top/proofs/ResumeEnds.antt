@@ -32,7 +32,7 @@ use Rattle.osc_ends.specs.Judging.{IsChecked}
 use Rattle.osc_ends.specs.Outcomes.{status_of, stopped}
 use Rattle.osc_ends.specs.Printing.{bank_short_text, callers_full_text, last_text, recorded_text}
 use Rattle.osc_ends.specs.Sinks.{SinkChange, Fails, IsSteady, Gains, GainsAll, GainsPart, GainsUnless, IsUntouched}
-use Rattle.osc_top.specs.Behind.{CanGoOn, HandsBackAll, Reaches, boxes_told, callers_told}
+use Rattle.osc_top.specs.After.{CanGoOn, HandsBackAll, Reaches, boxes_told, callers_told}
 use Rattle.osc_top.specs.EndsResumed.{AreEnough, EndsResumed, IsResumed, IsUnresumed, OfBoth}
 use Rattle.osc_top.specs.Lanes.{first_stop, lane_count, lane_faults}
 use Rattle.osc_top.specs.Recorded.{EndsBoth}

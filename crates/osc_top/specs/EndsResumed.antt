@@ -16,11 +16,11 @@ use Rattle.osc_ends.specs.Sinks.{SinkChange, Fails, GainsAll, GainsPart, GainsUn
 use Rattle.osc_top.specs.Resumed.{boxes_for, callers_for}
 use Rattle.osc_top.specs.Taken.{RefusesPastOrScript}
 
--- a status with which lanes were played behind a past, and all was written
+-- a status with which lanes were played after a past, and all was written
 abbrev pub IsResumed : ℕ → Type 0
 IsResumed status = (status ≡ DONE) ⊎ (status ≡ RECORDING_FULL)
 
--- nothing was played behind a past: what came in is refused, or there are too few boxes or callers
+-- nothing was played after a past: what came in is refused, or there are too few boxes or callers
 abbrev pub IsUnresumed : ℕ → Type 0
 IsUnresumed status = IsUnplayed status ⊎ (status ≡ CALLERS_FULL)
 
@@ -38,7 +38,7 @@ AreEnough have caps before lines =
 -- The end of a program that goes on from a recording, by its status. Done (0) or full (6), as the
 -- outcome says: there are boxes and callers enough, the script was played, and both sinks gained
 -- all. Cut short (5): the script was played, and the sink of the recording failed, and nothing was
--- written to the other, or this one did, behind a whole recording. Refused (1): the bytes are no
+-- written to the other, or this one did, after a whole recording. Refused (1): the bytes are no
 -- recording of a legal history, or else the script has a first fault; bank short (8): there are
 -- fewer boxes than adds; callers full (9): there are more callers than the limits allow; each with
 -- its line. Want of memory (3) promises nothing. Where both are lawful and enough is there, sinks

@@ -76,7 +76,7 @@ module _ {M : Type 0} where
     pub marked : AreMarked (texts history) (told keep heard boxes)
 
   -- The script's lanes were played on one new server. The boxes that were added have heard its one
-  -- history; the others come back, lane by lane, and behind them those that no line took. The text
+  -- history; the others come back, lane by lane, and after them those that no line took. The text
   -- is that of the history, then the faults of the lanes, where they are watched the methods that
   -- stand after the history, and last the line on the stop, where there is one: of the enrolment
   -- for which there was no room, or of the least lane.

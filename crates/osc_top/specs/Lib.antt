@@ -11,7 +11,7 @@ pub mod Taken
 pub mod Enough
 pub mod Watched
 -- Inside the crate.
-pub mod Behind
+pub mod After
 pub mod Dealt
 pub mod Staged
 pub mod Recorded

@@ -15,7 +15,7 @@ use Rattle.osc_ends.specs.Sinks.{SinkChange, GainsAll, GainsPart, GainsUnless, I
 -- The end of a program that plays a script on many threads, by its status. Done (0), full (6) or
 -- failed (7), as the outcome says: there is a box for each add, the script was played, and both
 -- sinks gained all. Cut short (5): the script was played, and the sink of the recording failed, and
--- nothing was written to the other, or this one did, behind a whole recording. Refused (1): the
+-- nothing was written to the other, or this one did, after a whole recording. Refused (1): the
 -- script has a first fault, and bank short (8): there are fewer boxes than adds, each with its
 -- line. Want of memory (3) promises nothing.
 pub record EndsLive (mode : Mode) (plays : List Line → List ℕ → List ℕ → Outcome → Type 0)

@@ -1,4 +1,4 @@
--- What a run of lanes behind a past comes to.
+-- What a run of lanes after a past comes to.
 use Rattle.std.specs.Prelude.{◌≡◌, ℕ, ◌+◌, List, ◌++◌, map, drop, slice_get, Option, Some}
 use Rattle.std.specs.List.{AllByRecursion, Contains, flat_map}
 use Rattle.std.specs.Option.{option_or}
@@ -27,7 +27,7 @@ use Rattle.osc_ends.specs.Printing.{last_text}
 use Rattle.osc_ends.specs.Sinks.{SinkChange, Gains}
 use Rattle.osc_top.specs.Lanes.{first_stop, lane_count, lane_faults, parts_of}
 
--- how many boxes a past and lines behind it take: one for each method that one of them adds
+-- how many boxes a past and lines after it take: one for each method that one of them adds
 abbrev pub boxes_for : List Entry → List Line → ℕ
 boxes_for before lines = added_in before + count_adds lines
 
@@ -60,8 +60,8 @@ module _ {M : Type 0} (keep : M → ℕ) (heard : M → Option (List ℕ)) where
 
   -- The script's lanes were played on the server of these limits that goes on from a past. The
   -- k-th method that the past adds has the k-th box of the bank, and the lines have the boxes
-  -- behind these. The boxes that were added have heard the one history, which begins with the past;
-  -- the others come back, lane by lane, and behind them those that no line took. The text is that
+  -- after these. The boxes that were added have heard the one history, which begins with the past;
+  -- the others come back, lane by lane, and after them those that no line took. The text is that
   -- of the history, then the faults of the lanes, and last the line on the stop, where there is
   -- one: of the enrolment for which there was no room, or of the least lane.
   pub record PlaysResumed (caps : Limits) (before : List Entry) (bank : List M)

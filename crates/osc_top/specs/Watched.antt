@@ -20,7 +20,7 @@ use Rattle.osc_ends.specs.Sinks.{SinkChange, Gains}
 abbrev pub rows_text : List MethodRow → List ℕ
 rows_text rows = flat_map (λ row. method_text row.id row.address) rows
 
--- the lines of the methods that stand after a history, behind one that counts its adds and removals
+-- the lines of the methods that stand after a history, after one that counts its adds and removals
 -- that weren't refused
 abbrev pub methods_text : List Entry → List ℕ
 methods_text history =
@@ -36,7 +36,7 @@ abbrev pub faults_text : List (ℕ × Fault) → List ℕ
 faults_text faults = flat_map (λ one. fault_text one.0 one.1) faults
 
 -- Both sinks gained all of one history: its recording, and its text. The methods that stand after
--- it are listed last, behind the lines of the faults, but for the line on how it ended.
+-- it are listed last, after the lines of the faults, but for the line on how it ended.
 pub record EndsListed (status : ℕ) (caps : Limits) (rec out : SinkChange) : Type 0 where
   pub history : List Entry
   pub faults : List (ℕ × Fault)

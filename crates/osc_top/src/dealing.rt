@@ -61,7 +61,7 @@ fn empty_parts<M: Drop>(alloc: Global, count: usize) -> Result<Vec<LanePart<M>>,
     Ok(parts)
 }
 
-/// Puts a line, and where it adds a method the next box, behind those of its lane.
+/// Puts a line, and where it adds a method the next box, after those of its lane.
 fn deal_line<M: Drop>(
     parts: &mut Vec<LanePart<M>>,
     line: Line,

@@ -48,7 +48,8 @@ pub fn what_is_enough_for_two_lanes()
 /// A recording of as many bytes as `enough_lanes` says stops no lane of a script.
 pub fn enough_room_stops_no_lane<M: Method>()
     ensures { (caps : Limits) (watched : Bool) (lines : List Line) (bank : List M)
-        (boxes_heard : List (ℕ × M)) (boxes_left : List M) (recording : List ℕ) (text : List ℕ) (outcome : Outcome)
+        (boxes_heard : List (ℕ × M)) (boxes_left : List M) (recording : List ℕ) (text : List ℕ)
+        (outcome : Outcome)
         → PlaysLanes M.keep M.heard caps watched bank boxes_heard boxes_left lines recording text
         outcome
         → enough_lanes lines ≤ caps.recording → outcome ≡ Done }

@@ -1,7 +1,7 @@
 //! All that the program `oscd` does, over any source and sinks, links and clock; and `osc`'s top call.
 #![tactic(auto)]
 
-mod behind;
+mod after;
 mod caps;
 mod counting;
 mod dealing;

@@ -89,7 +89,7 @@ use std::thread::Threads;
 /// Does all that the program of many threads does. `lanes FILE` reads a script from `input` to its end, plays each of
 /// its lanes by a thread of its own on one new server, and writes the recording to `rec`, and then the printed history
 /// and the faults of the lanes' packets to `out`; with `--watch` a watcher reads the list of methods meanwhile, and the
-/// list behind the lanes follows the faults. `serve FILE` reads a script of adds, plays it as caller 0, serves
+/// list after the lanes follows the faults. `serve FILE` reads a script of adds, plays it as caller 0, serves
 /// each of `links` by a thread of its own and the ticker, who reads `clock`, by another, and writes the same of them; what
 /// is recorded is written to `rec` while the links are served.
 /// `osc replay` prints the same history from the recording.
@@ -173,7 +173,7 @@ pub fn live_top<
         → said.live_command_of (map string_bytes words.now) ≡ Some (live.Lanes caps watch)
         → (result.1.items ≡ links.items) × (clock.new ≡ clock.old) }
 
-    // Where lanes are watched, the methods that stand behind them are listed last, but for the line on a full
+    // Where lanes are watched, the methods that stand after them are listed last, but for the line on a full
     // recording.
     ensures listed { (caps : Capacities)
         → said.live_command_of (map string_bytes words.now) ≡ Some (live.Lanes caps true)

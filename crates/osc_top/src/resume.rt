@@ -38,7 +38,7 @@ ghost use Rattle.osc_top.specs.EndsResumed.{EndsResumed, IsResumed, IsUnresumed}
 ghost use Rattle.osc_top.specs.Resumed.{PlaysResumed, RecordsOneHistory};
 ghost use Rattle.osc_top.specs.Taken.{OfInputs};
 
-use crate::behind::play_behind;
+use crate::after::play_after;
 use crate::live::unplayed;
 use crate::taking::take_in;
 use osc_edge::{Sink, Source};
@@ -58,7 +58,7 @@ use std::thread::Threads;
 ///
 /// `words` are those of the command line, without the program's name. The k-th method that the past adds gets the k-th
 /// box of `bank`, which hears the old invocations again, and the k-th add of the script, whatever its lane, the k-th
-/// behind these. `gate` is called round each line. What stands in the sinks, and what becomes of the boxes, at want of
+/// after these. `gate` is called round each line. What stands in the sinks, and what becomes of the boxes, at want of
 /// memory isn't said.
 pub fn resume_top<P: Source, S: Source, O: Sink, R: Sink, W: Threads + Wait + Sync, G: Gate + Sync>(
     rt: &W,
@@ -146,7 +146,7 @@ pub fn resume_top<P: Source, S: Source, O: Sink, R: Sink, W: Threads + Wait + Sy
         Err(_) => return unplayed(alloc, NO_MEMORY, bank),
     };
     match take_in(alloc, past, input, out) {
-        Ok(taken) => play_behind(rt, alloc, command.room, taken, out, rec, bank, gate),
+        Ok(taken) => play_after(rt, alloc, command.room, taken, out, rec, bank, gate),
         Err(status) => unplayed(alloc, status, bank),
     }
 }

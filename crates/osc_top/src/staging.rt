@@ -32,7 +32,7 @@ use std::thread::Threads;
 use std::vec::IntoIter;
 
 /// Plays the lanes of the lines on a new server, beside each other, and if `watch` says so with a watcher beside them,
-/// whose list stands behind the lines of the faults; the k-th add gets the k-th box. An `Err` is want of memory.
+/// whose list stands after the lines of the faults; the k-th add gets the k-th box. An `Err` is want of memory.
 pub(crate) fn stage<M: Method + Send, W: Threads + Wait + Sync, G: Gate + Sync>(
     rt: &W,
     alloc: Global,
@@ -75,7 +75,8 @@ pub(crate) fn settle<M: Method>(
         ≡ outcomes.stopped (option_or (option_map room_of performed.unenrolled)
         (first_stop (map told_of performed.lanes.items)))) }
     ensures each { IfOk result (λ played. IsPermutation (performed.closed.kept.items
-        ++ (gone.items ++ flat_map (λ account. account.removed) (map told_of performed.lanes.items)))
+        ++ (gone.items
+        ++ flat_map (λ account. account.removed) (map told_of performed.lanes.items)))
         played.heard.items) }
     ensures ascending { IfOk result
         (λ played. IsNonDecreasingBy (λ one. one.0) played.heard.items) }

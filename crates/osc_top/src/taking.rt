@@ -1,4 +1,4 @@
-// Takes in a past, and the script that is to be played behind it.
+// Takes in a past, and the script that is to be played after it.
 ghost use Rattle.osc_ends.specs.declared.status.TheConstants.{
   DONE,
   NO_MEMORY,

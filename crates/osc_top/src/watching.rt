@@ -23,7 +23,7 @@ use std::thread::Threads;
 #[derive(Drop)]
 pub(crate) struct Listed<M> {
     pub(crate) performed: Performed<M>,
-    /// The lines of the methods that stand behind the lanes; none where nobody watched.
+    /// The lines of the methods that stand after the lanes; none where nobody watched.
     pub(crate) list: Text,
 }
 

@@ -1,5 +1,5 @@
 use Rattle.osc_life.specs.Holders.{seen_by, holder_of}
-use Rattle.osc_lanes.specs.Performs.{told_of}
+use Rattle.osc_lanes.specs.Ends.{told_in}
 use Rattle.osc_lanes.proofs.Staying.{removed_later}
 use Rattle.osc_lanes.proofs.laws.a_lane_keeps_its_share.Goals as goal
 
@@ -8,5 +8,5 @@ returns-clause-share g c caps plan end history ready is on = (seen_by plan.calle
 
 pub returns-clause-removed : goal.returns-clause-removed
 returns-clause-removed g c caps plan end history is on legal =
-    removed_later g.M.Method.keep g.M.Method.heard (holder_of caps plan.caller) c.a_method_is_called_while_it_is_registered.ensures.removed plan.part.lines.items
-    plan.part.boxes.items (told_of end.told) (seen_by plan.caller) (seen_by end.caller) history is.plays on legal
+    removed_later g.M.Method.keep g.M.Method.heard (holder_of caps plan.caller) c.a_method_is_called_while_it_is_registered.ensures.removed plan.lines.items
+    plan.boxes.items (told_in end) (seen_by plan.caller) (seen_by end.caller) history is.plays on legal

@@ -49,7 +49,7 @@ live_on-requires-clause-few g c = omega (arith, c.requires.few, many g (goal.at.
 pub live_on-requires-clause-ready : goal.live_on-requires-clause-ready
 live_on-requires-clause-ready g c _ _ = ready c.in_ok-works.works.items c.args.parts.items c.in_ok-works.ensures c.requires.whole
 
--- the shares are numbered behind the old callers
+-- the shares are numbered after the old callers
 next_is : (past : List (List ℕ)) (v : View) (others : List Caller) → IsLeft past v others → v.made ≡ old_callers past
 next_is past v others left = left.made_is ∙ sym left.old.counted
 

@@ -224,9 +224,9 @@ stays_none g c =
     c.requires.stays c.last_round.new.on c.in_ok-crew-in-Some.end (map seen_by c.in_ok-crew.crew.callers.items) (view c.in_ok-crew.crew.first.pass)
     (view done.last.pass) done.ended
 
-pub unreachable-requires : goal.unreachable-requires
-unreachable-requires g c =
-    let at = (goal.at.unreachable-requires g c).In_ok-closed-in-Some in
+pub room_in-requires : goal.room_in-requires
+room_in-requires g c =
+    let at = (goal.at.room_in-requires g c).In_ok-closed-in-Some in
     let crew = c.in_ok-crew.crew in
     let v0 = view c.args.life.first.pass in
     let facts = rw c.in-Some.is at c.in_ok-crew.ensures.enrolled in
@@ -235,13 +235,13 @@ unreachable-requires g c =
     c.requires.whole.old c.requires.whole.counted.made_is c.in_ok-closed-in-Some.closed.bytes.items
     (told g.M.Method.keep g.M.Method.heard c.in_ok-closed-in-Some.closed.kept.items) _ (v0.made + 1 + length crew.callers.items) facts.0 c.in-Some.why
     facts.2 c.push.new.self.items (finishes_none g at) (stays_none g at) in
-    absurd (never_both full.0 c.in-Some.why c.in-CallersFull.is full.1)
+    λ is. never_both full.0 c.in-Some.why is full.1
 
-pub returns-in-RecordFull : goal.returns-in-RecordFull
-returns-in-RecordFull g c =
-    let at = (goal.at.returns-in-RecordFull g c).In_ok-closed-in-Some in
+pub returns-in_ok-closed-in-Some : goal.returns-in_ok-closed-in-Some
+returns-in_ok-closed-in-Some g c =
+    let at = (goal.at.returns-in_ok-closed-in-Some g c).In_ok-closed-in-Some in
     let caps = c.args.life.live.caps in
-    let room = c.in-RecordFull.room in
+    let room = c.room_in.result in
     let crew = c.in_ok-crew.crew in
     let v0 = view c.args.life.first.pass in
     let v = view crew.first.pass in
@@ -254,7 +254,7 @@ returns-in-RecordFull g c =
     (told g.M.Method.keep g.M.Method.heard c.in_ok-closed-in-Some.closed.kept.items) c.in_ok-crew-in-Some.end
     c.args.works.items (NoRoom room c.args.works) (v0.made + 1 + length crew.callers.items) facts.0 c.in-Some.why facts.2 c.push.new.self.items
     (finishes_none g at) (stays_none g at) in
-    let is : record_full (room_of room) ≡ record_full done.0 = sym (ap refusal_of c.in-RecordFull.is) ∙ done.1 in
+    let is : record_full (room_of room) ≡ record_full done.0 = sym (ap refusal_of c.room_in.ensures) ∙ done.1 in
     let same : done.0 ≡ room_of room = cc in
     done.2
     (λ history none. (

@@ -103,8 +103,8 @@ pub hand_in-requires-clause-callers_ours : goal.hand_in-requires-clause-callers_
 hand_in-requires-clause-callers_ours g c =
     let live = c.args.life.live in
     let Ours : Caller → Type 0 = λ one. IsTokenOf live.turn live.caps one.pass in
-    let out = c.in_ok-seen-in-None.seen.both in
-    let over = c.in_ok-seen-in-None.ensures.played.over in
+    let out = c.in_ok-both-in-None.both in
+    let over = c.in_ok-both-in-None.ensures.played.over in
     subst (All Ours) (sym c.in_ok-callers-in-None.ensures) (All-push Ours out.crew.callers.items out.crew.first over.others_ours over.ours)
 
 -- there are as many callers as were enrolled
@@ -112,8 +112,8 @@ back_each : (g : _) (c : In_ok-callers-in-None g) → length c.pop.new.self.item
     → length c.in_ok-callers-in-None.callers.items ≡ length c.in_ok-crew.crew.callers.items
 back_each g c rest =
     let jobs = c.in_ok-jobs-in-None.jobs.items in
-    let out = c.in_ok-seen-in-None.seen.both in
-    let both = c.in_ok-seen-in-None.ensures.played in
+    let out = c.in_ok-both-in-None.both in
+    let both = c.in_ok-both-in-None.ensures.played in
     omega (
       arith,
       ap length c.in_ok-callers-in-None.ensures,
@@ -134,7 +134,7 @@ hand_in-requires-clause-few g c =
 pub hand_in-requires-clause-all_in : goal.hand_in-requires-clause-all_in
 hand_in-requires-clause-all_in g c =
     let at = goal.at.hand_in-requires-clause-all_in g c in
-    c.in_ok-seen-in-None.ensures.looked.made ∙ ap (λ (v : View). v.made) c.in_ok-first-in-None.ensures.same ∙ (crew_each g at.In_ok-first-in-None).made_is
+    c.in_ok-both-in-None.ensures.looked.made ∙ ap (λ (v : View). v.made) c.in_ok-first-in-None.ensures.same ∙ (crew_each g at.In_ok-first-in-None).made_is
     ∙ omega (arith, back_each g at.In_ok-callers-in-None (rest_many g at.In-Some-pop), ap length c.new.ensures.items, c.requires.whole.counted.made_is)
 
 pub returns-in_ok-closed-in-None-clause-lives : goal.returns-in_ok-closed-in-None-clause-lives
@@ -151,8 +151,8 @@ returns-in_ok-closed-in-None-clause-lives g c =
     let olds = c.args.life.others.items in
     let enrolled = crew.callers.items in
     let jobs = c.in_ok-jobs-in-None.jobs.items in
-    let out = c.in_ok-seen-in-None.seen.both in
-    let both = c.in_ok-seen-in-None.ensures.played in
+    let out = c.in_ok-both-in-None.both in
+    let both = c.in_ok-both-in-None.ensures.played in
     let over = both.over in
     let others = map caller_in both.all in
     let heard = out.crew.callers.items in
@@ -172,10 +172,10 @@ returns-in_ok-closed-in-None-clause-lives g c =
     (subst (λ (u : View). StartsWith (seen_by own0) u.seen) (sym same) (all_split (HasSeen v.seen) (map caller_of jobs) (own0 ∷ []) has).1.0) in
     let known_is : known (heard ++ own1 ∷ []) ≡ known (others ++ own1 ∷ []) =
     known_joined heard (own1 ∷ []) ∙ (λ i. over.same i ++ known (own1 ∷ [])) ∙ sym (known_joined others (own1 ∷ [])) in
-    let seen = c.in_ok-seen-in-None.seen.first in
+    let seen = c.in_ok-both-in-None.first in
     let closes =
-    closed_before caps past first seen (olds ++ (others ++ own1 ∷ [])) [] closed.bytes.items kept c.in_ok-seen-in-None.ensures.number
-    c.in_ok-seen-in-None.ensures.looked
+    closed_before caps past first seen (olds ++ (others ++ own1 ∷ [])) [] closed.bytes.items kept c.in_ok-both-in-None.ensures.number
+    c.in_ok-both-in-None.ensures.looked
     (closed_with caps past seen olds (heard ++ own1 ∷ []) (others ++ own1 ∷ []) [] closed.bytes.items kept known_is
     (subst (λ (q : List Caller × List Guest). Closes caps past (known (seen ∷ (olds ++ q.0))) (views_of (seen ∷ (olds ++ q.0)) q.1) closed.bytes.items kept)
     (λ i. (c.in_ok-callers-in-None.ensures i, c.new.ensures.items i)) c.in_ok-closed-in-None.ensures)) in
@@ -199,8 +199,8 @@ returns-in_ok-closed-in-None-clause-lives g c =
 
 -- There was no room for an enrolment.
 
-pub unreachable-requires-in-CallersFull : goal.unreachable-requires-in-CallersFull
-unreachable-requires-in-CallersFull g c =
+pub room_in-requires : goal.room_in-requires
+room_in-requires g c =
     let crew = c.in_ok-crew.crew in
     let v0 = view c.args.life.first.pass in
     let facts = rw c.in-Some.is at c.in_ok-crew.ensures.enrolled in
@@ -210,12 +210,12 @@ unreachable-requires-in-CallersFull g c =
     (told g.M.Method.keep g.M.Method.heard c.in_ok-closed-in-Some.closed.kept.items) crew.first c.in_ok-crew.ensures.number
     (same_stays (view crew.first.pass) (view crew.first.pass) refl) (v0.made + 1 + length crew.callers.items) facts.0 c.in-Some.why facts.2
     c.push.new.self.items c.in_ok-closed-in-Some.ensures in
-    absurd (never_both full.0 c.in-Some.why c.in-CallersFull.is full.1)
+    λ is. never_both full.0 c.in-Some.why is full.1
 
-pub returns-in-RecordFull-clause-lives : goal.returns-in-RecordFull-clause-lives
-returns-in-RecordFull-clause-lives g c =
+pub returns-in_ok-closed-in-Some-clause-lives : goal.returns-in_ok-closed-in-Some-clause-lives
+returns-in_ok-closed-in-Some-clause-lives g c =
     let caps = c.args.life.live.caps in
-    let room = c.in-RecordFull.room in
+    let room = c.room_in.result in
     let crew = c.in_ok-crew.crew in
     let v0 = view c.args.life.first.pass in
     let v = view crew.first.pass in
@@ -227,7 +227,7 @@ returns-in-RecordFull-clause-lives g c =
     (told g.M.Method.keep g.M.Method.heard c.in_ok-closed-in-Some.closed.kept.items) c.args.works.items (NoRoom room c.args.works) None crew.first
     c.in_ok-crew.ensures.number (same_stays v v refl) (v0.made + 1 + length crew.callers.items) facts.0 c.in-Some.why facts.2
     c.push.new.self.items c.in_ok-closed-in-Some.ensures in
-    let is : record_full (room_of room) ≡ record_full done.0 = sym (ap refusal_of c.in-RecordFull.is) ∙ done.1 in
+    let is : record_full (room_of room) ≡ record_full done.0 = sym (ap refusal_of c.room_in.ensures) ∙ done.1 in
     let same : done.0 ≡ room_of room = cc in
     done.2
     (λ history none. (
@@ -242,10 +242,10 @@ returns-in-RecordFull-clause-lives g c =
 pub returns-in_ok-closed-in-None-clause-looked : goal.returns-in_ok-closed-in-None-clause-looked
 returns-in_ok-closed-in-None-clause-looked g c =
     let closes = c.in_ok-closed-in-None.ensures in
-    let seen = c.in_ok-seen-in-None.seen.first in (
+    let seen = c.in_ok-both-in-None.first in (
       view seen.pass,
       closes.history,
-      c.in_ok-seen-in-None.ensures.looks,
+      c.in_ok-both-in-None.ensures.looks,
       All-head (λ (v : View). StartsWith closes.history v.seen) (view seen.pass)
           (views_of (c.args.life.others.items ++ c.in_ok-callers-in-None.callers.items) c.new.result.items) closes.carried,
       closes.recorded,

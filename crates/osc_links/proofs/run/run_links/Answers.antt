@@ -121,11 +121,12 @@ returns-in_ok-lived-in-Some-clause-hosts g c =
     record { closed = lived.closed; opening = c.in_ok-life.opening; unenrolled = None; links = c.unserved.result; growth = Written 0 } in
     let new = new_life live.caps (past_of live.turn) v lives.callers lives.history (no_past g at) (made_one g at) lives.stage in
     let none =
-    no_callers (link_plays keep heard left faults) live.caps v.made lives.callers lives.history lives.tokens lived.played
+    no_callers (link_plays keep heard left faults) live.caps v.made lives.callers lives.history lives.tokens lived.works
     (rw c.new-works.ensures.items at lives.played_so) in
     let alone = none_else left faults keep heard live.caps c.args.links.bounds part links clock hosted c.a_method_is_called_while_it_is_registered.ensures.removed
     (seen_by life.first) (opened g at) lives.history lives.callers lives.goes_on new lives.closed none in
-    subst (λ (caps : Limits). Hosts left faults keep heard caps c.args.links.bounds part links clock hosted) (same_caps g at)
+    subst (λ (h : Hosted g.row.M.Denot g.row.L.Denot). Hosts left faults keep heard c.args.caps c.args.links.bounds part links clock h) (sym c.put_together.ensures)
+    (subst (λ (caps : Limits). Hosts left faults keep heard caps c.args.links.bounds part links clock hosted) (same_caps g at)
     (hosts_alone left faults keep heard live.caps c.args.links.bounds part links clock hosted c.a_method_is_called_while_it_is_registered.ensures.removed
     (seen_by life.first) (opened g at) lives.history lives.callers lives.goes_on new lives.closed alone
     (rw c.in-Some.is (
@@ -140,7 +141,7 @@ returns-in_ok-lived-in-Some-clause-hosts g c =
         clock_failed_is = c.unserved.ensures.clock;
         stop_is = c.unserved.ensures.stop;
       },
-    )))
+    ))))
 
 pub unreachable-requires : goal.unreachable-requires
 unreachable-requires g c = absurd (rw c.in_default.is at (rw c.in-Each.is at c.in_ok-lived-in-None.ensures.lives.played_so))
@@ -198,7 +199,8 @@ returns-in_ok-links-in-Each-clause-hosts g c =
     (subst (λ (n : ℕ). IsUnder (clock_ends keep heard clock_left clock_faults) (holder_at live.caps n) (own 0 history) history tokens before after end)
     at_end played.3) in
     let callers : lives.callers ≡ length links + 1 = omega (arith, played.0, count) in
-    subst (λ (caps : Limits). Hosts left faults keep heard caps bounds part links clock hosted) (same_caps g at.In_ok-life)
+    subst (λ (h : Hosted g.row.M.Denot g.row.L.Denot). Hosts left faults keep heard c.args.caps bounds part links clock h) (sym c.put_together-in-Each.ensures)
+    (subst (λ (caps : Limits). Hosts left faults keep heard caps bounds part links clock hosted) (same_caps g at.In_ok-life)
     (hosts_beside left faults keep heard live.caps bounds part links clock hosted c.a_method_is_called_while_it_is_registered.ensures.removed
     (seen_by life.first) (opened g at.In_ok-life) history lives.callers lives.goes_on new lives.closed (length links + 1) callers
     (given_more history 1 (length links) served.1
@@ -211,11 +213,11 @@ returns-in_ok-links-in-Each-clause-hosts g c =
         ticker_end = end;
         shares = served.0;
         ticks = ticker.ticks;
-        behind = ticker.behind;
+        comes_after = ticker.comes_after;
         settled = ticker.settled;
         tells = c.in_ok-links-in-Each.ensures;
       },
-    )))
+    ))))
 
 pub returns-in_ok-links-in-NoRoom-clause-hosts : goal.returns-in_ok-links-in-NoRoom-clause-hosts
 returns-in_ok-links-in-NoRoom-clause-hosts g c =
@@ -248,7 +250,8 @@ returns-in_ok-links-in-NoRoom-clause-hosts g c =
     not_there (HasPlayedUnder (link_plays keep heard left faults) (clock_ends keep heard clock_left clock_faults) live.caps v.made lives.callers history works
     before after (NoRoom room c.in-NoRoom.works)) lived.end (λ one holds. holds) (rw c.in-NoRoom.is at lives.played_so) in
     let still = c.unserved-in-NoRoom.ensures in
-    subst (λ (caps : Limits). Hosts left faults keep heard caps bounds part links clock hosted) (same_caps g at.In_ok-life)
+    subst (λ (h : Hosted g.row.M.Denot g.row.L.Denot). Hosts left faults keep heard c.args.caps bounds part links clock h) (sym c.put_together-in-NoRoom.ensures)
+    (subst (λ (caps : Limits). Hosts left faults keep heard caps bounds part links clock hosted) (same_caps g at.In_ok-life)
     (hosts_alone left faults keep heard live.caps bounds part links clock hosted c.a_method_is_called_while_it_is_registered.ensures.removed
     (seen_by life.first) (opened g at.In_ok-life) history lives.callers lives.goes_on new lives.closed none.1.1
     (rw c.in-None.is (
@@ -263,26 +266,30 @@ returns-in_ok-links-in-NoRoom-clause-hosts g c =
         clock_failed_is = still.clock;
         stop_is = still.stop;
       },
-    )))
+    ))))
 
 -- How far the recording was written.
 
 pub returns-in_ok-lived-in-Some-clause-grown : goal.returns-in_ok-lived-in-Some-clause-grown
 returns-in_ok-lived-in-Some-clause-grown g c =
-    grown_none (g.R.Sink.held c.args.rec.now) (g.R.Sink.faults c.args.rec.now) c.in_ok-lived-in-Some.lived.closed.bytes.items
+    subst (λ (h : Hosted g.row.M.Denot g.row.L.Denot). HasGrown h.growth
+    (sink_change g.R.Sink.held g.R.Sink.faults c.args.rec.now c.args.rec.now) h.closed.bytes.items) (sym c.put_together.ensures)
+    (grown_none (g.R.Sink.held c.args.rec.now) (g.R.Sink.faults c.args.rec.now) c.in_ok-lived-in-Some.lived.closed.bytes.items)
 
 pub returns-in_ok-links-in-Each-clause-grown : goal.returns-in_ok-links-in-Each-clause-grown
 returns-in_ok-links-in-Each-clause-grown g c =
     let change = sink_change g.R.Sink.held g.R.Sink.faults c.args.rec.now c.live_under.new.lent in
     let bytes = c.in_ok-lived-in-None.lived.closed.bytes.items in
-    subst (λ (growth : Growth). HasGrown growth change bytes) (sym c.growth_of-growth.ensures)
+    subst (λ (h : Hosted g.row.M.Denot g.row.L.Denot). HasGrown h.growth change h.closed.bytes.items) (sym c.put_together-in-Each.ensures)
+    (subst (λ (growth : Growth). HasGrown growth change bytes) (sym c.growth_of-growth.ensures)
     (looked_grown g.R.Sink.held g.R.Sink.faults c.in_ok-life.life.live.caps c.args.rec.now c.live_under.new.lent bytes c.in_ok-lived-in-None.looked
-    c.in_ok-lived-in-None.ensures.looked)
+    c.in_ok-lived-in-None.ensures.looked))
 
 pub returns-in_ok-links-in-NoRoom-clause-grown : goal.returns-in_ok-links-in-NoRoom-clause-grown
 returns-in_ok-links-in-NoRoom-clause-grown g c =
     let change = sink_change g.R.Sink.held g.R.Sink.faults c.args.rec.now c.live_under.new.lent in
     let bytes = c.in_ok-lived-in-None.lived.closed.bytes.items in
-    subst (λ (growth : Growth). HasGrown growth change bytes) (sym c.growth_of-growth.ensures)
+    subst (λ (h : Hosted g.row.M.Denot g.row.L.Denot). HasGrown h.growth change h.closed.bytes.items) (sym c.put_together-in-NoRoom.ensures)
+    (subst (λ (growth : Growth). HasGrown growth change bytes) (sym c.growth_of-growth.ensures)
     (looked_grown g.R.Sink.held g.R.Sink.faults c.in_ok-life.life.live.caps c.args.rec.now c.live_under.new.lent bytes c.in_ok-lived-in-None.looked
-    c.in_ok-lived-in-None.ensures.looked)
+    c.in_ok-lived-in-None.ensures.looked))

@@ -10,12 +10,12 @@ use Rattle.osc_top.proofs.resume.resume_top.Goals as goal
 
 -- Where a past and a script were taken.
 
-pub play_behind-requires-clause-past : goal.play_behind-requires-clause-past
-play_behind-requires-clause-past g c _ _ = of_taken _ _ c.in-Ok.taken _ c.in-Ok.ensures.taken
+pub play_after-requires-clause-past : goal.play_after-requires-clause-past
+play_after-requires-clause-past g c _ _ = of_taken _ _ c.in-Ok.taken _ c.in-Ok.ensures.taken
 
 pub returns-in-Ok-clause-known : goal.returns-in-Ok-clause-known
 returns-in-Ok-clause-known g c =
-    let ends = taken_ends _ _ c.in-Ok.taken _ _ _ _ _ _ c.play_behind.ensures.ends c.in-Ok.ensures.taken in
+    let ends = taken_ends _ _ c.in-Ok.taken _ _ _ _ _ _ c.play_after.ensures.ends c.in-Ok.ensures.taken in
     resumed_known _ ends.0 ends.1 _ _ _ _ ends.4
 
 pub returns-in-Ok-clause-past_read : goal.returns-in-Ok-clause-past_read
@@ -34,13 +34,13 @@ returns-in-Ok-clause-ends g c =
     let said : Some c.in-Ok-Some.command ≡ said.resume_command_of (map string_bytes c.args.words.now) = search rules in
     rw (← same)
     (of_said _ _ c.in-Ok-Some.command said
-    (λ read. taken_ends _ _ c.in-Ok.taken _ _ _ _ _ _ c.play_behind.ensures.ends c.in-Ok.ensures.taken))
+    (λ read. taken_ends _ _ c.in-Ok.taken _ _ _ _ _ _ c.play_after.ensures.ends c.in-Ok.ensures.taken))
 
 pub returns-in-Ok-clause-one_history : goal.returns-in-Ok-clause-one_history
 returns-in-Ok-clause-one_history g c =
     let same : c.take_in.new.out ≡ c.args.out.now = c.in-Ok.ensures.unwritten (inl refl) in
     let said : Some c.in-Ok-Some.command ≡ said.resume_command_of (map string_bytes c.args.words.now) = search rules in
-    let ends = taken_ends _ _ c.in-Ok.taken _ _ _ _ _ _ c.play_behind.ensures.ends c.in-Ok.ensures.taken in
+    let ends = taken_ends _ _ c.in-Ok.taken _ _ _ _ _ _ c.play_after.ensures.ends c.in-Ok.ensures.taken in
     rw (← same)
     (of_said _ _ c.in-Ok-Some.command said
     (λ resumed. past_so _ _ _ _
@@ -49,13 +49,13 @@ returns-in-Ok-clause-one_history g c =
 pub returns-in-Ok-clause-sink : goal.returns-in-Ok-clause-sink
 returns-in-Ok-clause-sink g c =
     let same : c.take_in.new.out ≡ c.args.out.now = c.in-Ok.ensures.unwritten (inl refl) in
-    let ends = taken_ends _ _ c.in-Ok.taken _ _ _ _ _ _ c.play_behind.ensures.ends c.in-Ok.ensures.taken in
+    let ends = taken_ends _ _ c.in-Ok.taken _ _ _ _ _ _ c.play_after.ensures.ends c.in-Ok.ensures.taken in
     rw (← same) (resumed_cut _ ends.0 ends.1 _ _ _ _ ends.4)
 
 pub returns-in-Ok-clause-steady : goal.returns-in-Ok-clause-steady
 returns-in-Ok-clause-steady g c =
     let same : c.take_in.new.out ≡ c.args.out.now = c.in-Ok.ensures.unwritten (inl refl) in
-    let ends = taken_ends _ _ c.in-Ok.taken _ _ _ _ _ _ c.play_behind.ensures.ends c.in-Ok.ensures.taken in
+    let ends = taken_ends _ _ c.in-Ok.taken _ _ _ _ _ _ c.play_after.ensures.ends c.in-Ok.ensures.taken in
     rw (← same) (resumed_steady _ ends.0 ends.1 _ _ _ _ ends.4)
 
 -- Where neither was.

@@ -1,4 +1,4 @@
-// Plays the lanes of a script behind a past, on the server that goes on from its recording.
+// Plays the lanes of a script after a past, on the server that goes on from its recording.
 ghost use Rattle.osc_ends.specs.declared.status.TheConstants.{NO_MEMORY};
 ghost use Rattle.std.specs.Prelude.{◌≡◌, ◌≤◌, ◌<◌, ◌^◌, ℕ, List, length, Ok, IfOk, None};
 ghost use Rattle.osc_model.specs.Events.{Entry};
@@ -8,7 +8,7 @@ ghost use Rattle.osc_script.specs.Scripts.{AreOf, script_of};
 ghost use Rattle.osc_live.specs.Resuming.{roomier};
 ghost use Rattle.osc_ends.specs.Judging.{IsChecked};
 ghost use Rattle.osc_ends.specs.Sinks.{sink_change};
-ghost use Rattle.osc_top.specs.Behind.{CanGoOn, HandsBackAll, Reaches, boxes_told, callers_told};
+ghost use Rattle.osc_top.specs.After.{CanGoOn, HandsBackAll, Reaches, boxes_told, callers_told};
 ghost use Rattle.osc_top.specs.EndsResumed.{EndsResumed, IsUnresumed};
 ghost use Rattle.osc_top.specs.Resumed.{PlaysResumed};
 ghost use Rattle.osc_top.specs.Staged.{IsStaged};
@@ -34,9 +34,9 @@ use std::alloc::{AllocError, Global};
 use std::sync::Wait;
 use std::thread::Threads;
 
-/// Plays the lines behind the past, if there are boxes and callers enough, with room for so many bytes of recording at
+/// Plays the lines after the past, if there are boxes and callers enough, with room for so many bytes of recording at
 /// least.
-pub(crate) fn play_behind<O: Sink, R: Sink, W: Threads + Wait + Sync, G: Gate + Sync>(
+pub(crate) fn play_after<O: Sink, R: Sink, W: Threads + Wait + Sync, G: Gate + Sync>(
     rt: &W,
     alloc: Global,
     room: u32,
@@ -64,7 +64,7 @@ pub(crate) fn play_behind<O: Sink, R: Sink, W: Threads + Wait + Sync, G: Gate + 
     if let Some(status) = refuse_short(alloc, past.checked, &lines, bank.len(), out) {
         return unplayed(alloc, status, bank);
     }
-    match stage_behind(rt, alloc, &past.bytes, room, lines, bank, gate) {
+    match stage_after(rt, alloc, &past.bytes, room, lines, bank, gate) {
         Ok(played) => end(alloc, played, out, rec),
         Err(_) => unplayed(alloc, NO_MEMORY, Vec::new(alloc)),
     }
@@ -98,8 +98,8 @@ fn refuse_short<O: Sink>(
 }
 
 /// Plays the lanes of the lines beside each other on the server that goes on from the past. The k-th method that the
-/// past adds has the k-th box, and the k-th add of the lines the k-th behind these. An `Err` is want of memory.
-fn stage_behind<M: Method + Send, W: Threads + Wait + Sync, G: Gate + Sync>(
+/// past adds has the k-th box, and the k-th add of the lines the k-th after these. An `Err` is want of memory.
+fn stage_after<M: Method + Send, W: Threads + Wait + Sync, G: Gate + Sync>(
     rt: &W,
     alloc: Global,
     past: &[u8],

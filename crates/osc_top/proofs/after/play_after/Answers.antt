@@ -1,8 +1,8 @@
 use Rattle.std.proofs.Common.{◌≡◌, ◌<◌, ◌^◌, Some, None, length, sym, subst, arith, rules}
 use Rattle.osc_live.specs.Resuming.{roomier}
-use Rattle.osc_top.specs.Behind.{CanGoOn}
+use Rattle.osc_top.specs.After.{CanGoOn}
 use Rattle.osc_top.proofs.ResumeEnds.{can_go_on, few_told, reaches_all, reaches_so, resumed_back, resumed_end, resumed_few}
-use Rattle.osc_top.proofs.behind.play_behind.Goals as goal
+use Rattle.osc_top.proofs.after.play_after.Goals as goal
 
 pub refuse_short-requires : goal.refuse_short-requires
 refuse_short-requires g c =
@@ -23,8 +23,8 @@ returns-in-Some-clause-ends g c = λ script is.
     (reaches_so c.refuse_short.result (Some c.in-Some.status) c.args.taken.past.checked c.deref.result.now c.args.taken.lines.items c.len.result
     (length c.args.bank.items) _ c.in-Some.is c.deref.ensures.value boxes c.refuse_short.ensures.reaches)
 
-pub stage_behind-requires-clause-enough : goal.stage_behind-requires-clause-enough
-stage_behind-requires-clause-enough g c _ _ =
+pub stage_after-requires-clause-enough : goal.stage_after-requires-clause-enough
+stage_after-requires-clause-enough g c _ _ =
     let past = c.requires.past in
     let boxes : c.len.result ≡ length c.args.bank.items = search rules in
     let none : c.refuse_short.result ≡ None = search rules in (

@@ -1,4 +1,4 @@
--- Inside the crate: whether boxes and callers reach for lines behind a past.
+-- Inside the crate: whether boxes and callers reach for lines after a past.
 use Rattle.std.specs.Prelude.{◌≡◌, ◌⊎◌, ℕ, ◌+◌, ◌≤◌, ◌<◌, IsTrue, List, [], map, Option, Some, None}
 use Rattle.osc_model.specs.Limits.{Limits}
 use Rattle.osc_model.specs.Events.{Entry}
@@ -34,7 +34,7 @@ Reaches (Some status) checked lines have out =
     (callers_full_text (callers_told checked lines) checked.caps.callers) out)
 
 -- the bytes are the recording of this history, and there are boxes and callers enough for lines
--- behind it
+-- after it
 pub record CanGoOn (bytes : List ℕ) (lines : List Line) (have : ℕ) (caps : Limits)
     (before : List Entry) : Type 0 where
   pub recording_of : IsRecordingOf bytes caps before

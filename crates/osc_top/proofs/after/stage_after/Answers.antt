@@ -10,7 +10,7 @@ use Rattle.osc_top.specs.Resumed.{PlaysResumed}
 use Rattle.osc_top.specs.Staged.{IsStaged}
 use Rattle.osc_top.proofs.Continued.{parts_counted, resumed_boxes, resumed_callers, resumed_legal, resumed_staged}
 use Rattle.osc_top.proofs.Dealt.{parts_whole}
-use Rattle.osc_top.proofs.behind.stage_behind.Goals as goal
+use Rattle.osc_top.proofs.after.stage_after.Goals as goal
 
 pub resume_lanes-requires-clause-legal : goal.resume_lanes-requires-clause-legal
 resume_lanes-requires-clause-legal g c _ _ =

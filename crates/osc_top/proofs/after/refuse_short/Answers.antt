@@ -1,9 +1,9 @@
 use Rattle.std.proofs.Common.{◌≡◌, ◌+◌, ◌<◌, ◌≤◌, ap, arith, rules}
 use Rattle.osc_script.specs.Adds.{count_adds}
-use Rattle.osc_top.specs.Behind.{boxes_told, callers_told}
+use Rattle.osc_top.specs.After.{boxes_told, callers_told}
 use Rattle.osc_top.specs.Lanes.{lane_count}
 use Rattle.osc_top.proofs.ResumeEnds.{too_few, too_many}
-use Rattle.osc_top.proofs.behind.refuse_short.Goals as goal
+use Rattle.osc_top.proofs.after.refuse_short.Goals as goal
 
 pub overflow_add-need : goal.overflow_add-need
 overflow_add-need g c =

@@ -9,9 +9,9 @@ use Rattle.osc_turn.specs.Rule.{number_of}
 use Rattle.osc_turn.proofs.Histories.{starts_own, own_append, own_of_mine}
 use Rattle.osc_life.proofs.Staging.{IsOfToken}
 
-all_behind : {X : Type 0} (P : X → Type 0) (xs ys : List X) → AllByRecursion P (xs ++ ys) → AllByRecursion P ys
-all_behind P [] ys all = all
-all_behind P (x ∷ xs) ys all = all_behind P xs ys all.1
+all_after : {X : Type 0} (P : X → Type 0) (xs ys : List X) → AllByRecursion P (xs ++ ys) → AllByRecursion P ys
+all_after P [] ys all = all
+all_after P (x ∷ xs) ys all = all_after P xs ys all.1
 
 -- the token has no more own entries in a history than in what was seen in the end
 abbrev pub IsWithin : List Seen → List Seen → ℕ × View → Type 0
@@ -29,10 +29,10 @@ pub within_none : (history there : List Seen) (one : ℕ × View) → own (numbe
 within_none history there one none = omega (arith, ap length none)
 
 module _ (knows : List (ℕ × View)) (there : List Seen) where
-  -- an entry behind what was seen in the end isn't a caller's
-  none_behind : (history : List Seen) (one : Seen) (more : List Seen) → history ≡ there ++ one ∷ more → AllByRecursion (IsWithin history there) knows
+  -- an entry after what was seen in the end isn't a caller's
+  none_after : (history : List Seen) (one : Seen) (more : List Seen) → history ≡ there ++ one ∷ more → AllByRecursion (IsWithin history there) knows
       → IsOfToken knows one → ⊥
-  none_behind history one more is within (caller, among, same) =
+  none_after history one more is within (caller, among, same) =
       let number = number_of caller.1 in
       let at = All-contains (IsWithin history there) knows caller (All-from_recursion (IsWithin history there) knows within) among in
       let all : own number history ≡ own number there ++ own number (one ∷ more) = ap (own number) is ∙ own_append number there (one ∷ more) in
@@ -40,11 +40,11 @@ module _ (knows : List (ℕ × View)) (there : List Seen) where
       own_append number (one ∷ []) more ∙ ap (λ (l : List Seen). l ++ own number more) (own_of_mine number one (sym same)) in
       omega (arith, at, ap length all, length-append (own number there) (own number (one ∷ more)), ap length mine)
 
-  pub nothing_behind : (history : List Seen) → StartsWith history there → AllByRecursion (IsWithin history there) knows
+  pub nothing_after : (history : List Seen) → StartsWith history there → AllByRecursion (IsWithin history there) knows
       → AllByRecursion (IsOfToken knows) history → history ≡ there
-  nothing_behind history (more, is) within of = go more is where
+  nothing_after history (more, is) within of = go more is where
     go : (rest : List Seen) → history ≡ there ++ rest → history ≡ there
     go [] same = same ∙ append-nil there
     go (one ∷ rest) same =
-        absurd (none_behind history one rest same within
-        (all_behind (IsOfToken knows) there (one ∷ rest) (subst (AllByRecursion (IsOfToken knows)) same of)).0)
+        absurd (none_after history one rest same within
+        (all_after (IsOfToken knows) there (one ∷ rest) (subst (AllByRecursion (IsOfToken knows)) same of)).0)

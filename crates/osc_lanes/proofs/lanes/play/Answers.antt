@@ -4,13 +4,12 @@ use Rattle.osc_live.specs.Seen.{IsTokenOf}
 use Rattle.osc_lanes.specs.declared.plan.LanePlan.{LanePlan}
 use Rattle.osc_lanes.specs.declared.plan.LaneEnd.{LaneEnd}
 use Rattle.osc_life.specs.Holders.{seen_by, holder_of}
-use Rattle.osc_lanes.specs.Ends.{IsEndOf}
-use Rattle.osc_lanes.specs.Performs.{told_of}
+use Rattle.osc_lanes.specs.Ends.{told_in, IsEndOf}
 use Rattle.osc_lanes.specs.Shares.{IsRemovedAt}
 use Rattle.osc_lanes.proofs.Staying.{removed_then}
 use Rattle.osc_life.proofs.Zipping.{zipped_jobs, all_of_zip, weaker_zip}
-use Rattle.osc_lanes.proofs.lanes.play_lanes.Goals as goal
-use Rattle.osc_lanes.proofs.lanes.play_lanes.Goals.{In_ok-all}
+use Rattle.osc_lanes.proofs.lanes.play.Goals as goal
+use Rattle.osc_lanes.proofs.lanes.play.Goals.{In_ok-all}
 
 -- each end is one of its plan, and its token is one of the server's
 each_end : (g : _) (c : In_ok-all g)
@@ -38,8 +37,7 @@ returns-clause-removed g c =
     let keep = g.M.Method.keep in
     let heard = g.M.Method.heard in
     let caps = c.args.live.now.caps in
-    all_of_zip _ (λ end. AllByRecursion (IsRemovedAt keep heard caps (seen_by end.caller)) end.told.removed.items)
-    (λ plan end p. removed_then keep heard (holder_of caps plan.caller) c.a_method_is_called_while_it_is_registered.ensures.removed plan.part.lines.items
-    plan.part.boxes.items
-    (told_of end.told) (seen_by plan.caller) (seen_by end.caller) p.1.plays) _ _
+    all_of_zip _ (λ end. AllByRecursion (IsRemovedAt keep heard caps (seen_by end.caller)) end.removed.items)
+    (λ plan end p. removed_then keep heard (holder_of caps plan.caller) c.a_method_is_called_while_it_is_registered.ensures.removed plan.lines.items plan.boxes.items
+    (told_in end) (seen_by plan.caller) (seen_by end.caller) p.1.plays) _ _
     (each_end g (goal.at.returns-clause-removed g c).In_ok-all)

@@ -17,8 +17,8 @@ use Rattle.osc_links.specs.Serves.{link_at, TellsLinks}
 use Rattle.osc_links.specs.Works.{link_plays}
 use Rattle.osc_links.proofs.Hosting.{works_ready, works_many}
 use Rattle.osc_links.proofs.Tickings.{none_ticked}
-use Rattle.osc_links.proofs.links.serve_links.Goals as goal
-use Rattle.osc_links.proofs.links.serve_links.Goals.{In-Some, In_ok-both}
+use Rattle.osc_links.proofs.links.serve.Goals as goal
+use Rattle.osc_links.proofs.links.serve.Goals.{In-Some, In_ok-both}
 
 -- the callers of the links, and the ticker's
 parted : (g : _) (c : In-Some g) → c.args.callers.items ≡ c.pop.new.self.items ++ c.in-Some.ticker ∷ []
@@ -40,7 +40,7 @@ make_jobs-requires g c =
       ap length (parted g at.In-Some),
       length-append c.pop.new.self.items (c.in-Some.ticker ∷ []),
       c.requires.many,
-      works_many c.args.links.bounds c.args.links.from.items c.in_ok-works.works.items c.in_ok-works.ensures,
+      works_many c.args.bounds c.args.links.items c.in_ok-works.works.items c.in_ok-works.ensures,
     )
 
 pub play_beside-requires-clause-jobs : goal.play_beside-requires-clause-jobs
@@ -49,7 +49,7 @@ play_beside-requires-clause-jobs g c κs within =
     all_playable c.args.live.now (λ (work : LinkWork g.row.L.Denot). (0 < work.bounds.count) × (0 < work.bounds.idle)) c.in_ok-jobs.jobs.items
     c.pop.new.self.items c.in_ok-works.works.items c.in_ok-jobs.ensures.callers c.in_ok-jobs.ensures.works
     (All-from_recursion Ours c.pop.new.self.items (both_ours g (goal.at.play_beside-requires-clause-jobs g c).In-Some).0)
-    (works_ready c.args.links.bounds c.requires.count c.requires.idle c.args.links.from.items c.in_ok-works.works.items c.in_ok-works.ensures)
+    (works_ready c.args.bounds c.requires.count c.requires.idle c.args.links.items c.in_ok-works.works.items c.in_ok-works.ensures)
 
 pub play_beside-requires-clause-goes : goal.play_beside-requires-clause-goes
 play_beside-requires-clause-goes g c κs within =
@@ -72,7 +72,7 @@ gather-requires g c =
           both.done,
       ap length c.in_ok-jobs.ensures.works,
       length-map c.in_ok-jobs.jobs.items work_of,
-      works_many c.args.links.bounds c.args.links.from.items c.in_ok-works.works.items c.in_ok-works.ensures,
+      works_many c.args.bounds c.args.links.items c.in_ok-works.works.items c.in_ok-works.ensures,
       c.requires.few,
     )
 
@@ -106,6 +106,7 @@ returns-clause-serves g c =
       links_are = ap (map link_at) c.in_ok-jobs.ensures.works ∙ c.in_ok-works.ensures;
       served = both.done;
       ticker_holder = over.holder;
+      ticker_made = over.made;
       ticks = over.ended c.args.clock.now (view ticker.pass)
           (none_ticked keep heard _ (g.C.Clock.left c.args.clock.now) (g.C.Clock.faults c.args.clock.now) (view ticker.pass).seen);
       tells = subst (λ (l : List (LinkEnd g.row.L.Denot)). TellsLinks l out.end c.in_ok-told.told) both.ends_are c.in_ok-told.ensures;
