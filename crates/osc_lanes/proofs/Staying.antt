@@ -69,7 +69,7 @@ heard_still silent caps before later one told legal is heard =
     heard ∙ ap (λ (bytes : List ℕ). option_map (λ _. last_of told.keep bytes) told.heard) (sym same)
 
 -- a mark that was carried is carried on
-mark_still : (later there : List Seen) (id mark : ℕ) → StartsWith later there → CarriesMark (texts there) id mark → CarriesMark (texts later) id mark
+pub mark_still : (later there : List Seen) (id mark : ℕ) → StartsWith later there → CarriesMark (texts there) id mark → CarriesMark (texts later) id mark
 mark_still later there id mark starts (one, is, read, written) =
     let more = starts_texts later there starts in
     let history = history_starts (texts later) (texts there) more in (

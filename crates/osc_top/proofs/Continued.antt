@@ -92,7 +92,7 @@ all_after P (x ∷ xs) ys all = all_after P xs ys all.1
 
 -- Nothing calls the id of a method after a past that removed it.
 
-removed_so : (answer : Answer) (id : ℕ) → removed_id answer ≡ Some id → answer ≡ removed id
+pub removed_so : (answer : Answer) (id : ℕ) → removed_id answer ≡ Some id → answer ≡ removed id
 removed_so (removed other) id is = let same : other ≡ id = cc in ap removed same
 removed_so _ id is = absurd (cc)
 

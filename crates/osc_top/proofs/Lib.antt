@@ -7,3 +7,4 @@ mod ResumeEnds
 mod Edges
 mod Inputs
 mod OldMarks
+mod LineMarks

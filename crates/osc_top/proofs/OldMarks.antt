@@ -210,7 +210,7 @@ split_at (y ∷ xs) x (suc k, within, is) =
     let there = split_at xs x (k, omega (arith, within), is) in
     (y ∷ there.0, there.1, ap (λ (l : List Entry). y ∷ l) there.2)
 
-read_again : TextLaws → (caps : Limits) (texts : List (List ℕ)) → Legal caps (history_in texts) → AreReadAgain texts
+pub read_again : TextLaws → (caps : Limits) (texts : List (List ℕ)) → Legal caps (history_in texts) → AreReadAgain texts
 read_again laws caps texts legal entry mark held =
     let there = split_at (history_in texts) entry held in
     let whole : history_in texts ≡ (there.0 ++ entry ∷ []) ++ there.1 = there.2 ∙ sym (append_assoc there.0 (entry ∷ []) there.1) in

@@ -17,8 +17,14 @@ ghost use Rattle.std.specs.Prelude.{
 };
 ghost use Rattle.std.specs.List.{AllByRecursion};
 ghost use Rattle.osc_model.specs.Limits.{Limits};
-ghost use Rattle.osc_model.specs.Events.{Entry};
+ghost use Rattle.osc_model.specs.Events.{Entry, added};
+ghost use Rattle.osc_core.specs.Standing.{mark_of};
+ghost use Rattle.osc_turn.specs.declared.view.Entry.{Entry as Seen};
+ghost use Rattle.osc_turn.specs.History.{StartsWith};
 ghost use Rattle.osc_live.specs.Resuming.{HasMarkOf, added_in};
+ghost use Rattle.osc_life.specs.Holders.{Holder};
+ghost use Rattle.osc_lanes.specs.Shares.{Account, PlaysAct, known_of};
+ghost use Rattle.osc_script.specs.declared.act.Act.TheVariants.{Add};
 ghost use Rattle.osc_script.specs.declared.line.Line.{Line};
 ghost use Rattle.osc_script.specs.declared.mode.Mode.TheVariants.{Lanes};
 ghost use Rattle.osc_script.specs.Scripts.{script_of};
@@ -67,6 +73,35 @@ pub fn methods_of_a_past_have_the_first_boxes<M: Method>()
         → added_in before ≤ length bank
         → AllByRecursion (λ one. one.0 < added_in before → HasMarkOf M.keep M.heard bank one)
         boxes_heard }
+{
+    osc_model::laws::a_server_stays_sound();
+    osc_model::laws::a_legal_history_is_recordable();
+    osc_record::laws::a_written_entry_is_read_again();
+}
+
+/// Where a line adds a method, the box that is kept under its id has the mark of the line's box: on a new server, and
+/// on one that goes on from a past, of the ids that the past didn't give.
+pub fn methods_of_lines_have_their_boxes<M: Method>()
+    ensures new { (caps : Limits) (watched : Bool) (lines : List Line) (bank : List M)
+        (boxes_heard : List (ℕ × M)) (boxes_left : List M) (recording text : List ℕ)
+        (outcome : Outcome) (holder : Holder) (number : ℕ) (address : List ℕ)
+        (boxes left : List M) (account : Account M) (here there : List Seen) (id : ℕ)
+        → (plays : PlaysLanes M.keep M.heard caps watched bank boxes_heard boxes_left lines
+        recording text outcome)
+        → (act : PlaysAct M.keep M.heard holder number (Add address) boxes left account here there)
+        → act.1 ≡ added id → StartsWith plays.performs.history there
+        → AllByRecursion (λ one. one.0 ≡ id → mark_of (known_of M.keep M.heard id one.1)
+        ≡ mark_of (known_of M.keep M.heard id act.0)) boxes_heard }
+    ensures later { (caps : Limits) (before : List Entry) (lines : List Line) (bank : List M)
+        (boxes_heard : List (ℕ × M)) (boxes_left : List M) (recording text : List ℕ)
+        (outcome : Outcome) (holder : Holder) (number : ℕ) (address : List ℕ)
+        (boxes left : List M) (account : Account M) (here there : List Seen) (id : ℕ)
+        → (plays : PlaysResumed M.keep M.heard caps before bank boxes_heard boxes_left lines
+        recording text outcome)
+        → (act : PlaysAct M.keep M.heard holder number (Add address) boxes left account here there)
+        → act.1 ≡ added id → StartsWith plays.performs.history there → added_in before ≤ id
+        → AllByRecursion (λ one. one.0 ≡ id → mark_of (known_of M.keep M.heard id one.1)
+        ≡ mark_of (known_of M.keep M.heard id act.0)) boxes_heard }
 {
     osc_model::laws::a_server_stays_sound();
     osc_model::laws::a_legal_history_is_recordable();
