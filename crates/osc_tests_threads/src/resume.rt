@@ -149,7 +149,7 @@ type Given = (&'static str, Past, &'static str, usize, Failing);
 
 /// What is given, the status, what is printed, how many bytes are recorded, and how many boxes have an id and how many
 /// are left.
-const ENDS: [(Given, u8, [&str; 2], usize, (usize, usize)); 26] = [
+const ENDS: [(Given, u8, [&str; 2], usize, (usize, usize)); 27] = [
     (
         ("resume o f", Past::Waiting, GOING_ON, 8, Failing::None),
         0,
