@@ -1,5 +1,5 @@
 -- What a token knows that only looks.
-use Rattle.std.proofs.Common.{◌≡◌, ℕ, refl, sym, ap, subst, ◌∙◌}
+use Rattle.std.proofs.Common.{◌≡◌, ℕ, refl, sym, ap, subst, ◌∙◌, arith}
 use Rattle.osc_turn.specs.declared.view.View.{View}
 use Rattle.osc_turn.specs.History.{StartsWith, own}
 use Rattle.osc_turn.specs.Rule.{number_of}
@@ -10,8 +10,10 @@ use Rattle.osc_live.specs.Calls.{TakesTurn}
 use Rattle.osc_live.specs.Seen.{history_of}
 use Rattle.osc_model.specs.Limits.{Limits}
 use Rattle.osc_watch.specs.declared.board.Board.{Board}
-use Rattle.osc_watch.specs.Refreshing.{HasReadPart}
+use Rattle.osc_watch.specs.Refreshing.{HasReadPart, GoesOn}
+use Rattle.osc_watch.specs.Watching.{noted}
 use Rattle.osc_watch.specs.Tokens.{OnlyLooks}
+use Rattle.osc_watch.proofs.Begun.{self, onward}
 use Rattle.osc_watch.proofs.ServerReads.{goes_on}
 
 -- at first
@@ -54,4 +56,13 @@ pub read_on : (caps : Limits) (board : Board) (v w : View) → StartsWith w.seen
 read_on caps board v w starts (read, has, begins) =
     (read, has, starts_on (history_of w) (history_of v) read (goes_on v w starts) begins)
 
-pub ruleset looking = (looks_on)
+-- a board goes on from where it was, at first
+pub stands_here : (board : Board) → GoesOn board board
+stands_here board = (self (noted board), omega arith)
+
+-- and again
+pub stands_on : (board between after : Board) → GoesOn board between → GoesOn between after → GoesOn board after
+stands_on board between after first next =
+    (onward (noted board) (noted between) (noted after) next.0 first.0, omega (arith, first.1, next.1))
+
+pub ruleset looking = (looks_on, stands_here, stands_on)

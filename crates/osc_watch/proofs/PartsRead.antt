@@ -82,16 +82,18 @@ text_on caps h more =
     ap (λ (l : List ℕ). header_text caps ++ l) (flat_map-append one_text h more) ∙ sym (append_assoc (header_text caps) (text_of h) (text_of more))
 
 -- what the board has read then
-pub record Read (caps : Limits) (h seen : List Entry) (to room count : ℕ) (then : List Edit) (stop : Stop) : Type 0 where
+pub record Read (caps : Limits) (h seen : List Entry) (at to room count : ℕ) (noted then : List Edit) (stop : Stop) : Type 0 where
   pub read : List Entry
   pub edits : then ≡ edits_of read
   pub place : to ≡ length (record_text caps read)
   pub begins : StartsWith seen read
+  pub kept : StartsWith then noted
+  pub onward : at ≤ to
   pub whole : stop ≡ AtEnd → count < room → read ≡ seen
 
 pub part_read : Sized → (caps : Limits) (h seen : List Entry) (at to : ℕ) (noted then : List Edit) (old chunk : List ℕ) (count : ℕ) (stop : Stop)
     → noted ≡ edits_of h → at ≡ length (record_text caps h) → StartsWith seen h → IsRecord caps seen → length (record_text caps seen) ≤ max_recording
-    → Writes (record_text caps seen) at old chunk count → PartNotes (take count chunk) at to noted then stop → Read caps h seen to (length old) count then stop
+    → Writes (record_text caps seen) at old chunk count → PartNotes (take count chunk) at to noted then stop → Read caps h seen at to (length old) count noted then stop
 part_read sized caps h seen at to noted then old chunk count stop are stands (more, is) recorded small writes notes =
     let text : record_text caps seen ≡ record_text caps h ++ text_of more = ap (record_text caps) is ∙ text_on caps h more in
     let rest : drop at (record_text caps seen) ≡ text_of more =
@@ -112,6 +114,8 @@ part_read sized caps h seen at to noted then old chunk count stop are stands (mo
       edits = n.noted_are ∙ (ap (λ (l : List Edit). l ++ edits_of n.read) are ∙ sym (filter_map-append edit_in h n.read));
       place = omega (arith, n.moved, stands, ap length (text_on caps h n.read), length-append (record_text caps h) (text_of n.read));
       begins = (n.left, split);
+      kept = (edits_of n.read, n.noted_are);
+      onward = omega (arith, n.moved);
       whole = λ ends short.
           let count_is : count ≡ length (take (length old) (text_of more)) = writes.counted ∙ ap length here in
           let tail : drop (length old) (text_of more) ≡ [] = nothing (length old) (text_of more) (omega (
@@ -134,6 +138,17 @@ part_read sized caps h seen at to noted then old chunk count stop are stands (mo
       go : (d : List ℕ) → length d ≡ length l - k → d ≡ []
       go [] is = refl
       go (x ∷ d) is = absurd (omega (arith, is, le))
+
+-- what was written over is as long as it was
+pub same_length : (text : List ℕ) (from : ℕ) (old new : List ℕ) (count : ℕ) → Writes text from old new count → length new ≡ length old
+same_length text from old new count writes =
+    omega (
+      arith,
+      ap length writes.bytes,
+      length-append (part text from old) (drop (length (part text from old)) old),
+      length-take (length old) (drop from text),
+      length-drop (length (part text from old)) old,
+    )
 
 pub small : (caps : Limits) (seen : List Entry) → IsRecord caps seen → length (record_text caps seen) ≤ max_recording
 small caps seen recorded = omega (arith, recorded.fits, recorded.lawful.recording.below)

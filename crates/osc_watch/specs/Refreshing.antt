@@ -1,5 +1,5 @@
 -- What a board has read.
-use Rattle.std.specs.Prelude.{◌≡◌, ℕ, ◌+◌, List, ◌++◌, length}
+use Rattle.std.specs.Prelude.{◌≡◌, ℕ, ◌+◌, ◌≤◌, List, ◌++◌, length}
 use Rattle.osc_turn.specs.History.{StartsWith}
 use Rattle.osc_model.specs.Limits.{Limits}
 use Rattle.osc_model.specs.Events.{Entry}
@@ -23,6 +23,10 @@ pub record HasRead (caps : Limits) (board : Board) (history : List Entry) : Type
 abbrev pub HasReadPart : Limits → Board → List Entry → Type 0
 HasReadPart caps board history =
     (read : List Entry) × HasRead caps board read × StartsWith history read
+
+-- what it had read is kept, and it stands where it stood or further on
+abbrev pub GoesOn : Board → Board → Type 0
+GoesOn board after = StartsWith (noted after) (noted board) × (board.at ≤ after.at)
 
 -- all that was there is read
 abbrev pub IsWhole : Part → Type 0

@@ -6,7 +6,7 @@ ghost use Rattle.osc_model.specs.Limits.{header_size, max_recording};
 ghost use Rattle.osc_watch.specs.Edits.{edits_of};
 ghost use Rattle.osc_watch.specs.Notes.{IsPlaceIn, place_in};
 ghost use Rattle.osc_watch.specs.Watching.{noted, published, IsOneBoard};
-ghost use Rattle.osc_watch.specs.Refreshing.{HasRead, HasReadPart, PartNotes, IsWhole};
+ghost use Rattle.osc_watch.specs.Refreshing.{HasRead, HasReadPart, PartNotes, IsWhole, GoesOn};
 ghost use Rattle.osc_watch.specs.Tokens.{OnlyLooks};
 
 use crate::board::Board;
@@ -40,7 +40,7 @@ pub enum Part {
 
 impl Board {
     /// Reads what is new in the server's recording, and publishes its edits at once. The `Err` means that there was no
-    /// memory: what was read is kept, and the next refresh goes on behind it.
+    /// memory: what was read is kept, and the next refresh goes on after it.
     pub fn refresh<S: Recorded, W: Wait>(
         &mut self,
         rt: &W,
@@ -61,6 +61,8 @@ impl Board {
             × (fresh.edits ≡ length (published self.new)))
             (λ _. published self.new ≡ published self.old) }
         ensures taken { OnOk result.1 (S.taken token < S.taken result.0) }
+        ensures kept { StartsWith (noted self.new) (noted self.old) }
+        ensures onward { self.old.at ≤ self.new.at }
     {
         let (token, read) = read_all(self, rt, server, token);
         if let Err(none) = read {
@@ -99,6 +101,7 @@ fn read_all<S: Recorded, W: Wait>(
     ensures goes_on { StartsWith (S.seen result.0) (S.seen token) }
     ensures number { S.number result.0 ≡ S.number token }
     ensures looks { OnlyLooks (S.knows token) (S.knows result.0) }
+    ensures onward { GoesOn board.old board.new }
     ensures read { HasReadPart (S.caps server.now) board.new (S.seen result.0) }
     ensures whole { OnOk result.1 (HasRead (S.caps server.now) board.new (S.seen result.0)) }
     ensures taken { OnOk result.1 (S.taken token < S.taken result.0) }
@@ -144,6 +147,7 @@ fn read_part<S: Recorded, W: Wait>(
     ensures number { S.number result.0 ≡ S.number token }
     ensures looks { OnlyLooks (S.knows token) (S.knows result.0) }
     ensures taken { S.taken token ≤ S.taken result.0 }
+    ensures onward { GoesOn board.old board.new }
     ensures read { HasReadPart (S.caps server.now) board.new (S.seen result.0) }
     ensures whole { IsWhole result.1 → HasRead (S.caps server.now) board.new (S.seen result.0) }
 {
@@ -172,6 +176,7 @@ fn read_over<S: Recorded, W: Wait>(
     ensures number { S.number result.0 ≡ S.number token }
     ensures looks { OnlyLooks (S.knows token) (S.knows result.0) }
     ensures taken { S.taken token ≤ S.taken result.0 }
+    ensures onward { GoesOn board.old board.new }
     ensures read { HasReadPart (S.caps server.now) board.new (S.seen result.0) }
     ensures whole { IsWhole result.1 → HasRead (S.caps server.now) board.new (S.seen result.0) }
 {

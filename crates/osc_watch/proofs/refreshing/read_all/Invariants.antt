@@ -2,7 +2,7 @@ use Rattle.std.proofs.Common.{◌≡◌, ◌<◌, length}
 use Rattle.osc_turn.specs.History.{StartsWith}
 use Rattle.osc_model.specs.Limits.{header_size}
 use Rattle.osc_watch.specs.Watching.{published, IsOneBoard}
-use Rattle.osc_watch.specs.Refreshing.{HasReadPart}
+use Rattle.osc_watch.specs.Refreshing.{HasReadPart, GoesOn}
 use Rattle.osc_watch.specs.Tokens.{OnlyLooks}
 use Rattle.osc_watch.proofs.refreshing.read_all.Given as goal
 
@@ -13,6 +13,7 @@ invariant-loop g l = record {
   board : IsOneBoard l.initial.board l.board;
   published : published l.board ≡ published l.initial.board;
   goes_on : StartsWith (g.S.Recorded.seen l.token) (g.S.Recorded.seen l.fn.token);
+  onward : GoesOn l.initial.board l.board;
   read : HasReadPart (g.S.Recorded.caps l.fn.server) l.board (g.S.Recorded.seen l.token);
   taken : g.S.Recorded.taken l.fn.token < g.S.Recorded.taken l.token;
   number : g.S.Recorded.number l.token ≡ g.S.Recorded.number l.fn.token;

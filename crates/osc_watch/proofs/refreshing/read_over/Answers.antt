@@ -18,6 +18,19 @@ returns-clause-read g c =
     token.writes c.note_part-stop.ensures.part in
     (p.read, record { edits = p.edits; place = p.place }, p.begins)
 
+pub returns-clause-onward : goal.returns-clause-onward
+returns-clause-onward g c =
+    let h = c.requires.read in
+    let token = c.read-token.ensures in
+    let seen = g.S.Recorded.seen c.read-token.result.0 in
+    let caps = g.S.Recorded.caps c.args.server.now in
+    let new = c.note_part-stop.new.board in
+    let p = part_read c.sizes.ensures.entry caps h.0 seen c.args.board.now.at new.at
+    (noted c.args.board.now) (noted new) c.args.chunk.now c.read-token.new.into c.read-token.result.1 c.note_part-stop.result
+    h.1.edits h.1.place (onward h.0 (g.S.Recorded.seen c.args.token) seen token.goes_on h.2) token.recorded (small caps seen token.recorded)
+    token.writes c.note_part-stop.ensures.part in
+    (p.kept, p.onward)
+
 pub returns-clause-whole : goal.returns-clause-whole
 returns-clause-whole g c whole =
     let h = c.requires.read in
