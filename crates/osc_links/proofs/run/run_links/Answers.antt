@@ -118,7 +118,7 @@ returns-in_ok-lived-in-Some-clause-hosts g c =
     let links = c.args.links.from.items in
     let clock = clock_read g.C.Clock.left g.C.Clock.faults c.args.clock.now c.args.clock.now in
     let hosted : Hosted g.row.M.Denot g.row.L.Denot =
-    record { closed = lived.closed; opening = c.in_ok-life.opening; unenrolled = None; links = c.unserved.result; growth = Written 0 } in
+    record { closed = lived.closed; opening = c.in_ok-life.opening; unenrolled = None; links = c.unserved-links.result; growth = Written 0 } in
     let new = new_life live.caps (past_of live.turn) v lives.callers lives.history (no_past g at) (made_one g at) lives.stage in
     let none =
     no_callers (link_plays keep heard left faults) live.caps v.made lives.callers lives.history lives.tokens lived.works
@@ -134,12 +134,12 @@ returns-in_ok-lived-in-Some-clause-hosts g c =
       refl,
       alone,
       record {
-        links_are = (λ i. (c.unserved.ensures.links i).items);
+        links_are = (λ i. (c.unserved-links.ensures.links i).items);
         clock_is = (refl, refl);
-        faults_are = c.unserved.ensures.faults;
-        failed_is = c.unserved.ensures.failed;
-        clock_failed_is = c.unserved.ensures.clock;
-        stop_is = c.unserved.ensures.stop;
+        faults_are = c.unserved-links.ensures.faults;
+        failed_is = c.unserved-links.ensures.failed;
+        clock_failed_is = c.unserved-links.ensures.clock;
+        stop_is = c.unserved-links.ensures.stop;
       },
     ))))
 
@@ -242,14 +242,14 @@ returns-in_ok-links-in-NoRoom-clause-hosts g c =
     let before = c.args.clock.now in
     let after = c.live_under.new.on in
     let clock = clock_read clock_left clock_faults before after in
-    let told = c.unserved-in-NoRoom.result in
+    let told = c.unserved-links-in-NoRoom.result in
     let hosted : Hosted g.row.M.Denot g.row.L.Denot =
     record { closed = lived.closed; opening = c.in_ok-life.opening; unenrolled = Some room; links = told; growth = c.growth_of-growth.result } in
     let new = new_life live.caps (past_of live.turn) v lives.callers history (no_past g at.In_ok-life) (made_one g at.In_ok-life) lives.stage in
     let none =
     not_there (HasPlayedUnder (link_plays keep heard left faults) (clock_ends keep heard clock_left clock_faults) live.caps v.made lives.callers history works
     before after (NoRoom room c.in-NoRoom.works)) lived.end (λ one holds. holds) (rw c.in-NoRoom.is at lives.played_so) in
-    let still = c.unserved-in-NoRoom.ensures in
+    let still = c.unserved-links-in-NoRoom.ensures in
     subst (λ (h : Hosted g.row.M.Denot g.row.L.Denot). Hosts left faults keep heard c.args.caps bounds part links clock h) (sym c.put_together-in-NoRoom.ensures)
     (subst (λ (caps : Limits). Hosts left faults keep heard caps bounds part links clock hosted) (same_caps g at.In_ok-life)
     (hosts_alone left faults keep heard live.caps bounds part links clock hosted c.a_method_is_called_while_it_is_registered.ensures.removed
