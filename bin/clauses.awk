@@ -1,6 +1,6 @@
 # Whether the clauses that a page names are there. In "`Call` .. (`name`, and so `other`)" each name is a clause of a call that
-# stands before it in its paragraph, or under "Of `Call`, ..:" of that one; where no call does, of any. Definitions, fields and
-# functions may stand there too. Reads the sources and definitions first, then the pages; see bin/quotes.
+# stands before it in its paragraph, or under "Of `Call`, ..:" of that one; where no call does, of any. Definitions and functions may
+# stand there too, and the field of a record as "`field` of `Record`". Reads the sources and definitions first, then the pages; see bin/quotes.
 
 function owner_of(line,   name) {
     name = line
@@ -35,9 +35,14 @@ specs {
         sub(/^.* /, "", word)
         defined[word] = 1
     }
+    if ($0 ~ /^ *(pub )?record /) {
+        owner = $0
+        sub(/^ *(pub )?record (pub )?/, "", owner)
+        sub(/[^A-Za-z_0-9].*$/, "", owner)
+    }
     while (match($0, /pub [a-z_0-9]+ :/)) {
         word = substr($0, RSTART + 4, RLENGTH - 6)
-        defined[word] = 1
+        if (owner != "") named[owner, word] = 1
         $0 = substr($0, RSTART + RLENGTH)
     }
     next
