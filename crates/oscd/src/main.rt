@@ -1,5 +1,5 @@
-// An Open Sound Control server that plays the lanes of a script, or serves links, beside each other, and goes on from a
-// recording.
+//! An Open Sound Control server that plays the lanes of a script, or serves links, at the same time, and goes on from a
+//! recording.
 #![tactic(auto)]
 
 ghost use Rattle.osc_links.specs.declared.limits.TheConstants.{MAX_LINKS};
@@ -9,16 +9,17 @@ ghost use Rattle.osc_top.specs.Commands.{ports_of};
 use osc_edge::{
     FileSink, FileSource, Link, StdSink, StdSource, SystemClock, TcpSource, UdpLink, command_words,
 };
+use osc_ends::status::{DONE, NO_MEMORY, RECORDING_FULL, SINK_FAILED};
 use osc_lanes::OpenGate;
 use osc_method::Method;
 use osc_stream::StreamLink;
 use osc_top::{live_top, ports, recording_name, resume_names, resume_top, traces, wants_tcp};
-use std::alloc::AllocError;
+use std::alloc::{AllocError, Global};
+use std::fs::{self, File};
+use std::io;
 use std::process::ExitCode;
 use std::sync::Wait;
 use std::thread::Threads;
-
-const NO_MEMORY: u8 = 3;
 
 fn main(rt: HostRuntime) -> ExitCode {
     match run(&rt, &rt) {
@@ -54,14 +55,49 @@ fn resume<W: Threads + Wait + Sync>(
     bank: Vec<Box<dyn Method + Send>>,
 ) -> Result<u8, AllocError> {
     let alloc = rt.alloc();
+    let is_replaced = old == file && is_regular(rt, old);
+    let made = if is_replaced {
+        next_to(alloc, file)?
+    } else {
+        String::from_str(alloc, file)?
+    };
     let mut past = FileSource::at(rt, String::from_str(alloc, old)?);
-    let mut rec = FileSink::at(rt, String::from_str(alloc, file)?);
+    let mut rec = FileSink::at(rt, String::from_str(alloc, &made)?);
     let mut input = StdSource::open(rt);
     let mut out = StdSink::open(rt);
     let ended = resume_top(
         threads, alloc, words, &mut past, &mut input, &mut out, &mut rec, bank, &OpenGate,
     );
+    if is_replaced && is_whole(ended.status) && put_in_place(rt, &made, file).is_err() {
+        return Ok(SINK_FAILED);
+    }
     Ok(ended.status)
+}
+
+/// Whether there is a file of this name that holds bytes, and is no terminal, pipe or device.
+fn is_regular(rt: &HostRuntime, name: &str) -> bool {
+    match fs::metadata(rt, name) {
+        Ok(facts) => facts.is_file(),
+        Err(_) => false,
+    }
+}
+
+/// The name of the file that is written next to this one, and takes its place when it is whole.
+fn next_to(alloc: Global, file: &str) -> Result<String, AllocError> {
+    let mut name = String::from_str(alloc, file)?;
+    name.push_str(".new")?;
+    Ok(name)
+}
+
+/// Whether the whole recording was written at this status.
+fn is_whole(status: u8) -> bool {
+    status == DONE || status == RECORDING_FULL
+}
+
+/// Puts the file under the other name, in place of what that named, once the system has stored all of it.
+fn put_in_place(rt: &HostRuntime, file: &str, name: &str) -> io::Result<()> {
+    File::open(rt, file)?.sync_all()?;
+    fs::rename(rt, file, name)
 }
 
 /// Does what the words say on a new server, with these links: the status.
