@@ -4,6 +4,8 @@
 #[cfg(test)]
 mod callers;
 #[cfg(test)]
+mod growth;
+#[cfg(test)]
 mod hold;
 #[cfg(test)]
 mod listed;

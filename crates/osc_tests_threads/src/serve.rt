@@ -80,7 +80,7 @@ fn second_link(alloc: Global, failing: &[Failing]) -> Result<MemoryLink, AllocEr
 }
 
 /// What the link answers next.
-fn answer(alloc: Global, mut link: MemoryLink) -> Result<Datagram, AllocError> {
+pub(crate) fn answer(alloc: Global, mut link: MemoryLink) -> Result<Datagram, AllocError> {
     let mut into = vec![in alloc; 0u8; MAX_DATAGRAM]?;
     Ok(link.next(&mut into))
 }

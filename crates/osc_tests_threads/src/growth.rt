@@ -1,0 +1,146 @@
+//! A recording that is written while its links are served.
+use crate::hold::{Flag, HoldSecond};
+use crate::program::{replayed, words};
+use crate::serve::{ADD, FADER, answer};
+use osc_atoms::Bytes;
+use osc_edge::{
+    Datagram, MemoryClock, MemoryLink, MemorySink, MemorySource, Put, Sink, SteadySink,
+};
+use osc_method::{Method, Trace};
+use osc_top::live_top;
+use std::alloc::Global;
+use std::sync::atomic::{AtomicU64, Ordering};
+use std::sync::{Arc, Wait};
+use std::test::*;
+use std::thread::Threads;
+
+/// A sink in memory that sets a flag once it is given the fader's packet, whether it takes it or fails.
+#[derive(Drop)]
+struct WatchedSink {
+    bytes: MemorySink,
+    given: Flag,
+}
+
+impl Sink for WatchedSink {
+    ghost use Rattle.std.specs.Prelude.{◌≡◌, None};
+    ghost use Rattle.osc_edge.specs.Sink.{IsTookWithin, AddsToEnd, HasWriteCause};
+
+    ghost held = { λ _. None };
+
+    ghost faults = { λ s. ⟦<MemorySink as Sink>⟧.faults s.bytes };
+
+    fn write(&mut self, piece: &[u8]) -> Put
+        ensures within { IsTookWithin result piece.now }
+        ensures bytes { AddsToEnd None None result piece.now }
+        ensures cause { HasWriteCause (⟦<MemorySink as Sink>⟧.faults self.old.bytes)
+            (⟦<MemorySink as Sink>⟧.faults self.new.bytes) result }
+    {
+        let put = self.bytes.write(piece);
+        if has_fader(piece) {
+            self.given.store(1, Ordering::SeqCst);
+        }
+        put
+    }
+}
+
+/// Whether the fader's packet stands somewhere in the bytes.
+fn has_fader(bytes: &[u8]) -> bool {
+    for at in 0..bytes.len() {
+        if bytes[at..].starts_with(FADER) {
+            return true;
+        }
+    }
+    false
+}
+
+/// What a run leaves whose link has the fader's packet twice.
+#[derive(Drop)]
+struct Served {
+    status: u8,
+    written: Vec<u8>,
+    recorded: Vec<u8>,
+    heard: usize,
+    next: Datagram,
+    /// Whether the second packet was played before the first was given to the recording's sink.
+    gave_up: bool,
+}
+
+/// Serves a link that has the fader's packet twice, and holds the second one back until the recording's sink was given
+/// the first. The sink fails at these calls.
+fn serve_watched<R: Threads + Wait + Sync>(
+    rt: &R,
+    alloc: Global,
+    fails: &[u32],
+) -> Result<Served, Fail> {
+    let given = Arc::new(alloc, AtomicU64::new(0))?;
+    let gate = HoldSecond::until(Arc::try_clone(&given)?);
+    let mut rec = WatchedSink {
+        bytes: MemorySink::open(alloc, Vec::from_slice(alloc, fails)?),
+        given,
+    };
+    let mut turns = Vec::new(alloc);
+    turns.push(Some(Bytes::copied(alloc, FADER)?))?;
+    turns.push(Some(Bytes::copied(alloc, FADER)?))?;
+    let mut links = Vec::with_capacity(alloc, 1)?;
+    links.push_reserved(MemoryLink::open(turns, Vec::new(alloc)));
+    let mut clock = MemoryClock::open(Vec::from_array(alloc, [5])?, Vec::new(alloc));
+    let script = Vec::from_slice(alloc, ADD.as_bytes())?;
+    let mut source = MemorySource::open(script, Vec::new(alloc));
+    let mut out = SteadySink::open(alloc);
+    let mut bank: Vec<Box<dyn Method + Send>> = Vec::new(alloc);
+    bank.push(Box::new(alloc, Trace::open(alloc, 64)?)?)?;
+    let words = words(alloc, "serve --count 2 f")?;
+    let (ended, mut links) = live_top(
+        rt,
+        alloc,
+        &words,
+        &mut source,
+        &mut out,
+        &mut rec,
+        links,
+        &mut clock,
+        bank,
+        &gate,
+    );
+    Ok(Served {
+        status: ended.status,
+        written: Vec::from_slice(alloc, out.bytes())?,
+        recorded: Vec::from_slice(alloc, rec.bytes.bytes())?,
+        heard: ended.heard.len(),
+        next: answer(alloc, links.pop().ok_or("a link")?)?,
+        gave_up: gate.gave_up(),
+    })
+}
+
+#[test]
+fn a_datagram_is_recorded_before_the_next_is_played(rt: HostRuntime) -> Result<(), Fail> {
+    let alloc = rt.alloc();
+    let served = serve_watched(&rt, alloc, &[])?;
+    assert!(rt; !served.gave_up);
+    assert_eq!(rt; (served.status, served.heard), (0, 1));
+    assert_eq!(rt; served.next, Datagram::End);
+    let (status, printed) = replayed(alloc, &served.recorded)?;
+    assert_eq!(rt; status, 0);
+    assert_eq!(rt; printed.as_slice(), served.written.as_slice());
+    Ok(())
+}
+
+#[test]
+fn a_sink_that_fails_once_gets_no_more_and_the_show_goes_on(rt: HostRuntime) -> Result<(), Fail> {
+    let alloc = rt.alloc();
+    // The first call has at least the header; the entries of the second packet come in a later one.
+    for call in [1, 2u32] {
+        let served = serve_watched(&rt, alloc, &[call])?;
+        assert!(rt; !served.gave_up, "{call}");
+        assert_eq!(rt; (served.status, served.heard), (5, 1), "{call}");
+        assert_eq!(rt; served.next, Datagram::End, "{call}");
+        assert!(rt; served.written.is_empty(), "{call}");
+        assert_eq!(rt; served.recorded.is_empty(), call == 1, "{call}");
+        if call == 2 {
+            let (status, printed) = replayed(alloc, &served.recorded)?;
+            assert_eq!(rt; status, 0);
+            assert!(rt; printed.starts_with(b"add 0 /1/fader1 id 0\n"));
+        }
+    }
+    Ok(())
+}
