@@ -102,6 +102,7 @@ function check(   rest, word) {
         }
         gsub(/[`]/, "", word)
         sub(/\(.*$/, "", word)
+        sub(/^laws::/, "", word)
         if (word in calls) said[++count_of_calls] = word
     }
 }
