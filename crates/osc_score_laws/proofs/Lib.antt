@@ -14,3 +14,4 @@ pub mod Sizes
 pub mod Faultless
 pub mod Whole
 pub mod Rewritten
+mod Printed

@@ -1,6 +1,7 @@
 //! What playing the script of a score comes to, for all scores.
 ghost use Rattle.osc_score.specs.declared.limits.TheConstants.{MAX_SCORE};
-ghost use Rattle.std.specs.Prelude.{◌≡◌, ◌≤◌, ℕ, List, length, map, Ok, IfOk};
+ghost use Rattle.std.specs.Prelude.{◌≡◌, ◌≤◌, ℕ, List, length, map, Some, Ok, IfOk};
+ghost use Rattle.osc_message.specs.Messages.{Argument, Fits};
 ghost use Rattle.osc_model.specs.Limits.{Limits};
 ghost use Rattle.osc_model.specs.State.{State};
 ghost use Rattle.osc_model.specs.Events.{Entry};
@@ -9,7 +10,9 @@ ghost use Rattle.osc_script.specs.declared.mode.Mode.TheVariants.{Plain};
 ghost use Rattle.osc_script.specs.Adds.{count_adds};
 ghost use Rattle.osc_script.specs.Scripts.{script_of};
 ghost use Rattle.osc_score.specs.Scripted.{score_script};
-ghost use Rattle.osc_score.specs.Scores.{Note, addresses_of, IsScore, score_size};
+ghost use Rattle.osc_print.specs.Words.{argument_word};
+ghost use Rattle.osc_score.specs.ArgumentWords.{argument_read};
+ghost use Rattle.osc_score.specs.Scores.{Note, addresses_of, IsOfBytes, IsScore, score_size};
 ghost use Rattle.osc_score.specs.Reading.{score_of};
 ghost use Rattle.osc_score_laws.specs.Heard.{at_clock, sound_at, sounds, score_lines, IsRoomy};
 ghost use Rattle.osc_score_laws.specs.Heard.{PlaysScore};
@@ -67,6 +70,13 @@ pub fn a_read_score_is_played()
     known();
     scores::what_is_read_is_a_score();
 }
+
+/// The words of a score are those that are printed: the word that a call line prints of an argument is read as this
+/// argument.
+pub fn printed_words_are_read_again()
+    ensures { (argument : Argument) → Fits argument → IsOfBytes argument
+        → argument_read (argument_word argument) ≡ Some argument }
+{}
 
 /// The script of a score adds as many methods as there are distinct addresses.
 pub fn a_score_adds_its_addresses()
