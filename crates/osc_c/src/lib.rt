@@ -1,0 +1,20 @@
+//! The server as a library for C, and for all that can call C (include/vestrulj.h).
+#![tactic(auto, using(crate::proofs::FirstCaller::caller_0))]
+
+mod answer;
+mod argument;
+mod called;
+mod calls;
+mod events;
+mod handle;
+mod limits;
+mod matching;
+mod message;
+mod opening;
+mod plain;
+mod recording;
+mod showing;
+mod spot;
+mod state;
+mod status;
+mod writing;
