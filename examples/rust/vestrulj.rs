@@ -1,0 +1,212 @@
+//! The server for Rust, over its library for C: every function here is safe, since the types say all that the library asks of a
+//! caller. Handles stay on the thread that opened them (a raw pointer isn't `Send`).
+#![allow(dead_code)]
+use std::ffi::c_void;
+
+#[repr(C)]
+struct Handle {
+    inside: *mut c_void,
+    is_open: bool,
+}
+
+/// docs/FORMATS.md, "Limits".
+#[repr(C)]
+pub struct Limits {
+    pub units: u32,
+    pub blocks: u32,
+    pub methods: u32,
+    pub nodes: u32,
+    pub callers: u32,
+    pub recording: u32,
+    pub discards_late: bool,
+}
+
+/// What a call answered, with the numbers of `osc_answer` in the header.
+#[repr(C)]
+#[derive(Clone, Copy, Debug, PartialEq, Eq)]
+pub struct Answer {
+    pub status: u32,
+    pub number: u32,
+    pub unit: u64,
+    pub count: u32,
+    pub late: u32,
+    pub need: u64,
+    pub free: u64,
+}
+
+#[repr(C)]
+#[derive(Clone, Copy, Debug, Default, PartialEq, Eq)]
+pub struct Call {
+    pub unit: u64,
+    pub method: u32,
+    pub index: u32,
+    pub size: u32,
+}
+
+#[repr(C)]
+#[derive(Clone, Copy, Default)]
+struct RawArgument {
+    word: u64,
+    place: u32,
+    size: u32,
+    tag: u32,
+}
+
+#[link(name = "vestrulj", kind = "static")]
+unsafe extern "C" {
+    fn osc_server_open(server: *mut Handle, limits: *const Limits) -> Answer;
+    fn osc_server_close(server: *mut Handle);
+    fn osc_server_add(server: *mut Handle, address: *const u8, size: usize) -> Answer;
+    fn osc_server_remove(server: *mut Handle, address: *const u8, size: usize) -> Answer;
+    fn osc_server_submit(server: *mut Handle, packet: *const u8, size: usize) -> Answer;
+    fn osc_server_tick(server: *mut Handle, moment: u64) -> Answer;
+    fn osc_server_release(server: *mut Handle) -> Answer;
+    fn osc_server_next_call(server: *mut Handle, call: *mut Call, buffer: *mut u8, room: usize) -> u32;
+    fn osc_server_recorded(server: *mut Handle) -> usize;
+    fn osc_server_read_recording(server: *mut Handle, from: usize, buffer: *mut u8, room: usize) -> usize;
+    fn osc_packet_check(bytes: *const u8, size: usize) -> Answer;
+    fn osc_message_read(bytes: *const u8, size: usize, arguments: *mut RawArgument, room: usize) -> Answer;
+    fn osc_pattern_matches(pattern: *const u8, size: usize, address: *const u8, room: usize) -> u32;
+}
+
+const OK: u32 = 0;
+const NOTHING_DUE: u32 = 1;
+const BAD_PACKET: u32 = 12;
+
+#[derive(Clone, Copy, Debug, PartialEq, Eq)]
+pub enum Refused {
+    /// The bytes are no packet: the kind of the first fault, and its place.
+    BadPacket { kind: u32, place: u64 },
+    /// Any other status of the header.
+    Other(Answer),
+}
+
+impl Answer {
+    fn accepted(self) -> Result<Answer, Refused> {
+        match self.status {
+            OK => Ok(self),
+            BAD_PACKET => Err(Refused::BadPacket { kind: self.number, place: self.unit }),
+            _ => Err(Refused::Other(self)),
+        }
+    }
+}
+
+/// Whether the bytes are one packet.
+pub fn check(packet: &[u8]) -> Result<(), Refused> {
+    // SAFETY: the pointer is that of as many readable bytes.
+    unsafe { osc_packet_check(packet.as_ptr(), packet.len()) }.accepted().map(|_| ())
+}
+
+/// Whether the pattern matches the address; none where one of them is no pattern or no address, or out of memory.
+pub fn matches(pattern: &str, address: &str) -> Option<bool> {
+    // SAFETY: each pointer is that of as many readable bytes.
+    match unsafe { osc_pattern_matches(pattern.as_ptr(), pattern.len(), address.as_ptr(), address.len()) } {
+        0 => Some(false),
+        1 => Some(true),
+        _ => None,
+    }
+}
+
+#[derive(Clone, Copy, Debug, PartialEq)]
+pub enum Argument<'a> {
+    Int(i32),
+    Long(i64),
+    Float(f32),
+    Double(f64),
+    Time(u64),
+    Bool(bool),
+    Text(&'a [u8]),
+    Blob(&'a [u8]),
+    /// A character, a colour or MIDI (`c`, `r`, `m`), with its 32 bits.
+    Word(char, u32),
+    /// `N`, `I` or an array's bracket.
+    Mark(char),
+}
+
+fn argument_of<'a>(raw: &RawArgument, message: &'a [u8]) -> Argument<'a> {
+    let (place, size) = (raw.place as usize, raw.size as usize);
+    match raw.tag as u8 {
+        b'i' => Argument::Int(raw.word as i32),
+        b'h' => Argument::Long(raw.word as i64),
+        b'f' => Argument::Float(f32::from_bits(raw.word as u32)),
+        b'd' => Argument::Double(f64::from_bits(raw.word)),
+        b't' => Argument::Time(raw.word),
+        tag @ (b'T' | b'F') => Argument::Bool(tag == b'T'),
+        b's' | b'S' => Argument::Text(&message[place..place + size]),
+        b'b' => Argument::Blob(&message[place..place + size]),
+        tag @ (b'c' | b'r' | b'm') => Argument::Word(char::from(tag), raw.word as u32),
+        tag => Argument::Mark(char::from(tag)),
+    }
+}
+
+/// The arguments of a message.
+pub fn arguments(message: &[u8]) -> Result<Vec<Argument<'_>>, Refused> {
+    let mut raw = vec![RawArgument::default(); message.len()];
+    // SAFETY: the pointers are those of as many readable bytes and writable arguments.
+    let answer = unsafe { osc_message_read(message.as_ptr(), message.len(), raw.as_mut_ptr(), raw.len()) }.accepted()?;
+    Ok(raw[..answer.count as usize].iter().map(|it| argument_of(it, message)).collect())
+}
+
+/// An open server.
+pub struct Server(Handle);
+
+impl Server {
+    pub fn open(limits: &Limits) -> Result<Server, Refused> {
+        let mut handle = Handle { inside: std::ptr::null_mut(), is_open: false };
+        // SAFETY: all zeros are a closed server.
+        unsafe { osc_server_open(&mut handle, limits) }.accepted()?;
+        Ok(Server(handle))
+    }
+
+    /// Adds a method, and answers its id.
+    pub fn add(&mut self, address: &str) -> Result<u32, Refused> {
+        // SAFETY: here and below the handle is what the library left there, and lent to nobody else; each pointer is that of as
+        // many bytes as are named.
+        unsafe { osc_server_add(&mut self.0, address.as_ptr(), address.len()) }.accepted().map(|it| it.number)
+    }
+
+    /// Removes a method, and answers the id that it had.
+    pub fn remove(&mut self, address: &str) -> Result<u32, Refused> {
+        unsafe { osc_server_remove(&mut self.0, address.as_ptr(), address.len()) }.accepted().map(|it| it.number)
+    }
+
+    /// Queues what the packet has, all or nothing.
+    pub fn submit(&mut self, packet: &[u8]) -> Result<Answer, Refused> {
+        unsafe { osc_server_submit(&mut self.0, packet.as_ptr(), packet.len()) }.accepted()
+    }
+
+    /// Sets the clock. A moment before it is refused.
+    pub fn tick(&mut self, moment: u64) -> Result<Answer, Refused> {
+        unsafe { osc_server_tick(&mut self.0, moment) }.accepted()
+    }
+
+    /// Does all that is due: hands each call with its message on. Answers when the next unit is due.
+    pub fn release_all(&mut self, mut heard: impl FnMut(Call, &[u8])) -> Result<Option<u64>, Refused> {
+        let mut buffer = vec![0; 65504];
+        loop {
+            let released = unsafe { osc_server_release(&mut self.0) };
+            if released.status == NOTHING_DUE {
+                return Ok(Some(released.unit).filter(|&it| it != 0));
+            }
+            for _ in 0..released.accepted()?.count {
+                let mut call = Call::default();
+                unsafe { osc_server_next_call(&mut self.0, &mut call, buffer.as_mut_ptr(), buffer.len()) };
+                heard(call, &buffer[..call.size as usize]);
+            }
+        }
+    }
+
+    /// All that happened, for `osc replay`.
+    pub fn recording(&mut self) -> Vec<u8> {
+        let mut bytes = vec![0; unsafe { osc_server_recorded(&mut self.0) }];
+        let size = unsafe { osc_server_read_recording(&mut self.0, 0, bytes.as_mut_ptr(), bytes.len()) };
+        bytes.truncate(size);
+        bytes
+    }
+}
+
+impl Drop for Server {
+    fn drop(&mut self) {
+        unsafe { osc_server_close(&mut self.0) }
+    }
+}
