@@ -19,7 +19,7 @@ import os
 import struct
 from typing import NamedTuple
 
-__all__ = ["BadPacket", "Call", "Queued", "Refused", "Server", "check", "matches", "moment", "read_message", "seconds"]
+__all__ = ["BadPacket", "Call", "Queued", "Refused", "Released", "Server", "check", "matches", "moment", "read_message", "seconds"]
 
 
 class _Server(c.Structure):
@@ -99,6 +99,13 @@ class Queued(NamedTuple):
     first: int
     count: int
     late: int
+
+
+class Released(NamedTuple):
+    """A unit that was released, and how many calls it makes."""
+
+    unit: int
+    count: int
 
 
 class Call(NamedTuple):
@@ -195,7 +202,6 @@ class Server:
         self._server = _Server()
         self._addresses = {}
         self._buffer = c.create_string_buffer(65504)
-        self._unit = None
         self.next_moment = None
         limits = _Limits(units, blocks, methods, nodes, callers, recording, discards_late)
         _accepted(_lib.osc_server_open(c.byref(self._server), c.byref(limits)))
@@ -236,13 +242,14 @@ class Server:
         _accepted(_lib.osc_server_tick(c.byref(self._server), moment))
 
     def release(self):
-        """Takes out the unit that is due first, and returns how many calls it makes, or None where nothing is due. They are to be
-        read by calls() before the next release."""
+        """Takes out the unit that is due first, or returns None where nothing is due. Its calls are to be read by calls() before
+        the next release."""
         answer = _lib.osc_server_release(c.byref(self._server))
         if answer.status == _NOTHING_DUE:
             self.next_moment = answer.unit or None
             return None
-        return _accepted(answer).count
+        _accepted(answer)
+        return Released(answer.unit, answer.count)
 
     def calls(self):
         """The calls of the last release that aren't read yet."""
@@ -254,7 +261,7 @@ class Server:
 
     def __iter__(self):
         yield from self.calls()
-        while self.release() is not None:
+        while self.release():
             yield from self.calls()
 
     @property
