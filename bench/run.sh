@@ -5,6 +5,7 @@
 #     bench/run.sh methods [KINDS [COUNTS]] by how many methods stand; as bench/run.sh methods "0 2" "10 1000"
 #     bench/run.sh datagrams [..]           datagrams over loopback, or with --tcp a stream: datagrams.sh
 #     bench/run.sh watch                    a watcher beside lanes: watch.sh
+#     bench/run.sh library [..]             a message through the library for C, next to liblo: library.sh
 #
 # It needs cc, liblo-dev, valgrind and time, and what bin/osc needs.
 set -eu
@@ -13,6 +14,10 @@ if [ "${1:-}" = datagrams ]; then
     exec "$(dirname "$0")/datagrams.sh" "$@"
 fi
 [ "${1:-}" != watch ] || exec "$(dirname "$0")/watch.sh"
+if [ "${1:-}" = library ]; then
+    shift
+    exec "$(dirname "$0")/library.sh" "$@"
+fi
 table=lengths
 if [ "${1:-}" = methods ]; then
     table=methods
