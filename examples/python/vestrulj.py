@@ -1,10 +1,10 @@
 """The Vestrulj OSC 1.0 server for Python, over its library for C (bin/library).
 
-    from vestrulj import Server
+    from vestrulj import Server, message
 
     with Server() as server:
         server.add("/light/dim")
-        server.submit(b"/light/dim\\0\\0,i\\0\\0\\0\\0\\0\\7")
+        server.submit(message("/light/dim", 7))
         for call in server:
             print(call.address, call.arguments)    # /light/dim [7]
 
@@ -19,7 +19,10 @@ import os
 import struct
 from typing import NamedTuple
 
-__all__ = ["BadPacket", "Call", "Queued", "Refused", "Released", "Server", "check", "matches", "moment", "read_message", "seconds"]
+__all__ = [
+    "BadPacket", "Call", "Queued", "Refused", "Released", "Server",
+    "bundle", "check", "matches", "message", "moment", "read_message", "seconds",
+]  # fmt: skip
 
 
 class _Server(c.Structure):
@@ -61,6 +64,7 @@ def _load():
         ("osc_server_read_recording", size, server, size, text, size),
         ("osc_packet_check", _Answer, text, size),
         ("osc_message_read", _Answer, text, size, c.POINTER(_Argument), size),
+        ("osc_message_write", _Answer, text, size, c.POINTER(_Argument), size, text, size, text, size),
         ("osc_pattern_matches", c.c_uint32, text, size, text, size),
     ]:
         call = getattr(lib, name)
@@ -73,6 +77,7 @@ _OK, _NOTHING_DUE, _BAD_PACKET, _NO_MEMORY = 0, 1, 12, 15
 _REASONS = [
     "ok", "nothing due", "recording full", "units full", "pool full", "taken", "under a method", "is a container", "methods full",
     "nodes full", "not there", "clock back", "bad packet", "bad address", "bad limit", "out of memory", "closed", "open",
+    "no call", "buffer small", "not enrolled", "callers full", "bad pattern", "bad argument", "too long", "brackets",
 ]  # fmt: skip
 
 
@@ -192,6 +197,50 @@ def read_message(message):
         else:
             open_lists[-1].append(_value(tag, argument, message))
     return message[: message.index(b"\0")].decode("ascii"), open_lists[0]
+
+
+def _tagged(value):
+    """The tags and the values of an argument, one for each argument of the message."""
+    if isinstance(value, list):
+        return [("[", None), *(it for inner in value for it in _tagged(inner)), ("]", None)]
+    if isinstance(value, tuple):
+        return [value]
+    if value is None or isinstance(value, bool):
+        return [({True: "T", False: "F", None: "N"}[value], None)]
+    if isinstance(value, int):
+        return [("i" if -(2**31) <= value < 2**31 else "h", value)]
+    return [("f" if isinstance(value, float) else "s" if isinstance(value, str) else "b", value)]
+
+
+def _word(tag, value):
+    if tag in "ihrt":
+        return value & (0xFFFFFFFF if tag in "ir" else 0xFFFFFFFFFFFFFFFF)
+    if tag in "fd":
+        return struct.unpack("I" if tag == "f" else "Q", struct.pack(tag, value))[0]
+    return ord(value) if tag == "c" else int.from_bytes(value, "big") if tag == "m" else 0
+
+
+def message(pattern, *arguments):
+    """The bytes of a message: an int is i, or h where it takes 64 bits, a float f, a str s, bytes b, True, False and None are T, F
+    and N, and a list is an array. A pair of a tag and a value is that: ("d", 0.1), ("t", moment), ("I", None)."""
+    tagged = [it for value in arguments for it in _tagged(value)]
+    words, texts = (_Argument * len(tagged))(), b""
+    for argument, (tag, value) in zip(words, tagged):
+        argument.tag, argument.place = ord(tag), len(texts)
+        if tag in "sSb":
+            text = value.encode(errors="surrogateescape") if isinstance(value, str) else value
+            argument.size = len(text)
+            texts += text
+        else:
+            argument.word = _word(tag, value)
+    pattern, room = pattern.encode(), c.create_string_buffer(65504)
+    answer = _lib.osc_message_write(pattern, len(pattern), words, len(words), texts, len(texts), room, len(room))
+    return room[: _accepted(answer).count]
+
+
+def bundle(moment, *elements):
+    """The bytes of a bundle of messages and bundles. 1 is immediately."""
+    return b"#bundle\0" + struct.pack(">Q", moment) + b"".join(struct.pack(">I", len(it)) + it for it in elements)
 
 
 class Server:

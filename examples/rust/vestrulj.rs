@@ -66,6 +66,16 @@ unsafe extern "C" {
     fn osc_server_read_recording(server: *mut Handle, from: usize, buffer: *mut u8, room: usize) -> usize;
     fn osc_packet_check(bytes: *const u8, size: usize) -> Answer;
     fn osc_message_read(bytes: *const u8, size: usize, arguments: *mut RawArgument, room: usize) -> Answer;
+    fn osc_message_write(
+        pattern: *const u8,
+        pattern_size: usize,
+        arguments: *const RawArgument,
+        count: usize,
+        bytes: *const u8,
+        size: usize,
+        buffer: *mut u8,
+        room: usize,
+    ) -> Answer;
     fn osc_pattern_matches(pattern: *const u8, size: usize, address: *const u8, room: usize) -> u32;
 }
 
@@ -147,6 +157,38 @@ pub fn arguments(message: &[u8]) -> Result<Vec<Argument<'_>>, Refused> {
     Ok(raw[..answer.count as usize].iter().map(|it| argument_of(it, message)).collect())
 }
 
+fn raw_of(argument: &Argument, texts: &mut Vec<u8>) -> RawArgument {
+    let (tag, word, text): (char, u64, &[u8]) = match *argument {
+        Argument::Int(number) => ('i', u64::from(number as u32), &[]),
+        Argument::Long(number) => ('h', number as u64, &[]),
+        Argument::Float(number) => ('f', number.to_bits().into(), &[]),
+        Argument::Double(number) => ('d', number.to_bits(), &[]),
+        Argument::Time(moment) => ('t', moment, &[]),
+        Argument::Bool(is_so) => (if is_so { 'T' } else { 'F' }, 0, &[]),
+        Argument::Text(text) => ('s', 0, text),
+        Argument::Blob(bytes) => ('b', 0, bytes),
+        Argument::Word(tag, word) => (tag, word.into(), &[]),
+        Argument::Mark(tag) => (tag, 0, &[]),
+    };
+    let place = texts.len() as u32;
+    texts.extend_from_slice(text);
+    RawArgument { word, place, size: text.len() as u32, tag: tag as u32 }
+}
+
+/// The bytes of a message, at most 65,504.
+pub fn message(pattern: &str, arguments: &[Argument]) -> Result<Vec<u8>, Refused> {
+    let mut texts = Vec::new();
+    let raw: Vec<RawArgument> = arguments.iter().map(|it| raw_of(it, &mut texts)).collect();
+    let mut buffer = vec![0; 65504];
+    let (from, to) = (pattern.as_bytes(), buffer.as_mut_slice());
+    // SAFETY: each pointer is that of as many bytes or arguments, and nothing else has the buffer.
+    let answer = unsafe {
+        osc_message_write(from.as_ptr(), from.len(), raw.as_ptr(), raw.len(), texts.as_ptr(), texts.len(), to.as_mut_ptr(), to.len())
+    };
+    buffer.truncate(answer.accepted()?.count as usize);
+    Ok(buffer)
+}
+
 /// An open server.
 pub struct Server(Handle);
 
@@ -208,5 +250,45 @@ impl Server {
 impl Drop for Server {
     fn drop(&mut self) {
         unsafe { osc_server_close(&mut self.0) }
+    }
+}
+
+#[cfg(test)]
+mod tests {
+    use super::*;
+
+    // docs/FORMATS.md, "Messages".
+    const DIM: &[u8] = b"/light/dim\0\0,i\0\0\0\0\0\x07";
+
+    #[test]
+    fn a_message_is_written_and_read() {
+        assert_eq!(message("/light/dim", &[Argument::Int(7)]).as_deref(), Ok(DIM));
+        assert_eq!(arguments(DIM), Ok(vec![Argument::Int(7)]));
+        let all = [Argument::Text(b"hello"), Argument::Mark('['), Argument::Double(0.5), Argument::Mark(']'), Argument::Blob(b"abc")];
+        assert_eq!(arguments(&message("/a/*", &all).unwrap()), Ok(all.to_vec()));
+    }
+
+    #[test]
+    fn a_refusal_is_an_error() {
+        assert_eq!(check(DIM), Ok(()));
+        assert_eq!(check(&DIM[..16]), Err(Refused::BadPacket { kind: 14, place: 16 }));
+        assert_eq!(matches("/{foo,bar}/[!a-c]?*", "/foo/dx"), Some(true));
+        assert_eq!(matches("/{foo,bar}/[!a-c]?*", "/bar/ab"), Some(false));
+        assert_eq!(matches("/[", "/a"), None);
+    }
+
+    #[test]
+    fn a_server_hears_and_records() {
+        let limits = Limits { units: 4, blocks: 8, methods: 2, nodes: 4, callers: 1, recording: 4096, discards_late: false };
+        let mut server = Server::open(&limits).unwrap();
+        let id = server.add("/light/dim").unwrap();
+        assert!(server.add("/light/dim").is_err());
+        assert_eq!(server.submit(DIM).map(|it| it.count), Ok(1));
+        let mut heard = Vec::new();
+        assert_eq!(server.release_all(|call, message| heard.push((call.method, message.to_vec()))), Ok(None));
+        assert_eq!(heard, [(id, DIM.to_vec())]);
+        assert_eq!(server.remove("/light/dim"), Ok(id));
+        // The header of 60 bytes, two adds, a submit, a release of one call, a removal: docs/FORMATS.md, "The recording".
+        assert_eq!(server.recording().len(), 60 + 2 * (40 + 12) + (52 + 20) + (44 + 8) + (36 + 12));
     }
 }
