@@ -104,5 +104,23 @@ int main(void) {
     CHECK(40, osc_pattern_matches(TEXT("/a/?"), TEXT("/a/cd")) == 0);
     CHECK(41, osc_pattern_matches(TEXT("/a/["), TEXT("/a/cd")) == 2);
     CHECK(42, osc_pattern_matches(TEXT("/a"), TEXT("a")) == 3);
+
+    /* A message is written from its arguments; docs/FORMATS.md, "Messages", has its bytes. */
+    osc_argument seven = {7, 0, 0, 'i'}, hello = {0, 0, 5, 's'}, open = {0, 0, 0, '['};
+    static const uint8_t dim[] = "/light/dim\0\0,i\0\0\0\0\0\7";
+    a = osc_message_write(TEXT("/light/dim"), &seven, 1, dim, 0, buffer, sizeof buffer);
+    CHECK(43, a.status == OSC_OK && a.count == 20 && memcmp(buffer, dim, 20) == 0);
+    buffer[0] = 'x';
+    a = osc_message_write(TEXT("/light/dim"), &seven, 1, dim, 0, buffer, 19);
+    CHECK(44, a.status == OSC_BUFFER_SMALL && a.need == 20 && buffer[0] == 'x');
+    a = osc_message_write(TEXT("/x"), &hello, 1, TEXT("hello"), buffer, sizeof buffer);
+    CHECK(45, a.status == OSC_OK && a.count == 16 && memcmp(buffer, "/x\0\0,s\0\0hello\0\0\0", 16) == 0);
+    a = osc_message_write(TEXT("/x"), &hello, 1, TEXT("hel\0o"), buffer, sizeof buffer);
+    CHECK(46, a.status == OSC_BAD_ARGUMENT && a.unit == 0 && a.number == 2);
+    CHECK(47, osc_message_write(TEXT("/x"), &open, 1, dim, 0, buffer, sizeof buffer).status == OSC_BRACKETS);
+    a = osc_message_write(TEXT("/["), &seven, 1, dim, 0, buffer, sizeof buffer);
+    CHECK(48, a.status == OSC_BAD_PATTERN && a.number == 11 && a.unit == 1);
+    a = osc_packet_check(dim, 16);
+    CHECK(49, a.status == OSC_BAD_PACKET && a.number == 14 && a.unit == 16);
     return 0;
 }
