@@ -61,7 +61,7 @@ inside { block = block $0 "\n" }
 inside && how == "signatures" {
     line = $0
     sub(/ *\/\/.*$/, "", line)
-    if (line ~ /^ *(pub )?(fn|struct|enum|trait|const|impl|type)/ || line ~ /^ *}?$/) check_signature()
+    if (line ~ /^ *(pub )?(extern "C" )?(fn|struct|enum|trait|const|impl|type)/ || line ~ /^ *}?$/) check_signature()
     if (line !~ /^ *impl/ && line !~ /^ *}?$/) signature = signature "\n" line
 }
 END { exit failed }

@@ -57,7 +57,7 @@ source {
         call = ""
         calls[owner] = 1
     }
-    if (match($0, /^ *(pub(\([a-z]+\))? )?(unsafe )?fn [a-z_0-9]+/)) {
+    if (match($0, /^ *(pub(\([a-z]+\))? )?(unsafe )?(extern "C" )?fn [a-z_0-9]+/)) {
         call = substr($0, RSTART, RLENGTH)
         sub(/^.* /, "", call)
         calls[call] = 1
