@@ -77,7 +77,7 @@ _OK, _NOTHING_DUE, _BAD_PACKET, _NO_MEMORY = 0, 1, 12, 15
 _REASONS = [
     "ok", "nothing due", "recording full", "units full", "pool full", "taken", "under a method", "is a container", "methods full",
     "nodes full", "not there", "clock back", "bad packet", "bad address", "bad limit", "out of memory", "closed", "open",
-    "no call", "buffer small", "not enrolled", "callers full", "bad pattern", "bad argument", "too long", "brackets",
+    "no call", "buffer small", "callers full", "not enrolled", "bad pattern", "bad argument", "too long", "brackets",
 ]  # fmt: skip
 
 
