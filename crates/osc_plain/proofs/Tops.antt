@@ -1,4 +1,4 @@
-use Rattle.std.proofs.Common.{◌≡◌, ◌≢◌, ◌⊎◌, inl, inr, ℕ, ◌<◌, ◌≤◌, List, [], length, Option, Some, None, IfSome, IsOkAnd, Result, Ok}
+use Rattle.std.proofs.Common.{◌≡◌, ◌≢◌, ◌⊎◌, inl, inr, ℕ, ◌<◌, ◌≤◌, List, [], length, Option, Some, None, IfSome, IsOkAnd, Result, Ok, Err}
 use Rattle.std.proofs.Common.{sym, ap, subst, ◌∙◌, arith}
 use Rattle.std.specs.Prelude.{IsSomeAnd, IsErrAnd}
 use Rattle.osc_model.specs.Limits.{Limits, max_recording}
@@ -16,6 +16,7 @@ use Rattle.osc_words.specs.declared.command.PlainCommand.TheVariants.{Read, Gen}
 use Rattle.osc_words.specs.declared.command.Reading.{Reading}
 use Rattle.osc_words.specs.declared.command.Reading.TheVariants.{Run, Replay, Dump, Upgrade, Score, PlayScore}
 use Rattle.osc_ends.proofs.Inputs.{any_bytes, of_so, refused_bytes}
+use Rattle.osc_ends.specs.declared.status.TheConstants.{DONE, NO_MEMORY, SINK_FAILED}
 use Rattle.osc_ends.specs.Ends.{EndsLine, EndsText}
 use Rattle.osc_ends.specs.Inputs.{OfInput, RefusesLength, RefusesScript}
 use Rattle.osc_ends.specs.Printing.{bank_short_text, malformed_text, refusal_text}
@@ -23,6 +24,8 @@ use Rattle.osc_ends.specs.Recordings.{EndsDump, EndsRecording, EndsReplay, EndsU
 use Rattle.osc_ends.specs.Recordings.{DumpsTo, RefusesForm, RefusesRecording, RefusesUpgrade, ReplaysTo, UpgradesTo}
 use Rattle.osc_ends.specs.Sinks.{SinkChange, GainsUnless}
 use Rattle.osc_player.specs.Bank.{IsAccounted}
+use Rattle.osc_player.specs.Enough.{enough}
+use Rattle.osc_player.specs.Plain.{plain}
 use Rattle.osc_plain.specs.declared.report.Report.{Report}
 use Rattle.osc_plain.specs.Commands.{plain_limits}
 use Rattle.osc_plain.specs.EndsPlain.{AccountsReading, AccountsScore, AccountsScript, CanBeDone, EndsPlain, EndsReading, HandsAllBack}
@@ -249,3 +252,39 @@ length_ends Writes Refuses status left out long refuses =
 pub some_bytes : (left : Option (List ℕ)) (bytes : List ℕ) (P : List ℕ → Type 0) → IfSome left (λ all. bytes ≡ all) → IsSomeAnd left P → P bytes
 some_bytes None bytes P is holds = absurd holds
 some_bytes (Some all) bytes P is holds = subst P (sym is) holds
+
+-- a run whose recording may have bytes enough can be done, so it is
+module _ (unstopped : (caps : Limits) (lines : List Line) → enough lines ≤ caps.recording → (plain caps lines).stop ≡ None)
+    (output : Output) (capacities : Capacities) (have : ℕ) where
+  -- there is a box for each add of the lines, and room for their recording
+  abbrev pub HasEnough : List Line → Type 0
+  HasEnough lines = (count_adds lines ≤ have) × (enough lines ≤ capacities.recording)
+
+  room_can : (script : Result (List Line) ScriptFault) → IsOkAnd script HasEnough
+      → IsOkAnd script (λ lines. (count_adds lines ≤ have) × IsUnstopped (plain_limits capacities) lines)
+  room_can (Ok lines) has = (has.0, unstopped (plain_limits capacities) lines has.1)
+  room_can (Err fault) has = absurd has
+
+  is_run : (reading : Reading) (said : Option PlainCommand) → Some (Read reading) ≡ said → said ≡ Some (Read (Run output capacities))
+      → Run output capacities ≡ reading
+  is_run reading said reads is = cc (reads, is)
+
+  done_or : (Cuts : Type 0) (status : ℕ) → (status ≡ DONE) ⊎ (status ≡ NO_MEMORY) ⊎ (status ≡ SINK_FAILED) → (status ≡ SINK_FAILED → Cuts)
+      → (Cuts → ⊥) → (status ≡ DONE) ⊎ (status ≡ NO_MEMORY)
+  done_or Cuts status (inl done) fails taken = inl done
+  done_or Cuts status (inr (inl short)) fails taken = inr short
+  done_or Cuts status (inr (inr failed)) fails taken = absurd (taken (fails failed))
+
+  pub enough_done : (Rises Cuts : Type 0) (status : ℕ) (reading : Reading) (said : Option PlainCommand) (left : Option (List ℕ))
+      → Some (Read reading) ≡ said → said ≡ Some (Read (Run output capacities))
+      → (CanBeDone (Read reading) have left → (Rises → ⊥) → (status ≡ DONE) ⊎ (status ≡ NO_MEMORY) ⊎ (status ≡ SINK_FAILED))
+      → (status ≡ SINK_FAILED → Cuts)
+      → IfSome left (λ script. IsOkAnd (script_of Plain script) HasEnough → (Rises → ⊥) → (Cuts → ⊥)
+      → (status ≡ DONE) ⊎ (status ≡ NO_MEMORY))
+  enough_done Rises Cuts status reading said None reads is complete fails = tt
+  enough_done Rises Cuts status reading said (Some script) reads is complete fails = λ has sound taken.
+      done_or Cuts status
+      (complete
+      (subst (λ (r : Reading). CanBeDone (Read r) have (Some script)) (is_run reading said reads is) (room_can (script_of Plain script) has))
+      sound)
+      fails taken

@@ -18,6 +18,7 @@ ghost use Rattle.std.specs.Prelude.{
   List,
   IfSome,
   IsSome,
+  IsOkAnd,
   Some,
   [],
   None,
@@ -28,6 +29,9 @@ ghost use Rattle.std.specs.Prelude.{
 ghost use Rattle.osc_edge.specs.Faults.{Rose};
 ghost use Rattle.osc_core.specs.Ids.{is_ascending};
 ghost use Rattle.osc_words.specs.declared.command.PlainCommand.TheVariants.{Read};
+ghost use Rattle.osc_words.specs.declared.command.Reading.TheVariants.{Run};
+ghost use Rattle.osc_words.specs.declared.command.Output.{Output};
+ghost use Rattle.osc_words.specs.declared.command.Capacities.{Capacities};
 ghost use Rattle.osc_words.specs.Commands as said;
 ghost use Rattle.osc_words.specs.Ranges.{IsLawfulReading};
 ghost use Rattle.osc_ends.specs.Ends.{left_behind, IsUnplayed};
@@ -35,6 +39,10 @@ ghost use Rattle.osc_ends.specs.Inputs.{ReadsInput};
 ghost use Rattle.osc_ends.specs.Printing.{usage_text};
 ghost use Rattle.osc_ends.specs.Sinks.{sink_change, Fails, IsSteady, GainsUnless};
 ghost use Rattle.osc_player.specs.Bank.{IsAccounted};
+ghost use Rattle.osc_player.specs.Enough.{enough};
+ghost use Rattle.osc_script.specs.declared.mode.Mode.TheVariants.{Plain};
+ghost use Rattle.osc_script.specs.Adds.{count_adds};
+ghost use Rattle.osc_script.specs.Scripts.{script_of};
 ghost use Rattle.osc_plain.specs.declared.report.Report.TheVariants.{Summary};
 ghost use Rattle.osc_plain.specs.Commands as commands;
 ghost use Rattle.osc_plain.specs.Runs.{EndsLines, IsPlayed};
@@ -50,6 +58,7 @@ use osc_edge::{Sink, Source};
 use osc_ends::status::NO_MEMORY;
 use osc_ends::{Ended, usage};
 use osc_method::Method;
+use osc_player::laws::enough_room_never_stops;
 use osc_words::{PlainCommand, Reading, plain_command_of};
 use std::alloc::Global;
 
@@ -122,7 +131,17 @@ pub fn plain_top<S: Source, O: Sink>(
         → (IsSome (said.reading_in command) → ¬ Rose (S.faults input.old) (S.faults input.new))
         → ¬ Fails (sink_change O.held O.faults out.old out.new) →
         (result.status ≡ DONE) ⊎ (result.status ≡ NO_MEMORY)) }
+
+    // No run is stopped where the recording may have as many bytes as `enough` says.
+    ensures enough { (output : Output) (caps : Capacities)
+        → said.plain_command_of (map string_bytes words.now) ≡ Some (Read (Run output caps))
+        → IfSome (S.left input.old) (λ script. IsOkAnd (script_of Plain script)
+        (λ lines. (count_adds lines ≤ length bank.items) × (enough lines ≤ caps.recording))
+        → ¬ Rose (S.faults input.old) (S.faults input.new)
+        → ¬ Fails (sink_change O.held O.faults out.old out.new) →
+        (result.status ≡ DONE) ⊎ (result.status ≡ NO_MEMORY)) }
 {
+    enough_room_never_stops();
     match plain_command_of(alloc, words) {
         Ok(Some(PlainCommand::Read(reading))) => follow(alloc, reading, input, out, bank),
         Ok(Some(PlainCommand::Gen { seed, lines })) => generate(alloc, seed, lines, out, bank),
