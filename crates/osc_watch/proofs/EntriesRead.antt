@@ -1,22 +1,22 @@
 -- Entries that are read one after another, of a text that goes on.
-use Rattle.std.proofs.Common.{◌≡◌, ℕ, ◌+◌, ◌<◌, ◌≤◌, List, [], ◌∷◌, ◌++◌, length, drop, Option, Some, None, length-append, append_assoc, refl, sym, ap, subst}
+use Rattle.std.proofs.Common.{◌≡◌, ℕ, ◌+◌, ◌<◌, ◌≤◌, List, [], ◌∷◌, ◌++◌, length, take, drop, Option, Some, None, length-append, append_assoc, refl, sym, ap, subst}
 use Rattle.std.proofs.Common.{◌∙◌, arith}
 use Rattle.std.specs.List.{AllByRecursion}
 use Rattle.std.proofs.lemmas.List.{append-nil, append_cancel_left}
 use Rattle.std.proofs.lemmas.List.Elements.{filter_map-append}
 use Rattle.std.proofs.lemmas.Grind.{flat_map-append}
-use Rattle.std.proofs.Math.Seq.{drop-append_seam}
-use Rattle.osc_model.specs.Limits.{Limits, header_size, max_recording}
+use Rattle.std.proofs.Math.Seq.{drop-append_seam, take-append_seam}
+use Rattle.osc_model.specs.Limits.{AreInRange, Limits, header_size, max_recording}
 use Rattle.osc_model.specs.Events.{Entry, Event, Answer}
 use Rattle.osc_model.specs.Recordings.{IsRecordable, entry_text, header_text}
 use Rattle.osc_record.specs.Reading.{Placed, entry_in}
-use Rattle.osc_record.specs.Unread.{Remaining, HasHeader, Reads}
+use Rattle.osc_record.specs.Unread.{HasHeader, HasNoNext, Reads, Remaining}
 use Rattle.osc_watch.specs.declared.edit.Edit.{Edit}
 use Rattle.osc_watch.specs.declared.stop.Stop.{Stop}
 use Rattle.osc_watch.specs.declared.stop.Stop.TheVariants.{AtEnd, At, NoMemory}
 use Rattle.osc_watch.specs.Edits.{edit_by, edits_of}
 use Rattle.osc_watch.specs.Parts.{text_of}
-use Rattle.osc_watch.specs.Notes.{NotesNext, AreReadable, IsPlaceIn, Notes}
+use Rattle.osc_watch.specs.Notes.{AreReadable, IsPlaceIn, Notes, NotesNext, StandWithin}
 
 abbrev pub one_text : Entry → List ℕ
 one_text entry = entry_text entry.caller entry.event entry.answer
@@ -112,10 +112,25 @@ reads_on again all noted then after old new looks (placed, reads, now) more tail
     let s = looks more tail readable is in
     goes_on again more tail all noted then after old new placed readable reads now s s.left refl
 
-pub stops : (all : List ℕ) (noted then after : List Edit) (old new : Remaining) (stop : Stop) → Looks all noted then old
-    → NotesNext old new then after (Some stop)
+-- an entry that isn't whole goes on after the bytes, which end within the limits
+follows : (more : List Entry) (tail all : List ℕ) (noted then : List Edit) (old : Remaining) (place : ℕ) → AreReadable more
+    → length all ≤ old.caps.recording → HasNoNext old place → (s : Sofar more tail all noted then old) → (l : List Entry) → s.left ≡ l → 0 < length tail
+follows more (byte ∷ tail) all noted then old place readable within none s l is = omega arith
+follows more [] all noted then old place readable within none s [] is =
+    let empty : old.rest ≡ [] = sym (append-nil old.rest) ∙ (s.rest_is ∙ ap text_of is) in
+    absurd (omega (arith, none.some, ap length empty))
+follows more [] all noted then old place readable within none s (e ∷ es) is =
+    let split : more ≡ s.read ++ e ∷ es = s.split ∙ ap (λ (l : List Entry). s.read ++ l) is in
+    let one = at_split (λ entry. IsRecordable entry.caller entry.event entry.answer × (0 < length (entry_text entry.caller entry.event entry.answer))
+    × (length (entry_text entry.caller entry.event entry.answer) ≤ max_recording)) s.read e es (subst AreReadable split readable) in
+    let rest : old.rest ≡ one_text e ++ text_of es = sym (append-nil old.rest) ∙ (s.rest_is ∙ ap text_of is) in
+    absurd (none.none e (text_of es) one.0
+    (omega (arith, none.at_is, s.total, within, ap length rest, length-append (one_text e) (text_of es))) rest)
+
+pub stops : (all : List ℕ) (noted then after : List Edit) (old new : Remaining) (stop : Stop) → length all ≤ old.caps.recording
+    → Looks all noted then old → NotesNext old new then after (Some stop)
     → Notes all noted after stop
-stops all noted then after old new AtEnd looks (none, now) more tail readable is =
+stops all noted then after old new AtEnd within looks (none, now) more tail readable is =
     let s = looks more tail readable is in record {
       read = s.read;
       left = s.left;
@@ -124,16 +139,16 @@ stops all noted then after old new AtEnd looks (none, now) more tail readable is
       place = omega (arith, s.total, s.at_is, ap length none);
       whole = ap (λ (l : List ℕ). l ++ tail) (sym none) ∙ s.rest_is;
     }
-stops all noted then after old new (At place) looks (at, now) more tail readable is =
+stops all noted then after old new (At place) within looks (none, now) more tail readable is =
     let s = looks more tail readable is in record {
       read = s.read;
       left = s.left;
       split = s.split;
       noted_are = now ∙ s.noted_are;
-      place = at ∙ s.at_is;
-      whole = tt;
+      place = none.at_is ∙ s.at_is;
+      whole = follows more tail all noted then old place readable within none s s.left refl;
     }
-stops all noted then after old new (NoMemory place) looks (at, now) more tail readable is =
+stops all noted then after old new (NoMemory place) within looks (at, now) more tail readable is =
     let s = looks more tail readable is in record {
       read = s.read;
       left = s.left;
@@ -143,15 +158,18 @@ stops all noted then after old new (NoMemory place) looks (at, now) more tail re
       whole = tt;
     }
 
-pub no_header : (all : List ℕ) (noted then : List Edit) → then ≡ noted → Notes all noted then (NoMemory header_size)
-no_header all noted then same more tail readable is = record {
-  read = [];
-  left = more;
-  split = refl;
-  noted_are = same ∙ sym (append-nil noted);
-  place = refl;
-  whole = tt;
-}
+-- the limits are those of the header with which the bytes begin
+pub limits_are : ((limits : Limits) → length (header_text limits) ≡ header_size)
+    → ((limits other : Limits) → AreInRange limits → AreInRange other → header_text limits ≡ header_text other → limits ≡ other)
+    → (all : List ℕ) (unread : Remaining) → HasHeader all unread → StandWithin all → length all ≤ unread.caps.recording
+limits_are sized differ all unread header (caps, rest, stand, text) =
+    let one = take-append_seam (header_text unread.caps) unread.rest in
+    let two = take-append_seam (header_text caps) rest in
+    let long : length (header_text unread.caps) ≡ length (header_text caps) = sized unread.caps ∙ sym (sized caps) in
+    let same : header_text unread.caps ≡ header_text caps =
+    sym one ∙ (ap (take (length (header_text unread.caps))) (sym header.text ∙ text) ∙ (ap (λ (n : ℕ). take n (header_text caps ++ rest)) long ∙ two)) in
+    let limits : unread.caps ≡ caps = differ unread.caps caps header.lawful stand.lawful same in
+    omega (arith, stand.within, ap (λ (l : Limits). l.recording) limits, sized caps, ap length text, length-append (header_text caps) rest)
 
 pub read_low : (old new : Remaining) (placed : Placed) → Reads old placed new → header_size ≤ old.at → header_size ≤ new.at
 read_low old new placed reads low = omega (arith, reads.moved, low)
@@ -163,5 +181,5 @@ read_total all old new placed reads total = omega (arith, reads.moved, total, ap
 pub stop_place : (all : List ℕ) (then after : List Edit) (old new : Remaining) (stop : Stop) → header_size ≤ old.at → old.at + length old.rest ≡ length all
     → NotesNext old new then after (Some stop) → IsPlaceIn (length all) stop
 stop_place all then after old new AtEnd low total (none, now) = (omega (arith, low, total), omega arith)
-stop_place all then after old new (At place) low total (at, now) = (omega (arith, low, at), omega (arith, total, at))
+stop_place all then after old new (At place) low total (none, now) = (omega (arith, low, none.at_is), omega (arith, total, none.at_is))
 stop_place all then after old new (NoMemory place) low total (at, now) = (omega (arith, low, at), omega (arith, total, at))

@@ -1,5 +1,5 @@
 -- A part of a recording that goes on from what a board has read.
-use Rattle.std.proofs.Common.{◌≡◌, ℕ, ◌+◌, ◌-◌, ◌<◌, ◌≤◌, List, [], ◌∷◌, ◌++◌, length, take, drop, nat_lt, true, length-append, append_assoc, refl, sym, ap}
+use Rattle.std.proofs.Common.{◌≡◌, ◌≢◌, ℕ, ◌+◌, ◌-◌, ◌<◌, ◌≤◌, List, [], ◌∷◌, ◌++◌, length, take, drop, nat_lt, true, length-append, append_assoc, refl, sym, ap}
 use Rattle.std.proofs.Common.{subst, ◌∙◌, arith}
 use Rattle.std.specs.List.{AllByRecursion}
 use Rattle.std.proofs.lemmas.Bool.{ltb-true}
@@ -90,6 +90,14 @@ pub record Read (caps : Limits) (h seen : List Entry) (at to room count : ℕ) (
   pub kept : StartsWith then noted
   pub onward : at ≤ to
   pub whole : stop ≡ AtEnd → count < room → read ≡ seen
+  pub settled : count < room → (place : ℕ) → stop ≢ At place
+
+-- nothing is left behind the end
+pub nothing : (k : ℕ) (l : List ℕ) → length l ≤ k → drop k l ≡ []
+nothing k l le = go (drop k l) (length-drop k l) where
+  go : (d : List ℕ) → length d ≡ length l - k → d ≡ []
+  go [] is = refl
+  go (x ∷ d) is = absurd (omega (arith, is, le))
 
 pub part_read : Sized → (caps : Limits) (h seen : List Entry) (at to : ℕ) (noted then : List Edit) (old chunk : List ℕ) (count : ℕ) (stop : Stop)
     → noted ≡ edits_of h → at ≡ length (record_text caps h) → StartsWith seen h → IsRecord caps seen → length (record_text caps seen) ≤ max_recording
@@ -108,6 +116,9 @@ part_read sized caps h seen at to noted then old chunk count stop are stands (mo
     let all = readable sized more (later (λ entry. IsRecordable entry.caller entry.event entry.answer) h more
     (subst (AllByRecursion (λ entry. IsRecordable entry.caller entry.event entry.answer)) is recorded.all)) (omega (arith, sizes, small)) in
     let n = notes more (drop (length old) (text_of more)) all whole in
+    let count_is : count ≡ length (take (length old) (text_of more)) = writes.counted ∙ ap length here in
+    let nothing_more : count < length old → drop (length old) (text_of more) ≡ [] =
+    λ short. nothing (length old) (text_of more) (omega (arith, count_is, short, length-take (length old) (text_of more))) in
     let split : seen ≡ (h ++ n.read) ++ n.left = is ∙ (ap (λ (l : List Entry). h ++ l) n.split ∙ sym (append_assoc h n.read n.left)) in
     record {
       read = h ++ n.read;
@@ -117,27 +128,34 @@ part_read sized caps h seen at to noted then old chunk count stop are stands (mo
       kept = (edits_of n.read, n.noted_are);
       onward = omega (arith, n.moved);
       whole = λ ends short.
-          let count_is : count ≡ length (take (length old) (text_of more)) = writes.counted ∙ ap length here in
-          let tail : drop (length old) (text_of more) ≡ [] = nothing (length old) (text_of more) (omega (
-            arith,
-            count_is,
-            short,
-            length-take (length old)
-                (text_of more),
-          )) in
           let left : drop (length old) (text_of more) ≡ text_of n.left = subst (λ (s : Stop). AllIn s (drop (length old) (text_of more)) n.left) ends n.whole in
           let gone : n.left ≡ [] = none_left n.left
           (later (λ entry. IsRecordable entry.caller entry.event entry.answer × (0 < length (entry_text entry.caller entry.event entry.answer))
           × (length (entry_text entry.caller entry.event entry.answer) ≤ max_recording)) n.read n.left (subst AreReadable n.split all))
-          (sym tail ∙ left) in
+          (sym (nothing_more short) ∙ left) in
           sym (split ∙ (ap (λ (l : List Entry). (h ++ n.read) ++ l) gone ∙ append-nil (h ++ n.read)));
+      settled = λ short place ends.
+          let some : 0 < length (drop (length old) (text_of more)) =
+          subst (λ (s : Stop). AllIn s (drop (length old) (text_of more)) n.left) ends n.whole in
+          omega (arith, some, ap length (nothing_more short));
     }
-  where
-    nothing : (k : ℕ) (l : List ℕ) → length l ≤ k → drop k l ≡ []
-    nothing k l le = go (drop k l) (length-drop k l) where
-      go : (d : List ℕ) → length d ≡ length l - k → d ≡ []
-      go [] is = refl
-      go (x ∷ d) is = absurd (omega (arith, is, le))
+
+-- what is read from a place behind the header ends within the limits
+pub ends_within : (caps : Limits) (h seen : List Entry) (at count : ℕ) (old new : List ℕ) → length (header_text caps) ≡ header_size
+    → at ≡ length (record_text caps h) → IsRecord caps seen → Writes (record_text caps seen) at old new count → header_size + count ≤ caps.recording
+ends_within caps h seen at count old new size stands recorded writes =
+    let fits : length (record_text caps seen) ≤ caps.recording = recorded.fits in
+    omega (
+      arith,
+      size,
+      stands,
+      fits,
+      writes.counted,
+      length-take (length old) (drop at (record_text caps seen)),
+      length-drop at (record_text caps seen),
+      length-append (header_text caps) (text_of h),
+      length-append (header_text caps) (text_of seen),
+    )
 
 -- what was written over is as long as it was
 pub same_length : (text : List ℕ) (from : ℕ) (old new : List ℕ) (count : ℕ) → Writes text from old new count → length new ≡ length old

@@ -2,11 +2,11 @@
 use Rattle.std.specs.Prelude.{◌≡◌, ℕ, ◌+◌, ◌≤◌, ◌<◌, List, [], ◌∷◌, ◌++◌, length, drop, Option}
 use Rattle.std.specs.Prelude.{Some, None}
 use Rattle.std.specs.List.{AllByRecursion}
-use Rattle.osc_model.specs.Limits.{header_size, max_recording}
+use Rattle.osc_model.specs.Limits.{AreInRange, Limits, header_size, max_recording}
 use Rattle.osc_model.specs.Events.{Entry}
-use Rattle.osc_model.specs.Recordings.{IsRecordable, entry_text}
+use Rattle.osc_model.specs.Recordings.{IsRecordable, entry_text, header_text}
 use Rattle.osc_record.specs.Reading.{Placed}
-use Rattle.osc_record.specs.Unread.{Remaining, Reads}
+use Rattle.osc_record.specs.Unread.{HasNoNext, Remaining, Reads}
 use Rattle.osc_watch.specs.declared.edit.Edit.{Edit}
 use Rattle.osc_watch.specs.declared.stop.Stop.{Stop}
 use Rattle.osc_watch.specs.declared.stop.Stop.TheVariants.{AtEnd, At, NoMemory}
@@ -18,7 +18,7 @@ abbrev pub NotesNext : Remaining → Remaining → List Edit → List Edit → O
 NotesNext old new noted then None =
     (placed : Placed) × Reads old placed new × (then ≡ noted ++ edits_of (placed.entry ∷ []))
 NotesNext old new noted then (Some AtEnd) = (old.rest ≡ []) × (then ≡ noted)
-NotesNext old new noted then (Some (At place)) = (place ≡ old.at) × (then ≡ noted)
+NotesNext old new noted then (Some (At place)) = HasNoNext old place × (then ≡ noted)
 NotesNext old new noted then (Some (NoMemory place)) = (place ≡ old.at) × (then ≡ noted)
 
 -- entries that can be read
@@ -38,10 +38,22 @@ place_in all (NoMemory place) = place
 abbrev pub IsPlaceIn : ℕ → Stop → Type 0
 IsPlaceIn all stop = (header_size ≤ place_in all stop) × (place_in all stop ≤ all)
 
--- nothing was left in the bytes
+-- nothing was left in the bytes; or the entry that isn't whole goes on after them
 abbrev pub AllIn : Stop → List ℕ → List Entry → Type 0
 AllIn AtEnd tail left = tail ≡ text_of left
-AllIn _ tail left = Unit {0}
+AllIn (At place) tail left = 0 < length tail
+AllIn (NoMemory place) tail left = Unit {0}
+
+-- a header of these limits, and bytes that end within them where they stand after it
+pub record StandAfter (caps : Limits) (header bytes : List ℕ) : Type 0 where
+  pub lawful : AreInRange caps
+  pub header_is : header ≡ header_text caps
+  pub within : header_size + length bytes ≤ caps.recording
+
+-- the bytes are such a header and what stands after it
+abbrev pub StandWithin : List ℕ → Type 0
+StandWithin bytes = (caps : Limits) × (rest : List ℕ)
+    × StandAfter caps (header_text caps) rest × (bytes ≡ header_text caps ++ rest)
 
 -- of entries whose text these bytes begin behind a header, a beginning was read and its edits noted
 pub record NotesOf (more : List Entry) (tail bytes : List ℕ) (noted then : List Edit)

@@ -7,19 +7,20 @@ ghost use Rattle.osc_record.specs.Left.{placed_of};
 ghost use Rattle.osc_watch.specs.Listing.{edit_of};
 ghost use Rattle.osc_watch.specs.Edits.{edit_by, edits_of};
 ghost use Rattle.osc_watch.specs.Watching.{noted, published, IsSameBoard};
-ghost use Rattle.osc_watch.specs.Notes.{NotesNext, Notes, IsPlaceIn};
+ghost use Rattle.osc_watch.specs.Notes.{NotesNext, Notes, IsPlaceIn, StandWithin};
 
 use crate::board::Board;
 use crate::row::{MethodRow, RowEdit};
 use crate::stop::Stop;
 use osc_atoms::Bytes;
-use osc_record::{Answer, Entry, Event, HEADER_SIZE, Unread};
+use osc_record::{Answer, Entry, Event, Unread};
 use std::alloc::{AllocError, Global};
 
 /// Notes the edits of the entries that stand behind a header, as many as are whole.
 pub(crate) fn note_all(board: &mut Board, bytes: &[u8]) -> Stop
     requires long { header_size ≤ length bytes.now }
     requires small { length bytes.now ≤ max_recording }
+    requires within { StandWithin bytes.now }
     ensures board { IsSameBoard board.old board.new }
     ensures published { published board.new ≡ published board.old }
     ensures place { IsPlaceIn (length bytes.now) result }
@@ -27,8 +28,9 @@ pub(crate) fn note_all(board: &mut Board, bytes: &[u8]) -> Stop
 {
     osc_record::laws::a_written_entry_is_read_again();
     osc_record::laws::sizes();
+    osc_record::laws::headers_differ();
     let Ok(mut unread) = Unread::open(bytes) else {
-        return Stop::NoMemory(HEADER_SIZE);
+        unreachable!()
     };
     loop {
         match note_next(board, &mut unread) {

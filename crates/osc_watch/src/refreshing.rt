@@ -1,10 +1,11 @@
 //! How a board reads what is new in a recording, and publishes it.
-ghost use Rattle.std.specs.Prelude.{◌≡◌, ◌≤◌, ◌<◌, ◌+◌, ◌++◌, true, length, IfOk, OnOk};
+ghost use Rattle.std.specs.Prelude.{◌≡◌, ◌≢◌, ℕ, ◌≤◌, ◌<◌, ◌+◌, ◌++◌, true, length, IfOk, OnOk};
 ghost use Rattle.std.specs.Prelude.{MatchResult};
 ghost use Rattle.osc_turn.specs.History.{StartsWith};
-ghost use Rattle.osc_model.specs.Limits.{header_size, max_recording};
+ghost use Rattle.osc_model.specs.Limits.{Limits, header_size, max_recording};
+ghost use Rattle.osc_model.specs.Recordings.{header_text};
 ghost use Rattle.osc_watch.specs.Edits.{edits_of};
-ghost use Rattle.osc_watch.specs.Notes.{IsPlaceIn, place_in};
+ghost use Rattle.osc_watch.specs.Notes.{IsPlaceIn, StandAfter, place_in};
 ghost use Rattle.osc_watch.specs.Watching.{noted, published, IsOneBoard};
 ghost use Rattle.osc_watch.specs.Refreshing.{HasRead, HasReadPart, PartNotes, IsWhole, GoesOn};
 ghost use Rattle.osc_watch.specs.Tokens.{OnlyLooks};
@@ -106,6 +107,7 @@ fn read_all<S: Recorded, W: Wait>(
     ensures whole { OnOk result.1 (HasRead (S.caps server.now) board.new (S.seen result.0)) }
     ensures taken { OnOk result.1 (S.taken token < S.taken result.0) }
 {
+    osc_record::laws::sizes();
     let Ok(mut header) = Vec::from_elem(board.alloc, 0u8, HEADER_SIZE as usize) else {
         return (token, Err(AllocError));
     };
@@ -139,6 +141,7 @@ fn read_part<S: Recorded, W: Wait>(
 ) -> (S::Token, Part)
     requires ours { S.ours server.now token }
     requires header { length header.now ≡ header_size }
+    requires text { header.now ≡ header_text (S.caps server.now) }
     requires read { HasReadPart (S.caps server.now) board.old (S.seen token) }
     ensures ours { S.ours server.now result.0 }
     ensures board { IsOneBoard board.old board.new }
@@ -168,6 +171,7 @@ fn read_over<S: Recorded, W: Wait>(
 ) -> (S::Token, Part)
     requires ours { S.ours server.now token }
     requires header { length header.now ≡ header_size }
+    requires text { header.now ≡ header_text (S.caps server.now) }
     requires read { HasReadPart (S.caps server.now) board.old (S.seen token) }
     ensures ours { S.ours server.now result.0 }
     ensures board { IsOneBoard board.old board.new }
@@ -187,15 +191,17 @@ fn read_over<S: Recorded, W: Wait>(
     (token, part_of(stop, count < room))
 }
 
-/// What is to be done next, where the part ended before the room did, or did not.
+/// What is to be done next, where the part ended before the room did, or did not. Where it ended, each entry in it is
+/// whole.
 fn part_of(stop: Stop, ended: bool) -> Part
+    requires { ended ≡ true → (place : ℕ) → stop ≢ Stop.At place }
     ensures { IsWhole result → (stop ≡ Stop.AtEnd) × (ended ≡ true) }
 {
     match stop {
         Stop::AtEnd => { if ended { Part::Whole } else { Part::More } }
         Stop::At(place) => {
             if ended {
-                Part::NoMemory
+                unreachable!()
             } else if place > HEADER_SIZE {
                 Part::More
             } else {
@@ -211,6 +217,7 @@ fn note_part(board: &mut Board, header: &[u8], part: &[u8]) -> Stop
     requires header { length header.now ≡ header_size }
     requires behind { header_size ≤ board.old.at }
     requires small { board.old.at + length part.now ≤ max_recording }
+    requires within { (caps : Limits) × StandAfter caps header.now part.now }
     ensures board { IsOneBoard board.old board.new }
     ensures published { published board.new ≡ published board.old }
     ensures part { PartNotes part.now board.old.at board.new.at (noted board.old)

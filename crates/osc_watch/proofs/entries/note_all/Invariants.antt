@@ -11,6 +11,7 @@ invariant-loop-stop l = record {
   published : published l.board ≡ published l.initial.board;
   low : header_size ≤ l.unread.at;
   total : l.unread.at + length l.unread.rest ≡ length l.bytes;
+  within : length l.bytes ≤ l.unread.caps.recording;
   looks : Looks l.bytes (noted l.initial.board) (noted l.board) l.unread;
 }
 

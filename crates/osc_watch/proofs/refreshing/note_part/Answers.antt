@@ -1,9 +1,18 @@
-use Rattle.std.proofs.Common.{◌≡◌, ◌+◌, ◌-◌, length, ap, sym, ◌∙◌}
+use Rattle.std.proofs.Common.{◌≡◌, ℕ, ◌+◌, ◌-◌, List, ◌++◌, length, refl, ap, sym, ◌∙◌}
 use Rattle.osc_model.specs.Limits.{header_size}
 use Rattle.osc_watch.specs.Notes.{place_in}
 use Rattle.osc_watch.specs.Watching.{noted}
 use Rattle.osc_watch.proofs.PartsRead.{part_notes}
 use Rattle.osc_watch.proofs.refreshing.note_part.Goals as goal
+
+pub note_all-stop-requires-clause-within : goal.note_all-stop-requires-clause-within
+note_all-stop-requires-clause-within c =
+    let (caps, stand) = c.requires.within in (
+      caps,
+      c.args.part.now,
+      record { lawful = stand.lawful; header_is = refl; within = stand.within },
+      c.as_slice.ensures.value ∙ (c.in-Ok.ensures ∙ ap (λ (l : List ℕ). l ++ c.args.part.now) stand.header_is),
+    )
 
 pub returns-clause-part : goal.returns-clause-part
 returns-clause-part c =

@@ -1,6 +1,7 @@
 use Rattle.std.proofs.Common.{◌≡◌, ◌<◌, length}
 use Rattle.osc_turn.specs.History.{StartsWith}
 use Rattle.osc_model.specs.Limits.{header_size}
+use Rattle.osc_model.specs.Recordings.{header_text}
 use Rattle.osc_watch.specs.Watching.{published, IsOneBoard}
 use Rattle.osc_watch.specs.Refreshing.{HasReadPart, GoesOn}
 use Rattle.osc_watch.specs.Tokens.{OnlyLooks}
@@ -19,4 +20,5 @@ invariant-loop g l = record {
   number : g.S.Recorded.number l.token ≡ g.S.Recorded.number l.fn.token;
   looks : OnlyLooks (g.S.Recorded.knows l.fn.token) (g.S.Recorded.knows l.token);
   header : length l.header.items ≡ header_size;
+  text : l.header.items ≡ header_text (g.S.Recorded.caps l.fn.server);
 }
