@@ -2,7 +2,7 @@
 # Counts what a message costs through the library for C, and by liblo's lo_server_dispatch_data, where so many methods stand:
 #
 #     bench/library.sh [COUNTS]             as bench/library.sh "1 10 1000"
-#     bench/library.sh --functions COUNT    by function of the library, at so many methods
+#     bench/library.sh --functions COUNT    what of it each function takes, where COUNT methods stand
 #
 # It needs cc, liblo-dev and valgrind, and what bin/library needs.
 set -eu
@@ -28,9 +28,20 @@ instructions_per_message() { # PROGRAM METHODS
     echo $(((all - third) / (most - most / 3)))
 }
 
+# What a run of the library takes, a function a line: instructions and its name.
+functions() { # METHODS MESSAGES
+    valgrind --tool=callgrind --callgrind-out-file="$work/profile" "$work/library" "$1" "$2" >"$work/said" 2>&1
+    callgrind_annotate --threshold=100 --auto=no "$work/profile" |
+        sed -n 's/^ *\([0-9,]*\) ([^)]*) *[^:]*:\([^[]*[^[ ]\).*/\1 \2/p' | tr -d ,
+}
+
 if [ "${1:-}" = --functions ]; then
-    valgrind --tool=callgrind --callgrind-out-file="$work/profile" "$work/library" "$2" 12288 >"$work/said" 2>&1
-    callgrind_annotate "$work/profile" | sed -n '/^Ir/,$p' | head -n 40
+    functions "$2" 4096 >"$work/third"
+    functions "$2" 12288 |
+        awk 'NR == FNR { third[substr($0, length($1) + 2)] += $1; next }
+            { all[substr($0, length($1) + 2)] += $1 }
+            END { for (name in all) { each = (all[name] - third[name]) / 8192; if (each >= 1) printf "%6.0f  %s\n", each, name } }' \
+            "$work/third" - | sort -rn
     exit
 fi
 
