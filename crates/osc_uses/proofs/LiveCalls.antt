@@ -2,9 +2,6 @@
 use Rattle.std.proofs.Common.{◌≡◌, ℕ, List, ◌∷◌, subst, sym}
 use Rattle.osc_turn.specs.declared.view.View.{View}
 use Rattle.osc_model.specs.Limits.{Limits}
-use Rattle.osc_core.specs.declared.answers.Removing.{Removing}
-use Rattle.osc_core.specs.declared.answers.Removing.TheVariants as removing
-use Rattle.osc_core.specs.Answers.{OnRemoved}
 use Rattle.osc_uses.specs.LiveCalls.{Runs, RunsOne}
 
 -- a moment, and then those behind it
@@ -12,11 +9,3 @@ pub runs_on : (caps : Limits) (caller moment : ℕ) (moments all : List ℕ) (v 
     → RunsOne caps caller moment v between → Runs caps caller moments between w → Runs caps caller all v w
 runs_on caps caller moment moments all v between w split one rest =
     subst (λ (ms : List ℕ). Runs caps caller ms v w) (sym split) (between, one, rest)
-
-module _ {M : Type 0} where
-  -- what holds of a removed method, where something else does
-  pub on_removed : (removing : Removing M) (p q : ℕ → M → Type 0) → ((id : ℕ) (method : M) → p id method → q id method)
-      → OnRemoved removing p → OnRemoved removing q
-  on_removed (removing.Removed id method) p q then holds = then id method holds
-  on_removed (removing.RecordFull room) p q then holds = holds
-  on_removed removing.NotThere p q then holds = holds

@@ -42,9 +42,11 @@ Runs caps caller [] v w = w ≡ v
 Runs caps caller (moment ∷ moments) v w =
     (between : View) × RunsOne caps caller moment v between × Runs caps caller moments between w
 
--- a caller removes the method at the address, and then adds one there
+-- A caller removes the method at the address, and then adds one there. This holds of what its token
+-- knows between the two.
 pub record Replaces (caps : Limits) (caller : ℕ) (address : List ℕ) (removed added : Answer)
-    (v w : View) : Type 0 where
+    (holds : View → Type 0) (v w : View) : Type 0 where
   pub between : View
   pub removes : Calls caps caller (remove address) removed v between
+  pub held : holds between
   pub adds : Calls caps caller (add address) added between w

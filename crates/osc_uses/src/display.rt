@@ -1,5 +1,5 @@
 //! A display beside a live server: the list of its methods, for a watcher that never takes the turn.
-ghost use Rattle.std.specs.Prelude.{◌≡◌, IfOk};
+ghost use Rattle.std.specs.Prelude.{◌≡◌, length, IfOk};
 ghost use Rattle.osc_turn.specs.Passes.{view};
 ghost use Rattle.osc_turn.specs.History.{StartsWith};
 ghost use Rattle.osc_live.specs.Seen.{history_of};
@@ -16,7 +16,8 @@ use std::alloc::{AllocError, Global};
 use std::sync::Wait;
 
 /// Reads what is new on the server, tells the watcher of it, and gives the list that the watcher has then: the rows of
-/// all edits up to now, or up to a later refresh. The `Err` is want of memory; the board goes on from there next time.
+/// all edits up to now, or up to a later refresh. The `Err` means that there was no memory; the board goes on from there
+/// next time.
 pub fn refresh_display<M: Method, W: Wait>(
     rt: &W,
     alloc: Global,
@@ -32,6 +33,7 @@ pub fn refresh_display<M: Method, W: Wait>(
     ensures board { IsOneBoard board.old board.new }
     ensures watcher { IsOfOneBoard watcher.old watcher.new }
     ensures read { HasReadPart live.now.caps board.new (history_of (view result.0.pass)) }
+    ensures edits { IfOk result.1 (λ methods. methods.edits ≡ length (watched watcher.new)) }
     ensures rows { IfOk result.1 (λ methods. methods.rows.items ≡ listing (watched watcher.new)) }
     ensures told { IfOk result.1 (λ _. StartsWith (watched watcher.new)
         (edits_of (history_of (view result.0.pass)))) }

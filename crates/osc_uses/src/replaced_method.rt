@@ -1,8 +1,7 @@
 //! A method that takes another's place on a live server, whose box comes out with what it has heard.
 ghost use Rattle.std.specs.Prelude.{◌≡◌};
 ghost use Rattle.osc_turn.specs.Passes.{view};
-ghost use Rattle.osc_turn.specs.declared.view.View.{View};
-ghost use Rattle.osc_turn.specs.History.{texts, StartsWith};
+ghost use Rattle.osc_turn.specs.History.{texts};
 ghost use Rattle.osc_model.specs.History.{HasHeard, invoked_in};
 ghost use Rattle.osc_core.specs.Answers.{removing_of, adding_of, OnRemoved, OnRefused};
 ghost use Rattle.osc_live.specs.Seen.{performance_in};
@@ -37,11 +36,10 @@ pub fn replace<M: Method, W: Wait>(
     ensures ours { IsOurs live.now result.0 }
     ensures number { result.0.number ≡ caller.number }
     ensures calls { Replaces live.now.caps caller.number address (removing_of result.1.removed)
-        (adding_of result.1.added) (view caller.pass) (view result.0.pass) }
-    ensures heard { OnRemoved result.1.removed (λ id method. (between : View)
-        × StartsWith (view result.0.pass).seen between.seen
-        × HasHeard (invoked_in (performance_in live.now.caps (texts between.seen)))
-        (record { id = id; keep = M.keep method; heard = M.heard method })) }
+        (adding_of result.1.added) (λ between. OnRemoved result.1.removed (λ id method.
+        HasHeard (invoked_in (performance_in live.now.caps (texts between.seen)))
+        (record { id = id; keep = M.keep method; heard = M.heard method })))
+        (view caller.pass) (view result.0.pass) }
     ensures handed_back { OnRefused result.1.added
         (λ back untouched. (back ≡ address) × (untouched ≡ method)) }
 {

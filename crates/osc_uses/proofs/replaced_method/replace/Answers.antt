@@ -1,8 +1,15 @@
+use Rattle.std.proofs.Common.{ℕ, subst}
 use Rattle.osc_turn.specs.Passes.{view}
-use Rattle.osc_uses.proofs.LiveCalls.{on_removed}
+use Rattle.osc_model.specs.Events.{add}
+use Rattle.osc_core.specs.Answers.{adding_of}
+use Rattle.osc_live.specs.Calls.{Calls}
 use Rattle.osc_uses.proofs.replaced_method.replace.Goals as goal
 
-pub returns-clause-heard : goal.returns-clause-heard
-returns-clause-heard g c =
-    on_removed c.remove-caller.result.1 _ _ (λ id method heard. (view c.remove-caller.result.0.pass, c.add-caller.ensures.call.goes_on, heard))
-    c.remove-caller.ensures.heard
+pub returns-clause-calls : goal.returns-clause-calls
+returns-clause-calls g c = record {
+  between = view c.remove-caller.result.0.pass;
+  removes = c.remove-caller.ensures.call;
+  held = c.remove-caller.ensures.heard;
+  adds = subst (λ (n : ℕ). Calls c.args.live.now.caps n (add c.args.address) (adding_of c.add-caller.result.1)
+      (view c.remove-caller.result.0.pass) (view c.add-caller.result.0.pass)) c.remove-caller.ensures.number c.add-caller.ensures.call;
+}
