@@ -1,4 +1,4 @@
--- What a performance of lanes comes to beside a display of its methods.
+-- The result of a performance of lanes next to a display of its methods.
 use Rattle.std.specs.Prelude.{◌≡◌, ℕ, List, length, Option}
 use Rattle.osc_model.specs.Limits.{Limits}
 use Rattle.osc_model.specs.Events.{Entry, Room}
@@ -15,7 +15,7 @@ pub record Lists (history : List Entry) (methods : Methods) : Type 0 where
   pub edits : methods.edits ≡ length (edits_of history)
   pub rows : methods.rows.items ≡ listing (edits_of history)
 
--- The parts were played on one new server, each as a lane beside the others, and the methods are
+-- The parts were played on one new server, each as a lane next to the others, and the methods are
 -- those that stand after its one history.
 pub record Displays {M : Type 0} (keep : M → ℕ) (heard : M → Option (List ℕ)) (caps : Limits)
     (parts : List (Part M)) (recording : List ℕ) (kept : List (ℕ × M))

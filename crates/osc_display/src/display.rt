@@ -17,7 +17,8 @@ use osc_watch::{Board, Methods, Watcher};
 use std::alloc::{AllocError, Global};
 use std::sync::Wait;
 
-/// The number under which the gate is called round each read of the watcher. No lane of a script has it.
+/// The number under which the gate is called round each read of the watcher. No lane of a script
+/// has it.
 pub const WATCHER_LANE: u32 = 16;
 
 /// A board and its one watcher. It can be closed whatever was done with it.
@@ -29,7 +30,7 @@ pub struct Display {
     ghost ours: { All (IsWatcherOf board) watchers.items },
 }
 
-/// A board that has read nothing. An `Err` is want of memory.
+/// A board that has read nothing. An `Err` means out of memory.
 pub(crate) fn open<W: Wait>(rt: &W, alloc: Global) -> Result<Display, AllocError>
     ensures { IfOk result (λ display. (caps : Limits) (history : List Entry)
         → HasReadPart caps display.board history) }

@@ -1,5 +1,5 @@
-//! Lanes that are played beside a display of their server's methods. While they play, a watcher reads the list again
-//! and again; then it lists the methods that stand after all of it.
+//! Lanes that are played next to a display of their server's methods. While they play, a watcher
+//! reads the list again and again; then it lists the methods that stand after all of it.
 #![tactic(auto)]
 
 mod display;

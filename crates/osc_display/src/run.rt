@@ -1,4 +1,4 @@
-//! Plays many lanes on a new server, with a display beside them, and closes it.
+//! Plays many lanes on a new server, with a display next to them, and closes it.
 ghost use Rattle.std.specs.Prelude.{◌<◌, length, map, All, IfOk};
 ghost use Rattle.std.specs.Option.{option_map};
 ghost use Rattle.osc_record.specs.Shown.{room_of};
@@ -23,11 +23,11 @@ pub struct Displayed<M> {
     pub methods: Methods,
 }
 
-/// Plays the parts as lanes beside each other on a new server with these limits, as
-/// [`run_lanes`](osc_lanes::run_lanes) does. While they play, caller 0 refreshes a board of the server's methods, and
-/// its watcher reads it, again and again; the gate is called round each read, with
-/// [`WATCHER_LANE`](crate::WATCHER_LANE) and the number of the read, from 1. The last list calls no gate. An `Err` is
-/// want of memory.
+/// Plays the parts as lanes at the same time on a new server with these limits, as
+/// [`run_lanes`](osc_lanes::run_lanes) does. While they play, caller 0 refreshes a board of the
+/// server's methods, and its watcher reads it, again and again; the gate is called round each read,
+/// with [`WATCHER_LANE`](crate::WATCHER_LANE) and the number of the read, from 1. The last list
+/// calls no gate. An `Err` means out of memory.
 pub fn display_lanes<M: Method + Send, W: Threads + Wait + Sync, G: Gate + Sync>(
     rt: &W,
     alloc: Global,

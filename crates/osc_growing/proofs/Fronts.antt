@@ -1,10 +1,10 @@
 -- Fronts of texts that grow.
-use Rattle.std.proofs.Common.{◌≡◌, ◌≤◌, ◌<◌, ◌+◌, ℕ, List, [], ◌++◌, length, take, drop, min, Option, Some, None, IfSome, refl, sym, ap, subst, ◌∙◌, inl, inr, arith}
+use Rattle.std.proofs.Common.{◌≡◌, ◌≤◌, ◌+◌, ◌-◌, ℕ, List, ◌++◌, length, take, drop, min, Option, Some, None, IfSome, sym, ap, subst, ◌∙◌, inl, inr, arith}
 use Rattle.std.proofs.Common.{append_assoc, length-append, length-drop, length-take}
 use Rattle.std.proofs.Math.Seq.{take-add}
 use Rattle.std.proofs.lemmas.Bool.{cases_lt}
-use Rattle.std.proofs.lemmas.List.{append-nil, take-append-le, take_all, take-take, take_at, take_min}
-use Rattle.osc_live.specs.Reads.{part, overwritten, Writes}
+use Rattle.std.proofs.lemmas.List.{append-nil, take-append-le, take_all, take-take, take_at, take_min, length-take-le}
+use Rattle.osc_live.specs.Reads.{part, Writes}
 
 -- what an option holds has gained a text, or some front of it
 abbrev pub Gained : Option (List ℕ) → Option (List ℕ) → List ℕ → Type 0
@@ -50,20 +50,42 @@ front_on (Some before) after text more front =
     let count = min front.0 (length text) in
     (count, front.1 ∙ ap (λ (l : List ℕ). Some (before ++ l)) (sym (take_min front.0 text) ∙ sym (take-append-le count text more (omega arith))))
 
--- the bytes that were read, and how many there may be then
+-- the bytes that were read
 pub piece_is : (text old new : List ℕ) (from count : ℕ) → Writes text from old new count → take count new ≡ take (length old) (drop from text)
 piece_is text old new from count writes =
     ap (λ (l : List ℕ). take count l) writes.bytes
     ∙ take_at (part text from old) (drop (length (part text from old)) old) count (sym writes.counted)
 
-pub piece_ends : (text old new : List ℕ) (from count : ℕ) → from ≤ length text → Writes text from old new count
-    → (from + count ≤ length text) × (take from text ++ take (length old) (drop from text) ≡ take (from + count) text)
-piece_ends text old new from count within writes =
+-- how many they are
+pub piece_long : (text old new : List ℕ) (from count : ℕ) → Writes text from old new count → (count ≡ min (length old) (length text - from)) × (length (take count new) ≡ count)
+piece_long text old new from count writes =
     let size = length-take (length old) (drop from text) in
-    let counted = writes.counted ∙ size in
-    let end = length-drop from text in (
-      omega (arith, counted, end, within),
-      ap (λ (l : List ℕ). take from text ++ l)
-          (sym (take_min (length old) (drop from text)) ∙ ap (λ (n : ℕ). take n (drop from text)) (sym counted))
-          ∙ sym (take-add from count text),
+    let end = length-drop from text in
+    (omega (arith, writes.counted, size, end), ap length (piece_is text old new from count writes) ∙ sym writes.counted)
+
+-- the first bytes of those that were read
+pub part_is : (text old new : List ℕ) (from count size : ℕ) → Writes text from old new count → size ≤ count → from ≤ length text
+    → (length (take size new) ≡ size) × (take size new ≡ take (length (take size new)) (drop from text)) × (from + length (take size new) ≤ length text)
+part_is text old new from count size writes less within =
+    let long = piece_long text old new from count writes in
+    let same : take size new ≡ take size (drop from text) =
+    sym (take-take size count new less) ∙ ap (take size) (piece_is text old new from count writes)
+    ∙ take-take size (length old) (drop from text) (omega (arith, long.0, less)) in
+    let end = length-drop from text in
+    let size_is : length (take size new) ≡ size = ap length same ∙ length-take-le size (drop from text) (omega (arith, long.0, less, end)) in (
+      size_is,
+      same ∙ ap (λ (n : ℕ). take n (drop from text)) (sym size_is),
+      omega (arith, size_is, long.0, less, within),
+    )
+
+-- what was read into keeps its length
+pub space_same : (text old new : List ℕ) (from count : ℕ) → Writes text from old new count → length new ≡ length old
+space_same text old new from count writes =
+    let bytes = part text from old in
+    omega (
+      arith,
+      ap length writes.bytes,
+      length-append bytes (drop (length bytes) old),
+      length-drop (length bytes) old,
+      length-take (length old) (drop from text),
     )

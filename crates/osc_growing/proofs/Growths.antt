@@ -1,10 +1,11 @@
 -- How a recording grows.
-use Rattle.std.proofs.Common.{◌≡◌, ◌≤◌, ◌<◌, ◌+◌, ◌^◌, ℕ, List, [], ◌++◌, length, take, drop, map, slice_index, refl, sym, ap, subst, ◌∙◌, arith}
+use Rattle.std.proofs.Common.{◌≡◌, ◌≤◌, ◌+◌, ℕ, List, [], ◌++◌, length, take, drop, slice_index, refl, sym, ap, subst, ◌∙◌, arith}
 use Rattle.std.proofs.Common.{append_assoc, length-append}
 use Rattle.std.specs.List.{flat_map}
 use Rattle.std.proofs.lemmas.List.{append-nil, map-append, take-append-le}
 use Rattle.std.proofs.lemmas.List.Elements.{filter_map-append}
 use Rattle.std.proofs.lemmas.Grind.{flat_map-append}
+use Rattle.std.proofs.Math.Seq.{take-add}
 use Rattle.osc_edge.specs.Faults.{Rose}
 use Rattle.std.specs.Prelude.{Option, Some, None}
 use Rattle.osc_ends.specs.Sinks.{SinkChange, sink_change, GainsAll, GainsPart}
@@ -18,13 +19,12 @@ use Rattle.osc_turn.specs.declared.view.View.{View}
 use Rattle.osc_turn.specs.History.{StartsWith, texts, text_of, own}
 use Rattle.osc_turn.specs.Rule.{number_of}
 use Rattle.osc_live.specs.Reads.{Reads, Writes}
-use Rattle.osc_live.specs.Seen.{history_of}
 use Rattle.osc_turn.proofs.Histories.{starts_on}
 use Rattle.osc_growing.specs.declared.growth.Growth.{Growth}
 use Rattle.osc_growing.specs.declared.growth.Growth.TheVariants.{Written, Failed, NoMemory}
 use Rattle.osc_life.specs.Looking.{HasLooked, HasLookedOn}
 use Rattle.osc_growing.specs.Growing.{recorded, HasGrown, IsWithin, growth_of}
-use Rattle.osc_growing.proofs.Fronts.{Gained, Front, gained_none, gained_both, front_both, front_on, piece_is, piece_ends}
+use Rattle.osc_growing.proofs.Fronts.{Gained, Front, gained_none, gained_both, front_both, front_on}
 
 -- the text of an entry
 abbrev text_in : Entry → List ℕ
@@ -83,30 +83,29 @@ pub record Follows (one other : SinkChange) : Type 0 where
   pub faults : other.faults ≡ one.faults_after
 
 -- a piece was written after what was written
-pub piece_grown : (one other : SinkChange) (text old new piece : List ℕ) (from count : ℕ) → Follows one other → Writes text from old new count → piece ≡ take count new
-    → HasGrown (Written from) one text → GainsAll other piece → HasGrown (Written (from + count)) (then_changed one other) text
-piece_grown one other text old new piece from count follows writes is grown gains =
-    let ends = piece_ends text old new from count grown.0 writes in
-    let whole : piece ≡ take (length old) (drop from text) = is ∙ piece_is text old new from count writes in (
-      ends.0,
-      (
-        subst (λ (l : List ℕ). Gained one.held other.held_after l) (ap (λ (l : List ℕ). take from text ++ l) whole ∙ ends.1)
-            (gained_both one.held one.held_after other.held_after (take from text) piece grown.1.0
-            (subst (λ (h : _). Gained h other.held_after piece) follows.held gains.0)),
-        gains.1 ∙ follows.faults ∙ grown.1.1,
-      ),
-    )
+pub piece_grown : (one other : SinkChange) (text piece : List ℕ) (from : ℕ) → Follows one other → from + length piece ≤ length text
+    → piece ≡ take (length piece) (drop from text) → HasGrown (Written from) one text → GainsAll other piece
+    → HasGrown (Written (from + length piece)) (then_changed one other) text
+piece_grown one other text piece from follows within is grown gains = (
+  within,
+  (
+    subst (λ (l : List ℕ). Gained one.held other.held_after l)
+        (ap (λ (l : List ℕ). take from text ++ l) is ∙ sym (take-add from (length piece) text))
+        (gained_both one.held one.held_after other.held_after (take from text) piece grown.1.0
+        (subst (λ (h : _). Gained h other.held_after piece) follows.held gains.0)),
+    gains.1 ∙ follows.faults ∙ grown.1.1,
+  ),
+)
 
 -- the sink failed after what was written
-pub piece_failed : (one other : SinkChange) (text old new piece : List ℕ) (from count : ℕ) → Follows one other → Writes text from old new count → piece ≡ take count new
+pub piece_failed : (one other : SinkChange) (text piece : List ℕ) (from : ℕ) → Follows one other → piece ≡ take (length piece) (drop from text)
     → HasGrown (Written from) one text → GainsPart other piece → HasGrown Failed (then_changed one other) text
-piece_failed one other text old new piece from count follows writes is grown gains =
-    let whole : piece ≡ take (length old) (drop from text) = is ∙ piece_is text old new from count writes in (
-      front_both one.held one.held_after other.held_after text from (length old) grown.1.0
-          (subst (λ (h : _). Front h other.held_after (take (length old) (drop from text))) follows.held
-          (subst (λ (l : List ℕ). Front other.held other.held_after l) whole gains.0)),
-      subst (λ (n : ℕ). Rose n other.faults_after) (follows.faults ∙ grown.1.1) gains.1,
-    )
+piece_failed one other text piece from follows is grown gains = (
+  front_both one.held one.held_after other.held_after text from (length piece) grown.1.0
+      (subst (λ (h : _). Front h other.held_after (take (length piece) (drop from text))) follows.held
+      (subst (λ (l : List ℕ). Front other.held other.held_after l) is gains.0)),
+  subst (λ (n : ℕ). Rose n other.faults_after) (follows.faults ∙ grown.1.1) gains.1,
+)
 
 -- a read is a look
 pub looked_by : (caps : Limits) (from count : ℕ) (old new : List ℕ) (v w : View) → Reads caps from old new count v w → HasLooked v w

@@ -1,10 +1,10 @@
 -- How what is left of a recording is written.
-use Rattle.std.proofs.Common.{◌≡◌, ◌≢◌, ◌≤◌, ℕ, List, ◌++◌, length, take, drop, inl, inr, refl, sym, ap, subst, ◌∙◌, arith}
+use Rattle.std.proofs.Common.{ℕ, List, length, take, drop, inl, inr, refl, sym, subst, ◌∙◌, arith}
 use Rattle.std.proofs.lemmas.List.{take_all, take-append-drop}
 use Rattle.osc_edge.specs.Faults.{Rose}
 use Rattle.osc_ends.specs.Ends.{EndsText}
-use Rattle.osc_ends.specs.Sinks.{SinkChange, GainsAll, GainsPart}
-use Rattle.osc_growing.specs.declared.growth.Growth.TheVariants.{Written, Failed, NoMemory}
+use Rattle.osc_ends.specs.Sinks.{SinkChange}
+use Rattle.osc_growing.specs.declared.growth.Growth.TheVariants.{Written, Failed}
 use Rattle.osc_growing.specs.Growing.{HasGrown}
 use Rattle.osc_growing.proofs.Fronts.{Gained, Front, gained_both, front_both}
 use Rattle.osc_growing.proofs.Growths.{Follows, then_changed}

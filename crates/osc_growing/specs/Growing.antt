@@ -12,8 +12,8 @@ use Rattle.osc_growing.specs.declared.growth.Growth.TheVariants.{Written, Failed
 unfoldable pub recorded : Limits → View → List ℕ
 recorded caps view = record_text caps (history_of view)
 
--- A sink has gained a front of a recording, of so many bytes; or it failed, after some front. Want
--- of memory promises nothing.
+-- A sink has gained a front of a recording, of so many bytes; or it failed, after some front. Out
+-- of memory, nothing is promised.
 abbrev pub HasGrown : Growth → SinkChange → List ℕ → Type 0
 HasGrown (Written at) sink recording =
     (at ≤ length recording) × GainsAll sink (take at recording)

@@ -1,4 +1,4 @@
-// How far a recording was written while it grew.
+//! How far a recording was written while it grew.
 ghost use Rattle.std.specs.Prelude.{◌≡◌};
 ghost use Rattle.osc_growing.specs.Growing.{growth_of};
 

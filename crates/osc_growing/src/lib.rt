@@ -1,13 +1,14 @@
-//! A recording that is written while it grows: what a live server has recorded so far stands in a sink while its callers
-//! are at work.
+//! A recording that is written while it grows: what a live server has recorded so far stands in a
+//! sink while its callers are at work.
 #![tactic(auto)]
 
-mod growing;
+mod entries;
 mod growth;
+mod pieces;
 mod rest;
 mod writer;
 
-pub use growing::write_while;
 pub use growth::{Growth, growth_of};
+pub use pieces::write_while;
 pub use rest::write_rest;
 pub use writer::Writer;

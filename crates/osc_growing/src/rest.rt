@@ -10,7 +10,8 @@ use osc_edge::Sink;
 use osc_ends::status::{DONE, NO_MEMORY, SINK_FAILED};
 use osc_ends::write_text;
 
-/// Writes what is left of the recording: 0, or 5 where the sink fails or has failed, or 3 where it has no memory.
+/// Writes what is left of the recording: 0, or 5 where the sink fails or has failed, or 3 where it
+/// has no memory.
 pub fn write_rest<R: Sink>(recording: &[u8], growth: Growth, rec: &mut R) -> u8
     requires { IsWithin growth (length recording.now) }
     ensures { (start : R)

@@ -2,13 +2,12 @@
 ghost use Rattle.osc_ends.specs.Sinks.{sink_change};
 ghost use Rattle.osc_growing.specs.Growing.{HasGrown, recorded};
 
-use crate::growing::write_while;
 use crate::growth::Growth;
+use crate::pieces::write_while;
 use osc_edge::Sink;
-use osc_life::{Aside, Progress};
-use osc_live::{Caller, Live};
+use osc_life::{Aside, Desk, Gate, Progress};
+use osc_live::Caller;
 use osc_method::Method;
-use std::alloc::Global;
 use std::sync::Wait;
 
 /// Writes what the recording gains to a sink that it is lent, as [`write_while`] does.
@@ -21,15 +20,13 @@ impl<M: Method, R: Sink> Aside<M, R> for Writer {
     ghost looks = { λ before after end caps v. HasGrown end
         (sink_change R.held R.faults before after) (recorded caps v) };
 
-    fn look<W: Wait>(
+    fn look<W: Wait, G: Gate>(
         self,
         on: &mut R,
-        rt: &W,
-        alloc: Global,
-        live: &Live<M>,
+        desk: &Desk<'_, M, W, G>,
         first: Caller,
         progress: &Progress,
     ) -> (Caller, Growth) {
-        write_while(rt, alloc, live, first, on, progress)
+        write_while(desk.rt, desk.alloc, desk.live, first, on, progress)
     }
 }

@@ -1,4 +1,4 @@
--- What a performance of lanes comes to on a server that goes on from a past.
+-- The result of a performance of lanes on a server that goes on from a past.
 use Rattle.std.specs.Prelude.{◌≡◌, ℕ, ◌<◌, IsTrue, List, ◌++◌, length}
 use Rattle.std.specs.Prelude.{map, All, Option, None, MatchOption}
 use Rattle.std.specs.List.{AllByRecursion}
@@ -51,7 +51,7 @@ module _ {M : Type 0} where
     pub removed : All (λ account. AllByRecursion (IsRemovedAt keep heard caps history)
         account.removed) accounts
 
-  -- The parts were played on a server that goes on from a past, each as a lane beside the others,
+  -- The parts were played on a server that goes on from a past, each as a lane next to the others,
   -- the first by the caller after the old ones, unless the recording had no room for an enrolment:
   -- then no lane was started, so that all entries are those of caller 0's token, and all boxes come
   -- back. There is one history, with which the server was closed, and each lane has its share of
@@ -71,9 +71,10 @@ module _ {M : Type 0} where
         (λ room. (callers < length parts) × HasNoRoomToEnrol caps history room
         × (accounts ≡ map (λ part. ended part.boxes None) parts))
 
-  -- The parts were performed so, and something else meanwhile, by caller 0, which ended after all of
-  -- the one history.
-  pub record PerformsBeside {X F : Type 0} (ends : X → X → F → Holder → List (List Seen) → View → View → Type 0)
+  -- The parts were performed so, and something else meanwhile, by caller 0, which ended after all
+  -- of the one history.
+  pub record PerformsBeside {X F : Type 0}
+      (ends : X → X → F → Holder → List (List Seen) → View → View → Type 0)
       (keep : M → ℕ) (heard : M → Option (List ℕ)) (caps : Limits) (past : List (List ℕ))
       (parts : List (Part M)) (recording : List ℕ) (kept : List (ℕ × M))
       (accounts : List (Account M)) (unenrolled : Option Room) (before after : X)

@@ -1,4 +1,4 @@
--- What a performance of lanes comes to: one history, and each lane's share of it.
+-- The result of a performance of lanes: one history, and each lane's share of it.
 use Rattle.std.specs.Prelude.{◌≡◌, ℕ, ◌<◌, ◌≤◌, true, IsTrue, List, [], ◌++◌}
 use Rattle.std.specs.Prelude.{length, map, All, Option, None, MatchOption}
 use Rattle.std.specs.List.{AllByRecursion, flat_map}
@@ -87,10 +87,10 @@ module _ {M : Type 0} where
     pub removed : All (λ account. AllByRecursion (IsRemovedAt keep heard caps history)
         account.removed) accounts
 
-  -- The parts were played on one new server, each as a lane beside the others, unless the recording
-  -- had no room for an enrolment: then no lane was started, so that all entries are caller 0's, and
-  -- all boxes come back. There is one history, with which the server was closed, and each lane has
-  -- its share of it.
+  -- The parts were played on one new server, each as a lane next to the others, unless the
+  -- recording had no room for an enrolment: then no lane was started, so that all entries are
+  -- caller 0's, and all boxes come back. There is one history, with which the server was closed,
+  -- and each lane has its share of it.
   pub record Performs (keep : M → ℕ) (heard : M → Option (List ℕ)) (caps : Limits)
       (parts : List (Part M)) (recording : List ℕ) (kept : List (ℕ × M))
       (accounts : List (Account M)) (unenrolled : Option Room) : Type 0 where

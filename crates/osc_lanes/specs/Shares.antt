@@ -152,5 +152,6 @@ module _ {M : Type 0} where
     -- the same of a token that came in after these entries
     abbrev pub LaneAfter : Holder → List Line → List M → Account M → List Seen → List Seen → Type 0
     LaneAfter holder lines boxes account first history =
-        (here : List Seen) × (there : List Seen) × StartsWith here first × (own holder.token here ≡ [])
+        (here : List Seen) × (there : List Seen) × StartsWith here first
+        × (own holder.token here ≡ [])
         × Plays holder lines boxes account here there × Onward holder.token there history

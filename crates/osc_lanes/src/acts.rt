@@ -1,4 +1,4 @@
-// Plays one line.
+//! Plays one line.
 ghost use Rattle.std.specs.Prelude.{◌≡◌, ◌+◌, ◌≤◌, ◌++◌, length, IfOk, OnOk};
 ghost use Rattle.std.specs.Vec.Iter.{into_iter_items};
 ghost use Rattle.osc_core.specs.Answers.{handed_back, handed_out};
@@ -18,8 +18,8 @@ use osc_script::{Act, Line};
 use std::alloc::AllocError;
 use std::sync::Wait;
 
-/// Plays a line of the lane; an add takes the next box. The lane's `stop` is then the room where the recording was
-/// full. An `Err` is want of memory.
+/// Plays a line of the lane; an add takes the next box. The lane's `stop` is then the room where
+/// the recording was full. An `Err` means out of memory.
 pub(crate) fn play_line<M: Method, W: Wait>(
     rt: &W,
     live: &Live<M>,

@@ -1,4 +1,4 @@
-//! Plays many lanes beside each other.
+//! Plays many lanes at the same time.
 ghost use Rattle.std.specs.Prelude.{All, IfOk};
 ghost use Rattle.std.specs.List.{AllZip, AllByRecursion};
 ghost use Rattle.osc_live.specs.Tokens.{IsOurs};
@@ -17,8 +17,8 @@ use std::sync::Wait;
 use std::thread;
 use std::thread::Threads;
 
-/// Plays the plans, each by a thread of its own where one can be made. The ends stand in the order of the plans. An
-/// `Err` is want of memory.
+/// Plays the plans, each by a thread of its own where one can be made. The ends stand in the order
+/// of the plans. An `Err` means out of memory.
 pub fn play<M: Method + Send, W: Threads + Wait + Sync, G: Gate + Sync>(
     rt: &W,
     alloc: Global,

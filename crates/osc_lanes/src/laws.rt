@@ -1,5 +1,5 @@
-//! What holds of a lane in every history that goes on from what its token has seen, and of a recording with room enough
-//! for all lanes.
+//! What holds of a lane in every history that goes on from what its token has seen, and of a
+//! recording with room enough for all lanes.
 ghost use Rattle.std.specs.Prelude.{◌≡◌, ℕ, ◌+◌, ◌*◌, ◌≤◌, List, [], ◌∷◌, All, Option, None, codes};
 ghost use Rattle.std.specs.List.{AllByRecursion};
 ghost use Rattle.osc_turn.specs.History.{StartsWith, texts, own};
@@ -24,8 +24,8 @@ ghost use Rattle.osc_lanes.specs.Ends.{told_in, IsReady, IsEndOf};
 use osc_method::Method;
 use osc_model::laws::a_method_is_called_while_it_is_registered;
 
-/// A lane's share is its share of every history that goes on with no further entry of its token, and the boxes that it
-/// removed have heard what such a history says.
+/// A lane's share is its share of every history that goes on with no further entry of its token,
+/// and the boxes that it removed have heard what such a history says.
 pub fn a_lane_keeps_its_share<M: Method>()
     ensures share { (caps : Limits) (plan : LanePlan M) (end : LaneEnd M) (history : List Entry)
         → IsReady plan → IsEndOf M.keep M.heard caps plan end
@@ -49,9 +49,9 @@ pub fn enough_room_never_stops<M: Method>()
         → (unenrolled ≡ None) × All (λ account. account.stop ≡ None) accounts }
 {}
 
-/// Two callers are enrolled in the order of their numbers; of a history the ids that were added are told, and of lanes
-/// those that they removed; two items are numbered from 1; and so many bytes are enough for a lane that adds a method,
-/// and for it beside a lane that sends a message.
+/// Two callers are enrolled in the order of their numbers; of a history the ids that were added are
+/// told, and of lanes those that they removed; two items are numbered from 1; and so many bytes are
+/// enough for a lane that adds a method, and for it next to a lane that sends a message.
 pub fn examples()
     ensures enrolled { enrolments 1 2
         ≡ record { caller = 0; event = enrol; answer = number 1 }

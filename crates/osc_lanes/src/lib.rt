@@ -1,5 +1,5 @@
-//! Lanes: script lines that are played beside each other on one server, each lane by a thread and under a token of its
-//! own.
+//! Lanes: script lines that are played at the same time on one server, each lane by a thread and
+//! under a token of its own.
 #![tactic(auto)]
 
 mod acts;

@@ -1,4 +1,4 @@
-// Sends bytes that may be a packet.
+//! Sends bytes that may be a packet.
 ghost use Rattle.std.specs.Prelude.{◌≡◌, ℕ, List, IfOk, None};
 ghost use Rattle.std.specs.Option.{option_map};
 ghost use Rattle.osc_record.specs.Shown.{room_of};
@@ -15,8 +15,8 @@ use osc_packet::{MAX_PACKET, Packet};
 use std::alloc::AllocError;
 use std::sync::Wait;
 
-/// Submits bytes that are a packet, and else keeps their fault under the number. The `Some` is the room where the
-/// recording was full; an `Err` is want of memory.
+/// Submits bytes that are a packet, and else keeps their fault under the number. The `Some` is the
+/// room where the recording was full; an `Err` means out of memory.
 pub fn send<M: Method, W: Wait>(
     rt: &W,
     live: &Live<M>,

@@ -43,8 +43,9 @@ pub struct Performed<M> {
     pub unenrolled: Option<Room>,
 }
 
-/// Opens a server with these limits, enrols a caller for each part, plays the parts as lanes beside each other, and
-/// closes the server. The callers of the lanes are numbered from 1. An `Err` is want of memory.
+/// Opens a server with these limits, enrols a caller for each part, plays the parts as lanes at the
+/// same time, and closes the server. The callers of the lanes are numbered from 1. An `Err` means
+/// out of memory.
 pub fn run_lanes<M: Method + Send, W: Threads + Wait + Sync, G: Gate + Sync>(
     rt: &W,
     alloc: Global,
@@ -65,9 +66,9 @@ pub fn run_lanes<M: Method + Send, W: Threads + Wait + Sync, G: Gate + Sync>(
     Ok(performed)
 }
 
-/// Enrols a caller for each part on a server that goes on from a recording, after the callers that it had, plays the
-/// parts as lanes beside each other, and closes the server. `callers` are the tokens that
-/// [`Live::resume`](osc_live::Live::resume) gave. An `Err` is want of memory.
+/// Enrols a caller for each part on a server that goes on from a recording, after the callers that
+/// it had, plays the parts as lanes at the same time, and closes the server. `callers` are the
+/// tokens that [`Live::resume`](osc_live::Live::resume) gave. An `Err` means out of memory.
 pub fn resume_lanes<M: Method + Send, W: Threads + Wait + Sync, G: Gate + Sync>(
     rt: &W,
     alloc: Global,
@@ -92,8 +93,8 @@ pub fn resume_lanes<M: Method + Send, W: Threads + Wait + Sync, G: Gate + Sync>(
     Ok(performed)
 }
 
-/// Plays the parts as the works of a life, and something else meanwhile: `meanwhile`, by caller 0, with what it is lent.
-/// An `Err` is want of memory.
+/// Plays the parts as the works of a life, and something else meanwhile: `meanwhile`, by caller 0,
+/// with what it is lent. An `Err` means out of memory.
 pub fn perform_beside<
     M: Method + Send,
     W: Threads + Wait + Sync,

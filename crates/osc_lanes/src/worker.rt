@@ -1,4 +1,4 @@
-// The worker of one lane.
+//! The worker of one lane.
 ghost use Rattle.std.specs.Prelude.{◌≡◌, ◌≤◌, ◌++◌, length, IfOk, OnOk, None};
 ghost use Rattle.std.specs.Vec.Iter.{into_iter_items};
 ghost use Rattle.osc_turn.specs.Passes.{view};
@@ -22,7 +22,7 @@ use std::alloc::{AllocError, Global};
 use std::sync::Wait;
 use std::vec::IntoIter;
 
-/// Plays a plan, up to the first line that finds the recording full. An `Err` is want of memory.
+/// Plays a plan, up to the first line that finds the recording full. An `Err` means out of memory.
 pub fn play_lane<M: Method, W: Wait, G: Gate>(
     rt: &W,
     alloc: Global,

@@ -1,4 +1,4 @@
--- What the life of a server comes to: one history, and each worker's share of it.
+-- The result of a server's life: one history, and each worker's share of it.
 use Rattle.std.specs.Prelude.{◌≡◌, ◌⊎◌, ℕ, ◌+◌, ◌<◌, ◌≤◌, true, IsTrue, List, [], ◌∷◌, ◌++◌, length}
 use Rattle.std.specs.Prelude.{map, All, Option, Some, None}
 use Rattle.std.specs.List.{flat_map}
@@ -84,9 +84,10 @@ Numbered relation first (x ∷ xs) (y ∷ ys) =
 Numbered relation first _ _ = ⊥
 
 -- Something else was done under the token of this holder, which came in after these entries, and in
--- the end after all that these tokens have seen: the history has no other entry of it, and the token
--- has seen all of it.
-pub record IsUnder {X F : Type 0} (ends : X → X → F → Holder → List (List Seen) → View → View → Type 0)
+-- the end after all that these tokens have seen: the history has no other entry of it, and the
+-- token has seen all of it.
+pub record IsUnder {X F : Type 0}
+    (ends : X → X → F → Holder → List (List Seen) → View → View → Type 0)
     (holder : Holder) (first history : List Seen) (tokens : List (List Seen)) (before after : X)
     (end : F) : Type 0 where
   pub start : View
@@ -109,7 +110,8 @@ module _ {P E : Type 0} (plays : P → E → Holder → List Seen → List Seen 
 
   -- Each work has its share of the history; or there was no room for an enrolment: then no work was
   -- played, and all come back.
-  abbrev pub HasPlayed : Limits → ℕ → ℕ → List Seen → List P → List (List Seen) → Played P E → Type 0
+  abbrev pub HasPlayed : Limits → ℕ → ℕ → List Seen → List P → List (List Seen) → Played P E
+      → Type 0
   HasPlayed caps next callers history works tokens (Each ends) =
       (callers ≡ length works)
       × AreShares caps (own 0 history) history next works ends.items tokens
@@ -117,11 +119,12 @@ module _ {P E : Type 0} (plays : P → E → Holder → List Seen → List Seen 
       (callers < length works) × HasNoRoomToEnrol caps history (room_of room)
       × (back.items ≡ works)
 
-  -- The works were played beside each other on a server that goes on from a past, each under a
+  -- The works were played at the same time on a server that goes on from a past, each under a
   -- caller of its own, and something else meanwhile, by caller 0, whose token knew `first` before.
   -- There is one history, with which the server was closed; in the end the meanwhile's token has
   -- seen all of it.
-  pub record Lives {X F : Type 0} (ends : X → X → F → Holder → List (List Seen) → View → View → Type 0)
+  pub record Lives {X F : Type 0}
+      (ends : X → X → F → Holder → List (List Seen) → View → View → Type 0)
       (caps : Limits) (past : List (List ℕ)) (first : View) (works : List P) (before after : X)
       (recording : List ℕ) (kept : List Told) (played : Played P E) (end : F) : Type 0 where
     pub history : List Seen
@@ -138,7 +141,8 @@ module _ {P E : Type 0} (plays : P → E → Holder → List Seen → List Seen 
 
   -- The same of works and of something else that was done by one caller more, after those of the
   -- works; or there was no room for an enrolment: then nothing was done.
-  abbrev pub HasPlayedUnder : {X F : Type 0} → (X → X → F → Holder → List (List Seen) → View → View → Type 0)
+  abbrev pub HasPlayedUnder : {X F : Type 0}
+      → (X → X → F → Holder → List (List Seen) → View → View → Type 0)
       → Limits → ℕ → ℕ → List Seen → List P → X → X → Played P E → Option F → Type 0
   HasPlayedUnder ends caps next callers history works before after (Each all) (Some end) =
       (callers ≡ length works + 1) × (tokens : List (List Seen))
@@ -150,8 +154,9 @@ module _ {P E : Type 0} (plays : P → E → Holder → List Seen → List Seen 
       × (back.items ≡ works) × (after ≡ before)
   HasPlayedUnder ends caps next callers history works before after _ _ = ⊥
 
-  -- The works were played beside each other, and something else meanwhile, under a token of its own.
-  pub record LivesUnder {X F : Type 0} (ends : X → X → F → Holder → List (List Seen) → View → View → Type 0)
+  -- The works were played at the same time, and something else meanwhile, under a token of its own.
+  pub record LivesUnder {X F : Type 0}
+      (ends : X → X → F → Holder → List (List Seen) → View → View → Type 0)
       (caps : Limits) (past : List (List ℕ)) (first : View) (works : List P) (before after : X)
       (recording : List ℕ) (kept : List Told) (played : Played P E) (end : Option F) : Type 0 where
     pub history : List Seen
@@ -159,4 +164,5 @@ module _ {P E : Type 0} (plays : P → E → Holder → List Seen → List Seen 
     pub goes_on : StartsWith (own 0 history) first.seen
     pub stage : IsLife caps past (history_of first) first.made callers history
     pub closed : IsClosed caps history recording kept
-    pub played_so : HasPlayedUnder ends caps first.made callers history works before after played end
+    pub played_so : HasPlayedUnder ends caps first.made callers history works before after played
+        end

@@ -1,5 +1,6 @@
 -- Tokens that only look, and what comes of looking.
 use Rattle.std.specs.Prelude.{◌≡◌, ℕ, List, Option, Some, None}
+use Rattle.osc_method.specs.declared.method.Method.{Ghosts}
 use Rattle.osc_model.specs.Limits.{Limits}
 use Rattle.osc_model.specs.Recordings.{record_text}
 use Rattle.osc_core.specs.Standing.{history_in}
@@ -7,6 +8,10 @@ use Rattle.osc_turn.specs.declared.view.Entry.{Entry as Seen}
 use Rattle.osc_turn.specs.declared.view.View.{View}
 use Rattle.osc_turn.specs.History.{StartsWith, texts, own}
 use Rattle.osc_turn.specs.Rule.{number_of}
+use Rattle.osc_turn.specs.Passes.{view}
+use Rattle.osc_live.specs.declared.caller.Caller.{Caller}
+use Rattle.osc_live.specs.declared.live.Live.{Live}
+use Rattle.osc_live.specs.Tokens.{IsOurs}
 
 -- What is seen goes on from what was seen, with no further entry of the token, which made none.
 pub record HasLooked (v w : View) : Type 0 where
@@ -14,6 +19,16 @@ pub record HasLooked (v w : View) : Type 0 where
   pub numbers : w.numbers ≡ v.numbers
   pub own_same : own (number_of v) w.seen ≡ own (number_of v) v.seen
   pub made : w.made ≡ v.made
+
+-- A caller who has looked comes back, and this came of it, where something that was lent was as the
+-- first and is as the second.
+pub record IsBack {Y D : Type 0} (looks : Y → Y → D → Limits → View → Type 0) {M : Type 0}
+    {G : Ghosts M} (live : Live M G) (before after : Y) (first : Caller)
+    (back : Caller × D) : Type 0 where
+  pub ours : IsOurs live back.0
+  pub number : back.0.number ≡ first.number
+  pub looked : HasLooked (view first.pass) (view back.0.pass)
+  pub came : looks before after back.1 live.caps (view back.0.pass)
 
 -- What came of looking, where something that was lent was as the first and is as the second: what
 -- was seen in the end is a front of the history that is recorded. Or nobody has looked.

@@ -12,6 +12,7 @@ use Rattle.osc_live.specs.declared.live.Live.{Live}
 use Rattle.osc_live.specs.Closing.{known}
 use Rattle.osc_live.specs.Tokens.{IsOurs}
 use Rattle.osc_life.specs.declared.beside.Beside.{Beside}
+use Rattle.osc_life.specs.declared.players.Players.{Players}
 use Rattle.osc_life.specs.declared.worker.Job.{Job}
 use Rattle.osc_life.specs.declared.worker.Done.{Done}
 use Rattle.osc_life.specs.Holders.{Holder, Learns, Onward, seen_by, holder_of}
@@ -42,6 +43,12 @@ module _ {M : Type 0} {G : Ghosts M} (live : Live M G) where
       pub start : View
       pub played : rounds before on state (holder_of live.caps caller) start (view caller.pass)
 
+    -- the jobs can be played, and what goes on meanwhile
+    pub record CanBegin {P : Type 0} (ready : P → Type 0) (on : X)
+        (players : Players P T) : Type 0 where
+      pub jobs : All (CanPlay ready) players.jobs.items
+      pub goes : CanGoOn on players.meanwhile players.caller
+
     -- the same, before the token was told of what others have seen
     pub record CanEnd (on : X) (state : T) (caller : Caller) : Type 0 where
       pub ours : IsOurs live caller
@@ -64,7 +71,8 @@ module _ {M : Type 0} {G : Ghosts M} (live : Live M G) where
 
     -- whatever rounds were played before the token was told of what others have seen, they ended
     -- then, after all that these tokens have seen
-    pub record Ends {F : Type 0} (ends : X → X → F → Holder → List (List Seen) → View → View → Type 0)
+    pub record Ends {F : Type 0}
+        (ends : X → X → F → Holder → List (List Seen) → View → View → Type 0)
         (on then_on : X) (state : T) (end : F) (caller after : Caller) : Type 0 where
       pub ours : IsOurs live after
       pub holder : holder_of live.caps after ≡ holder_of live.caps caller
@@ -77,7 +85,8 @@ module _ {M : Type 0} {G : Ghosts M} (live : Live M G) where
 
     -- whatever rounds were played before, they were ended so, after all that these others have
     -- seen, who come back as they were
-    pub record IsOver {F : Type 0} (ends : X → X → F → Holder → List (List Seen) → View → View → Type 0)
+    pub record IsOver {F : Type 0}
+        (ends : X → X → F → Holder → List (List Seen) → View → View → Type 0)
         (on then_on : X) (state : T) (end : F) (caller after : Caller)
         (others back : List Caller) : Type 0 where
       pub ours : IsOurs live after
@@ -115,8 +124,8 @@ module _ {M : Type 0} {G : Ghosts M} (live : Live M G) {P E X T F : Type 0}
     (plays : P → E → Holder → List Seen → List Seen → Type 0)
     (rounds : X → X → T → Holder → View → View → Type 0)
     (ends : X → X → F → Holder → List (List Seen) → View → View → Type 0) where
-  -- The jobs were played, and rounds meanwhile, that were ended after all that the jobs' tokens have
-  -- seen.
+  -- The jobs were played, and rounds meanwhile, that were ended after all that the jobs' tokens
+  -- have seen.
   pub record ArePlayed (jobs : List (Job P)) (on then_on : X) (state : T) (caller : Caller)
       (both : Beside E F) : Type 0 where
     pub all : List (Done E)

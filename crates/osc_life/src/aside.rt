@@ -6,34 +6,35 @@ ghost use Rattle.osc_turn.specs.Passes.{view};
 ghost use Rattle.osc_live.specs.Tokens.{IsOurs};
 ghost use Rattle.osc_life.specs.Looking.{HasLooked};
 
+use crate::desk::Desk;
+use crate::gate::Gate;
 use crate::progress::Progress;
-use osc_live::{Caller, Live};
+use osc_live::Caller;
 use osc_method::Method;
-use std::alloc::Global;
 use std::sync::Wait;
 
-/// What is done on the calling thread with a token that only looks, while others play, with a `Y` that it is lent.
+/// What is done on the calling thread with a token that only looks, while others play, with a `Y`
+/// that it is lent.
 pub trait Aside<M: Method, Y> {
     /// What came of it.
     type End: Drop;
 
-    /// This came of it, where what is lent was as the first and is as the second, of a server with these limits, and the
-    /// token has seen this in the end.
+    /// This came of it, where what is lent was as the first and is as the second, of a server with
+    /// these limits, and the token has seen this in the end.
     ghost looks: { Y → Y → Self.End → Limits → View → Type 0 };
 
     /// Looks until the work is over, or it gives up.
-    fn look<W: Wait>(
+    fn look<W: Wait, G: Gate>(
         self,
         on: &mut Y,
-        rt: &W,
-        alloc: Global,
-        live: &Live<M>,
+        desk: &Desk<'_, M, W, G>,
         first: Caller,
         progress: &Progress,
     ) -> (Caller, Self::End)
-        requires { IsOurs live.now first }
-        ensures ours { IsOurs live.now result.0 }
+        requires { IsOurs desk.now.live.now first }
+        ensures ours { IsOurs desk.now.live.now result.0 }
         ensures number { result.0.number ≡ first.number }
         ensures looked { HasLooked (view first.pass) (view result.0.pass) }
-        ensures looks { looks on.old on.new result.1 live.now.caps (view result.0.pass) };
+        ensures looks { looks on.old on.new result.1 desk.now.live.now.caps
+            (view result.0.pass) };
 }

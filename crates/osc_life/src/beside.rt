@@ -1,4 +1,4 @@
-//! Workers beside each other, while something else goes on.
+//! Workers at the same time, while something else goes on.
 ghost use Rattle.std.specs.Prelude.{All, IfOk, IsSomeAnd};
 ghost use Rattle.std.specs.List.{AllZip};
 ghost use Rattle.osc_live.specs.Tokens.{IsOurs};
@@ -22,7 +22,7 @@ use std::thread::{Threads, join_mut};
 pub struct Beside<E, F> {
     /// The caller of what went on meanwhile, and those of the jobs.
     pub crew: Crew,
-    /// What the jobs came to, in their order.
+    /// The results of the jobs, in their order.
     pub ends: Vec<E>,
     pub end: F,
 }
@@ -53,8 +53,8 @@ fn go_on<M: Method, W: Wait, X, T: Meanwhile<M, X>, G: Gate>(
     unreachable!()
 }
 
-/// Plays the jobs, each by a thread of its own where one can be made, and rounds of something else meanwhile. An `Err`
-/// is want of memory for the jobs.
+/// Plays the jobs, each by a thread of its own where one can be made, and rounds of something else
+/// meanwhile. An `Err` means out of memory for the jobs.
 fn play_both<
     M: Method + Send,
     W: Threads + Wait + Sync,
@@ -141,8 +141,9 @@ pub(crate) fn last_round<M: Method, W: Wait, X, T: Meanwhile<M, X> + Drop, G: Ga
     Ok((crew, end))
 }
 
-/// Plays the jobs, each by a thread of its own where one can be made, and rounds of something else meanwhile; then the
-/// last round of that, after all that the workers have done. An `Err` is want of memory.
+/// Plays the jobs, each by a thread of its own where one can be made, and rounds of something else
+/// meanwhile; then the last round of that, after all that the workers have done. An `Err` means out
+/// of memory.
 pub fn play_beside<
     M: Method + Send,
     W: Threads + Wait + Sync,

@@ -1,4 +1,4 @@
-// Enrols the callers of lanes.
+//! Enrols the callers of lanes.
 ghost use Rattle.std.specs.Prelude.{◌≡◌, ◌<◌, ◌≤◌, ◌+◌, All, IfOk, IfErr, IfSome};
 ghost use Rattle.osc_model.specs.Events.{enrol};
 ghost use Rattle.osc_turn.specs.History.{StartsWith};
@@ -89,7 +89,7 @@ fn enrol_next<M: Method, W: Wait>(
     (first, answer)
 }
 
-/// Tells each caller what the first has seen. The `Err` is want of memory.
+/// Tells each caller what the first has seen. The `Err` means out of memory.
 pub(crate) fn meet_all<M: Method>(
     alloc: Global,
     live: &Live<M>,
@@ -120,7 +120,7 @@ pub(crate) fn meet_all<M: Method>(
     })
 }
 
-/// Tells the first caller what the others have seen. The `Err` is want of memory.
+/// Tells the first caller what the others have seen. The `Err` means out of memory.
 pub(crate) fn learn_all<M: Method>(
     alloc: Global,
     live: &Live<M>,

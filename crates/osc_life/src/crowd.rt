@@ -1,4 +1,4 @@
-//! Workers beside each other.
+//! Workers at the same time.
 ghost use Rattle.std.specs.Prelude.{◌≡◌, length, map, All, IfOk, Ok};
 ghost use Rattle.std.specs.List.{AllZip};
 ghost use Rattle.osc_live.specs.Tokens.{IsOurs};
@@ -14,8 +14,8 @@ use std::sync::Wait;
 use std::thread;
 use std::thread::Threads;
 
-/// Plays the jobs, each by a thread of its own where one can be made. The ends stand in the order of the jobs. An `Err`
-/// is want of memory.
+/// Plays the jobs, each by a thread of its own where one can be made. The ends stand in the order
+/// of the jobs. An `Err` means out of memory.
 pub fn play_each<
     M: Method + Send,
     W: Threads + Wait + Sync,
@@ -51,7 +51,7 @@ pub fn play_each<
     Ok(all)
 }
 
-/// Plays one job. An `Err` is want of memory.
+/// Plays one job. An `Err` means out of memory.
 fn play_job<M: Method, W: Wait, P: Worker<M>, G: Gate>(
     desk: &Desk<'_, M, W, G>,
     job: Job<P>,
@@ -99,7 +99,7 @@ pub fn make_jobs<P: Drop>(
     Ok(jobs)
 }
 
-/// The callers, and what their works came to.
+/// The callers, and the results of their works.
 pub(crate) fn split_ends<E: Drop>(
     alloc: Global,
     all: Vec<Done<E>>,

@@ -1,5 +1,5 @@
-//! The life of a server on threads: it is opened or goes on from a past, callers are enrolled, each plays a work of its
-//! own while something else goes on meanwhile, and the server is closed.
+//! The life of a server on threads: it is opened or goes on from a past, callers are enrolled, each
+//! plays a work of its own while something else goes on meanwhile, and the server is closed.
 #![tactic(auto)]
 
 mod aside;
@@ -10,11 +10,12 @@ mod crowd;
 mod desk;
 mod gate;
 mod life;
-mod living;
+mod lifetime;
+mod looker;
 mod meanwhile;
 mod nobody;
+mod players;
 mod progress;
-mod seeing;
 mod worker;
 
 pub use aside::Aside;
@@ -24,7 +25,7 @@ pub use crowd::{all_ended, make_jobs, play_each};
 pub use desk::Desk;
 pub use gate::{Gate, OpenGate};
 pub use life::{Life, Lived, Played};
-pub use living::{live_on, live_under};
+pub use lifetime::{Tasks, live_on, live_under};
 pub use meanwhile::Meanwhile;
 pub use nobody::Nobody;
 pub use progress::Progress;

@@ -1,4 +1,4 @@
-//! A server whose tokens are all at hand, and what its life comes to.
+//! A server whose tokens are all at hand, and the result of its life.
 ghost use Rattle.std.specs.Prelude.{◌≡◌, ◌+◌, List, [], length, All, IfOk};
 ghost use Rattle.osc_model.specs.History.{Legal};
 ghost use Rattle.osc_core.specs.Standing.{history_in};
@@ -37,13 +37,14 @@ pub struct Life<M: Method> {
 /// What became of the works.
 #[derive(Drop)]
 pub enum Played<P, E> {
-    /// What each came to, in their order.
+    /// The result of each, in their order.
     Each(Vec<E>),
-    /// There was this room, and too little, for the enrolment of a caller. No work was started, and all come back.
+    /// There was this room, and too little, for the enrolment of a caller. No work was started, and
+    /// all come back.
     NoRoom(Room, Vec<P>),
 }
 
-/// What a life came to.
+/// The result of a life.
 #[derive(Drop)]
 pub struct Lived<M, P, E, F> {
     /// The recording of the one history, and the methods that are registered at its end.
@@ -54,7 +55,7 @@ pub struct Lived<M, P, E, F> {
 }
 
 impl<M: Method> Life<M> {
-    /// A new server with these limits. An `Err` is want of memory.
+    /// A new server with these limits. An `Err` means out of memory.
     pub fn open(alloc: Global, caps: Caps) -> Result<Life<M>, AllocError>
         ensures caps { IfOk result (λ life. life.live.caps ≡ caps) }
         ensures past { IfOk result (λ life. past_of life.live.turn ≡ []) }
@@ -93,11 +94,14 @@ impl<M: Method> Life<M> {
         }
     }
 
-    pub fn alloc(&self) -> Global {
+    /// The allocator that it was made with.
+    pub fn alloc(&self) -> Global
+        ensures { result ≡ self.now.alloc }
+    {
         self.alloc
     }
 
-    /// Plays a work as caller 0, before any caller is enrolled. An `Err` is want of memory.
+    /// Plays a work as caller 0, before any caller is enrolled. An `Err` means out of memory.
     pub fn play_first<W: Wait, P: Worker<M>, G: Gate>(
         self,
         rt: &W,

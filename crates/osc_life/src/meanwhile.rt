@@ -17,8 +17,8 @@ pub trait Meanwhile<M: Method, X> {
     /// How it ends.
     type End: Send + Drop;
 
-    /// Rounds were played: what is lent was as the first and is as the second, it stands here, and the token of this
-    /// holder knew the first of these and knows the second.
+    /// Rounds were played: what is lent was as the first and is as the second, it stands here, and
+    /// the token of this holder knew the first of these and knows the second.
     ghost rounds: { X → X → Self → Holder → View → View → Type 0 };
 
     /// Rounds were played, and the last one after all that these tokens have seen; and it ended so.

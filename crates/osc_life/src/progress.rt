@@ -1,4 +1,4 @@
-// What those who work and those who look tell each other.
+//! What those who work and those who look tell each other.
 
 use std::sync::Wait;
 use std::sync::atomic::{AtomicU64, Ordering};

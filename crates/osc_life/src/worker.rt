@@ -19,7 +19,7 @@ pub struct Job<P> {
     pub work: P,
 }
 
-/// The token under which a work was played, and what the work came to.
+/// The token under which a work was played, and the result of the work.
 #[derive(Drop)]
 pub struct Done<E> {
     pub caller: Caller,
@@ -28,16 +28,16 @@ pub struct Done<E> {
 
 /// What a worker plays under its caller, on a server whose methods are `M`.
 pub trait Worker<M: Method> {
-    /// What it comes to.
+    /// Its result.
     type End: Send + Drop;
 
     /// It can be played.
     ghost ready: { Self → Type 0 };
 
-    /// It is played by the holder of a token between two places of the history, and comes to this.
+    /// It is played by the holder of a token between two places of the history, with this result.
     ghost plays: { Self → Self.End → Holder → List Seen → List Seen → Type 0 };
 
-    /// Plays it. An `Err` is want of memory.
+    /// Plays it. An `Err` means out of memory.
     fn work<W: Wait, G: Gate>(
         self,
         desk: &Desk<'_, M, W, G>,

@@ -1,4 +1,4 @@
--- What the whole life of a server with links comes to: one history, and each link's share of it.
+-- The result of the whole life of a server with links: one history, and each link's share of it.
 use Rattle.std.specs.Prelude.{◌≡◌, ℕ, ◌+◌, ◌<◌, false, List, [], ◌∷◌, ◌++◌, length, Option}
 use Rattle.std.specs.Prelude.{None, MatchOption}
 use Rattle.std.specs.Option.{option_map}
@@ -69,9 +69,9 @@ module _ {L : Type 0} (left : L → Option (List LinkTurn)) (faults : L → ℕ)
         × AreServed bounds history (number + 1) links ends tokens
     AreServed bounds history number _ _ _ = ⊥
 
-    -- The links were served beside each other, the k-th by caller k, and the ticker ticked under
-    -- the caller after them, which came in after caller 0's entries, and whose last round is
-    -- after all that the links have done: then no unit is due.
+    -- The links were served at the same time, the k-th by caller k, and the ticker ticked under the
+    -- caller after them, which came in after caller 0's entries, and whose last round is after all
+    -- that the links have done: then no unit is due.
     pub record ServesAll (bounds : Bounds) (history : List Seen) (links : List L)
         (clock : ClockRead) (told : LinksTold L) : Type 0 where
       pub ends : List (LinkEnd L)

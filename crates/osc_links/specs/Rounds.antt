@@ -31,12 +31,13 @@ module _ {M : Type 0} (keep : M → ℕ) (heard : M → Option (List ℕ)) where
       (end ≢ Done) × Ticks keep heard holder [] clock end here there
 
   -- Whatever comes of further rounds comes of all.
-  abbrev pub RoundsGoOn : Holder → Option (List ℕ) → List Seen → Option ℕ → Option (List ℕ) → List Seen
-      → Type 0
+  abbrev pub RoundsGoOn : Holder → Option (List ℕ) → List Seen → Option ℕ → Option (List ℕ)
+      → List Seen → Type 0
   RoundsGoOn holder start here last left now =
       (more : List ℕ) (later : Option ℕ) (after : Option (List ℕ)) (there : List Seen)
       → Reads left more after → PlaysRounds keep heard holder last more later now there
-      → (all : List ℕ) × Reads start all after × PlaysRounds keep heard holder None all later here there
+      → (all : List ℕ) × Reads start all after
+      × PlaysRounds keep heard holder None all later here there
 
   -- rounds were played, and more may be, or the ticker has ended in one
   abbrev pub HasTicked : Holder → ClockRead → Round → List Seen → List Seen → Type 0
@@ -51,7 +52,7 @@ module _ {M : Type 0} (keep : M → ℕ) (heard : M → Option (List ℕ)) where
       (there : List Seen) × Ticks keep heard holder tokens clock end here there
       × Onward holder.token there now × (end ≡ Done → now ≡ there)
 
--- how the ticker has ended, once its last round came to this
+-- how the ticker has ended, once this was the result of its last round
 abbrev pub end_of : Round → TickerEnd
 end_of (Played last) = Done
 end_of (Over end) = end

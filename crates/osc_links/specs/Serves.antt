@@ -94,8 +94,9 @@ module _ {L : Type 0} where
         stop = end.stop;
       }
 
-  -- The links were served beside each other, each under the caller in its place, and the ticker
-  -- ticked under the last one. These callers come back with what their tokens know, which made none.
+  -- The links were served at the same time, each under the caller in its place, and the ticker
+  -- ticked under the last one. These callers come back with what their tokens know, which made
+  -- none.
   pub record Serves {M : Type 0} (keep : M → ℕ) (heard : M → Option (List ℕ))
       (left : L → Option (List LinkTurn)) (faults : L → ℕ) (caps : Limits) (bounds : Bounds)
       (callers : List Caller) (links : List L) (clock : ClockRead) (end : ServeEnd L) : Type 0 where

@@ -12,13 +12,13 @@ use Rattle.osc_links.specs.Ticks.{clock_read}
 
 module _ {M : Type 0} (keep : M → ℕ) (heard : M → Option (List ℕ)) where
   -- what a link plays as a work
-  abbrev pub link_plays : {L : Type 0} → (L → Option (List LinkTurn)) → (L → ℕ) → LinkWork L → LinkEnd L
-      → Holder → List Seen → List Seen → Type 0
+  abbrev pub link_plays : {L : Type 0} → (L → Option (List LinkTurn)) → (L → ℕ) → LinkWork L
+      → LinkEnd L → Holder → List Seen → List Seen → Type 0
   link_plays left faults work end holder here there =
       ServesLink keep heard left faults holder work.bounds work.from end here there
 
   -- how a ticker ends
-  abbrev pub clock_ends : {C : Type 0} → (C → Option (List ℕ)) → (C → ℕ) → C → C → TickerEnd → Holder
-      → List (List Seen) → View → View → Type 0
+  abbrev pub clock_ends : {C : Type 0} → (C → Option (List ℕ)) → (C → ℕ) → C → C → TickerEnd
+      → Holder → List (List Seen) → View → View → Type 0
   clock_ends left faults before after end holder tokens v w =
       HasEnded keep heard holder tokens (clock_read left faults before after) end v.seen w.seen

@@ -1,4 +1,5 @@
-//! What holds of a link and of the ticker in every history that goes on from what its token has seen.
+//! What holds of a link and of the ticker in every history that goes on from what its token has
+//! seen.
 ghost use Rattle.std.specs.Prelude.{◌≡◌, ℕ, List, [], ◌∷◌, Some, None};
 ghost use Rattle.osc_turn.specs.History.{own};
 ghost use Rattle.osc_turn.specs.declared.view.Entry.{Entry};
@@ -18,8 +19,8 @@ ghost use Rattle.osc_links.specs.Ticks.{pump_line};
 use osc_edge::Link;
 use osc_method::Method;
 
-/// A link's share is its share of every history that goes on with no further entry of its token, where the token came
-/// in with none.
+/// A link's share is its share of every history that goes on with no further entry of its token,
+/// where the token came in with none.
 pub fn a_link_keeps_its_share<M: Method, L: Link>()
     ensures { (holder : Holder) (bounds : Bounds) (from : L) (end : LinkEnd L)
         (here there history : List Entry)
@@ -29,8 +30,8 @@ pub fn a_link_keeps_its_share<M: Method, L: Link>()
         (link_account end.faults.items (stop_by end.over)) history }
 {}
 
-/// The ticker's share is its share of every history that goes on with no further entry of its token, where the token
-/// came in with none.
+/// The ticker's share is its share of every history that goes on with no further entry of its
+/// token, where the token came in with none.
 pub fn a_ticker_keeps_its_share<M: Method>()
     ensures { (caps : Limits) (before after : Caller) (tokens : List (List Entry))
         (clock : ClockRead) (end : TickerEnd) (history : List Entry)
@@ -41,8 +42,9 @@ pub fn a_ticker_keeps_its_share<M: Method>()
         → TickOf M.keep M.heard (holder_of caps before) tokens clock end history }
 {}
 
-/// Two quiets in a row end a link that may have so many, and a datagram between them starts their count anew; a moment
-/// is handed in that is the first or greater than the last; a clock's last moment stays; and faults stand link by link.
+/// Two quiets in a row end a link that may have so many, and a datagram between them starts their
+/// count anew; a moment is handed in that is the first or greater than the last; a clock's last
+/// moment stays; and faults stand link by link.
 pub fn examples()
     ensures quiets { (holder : Holder) (here : List Entry) → PlaysTurns {M = ℕ} (λ _. 0) (λ _. None)
         holder (record { count = 3; idle = 2 }) 0 0 (None ∷ None ∷ []) Idle (ended [] None) here

@@ -1,5 +1,5 @@
-//! Links: datagrams that are submitted to one server, each link by a thread and under a token of its own, with a ticker
-//! beside them.
+//! Links: datagrams that are submitted to one server, each link by a thread and under a token of
+//! its own, with a ticker next to them.
 #![tactic(auto)]
 
 pub mod laws;
@@ -15,5 +15,5 @@ mod ticker;
 pub use limits::MAX_LINKS;
 pub use link_work::{LinkEnd, LinkWork, Over};
 pub use links::serve;
-pub use run::{Hosted, run_links};
+pub use run::{HostPart, Hosted, run_links};
 pub use served::{Bounds, LinksPart, LinksTold, ServeEnd, TickerEnd};

@@ -1,4 +1,4 @@
-// The ends of links, put together.
+//! The ends of links, put together.
 ghost use Rattle.std.specs.Prelude.{◌≡◌, ◌≤◌, ◌++◌, length, map, IfOk, OnOk, Some};
 ghost use Rattle.std.specs.Prelude.{None, if◌then◌else◌};
 ghost use Rattle.std.specs.Option.{option_map};
@@ -12,7 +12,7 @@ use crate::served::{LinksTold, TickerEnd};
 use osc_atoms::{Fault, Room};
 use std::alloc::{AllocError, Global};
 
-/// What the links and the ticker come to together.
+/// The result of the links and the ticker together.
 pub(crate) fn gather<L: Drop>(
     alloc: Global,
     ends: Vec<LinkEnd<L>>,

@@ -1,4 +1,4 @@
-// The worker of one link.
+//! The worker of one link.
 ghost use Rattle.std.specs.Prelude.{◌≡◌, ◌<◌, length, IfOk};
 ghost use Rattle.osc_edge.specs.declared.limits.TheConstants.{MAX_DATAGRAM};
 ghost use Rattle.osc_turn.specs.Passes.{view};
@@ -27,7 +27,7 @@ pub(crate) struct OpenLink<L> {
     pub(crate) faults: Vec<(u32, Fault)>,
 }
 
-/// What one turn of a link came to.
+/// The result of one turn of a link.
 #[derive(Clone, Copy)]
 pub(crate) enum Step {
     /// A datagram was submitted or refused.

@@ -1,4 +1,4 @@
-//! Serves links beside each other, with a ticker beside them.
+//! Serves links at the same time, with a ticker next to them.
 ghost use Rattle.std.specs.Prelude.{◌≡◌, ◌+◌, ◌<◌, ◌≤◌, length, All, IfOk};
 ghost use Rattle.osc_live.specs.Tokens.{IsOurs};
 ghost use Rattle.osc_links.specs.Serves.{Serves};
@@ -17,9 +17,9 @@ use std::alloc::{AllocError, Global};
 use std::sync::Wait;
 use std::thread::Threads;
 
-/// Serves the links, each by a thread of its own where one can be made, the k-th under the k-th caller, while a ticker
-/// plays rounds under the last caller, and one more after all that the links have done. An `Err` is want of memory,
-/// and the links are gone then.
+/// Serves the links, each by a thread of its own where one can be made, the k-th under the k-th
+/// caller, while a ticker plays rounds under the last caller, and one more after all that the links
+/// have done. An `Err` means out of memory, and the links are gone then.
 pub fn serve<
     M: Method + Send,
     W: Threads + Wait + Sync,

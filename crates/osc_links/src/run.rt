@@ -16,7 +16,7 @@ use osc_core::Closed;
 use osc_edge::{Clock, Link, Sink};
 use osc_growing::{Growth, Writer, growth_of};
 use osc_lanes::{LanePart, LaneTold, LaneWork};
-use osc_life::{Gate, Life, Lived, Nobody, OpenGate, Played, live_on, live_under};
+use osc_life::{Gate, Life, Lived, Nobody, OpenGate, Played, Tasks, live_on, live_under};
 use osc_method::Method;
 use osc_model::laws::a_method_is_called_while_it_is_registered;
 use osc_record::Caps;
@@ -31,7 +31,8 @@ pub struct Hosted<M, L> {
     pub closed: Closed<M>,
     /// What caller 0's lines told. Where they found the recording full, no link was started.
     pub opening: LaneTold<M>,
-    /// Where the recording had no room for the enrolment of a link or of the ticker. No link was started then.
+    /// Where the recording had no room for the enrolment of a link or of the ticker. No link was
+    /// started then.
     pub unenrolled: Option<Room>,
     /// What the links and the ticker told.
     pub links: LinksTold<L>,
@@ -39,10 +40,20 @@ pub struct Hosted<M, L> {
     pub growth: Growth,
 }
 
-/// Opens a server with these limits, plays `part` as caller 0, enrols a caller for each link and one for the ticker,
-/// serves the links as [`serve`](crate::serve) does, and closes the server. Caller k submits for the k-th
-/// link, counted from 1. While the links are served, what is recorded is written to `rec`, under caller 0's token. An
-/// `Err` is want of memory, and the links are gone then.
+/// What [`run_links`] serves: the server's limits, what caller 0 plays before the links are served,
+/// and the links.
+#[derive(Drop)]
+pub struct HostPart<M, L> {
+    pub caps: Caps,
+    pub opening: LanePart<M>,
+    pub links: LinksPart<L>,
+}
+
+/// Opens a server with these limits, plays the opening as caller 0, enrols a caller for each link
+/// and one for the ticker, serves the links as [`serve`](crate::serve) does, and closes the server.
+/// Caller k submits for the k-th link, counted from 1. While the links are served, what is recorded
+/// is written to `rec`, under caller 0's token. An `Err` means out of memory, and the links are gone
+/// then.
 pub fn run_links<
     M: Method + Send,
     W: Threads + Wait + Sync,
@@ -53,40 +64,44 @@ pub fn run_links<
 >(
     rt: &W,
     alloc: Global,
-    caps: Caps,
-    part: LanePart<M>,
-    links: LinksPart<L>,
+    host: HostPart<M, L>,
     clock: &mut C,
     rec: &mut R,
     gate: &G,
 ) -> Result<Hosted<M, L>, AllocError>
-    requires callers { length links.from.items + 2 ≤ caps.callers }
-    requires few { length links.from.items ≤ MAX_LINKS }
-    requires whole { IsWhole (part_of part) }
-    requires count { 0 < links.bounds.count }
-    requires idle { 0 < links.bounds.idle }
-    ensures hosts { IfOk result (λ hosted. Hosts L.left L.faults M.keep M.heard caps links.bounds
-        (part_of part) links.from.items (clock_read C.left C.faults clock.old clock.new) hosted) }
+    requires callers { length host.links.from.items + 2 ≤ host.caps.callers }
+    requires few { length host.links.from.items ≤ MAX_LINKS }
+    requires whole { IsWhole (part_of host.opening) }
+    requires count { 0 < host.links.bounds.count }
+    requires idle { 0 < host.links.bounds.idle }
+    ensures hosts { IfOk result (λ hosted. Hosts L.left L.faults M.keep M.heard host.caps
+        host.links.bounds (part_of host.opening) host.links.from.items
+        (clock_read C.left C.faults clock.old clock.new) hosted) }
     ensures grown { IfOk result (λ hosted. HasGrown hosted.growth
         (sink_change R.held R.faults rec.old rec.new) hosted.closed.bytes.items) }
 {
     a_method_is_called_while_it_is_registered();
     // Limits are in their ranges, as each of them tells.
-    let _ = caps.callers();
-    let new = Life::open(alloc, caps)?;
+    let _ = host.caps.callers();
+    let new = Life::open(alloc, host.caps)?;
+    let part = host.opening;
     let (life, opening) = new.play_first(rt, LaneWork { lane: 0, part }, &OpenGate)?;
     match opening.stop {
         Some(_) => {
             let works: Vec<LinkWork<L>> = Vec::new(alloc);
             let lived = live_on(rt, life, works, Nobody, &mut (), gate)?;
             let Lived { closed, .. } = lived;
-            let links = unserved(alloc, links.from);
+            let links = unserved(alloc, host.links.from);
             Ok(put_together(closed, opening, None, links, Growth::Written(0)))
         }
         None => {
-            let works = number_links(alloc, links)?;
-            let round = Round::Played(None);
-            let (lived, looked) = live_under(rt, life, works, round, clock, Writer, rec, gate)?;
+            let works = number_links(alloc, host.links)?;
+            let tasks = Tasks {
+                works,
+                meanwhile: Round::Played(None),
+                aside: Writer,
+            };
+            let (lived, looked) = live_under(rt, life, tasks, clock, rec, gate)?;
             let growth = growth_of(looked);
             let Lived { closed, works, end } = lived;
             match works {

@@ -11,7 +11,7 @@ pub struct Bounds {
     pub idle: u32,
 }
 
-/// The links that are served beside each other, and when each ends by itself.
+/// The links that are served at the same time, and when each ends by itself.
 #[derive(Drop)]
 pub struct LinksPart<L> {
     pub from: Vec<L>,
@@ -34,14 +34,15 @@ pub enum TickerEnd {
 pub struct LinksTold<L> {
     /// The links that were handed in, in their order.
     pub links: Vec<L>,
-    /// Link, number of the datagram and fault of each datagram that was refused, link by link in the order of the
-    /// datagrams. Links are numbered from 0, and the datagrams of each from 1.
+    /// Link, number of the datagram and fault of each datagram that was refused, link by link in
+    /// the order of the datagrams. Links are numbered from 0, and the datagrams of each from 1.
     pub faults: Vec<(u32, u32, Fault)>,
     /// The least link that failed.
     pub failed: Option<u32>,
     /// Whether the clock failed.
     pub clock_failed: bool,
-    /// The room where the recording was full: of the least link that found it so, or else of the ticker.
+    /// The room where the recording was full: of the least link that found it so, or else of the
+    /// ticker.
     pub stop: Option<Room>,
 }
 
@@ -52,13 +53,14 @@ pub struct ServeEnd<L> {
     pub callers: Vec<Caller>,
     /// The links that were handed in, in their order.
     pub links: Vec<L>,
-    /// Link, number of the datagram and fault of each datagram that was refused, link by link in the order of the
-    /// datagrams. Links are numbered from 0, and the datagrams of each from 1.
+    /// Link, number of the datagram and fault of each datagram that was refused, link by link in
+    /// the order of the datagrams. Links are numbered from 0, and the datagrams of each from 1.
     pub faults: Vec<(u32, u32, Fault)>,
     /// The least link that failed.
     pub failed: Option<u32>,
     /// Whether the clock failed.
     pub clock_failed: bool,
-    /// The room where the recording was full: of the least link that found it so, or else of the ticker.
+    /// The room where the recording was full: of the least link that found it so, or else of the
+    /// ticker.
     pub stop: Option<Room>,
 }

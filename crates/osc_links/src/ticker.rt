@@ -1,4 +1,4 @@
-// The ticker's rounds.
+//! The ticker's rounds.
 ghost use Rattle.std.specs.Prelude.{◌≡◌, [], None};
 ghost use Rattle.std.specs.Option.{option_map};
 ghost use Rattle.osc_record.specs.Shown.{room_of};
@@ -19,7 +19,7 @@ use osc_live::{Caller, Live, PumpEnd};
 use osc_method::Method;
 use std::sync::Wait;
 
-/// What rounds came to.
+/// The result of rounds.
 #[derive(Clone, Copy)]
 pub(crate) enum Round {
     /// There was room for all; the last moment that was handed in is told, if there was one.
@@ -98,8 +98,8 @@ fn wait_until<C: Clock>(clock: &mut C, goes_on: bool, due: Option<u64>)
     }
 }
 
-/// Plays one round, after the one that has handed in `last`, if one has. The third value is the least due moment that is
-/// left in the queue.
+/// Plays one round, after the one that has handed in `last`, if one has. The third value is the
+/// least due moment that is left in the queue.
 fn play_round<M: Method, W: Wait, C: Clock>(
     rt: &W,
     live: &Live<M>,

@@ -19,7 +19,7 @@ use osc_edge::{Clock, Link, Sink};
 use osc_ends::{Outcome, Recorded, count_adds, stopped};
 use osc_growing::Growth;
 use osc_lanes::{Gate, LanePart, LaneTold};
-use osc_links::{Bounds, Hosted, LinksPart, run_links};
+use osc_links::{Bounds, HostPart, Hosted, LinksPart, run_links};
 use osc_method::Method;
 use osc_player::gather;
 use osc_print::{Text, link_fault_line};
@@ -66,12 +66,15 @@ pub(crate) fn stage_links<
         (sink_change R.held R.faults rec.old rec.new) staged.0.recorded.bytes.items) }
 {
     let rest = bank.split_off(count_adds(&lines))?;
-    let part = LanePart { lines, boxes: bank };
-    let links = LinksPart {
-        from: links,
-        bounds,
+    let host = HostPart {
+        caps,
+        opening: LanePart { lines, boxes: bank },
+        links: LinksPart {
+            from: links,
+            bounds,
+        },
     };
-    let hosted = run_links(rt, alloc, caps, part, links, clock, rec, gate)?;
+    let hosted = run_links(rt, alloc, host, clock, rec, gate)?;
     let growth = hosted.growth;
     let settled = settle_links(alloc, hosted, rest)?;
     let (played, links) = settled;

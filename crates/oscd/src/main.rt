@@ -1,5 +1,5 @@
-//! An Open Sound Control server that plays the lanes of a script, or serves links, at the same time, and goes on from a
-//! recording.
+//! An Open Sound Control server that plays the lanes of a script, or serves links, at the same
+//! time, and goes on from a recording.
 #![tactic(auto)]
 
 ghost use Rattle.osc_links.specs.declared.limits.TheConstants.{MAX_LINKS};

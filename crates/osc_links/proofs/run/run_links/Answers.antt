@@ -31,12 +31,12 @@ use Rattle.osc_links.proofs.run.run_links.Goals.{In_ok-life, In_ok-works-in-None
 
 pub play_first-requires-clause-enrols_none : goal.play_first-requires-clause-enrols_none
 play_first-requires-clause-enrols_none g c κs within end here there plays alone =
-    plays_enrol_none g.M.Method.keep g.M.Method.heard c.in_ok-new.new.live.caps c.args.part.lines.items c.args.part.boxes.items (told_of end) here there
+    plays_enrol_none g.M.Method.keep g.M.Method.heard c.in_ok-new.new.live.caps c.args.host.opening.lines.items c.args.host.opening.boxes.items (told_of end) here there
     plays alone
 
 -- The server, after caller 0's lines.
 
-same_caps : (g : _) (c : In_ok-life g) → c.in_ok-life.life.live.caps ≡ c.args.caps
+same_caps : (g : _) (c : In_ok-life g) → c.in_ok-life.life.live.caps ≡ c.args.host.caps
 same_caps g c = (λ i. (c.in_ok-life.ensures.live i).caps) ∙ c.in_ok-new.ensures.caps
 
 no_past : (g : _) (c : In_ok-life g) → past_of c.in_ok-life.life.live.turn ≡ []
@@ -50,11 +50,11 @@ made_one g c = omega (arith, c.in_ok-life.ensures.whole.counted.made_is, no_othe
 
 -- caller 0's lines were played on a new server
 opened : (g : _) (c : In_ok-life g)
-    → Plays g.M.Method.keep g.M.Method.heard (holder_at c.in_ok-life.life.live.caps 0) c.args.part.lines.items c.args.part.boxes.items
+    → Plays g.M.Method.keep g.M.Method.heard (holder_at c.in_ok-life.life.live.caps 0) c.args.host.opening.lines.items c.args.host.opening.boxes.items
     (told_of c.in_ok-life.opening) [] (seen_by c.in_ok-life.life.first)
 opened g c =
     let none : seen_by c.in_ok-new.new.first ≡ [] = c.in_ok-new.ensures.left.seen_is ∙ ap entries_of c.in_ok-new.ensures.past in
-    subst (λ (q : Limits × List Seen). Plays g.M.Method.keep g.M.Method.heard (holder_at q.0 0) c.args.part.lines.items c.args.part.boxes.items
+    subst (λ (q : Limits × List Seen). Plays g.M.Method.keep g.M.Method.heard (holder_at q.0 0) c.args.host.opening.lines.items c.args.host.opening.boxes.items
     (told_of c.in_ok-life.opening) q.1 (seen_by c.in_ok-life.life.first))
     (λ i. (sym (λ j. (c.in_ok-life.ensures.live j).caps) i, none i)) c.in_ok-life.ensures.played
 
@@ -76,8 +76,8 @@ live_on-requires-clause-few g c =
 pub live_on-requires-clause-stays : goal.live_on-requires-clause-stays
 live_on-requires-clause-stays g c κs within after end tokens v w learns = learns_stays v w learns
 
-many : (g : _) (c : In_ok-works-in-None g) → length c.in_ok-works-in-None.works.items ≡ length c.args.links.from.items
-many g c = works_many c.args.links.bounds c.args.links.from.items c.in_ok-works-in-None.works.items c.in_ok-works-in-None.ensures
+many : (g : _) (c : In_ok-works-in-None g) → length c.in_ok-works-in-None.works.items ≡ length c.args.host.links.from.items
+many g c = works_many c.args.host.links.bounds c.args.host.links.from.items c.in_ok-works-in-None.works.items c.in_ok-works-in-None.ensures
 
 pub live_under-requires-clause-room : goal.live_under-requires-clause-room
 live_under-requires-clause-room g c =
@@ -96,7 +96,7 @@ live_under-requires-clause-few g c =
 
 pub live_under-requires-clause-ready : goal.live_under-requires-clause-ready
 live_under-requires-clause-ready g c κs within =
-    works_ready c.args.links.bounds c.requires.count c.requires.idle c.args.links.from.items c.in_ok-works-in-None.works.items c.in_ok-works-in-None.ensures
+    works_ready c.args.host.links.bounds c.requires.count c.requires.idle c.args.host.links.from.items c.in_ok-works-in-None.works.items c.in_ok-works-in-None.ensures
 
 pub live_under-requires-clause-begun : goal.live_under-requires-clause-begun
 live_under-requires-clause-begun g c κs within holder v =
@@ -114,8 +114,8 @@ returns-in_ok-lived-in-Some-clause-hosts g c =
     let v = view life.first.pass in
     let lives = c.in_ok-lived-in-Some.ensures in
     let lived = c.in_ok-lived-in-Some.lived in
-    let part = part_of c.args.part in
-    let links = c.args.links.from.items in
+    let part = part_of c.args.host.opening in
+    let links = c.args.host.links.from.items in
     let clock = clock_read g.C.Clock.left g.C.Clock.faults c.args.clock.now c.args.clock.now in
     let hosted : Hosted g.row.M.Denot g.row.L.Denot =
     record { closed = lived.closed; opening = c.in_ok-life.opening; unenrolled = None; links = c.unserved-links.result; growth = Written 0 } in
@@ -123,11 +123,11 @@ returns-in_ok-lived-in-Some-clause-hosts g c =
     let none =
     no_callers (link_plays keep heard left faults) live.caps v.made lives.callers lives.history lives.tokens lived.works
     (rw c.new-works.ensures.items at lives.played_so) in
-    let alone = none_else left faults keep heard live.caps c.args.links.bounds part links clock hosted c.a_method_is_called_while_it_is_registered.ensures.removed
+    let alone = none_else left faults keep heard live.caps c.args.host.links.bounds part links clock hosted c.a_method_is_called_while_it_is_registered.ensures.removed
     (seen_by life.first) (opened g at) lives.history lives.callers lives.goes_on new lives.closed none in
-    subst (λ (h : Hosted g.row.M.Denot g.row.L.Denot). Hosts left faults keep heard c.args.caps c.args.links.bounds part links clock h) (sym c.put_together.ensures)
-    (subst (λ (caps : Limits). Hosts left faults keep heard caps c.args.links.bounds part links clock hosted) (same_caps g at)
-    (hosts_alone left faults keep heard live.caps c.args.links.bounds part links clock hosted c.a_method_is_called_while_it_is_registered.ensures.removed
+    subst (λ (h : Hosted g.row.M.Denot g.row.L.Denot). Hosts left faults keep heard c.args.host.caps c.args.host.links.bounds part links clock h) (sym c.put_together.ensures)
+    (subst (λ (caps : Limits). Hosts left faults keep heard caps c.args.host.links.bounds part links clock hosted) (same_caps g at)
+    (hosts_alone left faults keep heard live.caps c.args.host.links.bounds part links clock hosted c.a_method_is_called_while_it_is_registered.ensures.removed
     (seen_by life.first) (opened g at) lives.history lives.callers lives.goes_on new lives.closed alone
     (rw c.in-Some.is (
       none,
@@ -174,9 +174,9 @@ returns-in_ok-links-in-Each-clause-hosts g c =
     let lives = c.in_ok-lived-in-None.ensures.lives in
     let lived = c.in_ok-lived-in-None.lived in
     let history = lives.history in
-    let part = part_of c.args.part in
-    let bounds = c.args.links.bounds in
-    let links = c.args.links.from.items in
+    let part = part_of c.args.host.opening in
+    let bounds = c.args.host.links.bounds in
+    let links = c.args.host.links.from.items in
     let works = c.in_ok-works-in-None.works.items in
     let ends = c.in-Each.ends.items in
     let end = c.in-Some-end.end in
@@ -199,7 +199,7 @@ returns-in_ok-links-in-Each-clause-hosts g c =
     (subst (λ (n : ℕ). IsUnder (clock_ends keep heard clock_left clock_faults) (holder_at live.caps n) (own 0 history) history tokens before after end)
     at_end played.3) in
     let callers : lives.callers ≡ length links + 1 = omega (arith, played.0, count) in
-    subst (λ (h : Hosted g.row.M.Denot g.row.L.Denot). Hosts left faults keep heard c.args.caps bounds part links clock h) (sym c.put_together-in-Each.ensures)
+    subst (λ (h : Hosted g.row.M.Denot g.row.L.Denot). Hosts left faults keep heard c.args.host.caps bounds part links clock h) (sym c.put_together-in-Each.ensures)
     (subst (λ (caps : Limits). Hosts left faults keep heard caps bounds part links clock hosted) (same_caps g at.In_ok-life)
     (hosts_beside left faults keep heard live.caps bounds part links clock hosted c.a_method_is_called_while_it_is_registered.ensures.removed
     (seen_by life.first) (opened g at.In_ok-life) history lives.callers lives.goes_on new lives.closed (length links + 1) callers
@@ -234,9 +234,9 @@ returns-in_ok-links-in-NoRoom-clause-hosts g c =
     let lives = c.in_ok-lived-in-None.ensures.lives in
     let lived = c.in_ok-lived-in-None.lived in
     let history = lives.history in
-    let part = part_of c.args.part in
-    let bounds = c.args.links.bounds in
-    let links = c.args.links.from.items in
+    let part = part_of c.args.host.opening in
+    let bounds = c.args.host.links.bounds in
+    let links = c.args.host.links.from.items in
     let works = c.in_ok-works-in-None.works.items in
     let room = c.in-NoRoom.room in
     let before = c.args.clock.now in
@@ -250,7 +250,7 @@ returns-in_ok-links-in-NoRoom-clause-hosts g c =
     not_there (HasPlayedUnder (link_plays keep heard left faults) (clock_ends keep heard clock_left clock_faults) live.caps v.made lives.callers history works
     before after (NoRoom room c.in-NoRoom.works)) lived.end (λ one holds. holds) (rw c.in-NoRoom.is at lives.played_so) in
     let still = c.unserved-links-in-NoRoom.ensures in
-    subst (λ (h : Hosted g.row.M.Denot g.row.L.Denot). Hosts left faults keep heard c.args.caps bounds part links clock h) (sym c.put_together-in-NoRoom.ensures)
+    subst (λ (h : Hosted g.row.M.Denot g.row.L.Denot). Hosts left faults keep heard c.args.host.caps bounds part links clock h) (sym c.put_together-in-NoRoom.ensures)
     (subst (λ (caps : Limits). Hosts left faults keep heard caps bounds part links clock hosted) (same_caps g at.In_ok-life)
     (hosts_alone left faults keep heard live.caps bounds part links clock hosted c.a_method_is_called_while_it_is_registered.ensures.removed
     (seen_by life.first) (opened g at.In_ok-life) history lives.callers lives.goes_on new lives.closed none.1.1

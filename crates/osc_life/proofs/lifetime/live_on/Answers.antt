@@ -18,8 +18,8 @@ use Rattle.osc_life.specs.Lives.{AreShares, HasNoRoomToEnrol}
 use Rattle.osc_life.specs.Works.{IsDone, caller_of, caller_in}
 use Rattle.osc_life.proofs.Ending.{Finishes, lives_each, lives_none, full_none, never_both}
 use Rattle.osc_life.proofs.Finishing.{names_many, known_many, all_playable, zeroth, finishes}
-use Rattle.osc_life.proofs.living.live_on.Goals as goal
-use Rattle.osc_life.proofs.living.live_on.Goals.{In_ok-first-in-None, In_ok-jobs-in-None, In_ok-crew-in-None, In_ok-crew, In_ok-push-in-Some, In_ok-closed-in-Some}
+use Rattle.osc_life.proofs.lifetime.live_on.Goals as goal
+use Rattle.osc_life.proofs.lifetime.live_on.Goals.{In_ok-first-in-None, In_ok-jobs-in-None, In_ok-crew-in-None, In_ok-crew, In_ok-push-in-Some, In_ok-closed-in-Some}
 
 -- All callers were enrolled.
 

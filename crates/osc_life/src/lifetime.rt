@@ -1,4 +1,5 @@
-//! Plays works on a server, each under a caller of its own, while something else goes on, and closes it.
+//! Plays works on a server, each under a caller of its own, while something else goes on, and
+//! closes it.
 ghost use Rattle.std.specs.Prelude.{◌≡◌, ◌≢◌, ◌≤◌, ◌+◌, ◌∷◌, ◌++◌, List, [], length, All, IfOk};
 ghost use Rattle.osc_core.specs.Telling.{told};
 ghost use Rattle.osc_record.specs.declared.limits.TheConstants.{MAX_CALLERS};
@@ -24,8 +25,9 @@ use crate::crowd::make_jobs;
 use crate::desk::Desk;
 use crate::gate::Gate;
 use crate::life::{Life, Lived, Played};
+use crate::looker::{Looker, play_seen};
 use crate::meanwhile::Meanwhile;
-use crate::seeing::{Looker, play_seen};
+use crate::players::cast;
 use crate::worker::Worker;
 use osc_atoms::Room;
 use osc_core::Closed;
@@ -36,9 +38,9 @@ use std::alloc::{AllocError, Global};
 use std::sync::Wait;
 use std::thread::Threads;
 
-/// Enrols a caller for each work, plays the works beside each other, each under the caller in its place, while caller 0
-/// plays rounds of something else; then a last round, after all that the works have done; and closes the server. An
-/// `Err` is want of memory.
+/// Enrols a caller for each work, plays the works at the same time, each under the caller in its
+/// place, while caller 0 plays rounds of something else; then a last round, after all that the
+/// works have done; and closes the server. An `Err` means out of memory.
 pub fn live_on<
     M: Method + Send,
     W: Threads + Wait + Sync,
@@ -100,9 +102,19 @@ pub fn live_on<
     }
 }
 
-/// Enrols a caller for each work and one more, plays the works beside each other, each under the caller in its place,
-/// while the last one plays rounds of something else and caller 0 looks; then a last round, after all that the works
-/// have done; and closes the server. Where an enrolment finds no room, nobody looks. An `Err` is want of memory.
+/// What `live_under` plays: works that are played at the same time, what goes on meanwhile, and who
+/// looks.
+#[derive(Drop)]
+pub struct Tasks<P, T, A> {
+    pub works: Vec<P>,
+    pub meanwhile: T,
+    pub aside: A,
+}
+
+/// Enrols a caller for each work and one more, plays the works at the same time, each under the
+/// caller in its place, while the last one plays rounds of something else with `on`, and caller 0
+/// looks with `lent`; then a last round, after all that the works have done; and closes the server.
+/// Where an enrolment finds no room, nobody looks. An `Err` means out of memory.
 pub fn live_under<
     M: Method + Send,
     W: Threads + Wait + Sync,
@@ -115,20 +127,20 @@ pub fn live_under<
 >(
     rt: &W,
     life: Life<M>,
-    works: Vec<P>,
-    meanwhile: T,
+    tasks: Tasks<P, T, A>,
     on: &mut X,
-    aside: A,
     lent: &mut Y,
     gate: &G,
 ) -> Result<(Lived<M, P, P::End, Option<T::End>>, Option<A::End>), AllocError>
     requires whole { IsWhole life }
-    requires room { 2 + length life.others.items + length works.items ≤ life.live.caps.callers }
-    requires few { 2 + length life.others.items + length works.items ≤ MAX_CALLERS }
-    requires ready { All P.ready works.items }
-    requires begun { (holder : Holder) (v : View) → T.rounds on.old on.old meanwhile holder v v }
+    requires room { 2 + length life.others.items + length tasks.works.items
+        ≤ life.live.caps.callers }
+    requires few { 2 + length life.others.items + length tasks.works.items ≤ MAX_CALLERS }
+    requires ready { All P.ready tasks.works.items }
+    requires begun { (holder : Holder) (v : View)
+        → T.rounds on.old on.old tasks.meanwhile holder v v }
     ensures lives { IfOk result (λ both. LivesUnder P.plays T.ends life.live.caps
-        (past_of life.live.turn) (view life.first.pass) works.items on.old on.new
+        (past_of life.live.turn) (view life.first.pass) tasks.works.items on.old on.new
         both.0.closed.bytes.items (told M.keep M.heard both.0.closed.kept.items) both.0.works
         both.0.end) }
     ensures looked { IfOk result (λ both. HasLookedOn A.looks life.live.caps lent.old lent.new
@@ -141,22 +153,20 @@ pub fn live_under<
         first,
         others,
     } = life;
-    let (crew, refused) = enrol_more(rt, alloc, &live, first, works.len() + 1)?;
+    let (crew, refused) = enrol_more(rt, alloc, &live, first, tasks.works.len() + 1)?;
     match refused {
         None => {
-            let Crew { first, mut callers } = meet_all(alloc, &live, crew)?;
-            let Some(own) = callers.pop() else {
-                unreachable!()
-            };
-            let jobs = make_jobs(alloc, callers, works)?;
+            let Crew { first, callers } = meet_all(alloc, &live, crew)?;
+            let players = cast(alloc, callers, tasks.works, tasks.meanwhile)?;
+            let aside = tasks.aside;
+            let looker = Looker { first, aside };
             let desk = Desk {
                 rt,
                 alloc,
                 live: &live,
                 gate,
             };
-            let looker = Looker { first, aside };
-            let (both, first, seen) = play_seen(&desk, jobs, own, meanwhile, on, looker, lent)?;
+            let (both, first, seen) = play_seen(&desk, players, on, looker, lent)?;
             let Beside { crew, ends, end } = both;
             let callers = all_callers(crew)?;
             let crew = Crew { first, callers };
@@ -168,13 +178,13 @@ pub fn live_under<
             let mut guests = Vec::with_capacity(alloc, 1)?;
             guests.push(guest)?;
             let closed = hand_in(alloc, live, others, crew, guests)?;
-            let (works, end) = (Played::NoRoom(room_in(why), works), None);
+            let (works, end) = (Played::NoRoom(room_in(why), tasks.works), None);
             Ok((Lived { closed, works, end }, None))
         }
     }
 }
 
-/// The room for an enrolment that was refused for want of it.
+/// The room for an enrolment that was refused for lack of it.
 fn room_in(why: EnrolRefusal) -> Room
     requires { why ≢ CallersFull }
     ensures { why ≡ RecordFull result }

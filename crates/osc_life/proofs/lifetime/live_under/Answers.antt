@@ -25,8 +25,8 @@ use Rattle.osc_life.proofs.Ending.{all_split, known_joined, never_both}
 use Rattle.osc_life.proofs.Finishing.{names_many, known_many, all_playable, closed_with}
 use Rattle.osc_life.proofs.Looks.{closed_before}
 use Rattle.osc_life.proofs.Under.{under_each, under_none, full_under}
-use Rattle.osc_life.proofs.living.live_under.Goals as goal
-use Rattle.osc_life.proofs.living.live_under.Goals.{In_ok-first-in-None, In-Some-pop, In_ok-callers-in-None}
+use Rattle.osc_life.proofs.lifetime.live_under.Goals as goal
+use Rattle.osc_life.proofs.lifetime.live_under.Goals.{In_ok-first-in-None, In_ok-players-in-None, In_ok-callers-in-None}
 
 -- caller 0's view is that of before
 same_stays : (v w : View) → w ≡ v → Stays v w
@@ -43,61 +43,70 @@ crew_each : (g : _) (c : In_ok-first-in-None g)
     ((view c.args.life.first.pass).made + length c.in_ok-crew.crew.callers.items) (view c.in_ok-crew.crew.first.pass) c.in_ok-crew.crew.callers.items
 crew_each g c = (rw c.in-None.is at c.in_ok-crew.ensures.enrolled).0
 
-many_each : (g : _) (c : In_ok-first-in-None g) → length c.in_ok-crew.crew.callers.items ≡ length c.args.works.items + 1
-many_each g c = let enrolled = rw c.in-None.is at c.in_ok-crew.ensures.enrolled in omega (arith, enrolled.1, c.len.ensures, c.args.works.ok.0)
+many_each : (g : _) (c : In_ok-first-in-None g) → length c.in_ok-crew.crew.callers.items ≡ length c.args.tasks.works.items + 1
+many_each g c = let enrolled = rw c.in-None.is at c.in_ok-crew.ensures.enrolled in omega (arith, enrolled.1, c.len.ensures, c.args.tasks.works.ok.0)
 
 -- the callers of the works, and one more
-parted : (g : _) (c : In-Some-pop g) → c.in_ok-first-in-None.field-0.callers.items ≡ c.pop.new.self.items ++ c.in-Some-pop.own ∷ []
-parted g c = c.in-Some-pop.ensures.items
+parted : (g : _) (c : In_ok-players-in-None g)
+    → c.in_ok-first-in-None.field-0.callers.items
+    ≡ map caller_of c.in_ok-players-in-None.players.jobs.items ++ c.in_ok-players-in-None.players.caller ∷ []
+parted g c = c.in_ok-players-in-None.ensures.callers
 
-rest_many : (g : _) (c : In-Some-pop g) → length c.pop.new.self.items + 1 ≡ length c.in_ok-crew.crew.callers.items
-rest_many g c =
+jobs_many : (g : _) (c : In_ok-players-in-None g)
+    → length c.in_ok-players-in-None.players.jobs.items + 1 ≡ length c.in_ok-crew.crew.callers.items
+jobs_many g c =
+    let players = c.in_ok-players-in-None.players in
     omega (
       arith,
       ap length (parted g c),
-      length-append c.pop.new.self.items (c.in-Some-pop.own ∷ []),
+      length-append (map caller_of players.jobs.items) (players.caller ∷ []),
+      length-map players.jobs.items caller_of,
       names_many c.in_ok-first-in-None.field-0.callers.items c.in_ok-crew.crew.callers.items c.in_ok-first-in-None.ensures.names,
     )
 
-both_ours : (g : _) (c : In-Some-pop g)
-    → AllByRecursion (λ (one : Caller). IsTokenOf c.args.life.live.turn c.args.life.live.caps one.pass) c.pop.new.self.items
-    × AllByRecursion (λ (one : Caller). IsTokenOf c.args.life.live.turn c.args.life.live.caps one.pass) (c.in-Some-pop.own ∷ [])
+both_ours : (g : _) (c : In_ok-players-in-None g)
+    → AllByRecursion (λ (one : Caller). IsTokenOf c.args.life.live.turn c.args.life.live.caps one.pass)
+    (map caller_of c.in_ok-players-in-None.players.jobs.items)
+    × AllByRecursion (λ (one : Caller). IsTokenOf c.args.life.live.turn c.args.life.live.caps one.pass) (c.in_ok-players-in-None.players.caller ∷ [])
 both_ours g c =
     let Ours : Caller → Type 0 = λ one. IsTokenOf c.args.life.live.turn c.args.life.live.caps one.pass in
-    all_split Ours c.pop.new.self.items (c.in-Some-pop.own ∷ [])
-    (recursion_from_All Ours (c.pop.new.self.items ++ c.in-Some-pop.own ∷ []) (subst (All Ours) (parted g c) c.in_ok-first-in-None.ensures.callers_ours))
+    let callers = map caller_of c.in_ok-players-in-None.players.jobs.items in
+    let own = c.in_ok-players-in-None.players.caller ∷ [] in
+    all_split Ours callers own (recursion_from_All Ours (callers ++ own) (subst (All Ours) (parted g c) c.in_ok-first-in-None.ensures.callers_ours))
 
-pub unreachable-requires : goal.unreachable-requires
-unreachable-requires g c =
-    absurd (omega (
-      arith,
-      c.in_default.ensures.cases.0,
-      many_each g (goal.at.unreachable-requires g c).In_ok-first-in-None,
-      names_many c.in_ok-first-in-None.field-0.callers.items c.in_ok-crew.crew.callers.items c.in_ok-first-in-None.ensures.names,
-      c.in_ok-first-in-None.field-0.callers.ok.0,
-    ))
+-- nothing was played meanwhile
+begun : (g : _) (c : In_ok-players-in-None g)
+    → g.T.Meanwhile.rounds c.args.on.now c.args.on.now c.in_ok-players-in-None.players.meanwhile
+    (holder_of c.args.life.live.caps c.in_ok-players-in-None.players.caller)
+    (view c.in_ok-players-in-None.players.caller.pass)
+    (view c.in_ok-players-in-None.players.caller.pass)
+begun g c =
+    let own = c.in_ok-players-in-None.players.caller in
+    subst (λ (m : g.row.T.Denot). g.T.Meanwhile.rounds c.args.on.now c.args.on.now m (holder_of c.args.life.live.caps own) (view own.pass) (view own.pass))
+    (sym c.in_ok-players-in-None.ensures.meanwhile) (c.requires.begun (holder_of c.args.life.live.caps own) (view own.pass))
 
-pub make_jobs-requires : goal.make_jobs-requires
-make_jobs-requires g c =
-    let at = goal.at.make_jobs-requires g c in
-    omega (arith, rest_many g at.In-Some-pop, many_each g at.In_ok-first-in-None)
+pub cast-requires : goal.cast-requires
+cast-requires g c =
+    names_many c.in_ok-first-in-None.field-0.callers.items c.in_ok-crew.crew.callers.items c.in_ok-first-in-None.ensures.names
+    ∙ many_each g (goal.at.cast-requires g c).In_ok-first-in-None
 
-pub play_seen-requires-clause-jobs : goal.play_seen-requires-clause-jobs
-play_seen-requires-clause-jobs g c κs within =
+pub play_seen-requires-clause-begins : goal.play_seen-requires-clause-begins
+play_seen-requires-clause-begins g c κs within =
+    let at = (goal.at.play_seen-requires-clause-begins g c).In_ok-players-in-None in
     let Ours : Caller → Type 0 = λ one. IsTokenOf c.args.life.live.turn c.args.life.live.caps one.pass in
-    all_playable c.args.life.live g.P.Worker.ready c.in_ok-jobs-in-None.jobs.items c.pop.new.self.items c.args.works.items
-    c.in_ok-jobs-in-None.ensures.callers c.in_ok-jobs-in-None.ensures.works
-    (All-from_recursion Ours c.pop.new.self.items (both_ours g (goal.at.play_seen-requires-clause-jobs g c).In-Some-pop).0) c.requires.ready
-
-pub play_seen-requires-clause-goes : goal.play_seen-requires-clause-goes
-play_seen-requires-clause-goes g c κs within =
-    let own = c.in-Some-pop.own in
+    let players = c.in_ok-players-in-None.players in
     record {
-      ours = (both_ours g (goal.at.play_seen-requires-clause-goes g c).In-Some-pop).1.0;
-      before = c.args.on.now;
-      start = view own.pass;
-      played = c.requires.begun (holder_of c.args.life.live.caps own) (view own.pass);
+      jobs = all_playable c.args.life.live g.P.Worker.ready players.jobs.items (map caller_of players.jobs.items) c.args.tasks.works.items refl
+          c.in_ok-players-in-None.ensures.works (All-from_recursion Ours (map caller_of players.jobs.items) (both_ours g at).0) c.requires.ready;
+      goes = record { ours = (both_ours g at).1.0; before = c.args.on.now; start = view players.caller.pass; played = begun g at };
     }
+
+pub hand_in-requires-clause-ours : goal.hand_in-requires-clause-ours
+hand_in-requires-clause-ours g c = c.in_ok-both-in-None.ensures.back.ours
+
+pub hand_in-requires-clause-number : goal.hand_in-requires-clause-number
+hand_in-requires-clause-number g c =
+    c.in_ok-both-in-None.ensures.back.number ∙ c.in_ok-first-in-None.ensures.number ∙ c.in_ok-crew.ensures.number
 
 pub hand_in-requires-clause-callers_ours : goal.hand_in-requires-clause-callers_ours
 hand_in-requires-clause-callers_ours g c =
@@ -108,10 +117,10 @@ hand_in-requires-clause-callers_ours g c =
     subst (All Ours) (sym c.in_ok-callers-in-None.ensures) (All-push Ours out.crew.callers.items out.crew.first over.others_ours over.ours)
 
 -- there are as many callers as were enrolled
-back_each : (g : _) (c : In_ok-callers-in-None g) → length c.pop.new.self.items + 1 ≡ length c.in_ok-crew.crew.callers.items
+back_each : (g : _) (c : In_ok-callers-in-None g)
+    → length c.in_ok-players-in-None.players.jobs.items + 1 ≡ length c.in_ok-crew.crew.callers.items
     → length c.in_ok-callers-in-None.callers.items ≡ length c.in_ok-crew.crew.callers.items
-back_each g c rest =
-    let jobs = c.in_ok-jobs-in-None.jobs.items in
+back_each g c many =
     let out = c.in_ok-both-in-None.both in
     let both = c.in_ok-both-in-None.ensures.played in
     omega (
@@ -120,22 +129,20 @@ back_each g c rest =
       length-append out.crew.callers.items (out.crew.first ∷ []),
       known_many out.crew.callers.items (map caller_in both.all) both.over.same,
       length-map both.all caller_in,
-      AllZip-long (IsDone g.P.Worker.plays c.args.life.live.caps) jobs both.all both.done,
-      ap length c.in_ok-jobs-in-None.ensures.callers,
-      length-map jobs caller_of,
-      rest,
+      AllZip-long (IsDone g.P.Worker.plays c.args.life.live.caps) c.in_ok-players-in-None.players.jobs.items both.all both.done,
+      many,
     )
 
 pub hand_in-requires-clause-few : goal.hand_in-requires-clause-few
 hand_in-requires-clause-few g c =
     let at = goal.at.hand_in-requires-clause-few g c in
-    omega (arith, back_each g at.In_ok-callers-in-None (rest_many g at.In-Some-pop), many_each g at.In_ok-first-in-None, ap length c.new.ensures.items, c.requires.few)
+    omega (arith, back_each g at.In_ok-callers-in-None (jobs_many g at.In_ok-players-in-None), many_each g at.In_ok-first-in-None, ap length c.new.ensures.items, c.requires.few)
 
 pub hand_in-requires-clause-all_in : goal.hand_in-requires-clause-all_in
 hand_in-requires-clause-all_in g c =
     let at = goal.at.hand_in-requires-clause-all_in g c in
-    c.in_ok-both-in-None.ensures.looked.made ∙ ap (λ (v : View). v.made) c.in_ok-first-in-None.ensures.same ∙ (crew_each g at.In_ok-first-in-None).made_is
-    ∙ omega (arith, back_each g at.In_ok-callers-in-None (rest_many g at.In-Some-pop), ap length c.new.ensures.items, c.requires.whole.counted.made_is)
+    c.in_ok-both-in-None.ensures.back.looked.made ∙ ap (λ (v : View). v.made) c.in_ok-first-in-None.ensures.same ∙ (crew_each g at.In_ok-first-in-None).made_is
+    ∙ omega (arith, back_each g at.In_ok-callers-in-None (jobs_many g at.In_ok-players-in-None), ap length c.new.ensures.items, c.requires.whole.counted.made_is)
 
 pub returns-in_ok-closed-in-None-clause-lives : goal.returns-in_ok-closed-in-None-clause-lives
 returns-in_ok-closed-in-None-clause-lives g c =
@@ -150,22 +157,21 @@ returns-in_ok-closed-in-None-clause-lives g c =
     let met = c.in_ok-first-in-None.field-0.callers.items in
     let olds = c.args.life.others.items in
     let enrolled = crew.callers.items in
-    let jobs = c.in_ok-jobs-in-None.jobs.items in
+    let jobs = c.in_ok-players-in-None.players.jobs.items in
     let out = c.in_ok-both-in-None.both in
     let both = c.in_ok-both-in-None.ensures.played in
     let over = both.over in
     let others = map caller_in both.all in
     let heard = out.crew.callers.items in
-    let own0 = c.in-Some-pop.own in
+    let own0 = c.in_ok-players-in-None.players.caller in
     let own1 = out.crew.first in
-    let works = c.args.works.items in
+    let works = c.args.tasks.works.items in
     let closed = c.in_ok-closed-in-None.closed in
     let kept = told g.M.Method.keep g.M.Method.heard closed.kept.items in
     let before = c.args.on.now in
     let after = c.play_seen.new.on in
     let same = c.in_ok-first-in-None.ensures.same in
-    let callers_are = c.in_ok-jobs-in-None.ensures.callers in
-    let these : met ≡ map caller_of jobs ++ own0 ∷ [] = parted g at.In-Some-pop ∙ ap (λ (l : List Caller). l ++ own0 ∷ []) (sym callers_are) in
+    let these : met ≡ map caller_of jobs ++ own0 ∷ [] = parted g at.In_ok-players-in-None in
     let has = recursion_from_All (HasSeen v.seen) (map caller_of jobs ++ own0 ∷ []) (subst (All (HasSeen v.seen)) these c.in_ok-first-in-None.ensures.told) in
     let knows_first : StartsWith (seen_by own1) (seen_by first) =
     starts_on (seen_by own1) (seen_by own0) (seen_by first) over.starts
@@ -174,13 +180,13 @@ returns-in_ok-closed-in-None-clause-lives g c =
     known_joined heard (own1 ∷ []) ∙ (λ i. over.same i ++ known (own1 ∷ [])) ∙ sym (known_joined others (own1 ∷ [])) in
     let seen = c.in_ok-both-in-None.first in
     let closes =
-    closed_before caps past first seen (olds ++ (others ++ own1 ∷ [])) [] closed.bytes.items kept c.in_ok-both-in-None.ensures.number
-    c.in_ok-both-in-None.ensures.looked
+    closed_before caps past first seen (olds ++ (others ++ own1 ∷ [])) [] closed.bytes.items kept c.in_ok-both-in-None.ensures.back.number
+    c.in_ok-both-in-None.ensures.back.looked
     (closed_with caps past seen olds (heard ++ own1 ∷ []) (others ++ own1 ∷ []) [] closed.bytes.items kept known_is
     (subst (λ (q : List Caller × List Guest). Closes caps past (known (seen ∷ (olds ++ q.0))) (views_of (seen ∷ (olds ++ q.0)) q.1) closed.bytes.items kept)
     (λ i. (c.in_ok-callers-in-None.ensures i, c.new.ensures.items i)) c.in_ok-closed-in-None.ensures)) in
     let count : length jobs ≡ length works =
-    omega (arith, ap length c.in_ok-jobs-in-None.ensures.works, length-map jobs work_of) in
+    omega (arith, ap length c.in_ok-players-in-None.ensures.works, length-map jobs work_of) in
     under_each g.P.Worker.plays g.T.Meanwhile.ends caps past c.a_server_stays_sound.ensures.step c.a_server_stays_sound.ensures.opening v0 v olds enrolled
     c.requires.whole.old c.requires.whole.counted.made_is c.in_ok-crew.ensures.seen before after closed.bytes.items kept works (Each out.ends) (Some out.end) first
     (c.in_ok-first-in-None.ensures.number ∙ c.in_ok-crew.ensures.number) (same_stays v (view first.pass) same) (v0.made + length enrolled)
@@ -188,12 +194,12 @@ returns-in_ok-closed-in-None-clause-lives g c =
     (omega (arith, count, many_each g at.In_ok-first-in-None))
     (recursion_from_All IsSilent (map caller_of jobs ++ own0 ∷ []) (subst (All IsSilent) these c.in_ok-first-in-None.ensures.silent)) has
     both.done over.holder over.starts knows_first over.told
-    (over.ended before (view own0.pass) (c.requires.begun (holder_of caps own0) (view own0.pass))) closes
+    (over.ended before (view own0.pass) (begun g at.In_ok-players-in-None)) closes
     (λ history shared under. (
       many_each g at.In_ok-first-in-None,
       map seen_by others,
       subst (λ (q : List g.row.P.Denot × List g.row.P-End.Denot). AreShares g.P.Worker.plays caps (own 0 history) history v0.made q.0 q.1 (map seen_by others))
-          (λ i. (c.in_ok-jobs-in-None.ensures.works i, sym both.ends_are i)) shared,
+          (λ i. (c.in_ok-players-in-None.ensures.works i, sym both.ends_are i)) shared,
       subst (λ (n : ℕ). IsUnder g.T.Meanwhile.ends (holder_at caps (v0.made + n)) (own 0 history) history (map seen_by others) before after out.end) count under,
     ))
 
@@ -224,14 +230,14 @@ returns-in_ok-closed-in-Some-clause-lives g c =
     under_none g.P.Worker.plays g.T.Meanwhile.ends caps (past_of c.args.life.live.turn) c.a_server_stays_sound.ensures.step
     c.a_server_stays_sound.ensures.opening v0 v c.args.life.others.items crew.callers.items c.requires.whole.old c.requires.whole.counted.made_is c.in_ok-crew.ensures.seen
     c.args.on.now c.args.on.now c.in_ok-closed-in-Some.closed.bytes.items
-    (told g.M.Method.keep g.M.Method.heard c.in_ok-closed-in-Some.closed.kept.items) c.args.works.items (NoRoom room c.args.works) None crew.first
+    (told g.M.Method.keep g.M.Method.heard c.in_ok-closed-in-Some.closed.kept.items) c.args.tasks.works.items (NoRoom room c.args.tasks.works) None crew.first
     c.in_ok-crew.ensures.number (same_stays v v refl) (v0.made + 1 + length crew.callers.items) facts.0 c.in-Some.why facts.2
     c.push.new.self.items c.in_ok-closed-in-Some.ensures in
     let is : record_full (room_of room) ≡ record_full done.0 = sym (ap refusal_of c.room_in.ensures) ∙ done.1 in
     let same : done.0 ≡ room_of room = cc in
     done.2
     (λ history none. (
-      omega (arith, facts.1, c.len.ensures, c.args.works.ok.0),
+      omega (arith, facts.1, c.len.ensures, c.args.tasks.works.ok.0),
       subst (HasNoRoomToEnrol caps history) same none,
       refl,
       refl,
@@ -245,7 +251,7 @@ returns-in_ok-closed-in-None-clause-looked g c =
     let seen = c.in_ok-both-in-None.first in (
       view seen.pass,
       closes.history,
-      c.in_ok-both-in-None.ensures.looks,
+      c.in_ok-both-in-None.ensures.back.came,
       All-head (λ (v : View). StartsWith closes.history v.seen) (view seen.pass)
           (views_of (c.args.life.others.items ++ c.in_ok-callers-in-None.callers.items) c.new.result.items) closes.carried,
       closes.recorded,

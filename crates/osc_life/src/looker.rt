@@ -1,20 +1,20 @@
-// Workers beside each other, while something else goes on, and someone looks.
-ghost use Rattle.std.specs.Prelude.{◌≡◌, All, IfOk, IsSomeAnd};
-ghost use Rattle.osc_turn.specs.Passes.{view};
+//! Workers that play at the same time, while something else goes on, and someone looks.
+ghost use Rattle.std.specs.Prelude.{All, IfOk, IsSomeAnd};
 ghost use Rattle.osc_live.specs.Tokens.{IsOurs};
-ghost use Rattle.osc_life.specs.Looking.{HasLooked};
-ghost use Rattle.osc_life.specs.Works.{CanPlay, CanGoOn, ArePlayed};
+ghost use Rattle.osc_life.specs.Looking.{IsBack};
+ghost use Rattle.osc_life.specs.Works.{CanBegin, CanPlay, CanGoOn, ArePlayed};
 
 use crate::aside::Aside;
 use crate::beside::{Beside, play_beside};
 use crate::desk::Desk;
-use crate::gate::Gate;
+use crate::gate::{Gate, OpenGate};
 use crate::meanwhile::Meanwhile;
+use crate::players::Players;
 use crate::progress::Progress;
-use crate::worker::{Job, Worker};
-use osc_live::Caller;
+use crate::worker::Worker;
+use osc_live::{Caller, Live};
 use osc_method::Method;
-use std::alloc::AllocError;
+use std::alloc::{AllocError, Global};
 use std::sync::Wait;
 use std::thread::{Threads, join_mut};
 
@@ -25,9 +25,9 @@ pub(crate) struct Looker<A> {
     pub(crate) aside: A,
 }
 
-/// Plays the jobs and something else meanwhile as `play_beside` does, in a thread of its own where one can be made, while
-/// someone looks. With what came of these stand the caller who has looked, and what came of that. An `Err` means out of
-/// memory.
+/// Plays the jobs and something else meanwhile as `play_beside` does, in a thread of its own where
+/// one can be made, while someone looks. With the results of these comes back the caller who has
+/// looked, and what came of that. An `Err` means out of memory.
 pub(crate) fn play_seen<
     M: Method + Send,
     W: Threads + Wait + Sync,
@@ -39,29 +39,28 @@ pub(crate) fn play_seen<
     G: Gate + Sync,
 >(
     desk: &Desk<'_, M, W, G>,
-    jobs: Vec<Job<P>>,
-    caller: Caller,
-    meanwhile: T,
+    players: Players<P, T>,
     on: &mut X,
     looker: Looker<A>,
     lent: &mut Y,
 ) -> Result<(Beside<P::End, T::End>, Caller, A::End), AllocError>
-    requires jobs { All (CanPlay desk.now.live.now P.ready) jobs.items }
-    requires goes { CanGoOn desk.now.live.now T.rounds on.old meanwhile caller }
+    requires begins { CanBegin desk.now.live.now T.rounds P.ready on.old players }
     requires ours { IsOurs desk.now.live.now looker.first }
     ensures played { IfOk result (λ seen. ArePlayed desk.now.live.now P.plays T.rounds T.ends
-        jobs.items on.old on.new meanwhile caller seen.0) }
-    ensures ours { IfOk result (λ seen. IsOurs desk.now.live.now seen.1) }
-    ensures number { IfOk result (λ seen. seen.1.number ≡ looker.first.number) }
-    ensures looked { IfOk result (λ seen. HasLooked (view looker.first.pass) (view seen.1.pass)) }
-    ensures looks { IfOk result (λ seen. A.looks lent.old lent.new seen.2
-        desk.now.live.now.caps (view seen.1.pass)) }
+        players.jobs.items on.old on.new players.meanwhile players.caller seen.0) }
+    ensures back { IfOk result (λ seen. IsBack A.looks desk.now.live.now lent.old lent.new
+        looker.first (seen.1, seen.2)) }
 {
     let rt = desk.rt;
     let alloc = desk.alloc;
     let live = desk.live;
     let gate = desk.gate;
     let progress = Progress::new();
+    let Players {
+        jobs,
+        caller,
+        meanwhile,
+    } = players;
     let mut given = Some(jobs);
     let mut token = Some(caller);
     let mut state = Some(meanwhile);
@@ -93,16 +92,36 @@ pub(crate) fn play_seen<
         },
         &mut || -> (Caller, A::End)
             requires { IsSomeAnd who (λ one. IsOurs live.now one.first) }
-            ensures { IsSomeAnd who.entry (λ one. IsOurs live.entry.now result.0
-                × (result.0.number ≡ one.first.number)
-                × HasLooked (view one.first.pass) (view result.0.pass)
-                × A.looks lent.entry.now lent.exit.now result.1 live.entry.now.caps
-                (view result.0.pass)) }
+            ensures { IsSomeAnd who.entry (λ one. IsBack A.looks live.entry.now lent.entry.now
+                lent.exit.now one.first result) }
         {
-            let Looker { first, aside } = who.take().unwrap();
-            aside.look(lent, rt, alloc, live, first, &progress)
+            let looker = who.take().unwrap();
+            look_on(looker, lent, rt, alloc, live, &progress)
         },
     );
     let both = both?;
     Ok((both, first, looked))
+}
+
+/// Looks under caller 0's token, with what is lent for it. No gate is called.
+fn look_on<M: Method, W: Wait, Y, A: Aside<M, Y>>(
+    looker: Looker<A>,
+    lent: &mut Y,
+    rt: &W,
+    alloc: Global,
+    live: &Live<M>,
+    progress: &Progress,
+) -> (Caller, A::End)
+    requires { IsOurs live.now looker.first }
+    ensures { IsBack A.looks live.now lent.old lent.new looker.first result }
+{
+    let Looker { first, aside } = looker;
+    let gate = OpenGate;
+    let desk = Desk {
+        rt,
+        alloc,
+        live,
+        gate: &gate,
+    };
+    aside.look(lent, &desk, first, progress)
 }

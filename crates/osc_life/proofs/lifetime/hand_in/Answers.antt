@@ -5,8 +5,8 @@ use Rattle.osc_live.specs.declared.caller.Caller.{Caller}
 use Rattle.osc_live.specs.Closing.{known, views_of, made_by, Closes}
 use Rattle.osc_live.specs.Seen.{past_of, IsTokenOf}
 use Rattle.osc_live.proofs.Closings.{inserted_first}
-use Rattle.osc_life.proofs.living.hand_in.Goals as goal
-use Rattle.osc_life.proofs.living.hand_in.Goals.{In_ok-append}
+use Rattle.osc_life.proofs.lifetime.hand_in.Goals as goal
+use Rattle.osc_life.proofs.lifetime.hand_in.Goals.{In_ok-append}
 
 -- what is handed in
 handed : (g : _) (c : In_ok-append g) → c.append.new.self.items ≡ c.args.crew.first ∷ (c.args.others.items ++ c.args.crew.callers.items)
