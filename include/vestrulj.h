@@ -50,7 +50,8 @@ enum {
     OSC_IS_OPEN = 17,
     OSC_NO_CALL = 18,      /* all calls of the last release are read */
     OSC_BUFFER_SMALL = 19, /* call->size, or need, tells how many bytes are wanted; the call stays */
-    /* 20 and 21 are kept for callers */
+    OSC_CALLERS_FULL = 20, /* there are as many callers as there may be */
+    OSC_NOT_ENROLLED = 21, /* the caller's number wasn't given */
     OSC_BAD_PATTERN = 22,  /* number: the kind of the pattern's first fault, 4, 10 or 11; unit: its place */
     OSC_BAD_ARGUMENT = 23, /* unit: which, counted from 0; number: 1 for its tag, number, place or size, 2 for a zero byte */
     OSC_TOO_LONG = 24,     /* a pattern of over 65,000 bytes, or a message of over 65,504 with argument `unit` */
@@ -77,7 +78,7 @@ typedef struct osc_limits {
 /* What an answer doesn't tell is 0. */
 typedef struct osc_answer {
     uint32_t status;
-    uint32_t number; /* a method's id */
+    uint32_t number; /* a method's id; a caller */
     uint64_t unit;   /* the first unit that was queued; the unit that was released */
     uint32_t count;  /* how many units were numbered, calls a release made, arguments there are, bytes were written */
     uint32_t late;   /* how many of the units were late and are discarded */
@@ -106,23 +107,33 @@ osc_answer osc_server_open(osc_server *server, const osc_limits *limits);
 /* Frees all that the server has. A server that is closed stays so. */
 void osc_server_close(osc_server *server);
 
-/* The events, all of caller 0. */
+/* The events. Those that end in _by are an event of the caller with this number, the others of caller 0. All but a
+ * release keep the calls that are left to be read. */
+
+/* Enrols a caller: `number` is the caller's. */
+osc_answer osc_server_enrol(osc_server *server);
+osc_answer osc_server_enrol_by(osc_server *server, uint32_t caller);
 
 /* Adds a method at the address: `number` is its id. */
 osc_answer osc_server_add(osc_server *server, const uint8_t *address, size_t size);
+osc_answer osc_server_add_by(osc_server *server, uint32_t caller, const uint8_t *address, size_t size);
 
 /* Removes the method at the address: `number` is the id that it had. */
 osc_answer osc_server_remove(osc_server *server, const uint8_t *address, size_t size);
+osc_answer osc_server_remove_by(osc_server *server, uint32_t caller, const uint8_t *address, size_t size);
 
 /* Queues the units of a packet, all or none. */
 osc_answer osc_server_submit(osc_server *server, const uint8_t *packet, size_t size);
+osc_answer osc_server_submit_by(osc_server *server, uint32_t caller, const uint8_t *packet, size_t size);
 
 /* Sets the clock: an NTP time, 32 bits of seconds and 32 bits of fraction. */
 osc_answer osc_server_tick(osc_server *server, uint64_t moment);
+osc_answer osc_server_tick_by(osc_server *server, uint32_t caller, uint64_t moment);
 
 /* Takes the unit that is due first out of the queue: `count` calls are to be read. Where none is due, or the recording
  * is full, there are none to be read. */
 osc_answer osc_server_release(osc_server *server);
+osc_answer osc_server_release_by(osc_server *server, uint32_t caller);
 
 /* The next call of the last release, with its message in the buffer: OSC_OK, OSC_NO_CALL, OSC_BUFFER_SMALL or
  * OSC_IS_CLOSED. */

@@ -1,6 +1,8 @@
 pub mod AsBox
 pub mod Begun
 pub mod FirstCaller
+pub mod Keeping
 pub mod Overs
 pub mod Places
 pub mod Reading
+pub mod Skipping

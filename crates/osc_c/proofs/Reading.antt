@@ -29,18 +29,11 @@ use Rattle.osc_core.specs.declared.answers.Releasing.TheVariants as releasing
 use Rattle.osc_core.specs.Calls.{hit_by}
 use Rattle.osc_core.proofs.Firsts.{hits_by}
 use Rattle.osc_core.proofs.Storing.{message_small, message_again, rest_again, messages-framed}
-use Rattle.osc_c.specs.Reading.{skip, Told, told_by, told_of, hits_left, left_of, AreFirst, NextHit, TellsNext}
+use Rattle.osc_c.specs.Told.{skip, Told, told_by, told_of}
+use Rattle.osc_c.proofs.Skipping.{skip_more}
+use Rattle.osc_c.specs.Reading.{hits_left, left_of, AreFirst, NextHit, TellsNext}
 use Rattle.osc_c.specs.declared.state.State.{State as Open}
-
--- one message more is skipped
-skip_more : (count : ℕ) (bytes : List ℕ) → skip (suc count) bytes ≡ after_framed (skip count bytes)
-skip_more zero bytes = refl
-skip_more (suc count) bytes = skip_more count (after_framed bytes)
-
--- a message is skipped, and then the others
-pub skip_step : (count : ℕ) (bytes : List ℕ) → 0 < count → skip count bytes ≡ skip (count - 1) (after_framed bytes)
-skip_step zero bytes some = absurd (omega (arith, some))
-skip_step (suc count) bytes some = let one : suc count - 1 ≡ count = omega arith in ap (λ (n : ℕ). skip n (after_framed bytes)) (sym one)
+use Rattle.osc_c.specs.declared.called.Called.{Called}
 
 hits_append : (xs ys : List Call) → hits_of (xs ++ ys) ≡ hits_of xs ++ hits_of ys
 hits_append [] ys = refl
@@ -121,22 +114,34 @@ none_left (releasing.RecordFull room) now told none =
     none_of (stepped_in now release).invocations (sym (ap told_hits told) ∙ hits_stepped (state_of now))
 
 -- a history with the entry of a release, by its answer
-abbrev grown : Performance → Answer → Performance
-grown now answer = cond (adds_entry answer) (record now { history = now.history ++ record { caller = 0; event = release; answer = answer } ∷ [] }) now
+abbrev grown : Performance → ℕ → Answer → Performance
+grown now caller answer = cond (adds_entry answer) (record now { history = now.history ++ record { caller = caller; event = release; answer = answer } ∷ [] }) now
 
-text_after : (now : Performance) (unit : ℕ) (hits : List Hit) → (stepped_in now release).answer ≡ released unit hits
-    → record_text (onward now 0 release).caps (onward now 0 release).history
-    ≡ (record_text now.caps now.history ++ release_head 0 unit (length hits)) ++ hits_text hits
-text_after now unit hits is =
-    subst (λ (a : Answer). record_text (grown now a).caps (grown now a).history ≡ (record_text now.caps now.history ++ release_head 0 unit (length hits)) ++ hits_text hits)
+text_after : (now : Performance) (caller unit : ℕ) (hits : List Hit) → (stepped_in now release).answer ≡ released unit hits
+    → record_text (onward now caller release).caps (onward now caller release).history
+    ≡ (record_text now.caps now.history ++ release_head caller unit (length hits)) ++ hits_text hits
+text_after now caller unit hits is =
+    subst (λ (a : Answer). record_text (grown now caller a).caps (grown now caller a).history ≡ (record_text now.caps now.history ++ release_head caller unit (length hits)) ++ hits_text hits)
     (sym is)
-    (record_more now.caps now.history (record { caller = 0; event = release; answer = released unit hits })
-    ∙ ap (λ (l : List ℕ). record_text now.caps now.history ++ l) (sym (release_text 0 unit hits))
-    ∙ sym (append_assoc (record_text now.caps now.history) (release_head 0 unit (length hits)) (hits_text hits)))
+    (record_more now.caps now.history (record { caller = caller; event = release; answer = released unit hits })
+    ∙ ap (λ (l : List ℕ). record_text now.caps now.history ++ l) (sym (release_text caller unit hits))
+    ∙ sym (append_assoc (record_text now.caps now.history) (release_head caller unit (length hits)) (hits_text hits)))
 
 length_hits : (hits : List Hit) → length (hits_text hits) ≡ 8 * length hits
 length_hits [] = refl
 length_hits (hit ∷ hits) = omega (arith, length_hits hits)
+
+-- a release's hits stand in the recording
+pub hits_stand : (answering : Releasing) (unit calls caller : ℕ) (now next : Performance) → answering ≡ releasing.Released unit calls
+    → TellsRelease answering (stepped_in now release).answer → next ≡ onward now caller release → 8 * calls ≤ length (record_text next.caps next.history)
+hits_stand answering unit calls caller now next same told on =
+    go (subst (λ (a : Releasing). TellsRelease a (stepped_in now release).answer) same told) where
+      go : TellsRelease (releasing.Released unit calls) (stepped_in now release).answer → 8 * calls ≤ length (record_text next.caps next.history)
+      go (hits, answer, many) =
+          let front = record_text now.caps now.history ++ release_head caller unit (length hits) in
+          let text : record_text next.caps next.history ≡ front ++ hits_text hits =
+          ap (λ (p : Performance). record_text p.caps p.history) on ∙ text_after now caller unit hits answer in
+          omega (arith, many, length_hits hits, ap length text, length-append front (hits_text hits))
 
 -- the hits at the end of a text are read
 hits_read : (text front : List ℕ) (hits : List Hit) (calls place : ℕ) → AllByRecursion IsHit hits → text ≡ front ++ hits_text hits → calls ≡ length hits
@@ -149,15 +154,15 @@ hits_read text front hits calls place all is many at =
     ap (λ (l : List ℕ). take calls (hits_in l)) rest ∙ ap (take calls) (hits_again hits all) ∙ take_all calls hits (omega (arith, many))
 
 -- what a release of a unit leaves to be read is what it invoked
-pub all_left : (answering : Releasing) (unit calls place : ℕ) (now next : Performance) (bytes : List ℕ) → answering ≡ releasing.Released unit calls
+pub all_left : (answering : Releasing) (unit calls place caller : ℕ) (now next : Performance) (bytes : List ℕ) → answering ≡ releasing.Released unit calls
     → TellsRelease answering (stepped_in now release).answer
     → OnReleased answering (λ number. (stepped_in now release).invocations ≡ invocations_of number (calls_from (state_of now).methods 0 (messages_in bytes)))
     → OnReleased answering (λ number. AreFramed bytes)
-    → next ≡ onward now 0 release
-    → (adds_entry (stepped_in now release).answer ≡ true → IsRecordable 0 release (stepped_in now release).answer)
+    → next ≡ onward now caller release
+    → (adds_entry (stepped_in now release).answer ≡ true → IsRecordable caller release (stepped_in now release).answer)
     → (8 * calls ≤ length (record_text next.caps next.history) → place + 8 * calls ≡ length (record_text next.caps next.history))
     → map (told_by unit bytes) (hits_left calls place (record_text next.caps next.history)) ≡ map told_of (stepped_in now release).invocations
-all_left answering unit calls place now next bytes same told invoked whole on recordable at =
+all_left answering unit calls place caller now next bytes same told invoked whole on recordable at =
     go (subst (λ (a : Releasing). TellsRelease a (stepped_in now release).answer) same told)
     (subst (λ (a : Releasing). OnReleased a (λ number. (stepped_in now release).invocations ≡ invocations_of number (calls_from (state_of now).methods 0 (messages_in bytes)))) same invoked)
     (subst (λ (a : Releasing). OnReleased a (λ number. AreFramed bytes)) same whole) where
@@ -167,11 +172,11 @@ all_left answering unit calls place now next bytes same told invoked whole on re
           → map (told_by unit bytes) (hits_left calls place (record_text next.caps next.history)) ≡ map told_of (stepped_in now release).invocations
       go (hits, answer, many) made are =
           let list = calls_from (state_of now).methods 0 (messages_in bytes) in
-          let text : record_text next.caps next.history ≡ (record_text now.caps now.history ++ release_head 0 unit (length hits)) ++ hits_text hits =
-          ap (λ (p : Performance). record_text p.caps p.history) on ∙ text_after now unit hits answer in
-          let sound : IsRecordable 0 release (released unit hits) = subst (λ (a : Answer). IsRecordable 0 release a) answer (recordable (ap adds_entry answer)) in
+          let text : record_text next.caps next.history ≡ (record_text now.caps now.history ++ release_head caller unit (length hits)) ++ hits_text hits =
+          ap (λ (p : Performance). record_text p.caps p.history) on ∙ text_after now caller unit hits answer in
+          let sound : IsRecordable caller release (released unit hits) = subst (λ (a : Answer). IsRecordable caller release a) answer (recordable (ap adds_entry answer)) in
           let all : AllByRecursion IsHit hits = sound.sound in
-          let read = hits_read (record_text next.caps next.history) (record_text now.caps now.history ++ release_head 0 unit (length hits)) hits calls place all text many at in
+          let read = hits_read (record_text next.caps next.history) (record_text now.caps now.history ++ release_head caller unit (length hits)) hits calls place all text many at in
           let are_of : hits ≡ hits_of list = sym (ap told_hits answer) ∙ hits_stepped (state_of now) ∙ ap (map hit_by) made ∙ hits_by unit list in
           ap (map (told_by unit bytes)) (read ∙ are_of) ∙ told_all unit bytes (state_of now).methods are ∙ ap (map told_of) (sym made)
 
@@ -235,25 +240,27 @@ next_of (Some words) calls place text bytes some is (long, first, second) =
     } in
     (some, omega (arith, far, length-drop place text), one_next calls place text some far ∙ ap (λ (h : Hit). h ∷ take (calls - 1) (hits_in (drop (place + 8) text))) hit)
 
-module _ (state : Open) (hit : Hit) (rest : List Hit) (before buffer : List ℕ) where
+module _ (state : Open) (hit : Hit) (rest : List Hit) (given : Called) (before buffer : List ℕ) where
   abbrev all : List Told
   all = map (told_by state.unit state.core.unit.items) rest
 
   abbrev told : Told
   told = told_by state.unit state.core.unit.items hit
 
-  fits_so : (t : Bool) → nat_lt (length before) (length told.message) ≡ t → length told.message ≤ length before → take (length told.message) buffer ≡ told.message
-      → MatchBool t (◌≡◌ {A = ℕ} 0 19 × (all ≡ told ∷ all)) (◌≡◌ {A = ℕ} 0 0 × (all ≡ all) × (take (length told.message) buffer ≡ told.message))
+  fits_so : (t : Bool) → nat_lt (length before) (length told.message) ≡ t → length told.message ≤ length before
+      → buffer ≡ told.message ++ drop (length told.message) before
+      → MatchBool t (◌≡◌ {A = ℕ} 0 19 × (all ≡ told ∷ all) × (buffer ≡ before))
+      (◌≡◌ {A = ℕ} 0 0 × (all ≡ all) × (buffer ≡ told.message ++ drop (length told.message) before))
   fits_so true e fits copied = let less : length before < length told.message = ltb-true (length before) (length told.message) e in absurd (omega (arith, less, fits))
   fits_so false e fits copied = (refl, refl, copied)
 
   -- a call that was read is told, and the others are left
   pub tells : (message : List ℕ) → hits_left state.calls state.hit (record_text state.core.performance.caps state.core.performance.history) ≡ hit ∷ rest
-      → message ≡ told.message → length message ≤ length before → take (length message) buffer ≡ message
-      → TellsNext (left_of state) all 0 (record { unit = state.unit; method = hit.id; index = hit.index; size = length message }) before buffer
+      → message ≡ told.message → length message ≤ length before → buffer ≡ message ++ drop (length message) before
+      → TellsNext (left_of state) all 0 given (record { unit = state.unit; method = hit.id; index = hit.index; size = length message }) before buffer
   tells message is at fits copied =
-      subst (λ (l : List Told). TellsNext l all 0 (record { unit = state.unit; method = hit.id; index = hit.index; size = length message }) before buffer)
+      subst (λ (l : List Told). TellsNext l all 0 given (record { unit = state.unit; method = hit.id; index = hit.index; size = length message }) before buffer)
       (sym (ap (map (told_by state.unit state.core.unit.items)) is))
-      (subst (λ (m : List ℕ). length m ≤ length before → take (length m) buffer ≡ m
-      → TellsNext (told ∷ all) all 0 (record { unit = state.unit; method = hit.id; index = hit.index; size = length m }) before buffer)
+      (subst (λ (m : List ℕ). length m ≤ length before → buffer ≡ m ++ drop (length m) before
+      → TellsNext (told ∷ all) all 0 given (record { unit = state.unit; method = hit.id; index = hit.index; size = length m }) before buffer)
       (sym at) (λ few same. (refl, fits_so (nat_lt (length before) (length told.message)) refl few same)) fits copied)

@@ -1,7 +1,8 @@
 -- What the answers of the rules are in C.
 use Rattle.std.specs.Prelude.{ℕ, length, Some, None}
 use Rattle.osc_atoms.specs.declared.fault.Fault.{Fault}
-use Rattle.osc_tree.specs.Adding.{Refusal, taken, under_method, is_container, methods_full, nodes_full}
+use Rattle.osc_tree.specs.Adding.{Refusal, taken, under_method, is_container, methods_full}
+use Rattle.osc_tree.specs.Adding.{nodes_full}
 use Rattle.osc_model.specs.Events as model
 use Rattle.osc_model.specs.Events.{number, callers_full, queued, units_full, pool_full, added}
 use Rattle.osc_model.specs.Events.{refused, removed, not_there, ticked, clock_back, released}
@@ -20,7 +21,7 @@ bare status = record {
   free = 0;
 }
 
--- want of room
+-- too little room
 abbrev pub wanting : ℕ → ℕ → ℕ → Answer
 wanting status need free = record {
   status = status;

@@ -1,42 +1,12 @@
 -- What a release leaves to be read, and what is read of it.
-use Rattle.std.specs.Prelude.{◌≡◌, ℕ, zero, suc, ◌+◌, ◌-◌, ◌<◌, ◌≤◌, nat_lt, MatchBool, List, [], ◌∷◌, map, take, drop}
-use Rattle.std.specs.Prelude.{length, Option, Some, None}
+use Rattle.std.specs.Prelude.{◌≡◌, ℕ, ◌+◌, ◌-◌, ◌<◌, ◌≤◌, nat_lt, MatchBool, List, [], ◌∷◌, ◌++◌}
+use Rattle.std.specs.Prelude.{map, take, drop, length, Option, Some, None}
 use Rattle.std.specs.Int.{w32, from_be_bytes}
-use Rattle.osc_model.specs.Events.{Hit, Invocation}
+use Rattle.osc_model.specs.Events.{Hit}
 use Rattle.osc_model.specs.Recordings.{record_text, hits_in}
-use Rattle.osc_core.specs.Frames.{first_framed, after_framed}
 use Rattle.osc_c.specs.declared.called.Called.{Called}
 use Rattle.osc_c.specs.declared.state.State.{State}
-
--- a call as it is told
-pub record Told : Type 0 where
-  pub unit : ℕ
-  pub index : ℕ
-  pub id : ℕ
-  pub message : List ℕ
-
--- what follows so many messages, each behind its size
-abbrev pub skip : ℕ → List ℕ → List ℕ
-skip zero bytes = bytes
-skip (suc count) bytes = skip count (after_framed bytes)
-
--- a hit of the release of a unit with these messages
-abbrev pub told_by : ℕ → List ℕ → Hit → Told
-told_by unit bytes hit = record {
-  unit = unit;
-  index = hit.index;
-  id = hit.id;
-  message = first_framed (skip hit.index bytes);
-}
-
--- an invocation
-abbrev pub told_of : Invocation → Told
-told_of invocation = record {
-  unit = invocation.unit;
-  index = invocation.call.index;
-  id = invocation.call.id;
-  message = invocation.call.message;
-}
+use Rattle.osc_c.specs.Told.{Told, told_by}
 
 -- the hits that are left at a place of a recording
 abbrev pub hits_left : ℕ → ℕ → List ℕ → List Hit
@@ -73,11 +43,14 @@ called told = record {
   size = length told.message;
 }
 
--- what is told of the calls that were left, with what is left then
-abbrev pub TellsNext : List Told → List Told → ℕ → Called → List ℕ → List ℕ → Type 0
-TellsNext [] left status call before buffer = (status ≡ 18) × (left ≡ [])
-TellsNext (told ∷ more) left status call before buffer =
+-- what is told of the calls that were left, with what is left then: none; or the first, which stays
+-- where the buffer is too small, and is copied to the buffer's beginning else
+abbrev pub TellsNext : List Told → List Told → ℕ → Called → Called → List ℕ → List ℕ → Type 0
+TellsNext [] left status given call before buffer =
+    (status ≡ 18) × (left ≡ []) × (call ≡ given) × (buffer ≡ before)
+TellsNext (told ∷ more) left status given call before buffer =
     (call ≡ called told)
     × MatchBool (nat_lt (length before) (length told.message))
-    ((status ≡ 19) × (left ≡ told ∷ more))
-    ((status ≡ 0) × (left ≡ more) × (take (length told.message) buffer ≡ told.message))
+    ((status ≡ 19) × (left ≡ told ∷ more) × (buffer ≡ before))
+    ((status ≡ 0) × (left ≡ more)
+    × (buffer ≡ told.message ++ drop (length told.message) before))

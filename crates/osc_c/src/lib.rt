@@ -10,6 +10,7 @@ mod handle;
 mod limits;
 mod matching;
 mod message;
+mod methods;
 mod opening;
 mod plain;
 mod recording;

@@ -1,14 +1,14 @@
 // What the server's answers are in C.
 ghost use Rattle.std.specs.Prelude.{◌≡◌};
 ghost use Rattle.osc_model.specs.Events.{Answer as Given};
-ghost use Rattle.osc_core.specs.Answers.{submitted_of, refusal_of, removing_of, ticking_of};
-ghost use Rattle.osc_core.specs.Answers.{TellsRelease};
+ghost use Rattle.osc_core.specs.Answers.{enrolled_of, submitted_of, adding_of, refusal_of};
+ghost use Rattle.osc_core.specs.Answers.{removing_of, ticking_of, TellsRelease};
 ghost use Rattle.osc_c.specs.Answers.{bare, wanting, shown, faulty};
 
 use crate::answer::Answer;
 use crate::status;
 use osc_atoms::{Fault, Room};
-use osc_core::{AddRefusal, Releasing, Removing, Submitted, Ticking};
+use osc_core::{AddRefusal, Adding, Enrolled, Releasing, Removing, Submitted, Ticking};
 
 /// An answer that tells its number alone.
 pub(crate) fn told(status: u32) -> Answer
@@ -114,7 +114,26 @@ pub(crate) fn submitted_shown(submitted: Submitted) -> Answer
     }
 }
 
-pub(crate) fn refusal_shown(refusal: AddRefusal) -> Answer
+pub(crate) fn enrolled_shown(enrolled: Enrolled) -> Answer
+    ensures { result ≡ shown (enrolled_of enrolled) }
+{
+    match enrolled {
+        Enrolled::Number(caller) => numbered(status::OK, caller),
+        Enrolled::RecordFull(room) => lacking(status::RECORD_FULL, room),
+        Enrolled::CallersFull => told(status::CALLERS_FULL),
+    }
+}
+
+pub(crate) fn adding_shown<M>(adding: &Adding<M>) -> Answer
+    ensures { result ≡ shown (adding_of adding.now) }
+{
+    match adding {
+        Adding::Added(id) => numbered(status::OK, *id),
+        Adding::Refused { why, .. } => refusal_shown(*why),
+    }
+}
+
+fn refusal_shown(refusal: AddRefusal) -> Answer
     ensures { result ≡ shown (refusal_of refusal) }
 {
     match refusal {

@@ -1,0 +1,8 @@
+use Rattle.std.proofs.Common.{ap, ◌∙◌}
+use Rattle.osc_c.specs.Held.{left}
+use Rattle.osc_c.specs.Reading.{left_of}
+use Rattle.osc_c.proofs.events.osc_server_tick.Goals as goal
+
+pub returns-clause-unread : goal.returns-clause-unread
+returns-clause-unread c =
+    ap left c.put.ensures ∙ c.tick_in-answer.ensures.unread ∙ ap left_of c.deref_mut.ensures.value ∙ ap left c.in-Some.ensures.taken
