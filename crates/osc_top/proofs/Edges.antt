@@ -41,10 +41,11 @@ use Rattle.osc_words.specs.declared.command.LiveCommand.{LiveCommand}
 use Rattle.osc_words.specs.declared.command.LiveCommand.TheVariants as live
 use Rattle.osc_ends.specs.declared.outcome.Outcome.{Outcome}
 use Rattle.osc_ends.specs.declared.outcome.Outcome.TheVariants.{Done, Full, LinkFailed, ClockFailed}
-use Rattle.osc_top.specs.Commands.{mode_of}
+use Rattle.osc_top.specs.Commands.{capacities_of, mode_of}
 use Rattle.osc_top.specs.Edges.{HasLinkRisen, HasRisen, TellsEdge}
 use Rattle.osc_top.specs.EndsCommand.{EndsCommand, plays_of}
-use Rattle.osc_top.specs.Lanes.{first_stop, lane_faults}
+use Rattle.osc_top.specs.History.{IsOneHistory, RecordsHistory}
+use Rattle.osc_top.specs.Lanes.{HaveHeardAll, first_stop, lane_faults}
 use Rattle.osc_top.specs.Watched.{EndsListed, faults_text, methods_text, watched_text}
 use Rattle.osc_ends.specs.Ends.{IsWritten}
 use Rattle.osc_top.specs.Served.{served}
@@ -203,11 +204,11 @@ faults_joined (account ∷ accounts) =
 
 -- The same of a program's end, and its history.
 
--- one history was recorded and printed
-abbrev HasOneHistory : SinkChange → SinkChange → Type 0
-HasOneHistory rec out =
-    (caps : Limits) × (history : List Entry) × (rest : List ℕ) × Legal caps history × KeepsTheLaws caps history × Gains rec (record_text caps history)
-    × Gains out (printed caps history ++ rest)
+-- boxes that have heard all of a history
+one_of : {M : Type 0} (keep : M → ℕ) (heard : M → Option (List ℕ)) (caps : Limits) (history : List Seen) (boxes : List (ℕ × M))
+    → Legal caps (history_in (texts history)) → KeepsTheLaws caps (history_in (texts history)) → HaveHeardAll keep heard caps history boxes
+    → IsOneHistory keep heard caps (history_in (texts history)) boxes
+one_of keep heard caps history boxes legal laws all = record { legal = legal; laws = laws; ids = all.ids; have_heard = all.have_heard }
 
 risen_by : {L : Type 0} (faults : L → ℕ) (links links_after : List L) (clock : ClockRead) (failed : Option ℕ) (clock_failed : Bool) (stop : Option Room)
     → status_of (served failed clock_failed stop) ≡ 7 → ((link : ℕ) → failed ≡ Some link → HasLinkRisen faults link links links_after)
@@ -285,29 +286,28 @@ module _ {M L : Type 0} (keep : M → ℕ) (heard : M → Option (List ℕ)) (le
         told = subst (Gains out) (plays.text_is ∙ sym (append_assoc front said (last_text all.3))) all.7.0;
       }
 
-  pub live_history : (command : LiveCommand) (script : List ℕ) → EndsSo command script → IsWritten status → HasOneHistory rec out
+  pub live_history : (command : LiveCommand) (script : List ℕ) → EndsSo command script → IsWritten status
+      → RecordsHistory keep heard (live_limits (capacities_of command)) added rec out
   live_history (live.Lanes caps watch) script ends written =
       let all = written_by (live.Lanes caps watch) script ends written in
-      let performs = all.5.performs in (
-        live_limits caps,
-        history_in (texts performs.history),
-        lane_faults all.5.accounts ++ (watched_text watch (history_in (texts performs.history)) ++ last_text all.3),
-        performs.stage.legal,
-        performs.stage.laws,
-        subst (Gains rec) performs.closed.recorded all.6.0,
-        subst (Gains out) all.5.text_is all.7.0,
-      )
+      let performs = all.5.performs in
+      record {
+        history = history_in (texts performs.history);
+        rest = lane_faults all.5.accounts ++ (watched_text watch (history_in (texts performs.history)) ++ last_text all.3);
+        one = one_of keep heard (live_limits caps) performs.history added performs.stage.legal performs.stage.laws all.5.boxes;
+        recorded = subst (Gains rec) performs.closed.recorded all.6.0;
+        text = subst (Gains out) all.5.text_is all.7.0;
+      }
   live_history (live.Serve transport port ports count idle caps) script ends written =
       let all = written_by (live.Serve transport port ports count idle caps) script ends written in
-      let hosts = all.5.hosts in (
-        live_limits caps,
-        history_in (texts hosts.history),
-        link_faults all.5.hosted.links.faults.items ++ last_text all.3,
-        hosts.stage.legal,
-        hosts.stage.laws,
-        subst (Gains rec) (all.5.recorded ∙ hosts.closed.recorded) all.6.0,
-        subst (Gains out) all.5.text_is all.7.0,
-      )
+      let hosts = all.5.hosts in
+      record {
+        history = history_in (texts hosts.history);
+        rest = link_faults all.5.hosted.links.faults.items ++ last_text all.3;
+        one = one_of keep heard (live_limits caps) hosts.history added hosts.stage.legal hosts.stage.laws all.5.boxes;
+        recorded = subst (Gains rec) (all.5.recorded ∙ hosts.closed.recorded) all.6.0;
+        text = subst (Gains out) all.5.text_is all.7.0;
+      }
 
   -- lanes that are watched are listed
   pub live_listed : (caps : Capacities) (command : LiveCommand) → command ≡ live.Lanes caps true → (script : List ℕ) → EndsSo command script

@@ -88,6 +88,13 @@ not_unplayed status other is none unplayed =
     let clash : true ≡ false = sym (unplayed_test status unplayed) ∙ ap is_unplayed is ∙ none in
     absurd (cc)
 
+-- the status of a last line reports no sink that failed
+pub line_decided : (decided status other : ℕ) (text : List ℕ) (out : SinkChange) → EndsLine decided status text out → decided ≢ 5 → other ≡ status → other ≢ 5
+line_decided decided status other text out line sound same five = go line.known where
+  go : (status ≡ decided) ⊎ (status ≡ 3) → ⊥
+  go (inl is) = sound (sym is ∙ sym same ∙ five)
+  go (inr three) = omega (arith, three, same, five)
+
 outcome_played : (outcome : Outcome) → is_unplayed (status_of outcome) ≡ false
 outcome_played Done = refl
 outcome_played (Full need free) = refl
@@ -194,6 +201,14 @@ module _ (mode : Mode) (plays : List Line → List ℕ → List ℕ → Outcome 
         → Fails out ⊎ Fails rec
     go (Ok lines) cut = ⊎_elim (λ first. inr first.0.1) (λ second. inl second.1.1) cut.5
     go (Err fault) cut = absurd cut
+
+  -- it was the text's sink, or the recording's, where the other stands as it was
+  pub cut_by : (Same : Type 0) (status : ℕ) → Ends status → (status ≡ 5 → Fails out ⊎ Same) → status ≡ 5 → Fails out ⊎ (Fails rec × Same)
+  cut_by Same status ends which five = go (cut_fails status ends five) (which five) where
+    go : Fails out ⊎ Fails rec → Fails out ⊎ Same → Fails out ⊎ (Fails rec × Same)
+    go (inl text) either = inl text
+    go (inr first) (inl text) = inl text
+    go (inr first) (inr same) = inr (first, same)
 
   pub done_steady : (status : ℕ) → Ends status → status ≡ 0 → IsSteady out × IsSteady rec
   done_steady status ends zero_is = go (script_of mode script) (ends.written (inl zero_is)) where

@@ -9,7 +9,6 @@ use Rattle.osc_model.specs.History.{IsCounted, IsSound, Legal, after}
 use Rattle.osc_model.specs.Limits.{Limits}
 use Rattle.osc_model.specs.Recordings.{record_text}
 use Rattle.osc_model.specs.State.{opening}
-use Rattle.osc_laws.specs.Laws.{KeepsTheLaws}
 use Rattle.osc_core.specs.Ids.{is_ascending}
 use Rattle.osc_core.specs.Standing.{history_in}
 use Rattle.osc_turn.specs.History.{texts}
@@ -34,6 +33,7 @@ use Rattle.osc_ends.specs.Printing.{bank_short_text, callers_full_text, last_tex
 use Rattle.osc_ends.specs.Sinks.{SinkChange, Fails, IsSteady, Gains, GainsAll, GainsPart, GainsUnless, IsUntouched}
 use Rattle.osc_top.specs.After.{CanGoOn, HandsBackAll, Reaches, boxes_told, callers_told}
 use Rattle.osc_top.specs.EndsResumed.{AreEnough, EndsResumed, IsResumed, IsUnresumed, OfBoth}
+use Rattle.osc_top.specs.History.{IsOneHistory}
 use Rattle.osc_top.specs.Lanes.{first_stop, lane_count, lane_faults}
 use Rattle.osc_top.specs.Recorded.{EndsBoth}
 use Rattle.osc_top.specs.Resumed.{PlaysResumed, RecordsOneHistory, boxes_for, callers_for}
@@ -351,6 +351,14 @@ module _ (plays : Limits → List Entry → List Line → List ℕ → List ℕ 
     go caps before (Ok lines) cut = ⊎_elim (λ first. inr first.0.1) (λ second. inl second.1.1) cut.5
     go caps before (Err fault) cut = absurd cut
 
+  -- it was the text's sink, or the recording's, where the other stands as it was
+  pub resumed_cut_by : (Same : Type 0) (status : ℕ) → Ends status → (status ≡ 5 → Fails out ⊎ Same) → status ≡ 5 → Fails out ⊎ (Fails rec × Same)
+  resumed_cut_by Same status ends which five = go (resumed_cut status ends five) (which five) where
+    go : Fails out ⊎ Fails rec → Fails out ⊎ Same → Fails out ⊎ (Fails rec × Same)
+    go (inl text) either = inl text
+    go (inr first) (inl text) = inl text
+    go (inr first) (inr same) = inr (first, same)
+
   pub resumed_steady : (status : ℕ) → Ends status → status ≡ 0 → IsSteady out × IsSteady rec
   resumed_steady status ends zero_is = let all = ends.written (inl zero_is) in go all.0 all.1 (script_of Lanes script) all.3 where
     go : (caps : Limits) (before : List Entry) (read : Result (List Line) ScriptFault)
@@ -430,14 +438,14 @@ module _ {M : Type 0} (keep : M → ℕ) (heard : M → Option (List ℕ)) where
   -- what was written is one history, which begins with the past
   pub resumed_history : (room : ℕ) (bank : List M) (added : List (ℕ × M)) (left : List M) (status : ℕ) (bytes script : List ℕ) (have : ℕ) (rec out : SinkChange)
       → EndsResumed (λ caps before lines. PlaysResumed keep heard (roomier caps room) before bank added left lines) status bytes script have rec out
-      → IsResumed status → RecordsOneHistory room bytes rec out
+      → IsResumed status → RecordsOneHistory keep heard room bytes added rec out
   resumed_history room bank added left status bytes script have rec out ends resumed =
       let all = ends.written resumed in
       go all.0 all.1 all.2 (script_of Lanes script) all.3 where
         go : (caps : Limits) (before : List Entry) → IsRecordingOf bytes caps before → (read : Result (List Line) ScriptFault)
             → IsOkAnd read (λ lines. AreEnough have caps before lines × (recording : List ℕ) × (text : List ℕ) × (outcome : Outcome)
             × (status ≡ status_of outcome) × PlaysResumed keep heard (roomier caps room) before bank added left lines recording text outcome
-            × GainsAll rec recording × GainsAll out text) → RecordsOneHistory room bytes rec out
+            × GainsAll rec recording × GainsAll out text) → RecordsOneHistory keep heard room bytes added rec out
         go caps before recording_of (Ok lines) all =
             let limits = roomier caps room in
             let plays = all.5 in
@@ -452,8 +460,9 @@ module _ {M : Type 0} (keep : M → ℕ) (heard : M → Option (List ℕ)) where
               since = since;
               rest = rest;
               recording_of = recording_of;
-              legal = subst (Legal limits) whole stage.legal;
-              laws = subst (KeepsTheLaws limits) whole stage.laws;
+              one =
+                  subst (λ (h : List Entry). IsOneHistory keep heard limits h added) whole
+                  (record { legal = stage.legal; laws = stage.laws; ids = plays.boxes.ids; have_heard = plays.boxes.have_heard });
               recorded = subst (Gains rec) (plays.performs.closed.recorded ∙ ap (record_text limits) whole) all.6.0;
               text = subst (Gains out) (plays.text_is ∙ ap (λ (h : List Entry). printed limits h ++ rest) whole) all.7.0;
             }

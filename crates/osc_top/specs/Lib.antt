@@ -3,6 +3,7 @@ pub mod Commands
 pub mod Edges
 pub mod EndsCommand
 pub mod EndsResumed
+pub mod History
 pub mod Lanes
 pub mod Live
 pub mod Resumed

@@ -7,8 +7,7 @@ use Rattle.osc_model.specs.State.{opening}
 use Rattle.osc_model.specs.Events.{Entry, Room}
 use Rattle.osc_model.specs.Enrolled.{callers_in}
 use Rattle.osc_model.specs.Recordings.{record_text}
-use Rattle.osc_model.specs.History.{Legal, HasHeard, after, invoked_in}
-use Rattle.osc_laws.specs.Laws.{KeepsTheLaws}
+use Rattle.osc_model.specs.History.{HasHeard, after, invoked_in}
 use Rattle.osc_core.specs.Standing.{history_in, CarriesMark, mark_of}
 use Rattle.osc_turn.specs.declared.view.Entry.{Entry as Seen}
 use Rattle.osc_turn.specs.History.{texts}
@@ -25,6 +24,7 @@ use Rattle.osc_ends.specs.declared.outcome.Outcome.{Outcome}
 use Rattle.osc_ends.specs.Outcomes.{stopped}
 use Rattle.osc_ends.specs.Printing.{last_text}
 use Rattle.osc_ends.specs.Sinks.{SinkChange, Gains}
+use Rattle.osc_top.specs.History.{IsOneHistory}
 use Rattle.osc_top.specs.Lanes.{first_stop, lane_count, lane_faults, parts_of}
 
 -- how many boxes a past and lines after it take: one for each method that one of them adds
@@ -82,16 +82,16 @@ module _ {M : Type 0} (keep : M → ℕ) (heard : M → Option (List ℕ)) where
     pub text_is : text ≡ printed caps (history_in (texts performs.history))
         ++ (lane_faults accounts ++ last_text outcome)
 
--- The bytes are the recording of a past, and what was recorded, with room for so many bytes at
--- least, is that of a history which begins with it and keeps the four laws. Its printed text begins
--- what was printed.
-pub record RecordsOneHistory (room : ℕ) (bytes : List ℕ) (rec out : SinkChange) : Type 0 where
-  pub caps : Limits
-  pub before : List Entry
-  pub since : List Entry
-  pub rest : List ℕ
-  pub recording_of : IsRecordingOf bytes caps before
-  pub legal : Legal (roomier caps room) (before ++ since)
-  pub laws : KeepsTheLaws (roomier caps room) (before ++ since)
-  pub recorded : Gains rec (record_text (roomier caps room) (before ++ since))
-  pub text : Gains out (printed (roomier caps room) (before ++ since) ++ rest)
+  -- The bytes are the recording of a past, and what was recorded, with room for so many bytes at
+  -- least, is that of a history which begins with it, keeps the four laws and was heard by these
+  -- boxes. Its printed text begins what was printed.
+  pub record RecordsOneHistory (room : ℕ) (bytes : List ℕ) (boxes : List (ℕ × M))
+      (rec out : SinkChange) : Type 0 where
+    pub caps : Limits
+    pub before : List Entry
+    pub since : List Entry
+    pub rest : List ℕ
+    pub recording_of : IsRecordingOf bytes caps before
+    pub one : IsOneHistory keep heard (roomier caps room) (before ++ since) boxes
+    pub recorded : Gains rec (record_text (roomier caps room) (before ++ since))
+    pub text : Gains out (printed (roomier caps room) (before ++ since) ++ rest)

@@ -1,13 +1,27 @@
 // Plays the lanes of a script after a past, on the server that goes on from its recording.
-ghost use Rattle.osc_ends.specs.declared.status.TheConstants.{NO_MEMORY};
-ghost use Rattle.std.specs.Prelude.{◌≡◌, ◌≤◌, ◌<◌, ◌^◌, ℕ, List, length, Ok, IfOk, None};
+ghost use Rattle.osc_ends.specs.declared.status.TheConstants.{NO_MEMORY, SINK_FAILED};
+ghost use Rattle.std.specs.Prelude.{
+  ◌≡◌,
+  ◌≢◌,
+  ◌⊎◌,
+  ◌≤◌,
+  ◌<◌,
+  ◌^◌,
+  ℕ,
+  List,
+  length,
+  Ok,
+  IfOk,
+  IfSome,
+  None,
+};
 ghost use Rattle.osc_model.specs.Events.{Entry};
 ghost use Rattle.osc_model.specs.Limits.{Limits, header_size, max_recording};
 ghost use Rattle.osc_script.specs.declared.mode.Mode.TheVariants.{Lanes};
 ghost use Rattle.osc_script.specs.Scripts.{AreOf, script_of};
 ghost use Rattle.osc_live.specs.Resuming.{roomier};
 ghost use Rattle.osc_ends.specs.Judging.{IsChecked};
-ghost use Rattle.osc_ends.specs.Sinks.{sink_change};
+ghost use Rattle.osc_ends.specs.Sinks.{sink_change, Fails};
 ghost use Rattle.osc_top.specs.After.{CanGoOn, HandsBackAll, Reaches, boxes_told, callers_told};
 ghost use Rattle.osc_top.specs.EndsResumed.{EndsResumed, IsUnresumed};
 ghost use Rattle.osc_top.specs.Resumed.{PlaysResumed};
@@ -57,6 +71,8 @@ pub(crate) fn play_after<O: Sink, R: Sink, W: Threads + Wait + Sync, G: Gate + S
         (sink_change O.held O.faults out.old out.new) }
     ensures back { HandsBackAll result.status bank.items result.heard.items result.left.items }
     ensures unrecorded { IsUnresumed result.status → rec.new ≡ rec.old }
+    ensures sink { result.status ≡ SINK_FAILED
+        → Fails (sink_change O.held O.faults out.old out.new) ⊎ (out.new ≡ out.old) }
 {
     a_server_stays_sound();
     callers_are_counted();
@@ -84,6 +100,7 @@ fn refuse_short<O: Sink>(
     ensures reaches { Reaches result checked lines.now boxes
         (sink_change O.held O.faults out.old out.new) }
     ensures unwritten { result ≡ None → out.new ≡ out.old }
+    ensures decided { IfSome result (λ status. status ≢ SINK_FAILED) }
 {
     let need = checked.adds as usize + count_adds(lines);
     if boxes < need {

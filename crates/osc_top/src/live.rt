@@ -28,7 +28,6 @@ ghost use Rattle.std.specs.Prelude.{
   Ok,
   List,
   [],
-  ◌++◌,
   length,
   map,
   string_bytes,
@@ -36,13 +35,9 @@ ghost use Rattle.std.specs.Prelude.{
 ghost use Rattle.osc_edge.specs.Faults.{Rose};
 ghost use Rattle.osc_core.specs.Ids.{is_ascending};
 ghost use Rattle.osc_links.specs.Ticks.{clock_read};
-ghost use Rattle.osc_laws.specs.Laws.{KeepsTheLaws};
 ghost use Rattle.osc_model.specs.Limits.{Limits};
 ghost use Rattle.osc_model.specs.Events.{Entry};
-ghost use Rattle.osc_model.specs.History.{Legal};
-ghost use Rattle.osc_model.specs.Recordings.{record_text};
 ghost use Rattle.osc_replay.specs.Disagreeing.{IsRecordingOf};
-ghost use Rattle.osc_replay.specs.Printed.{printed};
 ghost use Rattle.osc_script.specs.declared.script.TheConstants.{MAX_SCRIPT};
 ghost use Rattle.osc_script.specs.declared.mode.Mode.TheVariants.{Lanes};
 ghost use Rattle.osc_script.specs.Scripts.{script_of, AreOf};
@@ -60,12 +55,13 @@ ghost use Rattle.osc_ends.specs.Printing.{usage_text, refusal_text};
 ghost use Rattle.osc_ends.specs.Ends.{left_behind, IsUnplayed};
 ghost use Rattle.osc_ends.specs.Ends.{IsWritten};
 ghost use Rattle.osc_top.specs.Enough.{enough_lanes};
+ghost use Rattle.osc_top.specs.History.{RecordsHistory};
 ghost use Rattle.osc_top.specs.Watched.{EndsListed};
 ghost use Rattle.osc_ends.specs.Outcomes.{status_of};
 ghost use Rattle.osc_growing.specs.Growing.{HasGrown, IsWithin};
 ghost use Rattle.osc_top.specs.Recorded.{EndsBoth};
 ghost use Rattle.osc_ends.specs.Printing.{recorded_text};
-ghost use Rattle.osc_ends.specs.Sinks.{sink_change, Fails, IsSteady, Gains, GainsUnless};
+ghost use Rattle.osc_ends.specs.Sinks.{sink_change, Fails, IsSteady, GainsUnless};
 
 use crate::caps::live_limits;
 use crate::laws::enough_room_stops_no_lane;
@@ -154,18 +150,22 @@ pub fn live_top<
         (sink_change R.held R.faults rec.old rec.new)
         (sink_change O.held O.faults out.old out.new)) }
 
-    // Where all was written, `osc replay` prints from the recording what begins the text.
-    ensures one_history { IsWritten result.0.status
-        → (caps : Limits) × (history : List Entry) × (rest : List ℕ)
-        × Legal caps history × KeepsTheLaws caps history
-        × Gains (sink_change R.held R.faults rec.old rec.new) (record_text caps history)
-        × Gains (sink_change O.held O.faults out.old out.new) (printed caps history ++ rest) }
+    // Where all was written, there is one history, which the boxes have heard, and `osc replay` prints from its
+    // recording what begins the text.
+    ensures one_history { IfSome (said.live_command_of (map string_bytes words.now))
+        (λ command. IsWritten result.0.status →
+        RecordsHistory (λ box. keep box) (λ box. heard box)
+        (commands.live_limits (commands.capacities_of command)) result.0.heard.items
+        (sink_change R.held R.faults rec.old rec.new)
+        (sink_change O.held O.faults out.old out.new)) }
     ensures edge { result.0.status ≡ EDGE_FAILED → TellsEdge L.faults links.items
         result.1.items (clock_read C.left C.faults clock.old clock.new)
         (sink_change O.held O.faults out.old out.new) }
+
+    // Where the sink of the recording failed, nothing was done with the other.
     ensures sink { result.0.status ≡ SINK_FAILED
         → Fails (sink_change O.held O.faults out.old out.new)
-        ⊎ Fails (sink_change R.held R.faults rec.old rec.new) }
+        ⊎ (Fails (sink_change R.held R.faults rec.old rec.new) × (out.new ≡ out.old)) }
     ensures unrecorded { IsUnplayed result.0.status → rec.new ≡ rec.old }
     ensures unserved { IsUnplayed result.0.status
         → (result.1.items ≡ links.items) × (clock.new ≡ clock.old) }
@@ -288,6 +288,8 @@ fn play_lines<
         result.0.left.items }
     ensures alone { LeavesAlone command result.0.status links.items result.1.items clock.old
         clock.new rec.old rec.new }
+    ensures sink { result.0.status ≡ SINK_FAILED
+        → Fails (sink_change O.held O.faults out.old out.new) ⊎ (out.new ≡ out.old) }
 {
     let need = count_adds(&lines);
     if bank.len() < need {
@@ -336,6 +338,8 @@ pub(crate) fn end<O: Sink, R: Sink>(
         (recorded_text caps history played.recorded.faults played.recorded.outcome)
         (sink_change R.held R.faults rec.old rec.new)
         (sink_change O.held O.faults out.old out.new) }
+    ensures sink { result.status ≡ SINK_FAILED
+        → Fails (sink_change O.held O.faults out.old out.new) ⊎ (out.new ≡ out.old) }
     ensures heard { result.heard.items ≡ played.heard.items }
     ensures left { result.left.items ≡ played.left.items }
 {
@@ -361,6 +365,8 @@ fn end_grown<O: Sink, R: Sink>(
         (recorded_text caps history played.recorded.faults played.recorded.outcome)
         (sink_change R.held R.faults start rec.new)
         (sink_change O.held O.faults out.old out.new) }
+    ensures sink { result.status ≡ SINK_FAILED
+        → Fails (sink_change O.held O.faults out.old out.new) ⊎ (out.new ≡ out.old) }
     ensures heard { result.heard.items ≡ played.heard.items }
     ensures left { result.left.items ≡ played.left.items }
 {

@@ -1,13 +1,14 @@
 // Writes what a script came to on many threads.
-ghost use Rattle.std.specs.Prelude.{List, length};
+ghost use Rattle.std.specs.Prelude.{◌≡◌, ◌⊎◌, List, length};
 ghost use Rattle.osc_growing.specs.Growing.{HasGrown, IsWithin};
 ghost use Rattle.osc_model.specs.Limits.{Limits};
 ghost use Rattle.osc_model.specs.Events.{Entry};
 ghost use Rattle.osc_replay.specs.Disagreeing.{IsRecordingOf};
+ghost use Rattle.osc_ends.specs.declared.status.TheConstants.{SINK_FAILED};
 ghost use Rattle.osc_ends.specs.Outcomes.{status_of};
 ghost use Rattle.osc_top.specs.Recorded.{EndsBoth};
 ghost use Rattle.osc_ends.specs.Printing.{recorded_text};
-ghost use Rattle.osc_ends.specs.Sinks.{sink_change};
+ghost use Rattle.osc_ends.specs.Sinks.{sink_change, Fails};
 
 use osc_edge::Sink;
 use osc_ends::status::DONE;
@@ -27,13 +28,15 @@ pub(crate) fn write_both<O: Sink, R: Sink>(
     requires recording { (caps : Limits) × (history : List Entry)
         × IsRecordingOf recorded.now.bytes.items caps history }
     requires within { IsWithin growth (length recorded.now.bytes.items) }
-    ensures { (start : R) (caps : Limits) (history : List Entry)
+    ensures both { (start : R) (caps : Limits) (history : List Entry)
         → HasGrown growth (sink_change R.held R.faults start rec.old) recorded.now.bytes.items
         → IsRecordingOf recorded.now.bytes.items caps history →
         EndsBoth (status_of recorded.now.outcome) result recorded.now.bytes.items
         (recorded_text caps history recorded.now.faults recorded.now.outcome)
         (sink_change R.held R.faults start rec.new)
         (sink_change O.held O.faults out.old out.new) }
+    ensures sink { result ≡ SINK_FAILED
+        → Fails (sink_change O.held O.faults out.old out.new) ⊎ (out.new ≡ out.old) }
 {
     let status = write_rest(&recorded.bytes, growth, rec);
     if status != DONE {

@@ -115,16 +115,17 @@ pub fn resume_top<P: Source, S: Source, O: Sink, R: Sink, W: Threads + Wait + Sy
         (sink_change R.held R.faults rec.old rec.new)
         (sink_change O.held O.faults out.old out.new))) }
 
-    // Where all was written, the recording is that of one history, which begins with the past, and `osc replay` prints
-    // from it what begins the text.
+    // Where all was written, the recording is that of one history, which begins with the past, the boxes have heard it,
+    // and `osc replay` prints from the recording what begins the text. Where the sink of the recording failed, nothing
+    // was done with the other.
     ensures one_history { IfSome (said.resume_command_of (map string_bytes words.now))
         (λ command. IsResumed result.status → OfInput (P.left past.old)
-        (λ bytes. RecordsOneHistory command.room bytes
-        (sink_change R.held R.faults rec.old rec.new)
+        (λ bytes. RecordsOneHistory (λ box. keep box) (λ box. heard box) command.room bytes
+        result.heard.items (sink_change R.held R.faults rec.old rec.new)
         (sink_change O.held O.faults out.old out.new))) }
     ensures sink { result.status ≡ SINK_FAILED
         → Fails (sink_change O.held O.faults out.old out.new)
-        ⊎ Fails (sink_change R.held R.faults rec.old rec.new) }
+        ⊎ (Fails (sink_change R.held R.faults rec.old rec.new) × (out.new ≡ out.old)) }
     ensures unrecorded { IsUnresumed result.status → rec.new ≡ rec.old }
 
     // Done means that nothing failed and that both were read to their ends.

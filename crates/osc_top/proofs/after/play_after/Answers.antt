@@ -1,4 +1,4 @@
-use Rattle.std.proofs.Common.{◌≡◌, ◌<◌, ◌^◌, Some, None, length, sym, subst, arith, rules}
+use Rattle.std.proofs.Common.{◌≡◌, ◌≢◌, ℕ, ◌<◌, ◌^◌, Option, Some, None, IfSome, length, sym, subst, ◌∙◌, arith, rules}
 use Rattle.osc_live.specs.Resuming.{roomier}
 use Rattle.osc_top.specs.After.{CanGoOn}
 use Rattle.osc_top.proofs.ResumeEnds.{can_go_on, few_told, reaches_all, reaches_so, resumed_back, resumed_end, resumed_few}
@@ -22,6 +22,12 @@ returns-in-Some-clause-ends g c = λ script is.
     c.callers_are_counted.ensures.after c.args.taken.past.checked past.told _ c.in-Some.status c.unplayed.ensures.status
     (reaches_so c.refuse_short.result (Some c.in-Some.status) c.args.taken.past.checked c.deref.result.now c.args.taken.lines.items c.len.result
     (length c.args.bank.items) _ c.in-Some.is c.deref.ensures.value boxes c.refuse_short.ensures.reaches)
+
+pub returns-in-Some-clause-sink : goal.returns-in-Some-clause-sink
+returns-in-Some-clause-sink g c = λ five.
+    let sound : c.in-Some.status ≢ 5 =
+    subst (λ (r : Option ℕ). IfSome r (λ status. status ≢ 5)) c.in-Some.is c.refuse_short.ensures.decided in
+    absurd (sound (sym c.unplayed.ensures.status ∙ five))
 
 pub stage_after-requires-clause-enough : goal.stage_after-requires-clause-enough
 stage_after-requires-clause-enough g c _ _ =
@@ -68,6 +74,12 @@ returns-in-Ok-clause-ends g c = λ script is.
     (resumed_end _ _ c.args.room c.args.bank.items _ _ _ _ _ c.args.taken.past.bytes.items _ _ c.args.taken.lines.items past.caps past.history _ _ _
     c.end.ensures.heard c.end.ensures.left staged
     (c.end.ensures.ends (roomier past.caps c.args.room) staged.history staged.recording_of) can script is)
+
+pub returns-in-Ok-clause-sink : goal.returns-in-Ok-clause-sink
+returns-in-Ok-clause-sink g c =
+    let none : c.refuse_short.result ≡ None = search rules in
+    let same : c.refuse_short.new.out ≡ c.args.out.now = c.refuse_short.ensures.unwritten none in
+    rw (← same) c.end.ensures.sink
 
 pub returns-in-Ok-clause-back : goal.returns-in-Ok-clause-back
 returns-in-Ok-clause-back g c =

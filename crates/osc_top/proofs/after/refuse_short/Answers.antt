@@ -1,7 +1,8 @@
-use Rattle.std.proofs.Common.{◌≡◌, ◌+◌, ◌<◌, ◌≤◌, ap, arith, rules}
+use Rattle.std.proofs.Common.{◌≡◌, ◌+◌, ◌<◌, ◌≤◌, refl, ap, arith, rules}
 use Rattle.osc_script.specs.Adds.{count_adds}
 use Rattle.osc_top.specs.After.{boxes_told, callers_told}
 use Rattle.osc_top.specs.Lanes.{lane_count}
+use Rattle.osc_top.proofs.LiveEnds.{line_decided}
 use Rattle.osc_top.proofs.ResumeEnds.{too_few, too_many}
 use Rattle.osc_top.proofs.after.refuse_short.Goals as goal
 
@@ -21,6 +22,12 @@ returns-then-boxes-need-clause-reaches g c =
     let all : c.args.checked.adds + c.count_adds.result ≡ boxes_told c.args.checked c.args.lines.now = ap (λ n. c.args.checked.adds + n) c.count_adds.ensures in
     let less : c.args.boxes < c.args.checked.adds + c.count_adds.result = search rules in
     too_few c.args.checked c.args.lines.now c.args.boxes need c.bank_short.result _ all less c.bank_short.ensures
+
+pub returns-then-boxes-need-clause-decided : goal.returns-then-boxes-need-clause-decided
+returns-then-boxes-need-clause-decided g c = line_decided 8 _ _ _ _ c.bank_short.ensures (λ eight. omega (arith, eight)) refl
+
+pub returns-then-have-need-clause-decided : goal.returns-then-have-need-clause-decided
+returns-then-have-need-clause-decided g c = line_decided 9 _ _ _ _ c.callers_full.ensures (λ nine. omega (arith, nine)) refl
 
 pub returns-then-have-need-clause-reaches : goal.returns-then-have-need-clause-reaches
 returns-then-have-need-clause-reaches g c =

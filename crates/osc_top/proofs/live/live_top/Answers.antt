@@ -5,7 +5,7 @@ use Rattle.osc_ends.proofs.Inputs.{if_so, of_so}
 use Rattle.osc_ends.proofs.Said.{of_said}
 use Rattle.osc_top.specs.Commands.{live_limits, mode_of}
 use Rattle.osc_top.proofs.Edges.{live_edge, live_history, live_listed, live_short, live_still}
-use Rattle.osc_top.proofs.LiveEnds.{cut_fails, done_steady, in_mode, live_complete, live_enough, refused_in, script_refused}
+use Rattle.osc_top.proofs.LiveEnds.{cut_by, done_steady, in_mode, live_complete, live_enough, refused_in, script_refused}
 use Rattle.osc_top.proofs.live.live_top.Goals as goal
 
 -- Where a script was read.
@@ -22,9 +22,11 @@ returns-in-Ok-clause-ends g c =
 pub returns-in-Ok-clause-one_history : goal.returns-in-Ok-clause-one_history
 returns-in-Ok-clause-one_history g c =
     let same : c.read_script.new.out ≡ c.args.out.now = c.in-Ok.ensures.unwritten (inl refl) in
+    let said : Some c.in-Ok-Some.command ≡ said.live_command_of (map string_bytes c.args.words.now) = search rules in
     let script = in_mode _ _ (g.S.Source.left c.args.input.now) c.in-Ok.lines.items c.mode_of.ensures c.in-Ok.ensures.lines in
     rw (← same)
-    (live_history _ _ _ _ _ _ _ _ _ _ _ _ _ c.in-Ok-Some.command script.0 (c.play_lines.ensures.ends script.0 script.2))
+    (of_said _ _ c.in-Ok-Some.command said
+    (live_history _ _ _ _ _ _ _ _ _ _ _ _ _ c.in-Ok-Some.command script.0 (c.play_lines.ensures.ends script.0 script.2)))
 
 pub returns-in-Ok-clause-listed : goal.returns-in-Ok-clause-listed
 returns-in-Ok-clause-listed g c = λ caps is written.
@@ -55,7 +57,7 @@ returns-in-Ok-clause-sink g c =
     let same : c.read_script.new.out ≡ c.args.out.now = c.in-Ok.ensures.unwritten (inl refl) in
     let script = in_mode _ _ (g.S.Source.left c.args.input.now) c.in-Ok.lines.items c.mode_of.ensures c.in-Ok.ensures.lines in
     rw (← same)
-    (cut_fails _ _ _ _ _ _ _ (c.play_lines.ensures.ends script.0 script.2))
+    (cut_by _ _ _ _ _ _ _ _ (c.play_lines.ensures.ends script.0 script.2) c.play_lines.ensures.sink)
 
 pub returns-in-Ok-clause-steady : goal.returns-in-Ok-clause-steady
 returns-in-Ok-clause-steady g c =

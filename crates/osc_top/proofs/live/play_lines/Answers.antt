@@ -1,8 +1,8 @@
-use Rattle.std.proofs.Common.{◌≡◌, ◌<◌, ◌≤◌, true, map, length, refl, sym, subst, ◌∙◌, rules}
+use Rattle.std.proofs.Common.{◌≡◌, ◌<◌, ◌≤◌, true, map, length, refl, sym, subst, ◌∙◌, arith, rules}
 use Rattle.osc_core.specs.Ids.{is_ascending}
 use Rattle.osc_words.specs.declared.command.LiveCommand.TheVariants as live
 use Rattle.osc_script.specs.Adds.{count_adds}
-use Rattle.osc_top.proofs.LiveEnds.{ends_short, lanes_end, links_end, both_played}
+use Rattle.osc_top.proofs.LiveEnds.{ends_short, lanes_end, line_decided, links_end, both_played}
 use Rattle.osc_top.proofs.Staged.{lanes_ascending, links_ascending}
 use Rattle.osc_ends.specs.Sinks.{sink_change}
 use Rattle.osc_growing.proofs.Growths.{grown_within}
@@ -15,6 +15,10 @@ returns-then-len-need-clause-ends g c = λ script is.
     let few : c.len-then-len-need.result < c.count_adds-need.result = search rules in
     ends_short _ _ script _ _ _ c.args.lines.items is _ c.bank_short-status.result c.count_adds-need.result c.len-then-len-need.result
     c.unplayed.ensures.status c.bank_short-status.ensures have need few
+
+pub returns-then-len-need-clause-sink : goal.returns-then-len-need-clause-sink
+returns-then-len-need-clause-sink g c = λ five.
+    absurd (line_decided 8 _ _ _ _ c.bank_short-status.ensures (λ eight. omega (arith, eight)) c.unplayed.ensures.status five)
 
 pub returns-in-Ok-clause-ends : goal.returns-in-Ok-clause-ends
 returns-in-Ok-clause-ends g c = λ script is.

@@ -4,7 +4,7 @@ use Rattle.osc_model.specs.Limits.{max_recording}
 use Rattle.osc_script.specs.declared.script.TheConstants.{MAX_SCRIPT}
 use Rattle.osc_ends.proofs.Said.{of_said}
 use Rattle.osc_top.proofs.Inputs.{both_so}
-use Rattle.osc_top.proofs.ResumeEnds.{of_taken, past_so, resumed_cut, resumed_history, resumed_known, resumed_none, resumed_refused, resumed_steady}
+use Rattle.osc_top.proofs.ResumeEnds.{of_taken, past_so, resumed_cut_by, resumed_history, resumed_known, resumed_none, resumed_refused, resumed_steady}
 use Rattle.osc_top.proofs.ResumeEnds.{taken_ends, was_read}
 use Rattle.osc_top.proofs.resume.resume_top.Goals as goal
 
@@ -50,7 +50,7 @@ pub returns-in-Ok-clause-sink : goal.returns-in-Ok-clause-sink
 returns-in-Ok-clause-sink g c =
     let same : c.take_in.new.out ≡ c.args.out.now = c.in-Ok.ensures.unwritten (inl refl) in
     let ends = taken_ends _ _ c.in-Ok.taken _ _ _ _ _ _ c.play_after.ensures.ends c.in-Ok.ensures.taken in
-    rw (← same) (resumed_cut _ ends.0 ends.1 _ _ _ _ ends.4)
+    rw (← same) (resumed_cut_by _ ends.0 ends.1 _ _ _ _ _ ends.4 c.play_after.ensures.sink)
 
 pub returns-in-Ok-clause-steady : goal.returns-in-Ok-clause-steady
 returns-in-Ok-clause-steady g c =
