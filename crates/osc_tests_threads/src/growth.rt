@@ -14,7 +14,7 @@ use std::sync::{Arc, Wait};
 use std::test::*;
 use std::thread::Threads;
 
-/// A sink in memory that sets a flag once it is given the fader's packet, whether it takes it or fails.
+/// A sink in memory that sets a flag once it is given the fader's packet, or fails.
 #[derive(Drop)]
 struct WatchedSink {
     bytes: MemorySink,
@@ -36,7 +36,7 @@ impl Sink for WatchedSink {
             (⟦<MemorySink as Sink>⟧.faults self.new.bytes) result }
     {
         let put = self.bytes.write(piece);
-        if has_fader(piece) {
+        if has_fader(piece) || put == Put::Failed {
             self.given.store(1, Ordering::SeqCst);
         }
         put
@@ -66,7 +66,7 @@ struct Served {
 }
 
 /// Serves a link that has the fader's packet twice, and holds the second one back until the recording's sink was given
-/// the first. The sink fails at these calls.
+/// the first, or has failed. The sink fails at these calls.
 fn serve_watched<R: Threads + Wait + Sync>(
     rt: &R,
     alloc: Global,
