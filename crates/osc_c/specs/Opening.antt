@@ -23,7 +23,7 @@ caps_of l =
     model.limits_of l.units l.blocks l.methods l.nodes l.callers l.recording
     (late_of l.discards_late)
 
--- a fault of an address, or want of memory
+-- a fault of an address, or out of memory
 abbrev pub address_number : AddressFault → Answer
 address_number NoSlash = record (bare 13) { number = 1 }
 address_number EmptyName = record (bare 13) { number = 2 }

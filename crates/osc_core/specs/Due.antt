@@ -1,4 +1,4 @@
--- Inside the crate: what a release comes to.
+-- Inside the crate: the result of a release.
 use Rattle.osc_model.specs.Limits.{release_head_size}
 use Rattle.std.specs.Prelude.{◌≡◌, ℕ, ◌+◌, ◌*◌, ◌≤◌, List, [], length, map, Option, Some}
 use Rattle.osc_atoms.specs.declared.room.Room.{Room}

@@ -16,7 +16,7 @@ use std::alloc::{AllocError, Global};
 use std::sync::Wait;
 use std::thread::Threads;
 
-/// What came of all lanes, and the methods that stand after them.
+/// The result of all lanes, and the methods that stand after them.
 #[derive(Drop)]
 pub struct Displayed<M> {
     pub performed: Performed<M>,

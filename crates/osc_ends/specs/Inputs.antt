@@ -29,7 +29,7 @@ pub record ReadsInput (most status : ℕ) (left left_after : Option (List ℕ))
   pub read : IfSome left (λ all. status ≢ NO_MEMORY → status ≢ SOURCE_FAILED
       → left_after ≡ Some (left_behind most all))
 
--- Nothing came of an input: refused (1), where its bytes are refused; want of memory (3); or a
+-- Nothing came of an input: refused (1), where its bytes are refused; out of memory (3); or a
 -- source that failed (4).
 pub record RefusesInput (Refuses : List ℕ → Type 0) (status : ℕ) (left : Option (List ℕ))
     : Type 0 where

@@ -11,7 +11,7 @@ const BOXES: usize = 8192;
 /// How many bytes each of its boxes tells.
 const KEPT: u32 = 64;
 
-/// The boxes that a program hands to its top call. An `Err` is want of memory.
+/// The boxes that a program hands to its top call. An `Err` means out of memory.
 pub fn traces(alloc: Global) -> Result<Vec<Trace>, AllocError>
     ensures count { IfOk result (λ traces. length traces.items ≡ BOXES) }
     ensures keep { IfOk result

@@ -5,7 +5,7 @@ use osc_method::Method;
 /// How a program ends.
 #[derive(Drop)]
 pub struct Ended {
-    /// The exit status: 0 done, 1 script or recording refused, 2 words refused, 3 want of memory, 4 the source failed,
+    /// The exit status: 0 done, 1 script or recording refused, 2 words refused, 3 out of memory, 4 the source failed,
     /// 5 a sink failed, 6 the recording was full, 7 a link or the clock failed, 8 more adds than boxes, 9 more callers
     /// than the limits allow (docs/FORMATS.md, "Programs").
     pub status: u8,

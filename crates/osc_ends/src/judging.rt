@@ -115,7 +115,7 @@ pub fn judge_recording<O: Sink>(
     }
 }
 
-/// Writes why a recording is refused: 1, or want of memory.
+/// Writes why a recording is refused: 1, or out of memory.
 pub(crate) fn refuse_recording<O: Sink>(alloc: Global, fault: ReplayFault, out: &mut O) -> u8
     ensures known { (result ≡ REFUSED) ⊎ (result ≡ NO_MEMORY) }
     ensures refused { (bytes : List ℕ) → length bytes ≤ max_recording

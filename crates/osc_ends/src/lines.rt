@@ -68,7 +68,7 @@ pub(crate) fn disagrees_lines(
     bytes_line(alloc, text, b"computed", computed)
 }
 
-/// Adds the last line of what was played, where there is one. An `Err` is want of memory.
+/// Adds the last line of what was played, where there is one. An `Err` means out of memory.
 pub fn outcome_line(text: &mut Text, outcome: Outcome) -> Result<(), AllocError>
     ensures { OnOk result (text.new ≡ text.old ++ last_text outcome) }
 {

@@ -7,7 +7,7 @@ ghost use Rattle.osc_ends.specs.Whole.{HasRead, HasWritten, HasReadPiece};
 use osc_edge::{Put, Sink, Source, Taken};
 use std::alloc::Global;
 
-/// What reading a source to its end comes to.
+/// The result of reading a source to its end.
 #[derive(Drop)]
 pub(crate) enum Input {
     Whole(Vec<u8>),
@@ -34,7 +34,7 @@ pub(crate) fn read_whole<S: Source>(alloc: Global, most: usize, input: &mut S) -
     Input::TooLong
 }
 
-/// What one read comes to.
+/// The result of one read.
 #[derive(Clone, Copy, Debug, PartialEq, Eq)]
 enum Piece {
     More,
@@ -72,7 +72,7 @@ fn read_piece<S: Source>(input: &mut S, piece: &mut [u8], bytes: &mut Vec<u8>) -
     }
 }
 
-/// What writing comes to.
+/// The result of writing.
 #[derive(Clone, Copy, Debug, PartialEq, Eq)]
 pub(crate) enum Written {
     Wrote,

@@ -67,7 +67,7 @@ pub fn write_run_text<O: Sink>(alloc: Global, recorded: &Recorded, out: &mut O) 
     }
 }
 
-/// The printed history, the lines of the faults, and where it was stopped the line on that. An `Err` is want of memory.
+/// The printed history, the lines of the faults, and where it was stopped the line on that. An `Err` means out of memory.
 fn run_text(alloc: Global, recorded: &Recorded) -> Result<Text, AllocError>
     requires { (caps : Limits) × (history : List Entry)
         × IsRecordingOf recorded.now.bytes.items caps history }
@@ -226,7 +226,7 @@ pub(crate) fn disagrees<O: Sink>(
     }
 }
 
-/// Writes the line of a script that adds more methods than there are boxes: 8, or want of memory.
+/// Writes the line of a script that adds more methods than there are boxes: 8, or out of memory.
 pub fn bank_short<O: Sink>(alloc: Global, need: usize, have: usize, out: &mut O) -> u8
     ensures { EndsLine BANK_SHORT result (bank_short_text need have)
         (sink_change O.held O.faults out.old out.new) }
@@ -251,14 +251,14 @@ pub fn callers_full<O: Sink>(alloc: Global, need: usize, have: usize, out: &mut 
     }
 }
 
-/// Writes the line of words that are no command: 2, or want of memory.
+/// Writes the line of words that are no command: 2, or out of memory.
 pub fn usage<O: Sink>(out: &mut O) -> u8
     ensures { EndsLine USAGE result usage_text (sink_change O.held O.faults out.old out.new) }
 {
     last_line(USAGE, b"usage\n", out)
 }
 
-/// A last line that can't be written changes no status, but for want of memory.
+/// A last line that can't be written changes no status, except when out of memory.
 fn last_line<O: Sink>(status: u8, line: &[u8], out: &mut O) -> u8
     requires { status ≢ NO_MEMORY }
     ensures { EndsLine status result line.now (sink_change O.held O.faults out.old out.new) }

@@ -32,7 +32,7 @@ use std::alloc::{AllocError, Global};
 use std::sync::Wait;
 use std::thread::Threads;
 
-/// What came of all lanes.
+/// The result of all lanes.
 #[derive(Drop)]
 pub struct Performed<M> {
     /// The recording of the one history, and the methods that are registered at its end.

@@ -30,7 +30,7 @@ pub record IsBack {Y D : Type 0} (looks : Y → Y → D → Limits → View → 
   pub looked : HasLooked (view first.pass) (view back.0.pass)
   pub came : looks before after back.1 live.caps (view back.0.pass)
 
--- What came of looking, where something that was lent was as the first and is as the second: what
+-- The result of looking, where something that was lent was as the first and is as the second: what
 -- was seen in the end is a front of the history that is recorded. Or nobody has looked.
 abbrev pub HasLookedOn : {Y D : Type 0} → (Y → Y → D → Limits → View → Type 0) → Limits → Y → Y
     → List ℕ → Option D → Type 0

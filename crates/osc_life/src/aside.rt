@@ -16,7 +16,7 @@ use std::sync::Wait;
 /// What is done on the calling thread with a token that only looks, while others play, with a `Y`
 /// that it is lent.
 pub trait Aside<M: Method, Y> {
-    /// What came of it.
+    /// The result of it.
     type End: Drop;
 
     /// This came of it, where what is lent was as the first and is as the second, of a server with

@@ -17,7 +17,7 @@ use std::sync::Wait;
 use std::sync::atomic::{AtomicU64, Ordering};
 use std::thread::{Threads, join_mut};
 
-/// What came of jobs, and of what went on meanwhile.
+/// The result of jobs, and of what went on meanwhile.
 #[derive(Drop)]
 pub struct Beside<E, F> {
     /// The caller of what went on meanwhile, and those of the jobs.

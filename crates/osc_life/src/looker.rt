@@ -27,7 +27,7 @@ pub(crate) struct Looker<A> {
 
 /// Plays the jobs and something else meanwhile as `play_beside` does, in a thread of its own where
 /// one can be made, while someone looks. With the results of these comes back the caller who has
-/// looked, and what came of that. An `Err` means out of memory.
+/// looked, and the result of that. An `Err` means out of memory.
 pub(crate) fn play_seen<
     M: Method + Send,
     W: Threads + Wait + Sync,

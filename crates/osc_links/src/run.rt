@@ -24,7 +24,7 @@ use std::alloc::{AllocError, Global};
 use std::sync::Wait;
 use std::thread::Threads;
 
-/// What came of a server and of its links.
+/// The result of a server and of its links.
 #[derive(Drop)]
 pub struct Hosted<M, L> {
     /// The recording of the one history, and the methods that are registered at its end.

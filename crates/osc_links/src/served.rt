@@ -46,7 +46,7 @@ pub struct LinksTold<L> {
     pub stop: Option<Room>,
 }
 
-/// What came of links that were served.
+/// The result of links that were served.
 #[derive(Drop)]
 pub struct ServeEnd<L> {
     /// The callers that were handed in, in their order.

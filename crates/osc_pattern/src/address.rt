@@ -61,7 +61,7 @@ impl Address {
         }
     }
 
-    /// The address that the bytes were checked to be, in memory of its own. An `Err` is want of memory.
+    /// The address that the bytes were checked to be, in memory of its own. An `Err` means out of memory.
     pub fn known(alloc: Global, bytes: &[u8]) -> Result<Address, AllocError>
         requires { IsTrue (is_address bytes.now) }
         ensures { IfOk result (λ address. address ≡ bytes.now) }

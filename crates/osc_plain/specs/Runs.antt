@@ -74,7 +74,7 @@ pub record EndsLines (report : Report) (caps : Limits) (status have : ℕ) (line
       × GainsUnless out (bank_short_text (count_adds lines) have)
 
 -- The end of a run of a script, by its status: refused (1), where it has a first fault, and the
--- line on that fault was gained; else, but for want of memory (3), the script is lawful, and the
+-- line on that fault was gained; else, but out of memory (3), the script is lawful, and the
 -- end is that of a run of its lines.
 pub record EndsRun (report : Report) (caps : Limits) (status have : ℕ) (script : List ℕ)
     (out : SinkChange) : Type 0 where

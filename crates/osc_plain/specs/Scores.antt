@@ -22,7 +22,7 @@ abbrev pub IsScriptOf : List Note → Type 0
 IsScriptOf notes = script_of Plain (score_script notes) ≡ Ok (score_lines notes)
 
 -- The end of a command that reads a score, by its status: refused (1), where it has a first fault,
--- and the line on that fault was gained; else, but for want of memory (3), it is one, whose script
+-- and the line on that fault was gained; else, but out of memory (3), it is one, whose script
 -- is lawful, and this holds of its notes.
 pub record EndsNotes (Ends : List Note → Type 0) (status : ℕ) (score : List ℕ) (out : SinkChange)
     : Type 0 where

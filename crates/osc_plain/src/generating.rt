@@ -9,7 +9,7 @@ use osc_script::laws::generated_scripts_are_read_again;
 use osc_script::{Line, Mode, Script, ScriptRefusal};
 use std::alloc::{AllocError, Global};
 
-/// The lines of the script that is drawn from the seed. An `Err` is want of memory.
+/// The lines of the script that is drawn from the seed. An `Err` means out of memory.
 pub(crate) fn drawn_lines(alloc: Global, seed: u64, lines: u32) -> Result<Vec<Line>, AllocError>
     requires { lines ≤ MAX_GENERATED_LINES }
     ensures { IfOk result (λ drawn. drawn.items ≡ commands.drawn_lines seed lines) }
@@ -19,7 +19,7 @@ pub(crate) fn drawn_lines(alloc: Global, seed: u64, lines: u32) -> Result<Vec<Li
     read_again(alloc, script.as_slice())
 }
 
-/// The lines of a script that was made here. An `Err` is want of memory.
+/// The lines of a script that was made here. An `Err` means out of memory.
 pub(crate) fn read_again(alloc: Global, script: &[u8]) -> Result<Vec<Line>, AllocError>
     requires { IsOk (script_of Plain script.now) }
     ensures { IfOk result (λ lines. script_of Plain script.now ≡ Ok lines.items) }

@@ -85,7 +85,7 @@ pub(crate) fn run<S: Source, O: Sink>(
     }
 }
 
-/// Plays the lines, if there is a box for each add, and writes what came of them.
+/// Plays the lines, if there is a box for each add, and writes the result of them.
 pub(crate) fn run_lines<O: Sink>(
     alloc: Global,
     report: Report,
@@ -112,7 +112,7 @@ pub(crate) fn run_lines<O: Sink>(
     }
 }
 
-/// Writes what came of the lines.
+/// Writes the result of the lines.
 fn end<O: Sink>(
     alloc: Global,
     report: Report,

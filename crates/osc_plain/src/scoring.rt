@@ -156,7 +156,7 @@ fn play_script<O: Sink>(
     }
 }
 
-/// The lines of the script of the score. An `Err` is want of memory.
+/// The lines of the script of the score. An `Err` means out of memory.
 fn script_lines(alloc: Global, score: &Score) -> Result<Vec<Line>, AllocError>
     requires { (lines : List Line) × IsScriptWith score.now lines }
     ensures { (lines : List Line) → IsScriptWith score.now lines

@@ -71,7 +71,7 @@ use std::alloc::Global;
 ///
 /// `words` are those of the command line, without the program's name. The k-th add of a script gets the k-th box of
 /// `bank`. Scripts, recordings, printed lines and statuses are those of docs/FORMATS.md. What stands in `out`, and what
-/// becomes of the boxes, at want of memory isn't said.
+/// becomes of the boxes, when out of memory isn't said.
 pub fn plain_top<S: Source, O: Sink>(
     alloc: Global,
     words: &[String],
@@ -91,7 +91,7 @@ pub fn plain_top<S: Source, O: Sink>(
     ensures usage_text { result.status ≡ USAGE
         → GainsUnless (sink_change O.held O.faults out.old out.new) usage_text }
 
-    // Then a source that failed, of which nothing is written. Any other answer but want of memory means that the
+    // Then a source that failed, of which nothing is written. Any other answer but out of memory means that the
     // source didn't fail, and that it was read to its end, or to the first byte that is too many.
     ensures source { result.status ≡ SOURCE_FAILED
         → Rose (S.faults input.old) (S.faults input.new) }

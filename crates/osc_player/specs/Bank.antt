@@ -66,7 +66,7 @@ abbrev pub heard_after : Limits → List Entry → List Meaning → List Told
 heard_after caps history bank =
     boxes_heard (invocations (opening caps) history) (add_answers history) bank
 
--- What came of a bank: there was a box for each add of the lines; their history is a legal one, and
+-- The result of a bank: there was a box for each add of the lines; their history is a legal one, and
 -- keeps the four laws; the boxes that were added have heard what it says; and the others are left,
 -- as they were.
 pub record IsAccounted {M : Type 0} (keep : M → ℕ) (tells : M → Option (List ℕ)) (caps : Limits)

@@ -88,14 +88,14 @@ act_faults number _ = []
 abbrev pub printed_faults : List LineFault → List ℕ
 printed_faults faults = flat_map (λ fault. fault_text fault.line fault.fault) faults
 
--- what came of a script: its history, the faults in the order of the lines, and where it was
+-- the result of a script: its history, the faults in the order of the lines, and where it was
 -- stopped the room that was wanted and the room that was left
 pub record Played : Type 0 where
   pub history : List Entry
   pub faults : List LineFault
   pub stop : Option Room
 
--- what came of a line, then what comes of those behind it, unless the line stops the script
+-- the result of a line, then what comes of those behind it, unless the line stops the script
 abbrev pub followed : List Entry → List LineFault → Option Room → Played → Played
 followed entries faults (Some room) later =
     record { history = entries; faults = faults; stop = Some room }

@@ -35,7 +35,7 @@ use osc_script::Line;
 use std::alloc::{AllocError, Global};
 use std::vec::IntoIter;
 
-/// What came of a script and of a bank.
+/// The result of a script and of a bank.
 #[derive(Drop)]
 pub struct Played<M> {
     /// The recording of its history.
@@ -51,7 +51,7 @@ pub struct Played<M> {
 }
 
 /// Plays the lines on a new server as caller 0, up to the first event for whose entry the recording has no room; the
-/// k-th add gets the k-th box. An `Err` is want of memory.
+/// k-th add gets the k-th box. An `Err` means out of memory.
 pub fn play<M: Method>(
     alloc: Global,
     caps: Caps,
@@ -125,7 +125,7 @@ impl<M: Method> Player<M> {
     }
 }
 
-/// The boxes of the registered methods and those of the removed ones, by ascending ids. An `Err` is want of memory.
+/// The boxes of the registered methods and those of the removed ones, by ascending ids. An `Err` means out of memory.
 pub fn gather<M: Method>(
     mut kept: Vec<(u32, M)>,
     mut removed: Vec<(u32, M)>,
@@ -151,7 +151,7 @@ fn sort_by_id<M: Method>(heard: &mut Vec<(u32, M)>) -> Result<(), AllocError>
     Ok(())
 }
 
-/// Keeps the boxes that no add has taken. An `Err` is want of memory.
+/// Keeps the boxes that no add has taken. An `Err` means out of memory.
 pub fn keep_rest<M: Method>(left: &mut Vec<M>, rest: IntoIter<M>) -> Result<(), AllocError>
     ensures { OnOk result (left.new.items ≡ left.old.items ++ into_iter_items rest) }
 {

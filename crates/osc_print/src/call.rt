@@ -15,7 +15,7 @@ use std::alloc::AllocError;
 
 /// Adds the line of a call of the method with this id and address: the unit's number, the message's index in the unit,
 /// the id, the address, the message's tags and a word for each argument (docs/FORMATS.md, "Printed text"). An `Err` is
-/// want of memory.
+/// out of memory.
 pub fn call_line(
     text: &mut Text,
     call: &Call<'_>,

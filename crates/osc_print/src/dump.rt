@@ -11,7 +11,7 @@ use osc_record::{Caps, Entry, Event, Late};
 use std::alloc::AllocError;
 
 /// Adds the first line of a dump: the version of the format, the limits of the recording, and what becomes of late
-/// units (docs/FORMATS.md, "Dumps"). An `Err` is want of memory.
+/// units (docs/FORMATS.md, "Dumps"). An `Err` means out of memory.
 pub fn header_line(text: &mut Text, caps: &Caps) -> Result<(), AllocError>
     ensures ok { OnOk result (text.new ≡ text.old ++ limits_text caps.now) }
     ensures err { OnErr result (text.new ≡ text.old) }
@@ -22,7 +22,7 @@ pub fn header_line(text: &mut Text, caps: &Caps) -> Result<(), AllocError>
 }
 
 /// Adds the line of an entry behind its place in the recording, and behind a tick the date of its moment's seconds
-/// (docs/FORMATS.md, "Dumps"). An `Err` is want of memory.
+/// (docs/FORMATS.md, "Dumps"). An `Err` means out of memory.
 pub fn dump_line(text: &mut Text, entry: &Entry<'_>) -> Result<(), AllocError>
     ensures ok { OnOk result (text.new ≡ text.old ++ placed_text (placed_of entry.now)) }
     ensures err { OnErr result (text.new ≡ text.old) }

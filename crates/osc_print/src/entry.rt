@@ -14,7 +14,7 @@ use osc_record::{Answer, Entry, Event};
 use std::alloc::AllocError;
 
 /// Adds the line of an entry: the event's word, the caller, what is handed in, and the answer (docs/FORMATS.md,
-/// "Printed text"). An `Err` is want of memory.
+/// "Printed text"). An `Err` means out of memory.
 pub fn entry_line(text: &mut Text, entry: &Entry<'_>) -> Result<(), AllocError>
     ensures ok { OnOk result (text.new ≡ text.old ++ event_line (placed_of entry.now).entry) }
     ensures err { OnErr result (text.new ≡ text.old) }

@@ -20,7 +20,7 @@ pub fn fault_line(text: &mut Text, line: u32, fault: Fault) -> Result<(), AllocE
 }
 
 /// Adds the line of the first fault of a datagram: `link` counts the links from 0, and `number` the datagrams of that
-/// link from 1 (docs/FORMATS.md, "Printed text"). An `Err` is want of memory.
+/// link from 1 (docs/FORMATS.md, "Printed text"). An `Err` means out of memory.
 pub fn link_fault_line(
     text: &mut Text,
     link: u32,

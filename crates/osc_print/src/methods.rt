@@ -6,7 +6,7 @@ ghost use Rattle.osc_print.specs.Words.{BeginsWith};
 use crate::Text;
 use std::alloc::AllocError;
 
-/// Adds the first line of a list of methods, which stands after so many edits. An `Err` is want of memory.
+/// Adds the first line of a list of methods, which stands after so many edits. An `Err` means out of memory.
 pub fn list_line(text: &mut Text, edits: u64) -> Result<(), AllocError>
     ensures ok { OnOk result (text.new ≡ text.old ++ list_text edits) }
     ensures err { OnErr result (text.new ≡ text.old) }
@@ -16,7 +16,7 @@ pub fn list_line(text: &mut Text, edits: u64) -> Result<(), AllocError>
     text.whole_line(start, added)
 }
 
-/// Adds the line of a method, by its id and its address. An `Err` is want of memory.
+/// Adds the line of a method, by its id and its address. An `Err` means out of memory.
 pub fn method_line(text: &mut Text, id: u32, address: &[u8]) -> Result<(), AllocError>
     ensures ok { OnOk result (text.new ≡ text.old ++ method_text id address.now) }
     ensures err { OnErr result (text.new ≡ text.old) }

@@ -8,7 +8,7 @@ use itoa::Buffer;
 use std::alloc::{AllocError, Global};
 use std::marker::Model;
 
-/// A list of bytes, to whose end words and lines are added. An `Err` of its calls is want of memory.
+/// A list of bytes, to whose end words and lines are added. An `Err` of its calls means out of memory.
 #[derive(Drop)]
 pub struct Text {
     bytes: Vec<u8>,

@@ -1,4 +1,4 @@
--- Inside the crate: what an event comes to in a plain server.
+-- Inside the crate: the result of an event in a plain server.
 use Rattle.std.specs.Prelude.{◌≡◌, ◌≢◌, ℕ, ◌<◌, ◌≤◌, ◌%◌, true, false, List, [], ◌++◌, length}
 use Rattle.std.specs.List.{flat_map}
 use Rattle.osc_print.specs.Entries.{event_line, invocation_text}
@@ -52,20 +52,20 @@ EntersRelease unit calls old new =
     (length calls.hits.items % 8 ≡ 0)
     × Enters (released unit (hits_in calls.hits.items)) calls.lines old release new
 
--- what an event that isn't a release comes to where its caller is enrolled
+-- the result of an event that isn't a release where its caller is enrolled
 abbrev pub Does : Outcome → State → Event → State → Type 0
 Does (Answered answer) old event new =
     HasWholeHits answer × Enters (answer_of answer) [] old event new
 Does (Released unit) old event new = ⊥
 Does Nothing old event new = adds_entry (step old event).answer ≡ false
 
--- what a release comes to where its caller is enrolled
+-- the result of a release where its caller is enrolled
 abbrev pub Releases : Outcome → Calls → State → State → Type 0
 Releases (Answered answer) calls old new = ⊥
 Releases (Released unit) calls old new = EntersRelease unit calls old new
 Releases Nothing calls old new = adds_entry (step old release).answer ≡ false
 
--- what an event of any caller comes to
+-- the result of an event of any caller
 abbrev pub ComesTo : Outcome → Calls → ℕ → State → Event → State → Type 0
 ComesTo (Answered answer) calls caller old event new =
     (caller < old.callers) × HasWholeHits answer × Enters (answer_of answer) [] old event new

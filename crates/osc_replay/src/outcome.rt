@@ -1,8 +1,8 @@
-// What an event comes to.
+// The result of an event.
 
 use osc_record::Answer;
 
-/// What an event of a caller comes to.
+/// The result of an event of a caller.
 #[derive(Clone, Copy)]
 pub(crate) enum Outcome {
     /// An entry with this answer, which releases no unit.

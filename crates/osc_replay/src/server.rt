@@ -26,7 +26,7 @@ use std::marker::Model;
 /// A server: methods by address, units that wait for their moment, a clock, callers, and how many bytes are recorded.
 /// The units stay where they stand in the recording. A contract sees its state.
 ///
-/// An `Err` of its calls is want of memory. After it, and where no entry is added, the server isn't to be used again.
+/// An `Err` of its calls means out of memory. After it, and where no entry is added, the server isn't to be used again.
 #[derive(Drop)]
 pub(crate) struct Server<'a> {
     alloc: Global,
@@ -114,7 +114,7 @@ impl<'a> Server<'a> {
         })
     }
 
-    /// What a caller's event comes to. It is no entry where the caller isn't enrolled or the rules add none. A release
+    /// The result of a caller's event. It is no entry where the caller isn't enrolled or the rules add none. A release
     /// makes `calls` its own.
     pub(crate) fn play(
         &mut self,
@@ -136,7 +136,7 @@ impl<'a> Server<'a> {
         }
     }
 
-    /// What an event comes to that isn't a release.
+    /// The result of an event that isn't a release.
     fn play_other(&mut self, event: LawfulEvent<'a>) -> Result<Outcome, AllocError>
         requires no_release { event_in event ≢ release }
         requires lawful { IsLawful (event_in event) }

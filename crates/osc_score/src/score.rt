@@ -74,7 +74,7 @@ impl Score {
     }
 
     /// The script that plays the score: an `add` for each address; then, for each 16 runs, a `send` of each bundle, and
-    /// for each of them a `tick` to its tag and a `pump`. An `Err` is want of memory.
+    /// for each of them a `tick` to its tag and a `pump`. An `Err` means out of memory.
     pub fn script(&self) -> Result<Bytes, AllocError>
         ensures { IfOk result (λ bytes. bytes ≡ plan_script self.now) }
     {

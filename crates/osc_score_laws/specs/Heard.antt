@@ -70,7 +70,7 @@ pub record IsRoomy (caps : Limits) (size : ℕ) : Type 0 where
 abbrev pub score_lines : List Note → List Line
 score_lines notes = numbered 1 (score_acts notes)
 
--- What came of the lines of a score of at most so many bytes: what is heard is the score, note by
+-- The result of the lines of a score of at most so many bytes: what is heard is the score, note by
 -- note, each at its moment; no entry is a refusal, and no packet at fault; there was room for all;
 -- and at most a header's bytes and 16 for each of the score's are recorded.
 pub record PlaysNotes (caps : Limits) (size : ℕ) (notes : List Note) (played : Played)

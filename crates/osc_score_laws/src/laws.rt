@@ -1,4 +1,4 @@
-//! What playing the script of a score comes to, for all scores.
+//! The result of playing the script of a score, for all scores.
 ghost use Rattle.osc_score.specs.declared.limits.TheConstants.{MAX_SCORE};
 ghost use Rattle.std.specs.Prelude.{◌≡◌, ◌≤◌, ℕ, List, length, map, Some, Ok, IfOk};
 ghost use Rattle.osc_message.specs.Messages.{Argument, Fits};

@@ -59,7 +59,7 @@ impl Script {
     }
 
     /// The bytes of the script of so many lines that is drawn from the seed (docs/FORMATS.md, "Generated scripts"). An
-    /// `Err` is want of memory.
+    /// `Err` means out of memory.
     pub fn generate(alloc: Global, seed: u64, lines: u32) -> Result<Bytes, AllocError>
         requires few { lines ≤ MAX_GENERATED_LINES }
         ensures { IfOk result (λ bytes. bytes ≡ generated_script seed lines) }

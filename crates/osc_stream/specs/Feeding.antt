@@ -1,4 +1,4 @@
--- What a stream knows, and what taking bytes comes to.
+-- What a stream knows, and the result of taking bytes.
 use Rattle.std.specs.Prelude.{◌≡◌, ℕ, ◌+◌, ◌≤◌, Bool, nat_le, ◌==◌, true, false, List, [], ◌++◌}
 use Rattle.std.specs.Prelude.{length, take, drop, Option, Some, None}
 use Rattle.osc_stream.specs.declared.fed.Fed.{Fed}
@@ -41,7 +41,7 @@ abbrev pub is_kept : Bool → List ℕ → Bool
 is_kept true bytes = nat_le 4 (length bytes)
 is_kept false bytes = is_held bytes
 
--- What adding so many bytes of a piece to what is held comes to: they go to the end, up to where a
+-- What adding so many bytes of a piece to the result of is held: they go to the end, up to where a
 -- packet is whole or the word is no size.
 abbrev pub has_filled : Front → ℕ → ℕ → ℕ → Type 0
 has_filled Short count piece size = count ≡ piece
@@ -54,7 +54,7 @@ pub record HasFilled (front_found : Front) (count : ℕ) (piece old new : List �
   pub found : front_found ≡ front new
   pub size : has_filled front_found count (length piece) (length new)
 
--- What taking so many bytes of a piece comes to. What was held and what was taken, together, are
+-- The result of taking so many bytes of a piece. What was held and what was taken, together, are
 -- what is held now, or one size and its packet.
 abbrev pub IsFed : Fed → ℕ → List ℕ → StreamView → StreamView → Type 0
 IsFed More count piece old new =

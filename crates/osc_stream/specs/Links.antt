@@ -104,7 +104,7 @@ IsSourceCause (Cut at) new before now = now ≡ before
 IsSourceCause (Broken at size) new before now = now ≡ before
 IsSourceCause SourceFailed new before now = HasSourceCause new before now
 
--- what one read comes to: more of the frame, or what was found
+-- the result of one read: more of the frame, or what was found
 abbrev pub HasRead : Option StreamState → StreamView → StreamView → Option (List ℕ)
     → Option (List ℕ) → Type 0
 HasRead None old new before after = (frames_left old before ≡ frames_left new after)

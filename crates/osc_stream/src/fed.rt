@@ -1,6 +1,6 @@
 // What a stream answers.
 
-/// What taking bytes comes to.
+/// The result of taking bytes.
 #[derive(Clone, Copy, Debug, PartialEq, Eq)]
 pub enum Fed {
     /// The whole piece was taken, and no packet is whole.

@@ -8,7 +8,7 @@ use std::alloc::Global;
 use std::sync::Wait;
 use std::test::Fail;
 
-/// What a server of two callers comes to, on which one method is added, called and handed out.
+/// The result of a server of two callers, on which one method is added, called and handed out.
 #[derive(Drop)]
 struct Round<M> {
     numbers: (u32, u32),

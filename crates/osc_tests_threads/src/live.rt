@@ -96,7 +96,7 @@ pub(crate) fn entries_of(alloc: Global, printed: &str, caller: &str) -> Result<S
     Ok(entries)
 }
 
-/// Checks what came of the script of two lanes.
+/// Checks the result of the script of two lanes.
 fn is_played(rt: &impl Abort, alloc: Global, outcome: &Outcome) -> Result<(), Fail> {
     assert_eq!(rt; (outcome.status, outcome.heard, outcome.left), (0, 1, 7));
     let (status, printed) = replayed(alloc, &outcome.recorded)?;

@@ -16,7 +16,7 @@ use Rattle.osc_top.specs.Commands.{live_limits}
 use Rattle.osc_top.specs.Served.{PlaysLinks}
 use Rattle.osc_ends.specs.Sinks.{SinkChange}
 
--- what playing lines comes to: lanes are played, or links are served, on the server that the words
+-- the result of playing lines: lanes are played, or links are served, on the server that the words
 -- say, of which these boxes, links and inputs were handed in, and this came back
 abbrev pub plays_of : {M L : Type 0} → (M → ℕ) → (M → Option (List ℕ))
     → (L → Option (List LinkTurn)) → (L → ℕ) → LiveCommand → List M → List (ℕ × M) → List M

@@ -42,7 +42,7 @@ AreEnough have caps before lines =
 -- recording of a legal history, or else the script has a first fault; bank short (8): there are
 -- fewer boxes than adds; callers full (9): there are more callers than the limits allow; each with
 -- its line. Want of memory (3) promises nothing. Where both are lawful and enough is there, sinks
--- that don't fail leave it at done, full, or want of memory.
+-- that don't fail leave it at done, full, or out of memory.
 pub record EndsResumed
     (plays : Limits → List Entry → List Line → List ℕ → List ℕ → Outcome → Type 0)
     (status : ℕ) (bytes script : List ℕ) (have : ℕ) (rec out : SinkChange) : Type 0 where

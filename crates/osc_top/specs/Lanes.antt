@@ -1,4 +1,4 @@
--- What a run of lanes comes to.
+-- The result of a run of lanes.
 use Rattle.std.specs.Prelude.{◌≡◌, ℕ, Bool, zero, suc, ◌+◌, ◌==◌, max, List, [], ◌∷◌, ◌++◌}
 use Rattle.std.specs.Prelude.{map, filter, drop, Option, None, if◌then◌else◌}
 use Rattle.std.specs.List.{AllByRecursion, flat_map}

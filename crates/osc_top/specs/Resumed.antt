@@ -1,4 +1,4 @@
--- What a run of lanes after a past comes to.
+-- The result of a run of lanes after a past.
 use Rattle.std.specs.Prelude.{◌≡◌, ℕ, ◌+◌, List, ◌++◌, map, drop, slice_get, Option, Some}
 use Rattle.std.specs.List.{AllByRecursion, Contains, flat_map}
 use Rattle.std.specs.Option.{option_or}

@@ -87,7 +87,7 @@ pub(crate) fn play_after<O: Sink, R: Sink, W: Threads + Wait + Sync, G: Gate + S
 }
 
 /// The status with which the program ends where there are too few boxes or callers, of which a line is written: 8, 9 or
-/// want of memory.
+/// out of memory.
 fn refuse_short<O: Sink>(
     alloc: Global,
     checked: Checked,
@@ -115,7 +115,7 @@ fn refuse_short<O: Sink>(
 }
 
 /// Plays the lanes of the lines beside each other on the server that goes on from the past. The k-th method that the
-/// past adds has the k-th box, and the k-th add of the lines the k-th after these. An `Err` is want of memory.
+/// past adds has the k-th box, and the k-th add of the lines the k-th after these. An `Err` means out of memory.
 fn stage_after<M: Method + Send, W: Threads + Wait + Sync, G: Gate + Sync>(
     rt: &W,
     alloc: Global,

@@ -9,7 +9,7 @@ use osc_words::{LiveCommand, live_command_of};
 use std::alloc::{AllocError, Global};
 
 /// The ports of the links that `serve` is told to serve, one for each link, ascending by one from the first; none where
-/// the words are refused or say another command. An `Err` is want of memory.
+/// the words are refused or say another command. An `Err` means out of memory.
 pub fn ports(alloc: Global, words: &[String]) -> Result<Vec<u16>, AllocError>
     ensures said { IfOk result (λ ports. ports.items ≡ ports_of (map string_bytes words.now)) }
     ensures few { IfOk result (λ ports. length ports.items ≤ MAX_LINKS) }

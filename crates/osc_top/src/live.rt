@@ -127,7 +127,7 @@ pub fn live_top<
     ensures usage_text { result.0.status ≡ USAGE
         → GainsUnless (sink_change O.held O.faults out.old out.new) usage_text }
 
-    // Then a source that failed, of which nothing is written. Any other answer but want of memory means that the
+    // Then a source that failed, of which nothing is written. Any other answer but out of memory means that the
     // source didn't fail, and that it was read to its end, or to the first byte that is too many.
     ensures source { result.0.status ≡ SOURCE_FAILED
         → Rose (S.faults input.old) (S.faults input.new) }

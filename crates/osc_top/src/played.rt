@@ -1,8 +1,8 @@
-// What came of a script and of a bank.
+// The result of a script and of a bank.
 
 use osc_ends::Recorded;
 
-/// What came of a script and of a bank.
+/// The result of a script and of a bank.
 #[derive(Drop)]
 pub(crate) struct Played<M> {
     pub(crate) recorded: Recorded,

@@ -84,7 +84,7 @@ pub fn resume_top<P: Source, S: Source, O: Sink, R: Sink, W: Threads + Wait + Sy
         → GainsUnless (sink_change O.held O.faults out.old out.new) usage_text }
 
     // Then a source that failed, of which nothing is written: the past's, and then nothing is read of the input, or the
-    // input's. Any other answer but want of memory means that neither failed, and that each was read to its end, or to
+    // input's. Any other answer but out of memory means that neither failed, and that each was read to its end, or to
     // the first byte that is too many.
     ensures source { result.status ≡ SOURCE_FAILED
         → (Rose (P.faults past.old) (P.faults past.new) × (input.new ≡ input.old))

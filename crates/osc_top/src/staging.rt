@@ -32,7 +32,7 @@ use std::thread::Threads;
 use std::vec::IntoIter;
 
 /// Plays the lanes of the lines on a new server, beside each other, and if `watch` says so with a watcher beside them,
-/// whose list stands after the lines of the faults; the k-th add gets the k-th box. An `Err` is want of memory.
+/// whose list stands after the lines of the faults; the k-th add gets the k-th box. An `Err` means out of memory.
 pub(crate) fn stage<M: Method + Send, W: Threads + Wait + Sync, G: Gate + Sync>(
     rt: &W,
     alloc: Global,

@@ -5,7 +5,7 @@ ghost use Rattle.osc_words.specs.Commands as said;
 use osc_words::{LiveCommand, Transport, live_command_of};
 use std::alloc::{AllocError, Global};
 
-/// Whether the words say to serve links over TCP, that is a `serve` with `--tcp`. An `Err` is want of memory.
+/// Whether the words say to serve links over TCP, that is a `serve` with `--tcp`. An `Err` means out of memory.
 pub fn wants_tcp(alloc: Global, words: &[String]) -> Result<bool, AllocError>
     ensures { IfOk result (λ wanted. wanted ≡ said.wants_tcp (map string_bytes words.now)) }
 {

@@ -19,7 +19,7 @@ use std::alloc::{AllocError, Global};
 use std::sync::Wait;
 use std::thread::Threads;
 
-/// What came of lanes that may have been watched.
+/// The result of lanes that may have been watched.
 #[derive(Drop)]
 pub(crate) struct Listed<M> {
     pub(crate) performed: Performed<M>,
@@ -28,7 +28,7 @@ pub(crate) struct Listed<M> {
 }
 
 /// Plays the parts as lanes beside each other on a new server, with a watcher of its methods beside them if `watch`
-/// says so. An `Err` is want of memory.
+/// says so. An `Err` means out of memory.
 pub(crate) fn play_parts<M: Method + Send, W: Threads + Wait + Sync, G: Gate + Sync>(
     rt: &W,
     alloc: Global,

@@ -1,6 +1,6 @@
 //! What a call answers that does not wait for the turn.
 
-/// What a try comes to.
+/// The result of a try.
 #[derive(Clone, Copy, PartialEq, Eq, Debug)]
 pub enum Tried {
     /// The job was run, and whether it added an entry.

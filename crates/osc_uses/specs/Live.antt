@@ -97,7 +97,7 @@ module _ {M : Type 0} {G : Ghosts M} where
   OnOpen (Open out) holds = holds out
   OnOpen _ holds = Unit {0}
 
-  -- it wasn't closed for want of memory, and not for a token that was missing
+  -- it wasn't closed for out of memory, and not for a token that was missing
   abbrev pub IsShort : LiveOut M G → Type 0
   IsShort (NoMemory live callers guests) = Unit {0}
   IsShort (StillOut made handed live callers guests) = ⊥

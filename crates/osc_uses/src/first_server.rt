@@ -107,7 +107,7 @@ pub fn one_packet<M: Method>(
 }
 
 /// A server from its opening to its close: a fader is added at the address, the packet is submitted, and one unit is
-/// released. The recording comes out, and the fader, unless its add was refused. The `Err` is want of memory.
+/// released. The recording comes out, and the fader, unless its add was refused. The `Err` means out of memory.
 pub fn first_run(
     alloc: Global,
     caps: Caps,

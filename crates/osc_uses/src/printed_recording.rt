@@ -9,7 +9,7 @@ use osc_print::Text;
 use osc_replay::{ReplayFault, replay};
 use std::alloc::Global;
 
-/// What the server has recorded, as text (docs/FORMATS.md, "Printed text"). The `Err` is want of memory, and never
+/// What the server has recorded, as text (docs/FORMATS.md, "Printed text"). The `Err` means out of memory, and never
 /// another: a replay computes from the recording alone what the server has answered and called.
 pub fn printed_history<M: Method>(alloc: Global, core: &Core<M>) -> Result<Text, ReplayFault>
     ensures { IsTextUnlessShort result

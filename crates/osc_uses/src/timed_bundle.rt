@@ -15,7 +15,7 @@ use osc_method::Method;
 use osc_model::laws::a_release_takes_the_least_unit;
 use osc_packet::Packet;
 
-/// What a bundle comes to that waits for its moment: a release before it, and the tick and a release then.
+/// The result of a bundle that waits for its moment: a release before it, and the tick and a release then.
 #[derive(Clone, Copy, Debug, PartialEq, Eq)]
 pub struct TimedRun {
     /// What the bundle was answered.

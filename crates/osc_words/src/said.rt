@@ -41,7 +41,7 @@ pub fn command_of(alloc: Global, words: &[String]) -> Result<Option<Command>, Al
 }
 
 /// The command of `osc` that the words say; none where they are refused, or say a command of another program. An `Err`
-/// is want of memory.
+/// means out of memory.
 pub fn plain_command_of(alloc: Global, words: &[String]) -> Result<Option<PlainCommand>, AllocError>
     ensures said { IfOk result
         (λ command. command ≡ commands.plain_command_of (map string_bytes words.now)) }
@@ -54,7 +54,7 @@ pub fn plain_command_of(alloc: Global, words: &[String]) -> Result<Option<PlainC
 }
 
 /// The command of `oscd` that the words say; none where they are refused, or say a command of another program. An `Err`
-/// is want of memory.
+/// means out of memory.
 pub fn live_command_of(alloc: Global, words: &[String]) -> Result<Option<LiveCommand>, AllocError>
     ensures said { IfOk result
         (λ command. command ≡ commands.live_command_of (map string_bytes words.now)) }
@@ -67,7 +67,7 @@ pub fn live_command_of(alloc: Global, words: &[String]) -> Result<Option<LiveCom
 }
 
 /// The command of `oscd` that goes on from a recording, if the words say it; none where they are refused, or say
-/// another command. An `Err` is want of memory.
+/// another command. An `Err` means out of memory.
 pub fn resume_command_of(
     alloc: Global,
     words: &[String],
