@@ -135,6 +135,10 @@ osc_answer osc_server_tick_by(osc_server *server, uint32_t caller, uint64_t mome
 osc_answer osc_server_release(osc_server *server);
 osc_answer osc_server_release_by(osc_server *server, uint32_t caller);
 
+/* The moment at which the next unit is due, that a release takes: `unit`; or OSC_NOTHING_DUE where none waits. A moment that
+ * isn't after the clock is due at once. Nothing changes. */
+osc_answer osc_server_due(osc_server *server);
+
 /* The next call of the last release, with its message in the buffer: OSC_OK, OSC_NO_CALL, OSC_BUFFER_SMALL or
  * OSC_IS_CLOSED. */
 uint32_t osc_server_next_call(osc_server *server, osc_call *call, uint8_t *buffer, size_t room);

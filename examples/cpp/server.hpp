@@ -30,6 +30,9 @@ class Server {
     osc_answer submit(std::string_view packet) { return accepted(osc_server_submit(&server, bytes(packet), packet.size())); }
     osc_answer tick(uint64_t moment) { return osc_server_tick(&server, moment); }
 
+    // When the next unit is due, or 0 where none waits.
+    uint64_t due() { return osc_server_due(&server).unit; }
+
     // Does all that is due, by handle(call, message) for each call. Answers when the next unit is due, or 0.
     template <typename Handle> uint64_t release_all(Handle handle) {
         static thread_local uint8_t message[65504];

@@ -59,6 +59,7 @@ def _load():
         ("osc_server_submit", _Answer, server, text, size),
         ("osc_server_tick", _Answer, server, c.c_uint64),
         ("osc_server_release", _Answer, server),
+        ("osc_server_due", _Answer, server),
         ("osc_server_next_call", c.c_uint32, server, c.POINTER(_Call), text, size),
         ("osc_server_recorded", size, server),
         ("osc_server_read_recording", size, server, size, text, size),
@@ -299,6 +300,12 @@ class Server:
             return None
         _accepted(answer)
         return Released(answer.unit, answer.count)
+
+    @property
+    def due(self):
+        """The moment at which the next unit is due, or None where none waits. Nothing is released."""
+        answer = _lib.osc_server_due(c.byref(self._server))
+        return None if answer.status == _NOTHING_DUE else _accepted(answer).unit
 
     def calls(self):
         """The calls of the last release that aren't read yet."""

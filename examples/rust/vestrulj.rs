@@ -61,6 +61,7 @@ unsafe extern "C" {
     fn osc_server_submit(server: *mut Handle, packet: *const u8, size: usize) -> Answer;
     fn osc_server_tick(server: *mut Handle, moment: u64) -> Answer;
     fn osc_server_release(server: *mut Handle) -> Answer;
+    fn osc_server_due(server: *mut Handle) -> Answer;
     fn osc_server_next_call(server: *mut Handle, call: *mut Call, buffer: *mut u8, room: usize) -> u32;
     fn osc_server_recorded(server: *mut Handle) -> usize;
     fn osc_server_read_recording(server: *mut Handle, from: usize, buffer: *mut u8, room: usize) -> usize;
@@ -222,6 +223,11 @@ impl Server {
         unsafe { osc_server_tick(&mut self.0, moment) }.accepted()
     }
 
+    /// When the next unit is due; none where no unit waits.
+    pub fn due(&mut self) -> Option<u64> {
+        unsafe { osc_server_due(&mut self.0) }.accepted().map(|it| it.unit).ok()
+    }
+
     /// Does all that is due: hands each call with its message on. Answers when the next unit is due.
     pub fn release_all(&mut self, mut heard: impl FnMut(Call, &[u8])) -> Result<Option<u64>, Refused> {
         let mut buffer = vec![0; 65504];
@@ -284,9 +290,12 @@ mod tests {
         let id = server.add("/light/dim").unwrap();
         assert!(server.add("/light/dim").is_err());
         assert_eq!(server.submit(DIM).map(|it| it.count), Ok(1));
+        // A message is due at once, at the clock of a new server.
+        assert_eq!(server.due(), Some(1));
         let mut heard = Vec::new();
         assert_eq!(server.release_all(|call, message| heard.push((call.method, message.to_vec()))), Ok(None));
         assert_eq!(heard, [(id, DIM.to_vec())]);
+        assert_eq!(server.due(), None);
         assert_eq!(server.remove("/light/dim"), Ok(id));
         // The header of 60 bytes, two adds, a submit, a release of one call, a removal: docs/FORMATS.md, "The recording".
         assert_eq!(server.recording().len(), 60 + 2 * (40 + 12) + (52 + 20) + (44 + 8) + (36 + 12));

@@ -25,6 +25,7 @@ int main(void) {
     CHECK(1, osc_server_submit(&server, bundle, sizeof bundle - 1).status == OSC_IS_CLOSED);
     CHECK(2, osc_server_next_call(&server, &call, buffer, sizeof buffer) == OSC_IS_CLOSED);
     CHECK(3, osc_server_recorded(&server) == 0);
+    CHECK(52, osc_server_due(&server).status == OSC_IS_CLOSED);
     osc_server_close(&server);
 
     /* A limit outside its range is named. */
@@ -47,10 +48,13 @@ int main(void) {
     a = osc_server_add(&server, TEXT("no"));
     CHECK(12, a.status == OSC_BAD_ADDRESS && a.number == 1);
 
+    CHECK(50, osc_server_due(&server).status == OSC_NOTHING_DUE);
     a = osc_server_submit(&server, bundle, 20);
     CHECK(13, a.status == OSC_BAD_PACKET);
     a = osc_server_submit(&server, bundle, sizeof bundle - 1);
     CHECK(14, a.status == OSC_OK && a.unit == 0 && a.count == 1 && a.late == 0);
+    a = osc_server_due(&server);
+    CHECK(51, a.status == OSC_OK && a.unit == 5);
     a = osc_server_release(&server);
     CHECK(15, a.status == OSC_NOTHING_DUE && a.unit == 5);
     CHECK(16, osc_server_tick(&server, 5).status == OSC_OK);

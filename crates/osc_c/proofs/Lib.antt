@@ -1,8 +1,6 @@
 pub mod AsBox
 pub mod Begun
 pub mod FirstCaller
-pub mod Keeping
 pub mod Overs
 pub mod Places
 pub mod Reading
-pub mod Skipping

@@ -1,5 +1,5 @@
 -- What the answers of the rules are in C.
-use Rattle.std.specs.Prelude.{ℕ, length, Some, None}
+use Rattle.std.specs.Prelude.{ℕ, length, Option, Some, None}
 use Rattle.osc_atoms.specs.declared.fault.Fault.{Fault}
 use Rattle.osc_tree.specs.Adding.{Refusal, taken, under_method, is_container, methods_full}
 use Rattle.osc_tree.specs.Adding.{nodes_full}
@@ -58,6 +58,11 @@ shown (released unit hits) = record (bare 0) { unit = unit; count = length hits 
 shown (nothing_due None) = bare 1
 shown (nothing_due (Some next)) = record (bare 1) { unit = next }
 shown (record_full room) = wanting 2 room.need room.free
+
+-- the moment at which the next unit is due, where one waits
+abbrev pub due_answer : Option ℕ → Answer
+due_answer None = bare 1
+due_answer (Some moment) = record (bare 0) { unit = moment }
 
 -- a fault of a packet
 abbrev pub faulty : Fault → Answer

@@ -11,7 +11,7 @@ use Rattle.osc_message.specs.Messages as message
 use Rattle.osc_message.specs.Messages.{content, tag_of, message_text}
 use Rattle.osc_message.specs.ArgumentReading.{word_argument, long_argument, text_argument}
 use Rattle.osc_message.specs.ArgumentReading.{bare_argument}
-use Rattle.osc_message.specs.Building.{Building, pushed, finished, open_refusal, push_refusal}
+use Rattle.osc_message.specs.Building.{Building, pushed, finished, push_refusal}
 use Rattle.osc_c.specs.declared.answer.Answer.{Answer}
 use Rattle.osc_c.specs.declared.argument.Argument.{Argument}
 use Rattle.osc_c.specs.Answers.{bare, wanting}

@@ -5,12 +5,13 @@ use Rattle.osc_atoms.specs.declared.fault.Fault.{Fault}
 use Rattle.osc_pattern.specs.declared.faults.AddressFault.{AddressFault}
 use Rattle.osc_model.specs.Events.{Event, submit, add, remove, release}
 use Rattle.osc_model.specs.Recordings.{record_text}
+use Rattle.osc_model.specs.Releases.{IsLeastDue}
 use Rattle.osc_model.specs.History.{Performance, state_of, stepped_in, onward}
 use Rattle.osc_c.specs.declared.answer.Answer.{Answer}
 use Rattle.osc_c.specs.declared.state.State.{State}
-use Rattle.osc_c.specs.Answers.{bare, shown, faulty}
+use Rattle.osc_c.specs.Answers.{bare, shown, due_answer, faulty}
 use Rattle.osc_c.specs.Opening.{address_number}
-use Rattle.osc_c.specs.Told.{Told, told_of}
+use Rattle.osc_core.specs.Invoked.{Call, call_of}
 use Rattle.osc_c.specs.Reading.{left_of, TellsNext}
 use Rattle.osc_c.specs.declared.called.Called.{Called}
 
@@ -75,20 +76,27 @@ done_by None caller next before = before
 done_by (Some performance) caller next before =
     if nat_lt caller (state_of performance).callers then next else before
 
+-- what is answered of the moment at which the next unit is due: that of the least that waits, where
+-- one does
+abbrev pub TellsDue : Option Performance → Answer → Type 0
+TellsDue None answer = answer ≡ bare 16
+TellsDue (Some performance) answer =
+    (due : Option ℕ) × IsLeastDue (state_of performance).queue due × (answer ≡ due_answer due)
+
 -- its recording
 abbrev pub recording_in : Option Performance → List ℕ
 recording_in None = []
 recording_in (Some performance) = record_text performance.caps performance.history
 
 -- the calls that are left to be read
-abbrev pub left : Option State → List Told
+abbrev pub left : Option State → List Call
 left None = []
 left (Some state) = left_of state
 
 -- the calls of a release
-abbrev pub released_in : Option Performance → List Told
+abbrev pub released_in : Option Performance → List Call
 released_in None = []
-released_in (Some performance) = map told_of (stepped_in performance release).invocations
+released_in (Some performance) = map call_of (stepped_in performance release).invocations
 
 -- what a reading of the next call tells
 abbrev pub NextOf : Option State → Option State → ℕ → Called → Called → List ℕ → List ℕ → Type 0

@@ -6,4 +6,4 @@ pub mod Opening
 pub mod Owned
 pub mod Plain
 pub mod Reading
-pub mod Told
+pub mod Short

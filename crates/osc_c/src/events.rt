@@ -1,12 +1,12 @@
 // The calls that hand an event in.
 ghost use Rattle.osc_atoms.specs.declared.limits.TheConstants.{MAX_PACKET};
-ghost use Rattle.std.specs.Prelude.{◌≡◌, ◌+◌, ◌*◌, ◌<◌, ◌≤◌, Some, map};
+ghost use Rattle.std.specs.Prelude.{◌≡◌, ◌<◌, Some, map};
 ghost use Rattle.osc_packet.specs.Reading.{packet_fault};
 ghost use Rattle.osc_model.specs.Events.{enrol, tick, release, submit};
 ghost use Rattle.osc_model.specs.History.{state_of, stepped_in};
 ghost use Rattle.osc_c.specs.Held.{played, left, answered, after, submit_answered, after_submit};
 ghost use Rattle.osc_c.specs.Held.{released_in, answered_to, done_by};
-ghost use Rattle.osc_c.specs.Told.{told_of};
+ghost use Rattle.osc_core.specs.Invoked.{call_of};
 ghost use Rattle.osc_c.specs.Reading.{left_of};
 
 use crate::answer::Answer;
@@ -17,7 +17,7 @@ use crate::showing::{
 use crate::state::State;
 use crate::status;
 use osc_core::Releasing;
-use osc_model::laws::a_legal_history_is_recordable;
+use osc_model::laws::a_server_stays_sound;
 use osc_packet::{MAX_PACKET, Packet};
 use std::alloc::Global;
 
@@ -274,7 +274,7 @@ fn release_as(state: &mut State, caller: u32) -> Answer
         (after (Some state.old.core.performance) caller release)
         (Some state.old.core.performance) }
     ensures unread { left_of state.new ≡ done_by (Some state.old.core.performance) caller
-        (map told_of (stepped_in state.old.core.performance release).invocations)
+        (map call_of (stepped_in state.old.core.performance release).invocations)
         (left_of state.old) }
 {
     if caller >= state.core.callers() {
@@ -289,27 +289,18 @@ fn release_in(state: &mut State, caller: u32) -> Answer
     ensures performance { Some state.new.core.performance
         ≡ after (Some state.old.core.performance) caller release }
     ensures unread { left_of state.new
-        ≡ map told_of (stepped_in state.old.core.performance release).invocations }
+        ≡ map call_of (stepped_in state.old.core.performance release).invocations }
 {
-    a_legal_history_is_recordable();
+    a_server_stays_sound();
     // The history is legal, as the recording tells.
     let _ = state.core.bytes();
     let releasing = state.core.release(caller);
-    state.calls = 0;
-    state.hit = 0;
-    state.index = 0;
-    state.place = 0;
-    if let Releasing::Released { unit, calls } = releasing {
-        state.unit = unit;
-        state.calls = calls;
-        state.hit = first_hit(state.core.bytes().len(), calls);
+    match releasing {
+        Releasing::Released { calls, .. } => {
+            state.calls = calls;
+            state.read = 0;
+        }
+        _ => state.read = state.calls,
     }
     releasing_shown(releasing)
-}
-
-/// The place of the first of so many hits, of 8 bytes each, that end a recording.
-fn first_hit(recorded: usize, calls: u32) -> usize
-    ensures { 8 * calls ≤ recorded → result + 8 * calls ≡ recorded }
-{
-    recorded.checked_sub(8 * calls as usize).unwrap_or(0)
 }

@@ -5,6 +5,7 @@ mod answer;
 mod argument;
 mod called;
 mod calls;
+mod due;
 mod events;
 mod handle;
 mod limits;

@@ -80,11 +80,8 @@ fn open_state(alloc: Global, caps: Caps) -> Result<Box<State>, AllocError>
     let core: Core<Mute> = Core::open(alloc, caps)?;
     let state = State {
         core,
-        unit: 0,
         calls: 0,
-        hit: 0,
-        index: 0,
-        place: 0,
+        read: 0,
     };
     Ok(Box::new(alloc, state)?)
 }

@@ -3,7 +3,7 @@ ghost use Rattle.std.specs.Prelude.{◌≡◌};
 ghost use Rattle.osc_model.specs.Events.{Answer as Given};
 ghost use Rattle.osc_core.specs.Answers.{enrolled_of, submitted_of, adding_of, refusal_of};
 ghost use Rattle.osc_core.specs.Answers.{removing_of, ticking_of, TellsRelease};
-ghost use Rattle.osc_c.specs.Answers.{bare, wanting, shown, faulty};
+ghost use Rattle.osc_c.specs.Answers.{bare, wanting, shown, due_answer, faulty};
 
 use crate::answer::Answer;
 use crate::status;
@@ -101,6 +101,16 @@ pub(crate) fn fault_shown(fault: Fault) -> Answer
         u32::from(fault.kind),
         u64::from(fault.at),
     )
+}
+
+/// The moment at which the next unit is due, where one waits.
+pub(crate) fn due_shown(due: Option<u64>) -> Answer
+    ensures { result ≡ due_answer due }
+{
+    match due {
+        Some(moment) => timed(status::OK, moment, 0, 0),
+        None => told(status::NOTHING_DUE),
+    }
 }
 
 pub(crate) fn submitted_shown(submitted: Submitted) -> Answer

@@ -1,7 +1,8 @@
 // An open server with the calls of the unit that was released last.
-ghost use Rattle.std.specs.Prelude.{◌≡◌, ◌+◌, ◌*◌, ◌≤◌, length, drop};
-ghost use Rattle.osc_model.specs.Recordings.{record_text};
-ghost use Rattle.osc_c.specs.Told.{skip};
+ghost use Rattle.std.specs.Prelude.{◌≡◌, ◌≤◌, length, IsTrue};
+ghost use Rattle.std.specs.List.{list_all};
+ghost use Rattle.osc_core.specs.Invoked.{last_calls};
+ghost use Rattle.osc_c.specs.Short.{is_short};
 
 use osc_core::Core;
 use osc_method::Mute;
@@ -10,17 +11,11 @@ use osc_method::Mute;
 #[derive(Drop)]
 pub struct State {
     pub(crate) core: Core<Mute>,
-    /// The unit that was released last.
-    pub(crate) unit: u64,
-    /// How many of its calls are left to be read.
+    /// How many calls the last release of a unit made.
     pub(crate) calls: u32,
-    /// The place of the next of them in the recording.
-    pub(crate) hit: usize,
-    /// How many of the unit's messages stand before `place`.
-    pub(crate) index: u32,
-    /// A place among the unit's messages.
-    pub(crate) place: usize,
-    ghost recorded: { hit + 8 * calls
-        ≤ length (record_text core.performance.caps core.performance.history) },
-    ghost placed: { drop place core.unit.items ≡ skip index core.unit.items },
+    /// How many of them aren't to be read any more.
+    pub(crate) read: u32,
+    ghost counted: { length (last_calls core.performance) ≡ calls },
+    ghost within: { read ≤ calls },
+    ghost short: { IsTrue (list_all is_short (last_calls core.performance)) },
 }

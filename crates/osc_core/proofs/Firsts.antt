@@ -2,7 +2,9 @@
 use Rattle.std.proofs.Common.{◌≡◌, ℕ, ◌<◌, ◌≤◌, Bool, true, false, nat_le, List, [], ◌∷◌, map, drop, slice_get, Option, Some, None, unwrap_or, refl, sym, ap}
 use Rattle.std.proofs.Common.{subst, ◌∙◌, arith}
 use Rattle.std.proofs.lemmas.Bool.Decides.{nat_tests}
-use Rattle.osc_queue.specs.Timed.{Item, due_of, unit_of, NoneIsDue}
+use Rattle.std.specs.List.{AllByRecursion}
+use Rattle.osc_queue.specs.Timed.{Item, due_of, unit_of, is_before, IsLeast, NoneIsDue}
+use Rattle.osc_model.specs.Releases.{IsLeastDue}
 use Rattle.osc_model.specs.State.{State, Queued, AreNumbered}
 use Rattle.osc_model.specs.Events.{Answer, Call, Hit, release, released, nothing_due}
 use Rattle.osc_model.specs.Step.{decided, releases, calls_from, calls_of_unit, hits_of, invocations_of}
@@ -102,3 +104,17 @@ first_waits state held (item ∷ items) due unit stored queue at later =
     let same : due_of item ≡ due = ap (λ (o : Option (Item Stored)). due_of (unwrap_or o item)) at in
     let le : nat_le (due_of item) state.clock ≡ false = grind (arith, nat_tests, same) in
     rw (queue, le) (ap (λ (n : ℕ). nothing_due (Some n)) same)
+
+-- the units of the items are taken in the order of the items
+least_of : (held : List (List ℕ)) (items : List (Item Stored)) (first : Item Stored) → AllByRecursion (λ other. is_before other first ≡ false) items
+    → AllByRecursion (λ other. is_before other (queued_of held first) ≡ false) (queue_of held items)
+least_of held [] first least = tt
+least_of held (item ∷ items) first least = (least.0, least_of held items first least.1)
+
+-- the least item is the least unit
+pub least_due : (held : List (List ℕ)) (items : List (Item Stored)) (due unit : ℕ) (stored : Stored) → slice_get items 0 ≡ Some (due, unit, stored)
+    → IsLeast (due, unit, stored) items → IsLeastDue (queue_of held items) (Some due)
+least_due held [] due unit stored at least = absurd (cc)
+least_due held (item ∷ items) due unit stored at least =
+    let same : item ≡ (due, unit, stored) = ap (λ (o : Option (Item Stored)). unwrap_or o item) at in
+    (queued_of held (due, unit, stored), (0, omega arith, ap (queued_of held) same), least_of held (item ∷ items) (due, unit, stored) least, refl)

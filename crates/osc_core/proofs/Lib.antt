@@ -14,4 +14,5 @@ pub mod Staying
 pub mod Stocks
 pub mod Storing
 pub mod Submits
+pub mod Telling
 pub mod Texts

@@ -73,7 +73,7 @@ pub record IsSplit (bytes message rest : List ℕ) : Type 0 where
   pub others : AreFramed rest
   pub shows : messages_in bytes ≡ message ∷ messages_in rest
 
-split_framed : (message : List ℕ) (messages : List (List ℕ)) → length (framed (message ∷ messages)) < 2 ^ 32
+split_framed : (message : List ℕ) (messages : List (List ℕ)) → length (framed (message ∷ messages)) ≤ 65508
     → IsTrue (list_all (is_message 1073741824) (message ∷ messages))
     → IsSplit (framed (message ∷ messages)) (first_framed (framed (message ∷ messages))) (after_framed (framed (message ∷ messages)))
 split_framed message messages few read =
@@ -99,7 +99,7 @@ split_is {bytes} is some = go is.messages is.is is.read where
       → IsSplit bytes (first_framed bytes) (after_framed bytes)
   go [] e read = absurd (omega (arith, some, ap length e))
   go (message ∷ messages) e read = subst (λ (l : List ℕ). IsSplit l (first_framed l) (after_framed l)) (sym e)
-      (split_framed message messages (subst (λ (l : List ℕ). length l < 2 ^ 32) e is.few) read)
+      (split_framed message messages (subst (λ (l : List ℕ). length l ≤ 65508) e is.few) read)
 
 pub split_next : {bytes : List ℕ} (message rest : List ℕ) → AreFramed bytes → 0 < length bytes → message ≡ first_framed bytes → rest ≡ after_framed bytes
     → IsSplit bytes message rest

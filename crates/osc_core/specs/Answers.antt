@@ -101,3 +101,8 @@ TellsRelease (releasing.RecordFull room) answer = answer ≡ record_full (room_o
 abbrev pub OnReleased : Releasing → (ℕ → Type 0) → Type 0
 OnReleased (releasing.Released unit calls) holds = holds unit
 OnReleased _ holds = Unit {0}
+
+-- where no unit is released, this holds
+abbrev pub OnWaiting : Releasing → Type 0 → Type 0
+OnWaiting (releasing.Released unit calls) holds = Unit {0}
+OnWaiting _ holds = holds

@@ -1,6 +1,7 @@
 -- Inside the crate: how messages are kept in a list of bytes: each after its length in 4 bytes.
+use Rattle.osc_packet.specs.declared.limits.TheConstants.{MAX_STORED}
 use Rattle.osc_atoms.specs.declared.limits.TheConstants.{MAX_BYTES}
-use Rattle.std.specs.Prelude.{◌≡◌, ℕ, zero, suc, ◌+◌, ◌<◌, ◌≤◌, ◌^◌, IsTrue, List, [], ◌∷◌, ◌++◌}
+use Rattle.std.specs.Prelude.{◌≡◌, ℕ, zero, suc, ◌+◌, ◌≤◌, IsTrue, List, [], ◌∷◌, ◌++◌}
 use Rattle.std.specs.Prelude.{length, take, drop}
 use Rattle.std.specs.List.{list_all}
 use Rattle.std.specs.Int.{w32, from_be_bytes}
@@ -44,4 +45,4 @@ pub record AreFramed (bytes : List ℕ) : Type 0 where
   pub messages : List (List ℕ)
   pub is : bytes ≡ framed messages
   pub read : IsTrue (list_all (is_message MAX_BYTES) messages)
-  pub few : length bytes < 2 ^ 32
+  pub few : length bytes ≤ MAX_STORED

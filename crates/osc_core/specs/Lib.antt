@@ -2,6 +2,7 @@
 pub mod Answers
 pub mod Frames
 pub mod Ids
+pub mod Invoked
 pub mod Playing
 pub mod Redoing
 pub mod Standing

@@ -1,6 +1,6 @@
 // The boxes of the registered methods.
 ghost use Rattle.std.specs.Prelude.{◌≡◌, ◌<◌, ◌≤◌, ◌++◌, ◌∷◌, [], List, map, length, Contains};
-ghost use Rattle.std.specs.Prelude.{vec_len, vec_capacity, IsTrue, Some};
+ghost use Rattle.std.specs.Prelude.{◌↔◌, vec_len, vec_capacity, IsTrue, IfSome, IsSome, Some};
 ghost use Rattle.osc_pattern.specs.Methods.{Method as MethodAt};
 ghost use Rattle.osc_model.specs.Heard.{Told, hear, reset, without_id};
 ghost use Rattle.osc_core.specs.Calls.{invocation_by};
@@ -43,6 +43,17 @@ pub(crate) fn hand_out<M: Method>(boxes: &mut Vec<(u32, M)>, id: u32) -> M
         Some(place) => boxes.remove(place).1,
         None => unreachable!(),
     }
+}
+
+/// The box of an id, where there is one.
+pub(crate) fn box_of<M: Method>(boxes: &[(u32, M)], id: u32) -> Option<&M>
+    requires { IsTrue (is_ascending (map (λ one. one.0) boxes.now)) }
+    ensures there { IsSome result ↔ Contains (map (λ one. one.0) boxes.now) id }
+    ensures told { IfSome result (λ method. Contains {X = Told} (told M.keep M.heard boxes.now)
+        (record { id = id; keep = M.keep method.now; heard = M.heard method.now })) }
+{
+    let place = place_of(boxes, id)?;
+    Some(&boxes[place].1)
 }
 
 /// The box of the method with this id hears the call, and no other.

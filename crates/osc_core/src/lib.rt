@@ -6,12 +6,14 @@
 
 mod answers;
 mod boxes;
+mod called;
 mod calls;
 mod entry_answers;
 mod messages;
 mod performance;
 mod playing;
 mod redoing;
+mod release;
 mod sequential;
 mod server;
 mod shortage;
@@ -20,4 +22,5 @@ mod store;
 mod units;
 
 pub use answers::{AddRefusal, Adding, Closed, Enrolled, Releasing, Removing, Submitted, Ticking};
+pub use called::{Called, Calls};
 pub use sequential::Core;

@@ -6,11 +6,12 @@ ghost use Rattle.osc_tree.specs.Adding.{refusal_of as tree_refusal_of};
 ghost use Rattle.osc_model.specs.Events.{enrol, submit, add, remove, tick, release, added, removed};
 ghost use Rattle.osc_model.specs.Recordings.{record_text};
 ghost use Rattle.osc_model.specs.Heard.{all_hear};
+ghost use Rattle.osc_model.specs.Releases.{IsLeastDue};
 ghost use Rattle.osc_model.specs.Refusals.{IsRefusal};
 ghost use Rattle.osc_model.specs.History.{IsLawful, Legal, state_of, stepped_in, onward};
 ghost use Rattle.osc_record.specs.Shown.{event_of, answer_of};
 ghost use Rattle.osc_core.specs.Answers.{enrolled_of, submitted_of, refusal_of, removing_of};
-ghost use Rattle.osc_core.specs.Answers.{ticking_of, OnRemoved, TellsRelease, OnReleased};
+ghost use Rattle.osc_core.specs.Answers.{ticking_of, OnRemoved, TellsRelease, OnReleased, OnWaiting};
 ghost use Rattle.osc_core.specs.Frames.{messages_in, AreFramed};
 ghost use Rattle.osc_packet.specs.declared.limits.TheConstants.{MAX_STORED};
 ghost use Rattle.osc_model.specs.Step.{calls_from, invocations_of};
@@ -204,7 +205,8 @@ impl Performance {
             ≡ invocations_of unit
             (calls_from (state_of self.old).methods 0 (messages_in messages.new.items))) }
         ensures framed { OnReleased result (λ unit. AreFramed messages.new.items) }
-        ensures reserved { vec_capacity messages.old ≤ vec_capacity messages.new }
+        ensures kept { OnWaiting result (messages.new ≡ messages.old) }
+        ensures reserved { MAX_STORED ≤ vec_capacity messages.new }
     {
         a_performance_is_played();
         let releasing = self
@@ -235,6 +237,12 @@ impl Performance {
         ensures legal { Legal self.now.caps self.now.history }
     {
         self.server.callers()
+    }
+
+    pub(crate) fn due(&self) -> Option<u64>
+        ensures { IsLeastDue (state_of self.now).queue result }
+    {
+        self.server.due()
     }
 
     pub(crate) fn clock(&self) -> u64

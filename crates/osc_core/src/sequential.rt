@@ -1,34 +1,40 @@
 //! The server with its recording and its boxes, one event after another.
-ghost use Rattle.std.specs.Prelude.{◌≡◌, ◌≢◌, ◌<◌, ◌≤◌, ◌++◌, ◌∷◌, [], length, map, IsTrue, ℕ};
-ghost use Rattle.std.specs.Prelude.{List, Contains, vec_capacity, IfOk};
+ghost use Rattle.std.specs.Prelude.{◌≡◌, ◌≢◌, ◌+◌, ◌*◌, ◌<◌, ◌≤◌, ◌++◌, ◌∷◌, [], length, map};
+ghost use Rattle.std.specs.Prelude.{drop, IsTrue, ℕ};
+ghost use Rattle.std.specs.Prelude.{◌↔◌, List, Contains, vec_capacity, IfOk, IfSome, IsSome};
 ghost use Rattle.osc_model.specs.Events.{enrol, submit, add, remove, tick, release};
 ghost use Rattle.osc_model.specs.Recordings.{record_text};
 ghost use Rattle.osc_model.specs.Heard.{Told, reset, all_hear, without_id};
 ghost use Rattle.osc_model.specs.Refusals.{IsRefusal};
+ghost use Rattle.osc_model.specs.Releases.{IsLeastDue};
 ghost use Rattle.osc_model.specs.History.{IsLawful, Legal, state_of, stepped_in, onward};
 ghost use Rattle.osc_model.specs.History.{HaveHeard};
 ghost use Rattle.osc_record.specs.Shown.{event_of, answer_of};
 ghost use Rattle.osc_laws.specs.Laws.{KeepsTheLaws};
 ghost use Rattle.osc_core.specs.Answers.{enrolled_of, submitted_of, adding_of, removing_of};
 ghost use Rattle.osc_core.specs.Answers.{ticking_of, TellsRelease, OnAdded, OnRefused, OnRemoved};
-ghost use Rattle.osc_core.specs.Answers.{OnKept, OnReleased};
-ghost use Rattle.osc_core.specs.Frames.{messages_in, AreFramed};
+ghost use Rattle.osc_core.specs.Answers.{OnKept};
+ghost use Rattle.osc_core.specs.Invoked.{last_calls, calls_left, calls_in, calls_set};
 ghost use Rattle.osc_packet.specs.declared.limits.TheConstants.{MAX_STORED};
-ghost use Rattle.osc_model.specs.Step.{calls_from, invocations_of};
 ghost use Rattle.osc_core.specs.Ids.{is_ascending};
 ghost use Rattle.osc_core.specs.Telling.{told};
 ghost use Rattle.osc_core.specs.Standing.{StandsFor, GoesOn};
 ghost use Rattle.osc_core.specs.Hearing.{HaveHeard-prop};
 
 use crate::answers::{Adding, Closed, Enrolled, Releasing, Removing, Submitted, Ticking};
-use crate::boxes::{hand_out, keep_box};
+use crate::boxes::{box_of, hand_out, keep_box};
+use crate::called::Calls;
 use crate::performance::Performance;
 use crate::playing::boxes_stay;
+use crate::release::LastRelease;
 use crate::standing::a_server_stands_for_more;
 use osc_laws::laws::every_history_keeps_the_laws;
 use osc_method::Method;
-use osc_model::laws::{a_performance_goes_on, a_server_stays_sound, boxes_hear_the_history};
-use osc_packet::{MAX_STORED, Packet};
+use osc_model::laws::{
+    a_legal_history_is_recordable, a_performance_goes_on, a_server_stays_sound,
+    boxes_hear_the_history,
+};
+use osc_packet::Packet;
 use osc_pattern::Address;
 use osc_record::{Answer, Caps, Event};
 use std::alloc::{AllocError, Global};
@@ -43,9 +49,13 @@ use std::alloc::{AllocError, Global};
 pub struct Core<M: Method> {
     performance: Performance,
     boxes: Vec<(u32, M)>,
-    /// The messages of the unit that was released last.
-    unit: Vec<u8>,
-    ghost room: { MAX_STORED ≤ vec_capacity unit },
+    last: LastRelease,
+    ghost room: { MAX_STORED ≤ vec_capacity last.bytes },
+    ghost places: { MAX_STORED ≤ 4 * vec_capacity last.starts },
+    ghost within: { last.place + 8 * last.calls
+        ≤ length (record_text performance.caps performance.history) },
+    ghost calls: { calls_in last (record_text performance.caps performance.history)
+        ≡ last_calls performance } by { calls_set _ _ },
     ghost alike: { map (λ one. one.0) boxes.items
         ≡ map (λ method. method.id) (state_of performance).methods },
     ghost ascending: { IsTrue (is_ascending (map (λ one. one.0) boxes.items)) },
@@ -69,7 +79,7 @@ impl<M: Method> Core<M> {
         Ok(Core {
             performance: Performance::open(alloc, caps)?,
             boxes: Vec::with_capacity(alloc, caps.methods() as usize)?,
-            unit: Vec::with_capacity(alloc, MAX_STORED as usize)?,
+            last: LastRelease::open(alloc)?,
         })
     }
 
@@ -80,7 +90,6 @@ impl<M: Method> Core<M> {
         ensures performance { self.new.performance ≡ onward self.old.performance caller enrol }
         ensures boxes { told M.keep M.heard self.new.boxes.items
             ≡ told M.keep M.heard self.old.boxes.items }
-        ensures unit { self.new.unit ≡ self.old.unit }
         ensures stands { GoesOn enrol self.old.performance
             (told M.keep M.heard self.old.boxes.items)
             self.new.performance (told M.keep M.heard self.new.boxes.items) }
@@ -99,7 +108,6 @@ impl<M: Method> Core<M> {
             ≡ onward self.old.performance caller (submit packet.now) }
         ensures boxes { told M.keep M.heard self.new.boxes.items
             ≡ told M.keep M.heard self.old.boxes.items }
-        ensures unit { self.new.unit ≡ self.old.unit }
         ensures stands { GoesOn (submit packet.now) self.old.performance
             (told M.keep M.heard self.old.boxes.items)
             self.new.performance (told M.keep M.heard self.new.boxes.items) }
@@ -126,7 +134,6 @@ impl<M: Method> Core<M> {
             ≡ told M.keep M.heard self.old.boxes.items) }
         ensures handed_back { OnRefused result
             (λ back untouched. (back ≡ address) × (untouched ≡ method)) }
-        ensures unit { self.new.unit ≡ self.old.unit }
         ensures stands { GoesOn (add address) self.old.performance
             (told M.keep M.heard self.old.boxes.items)
             self.new.performance (told M.keep M.heard self.new.boxes.items) }
@@ -164,7 +171,6 @@ impl<M: Method> Core<M> {
             ≡ without_id id (told M.keep M.heard self.old.boxes.items)) }
         ensures boxes { OnKept result
             (told M.keep M.heard self.new.boxes.items ≡ told M.keep M.heard self.old.boxes.items) }
-        ensures unit { self.new.unit ≡ self.old.unit }
         ensures stands { GoesOn (remove address.now) self.old.performance
             (told M.keep M.heard self.old.boxes.items)
             self.new.performance (told M.keep M.heard self.new.boxes.items) }
@@ -191,7 +197,6 @@ impl<M: Method> Core<M> {
         ensures performance { self.new.performance ≡ onward self.old.performance caller (tick now) }
         ensures boxes { told M.keep M.heard self.new.boxes.items
             ≡ told M.keep M.heard self.old.boxes.items }
-        ensures unit { self.new.unit ≡ self.old.unit }
         ensures stands { GoesOn (tick now) self.old.performance
             (told M.keep M.heard self.old.boxes.items)
             self.new.performance (told M.keep M.heard self.new.boxes.items) }
@@ -211,12 +216,6 @@ impl<M: Method> Core<M> {
         ensures boxes { told M.keep M.heard self.new.boxes.items
             ≡ all_hear (stepped_in self.old.performance release).invocations
             (told M.keep M.heard self.old.boxes.items) }
-        ensures unit { OnReleased result (λ unit.
-            (stepped_in self.old.performance release).invocations
-            ≡ invocations_of unit
-            (calls_from (state_of self.old.performance).methods 0
-            (messages_in self.new.unit.items))) }
-        ensures framed { OnReleased result (λ unit. AreFramed self.new.unit.items) }
         ensures stands { GoesOn release self.old.performance
             (told M.keep M.heard self.old.boxes.items)
             self.new.performance (told M.keep M.heard self.new.boxes.items) }
@@ -224,8 +223,17 @@ impl<M: Method> Core<M> {
         boxes_stay();
         a_server_stands_for_more();
         boxes_hear_the_history();
-        self.performance
-            .release(caller, &mut self.boxes, &mut self.unit)
+        a_legal_history_is_recordable();
+        // The history is legal, as the recording tells.
+        let _ = self.performance.bytes();
+        let releasing = self
+            .performance
+            .release(caller, &mut self.boxes, &mut self.last.bytes);
+        let Releasing::Released { unit, calls } = releasing else {
+            return releasing;
+        };
+        self.last.note(unit, calls, self.performance.bytes().len());
+        releasing
     }
 
     /// Records the entry of an event that was refused, as the history has it.
@@ -261,6 +269,25 @@ impl<M: Method> Core<M> {
         self.performance.clock()
     }
 
+    /// The moment of the unit that a release takes next, once the clock stands there: the least of those that wait, or
+    /// `None` where none waits.
+    pub fn due(&self) -> Option<u64>
+        ensures { IsLeastDue (state_of self.now.performance).queue result }
+    {
+        self.performance.due()
+    }
+
+    /// The box of the method with this id, where there is one.
+    pub fn method(&self, id: u32) -> Option<&M>
+        ensures there { IsSome result
+            ↔ Contains (map (λ method. method.id) (state_of self.now.performance).methods) id }
+        ensures told { IfSome result (λ method. Contains {X = Told}
+            (told M.keep M.heard self.now.boxes.items)
+            (record { id = id; keep = M.keep method.now; heard = M.heard method.now })) }
+    {
+        box_of(&self.boxes, id)
+    }
+
     /// How many entries the history has.
     pub fn entries(&self) -> u64
         ensures { result ≡ length self.now.performance.history }
@@ -268,11 +295,18 @@ impl<M: Method> Core<M> {
         self.performance.entries()
     }
 
-    /// The messages of the unit that was released last, each after its size in 4 bytes.
-    pub fn unit(&self) -> &[u8]
-        ensures { result.now ≡ self.now.unit.items }
+    /// The calls that the last release of a unit made, in order.
+    pub fn calls(&self) -> Calls<'_>
+        ensures { calls_left result ≡ last_calls self.now.performance }
     {
-        self.unit.as_slice()
+        self.calls_from(0)
+    }
+
+    /// Those of them from this one on, counted from 0. So a host that keeps no `Calls` reads them one by one.
+    pub fn calls_from(&self, first: u32) -> Calls<'_>
+        ensures { calls_left result ≡ drop first (last_calls self.now.performance) }
+    {
+        self.last.calls_from(first, self.performance.bytes())
     }
 
     /// The recording so far (docs/FORMATS.md, "The recording").

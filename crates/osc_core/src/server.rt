@@ -10,6 +10,7 @@ ghost use Rattle.osc_model.specs.State.{opening};
 ghost use Rattle.osc_model.specs.Events.{enrol, submit, add, remove, tick, release, added, refused};
 ghost use Rattle.osc_model.specs.Events.{adds_entry};
 ghost use Rattle.osc_model.specs.Heard.{all_hear};
+ghost use Rattle.osc_model.specs.Releases.{IsLeastDue};
 ghost use Rattle.osc_model.specs.Step.{decided, calls_from, invocations_of};
 ghost use Rattle.osc_packet.specs.declared.limits.TheConstants.{MAX_STORED};
 ghost use Rattle.osc_core.specs.Answers.{enrolled_of, submitted_of, removing_of, ticking_of};
@@ -17,7 +18,7 @@ ghost use Rattle.osc_core.specs.Answers.{OnRemoved};
 ghost use Rattle.osc_core.specs.Ids.{is_ascending, without};
 ghost use Rattle.osc_core.specs.Telling.{told};
 ghost use Rattle.osc_core.specs.Due.{Releases, made_by};
-ghost use Rattle.osc_core.specs.Answers.{OnReleased};
+ghost use Rattle.osc_core.specs.Answers.{OnReleased, OnWaiting};
 ghost use Rattle.osc_core.specs.Frames.{messages_in, AreFramed};
 ghost use Rattle.osc_core.specs.Playing.{tables};
 
@@ -36,6 +37,7 @@ use osc_record::{Caps, Recorder};
 use osc_tree::{Hits, Tree, TreeRefusal};
 use std::alloc::{AllocError, Global};
 use std::marker::Model;
+use std::mem::swap;
 
 /// The methods' addresses, the units with their messages, the clock and the numbers that are given next. A contract
 /// sees the server's state, in which nothing is recorded.
@@ -49,7 +51,7 @@ pub(crate) struct Server {
     queue: Queue<Stored>,
     /// Their messages.
     store: Store,
-    /// The messages of the unit that is released.
+    /// The messages of the unit that is to be released.
     bytes: Vec<u8>,
     clock: u64,
     next_id: u32,
@@ -255,7 +257,8 @@ impl Server {
             ≡ invocations_of unit
             (calls_from self.old.methods 0 (messages_in messages.new.items))) }
         ensures framed { OnReleased result (λ unit. AreFramed messages.new.items) }
-        ensures reserved { vec_capacity messages.old ≤ vec_capacity messages.new }
+        ensures kept { OnWaiting result (messages.new ≡ messages.old) }
+        ensures reserved { MAX_STORED ≤ vec_capacity messages.new }
     {
         let Some((due, unit, stored)) = self.queue.first() else {
             return Releasing::NothingDue { next: None };
@@ -263,8 +266,8 @@ impl Server {
         if due > self.clock {
             return Releasing::NothingDue { next: Some(due) };
         }
-        self.store.read(stored, messages);
-        let read = Messages::new(messages.as_slice());
+        self.store.read(stored, &mut self.bytes);
+        let read = Messages::new(self.bytes.as_slice());
         match release_unit(
             &self.tree,
             &mut self.hits,
@@ -276,11 +279,20 @@ impl Server {
             boxes,
         ) {
             Ok(calls) => {
+                swap(&mut self.bytes, messages);
                 take_first(&mut self.queue, &mut self.store, self.clock);
                 Releasing::Released { unit, calls }
             }
             Err(room) => Releasing::RecordFull(room),
         }
+    }
+
+    /// The moment of the first unit that waits.
+    pub(crate) fn due(&self) -> Option<u64>
+        ensures { IsLeastDue self.now.queue result }
+    {
+        let (due, _, _) = self.queue.first()?;
+        Some(due)
     }
 
     pub(crate) fn callers(&self) -> u32

@@ -6,6 +6,7 @@ use Rattle.osc_pattern.specs.Addresses.{is_address}
 use Rattle.osc_core.specs.Ids.{is_ascending}
 use Rattle.osc_core.proofs.Ascents.{ascending_pushed, ids_below}
 use Rattle.osc_core.proofs.Staying.{heard_on, heard_more, still_alike, still_reserved, refusals_refuse}
+use Rattle.osc_core.proofs.Telling.{kept_on}
 use Rattle.osc_core.proofs.Texts.{stood}
 use Rattle.osc_core.proofs.sequential.Core.add.Goals as goal
 
@@ -16,8 +17,13 @@ invariant_of-self g c =
     let methods = (state_of old.performance).methods in
     let ids = c.keep_box.ensures.ids ∙ ap (λ (l : List ℕ). l ++ id ∷ []) old.alike in
     let ascending = subst (λ (l : List ℕ). is_ascending l ≡ true) old.alike old.ascending in
+    let keeps = kept_on old.last old.performance c.add.new.self c.args.caller (add c.args.address) refl c.add.ensures.performance
+    (record { within = old.within; calls = old.calls }) in
     record {
-      room = c.args.self.now.room;
+      room = old.room;
+      places = old.places;
+      within = keeps.within;
+      calls = keeps.calls;
       alike = ids ∙ sym c.in-Ok.ensures.ids;
       ascending = subst (λ (l : List ℕ). is_ascending l ≡ true) (sym ids)
           (ascending_pushed (map (λ method. method.id) methods) id ascending (ids_below methods id c.in-Ok.ensures.new));
@@ -34,8 +40,13 @@ invariant_of-self-in-Err-1 g c =
     let old = c.args.self.now in
     let next = onward old.performance c.args.caller (add c.args.address) in
     let refused = subst IsRefusal (sym c.in-Err.ensures.refused) (refusals_refuse _) in
+    let keeps = kept_on old.last old.performance c.add.new.self c.args.caller (add c.args.address) refl c.add.ensures.performance
+    (record { within = old.within; calls = old.calls }) in
     record {
-      room = c.args.self.now.room;
+      room = old.room;
+      places = old.places;
+      within = keeps.within;
+      calls = keeps.calls;
       alike = still_alike old.performance c.add.new.self next _ c.add.ensures.performance
           (c.boxes_stay.ensures.refused_methods old.performance c.args.caller (add c.args.address) refused) old.alike;
       ascending = old.ascending;

@@ -6,6 +6,7 @@ use Rattle.osc_pattern.specs.Addresses.{is_address}
 use Rattle.osc_core.specs.Ids.{is_ascending, without}
 use Rattle.osc_core.proofs.Ascents.{ascending_without}
 use Rattle.osc_core.proofs.Staying.{heard_on, heard_more, still_alike, still_reserved}
+use Rattle.osc_core.proofs.Telling.{kept_on}
 use Rattle.osc_core.proofs.Texts.{stood}
 use Rattle.osc_core.proofs.sequential.Core.remove.Goals as goal
 
@@ -14,8 +15,13 @@ invariant_of-self g c =
     let old = c.args.self.now in
     let id = c.in-Removed.id in
     let event = remove c.args.address.now in
+    let keeps = kept_on old.last old.performance c.remove.new.self c.args.caller (remove c.args.address.now) refl c.remove.ensures.performance
+    (record { within = old.within; calls = old.calls }) in
     record {
-      room = c.args.self.now.room;
+      room = old.room;
+      places = old.places;
+      within = keeps.within;
+      calls = keeps.calls;
       alike = c.hand_out.ensures.ids ∙ ap (without id) old.alike ∙ sym c.in-Removed.ensures.others;
       ascending = subst (λ (l : List ℕ). is_ascending l ≡ true) (sym c.hand_out.ensures.ids)
           (ascending_without id (map (λ one. one.0) old.boxes.items) old.ascending);
@@ -32,8 +38,13 @@ invariant_of-self-in-NotThere g c =
     let event = remove c.args.address.now in
     let next = onward old.performance c.args.caller event in
     let refused = subst IsRefusal c.in-NotThere.ensures.answer tt in
+    let keeps = kept_on old.last old.performance c.remove.new.self c.args.caller (remove c.args.address.now) refl c.remove.ensures.performance
+    (record { within = old.within; calls = old.calls }) in
     record {
-      room = c.args.self.now.room;
+      room = old.room;
+      places = old.places;
+      within = keeps.within;
+      calls = keeps.calls;
       alike = still_alike old.performance c.remove.new.self next _ c.remove.ensures.performance
           (c.boxes_stay.ensures.refused_methods old.performance c.args.caller event refused) old.alike;
       ascending = old.ascending;

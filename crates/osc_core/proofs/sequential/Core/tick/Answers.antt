@@ -2,6 +2,7 @@ use Rattle.std.proofs.Common.{refl, arith}
 use Rattle.osc_model.specs.Events.{tick}
 use Rattle.osc_model.specs.History.{onward}
 use Rattle.osc_core.proofs.Staying.{heard_on, still_alike, still_reserved}
+use Rattle.osc_core.proofs.Telling.{kept_on}
 use Rattle.osc_core.proofs.Texts.{stood}
 use Rattle.osc_core.proofs.sequential.Core.tick.Goals as goal
 
@@ -9,8 +10,13 @@ pub invariant_of-self : goal.invariant_of-self
 invariant_of-self g c =
     let old = c.args.self.now in
     let next = onward old.performance c.args.caller (tick c.args.now) in
+    let keeps = kept_on old.last old.performance c.tick.new.self c.args.caller (tick c.args.now) refl c.tick.ensures.performance
+    (record { within = old.within; calls = old.calls }) in
     record {
-      room = c.args.self.now.room;
+      room = old.room;
+      places = old.places;
+      within = keeps.within;
+      calls = keeps.calls;
       alike = still_alike old.performance c.tick.new.self next _ c.tick.ensures.performance
           (c.boxes_stay.ensures.quiet_methods old.performance c.args.caller (tick c.args.now) tt) old.alike;
       ascending = old.ascending;

@@ -106,9 +106,12 @@ returns-in-Ok-clause-messages g c =
     let unit = c.in-Some.unit in
     let item = is_item (the_view s) s.store s.queue.items c.in-Some.due unit s.next_unit c.in-Some.stored.now refl c.self.invariant.units
     c.in-Some.ensures.head (omega (arith, c.if-due-self.false)) in
+    let read : (decided c.args.self.now release).invocations
+    ≡ invocations_of unit (calls_from c.args.self.now.methods 0 (messages_in c.read.new.bytes.items)) =
     ap (λ (state : State). (decided state release).invocations) (sym c.self.view_is) ∙ item.invocations_are
     ∙ ap (λ (l : List (List ℕ)). invocations_of unit (calls_from s.tree.methods 0 l)) (sym c.read.ensures.messages)
-    ∙ ap (λ (state : State). invocations_of unit (calls_from state.methods 0 (messages_in c.read.new.bytes.items))) c.self.view_is
+    ∙ ap (λ (state : State). invocations_of unit (calls_from state.methods 0 (messages_in c.read.new.bytes.items))) c.self.view_is in
+    rw c.swap.ensures.y_after read
 
 pub returns-in-Ok-clause-framed : goal.returns-in-Ok-clause-framed
-returns-in-Ok-clause-framed g c = c.read.ensures.framed
+returns-in-Ok-clause-framed g c = rw c.swap.ensures.y_after c.read.ensures.framed
