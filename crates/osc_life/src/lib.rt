@@ -16,6 +16,7 @@ mod meanwhile;
 mod nobody;
 mod players;
 mod progress;
+mod progress_gate;
 mod worker;
 
 pub use aside::Aside;

@@ -1,8 +1,8 @@
 //! Workers that play at the same time, while something else goes on, and someone looks.
-ghost use Rattle.std.specs.Prelude.{All, IfOk, IsSomeAnd};
+ghost use Rattle.std.specs.Prelude.{IfOk};
 ghost use Rattle.osc_live.specs.Tokens.{IsOurs};
-ghost use Rattle.osc_life.specs.Looking.{IsBack};
-ghost use Rattle.osc_life.specs.Works.{CanBegin, CanPlay, CanGoOn, ArePlayed};
+ghost use Rattle.osc_life.specs.Looking.{IsBack, CanLook, CanStart, HasComeBack, HavePlayed};
+ghost use Rattle.osc_life.specs.Works.{CanBegin, ArePlayed};
 
 use crate::aside::Aside;
 use crate::beside::{Beside, play_beside};
@@ -11,6 +11,7 @@ use crate::gate::{Gate, OpenGate};
 use crate::meanwhile::Meanwhile;
 use crate::players::Players;
 use crate::progress::Progress;
+use crate::progress_gate::ProgressGate;
 use crate::worker::Worker;
 use osc_live::{Caller, Live};
 use osc_method::Method;
@@ -54,33 +55,24 @@ pub(crate) fn play_seen<
     let rt = desk.rt;
     let alloc = desk.alloc;
     let live = desk.live;
-    let gate = desk.gate;
     let progress = Progress::new();
-    let Players {
-        jobs,
-        caller,
-        meanwhile,
-    } = players;
-    let mut given = Some(jobs);
-    let mut token = Some(caller);
-    let mut state = Some(meanwhile);
+    let gate = ProgressGate::new(desk.gate, &progress);
+    let mut given = Some(players.jobs);
+    let mut token = Some(players.caller);
+    let mut state = Some(players.meanwhile);
     let mut who = Some(looker);
     let (both, (first, looked)) = join_mut(
         rt,
         &mut || -> Result<Beside<P::End, T::End>, AllocError>
-            requires { IsSomeAnd given (λ jobs. All (CanPlay live.now P.ready) jobs.items)
-                × IsSomeAnd token (λ c. IsSomeAnd state
-                (λ s. CanGoOn live.now T.rounds on.now s c)) }
-            ensures { IfOk result (λ both. IsSomeAnd given.entry (λ jobs.
-                IsSomeAnd token.entry (λ c. IsSomeAnd state.entry (λ s.
-                ArePlayed live.entry.now P.plays T.rounds T.ends jobs.items on.entry.now
-                on.exit.now s c both)))) }
+            requires { CanStart live.now T.rounds P.ready on.now given token state }
+            ensures { IfOk result (HavePlayed live.entry.now P.plays T.rounds T.ends on.entry.now
+                on.exit.now given.entry token.entry state.entry) }
         {
             let desk = Desk {
                 rt,
                 alloc,
                 live,
-                gate,
+                gate: &gate,
             };
             let jobs = given.take().unwrap();
             let caller = token.take().unwrap();
@@ -91,16 +83,12 @@ pub(crate) fn play_seen<
             both
         },
         &mut || -> (Caller, A::End)
-            requires { IsSomeAnd who (λ one. IsOurs live.now one.first) }
-            ensures { IsSomeAnd who.entry (λ one. IsBack A.looks live.entry.now lent.entry.now
-                lent.exit.now one.first result) }
-        {
-            let looker = who.take().unwrap();
-            look_on(looker, lent, rt, alloc, live, &progress)
-        },
+            requires { CanLook live.now who }
+            ensures { HasComeBack live.entry.now A.looks lent.entry.now lent.exit.now who.entry
+                result }
+        { look_on(who.take().unwrap(), lent, rt, alloc, live, &progress) },
     );
-    let both = both?;
-    Ok((both, first, looked))
+    Ok((both?, first, looked))
 }
 
 /// Looks under caller 0's token, with what is lent for it. No gate is called.

@@ -2,16 +2,21 @@
 
 use std::sync::Wait;
 use std::sync::atomic::{AtomicU64, Ordering};
+use std::thread::Parker;
 use std::time::Duration;
 
-/// How many milliseconds a pause has at most.
-const PAUSE: u64 = 50;
+/// How many milliseconds a pause has at least.
+const LEAST: u64 = 50;
 
-/// What tells whoever looks how far the work is that it looks at.
+/// How many milliseconds it has at most.
+const MOST: u64 = 1_000;
+
+/// What tells whoever looks how far the work is that it looks at. One thread looks.
 #[derive(Drop)]
 pub struct Progress {
     begun: AtomicU64,
     over: AtomicU64,
+    looker: Parker,
 }
 
 impl Progress {
@@ -20,6 +25,7 @@ impl Progress {
         Progress {
             begun: AtomicU64::new(0),
             over: AtomicU64::new(0),
+            looker: Parker::new(),
         }
     }
 
@@ -28,10 +34,18 @@ impl Progress {
         self.begun.store(1, Ordering::SeqCst);
     }
 
+    /// Reports that something was done, and ends a pause once that is long enough: the one that
+    /// there is, or else the next. It writes one word, and calls the system only where a pause
+    /// waits for it.
+    pub fn advance(&self) {
+        self.looker.unpark();
+    }
+
     /// Tells that the work is over, and ends a pause.
     pub fn end(&self) {
         self.over.store(1, Ordering::SeqCst);
         self.over.wake_all();
+        self.looker.unpark();
     }
 
     /// Whether the work has begun.
@@ -44,8 +58,12 @@ impl Progress {
         self.over.load(Ordering::SeqCst) != 0
     }
 
-    /// Waits until it is over, but no longer than a pause.
+    /// Waits for 50 milliseconds, and then until something was done since the last pause ended, but
+    /// no longer than a second in all; and no longer than the work. What was done before a pause
+    /// ended is there to be seen after it.
     pub fn pause<W: Wait>(&self, rt: &W) {
-        self.over.park_timeout(rt, 0, Duration::from_millis(PAUSE));
+        self.over.park_timeout(rt, 0, Duration::from_millis(LEAST));
+        self.looker
+            .park_timeout(rt, Duration::from_millis(MOST - LEAST));
     }
 }
