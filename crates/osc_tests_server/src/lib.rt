@@ -11,6 +11,8 @@ mod core_calls;
 #[cfg(test)]
 mod first_server;
 #[cfg(test)]
+mod host_round;
+#[cfg(test)]
 mod late;
 #[cfg(test)]
 mod live_calls;

@@ -1,7 +1,11 @@
+pub mod Alone
+pub mod Enrolling
 pub mod Enrolments
 pub mod FirstCaller
 pub mod Gathered
 pub mod LastBytes
+pub mod LastCalls
+pub mod Levels
 pub mod LiveCalls
 pub mod NotEarly
 pub mod Playing

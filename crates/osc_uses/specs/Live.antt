@@ -1,14 +1,16 @@
 -- What three callers of one server do, where `v` is what a caller's token knew before and `w` what
 -- it knows then.
-use Rattle.std.specs.Prelude.{◌≡◌, ℕ, List, [], ◌∷◌, ◌++◌, Some, Result, Ok, Err}
+use Rattle.std.specs.Prelude.{◌≡◌, ℕ, ◌+◌, ◌<◌, ◌≤◌, List, [], ◌∷◌, ◌++◌, Option, Some, None}
+use Rattle.std.specs.Prelude.{Result, Ok, Err}
 use Rattle.osc_atoms.specs.declared.fault.Fault.{Fault}
 use Rattle.osc_atoms.specs.declared.limits.TheConstants.{MAX_PACKET}
 use Rattle.osc_packet.specs.Wants.{FirstFault}
 use Rattle.osc_turn.specs.declared.view.Entry.{Entry as Seen}
 use Rattle.osc_turn.specs.declared.view.View.{View}
 use Rattle.osc_turn.specs.History.{own}
+use Rattle.osc_turn.specs.Passes.{view}
 use Rattle.osc_turn.specs.Rule.{number_of}
-use Rattle.osc_model.specs.Limits.{Limits}
+use Rattle.osc_model.specs.Limits.{Limits, header_size}
 use Rattle.osc_model.specs.Events.{Answer, add, enrol, number, remove, submit, tick}
 use Rattle.osc_model.specs.Heard.{Told}
 use Rattle.osc_record.specs.Reading.{entry_in}
@@ -18,6 +20,10 @@ use Rattle.osc_method.specs.declared.method.Method.{Ghosts}
 use Rattle.osc_live.specs.declared.pumped.Pumped.{Pumped}
 use Rattle.osc_live.specs.declared.close.LiveOut.{LiveOut}
 use Rattle.osc_live.specs.declared.close.LiveOut.TheVariants.{NoMemory, StillOut}
+use Rattle.osc_live.specs.declared.caller.Caller.{Caller}
+use Rattle.osc_live.specs.declared.refusal.EnrolRefusal.{EnrolRefusal}
+use Rattle.osc_live.specs.declared.refusal.EnrolRefusal.TheVariants as refusal
+use Rattle.osc_live.specs.Enrolments.{refusal_of}
 use Rattle.osc_live.specs.Tokens.{IsOurs}
 use Rattle.osc_live.specs.declared.live.Live.{Live}
 use Rattle.osc_live.specs.Calls.{Calls}
@@ -26,7 +32,7 @@ use Rattle.osc_live.specs.Closing.{Closes}
 use Rattle.osc_uses.specs.declared.live_server.Callers.{Callers}
 use Rattle.osc_uses.specs.declared.live_server.LiveRun.{LiveRun}
 use Rattle.osc_uses.specs.declared.live_server.Unfinished.{Unfinished}
-use Rattle.osc_uses.specs.declared.live_server.Unfinished.TheVariants.{Open}
+use Rattle.osc_uses.specs.declared.live_server.Unfinished.TheVariants.{NotEnrolled, Open}
 
 -- the tokens of three callers are those of this server
 abbrev pub AllAreOurs : {M : Type 0} {G : Ghosts M} → Live M G → Callers → Type 0
@@ -51,6 +57,29 @@ Enrols caller v w =
 abbrev pub HasEnrolled : ℕ → ℕ → View → Type 0
 HasEnrolled second third v = (one two : Seen) × IsEnrolment second one × IsEnrolment third two
     × (own_entries v ≡ one ∷ two ∷ [])
+
+-- caller 0's token has made no entry; or one, by which it enrolled a second caller, whose token has
+-- made none
+abbrev pub HasEnrolledOne : Option Caller → View → Type 0
+HasEnrolledOne None v = own_entries v ≡ []
+HasEnrolledOne (Some second) v = (one : Seen) × IsEnrolment second.number one
+    × (own_entries v ≡ one ∷ []) × (own_entries (view second.pass) ≡ [])
+
+-- a guest that has made no entry was refused, where caller 0's token had made one at most
+pub record IsRefused (caps : Limits) (second : Option Caller) (why : EnrolRefusal)
+    (guest w : View) : Type 0 where
+  pub before : View
+  pub enrolled : HasEnrolledOne second before
+  pub call : Calls caps 0 enrol (refusal_of why) before w
+  pub no_entries : own_entries guest ≡ []
+
+-- Why one of two guests is refused: the limits admit fewer than three callers; or the entry of an
+-- enrolment, which has 28 bytes, is more than the recording has left after its header and at most
+-- one such entry.
+abbrev pub HasEnrolCause : Limits → EnrolRefusal → Type 0
+HasEnrolCause caps refusal.CallersFull = caps.callers < 3
+HasEnrolCause caps (refusal.RecordFull room) = (room.need ≡ 28) × (room.free < 28)
+    × (caps.recording ≤ header_size + 28 + room.free)
 
 -- a caller adds a method at the address, and then removes the one there
 pub record ComesAndGoes (caps : Limits) (caller : ℕ) (address : List ℕ) (added removed : Answer)
@@ -97,7 +126,12 @@ module _ {M : Type 0} {G : Ghosts M} where
   OnOpen (Open out) holds = holds out
   OnOpen _ holds = Unit {0}
 
-  -- it wasn't closed for out of memory, and not for a token that was missing
+  -- where a guest was refused, this holds of the refusal
+  abbrev pub OnNotEnrolled : Unfinished M G → (EnrolRefusal → Type 0) → Type 0
+  OnNotEnrolled (NotEnrolled why) holds = holds why
+  OnNotEnrolled _ holds = Unit {0}
+
+  -- it wasn't closed as there was no memory, and not for a missing token
   abbrev pub IsShort : LiveOut M G → Type 0
   IsShort (NoMemory live callers guests) = Unit {0}
   IsShort (StillOut made handed live callers guests) = ⊥

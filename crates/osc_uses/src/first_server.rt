@@ -1,7 +1,7 @@
 //! A method of one's own, and a server that calls it.
 ghost use Rattle.osc_atoms.specs.declared.limits.TheConstants.{MAX_PACKET};
 ghost use Rattle.std.specs.Prelude.{◌≡◌, false, if◌then◌else◌, [], ◌∷◌, IfOk, OnOk, OnErr, Some};
-ghost use Rattle.std.specs.Prelude.{None};
+ghost use Rattle.std.specs.Prelude.{None, IfSome, length};
 ghost use Rattle.std.specs.Int.{w32, from_be_bytes};
 ghost use Rattle.std.specs.Result.{result_err};
 ghost use Rattle.osc_packet.specs.Reading.{packet_fault};
@@ -42,8 +42,9 @@ impl Fader {
 
     /// The number that it was sent last, as a word: 0x43dc0000 is the float 440.0.
     pub fn level(&self) -> Option<u32>
-        ensures { result
+        ensures value { result
             ≡ (if self.now.sent then Some (from_be_bytes w32 self.now.last) else None) }
+        ensures four { IfSome result (λ _. length self.now.last ≡ 4) }
     {
         if self.sent {
             Some(u32::from_be_bytes(self.last))

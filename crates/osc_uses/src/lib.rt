@@ -1,11 +1,12 @@
 //! Small callers of the server, each a page that can be copied into a program of one's own: a server with a method of
 //! one's own, a bundle that waits for its moment, bytes that are no packet, a recording that is printed, addresses that
-//! a pattern matches, a server that three threads call, and each way of calling it.
+//! a pattern matches, a host on one thread, a server that three threads call, and each way of calling it.
 #![tactic(auto, using(crate::proofs::FirstCaller::caller_0))]
 
 mod busy_turn;
 mod display;
 mod first_server;
+mod host_round;
 mod live_server;
 mod matched_addresses;
 mod met_callers;
@@ -18,6 +19,7 @@ mod timed_bundle;
 pub use busy_turn::{Soon, entries_since, submit_soon};
 pub use display::refresh_display;
 pub use first_server::{Fader, first_run, one_packet};
+pub use host_round::{HostRound, call_at, fader_level, last_message, play_round};
 pub use live_server::{LiveRun, Unfinished, live_run};
 pub use matched_addresses::count_matching;
 pub use met_callers::pump_behind;

@@ -1,25 +1,30 @@
 //! A server that three threads call at once: one adds a method and removes it, one sends a packet, and one moves the
 //! clock and releases.
-ghost use Rattle.std.specs.Prelude.{◌≡◌, ◌<◌, ◌+◌, [], ◌∷◌, IfOk, IfErr};
+ghost use Rattle.std.specs.Prelude.{◌≡◌, ◌<◌, ◌+◌, [], ◌∷◌, length, IfOk, IfErr, IfSome};
+ghost use Rattle.std.specs.Option.{option_to_list};
 ghost use Rattle.osc_turn.specs.declared.limits.TheConstants.{MAX_PASSES};
-ghost use Rattle.osc_turn.specs.Passes.{view};
+ghost use Rattle.osc_turn.specs.Passes.{view, one_more};
+ghost use Rattle.osc_model.specs.Events.{enrol};
 ghost use Rattle.osc_core.specs.Answers.{adding_of, removing_of, ticking_of};
 ghost use Rattle.osc_core.specs.Telling.{told};
 ghost use Rattle.osc_live.specs.Seen.{past_of};
-ghost use Rattle.osc_live.specs.Tokens.{IsOurs};
+ghost use Rattle.osc_live.specs.Tokens.{IsOurs, IsOurGuest};
+ghost use Rattle.osc_live.specs.Calls.{Calls};
+ghost use Rattle.osc_live.specs.Enrolments.{refusal_of};
 ghost use Rattle.osc_live.specs.Outs.{AreOurs, live_back};
 ghost use Rattle.osc_live.specs.Closing.{Closes};
 ghost use Rattle.osc_uses.specs.Live.{ComesAndGoes, Sends, Ticks, AreOneHistory, AllAreOurs};
 ghost use Rattle.osc_uses.specs.Live.{Enrols, HasEnrolled, own_entries, OnOpen, IsShort};
+ghost use Rattle.osc_uses.specs.Live.{HasEnrolCause, IsRefused, OnNotEnrolled};
 
 use osc_atoms::Fault;
 use osc_core::{Adding, Closed, Removing, Submitted, Ticking};
-use osc_live::{Caller, EnrolRefusal, Live, LiveOut, Pumped};
+use osc_live::{Caller, EnrolRefusal, Guest, Live, LiveOut, Pumped};
 use osc_method::Method;
 use osc_packet::{MAX_PACKET, Packet};
 use osc_pattern::Address;
 use osc_record::Caps;
-use std::alloc::Global;
+use std::alloc::{AllocError, Global};
 use std::sync::Wait;
 use std::thread::{Threads, join};
 
@@ -45,7 +50,7 @@ pub struct LiveRun<M> {
 pub enum Unfinished<M: Method> {
     /// There is no memory for the server, or for a list of its callers.
     NoMemory,
-    /// The limits admit fewer than three callers, or the recording has no room for them.
+    /// The limits admit fewer than three callers, or the recording has no room for them. The server was closed.
     NotEnrolled(EnrolRefusal),
     /// The server isn't closed: it comes back with the tokens of its callers.
     Open(LiveOut<M>),
@@ -59,13 +64,21 @@ struct Callers {
     third: Caller,
 }
 
+/// A guest that wasn't enrolled, and caller 0.
+#[derive(Drop)]
+struct Refused {
+    first: Caller,
+    guest: Guest,
+    refusal: EnrolRefusal,
+}
+
 /// Enrols a guest.
 #[tactic(auto, using(crate::proofs::Enrolments::enrolments))]
 fn enrolled<M: Method, W: Wait>(
     rt: &W,
     live: &Live<M>,
     first: Caller,
-) -> Result<(Caller, Caller), EnrolRefusal>
+) -> Result<(Caller, Caller), Refused>
     requires ours { IsOurs live.now first }
     requires first { first.number ≡ 0 }
     requires room { (view first.pass).made < MAX_PASSES }
@@ -76,13 +89,74 @@ fn enrolled<M: Method, W: Wait>(
         (λ both. Enrols both.1.number (view first.pass) (view both.0.pass)) }
     ensures no_entries { IfOk result (λ both. own_entries (view both.1.pass) ≡ []) }
     ensures made { IfOk result (λ both. (view both.0.pass).made ≡ (view first.pass).made + 1) }
+    ensures back_ours { IfErr result
+        (λ back. IsOurs live.now back.first × IsOurGuest live.now back.guest) }
+    ensures back_first { IfErr result (λ back. back.first.number ≡ 0) }
+    ensures back_made { IfErr result
+        (λ back. (view back.first.pass).made ≡ (view first.pass).made + 1) }
+    ensures back_none { IfErr result (λ back. own_entries (view back.guest.pass) ≡ []) }
+    ensures refused { IfErr result (λ back. Calls live.now.caps 0 enrol (refusal_of back.refusal)
+        (one_more (view first.pass)) (view back.first.pass)) }
 {
     let (first, guest) = live.guest(first);
     let Ok(guest) = guest else { unreachable!() };
     let (first, new) = live.enrol(rt, first, guest);
     match new {
         Ok(new) => Ok((first, new)),
-        Err((refusal, _)) => Err(refusal),
+        Err((refusal, guest)) => Err(Refused {
+            first,
+            guest,
+            refusal,
+        }),
+    }
+}
+
+/// Caller 0, and the second one, if there is one.
+fn both_of(alloc: Global, first: Caller, second: Option<Caller>) -> Result<Vec<Caller>, AllocError>
+    ensures { IfOk result (λ callers. callers.items ≡ first ∷ option_to_list second) }
+{
+    let mut callers = Vec::with_capacity(alloc, 2)?;
+    callers.push_reserved(first);
+    if let Some(second) = second {
+        callers.push_reserved(second);
+    }
+    Ok(callers)
+}
+
+/// Closes a server by which a guest wasn't enrolled. No thread has called it, so its history has the enrolment of the
+/// second caller alone, if there is one.
+fn close_refused<M: Method>(
+    alloc: Global,
+    live: Live<M>,
+    back: Refused,
+    second: Option<Caller>,
+) -> Unfinished<M>
+    requires empty { past_of live.turn ≡ [] }
+    requires ours { IsOurs live back.first × IsOurGuest live back.guest }
+    requires second_ours { IfSome second (IsOurs live) }
+    requires first { back.first.number ≡ 0 }
+    requires made { (view back.first.pass).made ≡ length (option_to_list second) + 2 }
+    requires refused { IsRefused live.caps second back.refusal (view back.guest.pass)
+        (view back.first.pass) }
+    ensures cause { OnNotEnrolled result (HasEnrolCause live.caps) }
+    ensures back_ours { OnOpen result (λ out. AreOurs out live.caps) }
+    ensures short { OnOpen result IsShort }
+{
+    let Refused {
+        first,
+        guest,
+        refusal,
+    } = back;
+    let Ok(callers) = both_of(alloc, first, second) else {
+        return Unfinished::NoMemory;
+    };
+    let Ok(mut guests) = Vec::with_capacity(alloc, 1) else {
+        return Unfinished::NoMemory;
+    };
+    guests.push_reserved(guest);
+    match live.close(alloc, callers, guests) {
+        Ok(_) => Unfinished::NotEnrolled(refusal),
+        Err(out) => Unfinished::Open(out),
     }
 }
 
@@ -102,18 +176,20 @@ fn open_three<M: Method, W: Wait>(
     ensures second_new { IfOk result (λ opened. own_entries (view opened.1.second.pass) ≡ []) }
     ensures third_new { IfOk result (λ opened. own_entries (view opened.1.third.pass) ≡ []) }
     ensures made { IfOk result (λ opened. (view opened.1.first.pass).made ≡ 3) }
-    ensures open { IfErr result (λ unfinished. OnOpen unfinished (λ _. ⊥)) }
+    ensures cause { IfErr result (λ unfinished. OnNotEnrolled unfinished (HasEnrolCause caps)) }
+    ensures back_ours { IfErr result (λ unfinished. OnOpen unfinished (λ out. AreOurs out caps)) }
+    ensures short { IfErr result (λ unfinished. OnOpen unfinished IsShort) }
 {
     let Ok((live, first)) = Live::open(alloc, caps) else {
         return Err(Unfinished::NoMemory);
     };
     let (first, second) = match enrolled(rt, &live, first) {
         Ok(both) => both,
-        Err(refusal) => return Err(Unfinished::NotEnrolled(refusal)),
+        Err(back) => return Err(close_refused(alloc, live, back, None)),
     };
     let (first, third) = match enrolled(rt, &live, first) {
         Ok(both) => both,
-        Err(refusal) => return Err(Unfinished::NotEnrolled(refusal)),
+        Err(back) => return Err(close_refused(alloc, live, back, Some(second))),
     };
     let callers = Callers {
         first,
@@ -313,6 +389,7 @@ fn close_three<M: Method>(
     ensures back_ours { IfErr result (λ unfinished.
         OnOpen unfinished (λ out. AreOurs out live.caps)) }
     ensures short { IfErr result (λ unfinished. OnOpen unfinished IsShort) }
+    ensures enrolled { IfErr result (λ unfinished. OnNotEnrolled unfinished (λ _. ⊥)) }
 {
     let Callers {
         first,
@@ -348,6 +425,8 @@ pub fn live_run<M: Method + Send, R: Threads + Wait + Sync>(
         (told M.keep M.heard run.closed.kept.items)) }
     ensures back_ours { IfErr result (λ unfinished. OnOpen unfinished (λ out. AreOurs out caps)) }
     ensures short { IfErr result (λ unfinished. OnOpen unfinished IsShort) }
+    ensures not_enrolled { IfErr result
+        (λ unfinished. OnNotEnrolled unfinished (HasEnrolCause caps)) }
 {
     let Ok(again) = address.copied(alloc) else {
         return Err(Unfinished::NoMemory);
