@@ -24,8 +24,9 @@ use std::sync::Wait;
 /// How many bytes of the recording are written at once.
 const PIECE: usize = 65_536;
 
-/// How many times it is looked at most before the work begins: for ten seconds.
-const LOOKS: u32 = 200;
+/// How many times it is looked at most before the work begins: for ten seconds, as nothing is done
+/// then that ends a pause.
+const LOOKS: u32 = 10;
 
 /// Bytes of the recording, by the place of the first and that after the last.
 #[derive(Clone, Copy)]
