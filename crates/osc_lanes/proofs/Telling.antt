@@ -92,18 +92,18 @@ module _ {M : Type 0} where
       told_is = λ i. told (sym (append-nil fs) i) (kept i) (sym (append-nil bs) i) (stops i);
     }
 
-    pub played_send : (bytes shown packet : List ℕ) (answer : Answer) (stop : Option CodeRoom) → shown ≡ bytes → None ≡ packet_fault MAX_PACKET shown
+    pub played_send : (bytes shown packet : List ℕ) (answer : Answer) → shown ≡ bytes → None ≡ packet_fault MAX_PACKET shown
         → packet ≡ shown
-        → Answered holder (submit packet) answer here there → option_map room_of stop ≡ room_in answer
-        → TellsAct keep heard holder number (Send bytes) boxes boxes (told fs rs bs was) (told fs rs bs (option_map room_of stop)) here there
-    played_send bytes shown packet answer stop is valid same answered stops = record {
+        → Answered holder (submit packet) answer here there
+        → TellsAct keep heard holder number (Send bytes) boxes boxes (told fs rs bs was) (told fs rs bs (room_in answer)) here there
+    played_send bytes shown packet answer is valid same answered = record {
       first = ended [] (room_in answer);
       plays = (
         refl,
         rw (ap (packet_fault MAX_PACKET) (sym is) ∙ sym valid)
             (answer, subst (λ (l : List ℕ). Answered holder (submit l) answer here there) (same ∙ is) answered, refl),
       );
-      told_is = λ i. told (sym (append-nil fs) i) (sym (append-nil rs) i) (sym (append-nil bs) i) (stops i);
+      told_is = λ i. told (sym (append-nil fs) i) (sym (append-nil rs) i) (sym (append-nil bs) i) (room_in answer);
     }
 
     pub played_fault : (bytes shown : List ℕ) (fault : Fault) (fs' : List (ℕ × Fault)) → shown ≡ bytes → Some fault ≡ packet_fault MAX_PACKET shown
@@ -115,13 +115,13 @@ module _ {M : Type 0} where
       told_is = λ i. told (kept i) (sym (append-nil rs) i) (sym (append-nil bs) i) None;
     }
 
-    -- bytes that were sent, told after what stopped otherwise
-    pub played_bytes : (bytes shown : List ℕ) (now : Account M) → shown ≡ bytes
-        → TellsAct keep heard holder number (Send shown) boxes boxes (told fs rs bs None) now here there
-        → TellsAct keep heard holder number (Send bytes) boxes boxes (told fs rs bs was) now here there
-    played_bytes bytes shown now is p = subst
-        (λ (l : List ℕ). TellsAct keep heard holder number (Send l) boxes boxes (told fs rs bs was) now here there) is
-        (record { first = p.first; plays = p.plays; told_is = p.told_is })
+    -- bytes that were sent, told after what stopped otherwise, with this stop
+    pub played_bytes : (bytes shown : List ℕ) (fs' : List (ℕ × Fault)) (stop other : Option Room) → shown ≡ bytes → other ≡ stop
+        → TellsAct keep heard holder number (Send shown) boxes boxes (told fs rs bs None) (told fs' rs bs stop) here there
+        → TellsAct keep heard holder number (Send bytes) boxes boxes (told fs rs bs was) (told fs' rs bs other) here there
+    played_bytes bytes shown fs' stop other is stops p = subst
+        (λ (l : List ℕ). TellsAct keep heard holder number (Send l) boxes boxes (told fs rs bs was) (told fs' rs bs other) here there) is
+        (record { first = p.first; plays = p.plays; told_is = ap (told fs' rs bs) stops ∙ p.told_is })
 
     pub played_tick : (moment : ℕ) (answer : Answer) (stop : Option CodeRoom) → Answered holder (tick moment) answer here there
         → option_map room_of stop ≡ room_in answer

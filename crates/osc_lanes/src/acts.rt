@@ -10,8 +10,9 @@ ghost use Rattle.osc_lanes.specs.Performs.{told_of};
 ghost use Rattle.osc_lanes.specs.Tells.{TellsAct};
 
 use crate::lane::Lane;
-use crate::packet::send;
+use crate::packet::{report_answer, send};
 use osc_core::{Adding, Removing};
+use osc_life::Gate;
 use osc_live::{Caller, Live};
 use osc_method::Method;
 use osc_script::{Act, Line};
@@ -19,13 +20,15 @@ use std::alloc::AllocError;
 use std::sync::Wait;
 
 /// Plays a line of the lane; an add takes the next box. The lane's `stop` is then the room where
-/// the recording was full. An `Err` means out of memory.
-pub(crate) fn play_line<M: Method, W: Wait>(
+/// the recording was full. What a submit is answered is reported to the gate. An `Err` means out of
+/// memory.
+pub(crate) fn play_line<M: Method, W: Wait, G: Gate>(
     rt: &W,
     live: &Live<M>,
     lane: &mut Lane<M>,
     caller: Caller,
     line: Line,
+    gate: &G,
 ) -> Result<Caller, AllocError>
     requires ours { IsOurs live.now caller }
     requires handed { adds_of line.act ≤ length (into_iter_items lane.old.boxes) }
@@ -60,8 +63,8 @@ pub(crate) fn play_line<M: Method, W: Wait>(
         }
         Act::Send(bytes) => {
             let bytes = bytes.as_slice();
-            let (caller, stop) = send(rt, live, caller, number, bytes, &mut lane.told.faults)?;
-            lane.told.stop = stop;
+            let (caller, answer) = send(rt, live, caller, number, bytes, &mut lane.told.faults)?;
+            lane.told.stop = report_answer(gate, lane.number, number, answer);
             Ok(caller)
         }
         Act::Tick(moment) => {

@@ -15,7 +15,7 @@ mod worker;
 
 pub use lanes::play;
 pub use osc_life::{Gate, OpenGate};
-pub use packet::send;
+pub use packet::{report_answer, send};
 pub use part::{LanePart, LaneTold};
 pub use plan::{LaneEnd, LanePlan};
 pub use run::{Performed, perform_beside, resume_lanes, run_lanes};

@@ -1,4 +1,4 @@
-//! Sends bytes that may be a packet.
+//! Sends bytes that may be a packet, and reports what is answered.
 ghost use Rattle.std.specs.Prelude.{◌≡◌, ℕ, List, IfOk, None};
 ghost use Rattle.std.specs.Option.{option_map};
 ghost use Rattle.osc_record.specs.Shown.{room_of};
@@ -6,17 +6,20 @@ ghost use Rattle.osc_turn.specs.Passes.{view};
 ghost use Rattle.osc_live.specs.Tokens.{IsOurs};
 ghost use Rattle.osc_script.specs.declared.act.Act.TheVariants.{Send};
 ghost use Rattle.osc_life.specs.Holders.{seen_by, holder_of};
+ghost use Rattle.osc_lanes.specs.Sent.{IsAnswered, stop_of};
 ghost use Rattle.osc_lanes.specs.Tells.{TellsAct};
 
 use osc_atoms::{Fault, Room};
+use osc_core::Submitted;
+use osc_life::Gate;
 use osc_live::{Caller, Live};
 use osc_method::Method;
 use osc_packet::{MAX_PACKET, Packet};
 use std::alloc::AllocError;
 use std::sync::Wait;
 
-/// Submits bytes that are a packet, and else keeps their fault under the number. The `Some` is the
-/// room where the recording was full; an `Err` means out of memory.
+/// Submits bytes that are a packet, and else keeps their fault under the number. The `Some` is what
+/// the server answered to the submit; an `Err` means out of memory.
 pub fn send<M: Method, W: Wait>(
     rt: &W,
     live: &Live<M>,
@@ -24,13 +27,15 @@ pub fn send<M: Method, W: Wait>(
     number: u32,
     bytes: &[u8],
     faults: &mut Vec<(u32, Fault)>,
-) -> Result<(Caller, Option<Room>), AllocError>
+) -> Result<(Caller, Option<Submitted>), AllocError>
     requires ours { IsOurs live.now caller }
     ensures ours { IfOk result (λ r. IsOurs live.now r.0) }
     ensures holder { IfOk result
         (λ r. holder_of live.now.caps r.0 ≡ holder_of live.now.caps caller) }
     ensures made { IfOk result
         (λ r. (view r.0.pass).made ≡ (view caller.pass).made) }
+    ensures answered { IfOk result (λ r. IsAnswered (holder_of live.now.caps caller) bytes.now r.1
+        (seen_by caller) (seen_by r.0)) }
     ensures played { IfOk result (λ r. (boxes back : List M) (removed : List (ℕ × M))
         → TellsAct M.keep M.heard (holder_of live.now.caps caller) number (Send bytes.now) boxes
         boxes (record { faults = faults.old.items; removed = removed; back = back; stop = None })
@@ -38,17 +43,36 @@ pub fn send<M: Method, W: Wait>(
           faults = faults.new.items;
           removed = removed;
           back = back;
-          stop = option_map room_of r.1;
+          stop = stop_of r.1;
         }) (seen_by caller) (seen_by r.0)) }
 {
     match Packet::check(bytes, MAX_PACKET) {
         Ok(packet) => {
             let (caller, answer) = live.submit(rt, caller, &packet);
-            Ok((caller, answer.stop()))
+            Ok((caller, Some(answer)))
         }
         Err(fault) => {
             faults.push((number, fault))?;
             Ok((caller, None))
         }
+    }
+}
+
+/// Reports the answer to the gate, if there is one. The `Some` is the room where the recording was
+/// full.
+pub fn report_answer<G: Gate>(
+    gate: &G,
+    worker: u32,
+    step: u32,
+    answer: Option<Submitted>,
+) -> Option<Room>
+    ensures { option_map room_of result ≡ stop_of answer }
+{
+    match answer {
+        Some(answer) => {
+            gate.answered(worker, step, &answer);
+            answer.stop()
+        }
+        None => None,
     }
 }

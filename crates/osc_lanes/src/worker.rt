@@ -95,7 +95,7 @@ fn play_lines<M: Method, W: Wait, G: Gate>(
     for line in lines {
         let number = line.number;
         gate.enter(lane.number, number);
-        caller = play_line(rt, live, lane, caller, line)?;
+        caller = play_line(rt, live, lane, caller, line, gate)?;
         gate.leave(lane.number, number);
         if lane.told.stop.is_some() {
             return Ok(caller);

@@ -24,7 +24,7 @@ returns-in_ok-caller-in-Send-clause-played g c =
     let told = c.args.lane.now.told in
     let played = c.in_ok-caller-in-Send.ensures.played (into_iter_items c.args.lane.now.boxes) told.back.items told.removed.items in
     rw c.in-Send.is
-    (played_bytes g.M.Method.keep g.M.Method.heard _ _ _ _ _ _ _ _ _ c.in-Send.bytes _ _ c.as_slice-bytes.ensures played)
+    (played_bytes g.M.Method.keep g.M.Method.heard _ _ _ _ _ _ _ _ _ c.in-Send.bytes _ _ _ _ c.as_slice-bytes.ensures c.report_answer-lane.ensures played)
 
 pub returns-in-Tick-clause-played : goal.returns-in-Tick-clause-played
 returns-in-Tick-clause-played g c =
