@@ -64,6 +64,29 @@ struct Callers {
     third: Caller,
 }
 
+/// The caller that adds a method and removes it, and its answers.
+#[derive(Drop)]
+struct Visit<M> {
+    caller: Caller,
+    added: Adding<M>,
+    removed: Removing<M>,
+}
+
+/// The caller that sends a packet, and its answer, or the first fault of the packet.
+#[derive(Drop)]
+struct Sending {
+    caller: Caller,
+    sent: Result<Submitted, Fault>,
+}
+
+/// The caller that moves the clock and releases, and its answers.
+#[derive(Drop)]
+pub(crate) struct Clocked {
+    pub(crate) caller: Caller,
+    pub(crate) ticked: Ticking,
+    pub(crate) pumped: Pumped,
+}
+
 /// A guest that wasn't enrolled, and caller 0.
 #[derive(Drop)]
 struct Refused {
@@ -207,38 +230,43 @@ fn add_and_remove<M: Method, W: Wait>(
     address: Address,
     again: Address,
     method: M,
-) -> (Caller, (Adding<M>, Removing<M>))
+) -> Visit<M>
     requires ours { IsOurs live.now caller }
     requires again { again ≡ address }
-    ensures ours { IsOurs live.now result.0 }
-    ensures number { result.0.number ≡ caller.number }
-    ensures calls { ComesAndGoes live.now.caps caller.number address (adding_of result.1.0)
-        (removing_of result.1.1) (view caller.pass) (view result.0.pass) }
+    ensures ours { IsOurs live.now result.caller }
+    ensures number { result.caller.number ≡ caller.number }
+    ensures calls { ComesAndGoes live.now.caps caller.number address (adding_of result.added)
+        (removing_of result.removed) (view caller.pass) (view result.caller.pass) }
 {
     let (caller, added) = live.add(rt, caller, address, method);
     let (caller, removed) = live.remove(rt, caller, &again);
-    (caller, (added, removed))
+    Visit {
+        caller,
+        added,
+        removed,
+    }
 }
 
 /// Submits the packet that the bytes are.
-fn send<M: Method, W: Wait>(
-    rt: &W,
-    live: &Live<M>,
-    caller: Caller,
-    bytes: &[u8],
-) -> (Caller, Result<Submitted, Fault>)
+fn send<M: Method, W: Wait>(rt: &W, live: &Live<M>, caller: Caller, bytes: &[u8]) -> Sending
     requires ours { IsOurs live.now caller }
-    ensures ours { IsOurs live.now result.0 }
-    ensures number { result.0.number ≡ caller.number }
-    ensures calls { Sends live.now.caps caller.number bytes.now result.1
-        (view caller.pass) (view result.0.pass) }
+    ensures ours { IsOurs live.now result.caller }
+    ensures number { result.caller.number ≡ caller.number }
+    ensures calls { Sends live.now.caps caller.number bytes.now result.sent
+        (view caller.pass) (view result.caller.pass) }
 {
     match Packet::check(bytes, MAX_PACKET) {
         Ok(packet) => {
             let (caller, submitted) = live.submit(rt, caller, &packet);
-            (caller, Ok(submitted))
+            Sending {
+                caller,
+                sent: Ok(submitted),
+            }
         }
-        Err(fault) => (caller, Err(fault)),
+        Err(fault) => Sending {
+            caller,
+            sent: Err(fault),
+        },
     }
 }
 
@@ -248,16 +276,20 @@ pub(crate) fn tick_and_pump<M: Method, W: Wait>(
     live: &Live<M>,
     caller: Caller,
     moment: u64,
-) -> (Caller, (Ticking, Pumped))
+) -> Clocked
     requires ours { IsOurs live.now caller }
-    ensures ours { IsOurs live.now result.0 }
-    ensures number { result.0.number ≡ caller.number }
-    ensures calls { Ticks live.now.caps caller.number moment (ticking_of result.1.0) result.1.1
-        (view caller.pass) (view result.0.pass) }
+    ensures ours { IsOurs live.now result.caller }
+    ensures number { result.caller.number ≡ caller.number }
+    ensures calls { Ticks live.now.caps caller.number moment (ticking_of result.ticked) result.pumped
+        (view caller.pass) (view result.caller.pass) }
 {
     let (caller, ticked) = live.tick(rt, caller, moment);
     let (caller, pumped) = live.pump(rt, caller);
-    (caller, (ticked, pumped))
+    Clocked {
+        caller,
+        ticked,
+        pumped,
+    }
 }
 
 /// One thread sends, and the other moves the clock and releases.
@@ -268,36 +300,34 @@ fn send_and_tick<M: Method + Send, R: Threads + Wait + Sync>(
     bytes: &[u8],
     ticker: Caller,
     moment: u64,
-) -> (
-    (Caller, Result<Submitted, Fault>),
-    (Caller, (Ticking, Pumped)),
-)
+) -> (Sending, Clocked)
     requires ours { IsOurs live.now sender }
     requires ticker_ours { IsOurs live.now ticker }
-    ensures ours { IsOurs live.now result.0.0 }
-    ensures number { result.0.0.number ≡ sender.number }
-    ensures sends { Sends live.now.caps sender.number bytes.now result.0.1
-        (view sender.pass) (view result.0.0.pass) }
-    ensures ticker_ours { IsOurs live.now result.1.0 }
-    ensures ticker_number { result.1.0.number ≡ ticker.number }
-    ensures ticks { Ticks live.now.caps ticker.number moment (ticking_of result.1.1.0) result.1.1.1
-        (view ticker.pass) (view result.1.0.pass) }
+    ensures ours { IsOurs live.now result.0.caller }
+    ensures number { result.0.caller.number ≡ sender.number }
+    ensures sends { Sends live.now.caps sender.number bytes.now result.0.sent
+        (view sender.pass) (view result.0.caller.pass) }
+    ensures ticker_ours { IsOurs live.now result.1.caller }
+    ensures ticker_number { result.1.caller.number ≡ ticker.number }
+    ensures ticks { Ticks live.now.caps ticker.number moment (ticking_of result.1.ticked)
+        result.1.pumped (view ticker.pass) (view result.1.caller.pass) }
 {
     join(
         rt,
-        || -> (Caller, Result<Submitted, Fault>)
+        || -> Sending
             requires { IsOurs live.now sender }
-            ensures ours { IsOurs live.entry.now result.0 }
-            ensures number { result.0.number ≡ sender.number }
-            ensures sends { Sends live.entry.now.caps sender.number bytes.entry.now result.1
-                (view sender.pass) (view result.0.pass) }
+            ensures ours { IsOurs live.entry.now result.caller }
+            ensures number { result.caller.number ≡ sender.number }
+            ensures sends { Sends live.entry.now.caps sender.number bytes.entry.now result.sent
+                (view sender.pass) (view result.caller.pass) }
         { send(rt, live, sender, bytes) },
-        || -> (Caller, (Ticking, Pumped))
+        || -> Clocked
             requires { IsOurs live.now ticker }
-            ensures ours { IsOurs live.entry.now result.0 }
-            ensures number { result.0.number ≡ ticker.number }
-            ensures ticks { Ticks live.entry.now.caps ticker.number moment (ticking_of result.1.0)
-                result.1.1 (view ticker.pass) (view result.0.pass) }
+            ensures ours { IsOurs live.entry.now result.caller }
+            ensures number { result.caller.number ≡ ticker.number }
+            ensures ticks { Ticks live.entry.now.caps ticker.number moment
+                (ticking_of result.ticked) result.pumped
+                (view ticker.pass) (view result.caller.pass) }
         { tick_and_pump(rt, live, ticker, moment) },
     )
 }
@@ -311,28 +341,23 @@ fn three_at_once<M: Method + Send, R: Threads + Wait + Sync>(
     method: M,
     bytes: &[u8],
     moment: u64,
-) -> (
-    (Caller, (Adding<M>, Removing<M>)),
-    (
-        (Caller, Result<Submitted, Fault>),
-        (Caller, (Ticking, Pumped)),
-    ),
-)
+) -> (Visit<M>, (Sending, Clocked))
     requires ours { AllAreOurs live.now callers }
     requires again { places.1 ≡ places.0 }
-    ensures ours { IsOurs live.now result.0.0 }
-    ensures number { result.0.0.number ≡ callers.first.number }
+    ensures ours { IsOurs live.now result.0.caller }
+    ensures number { result.0.caller.number ≡ callers.first.number }
     ensures comes { ComesAndGoes live.now.caps callers.first.number places.0
-        (adding_of result.0.1.0) (removing_of result.0.1.1)
-        (view callers.first.pass) (view result.0.0.pass) }
-    ensures second_ours { IsOurs live.now result.1.0.0 }
-    ensures second_number { result.1.0.0.number ≡ callers.second.number }
-    ensures sends { Sends live.now.caps callers.second.number bytes.now result.1.0.1
-        (view callers.second.pass) (view result.1.0.0.pass) }
-    ensures third_ours { IsOurs live.now result.1.1.0 }
-    ensures third_number { result.1.1.0.number ≡ callers.third.number }
-    ensures ticks { Ticks live.now.caps callers.third.number moment (ticking_of result.1.1.1.0)
-        result.1.1.1.1 (view callers.third.pass) (view result.1.1.0.pass) }
+        (adding_of result.0.added) (removing_of result.0.removed)
+        (view callers.first.pass) (view result.0.caller.pass) }
+    ensures second_ours { IsOurs live.now result.1.0.caller }
+    ensures second_number { result.1.0.caller.number ≡ callers.second.number }
+    ensures sends { Sends live.now.caps callers.second.number bytes.now result.1.0.sent
+        (view callers.second.pass) (view result.1.0.caller.pass) }
+    ensures third_ours { IsOurs live.now result.1.1.caller }
+    ensures third_number { result.1.1.caller.number ≡ callers.third.number }
+    ensures ticks { Ticks live.now.caps callers.third.number moment
+        (ticking_of result.1.1.ticked) result.1.1.pumped
+        (view callers.third.pass) (view result.1.1.caller.pass) }
 {
     let Callers {
         first,
@@ -342,29 +367,27 @@ fn three_at_once<M: Method + Send, R: Threads + Wait + Sync>(
     let (address, again) = places;
     join(
         rt,
-        || -> (Caller, (Adding<M>, Removing<M>))
+        || -> Visit<M>
             requires ours { IsOurs live.now first }
             requires again { again ≡ address }
-            ensures ours { IsOurs live.entry.now result.0 }
-            ensures number { result.0.number ≡ first.number }
+            ensures ours { IsOurs live.entry.now result.caller }
+            ensures number { result.caller.number ≡ first.number }
             ensures comes { ComesAndGoes live.entry.now.caps first.number address
-                (adding_of result.1.0) (removing_of result.1.1)
-                (view first.pass) (view result.0.pass) }
+                (adding_of result.added) (removing_of result.removed)
+                (view first.pass) (view result.caller.pass) }
         { add_and_remove(rt, live, first, address, again, method) },
-        || -> (
-            (Caller, Result<Submitted, Fault>),
-            (Caller, (Ticking, Pumped)),
-        )
+        || -> (Sending, Clocked)
             requires ours { IsOurs live.now second }
             requires third_ours { IsOurs live.now third }
-            ensures ours { IsOurs live.entry.now result.0.0 }
-            ensures number { result.0.0.number ≡ second.number }
-            ensures sends { Sends live.entry.now.caps second.number bytes.entry.now result.0.1
-                (view second.pass) (view result.0.0.pass) }
-            ensures third_ours { IsOurs live.entry.now result.1.0 }
-            ensures third_number { result.1.0.number ≡ third.number }
-            ensures ticks { Ticks live.entry.now.caps third.number moment (ticking_of result.1.1.0)
-                result.1.1.1 (view third.pass) (view result.1.0.pass) }
+            ensures ours { IsOurs live.entry.now result.0.caller }
+            ensures number { result.0.caller.number ≡ second.number }
+            ensures sends { Sends live.entry.now.caps second.number bytes.entry.now result.0.sent
+                (view second.pass) (view result.0.caller.pass) }
+            ensures third_ours { IsOurs live.entry.now result.1.caller }
+            ensures third_number { result.1.caller.number ≡ third.number }
+            ensures ticks { Ticks live.entry.now.caps third.number moment
+                (ticking_of result.1.ticked) result.1.pumped
+                (view third.pass) (view result.1.caller.pass) }
         { send_and_tick(rt, live, second, bytes, third, moment) },
     )
 }
@@ -433,24 +456,21 @@ pub fn live_run<M: Method + Send, R: Threads + Wait + Sync>(
     };
     let (live, callers) = open_three(rt, alloc, caps)?;
     let places = (address, again);
-    let (methods, (sends, clock)) = three_at_once(
+    let (visit, (sending, clocked)) = three_at_once(
         rt, &live, callers, places, method, bytes, moment,
     );
-    let (first, (added, removed)) = methods;
-    let (second, sent) = sends;
-    let (third, (ticked, pumped)) = clock;
     let callers = Callers {
-        first,
-        second,
-        third,
+        first: visit.caller,
+        second: sending.caller,
+        third: clocked.caller,
     };
     let closed = close_three(alloc, live, callers)?;
     Ok(LiveRun {
-        added,
-        removed,
-        sent,
-        ticked,
-        pumped,
+        added: visit.added,
+        removed: visit.removed,
+        sent: sending.sent,
+        ticked: clocked.ticked,
+        pumped: clocked.pumped,
         closed,
     })
 }

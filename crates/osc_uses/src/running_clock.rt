@@ -24,8 +24,8 @@ pub fn run_clock<M: Method, W: Wait>(
         (view result.pass) }
 {
     for moment in moments {
-        let (after, _) = tick_and_pump(rt, live, caller, moment);
-        caller = after;
+        let clocked = tick_and_pump(rt, live, caller, moment);
+        caller = clocked.caller;
     }
     caller
 }

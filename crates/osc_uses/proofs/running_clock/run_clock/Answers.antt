@@ -8,11 +8,11 @@ use Rattle.osc_uses.proofs.running_clock.run_clock.Goals as goal
 pub loop-moment-preserved : goal.loop-moment-preserved
 loop-moment-preserved g c =
     let inv = c.loop-moment.invariant in
-    let one = subst (λ (n : ℕ). RunsOne c.args.live.now.caps n c.in-Some.moment (view c.loop-moment.caller.pass) (view c.tick_and_pump-after.result.0.pass))
-    inv.number (_, _, c.tick_and_pump-after.ensures.calls) in
+    let one = subst (λ (n : ℕ). RunsOne c.args.live.now.caps n c.in-Some.moment (view c.loop-moment.caller.pass) (view c.tick_and_pump-clocked.result.caller.pass))
+    inv.number (_, _, c.tick_and_pump-clocked.ensures.calls) in
     record {
-      ours = c.tick_and_pump-after.ensures.ours;
-      number = c.tick_and_pump-after.ensures.number ∙ inv.number;
+      ours = c.tick_and_pump-clocked.ensures.ours;
+      number = c.tick_and_pump-clocked.ensures.number ∙ inv.number;
       ahead = λ w rest. inv.ahead w (runs_on _ _ _ _ _ _ _ w c.in-Some.ensures.steps.0 one rest);
     }
 
