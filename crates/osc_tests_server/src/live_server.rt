@@ -4,7 +4,7 @@ use osc_atoms::Fault;
 use osc_core::{Adding, Removing, Submitted, Ticking};
 use osc_live::EnrolRefusal;
 use osc_record::Reader;
-use osc_uses::{Fader, LiveRun, Unfinished, live_run};
+use osc_uses::{Fader, LiveRun, Placed, Unfinished, live_run};
 use std::alloc::Global;
 use std::sync::Wait;
 use std::test::*;
@@ -17,8 +17,11 @@ fn run<R: Threads + Wait + Sync>(
     callers: u32,
     bytes: &[u8],
 ) -> Result<Result<LiveRun<Fader>, Unfinished<Fader>>, Fail> {
-    let place = address(alloc, b"/a")?;
-    Ok(live_run(rt, alloc, caps(callers)?, place, Fader::new(), bytes, 5))
+    let placed = Placed {
+        address: address(alloc, b"/a")?,
+        method: Fader::new(),
+    };
+    Ok(live_run(rt, alloc, caps(callers)?, placed, bytes, 5))
 }
 
 /// How many entries of each caller are recorded.

@@ -20,7 +20,7 @@ pub use busy_turn::{Soon, entries_since, submit_soon};
 pub use display::refresh_display;
 pub use first_server::{Fader, first_run, one_packet};
 pub use host_round::{HostRound, call_at, fader_level, last_message, play_round};
-pub use live_server::{LiveRun, Unfinished, live_run};
+pub use live_server::{LiveRun, Placed, Unfinished, live_run};
 pub use matched_addresses::count_matching;
 pub use met_callers::pump_behind;
 pub use printed_recording::printed_history;

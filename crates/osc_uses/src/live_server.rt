@@ -28,6 +28,15 @@ use std::alloc::{AllocError, Global};
 use std::sync::Wait;
 use std::thread::{Threads, join};
 
+/// A method, and the address at which it is added.
+#[derive(Drop)]
+pub struct Placed<M> {
+    /// The address.
+    pub address: Address,
+    /// The method.
+    pub method: M,
+}
+
 /// What three threads were answered by one server, and what the server left.
 #[derive(Drop)]
 pub struct LiveRun<M> {
@@ -62,6 +71,14 @@ struct Callers {
     first: Caller,
     second: Caller,
     third: Caller,
+}
+
+/// A method, the address at which it is added, and the same address again, to remove it.
+#[derive(Drop)]
+struct Visitor<M> {
+    address: Address,
+    again: Address,
+    method: M,
 }
 
 /// The caller that adds a method and removes it, and its answers.
@@ -227,17 +244,21 @@ fn add_and_remove<M: Method, W: Wait>(
     rt: &W,
     live: &Live<M>,
     caller: Caller,
-    address: Address,
-    again: Address,
-    method: M,
+    visitor: Visitor<M>,
 ) -> Visit<M>
     requires ours { IsOurs live.now caller }
-    requires again { again ≡ address }
+    requires again { visitor.again ≡ visitor.address }
     ensures ours { IsOurs live.now result.caller }
     ensures number { result.caller.number ≡ caller.number }
-    ensures calls { ComesAndGoes live.now.caps caller.number address (adding_of result.added)
-        (removing_of result.removed) (view caller.pass) (view result.caller.pass) }
+    ensures calls { ComesAndGoes live.now.caps caller.number visitor.address
+        (adding_of result.added) (removing_of result.removed)
+        (view caller.pass) (view result.caller.pass) }
 {
+    let Visitor {
+        address,
+        again,
+        method,
+    } = visitor;
     let (caller, added) = live.add(rt, caller, address, method);
     let (caller, removed) = live.remove(rt, caller, &again);
     Visit {
@@ -337,16 +358,15 @@ fn three_at_once<M: Method + Send, R: Threads + Wait + Sync>(
     rt: &R,
     live: &Live<M>,
     callers: Callers,
-    places: (Address, Address),
-    method: M,
+    visitor: Visitor<M>,
     bytes: &[u8],
     moment: u64,
 ) -> (Visit<M>, (Sending, Clocked))
     requires ours { AllAreOurs live.now callers }
-    requires again { places.1 ≡ places.0 }
+    requires again { visitor.again ≡ visitor.address }
     ensures ours { IsOurs live.now result.0.caller }
     ensures number { result.0.caller.number ≡ callers.first.number }
-    ensures comes { ComesAndGoes live.now.caps callers.first.number places.0
+    ensures comes { ComesAndGoes live.now.caps callers.first.number visitor.address
         (adding_of result.0.added) (removing_of result.0.removed)
         (view callers.first.pass) (view result.0.caller.pass) }
     ensures second_ours { IsOurs live.now result.1.0.caller }
@@ -364,18 +384,17 @@ fn three_at_once<M: Method + Send, R: Threads + Wait + Sync>(
         second,
         third,
     } = callers;
-    let (address, again) = places;
     join(
         rt,
         || -> Visit<M>
             requires ours { IsOurs live.now first }
-            requires again { again ≡ address }
+            requires again { visitor.again ≡ visitor.address }
             ensures ours { IsOurs live.entry.now result.caller }
             ensures number { result.caller.number ≡ first.number }
-            ensures comes { ComesAndGoes live.entry.now.caps first.number address
+            ensures comes { ComesAndGoes live.entry.now.caps first.number visitor.address
                 (adding_of result.added) (removing_of result.removed)
                 (view first.pass) (view result.caller.pass) }
-        { add_and_remove(rt, live, first, address, again, method) },
+        { add_and_remove(rt, live, first, visitor) },
         || -> (Sending, Clocked)
             requires ours { IsOurs live.now second }
             requires third_ours { IsOurs live.now third }
@@ -439,26 +458,28 @@ pub fn live_run<M: Method + Send, R: Threads + Wait + Sync>(
     rt: &R,
     alloc: Global,
     caps: Caps,
-    address: Address,
-    method: M,
+    placed: Placed<M>,
     bytes: &[u8],
     moment: u64,
 ) -> Result<LiveRun<M>, Unfinished<M>>
-    ensures one_history { IfOk result (λ run. AreOneHistory caps address bytes.now moment run
+    ensures one_history { IfOk result (λ run. AreOneHistory caps placed.address bytes.now moment run
         (told M.keep M.heard run.closed.kept.items)) }
     ensures back_ours { IfErr result (λ unfinished. OnOpen unfinished (λ out. AreOurs out caps)) }
     ensures short { IfErr result (λ unfinished. OnOpen unfinished IsShort) }
     ensures not_enrolled { IfErr result
         (λ unfinished. OnNotEnrolled unfinished (HasEnrolCause caps)) }
 {
+    let Placed { address, method } = placed;
     let Ok(again) = address.copied(alloc) else {
         return Err(Unfinished::NoMemory);
     };
     let (live, callers) = open_three(rt, alloc, caps)?;
-    let places = (address, again);
-    let (visit, (sending, clocked)) = three_at_once(
-        rt, &live, callers, places, method, bytes, moment,
-    );
+    let visitor = Visitor {
+        address,
+        again,
+        method,
+    };
+    let (visit, (sending, clocked)) = three_at_once(rt, &live, callers, visitor, bytes, moment);
     let callers = Callers {
         first: visit.caller,
         second: sending.caller,

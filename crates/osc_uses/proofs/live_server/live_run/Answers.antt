@@ -23,7 +23,7 @@ returns-clause-one_history g c =
       pumped = clocked.pumped;
       closed = closed;
     } in
-    subst (λ (caps : Limits). AreOneHistory {M = g.row.M.Denot} caps c.args.address c.args.bytes.now c.args.moment run kept) opened.limits
-    (gathered c.in_ok-live.live.caps c.args.address c.args.bytes.now c.args.moment run kept c.in_ok-live.callers visit.caller sending.caller
+    subst (λ (caps : Limits). AreOneHistory {M = g.row.M.Denot} caps c.args.placed.address c.args.bytes.now c.args.moment run kept) opened.limits
+    (gathered c.in_ok-live.live.caps c.args.placed.address c.args.bytes.now c.args.moment run kept c.in_ok-live.callers visit.caller sending.caller
     clocked.caller opened.first opened.enrolled opened.second_new opened.third_new met.second_number met.third_number met.comes met.sends met.ticks
     c.in_ok-closed.ensures.closes)
