@@ -104,6 +104,13 @@ pub(crate) struct Clocked {
     pub(crate) pumped: Pumped,
 }
 
+/// Caller 0, and the caller that it enrolled.
+#[derive(Drop)]
+struct Admitted {
+    first: Caller,
+    new: Caller,
+}
+
 /// A guest that wasn't enrolled, and caller 0.
 #[derive(Drop)]
 struct Refused {
@@ -114,21 +121,18 @@ struct Refused {
 
 /// Enrols a guest.
 #[tactic(auto, using(crate::proofs::Enrolments::enrolments))]
-fn enrolled<M: Method, W: Wait>(
-    rt: &W,
-    live: &Live<M>,
-    first: Caller,
-) -> Result<(Caller, Caller), Refused>
+fn enrolled<M: Method, W: Wait>(rt: &W, live: &Live<M>, first: Caller) -> Result<Admitted, Refused>
     requires ours { IsOurs live.now first }
     requires first { first.number ≡ 0 }
     requires room { (view first.pass).made < MAX_PASSES }
-    ensures ours { IfOk result (λ both. IsOurs live.now both.0) }
-    ensures new_ours { IfOk result (λ both. IsOurs live.now both.1) }
-    ensures first { IfOk result (λ both. both.0.number ≡ 0) }
+    ensures ours { IfOk result (λ both. IsOurs live.now both.first) }
+    ensures new_ours { IfOk result (λ both. IsOurs live.now both.new) }
+    ensures first { IfOk result (λ both. both.first.number ≡ 0) }
     ensures enrols { IfOk result
-        (λ both. Enrols both.1.number (view first.pass) (view both.0.pass)) }
-    ensures no_entries { IfOk result (λ both. own_entries (view both.1.pass) ≡ []) }
-    ensures made { IfOk result (λ both. (view both.0.pass).made ≡ (view first.pass).made + 1) }
+        (λ both. Enrols both.new.number (view first.pass) (view both.first.pass)) }
+    ensures no_entries { IfOk result (λ both. own_entries (view both.new.pass) ≡ []) }
+    ensures made { IfOk result
+        (λ both. (view both.first.pass).made ≡ (view first.pass).made + 1) }
     ensures back_ours { IfErr result
         (λ back. IsOurs live.now back.first × IsOurGuest live.now back.guest) }
     ensures back_first { IfErr result (λ back. back.first.number ≡ 0) }
@@ -142,7 +146,7 @@ fn enrolled<M: Method, W: Wait>(
     let Ok(guest) = guest else { unreachable!() };
     let (first, new) = live.enrol(rt, first, guest);
     match new {
-        Ok(new) => Ok((first, new)),
+        Ok(new) => Ok(Admitted { first, new }),
         Err((refusal, guest)) => Err(Refused {
             first,
             guest,
@@ -223,11 +227,11 @@ fn open_three<M: Method, W: Wait>(
     let Ok((live, first)) = Live::open(alloc, caps) else {
         return Err(Unfinished::NoMemory);
     };
-    let (first, second) = match enrolled(rt, &live, first) {
+    let Admitted { first, new: second } = match enrolled(rt, &live, first) {
         Ok(both) => both,
         Err(back) => return Err(close_refused(alloc, live, back, None)),
     };
-    let (first, third) = match enrolled(rt, &live, first) {
+    let Admitted { first, new: third } = match enrolled(rt, &live, first) {
         Ok(both) => both,
         Err(back) => return Err(close_refused(alloc, live, back, Some(second))),
     };
