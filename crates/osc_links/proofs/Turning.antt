@@ -3,6 +3,7 @@ use Rattle.std.proofs.Common.{◌≡◌, ℕ, ◌+◌, List, [], ◌∷◌, ◌+
 use Rattle.std.specs.Option.{option_map}
 use Rattle.osc_atoms.specs.declared.fault.Fault.{Fault}
 use Rattle.osc_atoms.specs.declared.room.Room.{Room as CodeRoom}
+use Rattle.osc_model.specs.Events.{Room}
 use Rattle.osc_record.specs.Shown.{room_of}
 use Rattle.osc_script.specs.declared.act.Act.TheVariants.{Send}
 use Rattle.osc_turn.specs.declared.view.Entry.{Entry as Seen}
@@ -31,12 +32,13 @@ left_on turn turns left between (Some after) one rest = one ∙ ap (option_map (
 
 module _ {M : Type 0} (keep : M → ℕ) (heard : M → Option (List ℕ)) (holder : Holder) where
   -- a datagram that was sent, with this stop
-  pub sent_so : (number : ℕ) (bytes : List ℕ) (so_far more : List (ℕ × Fault)) (stop other : Option CodeRoom) (now then : List Seen) → stop ≡ other
-      → TellsAct keep heard holder number (Send bytes) [] [] (link_account so_far None) (link_account more (option_map room_of stop)) now then
+  pub sent_so : (number : ℕ) (bytes : List ℕ) (so_far more : List (ℕ × Fault)) (told : Option Room) (stop other : Option CodeRoom) (now then : List Seen)
+      → option_map room_of stop ≡ told → stop ≡ other
+      → TellsAct keep heard holder number (Send bytes) [] [] (link_account so_far None) (link_account more told) now then
       → TellsAct keep heard holder number (Send bytes) [] [] (link_account so_far None) (link_account more (option_map room_of other)) now then
-  sent_so number bytes so_far more stop other now then is p = subst
-      (λ (s : Option CodeRoom).
-      TellsAct keep heard holder number (Send bytes) [] [] (link_account so_far None) (link_account more (option_map room_of s)) now then) is p
+  sent_so number bytes so_far more told stop other now then reported is p = subst
+      (λ (s : Option Room). TellsAct keep heard holder number (Send bytes) [] [] (link_account so_far None) (link_account more s) now then)
+      (sym reported ∙ ap (option_map room_of) is) p
 
 module _ {M : Type 0} (keep : M → ℕ) (heard : M → Option (List ℕ)) (holder : Holder) (bounds : Bounds) (told : List (ℕ × Fault)) (start : Option (List LinkTurn))
     (here : List Seen) where

@@ -11,7 +11,7 @@ use crate::link_work::{LinkEnd, LinkWork, Over};
 use crate::served::Bounds;
 use osc_atoms::{Fault, Room};
 use osc_edge::{Datagram, Link, MAX_DATAGRAM};
-use osc_lanes::send;
+use osc_lanes::{report_answer, send};
 use osc_life::{Desk, Done, Gate, Worker};
 use osc_live::{Caller, Live};
 use osc_method::Method;
@@ -157,7 +157,8 @@ fn take_turn<M: Method, W: Wait, L: Link + Drop, G: Gate>(
             } = opened;
             let bytes = &space[..count];
             gate.enter(link, number);
-            let (caller, stop) = send(rt, live, caller, number, bytes, &mut faults)?;
+            let (caller, answer) = send(rt, live, caller, number, bytes, &mut faults)?;
+            let stop = report_answer(gate, link, number, answer);
             gate.leave(link, number);
             let opened = OpenLink {
                 link,

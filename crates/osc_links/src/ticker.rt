@@ -15,7 +15,7 @@ use crate::served::TickerEnd;
 use osc_atoms::Room;
 use osc_edge::{Clock, Moment};
 use osc_life::{Desk, Done, Gate, Meanwhile};
-use osc_live::{Caller, Live, PumpEnd};
+use osc_live::{Caller, Live, PumpEnd, Pumped};
 use osc_method::Method;
 use std::sync::Wait;
 
@@ -45,10 +45,11 @@ impl<M: Method, C: Clock> Meanwhile<M, C> for Round {
     ) -> (Caller, bool) {
         match *self {
             Round::Played(last) => {
-                let (caller, round, due) = play_round(desk.rt, desk.live, caller, on, last);
+                let (caller, round, pumped) = play_round(desk.rt, desk.live, caller, on, last);
                 *self = round;
+                report_released(desk.gate, pumped);
                 let more = goes_on(round);
-                wait_until(on, more, due);
+                wait_until(on, more, next_due(pumped));
                 (caller, more)
             }
             Round::Over(_) => (caller, false),
@@ -63,7 +64,8 @@ impl<M: Method, C: Clock> Meanwhile<M, C> for Round {
     ) -> Done<TickerEnd> {
         match self {
             Round::Played(last) => {
-                let (caller, round, _due) = play_round(desk.rt, desk.live, caller, on, last);
+                let (caller, round, pumped) = play_round(desk.rt, desk.live, caller, on, last);
+                report_released(desk.gate, pumped);
                 let end = end_of(round);
                 Done { caller, end }
             }
@@ -88,6 +90,15 @@ fn end_of(round: Round) -> TickerEnd
     }
 }
 
+/// Reports to the gate how many units a round has released, if it has released any.
+fn report_released<G: Gate>(gate: &G, pumped: Option<Pumped>) {
+    if let Some(Pumped { released, .. }) = pumped
+        && released > 0
+    {
+        gate.released(released);
+    }
+}
+
 /// Tells the clock until when nothing is to be done, where rounds go on.
 fn wait_until<C: Clock>(clock: &mut C, goes_on: bool, due: Option<u64>)
     ensures same { C.left clock.new ≡ C.left clock.old }
@@ -99,14 +110,14 @@ fn wait_until<C: Clock>(clock: &mut C, goes_on: bool, due: Option<u64>)
 }
 
 /// Plays one round, after the one that has handed in `last`, if one has. The third value is the
-/// least due moment that is left in the queue.
+/// round's pump, if it came to it.
 fn play_round<M: Method, W: Wait, C: Clock>(
     rt: &W,
     live: &Live<M>,
     caller: Caller,
     clock: &mut C,
     last: Option<u64>,
-) -> (Caller, Round, Option<u64>)
+) -> (Caller, Round, Option<Pumped>)
     requires ours { IsOurs live.now caller }
     ensures ours { IsOurs live.now result.0 }
     ensures holder { holder_of live.now.caps result.0 ≡ holder_of live.now.caps caller }
@@ -118,10 +129,10 @@ fn play_round<M: Method, W: Wait, C: Clock>(
     match clock.now() {
         Moment::At(moment) => {
             let after = later(last, moment);
-            let (caller, stop, due) = play_moment(rt, live, caller, last, moment);
+            let (caller, stop, pumped) = play_moment(rt, live, caller, last, moment);
             match stop {
-                None => (caller, Round::Played(after), due),
-                Some(room) => (caller, Round::Over(TickerEnd::Full(room)), None),
+                None => (caller, Round::Played(after), pumped),
+                Some(room) => (caller, Round::Over(TickerEnd::Full(room)), pumped),
             }
         }
         Moment::Failed => (caller, Round::Over(TickerEnd::ClockFailed), None),
@@ -134,7 +145,7 @@ fn play_moment<M: Method, W: Wait>(
     caller: Caller,
     last: Option<u64>,
     moment: u64,
-) -> (Caller, Option<Room>, Option<u64>)
+) -> (Caller, Option<Room>, Option<Pumped>)
     requires ours { IsOurs live.now caller }
     ensures ours { IsOurs live.now result.0 }
     ensures holder { holder_of live.now.caps result.0 ≡ holder_of live.now.caps caller }
@@ -174,7 +185,7 @@ fn pump<M: Method, W: Wait>(
     rt: &W,
     live: &Live<M>,
     caller: Caller,
-) -> (Caller, Option<Room>, Option<u64>)
+) -> (Caller, Option<Room>, Option<Pumped>)
     requires ours { IsOurs live.now caller }
     ensures ours { IsOurs live.now result.0 }
     ensures holder { holder_of live.now.caps result.0 ≡ holder_of live.now.caps caller }
@@ -184,12 +195,12 @@ fn pump<M: Method, W: Wait>(
         (seen_by result.0) }
 {
     let (caller, pumped) = live.pump(rt, caller);
-    (caller, pumped.end.stop(), next_due(pumped.end))
+    (caller, pumped.end.stop(), Some(pumped))
 }
 
-/// The least due moment that is left in the queue.
-fn next_due(end: PumpEnd) -> Option<u64> {
-    match end {
+/// The least due moment that a pump has left in the queue.
+fn next_due(pumped: Option<Pumped>) -> Option<u64> {
+    match pumped?.end {
         PumpEnd::NothingDue { next } => next,
         PumpEnd::RecordFull(_) => None,
     }

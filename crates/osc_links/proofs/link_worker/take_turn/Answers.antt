@@ -8,8 +8,8 @@ returns-in-None-clause-takes g c = (
   c.in-Got.ensures.cause,
   _,
   c.in-Got.ensures.turns,
-  sent_so g.M.Method.keep g.M.Method.heard (holder_of c.args.live.now.caps c.args.opened.caller) c.args.number _ _ _ c.in_ok-caller-in-Got.stop None _ _
-      c.in-None.is
+  sent_so g.M.Method.keep g.M.Method.heard (holder_of c.args.live.now.caps c.args.opened.caller) c.args.number _ _ _ _ c.report_answer-stop.result None _ _
+      c.report_answer-stop.ensures c.in-None.is
       (c.in_ok-caller-in-Got.ensures.played [] [] []),
 )
 
@@ -18,7 +18,7 @@ returns-in-Some-clause-takes g c = (
   c.in-Got.ensures.cause,
   _,
   c.in-Got.ensures.turns,
-  sent_so g.M.Method.keep g.M.Method.heard (holder_of c.args.live.now.caps c.args.opened.caller) c.args.number _ _ _ c.in_ok-caller-in-Got.stop
-      (Some c.in-Some.room) _ _ c.in-Some.is
+  sent_so g.M.Method.keep g.M.Method.heard (holder_of c.args.live.now.caps c.args.opened.caller) c.args.number _ _ _ _ c.report_answer-stop.result
+      (Some c.in-Some.room) _ _ c.report_answer-stop.ensures c.in-Some.is
       (c.in_ok-caller-in-Got.ensures.played [] [] []),
 )
