@@ -1,5 +1,5 @@
 //! A recording that is written while its links are served.
-use crate::hold::{Flag, HoldSecond};
+use crate::hold::{Flag, HoldEach};
 use crate::program::{replayed, words};
 use crate::serve::{ADD, FADER, answer};
 use osc_atoms::Bytes;
@@ -13,8 +13,9 @@ use std::sync::atomic::{AtomicU64, Ordering};
 use std::sync::{Arc, Wait};
 use std::test::*;
 use std::thread::Threads;
+use std::time::{Duration, Instant};
 
-/// A sink in memory that sets a flag once it is given the fader's packet, or fails.
+/// A sink in memory that counts how often it is given the fader's packet, or fails.
 #[derive(Drop)]
 struct WatchedSink {
     bytes: MemorySink,
@@ -36,24 +37,25 @@ impl Sink for WatchedSink {
             (⟦<MemorySink as Sink>⟧.faults self.new.bytes) result }
     {
         let put = self.bytes.write(piece);
-        if has_fader(piece) || put == Put::Failed {
-            self.given.store(1, Ordering::SeqCst);
+        if put == Put::Failed {
+            self.given.fetch_add(1, Ordering::SeqCst);
+        } else {
+            count_faders(piece, &self.given);
         }
         put
     }
 }
 
-/// Whether the fader's packet stands somewhere in the bytes.
-fn has_fader(bytes: &[u8]) -> bool {
+/// Counts how often the fader's packet stands in the bytes.
+fn count_faders(bytes: &[u8], count: &AtomicU64) {
     for at in 0..bytes.len() {
         if bytes[at..].starts_with(FADER) {
-            return true;
+            count.fetch_add(1, Ordering::SeqCst);
         }
     }
-    false
 }
 
-/// What a run leaves whose link has the fader's packet twice.
+/// What a run leaves whose link has the fader's packet again and again.
 #[derive(Drop)]
 struct Served {
     status: u8,
@@ -61,26 +63,28 @@ struct Served {
     recorded: Vec<u8>,
     heard: usize,
     next: Datagram,
-    /// Whether the second packet was played before the first was given to the recording's sink.
+    /// Whether a packet was played before those before it were given to the recording's sink.
     gave_up: bool,
 }
 
-/// Serves a link that has the fader's packet twice, and holds the second one back until the recording's sink was given
-/// the first, or has failed. The sink fails at these calls.
+/// Serves a link that has the fader's packet so many times, and holds each back until the recording's sink was given
+/// those before it, or has failed. The sink fails at these calls.
 fn serve_watched<R: Threads + Wait + Sync>(
     rt: &R,
     alloc: Global,
+    count: u32,
     fails: &[u32],
 ) -> Result<Served, Fail> {
     let given = Arc::new(alloc, AtomicU64::new(0))?;
-    let gate = HoldSecond::until(Arc::try_clone(&given)?);
+    let gate = HoldEach::until(Arc::try_clone(&given)?);
     let mut rec = WatchedSink {
         bytes: MemorySink::open(alloc, Vec::from_slice(alloc, fails)?),
         given,
     };
     let mut turns = Vec::new(alloc);
-    turns.push(Some(Bytes::copied(alloc, FADER)?))?;
-    turns.push(Some(Bytes::copied(alloc, FADER)?))?;
+    for _ in 0..count {
+        turns.push(Some(Bytes::copied(alloc, FADER)?))?;
+    }
     let mut links = Vec::with_capacity(alloc, 1)?;
     links.push_reserved(MemoryLink::open(turns, Vec::new(alloc)));
     let mut clock = MemoryClock::open(Vec::from_array(alloc, [5])?, Vec::new(alloc));
@@ -89,7 +93,7 @@ fn serve_watched<R: Threads + Wait + Sync>(
     let mut out = SteadySink::open(alloc);
     let mut bank: Vec<Box<dyn Method + Send>> = Vec::new(alloc);
     bank.push(Box::new(alloc, Trace::open(alloc, 64)?)?)?;
-    let words = words(alloc, "serve --count 2 f")?;
+    let words = words(alloc, "serve f")?;
     let (ended, mut links) = live_top(
         rt,
         alloc,
@@ -115,7 +119,7 @@ fn serve_watched<R: Threads + Wait + Sync>(
 #[test]
 fn a_datagram_is_recorded_before_the_next_is_played(rt: HostRuntime) -> Result<(), Fail> {
     let alloc = rt.alloc();
-    let served = serve_watched(&rt, alloc, &[])?;
+    let served = serve_watched(&rt, alloc, 2, &[])?;
     assert!(rt; !served.gave_up);
     assert_eq!(rt; (served.status, served.heard), (0, 1));
     assert_eq!(rt; served.next, Datagram::End);
@@ -130,7 +134,7 @@ fn a_sink_that_fails_once_gets_no_more_and_the_show_goes_on(rt: HostRuntime) -> 
     let alloc = rt.alloc();
     // The first call has at least the header; the entries of the second packet come in a later one.
     for call in [1, 2u32] {
-        let served = serve_watched(&rt, alloc, &[call])?;
+        let served = serve_watched(&rt, alloc, 2, &[call])?;
         assert!(rt; !served.gave_up, "{call}");
         assert_eq!(rt; (served.status, served.heard), (5, 1), "{call}");
         assert_eq!(rt; served.next, Datagram::End, "{call}");
@@ -142,5 +146,18 @@ fn a_sink_that_fails_once_gets_no_more_and_the_show_goes_on(rt: HostRuntime) -> 
             assert!(rt; printed.starts_with(b"add 0 /1/fader1 id 0\n"));
         }
     }
+    Ok(())
+}
+
+#[test]
+fn the_writer_is_woken_by_each_datagram(rt: HostRuntime) -> Result<(), Fail> {
+    let alloc = rt.alloc();
+    // A writer that isn't woken looks once a second, so that ten datagrams would take nine.
+    let start = Instant::now(&rt).ok().ok_or("a clock")?;
+    let served = serve_watched(&rt, alloc, 10, &[])?;
+    let time = start.elapsed(&rt).ok().ok_or("a clock")?;
+    assert!(rt; !served.gave_up);
+    assert_eq!(rt; (served.status, served.heard), (0, 1));
+    assert!(rt; time < Duration::from_secs(6));
     Ok(())
 }

@@ -6,13 +6,18 @@ use std::sync::Arc;
 use std::sync::atomic::{AtomicU64, Ordering};
 use std::thread;
 
-/// What is 1 once something has been done.
+/// What is 1 once something has been done, or how often it has been done.
 pub(crate) type Flag = Arc<AtomicU64, Global>;
 
 /// Looks at the flag until it is set; tells `late` where that takes too many turns.
 fn await_flag(flag: &AtomicU64, late: &AtomicU64) {
+    await_count(flag, 1, late);
+}
+
+/// Looks at the number until it is no less than the count; tells `late` where that takes too many turns.
+fn await_count(number: &AtomicU64, count: u64, late: &AtomicU64) {
     for _ in 0..100_000_000u32 {
-        if flag.load(Ordering::SeqCst) == 1 {
+        if number.load(Ordering::SeqCst) >= count {
             return;
         }
         thread::yield_now();
@@ -87,6 +92,40 @@ impl Gate for HoldSecond {
     }
 
     fn leave(&self, _lane: u32, _line: u32) {}
+}
+
+/// Holds each datagram until as many were given as came before it.
+#[derive(Drop)]
+pub(crate) struct HoldEach {
+    given: Flag,
+    late: AtomicU64,
+}
+
+impl HoldEach {
+    /// Looks at this number of those that were given.
+    pub(crate) fn until(given: Flag) -> HoldEach {
+        HoldEach {
+            given,
+            late: AtomicU64::new(0),
+        }
+    }
+
+    /// Whether one was played before those that came before it were given.
+    pub(crate) fn gave_up(&self) -> bool {
+        self.late.load(Ordering::SeqCst) == 1
+    }
+}
+
+impl Gate for HoldEach {
+    fn enter(&self, _link: u32, datagram: u32) {
+        await_count(
+            &self.given,
+            u64::from(datagram.saturating_sub(1)),
+            &self.late,
+        );
+    }
+
+    fn leave(&self, _link: u32, _datagram: u32) {}
 }
 
 /// Holds line 2 of a script until a read of the watcher is over that began behind line 1.
