@@ -8,7 +8,7 @@ use osc_links::{Bounds, ServeEnd, serve};
 use osc_live::Live;
 use osc_method::Mute;
 use osc_record::{Caps, Late};
-use std::alloc::Global;
+use std::alloc::{AllocError, Global};
 use std::sync::Wait;
 use std::sync::atomic::{AtomicU64, Ordering};
 use std::test::*;
@@ -67,11 +67,28 @@ impl Gate for Answers {
     }
 }
 
-/// Serves a link that has these datagrams, on a server where two units may wait.
+/// A link that has the bundle three times, and four bytes that are no packet after the first.
+fn link_ahead(alloc: Global) -> Result<MemoryLink, AllocError> {
+    let mut turns = Vec::new(alloc);
+    turns.push(Some(Bytes::copied(alloc, AHEAD)?))?;
+    turns.push(Some(Bytes::copied(alloc, b"/abc")?))?;
+    turns.push(Some(Bytes::copied(alloc, AHEAD)?))?;
+    turns.push(Some(Bytes::copied(alloc, AHEAD)?))?;
+    Ok(MemoryLink::open(turns, Vec::new(alloc)))
+}
+
+/// A link that has the message.
+fn link_now(alloc: Global) -> Result<MemoryLink, AllocError> {
+    let mut turns = Vec::new(alloc);
+    turns.push(Some(Bytes::copied(alloc, NOW)?))?;
+    Ok(MemoryLink::open(turns, Vec::new(alloc)))
+}
+
+/// Serves the link on a server where two units may wait.
 fn serve_one<R: Threads + Wait + Sync>(
     rt: &R,
     alloc: Global,
-    datagrams: &[&[u8]],
+    link: MemoryLink,
     gate: &Answers,
 ) -> Result<ServeEnd<MemoryLink>, Fail> {
     let caps = Caps::new(2, 8, 8, 8, 4, 4096, Late::Deliver)
@@ -83,12 +100,8 @@ fn serve_one<R: Threads + Wait + Sync>(
     let mut callers = Vec::with_capacity(alloc, 2)?;
     callers.push_reserved(one);
     callers.push_reserved(ticker);
-    let mut turns = Vec::new(alloc);
-    for datagram in datagrams {
-        turns.push(Some(Bytes::copied(alloc, datagram)?))?;
-    }
     let mut links = Vec::with_capacity(alloc, 1)?;
-    links.push_reserved(MemoryLink::open(turns, Vec::new(alloc)));
+    links.push_reserved(link);
     let mut clock = MemoryClock::open(Vec::from_array(alloc, [5])?, Vec::new(alloc));
     let bounds = Bounds { count: 8, idle: 2 };
     let end = serve(rt, alloc, &live, callers, links, &mut clock, bounds, gate)?;
@@ -119,7 +132,7 @@ fn a_gate_is_told_what_the_server_answered(rt: HostRuntime) -> Result<(), Fail> 
     ))?;
     wanted.push((0, 4, Submitted::UnitsFull(Room::new(1, 0))))?;
     let gate = Answers::wanted(wanted);
-    let end = serve_one(&rt, alloc, &[AHEAD, b"/abc", AHEAD, AHEAD], &gate)?;
+    let end = serve_one(&rt, alloc, link_ahead(alloc)?, &gate)?;
     assert_eq!(rt; gate.told(), (3, 0, 0));
     assert_eq!(rt; end.faults.len(), 1);
     Ok(())
@@ -139,7 +152,7 @@ fn a_gate_is_told_of_what_the_ticker_releases(rt: HostRuntime) -> Result<(), Fai
         },
     ))?;
     let gate = Answers::wanted(wanted);
-    let end = serve_one(&rt, alloc, &[NOW], &gate)?;
+    let end = serve_one(&rt, alloc, link_now(alloc)?, &gate)?;
     assert_eq!(rt; gate.told(), (1, 0, 1));
     assert!(rt; end.faults.is_empty());
     Ok(())

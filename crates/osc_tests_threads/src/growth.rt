@@ -8,7 +8,7 @@ use osc_edge::{
 };
 use osc_method::{Method, Trace};
 use osc_top::live_top;
-use std::alloc::Global;
+use std::alloc::{AllocError, Global};
 use std::sync::atomic::{AtomicU64, Ordering};
 use std::sync::{Arc, Wait};
 use std::test::*;
@@ -67,12 +67,31 @@ struct Served {
     gave_up: bool,
 }
 
-/// Serves a link that has the fader's packet so many times, and holds each back until the recording's sink was given
-/// those before it, or has failed. The sink fails at these calls.
+/// A link that has the fader's packet twice.
+fn two_faders(alloc: Global) -> Result<MemoryLink, AllocError> {
+    let mut turns = Vec::new(alloc);
+    turns.push(Some(Bytes::copied(alloc, FADER)?))?;
+    turns.push(Some(Bytes::copied(alloc, FADER)?))?;
+    Ok(MemoryLink::open(turns, Vec::new(alloc)))
+}
+
+/// A link that has it five times.
+fn five_faders(alloc: Global) -> Result<MemoryLink, AllocError> {
+    let mut turns = Vec::new(alloc);
+    turns.push(Some(Bytes::copied(alloc, FADER)?))?;
+    turns.push(Some(Bytes::copied(alloc, FADER)?))?;
+    turns.push(Some(Bytes::copied(alloc, FADER)?))?;
+    turns.push(Some(Bytes::copied(alloc, FADER)?))?;
+    turns.push(Some(Bytes::copied(alloc, FADER)?))?;
+    Ok(MemoryLink::open(turns, Vec::new(alloc)))
+}
+
+/// Serves a link, and holds each datagram back until the recording's sink was given those before it, or has failed. The
+/// sink fails at these calls.
 fn serve_watched<R: Threads + Wait + Sync>(
     rt: &R,
     alloc: Global,
-    count: u32,
+    link: MemoryLink,
     fails: &[u32],
 ) -> Result<Served, Fail> {
     let given = Arc::new(alloc, AtomicU64::new(0))?;
@@ -81,12 +100,8 @@ fn serve_watched<R: Threads + Wait + Sync>(
         bytes: MemorySink::open(alloc, Vec::from_slice(alloc, fails)?),
         given,
     };
-    let mut turns = Vec::new(alloc);
-    for _ in 0..count {
-        turns.push(Some(Bytes::copied(alloc, FADER)?))?;
-    }
     let mut links = Vec::with_capacity(alloc, 1)?;
-    links.push_reserved(MemoryLink::open(turns, Vec::new(alloc)));
+    links.push_reserved(link);
     let mut clock = MemoryClock::open(Vec::from_array(alloc, [5])?, Vec::new(alloc));
     let script = Vec::from_slice(alloc, ADD.as_bytes())?;
     let mut source = MemorySource::open(script, Vec::new(alloc));
@@ -119,7 +134,7 @@ fn serve_watched<R: Threads + Wait + Sync>(
 #[test]
 fn a_datagram_is_recorded_before_the_next_is_played(rt: HostRuntime) -> Result<(), Fail> {
     let alloc = rt.alloc();
-    let served = serve_watched(&rt, alloc, 2, &[])?;
+    let served = serve_watched(&rt, alloc, two_faders(alloc)?, &[])?;
     assert!(rt; !served.gave_up);
     assert_eq!(rt; (served.status, served.heard), (0, 1));
     assert_eq!(rt; served.next, Datagram::End);
@@ -134,7 +149,7 @@ fn a_sink_that_fails_once_gets_no_more_and_the_show_goes_on(rt: HostRuntime) -> 
     let alloc = rt.alloc();
     // The first call has at least the header; the entries of the second packet come in a later one.
     for call in [1, 2u32] {
-        let served = serve_watched(&rt, alloc, 2, &[call])?;
+        let served = serve_watched(&rt, alloc, two_faders(alloc)?, &[call])?;
         assert!(rt; !served.gave_up, "{call}");
         assert_eq!(rt; (served.status, served.heard), (5, 1), "{call}");
         assert_eq!(rt; served.next, Datagram::End, "{call}");
@@ -152,12 +167,12 @@ fn a_sink_that_fails_once_gets_no_more_and_the_show_goes_on(rt: HostRuntime) -> 
 #[test]
 fn the_writer_is_woken_by_each_datagram(rt: HostRuntime) -> Result<(), Fail> {
     let alloc = rt.alloc();
-    // A writer that isn't woken looks once a second, so that ten datagrams would take nine.
+    // A writer that isn't woken looks once a second, so that five datagrams would take four.
     let start = Instant::now(&rt).ok().ok_or("a clock")?;
-    let served = serve_watched(&rt, alloc, 10, &[])?;
+    let served = serve_watched(&rt, alloc, five_faders(alloc)?, &[])?;
     let time = start.elapsed(&rt).ok().ok_or("a clock")?;
     assert!(rt; !served.gave_up);
     assert_eq!(rt; (served.status, served.heard), (0, 1));
-    assert!(rt; time < Duration::from_secs(6));
+    assert!(rt; time < Duration::from_secs(3));
     Ok(())
 }
