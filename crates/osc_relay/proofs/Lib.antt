@@ -1,0 +1,4 @@
+mod Addressing
+mod Apart
+mod EachOutlet
+mod Relaying

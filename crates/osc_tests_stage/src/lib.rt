@@ -1,0 +1,7 @@
+//! Tests of what the program of a stage stands on, over its public calls.
+#![tactic(auto)]
+
+#[cfg(test)]
+mod relays;
+#[cfg(test)]
+mod relays_by_udp;
