@@ -12,31 +12,24 @@ use Rattle.osc_tree.specs.Matching.{matching}
 use Rattle.osc_packet.specs.Units.{TimedUnit, blocks, stored_size}
 use Rattle.osc_queue.specs.Timed.{due_of, unit_of}
 use Rattle.osc_model.specs.Counts.{queued_blocks}
-use Rattle.osc_model.specs.Events.{Event, release, Answer, released, nothing_due, adds_entry, Entry, Hit, Invocation}
+use Rattle.osc_model.specs.Events.{Event, release, Answer, nothing_due, adds_entry, Entry, Invocation}
 use Rattle.osc_model.specs.Events.{Call as Made}
 use Rattle.osc_model.specs.State.{State, Queued, opening}
-use Rattle.osc_model.specs.Step.{Stepped, step, leaves, releases, release_first, calls_of, calls_of_unit, calls_from, invocations_of}
-use Rattle.osc_model.specs.History.{Performance, IsSound, after, state_of, stepped_in, onward}
+use Rattle.osc_model.specs.Step.{Stepped, step, leaves, releases, release_first, calls_of, calls_from, invocations_of}
+use Rattle.osc_model.specs.History.{Performance, IsSound, state_of, stepped_in, onward}
 use Rattle.osc_model.proofs.Stepping.{step_so}
 use Rattle.osc_core.specs.Answers.{TellsRelease}
 use Rattle.osc_core.specs.Calls.{hit_by}
-use Rattle.osc_core.specs.Invoked.{is_release, last_from, last_invocations, Call, call_of, last_calls}
+use Rattle.osc_core.specs.Invoked.{is_release, last_invocations, Call, call_of, last_calls}
 use Rattle.osc_core.specs.declared.answers.Releasing.{Releasing}
 use Rattle.osc_core.specs.declared.answers.Releasing.TheVariants as releasing
-use Rattle.osc_core.proofs.Firsts.{hits_by}
 use Rattle.osc_core.proofs.Played.{stays}
+use Rattle.osc_core.proofs.Telling.{told_hits, hits_stepped, last_more}
 use Rattle.osc_c.specs.Reading.{TellsNext}
 use Rattle.osc_c.specs.Short.{is_short}
 use Rattle.osc_c.specs.declared.called.Called.{Called}
 
 -- The last release, where a history goes on.
-
-last_more : (state : State) (last : List Invocation) (history : List Entry) (entry : Entry)
-    → last_from state last (history ++ entry ∷ [])
-    ≡ cond (is_release entry.event) (step (after state history) entry.event).invocations (last_from state last history)
-last_more state last [] entry = refl
-last_more state last (one ∷ history) entry =
-    last_more (step state one.event).state (cond (is_release one.event) (step state one.event).invocations last) history entry
 
 -- any event but a release leaves its calls as they are
 pub still_last : (now next : Performance) (caller : ℕ) (event : Event) → is_release event ≡ false → next ≡ onward now caller event
@@ -48,26 +41,6 @@ still_last now next caller event other is = ap last_calls is ∙ go (adds_entry 
       (last_more (opening now.caps) [] now.history (record { caller = caller; event = event; answer = (stepped_in now event).answer })
       ∙ ap (λ (t : Bool). cond t (step (state_of now) event).invocations (last_invocations now)) other))
   go false e = rw e refl
-
--- the hits that an answer tells
-abbrev told_hits : Answer → List Hit
-told_hits (released unit hits) = hits
-told_hits _ = []
-
-hits_decided : (state : State) (queue : List Queued) → told_hits (release_first state queue).answer ≡ map hit_by (release_first state queue).invocations
-hits_decided state [] = refl
-hits_decided state (unit ∷ units) = go (nat_le (due_of unit) state.clock) where
-  go : (t : Bool)
-      → told_hits (cond t (releases state unit units) (leaves state (nothing_due (Some (due_of unit))))).answer
-      ≡ map hit_by (cond t (releases state unit units) (leaves state (nothing_due (Some (due_of unit))))).invocations
-  go true = sym (hits_by (unit_of unit) (calls_of_unit state.methods unit))
-  go false = refl
-
--- a release tells the hits of what it invokes
-hits_stepped : (state : State) → told_hits (step state release).answer ≡ map hit_by (step state release).invocations
-hits_stepped state =
-    step_so (λ (s : Stepped). told_hits s.answer ≡ map hit_by s.invocations) state release
-    (record { silent = λ is. hits_decided state state.queue; full = λ is few. refl; room = λ is fits. hits_decided state state.queue })
 
 none_of : (list : List Invocation) → [] ≡ map hit_by list → map call_of list ≡ []
 none_of [] is = refl

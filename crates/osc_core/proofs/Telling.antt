@@ -135,7 +135,7 @@ told_all unit starts bytes methods are is =
     (sym list) (told_from unit (starts_of 0 are.messages) bytes methods 0 are.messages each))
 
 -- the hits that an answer tells
-abbrev told_hits : Answer → List Hit
+abbrev pub told_hits : Answer → List Hit
 told_hits (released unit hits) = hits
 told_hits _ = []
 
@@ -149,7 +149,7 @@ hits_decided state (unit ∷ units) = go (nat_le (due_of unit) state.clock) wher
   go false = refl
 
 -- a release tells the hits of what it invokes
-hits_stepped : (state : State) → told_hits (step state release).answer ≡ map hit_by (step state release).invocations
+pub hits_stepped : (state : State) → told_hits (step state release).answer ≡ map hit_by (step state release).invocations
 hits_stepped state =
     step_so (λ (s : Stepped). told_hits s.answer ≡ map hit_by s.invocations) state release
     (record { silent = λ is. hits_decided state state.queue; full = λ is few. refl; room = λ is fits. hits_decided state state.queue })
@@ -212,7 +212,7 @@ calls_further tell count bytes = ap (map tell) (hits_drop count bytes) ∙ sym (
 
 -- What the last release invoked, where a history goes on.
 
-last_more : (state : State) (last : List Invocation) (history : List Entry) (entry : Entry)
+pub last_more : (state : State) (last : List Invocation) (history : List Entry) (entry : Entry)
     → last_from state last (history ++ entry ∷ [])
     ≡ cond (is_release entry.event) (step (after state history) entry.event).invocations (last_from state last history)
 last_more state last [] entry = refl
@@ -275,7 +275,7 @@ length_hits : (hits : List Hit) → length (hits_text hits) ≡ 8 * length hits
 length_hits [] = refl
 length_hits (hit ∷ hits) = omega (arith, length_hits hits)
 
-last_released : (now : Performance) (caller unit : ℕ) (hits : List Hit) → (stepped_in now release).answer ≡ released unit hits
+pub last_released : (now : Performance) (caller unit : ℕ) (hits : List Hit) → (stepped_in now release).answer ≡ released unit hits
     → last_invocations (onward now caller release) ≡ (stepped_in now release).invocations
 last_released now caller unit hits is =
     rw is (last_more (opening now.caps) [] now.history (record { caller = caller; event = release; answer = released unit hits }))

@@ -3,7 +3,7 @@ use Rattle.std.specs.Prelude.{◌≡◌, ◌≢◌, ℕ, ◌<◌, ◌≤◌, Boo
 use Rattle.std.specs.Prelude.{◌∷◌, length, filter, slice_index, Option, Some, None}
 use Rattle.std.specs.List.{list_all, AllByRecursion}
 
--- whether each id is below all those behind it
+-- whether each id is below all those after it
 abbrev pub is_ascending : List ℕ → Bool
 is_ascending [] = true
 is_ascending (id ∷ ids) = list_all (nat_lt id) ids && is_ascending ids

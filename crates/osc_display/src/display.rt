@@ -7,7 +7,7 @@ ghost use Rattle.osc_live.specs.Seen.{history_of};
 ghost use Rattle.osc_live.specs.Tokens.{IsOurs};
 ghost use Rattle.osc_watch.specs.Listing.{listing};
 ghost use Rattle.osc_watch.specs.Refreshing.{HasRead, HasReadPart};
-ghost use Rattle.osc_watch.specs.Tokens.{OnlyLooks};
+ghost use Rattle.osc_live.specs.Looks.{HasLooked};
 ghost use Rattle.osc_watch.specs.Watching.{noted, IsWatcherOf};
 
 use osc_life::Gate;
@@ -55,7 +55,7 @@ pub(crate) fn refresh<M: Method, W: Wait>(
     requires read { HasReadPart live.now.caps display.old.board (history_of (view caller.pass)) }
     ensures ours { IsOurs live.now result.0 }
     ensures number { result.0.number ≡ caller.number }
-    ensures looks { OnlyLooks (view caller.pass) (view result.0.pass) }
+    ensures looks { HasLooked (view caller.pass) (view result.0.pass) }
     ensures read { HasReadPart live.now.caps display.new.board (history_of (view result.0.pass)) }
     ensures whole { OnOk result.1
         (HasRead live.now.caps display.new.board (history_of (view result.0.pass))) }

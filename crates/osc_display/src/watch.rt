@@ -2,7 +2,7 @@
 ghost use Rattle.std.specs.Prelude.{◌≡◌, IfOk};
 ghost use Rattle.osc_live.specs.Seen.{history_of};
 ghost use Rattle.osc_watch.specs.Refreshing.{HasReadPart};
-ghost use Rattle.osc_watch.specs.Tokens.{OnlyLooks};
+ghost use Rattle.osc_live.specs.Looks.{HasLooked};
 ghost use Rattle.osc_display.specs.Displays.{Lists};
 
 use crate::display::{Display, list, read, refresh};
@@ -22,10 +22,10 @@ pub(crate) struct Watch {
 impl<M: Method> Meanwhile<M, Display> for Watch {
     type End = Result<Methods, AllocError>;
 
-    ghost rounds = { λ before now state holder v w. OnlyLooks v w
+    ghost rounds = { λ before now state holder v w. HasLooked v w
         × HasReadPart holder.caps now.board (history_of w) };
 
-    ghost ends = { λ before after end holder tokens v w. OnlyLooks v w
+    ghost ends = { λ before after end holder tokens v w. HasLooked v w
         × IfOk end (Lists (history_of w)) };
 
     fn round<W: Wait, G: Gate>(

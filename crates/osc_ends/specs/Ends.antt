@@ -14,7 +14,7 @@ IsUnplayed status = (status ≡ REFUSED) ⊎ (status ≡ USAGE) ⊎ (status ≡ 
 abbrev pub IsWritten : ℕ → Type 0
 IsWritten status = (status ≡ DONE) ⊎ (status ≡ RECORDING_FULL) ⊎ (status ≡ EDGE_FAILED)
 
--- what a whole input leaves: nothing, or what stands behind the first byte that is too many
+-- what a whole input leaves: nothing, or what stands after the first byte that is too many
 abbrev pub left_behind : ℕ → List ℕ → List ℕ
 left_behind most input = drop (most + 1) input
 

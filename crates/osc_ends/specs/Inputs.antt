@@ -21,7 +21,7 @@ read_status (Ok read) = DONE
 read_status (Err status) = status
 
 -- By the status: the source failed (4), and its count of faults rose; or it didn't, and it was read
--- to its end, or to the first byte that is too many. Want of memory (3) promises nothing.
+-- to its end, or to the first byte that is too many. Out of memory (3) promises nothing.
 pub record ReadsInput (most status : ℕ) (left left_after : Option (List ℕ))
     (faults faults_after : ℕ) : Type 0 where
   pub source : status ≡ SOURCE_FAILED → Rose faults faults_after
@@ -29,7 +29,7 @@ pub record ReadsInput (most status : ℕ) (left left_after : Option (List ℕ))
   pub read : IfSome left (λ all. status ≢ NO_MEMORY → status ≢ SOURCE_FAILED
       → left_after ≡ Some (left_behind most all))
 
--- Nothing came of an input: refused (1), where its bytes are refused; out of memory (3); or a
+-- No result of an input: refused (1), where its bytes are refused; out of memory (3); or a
 -- source that failed (4).
 pub record RefusesInput (Refuses : List ℕ → Type 0) (status : ℕ) (left : Option (List ℕ))
     : Type 0 where

@@ -41,7 +41,7 @@ pub record ReplaysTo (bytes printed_text : List ℕ) : Type 0 where
 
 -- The end of a command that reads a recording, by its status: done (0), where the bytes have a text
 -- of the command, and it was gained; refused (1), where they have lines that refuse them, and these
--- were gained; cut short (5), where the sink failed, and a front of the text was gained. Want of
+-- were gained; cut short (5), where the sink failed, and a front of the text was gained. Out of
 -- memory (3) promises nothing.
 pub record EndsRecording (Writes Refuses : List ℕ → List ℕ → Type 0) (status : ℕ)
     (bytes : List ℕ) (out : SinkChange) : Type 0 where

@@ -11,6 +11,6 @@ pub struct Ended {
     pub status: u8,
     /// The id of each method that was added with its box, ascending, the removed ones among them.
     pub heard: Vec<(u32, Box<dyn Method + Send>)>,
-    /// The other boxes: those of adds that were refused, in the order of the lines, and those behind the last add.
+    /// The other boxes: those of adds that were refused, in the order of the lines, and those after the last add.
     pub left: Vec<Box<dyn Method + Send>>,
 }

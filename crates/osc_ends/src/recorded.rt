@@ -8,7 +8,7 @@ use osc_print::Text;
 pub struct Recorded {
     /// The recording of its history.
     pub bytes: Vec<u8>,
-    /// The lines of the faults, and behind them those of what was listed.
+    /// The lines of the faults, and after them those of what was listed.
     pub faults: Text,
     /// How it ended.
     pub outcome: Outcome,

@@ -238,7 +238,7 @@ pub fn bank_short<O: Sink>(alloc: Global, need: usize, have: usize, out: &mut O)
     }
 }
 
-/// Writes the line of a recording whose callers and lanes together are more than its limits allow: 9, or want of
+/// Writes the line of a recording whose callers and lanes together are more than its limits allow: 9, or out of
 /// memory.
 pub fn callers_full<O: Sink>(alloc: Global, need: usize, have: usize, out: &mut O) -> u8
     ensures { EndsLine CALLERS_FULL result (callers_full_text need have)

@@ -1,8 +1,8 @@
 -- How a recording grows.
-use Rattle.std.proofs.Common.{◌≡◌, ◌≤◌, ◌+◌, ℕ, List, [], ◌++◌, length, take, drop, slice_index, refl, sym, ap, subst, ◌∙◌, arith}
+use Rattle.std.proofs.Common.{◌≡◌, ◌≤◌, ◌+◌, ℕ, List, ◌++◌, length, take, drop, refl, sym, ap, subst, ◌∙◌, arith}
 use Rattle.std.proofs.Common.{append_assoc, length-append}
 use Rattle.std.specs.List.{flat_map}
-use Rattle.std.proofs.lemmas.List.{append-nil, map-append, take-append-le}
+use Rattle.std.proofs.lemmas.List.{map-append, take-append-le}
 use Rattle.std.proofs.lemmas.List.Elements.{filter_map-append}
 use Rattle.std.proofs.lemmas.Grind.{flat_map-append}
 use Rattle.std.proofs.Math.Seq.{take-add}
@@ -16,13 +16,13 @@ use Rattle.osc_record.specs.Reading.{entry_in}
 use Rattle.osc_core.specs.Standing.{history_in}
 use Rattle.osc_turn.specs.declared.view.Entry.{Entry as Seen}
 use Rattle.osc_turn.specs.declared.view.View.{View}
-use Rattle.osc_turn.specs.History.{StartsWith, texts, text_of, own}
-use Rattle.osc_turn.specs.Rule.{number_of}
+use Rattle.osc_turn.specs.History.{StartsWith, texts, text_of}
 use Rattle.osc_live.specs.Reads.{Reads, Writes}
-use Rattle.osc_turn.proofs.Histories.{starts_on}
 use Rattle.osc_growing.specs.declared.growth.Growth.{Growth}
 use Rattle.osc_growing.specs.declared.growth.Growth.TheVariants.{Written, Failed, NoMemory}
-use Rattle.osc_life.specs.Looking.{HasLooked, HasLookedOn}
+use Rattle.osc_live.specs.Looks.{HasLooked}
+use Rattle.osc_live.proofs.Looked.{looked_once}
+use Rattle.osc_life.specs.Looking.{HasLookedOn}
 use Rattle.osc_growing.specs.Growing.{recorded, HasGrown, IsWithin, growth_of}
 use Rattle.osc_growing.proofs.Fronts.{Gained, Front, gained_none, gained_both, front_both, front_on}
 
@@ -109,30 +109,7 @@ piece_failed one other text piece from follows is grown gains = (
 
 -- a read is a look
 pub looked_by : (caps : Limits) (from count : ℕ) (old new : List ℕ) (v w : View) → Reads caps from old new count v w → HasLooked v w
-looked_by caps from count old new v w reads = record {
-  goes_on = reads.goes_on;
-  numbers = ap (λ (u : View). u.numbers) reads.once;
-  own_same = reads.own_same;
-  made = ap (λ (u : View). u.made) reads.once;
-}
-
--- nothing was looked at
-pub looked_none : (v : View) → HasLooked v v
-looked_none v = record { goes_on = ([], sym (append-nil v.seen)); numbers = refl; own_same = refl; made = refl }
-
--- one look after another
-pub looked_on : (u v w : View) → HasLooked u v → HasLooked v w → HasLooked u w
-looked_on u v w one other =
-    let number : number_of v ≡ number_of u = ap (λ (l : List ℕ). first_of l) one.numbers in
-    record {
-      goes_on = starts_on w.seen v.seen u.seen other.goes_on one.goes_on;
-      numbers = other.numbers ∙ one.numbers;
-      own_same = subst (λ (n : ℕ). own n w.seen ≡ own n v.seen) number other.own_same ∙ one.own_same;
-      made = other.made ∙ one.made;
-    }
-  where
-    first_of : List ℕ → ℕ
-    first_of l = slice_index l 0
+looked_by caps from count old new v w reads = looked_once v w reads.once reads.goes_on reads.own_same
 
 -- what was written of all that a token has seen was written of the whole history that begins with it
 pub grown_whole : (growth : Growth) (sink : SinkChange) (caps : Limits) (w : View) (history : List Seen) (bytes : List ℕ)

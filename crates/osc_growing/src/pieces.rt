@@ -4,7 +4,7 @@ ghost use Rattle.osc_ends.specs.Sinks.{sink_change};
 ghost use Rattle.osc_turn.specs.Passes.{view};
 ghost use Rattle.osc_live.specs.Seen.{history_of};
 ghost use Rattle.osc_live.specs.Tokens.{IsOurs};
-ghost use Rattle.osc_life.specs.Looking.{HasLooked};
+ghost use Rattle.osc_live.specs.Looks.{HasLooked};
 ghost use Rattle.osc_growing.specs.Growing.{HasGrown, recorded};
 ghost use Rattle.osc_growing.specs.Entries.{EndsBetween, HasEndIn, IsWrittenTo, texts_of};
 ghost use Rattle.osc_growing.specs.declared.growth.Growth.TheVariants.{Written};

@@ -39,7 +39,7 @@ pub record IsCallOf (history : List Entry) (unit : TimedUnit) (call : Call) : Ty
   pub registered : IsRegistered history call.id call.address
   pub matched : Match (pattern_of call.message) call.address
 
--- each call comes before all those behind it, so none stands there twice
+-- each call comes before all those after it, so none stands there twice
 abbrev pub AreInOrder : List Call → Type 0
 AreInOrder [] = Unit {0}
 AreInOrder (call ∷ calls) = AllByRecursion (ComesBefore call) calls × AreInOrder calls

@@ -1,5 +1,5 @@
 -- A close where a token has only looked.
-use Rattle.std.proofs.Common.{◌≡◌, ℕ, zero, suc, ◌<◌, List, [], ◌∷◌, ◌++◌, map, slice_index, All, inl, inr, refl, sym, ap, subst, ◌∙◌, arith}
+use Rattle.std.proofs.Common.{◌≡◌, ℕ, zero, suc, ◌<◌, List, [], ◌∷◌, map, All, inl, inr, refl, sym, ap, subst, ◌∙◌, arith}
 use Rattle.std.specs.Prelude.{Contains, slice_index_or}
 use Rattle.std.proofs.lemmas.List.Elements.{All-cons, All-head, All-tail, All-weaker, Contains-append_cases, Contains-append_left, Contains-append_right}
 use Rattle.osc_model.specs.Limits.{Limits}
@@ -15,11 +15,8 @@ use Rattle.osc_live.specs.declared.caller.Caller.{Caller}
 use Rattle.osc_live.specs.declared.guest.Guest.{Guest}
 use Rattle.osc_live.specs.Closing.{known, views_of, IsOfCaller, IsOfFirst, Closes}
 use Rattle.osc_live.specs.Seen.{names}
-use Rattle.osc_life.specs.Looking.{HasLooked}
-
--- the number of a token that has looked
-pub same_number : (v w : View) → HasLooked v w → number_of w ≡ number_of v
-same_number v w looked = ap (λ (l : List ℕ). slice_index l 0) looked.numbers
+use Rattle.osc_live.specs.Looks.{HasLooked}
+use Rattle.osc_live.proofs.Looked.{same_number}
 
 -- a token that knows more, among those that know, and the one that it was
 among : (v w : View) (number : ℕ) (knows : List (ℕ × View)) (one : ℕ × View) → number_of w ≡ number_of v → Contains ((number, w) ∷ knows) one

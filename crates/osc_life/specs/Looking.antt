@@ -7,24 +7,17 @@ use Rattle.osc_model.specs.Recordings.{record_text}
 use Rattle.osc_core.specs.Standing.{history_in}
 use Rattle.osc_turn.specs.declared.view.Entry.{Entry as Seen}
 use Rattle.osc_turn.specs.declared.view.View.{View}
-use Rattle.osc_turn.specs.History.{StartsWith, texts, own}
-use Rattle.osc_turn.specs.Rule.{number_of}
+use Rattle.osc_turn.specs.History.{StartsWith, texts}
 use Rattle.osc_turn.specs.Passes.{view}
 use Rattle.osc_live.specs.declared.caller.Caller.{Caller}
 use Rattle.osc_live.specs.declared.live.Live.{Live}
+use Rattle.osc_live.specs.Looks.{HasLooked}
 use Rattle.osc_live.specs.Tokens.{IsOurs}
 use Rattle.osc_life.specs.declared.beside.Beside.{Beside}
 use Rattle.osc_life.specs.declared.looker.Looker.{Looker}
 use Rattle.osc_life.specs.declared.worker.Job.{Job}
 use Rattle.osc_life.specs.Holders.{Holder}
 use Rattle.osc_life.specs.Works.{CanPlay, CanGoOn, ArePlayed}
-
--- What is seen goes on from what was seen, with no further entry of the token, which made none.
-pub record HasLooked (v w : View) : Type 0 where
-  pub goes_on : StartsWith w.seen v.seen
-  pub numbers : w.numbers ≡ v.numbers
-  pub own_same : own (number_of v) w.seen ≡ own (number_of v) v.seen
-  pub made : w.made ≡ v.made
 
 -- A caller who has looked comes back, and this came of it, where something that was lent was as the
 -- first and is as the second.

@@ -4,7 +4,7 @@ ghost use Rattle.osc_model.specs.Limits.{Limits};
 ghost use Rattle.osc_turn.specs.declared.view.View.{View};
 ghost use Rattle.osc_turn.specs.Passes.{view};
 ghost use Rattle.osc_live.specs.Tokens.{IsOurs};
-ghost use Rattle.osc_life.specs.Looking.{HasLooked};
+ghost use Rattle.osc_live.specs.Looks.{HasLooked};
 
 use crate::desk::Desk;
 use crate::gate::Gate;

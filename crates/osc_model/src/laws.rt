@@ -212,7 +212,7 @@ pub fn invocations_are_of_registered_methods()
     trees::the_matching_methods_ascend();
 }
 
-/// A box hears the calls of its id in their order, and keeps the last bytes of them behind what it had heard. So a box
+/// A box hears the calls of its id in their order, and keeps the last bytes of them after what it had heard. So a box
 /// that was reset has then heard the last bytes of these calls.
 pub fn a_box_hears_its_calls()
     ensures calls { (told : Told) (invocations : List Invocation) → IsWithin told

@@ -57,7 +57,7 @@ run_output Summary caps lines =
 -- each add, no event wanted more room than was left, the history is one that the server's rules
 -- give, and what the run writes was gained; cut short (5), where the sink failed, and a front of
 -- that was gained; full (6), as done, but where an event wanted more room; bank short (8), where
--- there are fewer boxes than adds, and the line on that was gained. Want of memory (3) promises
+-- there are fewer boxes than adds, and the line on that was gained. Out of memory (3) promises
 -- nothing.
 pub record EndsLines (report : Report) (caps : Limits) (status have : ℕ) (lines : List Line)
     (out : SinkChange) : Type 0 where

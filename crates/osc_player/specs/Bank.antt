@@ -55,7 +55,7 @@ module _ {X : Type 0} where
   box_left (added id) box = []
   box_left _ box = box ∷ []
 
-  -- the boxes that aren't added, and those behind the last add
+  -- the boxes that aren't added, and those after the last add
   abbrev pub boxes_left : List Answer → List X → List X
   boxes_left [] bank = bank
   boxes_left (answer ∷ answers) [] = []

@@ -95,7 +95,7 @@ pub record Played : Type 0 where
   pub faults : List LineFault
   pub stop : Option Room
 
--- the result of a line, then what comes of those behind it, unless the line stops the script
+-- the result of a line, then the result of those after it, unless the line stops the script
 abbrev pub followed : List Entry → List LineFault → Option Room → Played → Played
 followed entries faults (Some room) later =
     record { history = entries; faults = faults; stop = Some room }

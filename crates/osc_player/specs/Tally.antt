@@ -19,7 +19,7 @@ refused_boxes [] bank = []
 refused_boxes (answer ∷ answers) [] = []
 refused_boxes (answer ∷ answers) (box ∷ bank) = box_left answer box ++ refused_boxes answers bank
 
--- each id is below those behind it
+-- each id is below those after it
 abbrev pub IsRising : List Told → Type 0
 IsRising [] = Unit {0}
 IsRising (box ∷ boxes) = AllByRecursion (λ other. box.id < other.id) boxes × IsRising boxes

@@ -46,7 +46,7 @@ pub struct Played<M> {
     pub stop: Option<Room>,
     /// The methods that were added, by ascending ids, the removed ones among them.
     pub heard: Vec<(u32, M)>,
-    /// The other boxes of the bank: those of adds that were refused, and those behind the last add.
+    /// The other boxes of the bank: those of adds that were refused, and those after the last add.
     pub left: Vec<M>,
 }
 

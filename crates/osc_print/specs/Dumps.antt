@@ -1,4 +1,4 @@
--- A dump: the limits of a recording, and its entries, each behind its place.
+-- A dump: the limits of a recording, and its entries, each after its place.
 use Rattle.std.specs.Prelude.{ℕ, ◌/◌, ◌^◌, List, [], ◌++◌, codes}
 use Rattle.std.specs.List.{flat_map}
 use Rattle.std.specs.Fmt.{decimal}
@@ -25,12 +25,12 @@ limits_text limits =
     ++ spaced (decimal limits.callers) ++ spaced (decimal limits.recording)
     ++ spaced (policy_word limits.late))
 
--- behind a tick the date of its moment's seconds
+-- after a tick the date of its moment's seconds
 abbrev pub date_behind : Event → List ℕ
 date_behind (tick moment) = spaced (date_text (moment / 2 ^ 32))
 date_behind _ = []
 
--- the line of an entry, behind its place in the recording
+-- the line of an entry, after its place in the recording
 abbrev pub placed_text : Placed → List ℕ
 placed_text placed =
     line (decimal placed.at ++ spaced (entry_words placed.entry)

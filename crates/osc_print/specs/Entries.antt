@@ -20,7 +20,7 @@ named word value = word ++ spaced (decimal value)
 abbrev pub named_room : List ℕ → ℕ → ℕ → List ℕ
 named_room word need free = word ++ (spaced (decimal need) ++ spaced (decimal free))
 
--- behind a packet that is queued, how many of its units are dropped, where some are
+-- after a packet that is queued, how many of its units are dropped, where some are
 abbrev pub late_words : ℕ → List ℕ
 late_words late = if late == 0 then [] else spaced (named (codes "late") late)
 

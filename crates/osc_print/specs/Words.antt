@@ -21,7 +21,7 @@ is_shown byte = nat_le 33 byte && nat_le byte 126 && not (byte == 92)
 abbrev pub shown_byte : ℕ → List ℕ
 shown_byte byte = if is_shown byte then byte ∷ [] else 92 ∷ 120 ∷ encode_lower (byte ∷ [])
 
--- the tag and, behind a colon, the value: numbers in decimal, words and tags as hexadecimal digits,
+-- the tag and, after a colon, the value: numbers in decimal, words and tags as hexadecimal digits,
 -- texts as they can be shown; what has no bytes is its tag alone
 abbrev pub argument_word : Argument → List ℕ
 argument_word (integer number) = codes "i:" ++ signed_decimal number

@@ -21,7 +21,7 @@ pub fn header_line(text: &mut Text, caps: &Caps) -> Result<(), AllocError>
     text.whole_line(start, added)
 }
 
-/// Adds the line of an entry behind its place in the recording, and behind a tick the date of its moment's seconds
+/// Adds the line of an entry after its place in the recording, and after a tick the date of its moment's seconds
 /// (docs/FORMATS.md, "Dumps"). An `Err` means out of memory.
 pub fn dump_line(text: &mut Text, entry: &Entry<'_>) -> Result<(), AllocError>
     ensures ok { OnOk result (text.new ≡ text.old ++ placed_text (placed_of entry.now)) }

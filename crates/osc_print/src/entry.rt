@@ -82,7 +82,7 @@ impl Text {
         }
     }
 
-    /// Adds a word and a number behind it.
+    /// Adds a word and a number after it.
     fn named(&mut self, name: &[u8], number: u32) -> Result<(), AllocError>
         ensures ok { OnOk result (self.new ≡ self.old ++ named name.now number) }
         ensures err { OnErr result (BeginsWith self.new self.old) }

@@ -8,7 +8,7 @@ use crate::Text;
 use osc_atoms::Fault;
 use std::alloc::AllocError;
 
-/// Adds the line of the first fault of the packet in a line of a script, which counts from 1. An `Err` is want of
+/// Adds the line of the first fault of the packet in a line of a script, which counts from 1. An `Err` means out of
 /// memory.
 pub fn fault_line(text: &mut Text, line: u32, fault: Fault) -> Result<(), AllocError>
     ensures ok { OnOk result (text.new ≡ text.old ++ fault_text line fault) }

@@ -30,7 +30,7 @@ pub(crate) fn append_message(out: &mut Vec<u8>, address: &[u8], tags: &[u8], arg
     append_atoms(out, args);
 }
 
-/// How many bytes the arguments have behind their tags.
+/// How many bytes the arguments have after their tags.
 fn atoms_size(args: &[Arg<'_>]) -> usize
     requires { length (flat_map atom_of (listed args.now)) ≤ max_recording }
     ensures { result ≡ length (flat_map atom_of (listed args.now)) }

@@ -122,7 +122,7 @@ fn submit_front(size: u32, caller: u32, count: u32) -> [u8; 32]
     front
 }
 
-/// The bytes of a submit behind its packet.
+/// The bytes of a submit after its packet.
 fn submit_back(code: u32, first: u64, second: u32, third: u32) -> [u8; 20]
     ensures { result ≡ word code ++ (tag first ++ (word second ++ word third)) }
 {

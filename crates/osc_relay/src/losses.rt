@@ -1,4 +1,4 @@
-// How many messages didn't go to a destination, counted by all outlets to it together.
+//! How many messages didn't go to a destination, counted by all outlets to it together.
 use std::sync::atomic::{AtomicU64, Ordering};
 
 /// How many messages weren't sent to one destination. All outlets to it count here, on whichever threads they are, and

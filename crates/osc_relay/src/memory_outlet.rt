@@ -1,4 +1,4 @@
-// An outlet in memory that keeps what it was given, and fails at the sends in a list.
+//! An outlet in memory that keeps what it was given, and fails at the sends in a list.
 ghost use Rattle.std.specs.Prelude.{◌≡◌, ◌==◌, ◌++◌, ◌∷◌, OnOk, OnErr, Some, []};
 ghost use Rattle.std.specs.List.{list_any};
 

@@ -1,4 +1,4 @@
-// An outlet of datagrams.
+//! An outlet of datagrams.
 ghost use Rattle.std.specs.Prelude.{◌≡◌, ℕ, List, [], Option};
 ghost use Rattle.std.specs.Option.{option_map};
 ghost use Rattle.osc_relay.specs.Outlets.{after_sending, losses_after, one_up};

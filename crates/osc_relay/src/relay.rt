@@ -1,4 +1,4 @@
-// A method that sends its calls on.
+//! A method that sends its calls on.
 ghost use Rattle.std.specs.Prelude.{◌≡◌, ◌≤◌, ◌<◌, ◌^◌, ◌++◌, length, take, drop, All};
 ghost use Rattle.std.specs.Prelude.{vec_len, option_map};
 ghost use Rattle.std.specs.Option.{ForSome};

@@ -1,4 +1,4 @@
-// The trusted edge to the network: an outlet that sends by UDP, of whose datagrams nothing is told.
+//! The trusted edge to the network: an outlet that sends by UDP, of whose datagrams nothing is told.
 ghost use Rattle.std.specs.Prelude.{◌≡◌, None};
 
 use crate::{Losses, Outlet, Sending};

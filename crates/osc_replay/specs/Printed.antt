@@ -21,7 +21,7 @@ abbrev pub printed : Limits → List Entry → List ℕ
 printed caps entries = printed_from (opening caps) entries
 
 -- An entry of a history prints its own line and one call line for each of its invocations, between
--- the text of the entries before it and that of those behind it; and each invocation is of a method
+-- the text of the entries before it and that of those after it; and each invocation is of a method
 -- that was registered before the entry, whose address the pattern of the message matches.
 pub record PrintsEntry (caps : Limits) (before : List Entry) (entry : Entry)
     (behind : List Entry) : Type 0 where

@@ -14,7 +14,7 @@ Reads (Ok score) read = (notes : List Note) × (read ≡ Ok notes) × (score ≡
 Reads (Err (Fault fault)) read = read ≡ Err fault
 Reads (Err NoMemory) read = Unit {0}
 
--- a line with this fault behind the notes of the lines before it, of which none is at fault
+-- a line with this fault after the notes of the lines before it, of which none is at fault
 pub record IsFirstFault (bytes : List ℕ) (fault : ScoreFault) : Type 0 where
   pub before : List (List ℕ)
   pub text : List ℕ

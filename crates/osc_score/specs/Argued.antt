@@ -10,7 +10,7 @@ use Rattle.osc_score.specs.declared.note_reading.Said.{Said}
 use Rattle.osc_score.specs.Kinds.{arg_kind}
 use Rattle.osc_score.specs.Scores.{Note}
 
--- the argument that is read stands behind those before, or none is read
+-- the argument that is read stands after those before, or none is read
 abbrev pub Argues : Result (Unit {0}) LineRefusal → Option Argument → List ℕ → List ℕ → List ℕ
     → List ℕ → Type 0
 Argues (Ok done) (Some argument) tags atoms more_tags more_atoms =
@@ -24,13 +24,13 @@ abbrev pub IsUnder : ℕ → Argument → Type 0
 IsUnder tag argument =
     (tag ≡ tag_of argument) × HasNoZero argument × (length (atom_of argument) ≤ MAX_BYTES)
 
--- tags and atoms, and those of what is read behind them
+-- tags and atoms, and those of what is read after them
 abbrev pub arguments_onto : List ℕ → List ℕ → Option (List Argument) → Option (List ℕ × List ℕ)
 arguments_onto tags atoms read = option_map
     (λ arguments. (tags ++ map tag_of arguments, atoms ++ flat_map atom_of arguments))
     read
 
--- the arguments that are read stand behind those before, or some word is none
+-- the arguments that are read stand after those before, or some word is none
 abbrev pub ArguesAll : Result (Unit {0}) LineRefusal → Option (List Argument) → List ℕ → List ℕ
     → List ℕ → List ℕ → Type 0
 ArguesAll (Ok done) read tags atoms more_tags more_atoms =

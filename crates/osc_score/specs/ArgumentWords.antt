@@ -97,7 +97,7 @@ bare_read tag =
     if tag == 91 then Some array_start else if tag == 93 then Some array_end else
     None
 
--- a number of a tag and, behind a colon, its digits
+-- a number of a tag and, after a colon, its digits
 abbrev pub number_read : ℕ → List ℕ → Option Argument
 number_read tag value =
     if tag == 105 then option_map integer (signed_read (2 ^ 31) value) else
@@ -110,7 +110,7 @@ number_read tag value =
     if tag == 100 then option_map double (tag_read value) else
     None
 
--- an argument of a tag and, behind a colon, its value
+-- an argument of a tag and, after a colon, its value
 abbrev pub value_read : ℕ → List ℕ → Option Argument
 value_read tag value =
     if tag == 98 then option_map content (result_ok (decode_of value)) else

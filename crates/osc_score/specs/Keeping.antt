@@ -43,7 +43,7 @@ abbrev pub KeepsRuns : ℕ → List Run → Option Bundling → List Group → T
 KeepsRuns least runs None groups = (groups ≡ []) × (runs ≡ [])
 KeepsRuns least runs (Some making) groups = KeepsLast least runs making groups
 
--- runs with one more note behind them
+-- runs with one more note after them
 abbrev pub KeepsNext : List Run → Bundling → List Group → Note → Type 0
 KeepsNext runs making groups note = KeepsLast note.tag runs making groups
 

@@ -55,7 +55,7 @@ run_with (group ∷ []) note =
     then record { tag = group.tag; notes = group.notes ++ note ∷ [] } else alone note
 run_with (group ∷ next ∷ groups) note = run_with (next ∷ groups) note
 
--- runs with one more note behind them
+-- runs with one more note after them
 abbrev pub extended : List Group → Note → List Group
 extended [] note = alone note ∷ []
 extended (group ∷ []) note =
@@ -73,14 +73,14 @@ unless_refused (Some is_container) notes = Err clash_kind
 unless_refused (Some (methods_full limit)) notes = Err tree_full_kind
 unless_refused (Some (nodes_full need free)) notes = Err tree_full_kind
 
--- a note behind others, where its bundle isn't too long, and its address can stand with theirs
+-- a note after others, where its bundle isn't too long, and its address can stand with theirs
 abbrev pub note_added : List Note → Note → Result (List Note) ℕ
 note_added notes note =
     if nat_lt MAX_PACKET (length (bundle_text (run_with (groups_of notes) note)))
     then Err bundle_kind
     else unless_refused (add_refusal (tree_of notes) note.address) (notes ++ note ∷ [])
 
--- notes, and what words say behind them; none say nothing
+-- notes, and what words say after them; none say nothing
 abbrev pub words_read : List Note → List (List ℕ) → Result (List Note) ℕ
 words_read notes [] = Ok notes
 words_read notes (word ∷ []) = Err count_kind
@@ -92,7 +92,7 @@ abbrev pub line_read : List Note → List ℕ → Result (List Note) ℕ
 line_read notes text =
     if starts_with nat_eq text (codes "#") then Ok notes else words_read notes (words_of text)
 
--- notes, and what lines say behind them, counted from a number on; the first fault decides
+-- notes, and what lines say after them, counted from a number on; the first fault decides
 abbrev pub lines_read : ℕ → List Note → List (List ℕ) → Result (List Note) ScoreFault
 lines_read number notes [] = Ok notes
 lines_read number notes (text ∷ texts) = elim (line_read notes text) [

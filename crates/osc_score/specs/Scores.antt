@@ -139,7 +139,7 @@ word_size infinitum = 1
 word_size array_start = 1
 word_size array_end = 1
 
--- of the words of arguments, each behind a space
+-- of the words of arguments, each after a space
 abbrev pub words_size : List Argument → ℕ
 words_size [] = 0
 words_size (argument ∷ arguments) = 1 + word_size argument + words_size arguments

@@ -18,7 +18,7 @@ use hex::FromHexError;
 use osc_message::{Arg, append_argument, argument_size};
 use std::alloc::Global;
 
-/// The argument of a word, as its tag and its bytes, behind those before.
+/// The argument of a word, as its tag and its bytes, after those before.
 pub(crate) fn put_word(
     alloc: Global,
     word: &[u8],

@@ -55,7 +55,7 @@ pub(crate) fn read_note(
     }
 }
 
-/// What the words behind a tag say.
+/// What the words after a tag say.
 fn read_at(alloc: Global, tag: u64, address: &[u8], words: &[u8]) -> Result<Said, LineRefusal>
     requires { length words.now ≤ MAX_SCORE }
     ensures read { TellsNote result (if is_address address.now
@@ -100,7 +100,7 @@ fn read_message(alloc: Global, address: &Address, words: &[u8]) -> Result<Bytes,
     Ok(Bytes::of(joined(alloc, address.bytes(), &tags, &atoms)?))
 }
 
-/// The arguments of the words, each as its tag and its bytes, behind those before.
+/// The arguments of the words, each as its tag and its bytes, after those before.
 fn put_words(
     alloc: Global,
     words: &[u8],

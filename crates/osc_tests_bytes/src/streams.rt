@@ -59,7 +59,7 @@ fn a_stream_leaves_what_is_behind_a_packet(rt: HostRuntime) -> Result<(), Fail> 
     Ok(())
 }
 
-/// Hands in a piece, of which a packet may be taken, and puts that behind those before. Says how many bytes were taken.
+/// Hands in a piece, of which a packet may be taken, and puts that after those before. Says how many bytes were taken.
 fn feed(stream: &mut Stream, piece: &[u8], packets: &mut Vec<u8>) -> Result<usize, AllocError>
     requires { taken stream.old < 2 ^ 63 }
     ensures within { IfOk result (λ count. count ≤ length piece.now) }
@@ -85,7 +85,7 @@ fn feed_all(stream: &mut Stream, piece: &[u8], packets: &mut Vec<u8>) -> Result<
     Ok(())
 }
 
-/// The packets of the pieces, a bar behind each.
+/// The packets of the pieces, a bar after each.
 fn packets_of(
     alloc: Global,
     first: &[u8],

@@ -86,7 +86,7 @@ fn submit<R: Wait>(rt: &R, live: &Live<Slow>, caller: Caller) -> Caller
     caller
 }
 
-/// The second caller adds behind its enrolment and perhaps a submit, and caller 0 tries its calls meanwhile.
+/// The second caller adds after its enrolment and perhaps a submit, and caller 0 tries its calls meanwhile.
 fn hold<R: Threads + Wait + Sync>(rt: &R, alloc: Global, submits: bool) -> Option<Meanwhile> {
     let begun = flag(alloc)?;
     let may_end = flag(alloc)?;

@@ -3,7 +3,7 @@ use crate::servers::{address, caps};
 use osc_core::{Adding, Removing, Submitted};
 use osc_live::{Live, PumpEnd, Pumped};
 use osc_packet::{MAX_PACKET, Packet};
-use osc_uses::{Fader, Soon, entries_since, pump_behind, replace, run_clock, submit_soon};
+use osc_uses::{Fader, Soon, entries_since, pump_after, replace, run_clock, submit_soon};
 use std::test::*;
 
 /// `/a` with 7.
@@ -54,7 +54,7 @@ fn what_another_submitted_is_released_behind_it(rt: HostRuntime) -> Result<(), F
     let second = second.ok().ok_or("a caller")?;
     let packet = Packet::check(SEVEN, MAX_PACKET).ok().ok_or("a packet")?;
     let (second, _) = submit_soon(&rt, &live, second, &packet);
-    let (_, _, pumped) = pump_behind(&rt, &live, first, second);
+    let (_, _, pumped) = pump_after(&rt, &live, first, second);
     let end = PumpEnd::NothingDue { next: None };
     let released = Pumped {
         released: 1,

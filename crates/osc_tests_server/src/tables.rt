@@ -124,7 +124,7 @@ const NEEDS: [(&[Event], Event, Answer, u32, u32); 6] = [
     ),
 ];
 
-/// What the call is answered, where the recording has so many bytes behind its header of 60.
+/// What the call is answered, where the recording has so many bytes after its header of 60.
 fn within(alloc: Global, before: &[Event], event: Event, room: u32) -> Result<Answer, Fail>
     requires { room < 1000 }
 {

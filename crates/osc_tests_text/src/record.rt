@@ -95,7 +95,7 @@ fn a_release_has_its_hits_in_order(rt: HostRuntime) -> Result<(), AllocError> {
     Ok(())
 }
 
-/// The bytes behind a header, and the first malformed place.
+/// The bytes after a header, and the first malformed place.
 const PLACES: [(&[u8], Option<u32>); 21] = [
     (b"", None),
     (&TICK, None),

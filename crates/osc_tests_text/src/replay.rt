@@ -73,7 +73,7 @@ fn a_recording_is_checked_without_being_printed(rt: HostRuntime) -> Result<(), A
     Ok(())
 }
 
-/// What stands behind a header, in two parts, and the first malformed place.
+/// What stands after a header, in two parts, and the first malformed place.
 const PLACES: [(&[u8], &[u8], u32); 9] = [
     // A tick without its last byte.
     (
@@ -110,7 +110,7 @@ const PLACES: [(&[u8], &[u8], u32); 9] = [
         60,
     ),
     (&TICK, b"\0", 108),
-    // One behind an entry that disagrees.
+    // One after an entry that disagrees.
     (&STRANGER, b"\0", 108),
     (
         &STRANGER,

@@ -105,7 +105,7 @@ fn shown(act: &Act) -> (&str, &[u8]) {
     }
 }
 
-/// A line that says something: its number, its lane, the word and what stands behind it.
+/// A line that says something: its number, its lane, the word and what stands after it.
 type Said = (u32, u32, &'static str, &'static [u8]);
 
 /// A script in its mode, and its lines that say something.

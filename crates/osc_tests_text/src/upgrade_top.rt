@@ -100,7 +100,7 @@ const REFUSED: [(&str, &str, &str, &str, &str); 6] = [
     ),
     ("upgrade", "", "", "", "malformed 0\n"),
     ("upgrade", HEADER, "04000000", CUT, "malformed 56\n"),
-    // The entry ends behind the header's limit.
+    // The entry ends after the header's limit.
     ("upgrade", HEADER, "0000006b", SEND, "malformed 56\n"),
 ];
 

@@ -128,7 +128,7 @@ impl Gate for HoldEach {
     fn leave(&self, _link: u32, _datagram: u32) {}
 }
 
-/// Holds line 2 of a script until a read of the watcher is over that began behind line 1.
+/// Holds line 2 of a script until a read of the watcher is over that began after line 1.
 #[derive(Drop)]
 pub(crate) struct HoldForRead {
     left: AtomicU64,

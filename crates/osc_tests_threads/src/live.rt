@@ -81,7 +81,7 @@ pub(crate) fn perform<R: Threads + Wait + Sync, G: Gate + Sync>(
     })
 }
 
-/// The first words of a caller's entries in a printed history, with a space behind each.
+/// The first words of a caller's entries in a printed history, with a space after each.
 pub(crate) fn entries_of(alloc: Global, printed: &str, caller: &str) -> Result<String, AllocError> {
     let mut entries = String::new(alloc);
     for line in printed.lines() {

@@ -140,7 +140,7 @@ fn resumed<R: Threads + Wait + Sync>(
 /// What is printed of the lane whose bundle waits.
 const WAITING_TEXT: &str = "enrol 0 1\nadd 1 /a id 0\nsubmit 1 queued 0 1\n";
 
-/// What is printed behind it where it is gone on from.
+/// What is printed after it where it is gone on from.
 const GOING_ON_TEXT: &str =
     "enrol 0 2\ntick 2 0000000000000005 ticked\nrelease 2 0 1\ncall 0 0 0 /a -\n";
 

@@ -188,7 +188,7 @@ type Given = (&'static str, &'static str, usize, &'static [Failing]);
 /// Where nothing is served: the status, the last line, and how many boxes have an id and how many are left.
 const UNPLAYED: [(Given, u8, &str, (usize, usize)); 8] = [
     (("serve --links 9 f", ADD, 8, &[]), 2, "usage", (0, 8)),
-    // The source is called once more behind its last bytes, to find its end.
+    // The source is called once more after its last bytes, to find its end.
     ((USUAL, ADD, 8, &[(Edge::Source, 1)]), 4, "", (0, 8)),
     ((USUAL, ADD, 8, &[(Edge::Source, 2)]), 4, "", (0, 8)),
     ((USUAL, "pump\n", 8, &[]), 1, "script 1 8", (0, 8)),
@@ -250,7 +250,7 @@ const PLAYED: [(Given, u8, &str, &[Datagram], u64); 12] = [
         &[Datagram::End, Datagram::End],
         7,
     ),
-    // Nothing fits behind the enrolments.
+    // Nothing fits after the enrolments.
     (
         ("serve --recording 168 f", ADD, 8, &[]),
         6,

@@ -10,7 +10,7 @@ const CHANGES: &str = "0 add /b\n0 add /a/x\n0 remove /b\n0 add /c\n";
 
 const TWO_ADDS: &str = "0 add /b\n0 add /a\n";
 
-/// Words, a script, the status, and what is printed behind the history.
+/// Words, a script, the status, and what is printed after the history.
 const LISTS: [(&str, &str, u8, &str); 7] = [
     (
         "lanes --watch f",

@@ -41,7 +41,7 @@ AreEnough have caps before lines =
 -- written to the other, or this one did, after a whole recording. Refused (1): the bytes are no
 -- recording of a legal history, or else the script has a first fault; bank short (8): there are
 -- fewer boxes than adds; callers full (9): there are more callers than the limits allow; each with
--- its line. Want of memory (3) promises nothing. Where both are lawful and enough is there, sinks
+-- its line. Out of memory (3) promises nothing. Where both are lawful and enough is there, sinks
 -- that don't fail leave it at done, full, or out of memory.
 pub record EndsResumed
     (plays : Limits → List Entry → List Line → List ℕ → List ℕ → Outcome → Type 0)

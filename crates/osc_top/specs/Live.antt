@@ -17,7 +17,7 @@ use Rattle.osc_ends.specs.Sinks.{SinkChange, GainsAll, GainsPart, GainsUnless, I
 -- sinks gained all. Cut short (5): the script was played, and the sink of the recording failed, and
 -- nothing was written to the other, or this one did, after a whole recording. Refused (1): the
 -- script has a first fault, and bank short (8): there are fewer boxes than adds, each with its
--- line. Want of memory (3) promises nothing.
+-- line. Out of memory (3) promises nothing.
 pub record EndsLive (mode : Mode) (plays : List Line → List ℕ → List ℕ → Outcome → Type 0)
     (status : ℕ) (script : List ℕ) (have : ℕ) (rec out : SinkChange) : Type 0 where
   pub known : IsWritten status ⊎ (status ≡ REFUSED) ⊎ (status ≡ NO_MEMORY)

@@ -5,7 +5,7 @@ use Rattle.osc_ends.specs.Sinks.{SinkChange, GainsAll, GainsPart, IsUntouched}
 
 -- The end of writing a recording to one sink and then its text to another: as it was decided, where
 -- both were gained; cut short (5), where the first failed and nothing was written to the second, or
--- the second failed, after a whole recording. Want of memory (3) promises nothing.
+-- the second failed, after a whole recording. Out of memory (3) promises nothing.
 pub record EndsBoth (decided status : ℕ) (recording text : List ℕ) (rec out : SinkChange)
     : Type 0 where
   pub known : (status ≡ decided) ⊎ (status ≡ NO_MEMORY) ⊎ (status ≡ SINK_FAILED)

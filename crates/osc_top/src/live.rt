@@ -92,7 +92,7 @@ use std::thread::Threads;
 ///
 /// `words` are those of the command line, without the program's name. The k-th add of the script, whatever its lane,
 /// gets the k-th box of `bank`. `gate` is called round each line, or each datagram. The links come back in their order,
-/// as they were left. What stands in the sinks, and what becomes of the boxes, the links and the clock, at want of
+/// as they were left. What stands in the sinks, and what becomes of the boxes, the links and the clock, when out of
 /// memory isn't said.
 pub fn live_top<
     S: Source,

@@ -58,7 +58,7 @@ use std::thread::Threads;
 ///
 /// `words` are those of the command line, without the program's name. The k-th method that the past adds gets the k-th
 /// box of `bank`, which hears the old invocations again, and the k-th add of the script, whatever its lane, the k-th
-/// after these. `gate` is called round each line. What stands in the sinks, and what becomes of the boxes, at want of
+/// after these. `gate` is called round each line. What stands in the sinks, and what becomes of the boxes, when out of
 /// memory isn't said.
 pub fn resume_top<P: Source, S: Source, O: Sink, R: Sink, W: Threads + Wait + Sync, G: Gate + Sync>(
     rt: &W,

@@ -30,8 +30,8 @@ use std::sync::Wait;
 use std::thread::Threads;
 
 /// Plays the lines on a new server as caller 0, the k-th add with the k-th box, and serves the links beside each other.
-/// While the links are served, what is recorded is written to `rec`. The links come back in their order. An `Err` is want
-/// of memory.
+/// While the links are served, what is recorded is written to `rec`. The links come back in their order. An `Err` means
+/// out of memory.
 pub(crate) fn stage_links<
     M: Method + Send,
     L: Link + Send + Drop,

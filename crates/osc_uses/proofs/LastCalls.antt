@@ -1,34 +1,21 @@
 -- The calls of the last release, right after it and one by one.
-use Rattle.std.proofs.Common.{◌≡◌, ℕ, zero, suc, cond, List, [], ◌∷◌, ◌++◌, map, drop, Option, Some, None, refl, sym, ap, ◌∙◌}
+use Rattle.std.proofs.Common.{◌≡◌, ℕ, zero, suc, List, [], ◌∷◌, map, drop, Option, Some, None, refl, sym, ap, ◌∙◌}
 use Rattle.std.specs.List.{slice_get}
 use Rattle.std.specs.Option.{MatchOption, option_map}
-use Rattle.osc_model.specs.Events.{Entry, Hit, Invocation, release, released}
-use Rattle.osc_model.specs.State.{State, opening}
-use Rattle.osc_model.specs.Step.{step}
+use Rattle.osc_model.specs.Events.{release, released}
 use Rattle.osc_model.specs.History.{Performance, after, stepped_in, onward}
 use Rattle.osc_core.specs.declared.answers.Releasing.{Releasing}
 use Rattle.osc_core.specs.declared.answers.Releasing.TheVariants as releasing
 use Rattle.osc_core.specs.Answers.{OnReleased, TellsRelease}
-use Rattle.osc_core.specs.Invoked.{call_of, is_release, last_calls, last_from, last_invocations}
-
-last_more : (state : State) (last : List Invocation) (history : List Entry) (entry : Entry)
-    → last_from state last (history ++ entry ∷ [])
-    ≡ cond (is_release entry.event) (step (after state history) entry.event).invocations (last_from state last history)
-last_more state last [] entry = refl
-last_more state last (one ∷ history) entry =
-    last_more (step state one.event).state (cond (is_release one.event) (step state one.event).invocations last) history entry
-
-last_released : (before : Performance) (unit : ℕ) (hits : List Hit) → (stepped_in before release).answer ≡ released unit hits
-    → last_invocations (onward before 0 release) ≡ (stepped_in before release).invocations
-last_released before unit hits is =
-    rw is (last_more (opening before.caps) [] before.history (record { caller = 0; event = release; answer = released unit hits }))
+use Rattle.osc_core.proofs.Telling.{last_released}
+use Rattle.osc_core.specs.Invoked.{call_of, last_calls, last_invocations}
 
 -- where a unit is released, they are those of its release
 pub released_calls : (answering : Releasing) (before later : Performance) → TellsRelease answering (stepped_in before release).answer
     → later ≡ onward before 0 release
     → OnReleased answering (λ _. last_calls later ≡ map call_of (stepped_in before release).invocations)
 released_calls (releasing.Released unit calls) before later tells is =
-    ap (map call_of) (ap last_invocations is ∙ last_released before unit tells.0 tells.1)
+    ap (map call_of) (ap last_invocations is ∙ last_released before 0 unit tells.0 tells.1)
 released_calls (releasing.NothingDue next) before later tells is = tt
 released_calls (releasing.RecordFull room) before later tells is = tt
 

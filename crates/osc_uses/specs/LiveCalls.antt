@@ -23,7 +23,7 @@ SubmitsSoon caps caller packet (AfterWaiting busy submitted) v w =
     × Calls caps caller (submit packet) (submitted_of submitted) between w
 
 -- a caller sees all that another has seen, and then releases until nothing is due
-pub record PumpsBehind (caps : Limits) (caller : ℕ) (pumped : Pumped)
+pub record PumpsAfter (caps : Limits) (caller : ℕ) (pumped : Pumped)
     (other v w : View) : Type 0 where
   pub between : View
   pub own : StartsWith between.seen v.seen

@@ -22,7 +22,7 @@ pub use first_server::{Fader, first_run, one_packet};
 pub use host_round::{HostRound, call_at, fader_level, last_message, play_round};
 pub use live_server::{LiveRun, Placed, Unfinished, live_run};
 pub use matched_addresses::count_matching;
-pub use met_callers::pump_behind;
+pub use met_callers::pump_after;
 pub use printed_recording::printed_history;
 pub use refused_packet::submit_bytes;
 pub use replaced_method::{Replaced, replace};

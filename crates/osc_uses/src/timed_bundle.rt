@@ -20,11 +20,11 @@ use osc_packet::Packet;
 pub struct TimedRun {
     /// What the bundle was answered.
     pub submitted: Submitted,
-    /// What a release came to before the tick.
+    /// The answer to a release before the tick.
     pub early: Releasing,
     /// What the tick was answered.
     pub ticked: Ticking,
-    /// What a release came to behind it.
+    /// The answer to a release after it.
     pub released: Releasing,
 }
 

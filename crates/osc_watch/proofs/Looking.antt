@@ -1,46 +1,23 @@
 -- What a token knows that only looks.
-use Rattle.std.proofs.Common.{◌≡◌, ℕ, refl, sym, ap, subst, ◌∙◌, arith}
+use Rattle.std.proofs.Common.{◌≡◌, sym, ap, ◌∙◌, arith}
 use Rattle.osc_turn.specs.declared.view.View.{View}
-use Rattle.osc_turn.specs.History.{StartsWith, own}
-use Rattle.osc_turn.specs.Rule.{number_of}
+use Rattle.osc_turn.specs.History.{StartsWith}
 use Rattle.osc_turn.specs.Passes.{met_by}
 use Rattle.osc_turn.specs.Answers.{KeepsOwn}
-use Rattle.osc_turn.proofs.Histories.{starts_here, starts_on}
-use Rattle.osc_live.specs.Calls.{TakesTurn}
+use Rattle.osc_turn.proofs.Histories.{starts_on}
+use Rattle.osc_live.proofs.Looked.{looked_on}
+use Rattle.osc_live.specs.Looks.{HasLooked}
 use Rattle.osc_live.specs.Seen.{history_of}
 use Rattle.osc_model.specs.Limits.{Limits}
 use Rattle.osc_watch.specs.declared.board.Board.{Board}
 use Rattle.osc_watch.specs.Refreshing.{HasReadPart, GoesOn}
 use Rattle.osc_watch.specs.Watching.{noted}
-use Rattle.osc_watch.specs.Tokens.{OnlyLooks}
 use Rattle.osc_watch.proofs.Begun.{self, onward}
 use Rattle.osc_watch.proofs.ServerReads.{goes_on}
 
--- at first
-pub looks_here : (v : View) → OnlyLooks v v
-looks_here v = record { same = refl; goes_on = starts_here v.seen; own_same = refl }
-
--- and again
-pub looks_on : (v w u : View) → OnlyLooks v w → OnlyLooks w u → OnlyLooks v u
-looks_on v w u first next =
-    let number : number_of w ≡ number_of v = ap number_of first.same in
-    record {
-      same = next.same ∙ ap (λ (z : View). record z { seen = u.seen; olds = u.olds; words = u.words; taken = u.taken }) first.same;
-      goes_on = starts_on u.seen w.seen v.seen next.goes_on first.goes_on;
-      own_same = subst (λ (n : ℕ). own n u.seen ≡ own n w.seen) number next.own_same ∙ first.own_same;
-    }
-
--- a read that took the turn
-pub looks_once : (v w : View) → TakesTurn v w → StartsWith w.seen v.seen → own (number_of v) w.seen ≡ own (number_of v) v.seen → OnlyLooks v w
-looks_once v w once starts own_same = record {
-  same = once ∙ (λ i. record v { seen = w.seen; olds = w.olds; words = w.words; taken = sym (ap (λ (z : View). z.taken) once) i });
-  goes_on = starts;
-  own_same = own_same;
-}
-
 -- what another had seen is told
-pub looks_told : (v w other : View) → w ≡ met_by v other → StartsWith w.seen v.seen → KeepsOwn v w → OnlyLooks v w
-looks_told v w other is starts own_same = record {
+pub looked_told : (v w other : View) → w ≡ met_by v other → StartsWith w.seen v.seen → KeepsOwn v w → HasLooked v w
+looked_told v w other is starts own_same = record {
   same = is ∙ (λ i. record v {
     seen = sym (ap (λ (z : View). z.seen) is) i;
     olds = sym (ap (λ (z : View). z.olds) is) i;
@@ -65,4 +42,4 @@ pub stands_on : (board between after : Board) → GoesOn board between → GoesO
 stands_on board between after first next =
     (onward (noted board) (noted between) (noted after) next.0 first.0, omega (arith, first.1, next.1))
 
-pub ruleset looking = (looks_on, stands_here, stands_on)
+pub ruleset looking = (looked_on, stands_here, stands_on)

@@ -34,7 +34,7 @@ place_in all AtEnd = all
 place_in all (At place) = place
 place_in all (NoMemory place) = place
 
--- it is a place behind the header
+-- it is a place after the header
 abbrev pub IsPlaceIn : ℕ → Stop → Type 0
 IsPlaceIn all stop = (header_size ≤ place_in all stop) × (place_in all stop ≤ all)
 
@@ -55,7 +55,7 @@ abbrev pub StandWithin : List ℕ → Type 0
 StandWithin bytes = (caps : Limits) × (rest : List ℕ)
     × StandAfter caps (header_text caps) rest × (bytes ≡ header_text caps ++ rest)
 
--- of entries whose text these bytes begin behind a header, a beginning was read and its edits noted
+-- of entries whose text these bytes begin after a header, a beginning was read and its edits noted
 pub record NotesOf (more : List Entry) (tail bytes : List ℕ) (noted then : List Edit)
     (stop : Stop) : Type 0 where
   pub read : List Entry

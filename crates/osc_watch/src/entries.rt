@@ -16,7 +16,7 @@ use osc_atoms::Bytes;
 use osc_record::{Answer, Entry, Event, Unread};
 use std::alloc::{AllocError, Global};
 
-/// Notes the edits of the entries that stand behind a header, as many as are whole.
+/// Notes the edits of the entries that stand after a header, as many as are whole.
 pub(crate) fn note_all(board: &mut Board, bytes: &[u8]) -> Stop
     requires long { header_size ≤ length bytes.now }
     requires small { length bytes.now ≤ max_recording }

@@ -7,7 +7,7 @@ ghost use Rattle.osc_model.specs.Events.{Entry};
 ghost use Rattle.osc_model.specs.Recordings.{record_text};
 ghost use Rattle.osc_record.specs.Reading.{IsRecord};
 ghost use Rattle.osc_watch.specs.Parts.{Writes};
-ghost use Rattle.osc_watch.specs.Tokens.{OnlyLooks};
+ghost use Rattle.osc_live.specs.Looks.{HasLooked};
 
 use std::sync::Wait;
 
@@ -49,5 +49,5 @@ pub trait Recorded {
             result.1 }
         ensures taken { taken token < taken result.0 }
         ensures number { number result.0 ≡ number token }
-        ensures looks { OnlyLooks (knows token) (knows result.0) };
+        ensures looks { HasLooked (knows token) (knows result.0) };
 }

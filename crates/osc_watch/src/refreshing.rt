@@ -8,7 +8,7 @@ ghost use Rattle.osc_watch.specs.Edits.{edits_of};
 ghost use Rattle.osc_watch.specs.Notes.{IsPlaceIn, StandAfter, place_in};
 ghost use Rattle.osc_watch.specs.Watching.{noted, published, IsOneBoard};
 ghost use Rattle.osc_watch.specs.Refreshing.{HasRead, HasReadPart, PartNotes, IsWhole, GoesOn};
-ghost use Rattle.osc_watch.specs.Tokens.{OnlyLooks};
+ghost use Rattle.osc_live.specs.Looks.{HasLooked};
 
 use crate::board::Board;
 use crate::entries::note_all;
@@ -54,7 +54,7 @@ impl Board {
         ensures board { IsOneBoard self.old self.new }
         ensures goes_on { StartsWith (S.seen result.0) (S.seen token) }
         ensures number { S.number result.0 ≡ S.number token }
-        ensures looks { OnlyLooks (S.knows token) (S.knows result.0) }
+        ensures looks { HasLooked (S.knows token) (S.knows result.0) }
         ensures read { HasReadPart (S.caps server.now) self.new (S.seen result.0) }
         ensures whole { OnOk result.1 (HasRead (S.caps server.now) self.new (S.seen result.0)) }
         ensures published { MatchResult result.1
@@ -101,7 +101,7 @@ fn read_all<S: Recorded, W: Wait>(
     ensures published { published board.new ≡ published board.old }
     ensures goes_on { StartsWith (S.seen result.0) (S.seen token) }
     ensures number { S.number result.0 ≡ S.number token }
-    ensures looks { OnlyLooks (S.knows token) (S.knows result.0) }
+    ensures looks { HasLooked (S.knows token) (S.knows result.0) }
     ensures onward { GoesOn board.old board.new }
     ensures read { HasReadPart (S.caps server.now) board.new (S.seen result.0) }
     ensures whole { OnOk result.1 (HasRead (S.caps server.now) board.new (S.seen result.0)) }
@@ -148,7 +148,7 @@ fn read_part<S: Recorded, W: Wait>(
     ensures published { published board.new ≡ published board.old }
     ensures goes_on { StartsWith (S.seen result.0) (S.seen token) }
     ensures number { S.number result.0 ≡ S.number token }
-    ensures looks { OnlyLooks (S.knows token) (S.knows result.0) }
+    ensures looks { HasLooked (S.knows token) (S.knows result.0) }
     ensures taken { S.taken token ≤ S.taken result.0 }
     ensures onward { GoesOn board.old board.new }
     ensures read { HasReadPart (S.caps server.now) board.new (S.seen result.0) }
@@ -178,7 +178,7 @@ fn read_over<S: Recorded, W: Wait>(
     ensures published { published board.new ≡ published board.old }
     ensures goes_on { StartsWith (S.seen result.0) (S.seen token) }
     ensures number { S.number result.0 ≡ S.number token }
-    ensures looks { OnlyLooks (S.knows token) (S.knows result.0) }
+    ensures looks { HasLooked (S.knows token) (S.knows result.0) }
     ensures taken { S.taken token ≤ S.taken result.0 }
     ensures onward { GoesOn board.old board.new }
     ensures read { HasReadPart (S.caps server.now) board.new (S.seen result.0) }

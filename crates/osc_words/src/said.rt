@@ -21,7 +21,7 @@ use clap::ArgMatches;
 use osc_model::Late;
 use std::alloc::{AllocError, Global};
 
-/// The command that the words say, the program's name left out; none where they are refused. An `Err` is want of
+/// The command that the words say, the program's name left out; none where they are refused. An `Err` means out of
 /// memory. The commands, their options, the ranges and the defaults are those of docs/FORMATS.md, "Programs".
 #[tactic(auto, unfolding(crate::specs::Commands::command_of))]
 pub fn command_of(alloc: Global, words: &[String]) -> Result<Option<Command>, AllocError>

@@ -6,7 +6,7 @@ use Rattle.osc_core.specs.Standing.{history_in}
 use Rattle.osc_turn.specs.declared.view.Entry.{Entry as Seen}
 use Rattle.osc_turn.specs.History.{texts}
 use Rattle.osc_live.specs.Seen.{past_of, history_of}
-use Rattle.osc_watch.proofs.Looking.{looks_here}
+use Rattle.osc_live.proofs.Looked.{looked_here}
 use Rattle.osc_lanes.specs.Performs.{part_of, told_of}
 use Rattle.osc_lanes.proofs.Performing.{fresh_performs}
 use Rattle.osc_display.specs.Displays.{Displays, Lists}
@@ -18,7 +18,7 @@ perform_beside-both-requires-clause-room g c =
     omega (arith, c.requires.callers, ap length c.in_ok-life.ensures.alone, ap (λ (caps : Limits). caps.callers) c.in_ok-life.ensures.caps)
 
 pub perform_beside-both-requires-clause-begun : goal.perform_beside-both-requires-clause-begun
-perform_beside-both-requires-clause-begun g c κs within v starts = (looks_here v, c.in_ok-display.ensures c.in_ok-life.life.live.caps (history_of v))
+perform_beside-both-requires-clause-begun g c κs within v starts = (looked_here v, c.in_ok-display.ensures c.in_ok-life.life.live.caps (history_of v))
 
 pub perform_beside-both-requires-clause-stays : goal.perform_beside-both-requires-clause-stays
 perform_beside-both-requires-clause-stays g c κs within after end tokens v w is = looks_stay v w is.0

@@ -2,11 +2,12 @@ use Rattle.std.proofs.Common.{◌≡◌, ◌≤◌, ◌<◌, ◌+◌, ◌-◌, �
 use Rattle.osc_ends.specs.Sinks.{sink_change}
 use Rattle.osc_turn.specs.Passes.{view}
 use Rattle.osc_live.specs.Reads.{Writes}
-use Rattle.osc_life.specs.Looking.{HasLooked}
+use Rattle.osc_live.specs.Looks.{HasLooked}
 use Rattle.osc_growing.specs.declared.growth.Growth.TheVariants.{Written}
 use Rattle.osc_growing.specs.Growing.{HasGrown, recorded}
 use Rattle.osc_growing.proofs.Fronts.{part_is, piece_long, space_same}
-use Rattle.osc_growing.proofs.Growths.{recorded_on, read_of, grown_as, looked_none, looked_on, looked_by}
+use Rattle.osc_growing.proofs.Growths.{recorded_on, read_of, grown_as, looked_by}
+use Rattle.osc_live.proofs.Looked.{looked_here, looked_on}
 use Rattle.osc_growing.proofs.pieces.write_large.Goals as goal
 use Rattle.osc_growing.proofs.pieces.write_large.Goals.{After-read-next}
 
@@ -29,7 +30,7 @@ pub loop-at-init : goal.loop-at-init
 loop-at-init g c = record {
   ours = c.requires.ours;
   number = refl;
-  looked = looked_none (view c.args.caller.pass);
+  looked = looked_here (view c.args.caller.pass);
   space = refl;
   forward = c.requires.forward;
   within = c.requires.within;

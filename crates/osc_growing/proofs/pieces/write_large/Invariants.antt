@@ -2,7 +2,7 @@ use Rattle.std.proofs.Common.{◌≡◌, ◌≤◌, ◌-◌, length}
 use Rattle.osc_ends.specs.Sinks.{sink_change}
 use Rattle.osc_turn.specs.Passes.{view}
 use Rattle.osc_live.specs.Seen.{IsTokenOf}
-use Rattle.osc_life.specs.Looking.{HasLooked}
+use Rattle.osc_live.specs.Looks.{HasLooked}
 use Rattle.osc_growing.specs.declared.growth.Growth.TheVariants.{Written}
 use Rattle.osc_growing.specs.Growing.{HasGrown, recorded}
 use Rattle.osc_growing.proofs.pieces.write_large.Given as goal

@@ -4,7 +4,8 @@ use Rattle.osc_live.specs.Seen.{history_of}
 use Rattle.osc_growing.specs.Growing.{recorded}
 use Rattle.osc_growing.specs.Entries.{texts_of}
 use Rattle.osc_growing.proofs.Ends.{end_none}
-use Rattle.osc_growing.proofs.Growths.{grown_none, looked_none, looked_on}
+use Rattle.osc_growing.proofs.Growths.{grown_none}
+use Rattle.osc_live.proofs.Looked.{looked_here, looked_on}
 use Rattle.osc_growing.proofs.pieces.write_pieces.Goals as goal
 
 pub loop-init : goal.loop-init
@@ -12,7 +13,7 @@ loop-init g c = record {
   ours = c.requires.ours;
   number = refl;
   space = c.requires.space;
-  looked = looked_none (view c.args.first.pass);
+  looked = looked_here (view c.args.first.pass);
   between = end_none (texts_of c.args.live.now.caps (history_of (view c.args.first.pass)));
   grown = grown_none (g.R.Sink.held c.args.rec.now) (g.R.Sink.faults c.args.rec.now) (recorded c.args.live.now.caps (view c.args.first.pass));
 }

@@ -4,7 +4,7 @@ use Rattle.osc_model.specs.Limits.{header_size}
 use Rattle.osc_model.specs.Recordings.{header_text}
 use Rattle.osc_watch.specs.Watching.{published, IsOneBoard}
 use Rattle.osc_watch.specs.Refreshing.{HasReadPart, GoesOn}
-use Rattle.osc_watch.specs.Tokens.{OnlyLooks}
+use Rattle.osc_live.specs.Looks.{HasLooked}
 use Rattle.osc_watch.proofs.refreshing.read_all.Given as goal
 
 -- so far a beginning was read
@@ -18,7 +18,7 @@ invariant-loop g l = record {
   read : HasReadPart (g.S.Recorded.caps l.fn.server) l.board (g.S.Recorded.seen l.token);
   taken : g.S.Recorded.taken l.fn.token < g.S.Recorded.taken l.token;
   number : g.S.Recorded.number l.token ≡ g.S.Recorded.number l.fn.token;
-  looks : OnlyLooks (g.S.Recorded.knows l.fn.token) (g.S.Recorded.knows l.token);
+  looks : HasLooked (g.S.Recorded.knows l.fn.token) (g.S.Recorded.knows l.token);
   header : length l.header.items ≡ header_size;
   text : l.header.items ≡ header_text (g.S.Recorded.caps l.fn.server);
 }

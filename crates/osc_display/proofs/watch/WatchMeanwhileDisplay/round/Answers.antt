@@ -3,7 +3,7 @@ use Rattle.osc_turn.specs.Passes.{view}
 use Rattle.osc_live.specs.Seen.{history_of}
 use Rattle.osc_watch.specs.declared.board.Board.{Board}
 use Rattle.osc_watch.specs.Refreshing.{HasReadPart}
-use Rattle.osc_watch.proofs.Looking.{looks_on}
+use Rattle.osc_live.proofs.Looked.{looked_on}
 use Rattle.osc_display.proofs.Looking.{looks_holder, looks_made}
 use Rattle.osc_display.proofs.watch.WatchMeanwhileDisplay.round.Goals as goal
 
@@ -19,7 +19,7 @@ returns-in-Ok g c =
       made = looks_made (view caller.pass) (view after.pass) fresh.looks;
       starts = fresh.looks.goes_on;
       goes_on = λ before v played. (
-        looks_on v (view caller.pass) (view after.pass) played.0 fresh.looks,
+        looked_on v (view caller.pass) (view after.pass) played.0 fresh.looks,
         subst (λ (b : Board). HasReadPart caps b (history_of (view after.pass))) (sym c.read-read.ensures.board) fresh.read,
       );
     }

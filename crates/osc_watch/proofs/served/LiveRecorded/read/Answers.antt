@@ -1,6 +1,6 @@
 use Rattle.osc_turn.specs.Passes.{view}
 use Rattle.osc_live.specs.Seen.{history_of}
-use Rattle.osc_watch.proofs.Looking.{looks_once}
+use Rattle.osc_live.proofs.Looked.{looked_once}
 use Rattle.osc_watch.proofs.ServerReads.{goes_on, recorded, risen}
 use Rattle.osc_watch.proofs.served.LiveRecorded.read.Goals as goal
 
@@ -22,4 +22,4 @@ returns-clause-taken g c = risen (view c.args.token.pass) (view c.read.result.0.
 pub returns-clause-looks : goal.returns-clause-looks
 returns-clause-looks g c =
     let read = c.read.ensures.read in
-    looks_once (view c.args.token.pass) (view c.read.result.0.pass) read.once read.goes_on read.own_same
+    looked_once (view c.args.token.pass) (view c.read.result.0.pass) read.once read.goes_on read.own_same

@@ -1,10 +1,10 @@
 use Rattle.std.proofs.Common.{ℕ, subst}
 use Rattle.osc_turn.specs.Passes.{view}
 use Rattle.osc_live.specs.Pumps.{Pumps}
-use Rattle.osc_uses.proofs.met_callers.pump_behind.Goals as goal
+use Rattle.osc_uses.proofs.met_callers.pump_after.Goals as goal
 
-pub returns-clause-behind : goal.returns-clause-behind
-returns-clause-behind g c =
+pub returns-clause-after : goal.returns-clause-after
+returns-clause-after g c =
     let met = c.meet-other.ensures in
     record {
       between = view c.meet-other.result.1.pass;
