@@ -1,6 +1,7 @@
 pub mod Asks
 pub mod Answered
 pub mod Closings
+pub mod Looked
 pub mod Marks
 pub mod Meeting
 pub mod Pumping

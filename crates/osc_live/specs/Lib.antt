@@ -3,6 +3,7 @@ pub mod Calls
 pub mod Closing
 pub mod Enrolments
 pub mod Outs
+pub mod Looks
 pub mod Pumps
 pub mod Resuming
 pub mod Reads

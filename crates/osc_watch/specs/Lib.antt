@@ -4,7 +4,6 @@ pub mod Edits
 pub mod Parts
 pub mod Watching
 pub mod Refreshing
-pub mod Tokens
 -- Inside the crate.
 pub mod Rule
 pub mod Reach
