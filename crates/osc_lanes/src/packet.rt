@@ -10,16 +10,15 @@ ghost use Rattle.osc_lanes.specs.Sent.{IsAnswered, stop_of};
 ghost use Rattle.osc_lanes.specs.Tells.{TellsAct};
 
 use osc_atoms::{Fault, Room};
-use osc_core::Submitted;
 use osc_life::Gate;
-use osc_live::{Caller, Live};
+use osc_live::{Caller, Live, Submission};
 use osc_method::Method;
 use osc_packet::{MAX_PACKET, Packet};
 use std::alloc::AllocError;
 use std::sync::Wait;
 
 /// Submits bytes that are a packet, and else keeps their fault under the number. The `Some` is what
-/// the server answered to the submit; an `Err` means out of memory.
+/// the server answered to the submit, and its clock; an `Err` means out of memory.
 pub fn send<M: Method, W: Wait>(
     rt: &W,
     live: &Live<M>,
@@ -27,7 +26,7 @@ pub fn send<M: Method, W: Wait>(
     number: u32,
     bytes: &[u8],
     faults: &mut Vec<(u32, Fault)>,
-) -> Result<(Caller, Option<Submitted>), AllocError>
+) -> Result<(Caller, Option<Submission>), AllocError>
     requires ours { IsOurs live.now caller }
     ensures ours { IfOk result (λ r. IsOurs live.now r.0) }
     ensures holder { IfOk result
@@ -48,8 +47,8 @@ pub fn send<M: Method, W: Wait>(
 {
     match Packet::check(bytes, MAX_PACKET) {
         Ok(packet) => {
-            let (caller, answer) = live.submit(rt, caller, &packet);
-            Ok((caller, Some(answer)))
+            let (caller, submission) = live.submit_clocked(rt, caller, &packet);
+            Ok((caller, Some(submission)))
         }
         Err(fault) => {
             faults.push((number, fault))?;
@@ -64,14 +63,14 @@ pub fn report_answer<G: Gate>(
     gate: &G,
     worker: u32,
     step: u32,
-    answer: Option<Submitted>,
+    submission: Option<Submission>,
 ) -> Option<Room>
-    ensures { option_map room_of result ≡ stop_of answer }
+    ensures { option_map room_of result ≡ stop_of submission }
 {
-    match answer {
-        Some(answer) => {
-            gate.answered(worker, step, &answer);
-            answer.stop()
+    match submission {
+        Some(submission) => {
+            gate.answered(worker, step, &submission);
+            submission.answer.stop()
         }
         None => None,
     }

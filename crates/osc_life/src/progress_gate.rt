@@ -2,7 +2,7 @@
 
 use crate::gate::Gate;
 use crate::progress::Progress;
-use osc_core::Submitted;
+use osc_live::Submission;
 
 /// Reports to whoever looks that something was done, after each step and each round that releases,
 /// and then calls another gate, which may wait.
@@ -23,8 +23,8 @@ impl<'a, G: Gate> Gate for ProgressGate<'a, G> {
         self.gate.enter(worker, step);
     }
 
-    fn answered(&self, worker: u32, step: u32, answer: &Submitted) {
-        self.gate.answered(worker, step, answer);
+    fn answered(&self, worker: u32, step: u32, submission: &Submission) {
+        self.gate.answered(worker, step, submission);
     }
 
     fn leave(&self, worker: u32, step: u32) {

@@ -1,4 +1,4 @@
--- What an add and a removal tell of marks, and of what boxes heard.
+-- What an add and a removal tell of marks, and of what boxes heard; and the clock.
 use Rattle.std.proofs.Common.{◌≡◌, ℕ, zero, suc, List, [], ◌∷◌, ◌++◌, Option, inl, inr, true, sym, ap, subst, ◌∙◌, arith}
 use Rattle.std.specs.List.{AllByRecursion, Contains}
 use Rattle.std.proofs.lemmas.List.{append-nil}
@@ -18,7 +18,8 @@ use Rattle.osc_core.specs.Answers.{OnAdded, OnRemoved, removing_of}
 use Rattle.osc_core.specs.Standing.{mark_of, text_with, history_in, CarriesMark, AreMarked, StandsFor}
 use Rattle.osc_core.proofs.Texts.{reset_mark}
 use Rattle.osc_turn.specs.History.{StartsWith}
-use Rattle.osc_live.specs.Seen.{performance_in}
+use Rattle.osc_model.specs.Limits.{Limits}
+use Rattle.osc_live.specs.Seen.{performance_in, clock_in}
 
 last_marked : (texts : List (List ℕ)) (boxes : List Told) (told : Told) → AreMarked texts (boxes ++ told ∷ []) → CarriesMark texts told.id (mark_of told)
 last_marked texts [] told are = are.0
@@ -56,6 +57,12 @@ removal_silent state address id is = go (changes state (remove address)) where
   go (inl kept) = let yes : tells_change (step state (remove address)).answer ≡ true = ap tells_change is in let no = kept.answer in absurd (cc)
   go (inr (inl more)) = let other = more.event_is in absurd (cc)
   go (inr (inr fewer)) = fewer.silent
+
+-- a server with these limits that stands for texts has their clock
+pub clock_there : (caps : Limits) (new : Performance) (boxes : List Told) (after : List (List ℕ)) → StandsFor new boxes after → new.caps ≡ caps
+    → (state_of new).clock ≡ clock_in caps after
+clock_there caps new boxes after stands limits =
+    ap (λ (p : Performance). (state_of p).clock) (λ i. record { caps = limits i; history = sym stands.read i })
 
 -- a box that is handed out has the mark of its id's entry, and has heard the history
 pub removed_tells : {M : Type 0} (keep : M → ℕ) (heard : M → Option (List ℕ)) (given : Removing M) (old new : Performance) (caller : ℕ) (address : List ℕ)

@@ -5,7 +5,7 @@ use Rattle.std.specs.Option.{option_map_or}
 use Rattle.osc_model.specs.Events.{Entry}
 use Rattle.osc_model.specs.Limits.{Limits}
 use Rattle.osc_model.specs.Recordings.{header_text}
-use Rattle.osc_model.specs.History.{Performance}
+use Rattle.osc_model.specs.History.{Performance, state_of}
 use Rattle.osc_record.specs.Reading.{entry_in}
 use Rattle.osc_core.specs.declared.sequential.Core.{Core}
 use Rattle.osc_core.specs.Standing.{history_in, texts_of}
@@ -26,6 +26,10 @@ history_of view = history_in (texts view.seen)
 -- a server with these limits that has played the entries of texts
 abbrev pub performance_in : Limits → List (List ℕ) → Performance
 performance_in caps texts = record { caps = caps; history = history_in texts }
+
+-- where the clock of such a server stands
+abbrev pub clock_in : Limits → List (List ℕ) → ℕ
+clock_in caps texts = (state_of (performance_in caps texts)).clock
 
 -- whether an entry is of the caller with the number
 abbrev pub names : ℕ → Seen → Bool

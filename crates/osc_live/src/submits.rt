@@ -1,16 +1,19 @@
 //! How packets are handed in.
 ghost use Rattle.std.specs.Prelude.{◌≡◌, IfOk, IfErr};
+ghost use Rattle.osc_turn.specs.History.{texts};
 ghost use Rattle.osc_turn.specs.Passes.{view};
 ghost use Rattle.osc_turn.specs.Answers.{FindsTwice};
 ghost use Rattle.osc_model.specs.Events.{submit};
 ghost use Rattle.osc_core.specs.Answers.{submitted_of};
 ghost use Rattle.osc_live.specs.Tokens.{IsOurs};
 ghost use Rattle.osc_live.specs.Calls.{Calls, IsBusy};
+ghost use Rattle.osc_live.specs.Seen.{clock_in};
 
 use crate::busy::Busy;
 use crate::caller::Caller;
 use crate::live::Live;
-use crate::submitting::Submit;
+use crate::submission::Submission;
+use crate::submitting::{ClockedSubmit, Submit};
 use osc_core::Submitted;
 use osc_method::Method;
 use osc_packet::Packet;
@@ -31,6 +34,24 @@ impl<M: Method> Live<M> {
             (view caller.pass) (view result.0.pass) }
     {
         self.play(rt, caller, Submit { packet })
+    }
+
+    /// As `submit`, and tells where the server's clock stood. So the caller knows which of the packet's units are late.
+    pub fn submit_clocked<W: Wait>(
+        &self,
+        rt: &W,
+        caller: Caller,
+        packet: &Packet<'_>,
+    ) -> (Caller, Submission)
+        requires ours { IsOurs self.now caller }
+        ensures ours { IsOurs self.now result.0 }
+        ensures number { result.0.number ≡ caller.number }
+        ensures call { Calls self.now.caps caller.number (submit packet.now)
+            (submitted_of result.1.answer) (view caller.pass) (view result.0.pass) }
+        ensures clock { result.1.clock
+            ≡ clock_in self.now.caps (texts (view result.0.pass).seen) }
+    {
+        self.play(rt, caller, ClockedSubmit { packet })
     }
 
     /// As `submit`, if the turn is free: it takes one look at the turn, and tries once to take it.

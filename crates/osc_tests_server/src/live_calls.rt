@@ -42,12 +42,12 @@ fn play_round<M: Method, W: Wait>(
     let numbers = (caller.number(), new.number());
     let mut header = [0; 12];
     let (new, begun) = live.read(rt, new, 0, &mut header);
-    let (new, behind) = live.read(rt, new, 4096, &mut header);
+    let (new, past) = live.read(rt, new, 4096, &mut header);
     let closed = close_both(alloc, live, caller, new)?;
     Some(Round {
         numbers,
         header,
-        read: (begun, behind),
+        read: (begun, past),
         fronts: (enrolled, front),
         released: (pumped.released, pumped.calls),
         closed,
@@ -75,6 +75,24 @@ fn two_callers_share_one_history(rt: HostRuntime) -> Result<(), Fail> {
     assert_eq!(rt; round.fronts, (1, 4));
     assert_eq!(rt; round.released, (1, 1));
     assert_eq!(rt; told(&round), Some(20));
+    Ok(())
+}
+
+/// Where the clock stands at a submit before the first tick, and at one after a tick of 5.
+fn clocks<W: Wait>(rt: &W, alloc: Global, packet: &Packet<'_>) -> Option<(u64, u64)> {
+    let (live, caller) = open::<Mute>(alloc)?;
+    let (caller, new) = enrolled(rt, &live, caller)?;
+    let (caller, before) = live.submit_clocked(rt, caller, packet);
+    let (new, _) = live.tick(rt, new, 5);
+    let (caller, after) = live.submit_clocked(rt, caller, packet);
+    let _ = close_both(alloc, live, caller, new)?;
+    Some((before.clock, after.clock))
+}
+
+#[test]
+fn a_submit_tells_where_the_clock_stands(rt: HostRuntime) -> Result<(), Fail> {
+    let packet = packet().ok_or("a packet")?;
+    assert_eq!(rt; clocks(&rt, rt.alloc(), &packet), Some((1, 5)));
     Ok(())
 }
 

@@ -5,7 +5,7 @@ use osc_core::Submitted;
 use osc_edge::{MemoryClock, MemoryLink};
 use osc_lanes::Gate;
 use osc_links::{Bounds, ServeEnd, serve};
-use osc_live::Live;
+use osc_live::{Live, Submission};
 use osc_method::Mute;
 use osc_record::{Caps, Late};
 use std::alloc::{AllocError, Global};
@@ -53,9 +53,12 @@ impl Answers {
 impl Gate for Answers {
     fn enter(&self, _worker: u32, _step: u32) {}
 
-    fn answered(&self, worker: u32, step: u32, answer: &Submitted) {
+    fn answered(&self, worker: u32, step: u32, submission: &Submission) {
         let at = self.answers.fetch_add(1, Ordering::SeqCst);
-        if self.wanted.get(at as usize) != Some(&(worker, step, *answer)) {
+        let Submission { answer, clock } = *submission;
+        // The ticker hands in the moment 5 before or after.
+        let is_known = clock == 1 || clock == 5;
+        if !is_known || self.wanted.get(at as usize) != Some(&(worker, step, answer)) {
             self.others.fetch_add(1, Ordering::SeqCst);
         }
     }
