@@ -15,6 +15,15 @@ use std::test::*;
 use std::thread::Threads;
 use std::time::{Duration, Instant};
 
+/// How many datagrams a link has here at most.
+const DATAGRAMS: u64 = 5;
+
+/// How many bytes a box is told of the fader's call: its unit, index and length, and the message.
+const CALL_SIZE: u32 = 36;
+
+/// More calls than the sink of such a run gets: it has one for each entry at most.
+const CALLS: u32 = 64;
+
 /// A sink in memory that counts how often it is given the fader's packet, or fails.
 #[derive(Drop)]
 struct WatchedSink {
@@ -38,7 +47,8 @@ impl Sink for WatchedSink {
     {
         let put = self.bytes.write(piece);
         if put == Put::Failed {
-            self.given.fetch_add(1, Ordering::SeqCst);
+            // It is given nothing more, so that nobody waits for it.
+            self.given.fetch_add(DATAGRAMS, Ordering::SeqCst);
         } else {
             count_faders(piece, &self.given);
         }
@@ -61,7 +71,8 @@ struct Served {
     status: u8,
     written: Vec<u8>,
     recorded: Vec<u8>,
-    heard: usize,
+    /// How many bytes the method's box was told.
+    told: Option<u32>,
     next: Datagram,
     /// Whether a packet was played before those before it were given to the recording's sink.
     gave_up: bool,
@@ -86,6 +97,12 @@ fn five_faders(alloc: Global) -> Result<MemoryLink, AllocError> {
     Ok(MemoryLink::open(turns, Vec::new(alloc)))
 }
 
+/// How many bytes the first box was told.
+fn told(heard: &[(u32, Box<dyn Method + Send>)]) -> Option<u32> {
+    let (_, method) = heard.first()?;
+    method.told()
+}
+
 /// Serves a link, and holds each datagram back until the recording's sink was given those before it, or has failed. The
 /// sink fails at these calls.
 fn serve_watched<R: Threads + Wait + Sync>(
@@ -107,7 +124,7 @@ fn serve_watched<R: Threads + Wait + Sync>(
     let mut source = MemorySource::open(script, Vec::new(alloc));
     let mut out = SteadySink::open(alloc);
     let mut bank: Vec<Box<dyn Method + Send>> = Vec::new(alloc);
-    bank.push(Box::new(alloc, Trace::open(alloc, 64)?)?)?;
+    bank.push(Box::new(alloc, Trace::open(alloc, 1024)?)?)?;
     let words = words(alloc, "serve f")?;
     let (ended, mut links) = live_top(
         rt,
@@ -125,7 +142,7 @@ fn serve_watched<R: Threads + Wait + Sync>(
         status: ended.status,
         written: Vec::from_slice(alloc, out.bytes())?,
         recorded: Vec::from_slice(alloc, rec.bytes.bytes())?,
-        heard: ended.heard.len(),
+        told: told(&ended.heard),
         next: answer(alloc, links.pop().ok_or("a link")?)?,
         gave_up: gate.gave_up(),
     })
@@ -136,7 +153,7 @@ fn a_datagram_is_recorded_before_the_next_is_played(rt: HostRuntime) -> Result<(
     let alloc = rt.alloc();
     let served = serve_watched(&rt, alloc, two_faders(alloc)?, &[])?;
     assert!(rt; !served.gave_up);
-    assert_eq!(rt; (served.status, served.heard), (0, 1));
+    assert_eq!(rt; (served.status, served.told), (0, Some(2 * CALL_SIZE)));
     assert_eq!(rt; served.next, Datagram::End);
     let (status, printed) = replayed(alloc, &served.recorded)?;
     assert_eq!(rt; status, 0);
@@ -145,23 +162,41 @@ fn a_datagram_is_recorded_before_the_next_is_played(rt: HostRuntime) -> Result<(
 }
 
 #[test]
-fn a_sink_that_fails_once_gets_no_more_and_the_show_goes_on(rt: HostRuntime) -> Result<(), Fail> {
+fn a_sink_that_fails_at_any_call_gets_no_more_and_the_show_goes_on(
+    rt: HostRuntime,
+) -> Result<(), Fail> {
     let alloc = rt.alloc();
-    // The first call has at least the header; the entries of the second packet come in a later one.
-    for call in [1, 2u32] {
-        let served = serve_watched(&rt, alloc, two_faders(alloc)?, &[call])?;
+    // How many calls a run makes depends on when it looks: they fail one by one, until a run has no such call.
+    for call in 1..CALLS {
+        let served = serve_watched(&rt, alloc, five_faders(alloc)?, &[call])?;
         assert!(rt; !served.gave_up, "{call}");
-        assert_eq!(rt; (served.status, served.heard), (5, 1), "{call}");
-        assert_eq!(rt; served.next, Datagram::End, "{call}");
-        assert!(rt; served.written.is_empty(), "{call}");
-        assert_eq!(rt; served.recorded.is_empty(), call == 1, "{call}");
-        if call == 2 {
-            let (status, printed) = replayed(alloc, &served.recorded)?;
-            assert_eq!(rt; status, 0);
-            assert!(rt; printed.starts_with(b"add 0 /1/fader1 id 0\n"));
+        assert_eq!(rt;
+            (served.told, served.next),
+            (Some(5 * CALL_SIZE), Datagram::End),
+            "{call}"
+        );
+        if served.status == 0 {
+            // The entries of each datagram come in a call of their own.
+            assert!(rt; call > 5, "{call}");
+            return Ok(());
         }
+        assert_eq!(rt;
+            (served.status, served.written.is_empty()),
+            (5, true),
+            "{call}"
+        );
+        assert!(rt; is_front(alloc, &served.recorded, call)?, "{call}");
     }
-    Ok(())
+    Err("a run with so many calls")?
+}
+
+/// Whether this is what a sink has whose call with this number has failed: nothing, or a recording that begins with the add.
+fn is_front(alloc: Global, recorded: &[u8], call: u32) -> Result<bool, Fail> {
+    if call == 1 {
+        return Ok(recorded.is_empty());
+    }
+    let (status, printed) = replayed(alloc, recorded)?;
+    Ok(status == 0 && printed.starts_with(b"add 0 /1/fader1 id 0\n"))
 }
 
 #[test]
@@ -172,7 +207,7 @@ fn the_writer_is_woken_by_each_datagram(rt: HostRuntime) -> Result<(), Fail> {
     let served = serve_watched(&rt, alloc, five_faders(alloc)?, &[])?;
     let time = start.elapsed(&rt).ok().ok_or("a clock")?;
     assert!(rt; !served.gave_up);
-    assert_eq!(rt; (served.status, served.heard), (0, 1));
+    assert_eq!(rt; (served.status, served.told), (0, Some(5 * CALL_SIZE)));
     assert!(rt; time < Duration::from_secs(3));
     Ok(())
 }

@@ -8,6 +8,6 @@ use Rattle.osc_live.proofs.submitting.ClockedSubmitAskSubmission.ask.Goals as go
 pub returns-clause-tells : goal.returns-clause-tells
 returns-clause-tells g c before after one two starts =
     let old = c.args.core.now.performance in
-    c.clock.ensures
+    c.clock-clock.ensures
     ∙ clock_there old.caps c.submit-answer.new.self.performance _ after two
     (ap (λ (p : Performance). p.caps) c.submit-answer.ensures.performance ∙ caps_stay old c.args.caller (submit c.args.self.packet.now))
