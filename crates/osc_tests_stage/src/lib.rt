@@ -5,3 +5,5 @@
 mod relays;
 #[cfg(test)]
 mod relays_by_udp;
+#[cfg(test)]
+mod shown;

@@ -1,0 +1,4 @@
+pub mod Listing
+pub mod Lettering
+pub mod UnitTexts
+pub mod Joining

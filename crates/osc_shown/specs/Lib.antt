@@ -1,0 +1,11 @@
+pub mod Numbers
+pub mod Times
+pub mod Texts
+pub mod Arguments
+pub mod Places
+pub mod Columns
+pub mod Days
+pub mod Tails
+pub mod Lines
+pub mod Added
+pub mod Refusals
