@@ -72,6 +72,13 @@ impl<O: Outlet> Relay<O> {
         })
     }
 
+    /// The address that stands in what is sent.
+    pub fn address(&self) -> &Address
+        ensures { result.now ≡ self.now.address }
+    {
+        &self.address
+    }
+
     /// The outlets, each with what it was sent of the calls since the reset.
     pub fn outlets(&self) -> &[O]
         ensures outlets { result.now ≡ self.now.outlets.items }
