@@ -141,7 +141,7 @@ hand_in-requires-clause-few g c =
 pub hand_in-requires-clause-all_in : goal.hand_in-requires-clause-all_in
 hand_in-requires-clause-all_in g c =
     let at = goal.at.hand_in-requires-clause-all_in g c in
-    c.in_ok-both-in-None.ensures.back.looked.made ∙ ap (λ (v : View). v.made) c.in_ok-first-in-None.ensures.same ∙ (crew_each g at.In_ok-first-in-None).made_is
+    ap (λ (v : View). v.made) c.in_ok-both-in-None.ensures.back.looked.same ∙ ap (λ (v : View). v.made) c.in_ok-first-in-None.ensures.same ∙ (crew_each g at.In_ok-first-in-None).made_is
     ∙ omega (arith, back_each g at.In_ok-callers-in-None (jobs_many g at.In_ok-players-in-None), ap length c.new.ensures.items, c.requires.whole.counted.made_is)
 
 pub returns-in_ok-closed-in-None-clause-lives : goal.returns-in_ok-closed-in-None-clause-lives
