@@ -29,12 +29,7 @@ pub extern "C" fn osc_server_enrol(handle: &mut Handle, alloc: Global) -> Answer
         ≡ after (played handle.old.spot.held) 0 enrol }
     ensures unread { left handle.new.spot.held ≡ left handle.old.spot.held }
 {
-    let Some(mut state) = take(handle, alloc) else {
-        return told(status::IS_CLOSED);
-    };
-    let answer = enrol_in(&mut state, 0);
-    put(handle, state);
-    answer
+    osc_server_enrol_by(handle, 0, alloc)
 }
 
 /// The same as an event of this caller.
@@ -91,12 +86,7 @@ pub extern "C" fn osc_server_submit(handle: &mut Handle, bytes: &[u8], alloc: Gl
         bytes.now }
     ensures unread { left handle.new.spot.held ≡ left handle.old.spot.held }
 {
-    let Some(mut state) = take(handle, alloc) else {
-        return told(status::IS_CLOSED);
-    };
-    let answer = submit_in(&mut state, 0, bytes);
-    put(handle, state);
-    answer
+    osc_server_submit_by(handle, 0, bytes, alloc)
 }
 
 /// The same as an event of this caller.
@@ -175,12 +165,7 @@ pub extern "C" fn osc_server_tick(handle: &mut Handle, moment: u64, alloc: Globa
         ≡ after (played handle.old.spot.held) 0 (tick moment) }
     ensures unread { left handle.new.spot.held ≡ left handle.old.spot.held }
 {
-    let Some(mut state) = take(handle, alloc) else {
-        return told(status::IS_CLOSED);
-    };
-    let answer = tick_in(&mut state, 0, moment);
-    put(handle, state);
-    answer
+    osc_server_tick_by(handle, 0, moment, alloc)
 }
 
 /// The same as an event of this caller.
@@ -239,12 +224,7 @@ pub extern "C" fn osc_server_release(handle: &mut Handle, alloc: Global) -> Answ
         ≡ after (played handle.old.spot.held) 0 release }
     ensures unread { left handle.new.spot.held ≡ released_in (played handle.old.spot.held) }
 {
-    let Some(mut state) = take(handle, alloc) else {
-        return told(status::IS_CLOSED);
-    };
-    let answer = release_in(&mut state, 0);
-    put(handle, state);
-    answer
+    osc_server_release_by(handle, 0, alloc)
 }
 
 /// The same as an event of this caller.

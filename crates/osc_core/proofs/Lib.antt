@@ -16,3 +16,4 @@ pub mod Storing
 pub mod Submits
 pub mod Telling
 pub mod Texts
+pub mod Waits

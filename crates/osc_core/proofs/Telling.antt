@@ -30,7 +30,7 @@ use Rattle.osc_core.specs.declared.answers.Releasing.{Releasing}
 use Rattle.osc_core.specs.declared.answers.Releasing.TheVariants as releasing
 use Rattle.osc_core.specs.declared.release.LastRelease.{LastRelease}
 use Rattle.osc_core.specs.Calls.{hit_by}
-use Rattle.osc_core.specs.Invoked.{is_release, last_from, last_invocations, Call, call_of, last_calls, starts_of, message_at, call_at, hits_at, calls_in, SplitsHit}
+use Rattle.osc_core.specs.Invoked.{is_release, last_from, last_invocations, Call, call_of, last_calls, starts_of, FindEach, message_at, call_at, hits_at, calls_in, SplitsHit}
 use Rattle.osc_core.proofs.Firsts.{hits_by}
 use Rattle.osc_core.proofs.Played.{stays}
 use Rattle.osc_core.proofs.Storing.{message_small, message_again, rest_again, messages-framed, split_is}
@@ -119,20 +119,19 @@ told_from unit starts bytes methods index (message ∷ messages) at =
     told_message unit starts bytes index message here methods (calls_from methods (index + 1) messages)
     (told_from unit starts bytes methods (index + 1) messages rest)
 
-told_all : (unit : ℕ) (starts bytes : List ℕ) (methods : List Method) → AreFramed bytes → starts ≡ starts_of 0 (messages_in bytes)
+told_all : (unit : ℕ) (starts bytes : List ℕ) (methods : List Method) → AreFramed bytes → FindEach starts (messages_in bytes)
     → map (call_at unit starts bytes) (hits_of (calls_from methods 0 (messages_in bytes)))
     ≡ map call_of (invocations_of unit (calls_from methods 0 (messages_in bytes)))
-told_all unit starts bytes methods are is =
+told_all unit starts bytes methods are finds =
     let list : messages_in bytes ≡ are.messages = ap messages_in are.is ∙ messages-framed are.messages are.read in
-    let each : (k : ℕ) → k < length are.messages → message_at (starts_of 0 are.messages) bytes (0 + k) ≡ get_or are.messages k [] =
+    let found : FindEach starts are.messages = subst (FindEach starts) list finds in
+    let each : (k : ℕ) → k < length are.messages → message_at starts bytes (0 + k) ≡ get_or are.messages k [] =
     λ k lt. (let same : 0 + k ≡ k = omega arith in
-    ap (message_at (starts_of 0 are.messages) bytes) same ∙ started [] bytes 0 are.messages are.read are.is refl k lt) in
-    subst (λ (s : List ℕ). map (call_at unit s bytes) (hits_of (calls_from methods 0 (messages_in bytes)))
-    ≡ map call_of (invocations_of unit (calls_from methods 0 (messages_in bytes))))
-    (sym (is ∙ ap (starts_of 0) list))
-    (subst (λ (l : List (List ℕ)). map (call_at unit (starts_of 0 are.messages) bytes) (hits_of (calls_from methods 0 l))
+    ap (message_at starts bytes) same ∙ ap (λ (n : ℕ). first_framed (drop n bytes)) (found k lt)
+    ∙ started [] bytes 0 are.messages are.read are.is refl k lt) in
+    subst (λ (l : List (List ℕ)). map (call_at unit starts bytes) (hits_of (calls_from methods 0 l))
     ≡ map call_of (invocations_of unit (calls_from methods 0 l)))
-    (sym list) (told_from unit (starts_of 0 are.messages) bytes methods 0 are.messages each))
+    (sym list) (told_from unit starts bytes methods 0 are.messages each)
 
 -- the hits that an answer tells
 abbrev pub told_hits : Answer → List Hit
@@ -292,7 +291,7 @@ hits_within now next caller unit calls (hits, answer, many) on =
 pub kept_released : (last : LastRelease) (now next : Performance) (caller calls : ℕ)
     → TellsRelease (releasing.Released last.unit calls) (stepped_in now release).answer
     → (stepped_in now release).invocations ≡ invocations_of last.unit (calls_from (state_of now).methods 0 (messages_in last.bytes.items))
-    → AreFramed last.bytes.items → last.starts.items ≡ starts_of 0 (messages_in last.bytes.items)
+    → AreFramed last.bytes.items → FindEach last.starts.items (messages_in last.bytes.items)
     → next ≡ onward now caller release
     → (adds_entry (stepped_in now release).answer ≡ true → IsRecordable caller release (stepped_in now release).answer)
     → last.calls ≡ calls → last.place + 8 * calls ≡ length (record_text next.caps next.history) → KeepsCalls last next
@@ -324,7 +323,7 @@ pub kept_release : (answering : Releasing) (last : LastRelease) (unit calls : �
     → OnReleased answering (λ number. (stepped_in now release).invocations ≡ invocations_of number (calls_from (state_of now).methods 0 (messages_in messages)))
     → OnReleased answering (λ number. AreFramed messages) → next ≡ onward now caller release
     → (adds_entry (stepped_in now release).answer ≡ true → IsRecordable caller release (stepped_in now release).answer)
-    → last.unit ≡ unit → last.calls ≡ calls → last.bytes.items ≡ messages → last.starts.items ≡ starts_of 0 (messages_in messages)
+    → last.unit ≡ unit → last.calls ≡ calls → last.bytes.items ≡ messages → FindEach last.starts.items (messages_in messages)
     → last.place + 8 * calls ≡ length (record_text next.caps next.history) → KeepsCalls last next
 kept_release answering last unit calls messages now next caller same told made framed on recordable number many there starts at =
     let stepped = stepped_in now release in
@@ -336,7 +335,7 @@ kept_release answering last unit calls messages now next caller same told made f
     (subst (λ (n : ℕ). TellsRelease (releasing.Released n calls) stepped.answer) (sym number) tells)
     (subst (λ (n : ℕ). stepped.invocations ≡ invocations_of n (calls_from methods 0 (messages_in last.bytes.items))) (sym number)
     (subst (λ (l : List ℕ). stepped.invocations ≡ invocations_of unit (calls_from methods 0 (messages_in l))) (sym there) makes))
-    (subst AreFramed (sym there) are) (starts ∙ ap (λ (l : List ℕ). starts_of 0 (messages_in l)) (sym there)) on recordable many at
+    (subst AreFramed (sym there) are) (subst (λ (l : List ℕ). FindEach last.starts.items (messages_in l)) (sym there) starts) on recordable many at
 
 -- there is room in the recording for its hits
 pub hits_fit : (answering : Releasing) (now next : Performance) (caller unit calls : ℕ) → answering ≡ releasing.Released unit calls

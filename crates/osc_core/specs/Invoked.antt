@@ -1,5 +1,5 @@
 -- What the last release invoked, and how its calls are told.
-use Rattle.std.specs.Prelude.{◌≡◌, ℕ, ◌+◌, ◌*◌, ◌≤◌, Bool, true, false, if◌then◌else◌, List, [], ◌∷◌}
+use Rattle.std.specs.Prelude.{◌≡◌, ℕ, ◌+◌, ◌*◌, ◌<◌, ◌≤◌, Bool, true, false, if◌then◌else◌, List, [], ◌∷◌}
 use Rattle.std.specs.Prelude.{length, map, take, drop, slice_index, refl, Option, Some, None}
 use Rattle.std.specs.Coded.{Coded, code_by, coded×, coded_ℕ, coded_list}
 use Rattle.std.specs.Int.{w32, from_be_bytes}
@@ -64,6 +64,12 @@ shown called = record {
 abbrev pub starts_of : ℕ → List (List ℕ) → List ℕ
 starts_of start [] = []
 starts_of start (message ∷ messages) = start ∷ starts_of (start + (4 + length message)) messages
+
+-- By these places each of the messages is found. A place that isn't there is read as 0, so for a
+-- message alone none needs to be there.
+abbrev pub FindEach : List ℕ → List (List ℕ) → Type 0
+FindEach starts messages = (index : ℕ) → index < length messages
+    → slice_index starts index ≡ slice_index (starts_of 0 messages) index
 
 -- the message with an index, where they begin at these places of the bytes
 abbrev pub message_at : List ℕ → List ℕ → ℕ → List ℕ

@@ -24,7 +24,7 @@ pub struct Calls<'a> {
     pub(crate) hits: &'a [u8],
     /// The messages, each after its length in 4 bytes.
     pub(crate) bytes: &'a [u8],
-    /// Where each of them begins.
+    /// Where each of them begins; empty where there is one alone, which begins at 0.
     pub(crate) starts: &'a [u32],
 }
 

@@ -20,6 +20,7 @@ mod shortage;
 mod standing;
 mod store;
 mod units;
+mod waiting;
 
 pub use answers::{AddRefusal, Adding, Closed, Enrolled, Releasing, Removing, Submitted, Ticking};
 pub use called::{Called, Calls};

@@ -2,7 +2,7 @@
 ghost use Rattle.osc_packet.specs.declared.limits.TheConstants.{MAX_STORED};
 ghost use Rattle.std.specs.Prelude.{◌≡◌, ◌+◌, ◌*◌, ◌≤◌, length, drop, IfOk, vec_capacity};
 ghost use Rattle.osc_core.specs.Frames.{messages_in, AreFramed};
-ghost use Rattle.osc_core.specs.Invoked.{starts_of};
+ghost use Rattle.osc_core.specs.Invoked.{starts_of, FindEach};
 
 use crate::called::{Calls, rest_from, split_message};
 use osc_packet::MAX_STORED;
@@ -18,12 +18,12 @@ pub(crate) struct LastRelease {
     pub(crate) place: usize,
     /// The messages of the unit, each after its length in 4 bytes.
     pub(crate) bytes: Vec<u8>,
-    /// Where each of them begins.
+    /// Where each of them begins; empty where there is one alone, which begins at 0.
     pub(crate) starts: Vec<u32>,
 }
 
 impl LastRelease {
-    ghost use Rattle.osc_core.specs.Invoked.{starts_of, calls_left, calls_in};
+    ghost use Rattle.osc_core.specs.Invoked.{FindEach, calls_left, calls_in};
 
     /// Of none. The `Err` means that there is no memory for messages.
     pub(crate) fn open(alloc: Global) -> Result<LastRelease, AllocError>
@@ -50,13 +50,13 @@ impl LastRelease {
         ensures calls { self.new.calls ≡ calls }
         ensures place { self.new.place + 8 * calls ≡ recorded }
         ensures bytes { self.new.bytes ≡ self.old.bytes }
-        ensures starts { self.new.starts.items ≡ starts_of 0 (messages_in self.old.bytes.items) }
+        ensures starts { FindEach self.new.starts.items (messages_in self.old.bytes.items) }
         ensures room { vec_capacity self.old.starts ≤ vec_capacity self.new.starts }
     {
         self.unit = unit;
         self.calls = calls;
         self.place = recorded - 8 * calls as usize;
-        find_starts(&self.bytes, &mut self.starts);
+        keep_starts(&self.bytes, &mut self.starts);
     }
 
     /// Its calls from one on, whose hits stand in the recording.
@@ -78,7 +78,23 @@ impl LastRelease {
     }
 }
 
+/// Keeps where each of the messages begins, unless there is one alone.
+#[inline(always)]
+fn keep_starts(bytes: &[u8], starts: &mut Vec<u32>)
+    requires framed { AreFramed bytes.now }
+    requires room { MAX_STORED ≤ 4 * vec_capacity starts.old }
+    ensures starts { FindEach starts.new.items (messages_in bytes.now) }
+    ensures capacity { vec_capacity starts.old ≤ vec_capacity starts.new }
+{
+    if split_message(bytes).1.is_empty() {
+        starts.clear();
+    } else {
+        find_starts(bytes, starts);
+    }
+}
+
 /// Tells where each of the messages begins.
+#[inline(never)]
 fn find_starts(bytes: &[u8], starts: &mut Vec<u32>)
     requires framed { AreFramed bytes.now }
     requires room { MAX_STORED ≤ 4 * vec_capacity starts.old }

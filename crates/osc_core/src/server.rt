@@ -25,19 +25,16 @@ ghost use Rattle.osc_core.specs.Playing.{tables};
 use crate::answers::{Enrolled, Releasing, Removing, Submitted, Ticking};
 use crate::calls::{MAX_KEPT, release_unit};
 use crate::messages::Messages;
-use crate::store::{Store, Stored};
-use crate::units::{enter_all, take_first};
+use crate::waiting::Waiting;
 use osc_atoms::Room;
 use osc_method::Method;
 use osc_model::{Late, Need, need_of};
-use osc_packet::{MAX_STORED, Packet};
+use osc_packet::Packet;
 use osc_pattern::Address;
-use osc_queue::Queue;
 use osc_record::{Caps, Recorder};
 use osc_tree::{Hits, Tree, TreeRefusal};
 use std::alloc::{AllocError, Global};
 use std::marker::Model;
-use std::mem::swap;
 
 /// The methods' addresses, the units with their messages, the clock and the numbers that are given next. A contract
 /// sees the server's state, in which nothing is recorded.
@@ -47,12 +44,8 @@ pub(crate) struct Server {
     hits: Hits,
     /// What the messages of the unit that is released call.
     kept: Vec<u32>,
-    /// The queued units.
-    queue: Queue<Stored>,
-    /// Their messages.
-    store: Store,
-    /// The messages of the unit that is to be released.
-    bytes: Vec<u8>,
+    /// The units that are not released yet.
+    waiting: Waiting,
     clock: u64,
     next_id: u32,
     next_unit: u64,
@@ -64,15 +57,15 @@ pub(crate) struct Server {
 
 impl Model for Server {
     ghost use Rattle.osc_model.specs.State.{State};
-    ghost use Rattle.std.specs.Prelude.{length, vec_capacity};
-    ghost use Rattle.osc_core.specs.Views.{queue_of, IsRunning};
+    ghost use Rattle.std.specs.Prelude.{length};
+    ghost use Rattle.osc_core.specs.Views.{units_of, IsRunning};
 
     ghost Value = { State };
 
     ghost view = { λ s. record {
       caps = record {
-        units = s.queue.limit;
-        blocks = length s.store;
+        units = s.waiting.queue.limit;
+        blocks = length s.waiting.store;
         methods = s.tree.method_limit;
         nodes = s.tree.node_limit;
         callers =
@@ -81,7 +74,7 @@ impl Model for Server {
         late = s.late;
       };
       methods = s.tree.methods;
-      queue = queue_of s.store s.queue.items;
+      queue = units_of s.waiting;
       clock = s.clock;
       next_id =
           s.next_id;
@@ -90,8 +83,8 @@ impl Model for Server {
       recorded = 0;
     } };
 
-    ghost invariant = { λ s. IsRunning s.tree s.hits s.store s.queue s.next_id s.next_unit s.callers
-        s.caller_limit (vec_capacity s.bytes) };
+    ghost invariant = { λ s. IsRunning s.tree s.hits s.waiting s.next_id s.next_unit s.callers
+        s.caller_limit };
 }
 
 impl Server {
@@ -102,9 +95,7 @@ impl Server {
             tree: Tree::open(alloc, caps.methods(), caps.nodes())?,
             hits: Hits::open(alloc, caps.methods())?,
             kept: Vec::with_capacity(alloc, MAX_KEPT)?,
-            queue: Queue::open(alloc, caps.units())?,
-            store: Store::open(alloc, caps.blocks())?,
-            bytes: Vec::with_capacity(alloc, MAX_STORED as usize)?,
+            waiting: Waiting::open(alloc, caps.units(), caps.blocks())?,
             clock: 1,
             next_id: 0,
             next_unit: 0,
@@ -134,28 +125,43 @@ impl Server {
         ensures entry { IsTrue (adds_entry (submitted_of result)) }
         ensures state { self.new ≡ (decided self.old (submit packet.now)).state }
     {
+        if self
+            .waiting
+            .stand_alone(packet, self.late, self.clock, self.next_unit)
+        {
+            let first = self.next_unit;
+            self.next_unit += 1;
+            return Submitted::Queued {
+                first,
+                count: 1,
+                late: 0,
+            };
+        }
+        self.submit_all(packet)
+    }
+
+    /// The same, where others wait, or there may be several.
+    fn submit_all(&mut self, packet: &Packet<'_>) -> Submitted
+        requires { self.old.next_unit + length (units_read packet.now) < 2 ^ 64 }
+        ensures answer { submitted_of result ≡ (decided self.old (submit packet.now)).answer }
+        ensures entry { IsTrue (adds_entry (submitted_of result)) }
+        ensures state { self.new ≡ (decided self.old (submit packet.now)).state }
+    {
         let Need {
             count,
             places: keeps,
             blocks: need,
         } = need_of(self.late, self.clock, packet);
-        let places = self.queue.free();
+        let places = self.waiting.free_places();
         if keeps > places {
             return Submitted::UnitsFull(Room::new(u64::from(keeps), u64::from(places)));
         }
-        let free = self.store.free();
+        let free = self.waiting.free_blocks();
         if need > free {
             return Submitted::PoolFull(Room::new(u64::from(need), u64::from(free)));
         }
         let first = self.next_unit;
-        enter_all(
-            &mut self.queue,
-            &mut self.store,
-            packet,
-            self.late,
-            self.clock,
-            first,
-        );
+        self.waiting.enter_all(packet, self.late, self.clock, first);
         self.next_unit += u64::from(count);
         Submitted::Queued {
             first,
@@ -260,14 +266,14 @@ impl Server {
         ensures kept { OnWaiting result (messages.new ≡ messages.old) }
         ensures reserved { MAX_STORED ≤ vec_capacity messages.new }
     {
-        let Some((due, unit, stored)) = self.queue.first() else {
+        let Some((due, unit)) = self.waiting.first() else {
             return Releasing::NothingDue { next: None };
         };
         if due > self.clock {
             return Releasing::NothingDue { next: Some(due) };
         }
-        self.store.read(stored, &mut self.bytes);
-        let read = Messages::new(self.bytes.as_slice());
+        self.waiting.read();
+        let read = Messages::new(self.waiting.bytes.as_slice());
         match release_unit(
             &self.tree,
             &mut self.hits,
@@ -279,8 +285,7 @@ impl Server {
             boxes,
         ) {
             Ok(calls) => {
-                swap(&mut self.bytes, messages);
-                take_first(&mut self.queue, &mut self.store, self.clock);
+                self.waiting.take(self.clock, messages);
                 Releasing::Released { unit, calls }
             }
             Err(room) => Releasing::RecordFull(room),
@@ -291,7 +296,7 @@ impl Server {
     pub(crate) fn due(&self) -> Option<u64>
         ensures { IsLeastDue self.now.queue result }
     {
-        let (due, _, _) = self.queue.first()?;
+        let (due, _) = self.waiting.first()?;
         Some(due)
     }
 

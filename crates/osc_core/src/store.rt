@@ -27,7 +27,7 @@ pub(crate) struct Stored {
 }
 
 /// The most bytes of a message that stands in a block beside its length.
-const MOST_BESIDE: usize = 60;
+pub(crate) const MOST_BESIDE: usize = 60;
 
 /// Blocks of 64 bytes, in which the messages of units are chains. A contract sees what a pool holds.
 ///
@@ -97,6 +97,22 @@ impl Store {
         Stored {
             tag: unit.tag(),
             chain,
+        }
+    }
+
+    /// Stores the messages of a unit with this tag, each of which is there after its length.
+    pub(crate) fn put_framed(&mut self, tag: u64, bytes: &[u8]) -> Stored
+        requires framed { AreFramed bytes.now }
+        requires room { used_blocks self.old + blocks_for (length bytes.now) ≤ length self.old }
+        ensures stored { IsStored self.new result }
+        ensures value { unit_in self.new result
+            ≡ record { tag = tag; messages = messages_in bytes.now } }
+        ensures used { used_blocks self.new ≡ used_blocks self.old + blocks_for (length bytes.now) }
+        ensures limit { length self.new ≡ length self.old }
+    {
+        match self.pool.store(bytes) {
+            Ok(chain) => Stored { tag, chain },
+            Err(_) => unreachable!(),
         }
     }
 
@@ -181,8 +197,19 @@ fn add(bytes: &mut Vec<u8>, more: &[u8])
     }
 }
 
+/// Writes a message after its length over all bytes.
+pub(crate) fn write_message(out: &mut [u8], message: &[u8])
+    requires room { length out.old ≡ 4 + length message.now }
+    requires small { length message.now < 2 ^ 32 }
+    ensures { out.new ≡ word (length message.now) ++ message.now }
+{
+    let (size, rest) = out.split_at_mut(4);
+    size.copy_from_slice(&(message.len() as u32).to_be_bytes());
+    rest.copy_from_slice(message);
+}
+
 /// Makes the list as long as this, in room that is there.
-fn fit(bytes: &mut Vec<u8>, size: usize)
+pub(crate) fn fit(bytes: &mut Vec<u8>, size: usize)
     requires { size ≤ vec_capacity bytes.old }
     ensures len { length bytes.new.items ≡ size }
     ensures capacity { vec_capacity bytes.old ≤ vec_capacity bytes.new }

@@ -1,8 +1,15 @@
-use Rattle.std.proofs.Common.{ap, ◌∙◌}
-use Rattle.osc_c.specs.Held.{left}
-use Rattle.osc_c.specs.Reading.{left_of}
+use Rattle.std.proofs.Common.{◌∙◌}
+use Rattle.osc_packet.specs.Reading.{packet_fault}
+use Rattle.osc_c.specs.Held.{played}
+use Rattle.osc_c.proofs.FirstCaller.{submit_0, submit_done}
 use Rattle.osc_c.proofs.events.osc_server_submit.Goals as goal
 
-pub returns-clause-unread : goal.returns-clause-unread
-returns-clause-unread c =
-    ap left c.put.ensures ∙ c.submit_in-answer.ensures.unread ∙ ap left_of c.deref_mut.ensures.value ∙ ap left c.in-Some.ensures.taken
+pub returns-clause-answer : goal.returns-clause-answer
+returns-clause-answer c =
+    c.osc_server_submit_by.ensures.answer
+    ∙ submit_0 (packet_fault 65504 c.args.bytes.now) (played c.args.handle.now.spot.held) c.args.bytes.now
+
+pub returns-clause-performance : goal.returns-clause-performance
+returns-clause-performance c =
+    c.osc_server_submit_by.ensures.performance
+    ∙ submit_done (packet_fault 65504 c.args.bytes.now) (played c.args.handle.now.spot.held) c.args.bytes.now

@@ -1,8 +1,11 @@
-use Rattle.std.proofs.Common.{ap, ◌∙◌}
-use Rattle.osc_c.specs.Held.{left}
-use Rattle.osc_c.specs.Reading.{left_of}
+use Rattle.std.proofs.Common.{◌∙◌}
+use Rattle.osc_model.specs.Events.{tick}
+use Rattle.osc_c.specs.Held.{played}
+use Rattle.osc_c.proofs.FirstCaller.{event_answered, event_done}
 use Rattle.osc_c.proofs.events.osc_server_tick.Goals as goal
 
-pub returns-clause-unread : goal.returns-clause-unread
-returns-clause-unread c =
-    ap left c.put.ensures ∙ c.tick_in-answer.ensures.unread ∙ ap left_of c.deref_mut.ensures.value ∙ ap left c.in-Some.ensures.taken
+pub returns-clause-answer : goal.returns-clause-answer
+returns-clause-answer c = c.osc_server_tick_by.ensures.answer ∙ event_answered (played c.args.handle.now.spot.held) (tick c.args.moment)
+
+pub returns-clause-performance : goal.returns-clause-performance
+returns-clause-performance c = c.osc_server_tick_by.ensures.performance ∙ event_done (played c.args.handle.now.spot.held) (tick c.args.moment)

@@ -17,8 +17,8 @@ invariant_of-self-2 c = record {
     room = subst (λ (tree : Registry). tree.method_limit ≤ c.self.inside.hits.limit) (sym c.in-Ok.ensures.others) c.self.invariant.methods.room;
   };
   units = c.self.invariant.units;
+  numbers = c.self.invariant.numbers;
   few_callers = c.self.invariant.few_callers;
-  reserved = c.self.invariant.reserved;
 }
 
 pub returns-clause-others : goal.returns-clause-others
