@@ -15,7 +15,7 @@ listed_on most left hit more found text after all most_is found_is is adds =
     in ap (λ (l : List ℕ). l ++ listed left more) adds ∙ append_assoc text said (listed left more)
     ∙ ap (λ (l : List ℕ). text ++ l) (sym whole) ∙ is
 
--- an address is added, and what stands behind it where these are found after it
+-- an address is added, and what stands after it where these are found next
 pub hit_said : (hit : Route) (goes_on : Bool) (found more : List Route) (before mid after : List ℕ) → found ≡ more
     → mid ≡ before ++ hit.address → after ≡ mid ++ (run_end hit more ++ before_next goes_on more)
     → after ≡ before ++ (hit.address ++ run_end hit found ++ before_next goes_on found)

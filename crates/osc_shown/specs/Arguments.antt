@@ -1,5 +1,5 @@
 -- Arguments, in the words of a sheet of cues.
-use Rattle.std.specs.Prelude.{◌≡◌, ℕ, Bool, true, false, not, ◌&&◌, nat_le, if◌then◌else◌}
+use Rattle.std.specs.Prelude.{◌≡◌, ℕ, ◌≤◌, Bool, true, false, not, ◌&&◌, nat_le, if◌then◌else◌}
 use Rattle.std.specs.Prelude.{List, [], ◌∷◌, ◌++◌, length, take, codes, Some, from_bits}
 use lib.Ieee.{Format, binary32, binary64, nan_bits}
 use Rattle.std.specs.Float.{float_is_finite}
@@ -17,11 +17,12 @@ use Rattle.osc_shown.specs.Texts.{quoted}
 abbrev pub is_finite : Format → ℕ → Bool
 is_finite format bits = not (nan_bits format bits) && float_is_finite (from_bits format bits)
 
--- A decimal that reads as the number with these bits. It has a point or an exponent: at most so many
--- digits stand before the point, and at most so many zeros behind it, else an exponent.
+-- A decimal that reads as the number with these bits. It has a point or an exponent: at most so
+-- many digits stand before the point, and at most so many zeros after it, else an exponent.
 pub record IsDecimal (format : Format) (digits zeros bits : ℕ) (said : List ℕ) : Type 0 where
   pub reads : parse_float format said ≡ Some (from_bits format bits)
   pub layout : IsLaidOutNumber digits zeros said
+  pub short : length said ≤ 25
 
 -- the word of a float: a decimal, or the bits where it isn't finite
 pub record IsFloat (bits : ℕ) (said : List ℕ) : Type 0 where

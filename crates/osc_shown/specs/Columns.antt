@@ -1,7 +1,7 @@
 -- The columns of a line.
 use Rattle.std.specs.Prelude.{ℕ, ◌-◌, ◌==◌, Bool, not, ◌&&◌, ◌||◌, nat_le, nat_lt, max}
-use Rattle.std.specs.Prelude.{if◌then◌else◌, List, [], ◌∷◌, ◌++◌, length, take, filter, replicate, codes}
-use Rattle.std.specs.Prelude.{Option}
+use Rattle.std.specs.Prelude.{if◌then◌else◌, List, [], ◌∷◌, ◌++◌, length, take, filter, replicate}
+use Rattle.std.specs.Prelude.{codes, Option}
 use Rattle.osc_shown.specs.declared.look.Look.{Look}
 use Rattle.osc_shown.specs.declared.wall_clock.WallClock.{WallClock}
 use Rattle.osc_shown.specs.Times.{when_text}

@@ -26,12 +26,13 @@ pub record Reported : Type 0 where
   pub tag : ℕ
   pub routes : List Route
 
--- the tags of a message, one of which is unknown, behind a comma
+-- the tags of a message, one of which is unknown, after a comma
 abbrev pub tags_text : Option (List ℕ) → List ℕ
 tags_text None = []
 tags_text (Some tags) = codes " ," ++ flat_map shown_byte tags
 
--- The words of a message: its pattern, and a word for each argument, or its tags where one is unknown.
+-- The words of a message: its pattern, and a word for each argument, or its tags where one is
+-- unknown.
 pub record IsMessageText (message words : List ℕ) : Type 0 where
   pub said : List ℕ
   pub known : is_some (unknown_of message) ≡ false → AreWords (message_arguments message) said
@@ -52,7 +53,8 @@ mark_in report message = mark_of report.answer (due_mark message report.routes)
 
 -- its tail
 abbrev pub tail_in : Reported → List ℕ → List ℕ
-tail_in report message = tail_of report.arrival report.answer report.tag (goes message report.routes)
+tail_in report message =
+    tail_of report.arrival report.answer report.tag (goes message report.routes)
 
 -- the line of a message under a mark
 abbrev pub IsMarkedLine : Reported → ℕ → ℕ → List ℕ → List ℕ → Type 0

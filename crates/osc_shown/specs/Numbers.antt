@@ -1,5 +1,6 @@
 -- Numbers, as a person reads them.
-use Rattle.std.specs.Prelude.{ℕ, ◌+◌, ◌/◌, ◌%◌, nat_lt, if◌then◌else◌, List, [], ◌∷◌, ◌++◌, codes}
+use Rattle.std.specs.Prelude.{ℕ, ◌+◌, ◌/◌, ◌%◌, ◌==◌, ◌&&◌, nat_lt, if◌then◌else◌, List, [], ◌∷◌}
+use Rattle.std.specs.Prelude.{◌++◌, length, codes}
 use Rattle.std.specs.Fmt.{decimal}
 
 -- the last two digits
@@ -10,14 +11,15 @@ two number = (48 + number / 10 % 10) ∷ (48 + number % 10) ∷ []
 unfoldable pub three : ℕ → List ℕ
 three number = (48 + number / 100 % 10) ∷ (48 + number / 10 % 10) ∷ (48 + number % 10) ∷ []
 
--- a number below a million with a comma before its last three digits, if it has more
-abbrev pub below_million : ℕ → List ℕ
-below_million number =
-    if nat_lt number 1000 then decimal number
-    else decimal (number / 1000) ++ codes "," ++ three number
+-- a comma, where so many digits are left that begin a group of three
+abbrev pub comma_before : ℕ → List ℕ
+comma_before left = if nat_lt 0 left && left % 3 == 0 then codes "," else []
 
--- a number with a comma before its last six digits and its last three, as far as it has more
+-- digits with a comma between their groups of three, counted from the last
+abbrev pub grouped : List ℕ → List ℕ
+grouped [] = []
+grouped (first ∷ others) = (first ∷ comma_before (length others)) ++ grouped others
+
+-- a number in decimal, in groups of three digits
 abbrev pub thousands : ℕ → List ℕ
-thousands number =
-    if nat_lt number 1_000_000 then below_million number
-    else below_million (number / 1000) ++ codes "," ++ three number
+thousands number = grouped (decimal number)

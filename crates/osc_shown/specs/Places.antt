@@ -9,7 +9,7 @@ use Rattle.osc_shown.specs.Numbers.{thousands}
 abbrev pub hits : List ℕ → List Route → List Route
 hits pattern routes = filter (λ route. matches pattern route.address) routes
 
--- where a method sends, behind a space, if it sends
+-- where a method sends, after a space, if it sends
 abbrev pub to_words : List ℕ → List ℕ
 to_words to = if length to == 0 then [] else 32 ∷ to
 
@@ -17,7 +17,7 @@ to_words to = if length to == 0 then [] else 32 ∷ to
 abbrev pub unless_same : List ℕ → List ℕ → List ℕ
 unless_same to next = if bytes_eq to next then [] else to_words to
 
--- behind the last address of those that send to one place, that place
+-- after the last address of those that send to one place, that place
 abbrev pub run_end : Route → List Route → List ℕ
 run_end hit [] = to_words hit.to.items
 run_end hit (next ∷ more) = unless_same hit.to.items next.to.items
@@ -38,7 +38,7 @@ listed (suc most) (hit ∷ more) =
 abbrev pub most_listed : ℕ
 most_listed = 4
 
--- of so many addresses behind the first, how many aren't listed
+-- of so many addresses after the first, how many aren't listed
 abbrev pub unlisted : ℕ → List ℕ
 unlisted more = if nat_lt more 4 then [] else codes " and " ++ thousands (more - 3) ++ codes " more"
 

@@ -14,7 +14,7 @@ use Rattle.osc_shown.specs.Places.{hits, going}
 use Rattle.osc_shown.specs.Texts.{shown_byte}
 use Rattle.osc_shown.specs.Times.{span_text}
 
--- a comma behind a part, if there is one
+-- a comma after a part, if there is one
 abbrev pub comma : List ℕ → List ℕ
 comma part = if length part == 0 then part else part ++ codes ", "
 
@@ -59,8 +59,8 @@ abbrev pub due_mark : List ℕ → List Route → ℕ
 due_mark message routes =
     called_mark (unknown_of message) (length (hits (pattern_of message) routes))
 
--- The mark by the answer, where this is that of a message that is called: `~` where it waits, `!` where it
--- is discarded or refused.
+-- The mark by the answer, where this is that of a message that is called: `~` where it waits, `!`
+-- where it is discarded or refused.
 abbrev pub mark_of : Answered → ℕ → ℕ
 mark_of Due called = called
 mark_of Late called = called

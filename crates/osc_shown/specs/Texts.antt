@@ -11,7 +11,7 @@ use Rattle.hex.specs.Hex.{encode_lower}
 abbrev pub is_printed : ℕ → Bool
 is_printed byte = nat_le 32 byte && nat_le byte 126
 
--- a character that stands behind a backslash
+-- a character that stands after a backslash
 abbrev pub is_marked : ℕ → Bool
 is_marked byte = byte == 34 || byte == 92
 
@@ -39,7 +39,7 @@ shown_char letter =
 abbrev pub most_shown : ℕ
 most_shown = 40
 
--- behind the closing quote, how many bytes a text has that isn't shown whole
+-- after the closing quote, how many bytes a text has that isn't shown whole
 abbrev pub rest_text : Bool → ℕ → List ℕ
 rest_text true size = []
 rest_text false size = codes ".." ++ decimal size
@@ -56,6 +56,6 @@ quoted_bytes bytes =
     codes "\"" ++ flat_map shown_byte (take most_shown bytes) ++ codes "\""
     ++ rest_text (nat_le (length bytes) most_shown) (length bytes)
 
--- a text between quotes: its first characters, and behind it how many bytes it has, where they are more
+-- a text between quotes: its first characters, and after it how many bytes it has, if it has more
 abbrev pub quoted : List ℕ → List ℕ
 quoted bytes = if is_utf8 bytes then quoted_text bytes else quoted_bytes bytes

@@ -1,7 +1,7 @@
 -- Moments, as a wall clock shows them. A moment is a time tag: seconds since the start of 1900 in
 -- the upper 32 bits, and a fraction of one in the lower (OSC 1.0, "OSC Time Tags").
 use Rattle.std.specs.Prelude.{◌≡◌, ℕ, ◌+◌, ◌-◌, ◌*◌, ◌/◌, ◌%◌, ◌^◌, ◌==◌, Bool}
-use Rattle.std.specs.Prelude.{true, false, not, nat_lt, if◌then◌else◌, List, [], ◌∷◌, ◌++◌}
+use Rattle.std.specs.Prelude.{true, false, not, nat_lt, if◌then◌else◌, List, ◌++◌}
 use Rattle.std.specs.Prelude.{Option, Some, None, codes, pos, ◌-ℤ◌}
 use Rattle.std.specs.Fmt.{decimal}
 use Rattle.jiff_core.specs.Date.{epoch_day}

@@ -142,7 +142,7 @@ fn add_to(out: &mut Vec<u8>, to: &[u8]) -> Result<(), AllocError>
     add(out, to)
 }
 
-/// Adds how many addresses aren't listed, of so many behind the first.
+/// Adds how many addresses aren't listed, of so many after the first.
 fn add_unlisted(out: &mut Vec<u8>, more: usize) -> Result<(), AllocError>
     ensures { OnOk result (out.new.items ≡ out.old.items ++ unlisted more) }
 {

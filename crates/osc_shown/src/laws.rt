@@ -12,7 +12,7 @@ ghost use Rattle.osc_shown.specs.Times.{time_text, zone_text};
 pub fn examples()
     ensures few { thousands 999 ≡ codes "999" }
     ensures thousands { thousands 65_504 ≡ codes "65,504" }
-    ensures millions { thousands 1_000_007 ≡ codes "1,000,007" }
+    ensures billions { thousands 4_294_967_295 ≡ codes "4,294,967,295" }
     ensures time { time_text (record { ahead = 172_800 }) 0xeeb7_02ec_8000_0000
         ≡ codes "20:00:44.500" }
     ensures nearest { time_text (record { ahead = 172_800 }) 0xeeb7_02ec_1999_9999

@@ -1,9 +1,9 @@
 // Numbers, as a person reads them.
-ghost use Rattle.std.specs.Prelude.{◌≡◌, ◌+◌, ◌%◌, ◌++◌, OnOk};
+ghost use Rattle.std.specs.Prelude.{◌≡◌, ◌+◌, ◌%◌, ◌∷◌, ◌++◌, OnOk};
 ghost use Rattle.std.specs.Fmt.{decimal, signed_decimal};
-ghost use Rattle.osc_shown.specs.Numbers.{two, three, below_million, thousands};
+ghost use Rattle.osc_shown.specs.Numbers.{two, three, comma_before, grouped, thousands};
 
-use crate::bytes::add;
+use crate::bytes::{add, add_byte};
 use itoa::Buffer;
 use std::alloc::AllocError;
 
@@ -46,25 +46,31 @@ fn digit(number: u64) -> u8
     b'0' + (number % 10) as u8
 }
 
-fn add_below_million(out: &mut Vec<u8>, number: u64) -> Result<(), AllocError>
-    ensures { OnOk result (out.new.items ≡ out.old.items ++ below_million number) }
-{
-    if number < 1000 {
-        return add_decimal(out, number);
-    }
-    add_decimal(out, number / 1000)?;
-    add(out, b",")?;
-    add_three(out, number)
-}
-
-/// Adds the number with commas between its thousands.
+/// Adds the number in groups of three digits, with commas between them.
 pub(crate) fn add_thousands(out: &mut Vec<u8>, number: u64) -> Result<(), AllocError>
     ensures { OnOk result (out.new.items ≡ out.old.items ++ thousands number) }
 {
-    if number < 1_000_000 {
-        return add_below_million(out, number);
+    add_grouped(out, Buffer::new().format(number).as_bytes())
+}
+
+fn add_grouped(out: &mut Vec<u8>, digits: &[u8]) -> Result<(), AllocError>
+    ensures { OnOk result (out.new.items ≡ out.old.items ++ grouped digits.now) }
+{
+    let mut rest = digits;
+    while let Some((first, others)) = rest.split_first() {
+        add_first(out, *first, others.len())?;
+        rest = others;
     }
-    add_below_million(out, number / 1000)?;
-    add(out, b",")?;
-    add_three(out, number)
+    Ok(())
+}
+
+/// Adds a digit, and a comma where so many are left that they begin a group.
+fn add_first(out: &mut Vec<u8>, digit: u8, left: usize) -> Result<(), AllocError>
+    ensures { OnOk result (out.new.items ≡ out.old.items ++ (digit ∷ comma_before left)) }
+{
+    add_byte(out, digit)?;
+    if left > 0 && left % 3 == 0 {
+        return add_byte(out, b',');
+    }
+    Ok(())
 }

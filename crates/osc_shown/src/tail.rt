@@ -119,7 +119,7 @@ fn add_comma(out: &mut Vec<u8>) -> Result<(), AllocError>
     add(out, b", ")
 }
 
-/// Adds who has sent it, behind a comma if there is something before it.
+/// Adds who has sent it, after a comma if there is something before it.
 pub(crate) fn add_sender(out: &mut Vec<u8>, sender: Option<SocketAddrV4>) -> Result<(), AllocError>
     ensures { OnOk result (out.new.items ≡ joined out.old.items (from_words sender)) }
 {

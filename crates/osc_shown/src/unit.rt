@@ -24,8 +24,8 @@ struct Report<'a> {
     routes: &'a [Route],
 }
 
-/// Adds the lines of a unit: one for each message, or for one that waits, its first message alone (docs/FORMATS.md, "Shown
-/// lines"). The routes stand in the order in which methods are called, by address. An `Err` means out of memory.
+/// Adds the lines of a unit: one for each message, or for one that waits, its first message alone (docs/FORMATS.md,
+/// "Shown lines"). The routes stand in the order in which methods are called, by address. An `Err` means out of memory.
 pub fn unit_lines(
     text: &mut Vec<u8>,
     look: Look,

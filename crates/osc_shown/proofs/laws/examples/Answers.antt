@@ -12,7 +12,7 @@ unfolding digits chars is_utf8 hex_on_literals two three millis_of shown_millis 
 returns c = record {
   few = refl;
   thousands = refl;
-  millions = refl;
+  billions = refl;
   time = refl;
   nearest = refl;
   ahead = refl;

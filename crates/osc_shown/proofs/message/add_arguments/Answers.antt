@@ -1,9 +1,8 @@
 use Rattle.std.proofs.Common.{◌≡◌, ℕ, List, [], ◌∷◌, ◌++◌, refl, sym, ap, subst, ◌∙◌, append_assoc}
 use Rattle.std.proofs.lemmas.List.{append-nil}
 use Rattle.osc_message.specs.Messages.{Argument}
-use Rattle.osc_message.specs.Arguments.{message_arguments}
 use Rattle.osc_message.specs.Left.{left}
-use Rattle.osc_shown.specs.Arguments.{IsWord, AreWords, AddsSpaced, AddsWords}
+use Rattle.osc_shown.specs.Arguments.{AreWords, AddsSpaced, AddsWords}
 use Rattle.osc_shown.proofs.message.add_arguments.Goals as goal
 
 -- whatever is said of the arguments that are left

@@ -1,4 +1,4 @@
-use Rattle.std.proofs.Common.{◌≡◌, ◌++◌, ℕ, List, length, take, nat_le, sym, ap, ◌∙◌, append_assoc, map-id}
+use Rattle.std.proofs.Common.{◌++◌, ℕ, List, length, take, nat_le, sym, ap, ◌∙◌, append_assoc, map-id}
 use Rattle.std.specs.List.{flat_map}
 use Rattle.std.proofs.lemmas.Iterator.{YieldsList-from_chars}
 use Rattle.std.proofs.lemmas.Iterator.Consumers.{YieldsList-end}
