@@ -369,7 +369,7 @@ fn lines_have_colours_and_are_left_out(rt: HostRuntime) -> Result<(), Fail> {
     let lines = lines_of(rt.alloc(), look, unknown, Answered::Due, datagram)?;
     assert_eq!(rt;
         lines.as_slice(),
-        b"\x1b[35m--:--:--.--- ?  /fader/7                       no method\x1b[0m\n".as_slice()
+        b"\x1b[35m--:--:--.--- ?  /fader/7                        no method\x1b[0m\n".as_slice()
     );
     look.quiet = true;
     let lines = lines_of(rt.alloc(), look, unknown, Answered::Waiting, datagram)?;
