@@ -71,6 +71,12 @@ module _ {M : Type 0} where
         (λ room. (callers < length parts) × HasNoRoomToEnrol caps history room
         × (accounts ≡ map (λ part. ended part.boxes None) parts))
 
+  -- the same on a new server
+  abbrev pub Performs : (M → ℕ) → (M → Option (List ℕ)) → Limits → List (Part M) → List ℕ
+      → List (ℕ × M) → List (Account M) → Option Room → Type 0
+  Performs keep heard caps parts recording kept accounts unenrolled =
+      PerformsLater keep heard caps [] parts recording kept accounts unenrolled
+
   -- The parts were performed so, and something else meanwhile, by caller 0, which ended after all
   -- of the one history.
   pub record PerformsBeside {X F : Type 0}
