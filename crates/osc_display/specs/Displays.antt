@@ -5,7 +5,8 @@ use Rattle.osc_model.specs.Events.{Entry, Room}
 use Rattle.osc_core.specs.Standing.{history_in}
 use Rattle.osc_turn.specs.History.{texts}
 use Rattle.osc_lanes.specs.Shares.{Account}
-use Rattle.osc_lanes.specs.Performs.{Part, Performs}
+use Rattle.osc_lanes.specs.Performs.{Part}
+use Rattle.osc_lanes.specs.Later.{Performs}
 use Rattle.osc_watch.specs.declared.watcher.Methods.{Methods}
 use Rattle.osc_watch.specs.Edits.{edits_of}
 use Rattle.osc_watch.specs.Listing.{listing}

@@ -1,5 +1,5 @@
 -- From the life of a server with lanes to what their performance comes to.
-use Rattle.std.proofs.Common.{◌≡◌, ◌≢◌, inl, inr, ℕ, zero, suc, ◌+◌, ◌<◌, ◌≤◌, true, cond, List, [], ◌∷◌, ◌++◌, length, get_or, map, Option, None, Some, All}
+use Rattle.std.proofs.Common.{◌≡◌, ◌≢◌, inl, inr, ℕ, zero, suc, ◌+◌, ◌<◌, ◌≤◌, cond, List, [], ◌∷◌, ◌++◌, length, get_or, map, Option, None, Some, All}
 use Rattle.std.proofs.Common.{refl, sym, ap, subst, ◌∙◌, arith, append-nil, append_assoc, ne_eqb, flat_map}
 use Rattle.std.specs.Prelude.{MatchOption}
 use Rattle.std.specs.List.{AllByRecursion}
@@ -19,7 +19,7 @@ use Rattle.osc_turn.specs.declared.view.View.{View}
 use Rattle.osc_turn.specs.History.{texts, own}
 use Rattle.osc_live.specs.declared.caller.Caller.{Caller}
 use Rattle.osc_live.specs.Resuming.{removed_in}
-use Rattle.osc_live.specs.Seen.{names, history_of}
+use Rattle.osc_live.specs.Seen.{history_of}
 use Rattle.osc_life.specs.Crews.{IsLeft, enrolments}
 use Rattle.osc_life.specs.Holders.{Holder, holder_at}
 use Rattle.osc_life.specs.Lives.{AreShares, IsAtWork, IsLife, IsClosed, HasNoRoomToEnrol, Numbered, added_ids, id_in}
@@ -29,8 +29,8 @@ use Rattle.osc_life.proofs.Enrolling.{left_history}
 use Rattle.osc_lanes.specs.declared.part.LaneTold.{LaneTold}
 use Rattle.osc_lanes.specs.declared.work.LaneWork.{LaneWork}
 use Rattle.osc_lanes.specs.Shares.{Account, IsRemovedAt, LaneAfter, LaneOf, Plays, ended}
-use Rattle.osc_lanes.specs.Performs.{Part, IsStage, IsClosedWith, Performs, told_of, removed_ids}
-use Rattle.osc_lanes.specs.Later.{old_callers, IsLaterStage, IsClosedLater, PerformsLater}
+use Rattle.osc_lanes.specs.Performs.{Part, told_of, removed_ids}
+use Rattle.osc_lanes.specs.Later.{old_callers, IsLaterStage, IsClosedLater, PerformsLater, Performs}
 use Rattle.osc_lanes.specs.Works.{part_at}
 use Rattle.osc_lanes.proofs.Parting.{given_by, given_in, parted}
 use Rattle.osc_lanes.proofs.Removals.{gone, gone_in, lane_gone, told_ids}
@@ -158,7 +158,7 @@ module _ {M : Type 0} (keep : M → ℕ) (heard : M → Option (List ℕ)) where
         (map (λ (box : Told). box.id) (told keep heard kept) ++ all) closed.ids
         (IsPermutation-append_right (map (λ (box : Told). box.id) (told keep heard kept)) (removed_in entries) all removed_are))
 
-    closed_later : (accounts : List (Account M))
+    pub closed_later : (accounts : List (Account M))
         → IsPermutation (gone_ids (history_in (texts history))) (removed_in (history_in past) ++ removed_ids accounts)
         → AllByRecursion (λ account. AllByRecursion (IsRemovedAt keep heard caps history) account.removed) accounts
         → IsClosedLater keep heard caps past history recording kept accounts
@@ -169,23 +169,6 @@ module _ {M : Type 0} (keep : M → ℕ) (heard : M → Option (List ℕ)) where
         record {
           recorded = closed.recorded;
           ids = all_added all removed_are;
-          ascending = closed.ascending;
-          kept_heard = closed.heard;
-          kept_marked = closed.marked;
-          removed = All-from_recursion (λ account. AllByRecursion (IsRemovedAt keep heard caps history) account.removed) accounts boxes;
-        }
-
-    -- the same of a new server, whose accounts tell all that was removed
-    pub closed_new : (accounts : List (Account M)) → IsPermutation (gone_ids (history_in (texts history))) (removed_ids accounts)
-        → AllByRecursion (λ account. AllByRecursion (IsRemovedAt keep heard caps history) account.removed) accounts
-        → IsClosedWith keep heard caps history recording kept accounts
-    closed_new accounts gone_are boxes =
-        let entries = history_in (texts history) in
-        let removed_are : IsPermutation (removed_in entries) (removed_ids accounts) =
-        subst (λ (l : List ℕ). IsPermutation l (removed_ids accounts)) (gone_is entries) gone_are in
-        record {
-          recorded = closed.recorded;
-          ids = all_added (removed_ids accounts) removed_are;
           ascending = closed.ascending;
           kept_heard = closed.heard;
           kept_marked = closed.marked;
@@ -278,63 +261,29 @@ later_stage caps past v others callers history left stage =
     subst (λ (q : List Entry × ℕ). IsLife caps past q.0 q.1 callers history)
     (λ i. (left_history past v others left i, (left.made_is ∙ sym left.old.counted) i)) stage
 
-below : (n number : ℕ) → IsAtWork 1 n number → number ≤ n
+-- the callers of a life without a past are caller 0 and those that it enrolled
+pub below : (n number : ℕ) → IsAtWork 1 n number → number ≤ n
 below n number (inl is) = omega (arith, is)
 below n number (inr (from, to)) = omega (arith, to)
-
--- the stage of a life without a past
-pub new_stage : (caps : Limits) (first : List Entry) (callers : ℕ) (history : List Seen) → IsLife caps [] first 1 callers history
-    → IsStage caps first callers history
-new_stage caps first callers history life = record {
-  legal = life.legal;
-  laws = life.laws;
-  begins = life.begins;
-  enrolled = life.enrolled;
-  named = subst (All (λ one. names one.number one ≡ true)) (sym life.goes_on) life.named;
-  within = λ k d within. below callers (get_or history k d).number (life.within k d within);
-}
-
--- a performance on a server without a past, of the same history
-pub without_past : {M : Type 0} (keep : M → ℕ) (heard : M → Option (List ℕ)) (caps : Limits) (parts : List (Part M)) (bytes : List ℕ)
-    (kept : List (ℕ × M)) (accounts : List (Account M)) (unenrolled : Option Room)
-    → (later : PerformsLater keep heard caps [] parts bytes kept accounts unenrolled)
-    → (performs : Performs keep heard caps parts bytes kept accounts unenrolled) × (performs.history ≡ later.history)
-without_past {M} keep heard caps parts bytes kept accounts unenrolled later = (
-  record {
-    history = later.history;
-    callers = later.callers;
-    stage = new_stage caps [] later.callers later.history later.stage;
-    closed = record {
-      recorded = later.closed.recorded;
-      ids = later.closed.ids;
-      ascending = later.closed.ascending;
-      kept_heard = later.closed.kept_heard;
-      kept_marked = later.closed.kept_marked;
-      removed = later.closed.removed;
-    };
-    shares = later.shares;
-  },
-  refl,
-)
 
 -- where the past is none
 pub fresh_performs : {M : Type 0} (keep : M → ℕ) (heard : M → Option (List ℕ)) (caps : Limits) (past : List (List ℕ)) (parts : List (Part M))
     (bytes : List ℕ) (kept : List (ℕ × M)) (accounts : List (Account M)) (unenrolled : Option Room) → past ≡ []
     → (later : PerformsLater keep heard caps past parts bytes kept accounts unenrolled)
     → (performs : Performs keep heard caps parts bytes kept accounts unenrolled) × (performs.history ≡ later.history)
-fresh_performs keep heard caps past parts bytes kept accounts unenrolled none later =
-    let new : PerformsLater keep heard caps [] parts bytes kept accounts unenrolled =
-    record {
-      history = later.history;
-      callers = later.callers;
-      stage = subst (λ (l : List (List ℕ)). IsLaterStage caps l later.callers later.history) none later.stage;
-      closed = subst (λ (l : List (List ℕ)). IsClosedLater keep heard caps l later.history bytes kept accounts) none later.closed;
-      shares = subst (λ (l : List (List ℕ)). MatchOption unenrolled
-          ((later.callers ≡ length parts)
-          × Numbered
-          (λ number part account. LaneAfter keep heard (holder_at caps number) part.lines part.boxes account (own 0 later.history) later.history)
-          (old_callers l) parts accounts)
-          (λ room. (later.callers < length parts) × HasNoRoomToEnrol caps later.history room × (accounts ≡ map (λ part. ended part.boxes None) parts)))
-          none later.shares;
-    } in
-    without_past keep heard caps parts bytes kept accounts unenrolled new
+fresh_performs keep heard caps past parts bytes kept accounts unenrolled none later = (
+  record {
+    history = later.history;
+    callers = later.callers;
+    stage = subst (λ (l : List (List ℕ)). IsLaterStage caps l later.callers later.history) none later.stage;
+    closed = subst (λ (l : List (List ℕ)). IsClosedLater keep heard caps l later.history bytes kept accounts) none later.closed;
+    shares = subst (λ (l : List (List ℕ)). MatchOption unenrolled
+        ((later.callers ≡ length parts)
+        × Numbered
+        (λ number part account. LaneAfter keep heard (holder_at caps number) part.lines part.boxes account (own 0 later.history) later.history)
+        (old_callers l) parts accounts)
+        (λ room. (later.callers < length parts) × HasNoRoomToEnrol caps later.history room × (accounts ≡ map (λ part. ended part.boxes None) parts)))
+        none later.shares;
+  },
+  refl,
+)

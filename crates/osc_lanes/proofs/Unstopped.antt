@@ -1,6 +1,6 @@
 -- A recording with room enough for all lanes stops none of them.
 use Rattle.std.proofs.Common.{◌≡◌, ℕ, suc, ◌+◌, ◌*◌, ◌<◌, ◌≤◌, Bool, true, false, cond, List, [], ◌∷◌, length, All, Option, Some, None, is_none, sum_by, refl}
-use Rattle.std.proofs.Common.{sym, ap, ◌∙◌, arith}
+use Rattle.std.proofs.Common.{sym, ap, ◌∙◌, arith, get_or}
 use Rattle.std.specs.Prelude.{MatchOption}
 use Rattle.std.specs.List.{AllByRecursion}
 use Rattle.std.proofs.lemmas.List.Sums.{sum_by-cons, sum_by-append}
@@ -21,7 +21,9 @@ use Rattle.osc_script.specs.Adds.{adds_of, count_adds}
 use Rattle.osc_lanes.specs.Shares.{Account, LaneOf}
 use Rattle.osc_life.specs.Holders.{holder_at}
 use Rattle.osc_life.specs.Lives.{Numbered}
-use Rattle.osc_lanes.specs.Performs.{Part, IsStage, Performs}
+use Rattle.osc_lanes.specs.Performs.{Part}
+use Rattle.osc_lanes.specs.Later.{IsLaterStage, Performs}
+use Rattle.osc_lanes.proofs.Performing.{below}
 use Rattle.osc_script.specs.Enough.{event_size, act_size, act_units, act_messages}
 use Rattle.osc_lanes.specs.Enough.{all_lines, enough_for}
 use Rattle.osc_script.proofs.Costs.{units_cost, units_cost_is, event_cost, more_methods, spent, full_takes}
@@ -129,11 +131,11 @@ module _ {M : Type 0} (keep : M → ℕ) (heard : M → Option (List ℕ)) (caps
 
   -- What caller 0 and the lanes come to.
 
-  whole_weighs : (weight : Event → ℕ) (callers : ℕ) → IsStage caps [] callers history
+  whole_weighs : (weight : Event → ℕ) (callers : ℕ) → IsLaterStage caps [] callers history
       → weighed weight history ≡ callers * weight enrol + weighed_in weight history 1 callers
   whole_weighs weight callers stage =
       all_weigh weight (suc callers) history
-      (recursion_from_All (λ one. one.number < suc callers) history (λ k d within. omega (arith, stage.within k d within)))
+      (recursion_from_All (λ one. one.number < suc callers) history (λ k d within. omega (arith, below callers (get_or history k d).number (stage.within k d within))))
       ∙ ap (λ (n : ℕ). n + weighed_in weight history 1 callers)
       (sym (weighed_read weight (own 0 history)) ∙ ap (spent weight) stage.enrolled ∙ enrolments_weigh weight 1 callers)
 
@@ -150,7 +152,7 @@ module _ {M : Type 0} (keep : M → ℕ) (heard : M → Option (List ℕ)) (caps
         weighed_starts (event_cost most) history there starts,
       )
 
-  module _ (parts : List (Part M)) (callers : ℕ) (stage : IsStage caps [] callers history) (enough : enough_for parts ≤ caps.recording) where
+  module _ (parts : List (Part M)) (callers : ℕ) (stage : IsLaterStage caps [] callers history) (enough : enough_for parts ≤ caps.recording) where
     pub stops_none : (accounts : List (Account M)) → callers ≡ length parts → Numbered IsShare 1 parts accounts → All (λ account. account.stop ≡ None) accounts
     stops_none accounts many shares =
         let most = count_adds (all_lines parts) in

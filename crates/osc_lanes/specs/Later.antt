@@ -1,5 +1,5 @@
 -- The result of a performance of lanes on a server that goes on from a past.
-use Rattle.std.specs.Prelude.{◌≡◌, ℕ, ◌<◌, IsTrue, List, ◌++◌, length}
+use Rattle.std.specs.Prelude.{◌≡◌, ℕ, ◌<◌, IsTrue, List, [], ◌++◌, length}
 use Rattle.std.specs.Prelude.{map, All, Option, None, MatchOption}
 use Rattle.std.specs.List.{AllByRecursion}
 use Rattle.std.specs.List.Sorted.{IsPermutation}
@@ -70,6 +70,12 @@ module _ {M : Type 0} where
         account (own 0 history) history) (old_callers past) parts accounts)
         (λ room. (callers < length parts) × HasNoRoomToEnrol caps history room
         × (accounts ≡ map (λ part. ended part.boxes None) parts))
+
+  -- the same on a new server
+  abbrev pub Performs : (M → ℕ) → (M → Option (List ℕ)) → Limits → List (Part M) → List ℕ
+      → List (ℕ × M) → List (Account M) → Option Room → Type 0
+  Performs keep heard caps parts recording kept accounts unenrolled =
+      PerformsLater keep heard caps [] parts recording kept accounts unenrolled
 
   -- The parts were performed so, and something else meanwhile, by caller 0, which ended after all
   -- of the one history.

@@ -16,7 +16,7 @@ ghost use Rattle.osc_lanes.specs.Shares.{Account, LaneOf, IsRemovedAt};
 ghost use Rattle.osc_life.specs.Crews.{enrolments};
 ghost use Rattle.osc_life.specs.Lives.{added_ids, Numbered};
 ghost use Rattle.osc_lanes.specs.Performs.{removed_ids, Part};
-ghost use Rattle.osc_lanes.specs.Performs.{Performs};
+ghost use Rattle.osc_lanes.specs.Later.{Performs};
 ghost use Rattle.osc_lanes.specs.Enough.{enough_for};
 ghost use Rattle.osc_life.specs.Holders.{seen_by, holder_of};
 ghost use Rattle.osc_lanes.specs.Ends.{told_in, IsReady, IsEndOf};

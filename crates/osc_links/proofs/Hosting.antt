@@ -1,6 +1,6 @@
 -- From the life of a server with links to its contract.
 use Rattle.std.proofs.Common.{◌≡◌, ℕ, suc, ◌+◌, ◌<◌, Bool, true, false, cond, eqb, List, [], ◌∷◌, ◌++◌, length, map, flat_map, All, Option, Some, None, refl, sym, ap, subst, ◌∙◌, arith}
-use Rattle.std.proofs.Common.{append-nil}
+use Rattle.std.proofs.Common.{append-nil, get_or}
 use Rattle.std.specs.Prelude.{MatchOption}
 use Rattle.std.specs.List.{AllByRecursion}
 use Rattle.std.specs.List.Sorted.{IsPermutation}
@@ -23,10 +23,10 @@ use Rattle.osc_life.proofs.Balance.{gone_ids}
 use Rattle.osc_life.proofs.Ending.{gone_is}
 use Rattle.osc_life.proofs.Enrolling.{own_before}
 use Rattle.osc_life.proofs.Staging.{all_own}
-use Rattle.osc_lanes.specs.Performs.{Part, IsStage, removed_ids, told_of}
+use Rattle.osc_lanes.specs.Performs.{Part, removed_ids, told_of}
 use Rattle.osc_lanes.specs.Shares.{Account, Plays}
 use Rattle.osc_lanes.proofs.Parting.{given_by, given_in, parted}
-use Rattle.osc_lanes.proofs.Performing.{closed_new, given_joined, gone_enrolled, new_stage}
+use Rattle.osc_lanes.proofs.Performing.{below, closed_later, given_joined, gone_enrolled}
 use Rattle.osc_lanes.proofs.Removals.{gone, gone_in, plays_gone}
 use Rattle.osc_lanes.proofs.Staying.{StaySilent, removed_later}
 use Rattle.osc_links.specs.declared.link_work.LinkEnd.{LinkEnd}
@@ -201,15 +201,12 @@ module _ {M L : Type 0} (left : L → Option (List LinkTurn)) (faults : L → �
   abbrev account : Account M
   account = told_of hosted.opening
 
-  abbrev stage : IsStage caps (history_in (texts opened)) callers history
-  stage = new_stage caps (history_in (texts opened)) callers history life
-
   -- what caller 0 removed
   first_gone : given_by gone history 0 ≡ map (λ one. one.0) account.removed
   first_gone =
       let entries = history_in (texts opened) in
       let mine = own_before 0 (own 0 history) opened begins (own_twice 0 history) in
-      gone_in (own 0 history) ∙ ap gone_ids stage.enrolled ∙ gone_enrolled entries 1 callers ∙ sym (gone_is entries)
+      gone_in (own 0 history) ∙ ap gone_ids life.enrolled ∙ gone_enrolled entries 1 callers ∙ sym (gone_is entries)
       ∙ sym (gone_in opened) ∙ ap (flat_map gone) (sym mine)
       ∙ plays_gone (holder_at caps 0) keep heard part.lines part.boxes account [] opened plays
 
@@ -221,10 +218,10 @@ module _ {M L : Type 0} (left : L → Option (List LinkTurn)) (faults : L → �
     opened = opened;
     plays = plays;
     begins = begins;
-    stage = stage;
-    closed = closed_new keep heard caps [] history hosted.closed.bytes.items hosted.closed.kept.items closed (account ∷ []) removed_are (
+    stage = life;
+    closed = closed_later keep heard caps [] history hosted.closed.bytes.items hosted.closed.kept.items closed (account ∷ []) removed_are (
       removed_later keep heard (holder_at caps 0) silent part.lines part.boxes account [] opened history plays
-          (starts_on history (own 0 history) opened stage.begins begins) stage.legal,
+          (starts_on history (own 0 history) opened life.begins begins) life.legal,
       tt,
     );
     shares = serving;
@@ -236,7 +233,7 @@ module _ {M L : Type 0} (left : L → Option (List LinkTurn)) (faults : L → �
   hosts_beside others is none serving =
       let whole : given_in gone history 0 (suc others) ≡ removed_ids (account ∷ []) = λ i. first_gone i ++ none i in
       let below : AllByRecursion (λ (one : Seen). one.number < suc others) history =
-      recursion_from_All (λ (one : Seen). one.number < suc others) history (λ k d within. omega (arith, stage.within k d within, is)) in
+      recursion_from_All (λ (one : Seen). one.number < suc others) history (λ k d within. omega (arith, below callers (get_or history k d).number (life.within k d within), is)) in
       hosts (subst (λ (q : List ℕ × List ℕ). IsPermutation q.0 q.1) (λ i. (gone_in history i, whole i)) (parted gone (suc others) history below)) serving
 
   -- there are no entries but caller 0's
@@ -250,4 +247,4 @@ module _ {M L : Type 0} (left : L → Option (List LinkTurn)) (faults : L → �
   pub none_else : callers ≡ 0 → own 0 history ≡ history
   none_else none =
       all_own 0 history
-      (recursion_from_All (λ (one : Seen). one.number ≡ 0) history (λ k d within. omega (arith, stage.within k d within, none)))
+      (recursion_from_All (λ (one : Seen). one.number ≡ 0) history (λ k d within. omega (arith, below callers (get_or history k d).number (life.within k d within), none)))

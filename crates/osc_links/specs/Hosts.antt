@@ -17,8 +17,9 @@ use Rattle.osc_links.specs.declared.served.LinksTold.{LinksTold}
 use Rattle.osc_links.specs.declared.served.TickerEnd.{TickerEnd}
 use Rattle.osc_links.specs.declared.served.TickerEnd.TheVariants.{Done}
 use Rattle.osc_links.specs.Links.{LinkTurn, LinkOf, HasEndCause, link_account, stop_by}
-use Rattle.osc_life.specs.Lives.{HasNoRoomToEnrol}
-use Rattle.osc_lanes.specs.Performs.{Part, IsStage, IsClosedWith}
+use Rattle.osc_life.specs.Lives.{IsLife, HasNoRoomToEnrol}
+use Rattle.osc_lanes.specs.Performs.{Part}
+use Rattle.osc_lanes.specs.Later.{IsClosedLater}
 use Rattle.osc_life.specs.Holders.{holder_at}
 use Rattle.osc_lanes.specs.Performs.{told_of}
 use Rattle.osc_links.specs.Serves.{TellsLinks}
@@ -96,8 +97,8 @@ module _ {L : Type 0} (left : L → Option (List LinkTurn)) (faults : L → ℕ)
       pub plays : Plays keep heard (holder_at caps 0) part.lines part.boxes
           (told_of hosted.opening) [] opened
       pub begins : StartsWith (own 0 history) opened
-      pub stage : IsStage caps (history_in (texts opened)) callers history
-      pub closed : IsClosedWith keep heard caps history hosted.closed.bytes.items
+      pub stage : IsLife caps [] (history_in (texts opened)) 1 callers history
+      pub closed : IsClosedLater keep heard caps [] history hosted.closed.bytes.items
           hosted.closed.kept.items (told_of hosted.opening ∷ [])
       pub shares : MatchOption hosted.opening.stop
           (MatchOption hosted.unenrolled

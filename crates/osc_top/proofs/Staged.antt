@@ -19,7 +19,8 @@ use Rattle.osc_links.specs.declared.served.Bounds.{Bounds}
 use Rattle.osc_links.specs.Hosts.{Hosts}
 use Rattle.osc_links.specs.Links.{LinkTurn}
 use Rattle.osc_life.specs.Lives.{added_ids}
-use Rattle.osc_lanes.specs.Performs.{IsClosedWith, removed_ids, told_of, IsWhole}
+use Rattle.osc_lanes.specs.Performs.{removed_ids, told_of, IsWhole}
+use Rattle.osc_lanes.specs.Later.{IsClosedLater}
 use Rattle.osc_lanes.specs.Shares.{Account, IsRemovedAt, known_of}
 use Rattle.osc_links.specs.Ticks.{ClockRead}
 use Rattle.osc_live.specs.Seen.{performance_in}
@@ -128,7 +129,7 @@ module _ {M : Type 0} where
 
     -- the boxes of a server that was closed, put together
     module _ (caps : Limits) (history : List Seen) (recording : List ℕ) (kept : List (ℕ × M)) (accounts : List (Account M)) (added : List (ℕ × M))
-        (closed : IsClosedWith keep heard caps history recording kept accounts) (moved : IsPermutation (kept ++ all_removed accounts) added)
+        (closed : IsClosedLater keep heard caps [] history recording kept accounts) (moved : IsPermutation (kept ++ all_removed accounts) added)
         (ordered : IsNonDecreasingBy (λ one. one.0) added) where
       ids_are : map (λ one. one.0) added ≡ added_ids (history_in (texts history))
       ids_are =
@@ -170,7 +171,7 @@ module _ {M : Type 0} where
 
     -- the boxes that were added stand by their ids
     ascending_ids : (caps : Limits) (history : List Seen) (recording : List ℕ) (kept added : List (ℕ × M)) (accounts : List (Account M))
-        → IsClosedWith keep heard caps history recording kept accounts → HaveHeardAll keep heard caps history added
+        → IsClosedLater keep heard caps [] history recording kept accounts → HaveHeardAll keep heard caps history added
         → is_ascending (map (λ one. one.0) added) ≡ true
     ascending_ids caps history recording kept added accounts closed boxes = subst (λ (l : List ℕ). is_ascending l ≡ true) (sym boxes.ids) closed.ascending
 

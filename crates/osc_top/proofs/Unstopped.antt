@@ -10,7 +10,8 @@ use Rattle.osc_model.specs.Limits.{Limits, header_size, release_head_size}
 use Rattle.osc_script.specs.declared.line.Line.{Line}
 use Rattle.osc_script.specs.Enough.{act_size, act_units, act_messages}
 use Rattle.osc_lanes.specs.Enough.{all_lines, enough_for}
-use Rattle.osc_lanes.specs.Performs.{Part, Performs}
+use Rattle.osc_lanes.specs.Performs.{Part}
+use Rattle.osc_lanes.specs.Later.{Performs}
 use Rattle.osc_lanes.specs.Shares.{Account}
 use Rattle.osc_ends.specs.declared.outcome.Outcome.{Outcome}
 use Rattle.osc_ends.specs.declared.outcome.Outcome.TheVariants.{Done}

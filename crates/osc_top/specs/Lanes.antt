@@ -13,7 +13,8 @@ use Rattle.osc_turn.specs.History.{texts}
 use Rattle.osc_live.specs.Seen.{performance_in}
 use Rattle.osc_lanes.specs.Shares.{Account, known_of}
 use Rattle.osc_life.specs.Lives.{added_ids}
-use Rattle.osc_lanes.specs.Performs.{Part, Performs}
+use Rattle.osc_lanes.specs.Performs.{Part}
+use Rattle.osc_lanes.specs.Later.{Performs}
 use Rattle.osc_print.specs.Lines.{fault_text}
 use Rattle.osc_replay.specs.Printed.{printed}
 use Rattle.osc_script.specs.declared.line.Line.{Line}

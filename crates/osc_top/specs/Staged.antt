@@ -4,7 +4,8 @@ use Rattle.osc_model.specs.Events.{Entry, Room}
 use Rattle.osc_core.specs.Standing.{history_in}
 use Rattle.osc_turn.specs.History.{texts}
 use Rattle.osc_lanes.specs.Shares.{Account}
-use Rattle.osc_lanes.specs.Performs.{Part, Performs}
+use Rattle.osc_lanes.specs.Performs.{Part}
+use Rattle.osc_lanes.specs.Later.{Performs}
 use Rattle.osc_replay.specs.Disagreeing.{IsRecordingOf}
 use Rattle.osc_model.specs.Limits.{Limits}
 use Rattle.osc_ends.specs.declared.outcome.Outcome.{Outcome}

@@ -4,7 +4,8 @@ use Rattle.osc_model.specs.Limits.{Limits}
 use Rattle.osc_record.specs.Shown.{room_of}
 use Rattle.osc_live.specs.Seen.{past_of}
 use Rattle.osc_life.proofs.Learning.{learns_stays}
-use Rattle.osc_lanes.specs.Performs.{Performs, part_of, told_of}
+use Rattle.osc_lanes.specs.Performs.{part_of, told_of}
+use Rattle.osc_lanes.specs.Later.{Performs}
 use Rattle.osc_lanes.proofs.Performing.{fresh_performs}
 use Rattle.osc_lanes.proofs.run.run_lanes.Goals as goal
 
