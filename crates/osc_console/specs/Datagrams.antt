@@ -1,0 +1,58 @@
+-- The lines of a datagram, and what a link that is shown has written.
+use Rattle.std.specs.Prelude.{◌≡◌, ℕ, List, [], ◌∷◌, ◌++◌, take, Option, Some, option_map, MatchOption}
+use Rattle.osc_edge.specs.declared.link.Datagram.{Datagram}
+use Rattle.osc_edge.specs.declared.link.Datagram.TheVariants.{Got}
+use Rattle.osc_ends.specs.Sinks.{SinkChange, GainsAll}
+use Rattle.osc_atoms.specs.declared.limits.TheConstants.{MAX_PACKET}
+use Rattle.osc_packet.specs.Reading.{packet_fault, units_read}
+use Rattle.osc_packet.specs.Units.{TimedUnit}
+use Rattle.osc_live.specs.declared.submission.Submission.{Submission}
+use Rattle.osc_model.specs.declared.late.Late.{Late}
+use Rattle.osc_shown.specs.declared.arrival.Arrival.{Arrival}
+use Rattle.osc_shown.specs.declared.look.Look.{Look}
+use Rattle.osc_shown.specs.declared.route.Route.{Route}
+use Rattle.osc_shown.specs.Lines.{AddsUnit}
+use Rattle.osc_shown.specs.Refusals.{refusal_text}
+use Rattle.osc_console.specs.declared.shown_link.Pending.{Pending}
+use Rattle.osc_console.specs.Answers.{answer_of}
+
+module _ (look : Look) (late : Late) (routes : List Route) (arrival : Arrival) where
+  -- the lines of units, one after another, by what became of each
+  abbrev pub AddsUnits : Submission → List TimedUnit → List ℕ → List ℕ → Type 0
+  AddsUnits submission [] before after = after ≡ before
+  AddsUnits submission (unit ∷ units) before after =
+      (mid : List ℕ)
+      × AddsUnit look arrival (answer_of late submission unit.tag) routes unit before mid
+      × AddsUnits submission units mid after
+
+  -- The lines of a datagram to which this was answered: those of its units, or that of its fault.
+  -- Where nothing was answered to a packet there is none.
+  abbrev pub AddsDatagram : List ℕ → Option Submission → List ℕ → List ℕ → Type 0
+  AddsDatagram datagram submission before after =
+      MatchOption (packet_fault MAX_PACKET datagram)
+      (MatchOption submission (after ≡ before)
+      (λ given. AddsUnits given (units_read datagram) before after))
+      (λ fault. after ≡ before ++ refusal_text look arrival datagram fault)
+
+-- the datagram that waits to be shown
+abbrev pub waiting : Option Pending → List ℕ → Option (List ℕ)
+waiting pending space = option_map (λ one. take one.size space) pending
+
+-- a datagram that was got waits then
+abbrev pub Keeps : Datagram → Option (List ℕ) → List ℕ → Type 0
+Keeps (Got count) then into = then ≡ Some (take count into)
+Keeps _ then into = Unit {0}
+
+-- The lines of a datagram, after a mark for what wasn't shown before. When it came, from whom, and
+-- what was answered to it are those of the link's clock, the link, and the gate.
+pub record ShownAs (look : Look) (late : Late) (routes : List Route)
+    (datagram lines : List ℕ) : Type 0 where
+  pub mark : List ℕ
+  pub arrival : Arrival
+  pub submission : Option Submission
+  pub adds : AddsDatagram look late routes arrival datagram submission mark lines
+
+-- the sink has gained its lines
+abbrev pub GainsLines : Look → Late → List Route → SinkChange → List ℕ → Type 0
+GainsLines look late routes sink datagram =
+    (lines : List ℕ) × ShownAs look late routes datagram lines × GainsAll sink lines

@@ -1,0 +1,116 @@
+//! The trusted edge to the network: a link that binds a port of UDP, and keeps who has sent the last datagram.
+ghost use Rattle.std.specs.Prelude.{◌≡◌, ◌≤◌, length, IfOk, None};
+
+use crate::Sender;
+use osc_edge::{Datagram, Link};
+use std::io;
+use std::io::ErrorKind;
+use std::net::{Ipv4Addr, SocketAddr, SocketAddrV4, UdpSocket};
+use std::time::Duration;
+
+/// As `UdpLink` of `osc_edge`, but that a call waits as many milliseconds for a datagram as it is told; and it knows who has
+/// sent the last datagram.
+#[derive(Drop)]
+pub struct HeardLink {
+    rt: HostRuntime,
+    port: u16,
+    wait: u32,
+    /// The socket, once the port is bound.
+    socket: Option<UdpSocket>,
+    sender: Option<SocketAddrV4>,
+    faults: u64,
+    quiets: u64,
+}
+
+impl HeardLink {
+    /// A link for the port. Takes no memory, and binds nothing.
+    pub fn at(rt: &HostRuntime, port: u16, wait: u32) -> Self
+        ensures left { ⟦<HeardLink as Link>⟧.left result ≡ None }
+        ensures faults { ⟦<HeardLink as Link>⟧.faults result ≡ 0 }
+        ensures quiets { ⟦<HeardLink as Link>⟧.quiets result ≡ 0 }
+    {
+        HeardLink {
+            rt: *rt,
+            port,
+            wait,
+            socket: None,
+            sender: None,
+            faults: 0,
+            quiets: 0,
+        }
+    }
+
+    /// Receives one datagram, from the port, which is bound where it isn't yet.
+    fn receive(&mut self, into: &mut [u8]) -> io::Result<usize>
+        ensures within { IfOk result (λ count. count ≤ length into.new) }
+        ensures faults { self.new.faults ≡ self.old.faults }
+        ensures quiets { self.new.quiets ≡ self.old.quiets }
+    {
+        let socket = match self.socket.take() {
+            Some(socket) => socket,
+            None => bind(&self.rt, self.port, self.wait)?,
+        };
+        let received = socket.recv_from(into);
+        self.socket = Some(socket);
+        let (count, sender) = received?;
+        self.sender = of_four(sender);
+        Ok(count)
+    }
+}
+
+/// The address, where it is one of four bytes.
+fn of_four(sender: SocketAddr) -> Option<SocketAddrV4> {
+    match sender {
+        SocketAddr::V4(sender) => Some(sender),
+        SocketAddr::V6(_) => None,
+    }
+}
+
+fn bind(rt: &HostRuntime, port: u16, wait: u32) -> io::Result<UdpSocket> {
+    let socket = UdpSocket::bind(rt, (Ipv4Addr::UNSPECIFIED, port))?;
+    socket.set_read_timeout(Some(Duration::from_millis(u64::from(wait.max(1)))))?;
+    Ok(socket)
+}
+
+/// Whether the error says that no datagram came in time.
+fn is_quiet(error: &io::Error) -> bool {
+    matches!(
+        error.kind(),
+        ErrorKind::WouldBlock | ErrorKind::TimedOut | ErrorKind::Interrupted
+    )
+}
+
+impl Sender for HeardLink {
+    fn sender(&self) -> Option<SocketAddrV4> {
+        self.sender
+    }
+}
+
+impl Link for HeardLink {
+    ghost use Rattle.osc_edge.specs.Link.{IsGotWithin, TakesTurn, HasLinkCause, HasQuietCause};
+
+    ghost left = { λ _. None };
+
+    ghost faults = { λ l. l.faults };
+
+    ghost quiets = { λ l. l.quiets };
+
+    fn next(&mut self, into: &mut [u8]) -> Datagram
+        ensures within { IsGotWithin result into.new }
+        ensures turns { TakesTurn None None result into.new }
+        ensures cause { HasLinkCause self.old.faults self.new.faults result }
+        ensures ready { HasQuietCause self.old.quiets self.new.quiets result }
+    {
+        match self.receive(into) {
+            Ok(count) => Datagram::Got(count),
+            Err(error) if is_quiet(&error) => {
+                self.quiets = self.quiets.saturating_add(1);
+                Datagram::Quiet
+            }
+            Err(_) => {
+                self.faults = self.faults.saturating_add(1);
+                Datagram::Failed
+            }
+        }
+    }
+}
