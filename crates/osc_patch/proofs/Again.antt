@@ -1,6 +1,6 @@
 -- Each line that is written is read as its form.
 use Rattle.osc_patch.specs.declared.patch.TheConstants.{MAX_PATCH}
-use Rattle.std.proofs.Common.{◌≡◌, ◌∙◌, ℕ, ◌+◌, ◌<◌, ◌≤◌, ◌^◌, ◌&&◌, Bool, true, false, cond, nat_lt, List, [], ◌∷◌, ◌++◌, map, length, take, filter, Option, Some, None, Result, Ok, Err, refl, sym, ap, ap₂, arith, one-add, append_assoc, codes, decimal, IfSome}
+use Rattle.std.proofs.Common.{◌≡◌, ◌∙◌, ℕ, ◌+◌, ◌<◌, ◌≤◌, ◌^◌, ◌&&◌, true, false, cond, nat_lt, List, [], ◌∷◌, ◌++◌, map, length, take, filter, Option, Some, None, Ok, Err, refl, ap, ap₂, arith, one-add, append_assoc, codes, decimal, IfSome}
 use Rattle.std.specs.List.{AllByRecursion, list_all, slice_split, prefix_len, take_while}
 use Rattle.std.specs.Str.Parse.{digits_value}
 use Rattle.std.proofs.lemmas.Bool.{le-ltb, lt-ltb}
@@ -9,20 +9,16 @@ use Rattle.std.proofs.lemmas.List.Folds.{list_all-append}
 use Rattle.std.proofs.lemmas.List.Splits.{slice_split_at, slice_split_none}
 use Rattle.std.proofs.lemmas.Fmt.{digits_decimal, digits_value-decimal}
 use Rattle.osc_pattern.specs.Addresses.{is_address}
-use Rattle.osc_patch.specs.declared.entry.Entry.{Entry}
-use Rattle.osc_patch.specs.declared.fault.WrongLine.{WrongLine}
-use Rattle.osc_patch.specs.declared.fault.PatchError.{PatchError}
 use Rattle.osc_patch.specs.declared.fault.PatchError.TheVariants.{TooLong}
-use Rattle.osc_patch.specs.declared.fault.Fault.TheVariants.{Host, Port}
-use Rattle.osc_patch.specs.declared.method.PatchMethod.{PatchMethod}
+use Rattle.osc_patch.specs.declared.fault.Fault.TheVariants.{Host}
 use Rattle.osc_patch.specs.declared.reading.Reading.{Reading}
 use Rattle.osc_patch.specs.Words.{is_blank, is_line_feed, is_word, is_said, words_of, lines_of}
-use Rattle.osc_patch.specs.Hosts.{all_digits, is_host, port_of, within_ports}
+use Rattle.osc_patch.specs.Hosts.{is_host, port_of, within_ports}
 use Rattle.osc_patch.specs.Entries.{address_of, host_of, port_at, port_or, and_then, wrong_line, address_fault, operands_say, words_say, line_says}
 use Rattle.osc_patch.specs.Patches.{after_line, read_from, unread, outcome_of, patch_of}
-use Rattle.osc_patch.specs.Written.{Form, IsForm, to_words, form_words, spaces, spaced, form_line, written, entry_at, settled_all}
+use Rattle.osc_patch.specs.Written.{Form, IsForm, to_words, form_words, spaces, spaced, written, entry_at, settled_all}
 use Rattle.osc_patch.proofs.Ports.{digits}
-use Rattle.osc_patch.proofs.Plain.{is_plain, is_inside, all_inside, no_blanks, no_feeds, kept_whole, IsToken, address_token, host_token, number_token}
+use Rattle.osc_patch.proofs.Plain.{is_inside, all_inside, no_blanks, no_feeds, kept_whole, IsToken, address_token, host_token, number_token}
 
 -- The words of a line of tokens.
 

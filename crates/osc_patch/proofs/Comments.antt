@@ -1,9 +1,9 @@
 -- What comments and blanks say.
-use Rattle.std.proofs.Common.{◌≡◌, ◌∙◌, ℕ, suc, ◌-◌, Bool, true, false, cond, nat_eq, not, ◌&&◌, ◌||◌, ◌==◌, List, [], ◌∷◌, length, take, drop, filter, Some, None, Ok, refl, sym, ap, arith, codes}
+use Rattle.std.proofs.Common.{◌≡◌, ◌∙◌, ℕ, suc, ◌-◌, Bool, true, false, cond, nat_eq, not, ◌&&◌, ◌==◌, List, [], ◌∷◌, length, take, drop, filter, None, Ok, refl, ap, arith}
 use Rattle.std.specs.List.{slice_split, onto_first, take_while}
 use Rattle.std.specs.Cmp.Lexicographic.{pointwise}
 use Rattle.std.proofs.lemmas.Bool.Decides.{nat_tests}
-use Rattle.osc_patch.specs.Words.{is_blank, is_word, is_said, without_return, words_of}
+use Rattle.osc_patch.specs.Words.{is_blank, is_word, is_said, without_return}
 use Rattle.osc_patch.specs.Entries.{words_say, line_says}
 
 -- A line without its carriage return.

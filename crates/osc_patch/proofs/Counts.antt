@@ -1,5 +1,5 @@
 -- A patch has one line more at most than bytes.
-use Rattle.std.proofs.Common.{◌≡◌, ◌∙◌, ℕ, ◌+◌, ◌≤◌, List, length, map, Result, Ok, Err, IfOk, sym, ap, arith}
+use Rattle.std.proofs.Common.{◌≡◌, ℕ, ◌+◌, ◌≤◌, List, length, map, Result, Ok, Err, IfOk, ap, arith}
 use Rattle.std.proofs.Common.{Bor, Vec}
 use Rattle.std.proofs.lemmas.List.{length-map}
 use Rattle.std.proofs.lemmas.List.Splits.{length-slice_split}

@@ -1,5 +1,5 @@
 -- How many words follow `add`.
-use Rattle.std.proofs.Common.{◌≡◌, ℕ, ◌<◌, ◌≤◌, List, [], ◌∷◌, ◌∙◌, length, map, codes, Err, refl, sym, ap, subst, Bor, arith}
+use Rattle.std.proofs.Common.{◌≡◌, ℕ, List, [], ◌∷◌, ◌∙◌, length, map, codes, Err, refl, sym, ap, subst, Bor}
 use Rattle.std.proofs.lemmas.List.{length-map}
 use Rattle.osc_patch.specs.declared.fault.Fault.TheVariants.{WordCount}
 use Rattle.osc_patch.specs.declared.entry.Entry.{Entry}

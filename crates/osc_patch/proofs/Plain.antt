@@ -1,5 +1,5 @@
 -- Words of plain bytes: none is a blank, ends a line or begins a comment.
-use Rattle.std.proofs.Common.{◌≡◌, ◌∙◌, ℕ, zero, suc, ◌-◌, ◌<◌, ◌≤◌, ◌==◌, ◌^◌, Bool, true, false, cond, nat_lt, nat_eq, nat_le, not, ◌&&◌, ◌||◌, List, [], ◌∷◌, ◌++◌, length, take, drop, Some, refl, sym, ap, ap₂, arith}
+use Rattle.std.proofs.Common.{◌≡◌, ℕ, zero, suc, ◌-◌, ◌<◌, ◌==◌, ◌^◌, Bool, true, false, cond, nat_lt, nat_eq, nat_le, not, ◌&&◌, ◌||◌, List, [], ◌∷◌, length, take, drop, Some, refl, ap, ap₂, arith}
 use Rattle.std.proofs.Common.{slice_index_or, codes, decimal, find, is_none}
 use Rattle.std.specs.List.{All, list_all, list_any, slice_split, onto_first}
 use Rattle.std.specs.Char.{is_ascii_digit}
@@ -13,7 +13,7 @@ use Rattle.osc_pattern.specs.declared.faults.AddressFault.{AddressFault}
 use Rattle.osc_pattern.specs.declared.faults.AddressFault.TheVariants.{NoSlash, EmptyName, BadByte}
 use Rattle.osc_pattern.specs.Items.{is_slash}
 use Rattle.osc_patch.specs.Words.{is_blank, is_line_feed, is_word, is_said, without_return}
-use Rattle.osc_patch.specs.Hosts.{all_digits, is_numeric, is_dot, is_dotted, is_name, is_name_byte, is_host}
+use Rattle.osc_patch.specs.Hosts.{is_numeric, is_dot, is_dotted, is_name, is_name_byte, is_host}
 use Rattle.osc_patch.proofs.Ports.{digits}
 
 -- a byte above the space, and no `#`

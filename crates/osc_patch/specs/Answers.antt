@@ -1,5 +1,5 @@
 -- What the reading calls answer, where memory may be refused.
-use Rattle.std.specs.Prelude.{◌≡◌, List, Result, Ok, Err}
+use Rattle.std.specs.Prelude.{◌≡◌, Result, Ok, Err}
 use Rattle.osc_patch.specs.declared.fault.WrongLine.{WrongLine}
 use Rattle.osc_patch.specs.declared.fault.PatchError.{PatchError}
 use Rattle.osc_patch.specs.declared.fault.PatchError.TheVariants.{TooLong, NoMethod, Lines, NoMemory}

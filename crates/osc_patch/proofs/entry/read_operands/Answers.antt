@@ -1,4 +1,4 @@
-use Rattle.std.proofs.Common.{◌≡◌, ◌<◌, length, arith}
+use Rattle.std.proofs.Common.{arith}
 use Rattle.std.proofs.lemmas.Bool.{ltb-true, ltb-false}
 use Rattle.osc_patch.proofs.Operands.{wrong_told}
 use Rattle.osc_patch.proofs.entry.read_operands.Goals as goal

@@ -1,4 +1,4 @@
-use Rattle.std.proofs.Common.{rules, ◌∙◌}
+use Rattle.std.proofs.Common.{rules}
 use Rattle.osc_patch.proofs.Entering.{added_at, entered_last}
 use Rattle.osc_patch.proofs.patch.enter.Goals as goal
 

@@ -1,6 +1,4 @@
-use Rattle.std.proofs.Common.{rules, tests, subst}
-use Rattle.std.specs.Prelude.{filter, take_while}
-use Rattle.std.specs.List.{slice_split}
+use Rattle.std.proofs.Common.{rules, tests}
 use Rattle.std.proofs.lemmas.Iterator.Consumers.{map_from_collect, YieldsList-at, YieldsList-from_filter}
 use Rattle.std.proofs.lemmas.Iterator.Search.{YieldsList-from_take_while}
 use Rattle.std.proofs.lemmas.Iterator.Splits.{YieldsList-from_slice_split}
