@@ -14,7 +14,8 @@ use Rattle.osc_patch.specs.Hosts.{is_host, port_of}
 use Rattle.osc_patch.specs.Words.{words_of}
 
 -- a step on what was read, where nothing is wrong yet
-abbrev pub and_then : {X Y : Type 0} → Result X WrongLine → (X → Result Y WrongLine) → Result Y WrongLine
+abbrev pub and_then : {X Y : Type 0} → Result X WrongLine → (X → Result Y WrongLine)
+    → Result Y WrongLine
 and_then (Ok value) next = next value
 and_then (Err wrong) next = Err wrong
 

@@ -24,7 +24,8 @@ is_octet part = all_digits part && nat_lt 0 (length part)
 
 -- four octets with dots between them
 abbrev pub is_dotted : List ℕ → Bool
-is_dotted word = length (slice_split is_dot word) == 4 && list_all is_octet (slice_split is_dot word)
+is_dotted word =
+    length (slice_split is_dot word) == 4 && list_all is_octet (slice_split is_dot word)
 
 -- a letter, a digit, `-` or `.`
 abbrev pub is_name_byte : ℕ → Bool

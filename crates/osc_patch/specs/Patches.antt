@@ -58,7 +58,11 @@ with_route route method = record method { routes = method.routes ++ option_to_li
 
 -- the method that an entry alone adds
 abbrev pub alone : Entry → PatchMethod
-alone entry = record { address = entry.address; line = entry.line; routes = option_to_list entry.route }
+alone entry = record {
+  address = entry.address;
+  line = entry.line;
+  routes = option_to_list entry.route;
+}
 
 -- the methods with an entry more: its route at the method of its address, or a method of its own
 abbrev pub entered : List PatchMethod → Entry → List PatchMethod

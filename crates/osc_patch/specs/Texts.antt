@@ -31,7 +31,7 @@ advice Pattern =
 advice Address =
     codes " is no address: write a slash before each name, and no spaces or any of `#*,?[]{}`"
 advice Host =
-    codes " is no host: write an IPv4 address, as 192.168.1.20, or a name of letters, digits, `-` and `.`"
+    codes " is no host: write an IPv4 address, as 10.0.0.7, or a name of letters, digits, `-` and `.`"
 advice Port = codes " is no port: write a number from 1 to 65535"
 advice (Repeated line) = with_number (codes " is sent there by line ") line
     (codes " already: take one of the two lines away")

@@ -34,7 +34,7 @@ pub(crate) fn add_advice(text: &mut Vec<u8>, fault: Fault) -> Result<(), AllocEr
             b" is no address: write a slash before each name, and no spaces or any of `#*,?[]{}`",
         ),
         Fault::Host => text.extend_from_slice(
-            b" is no host: write an IPv4 address, as 192.168.1.20, or a name of letters, digits, `-` and `.`",
+            b" is no host: write an IPv4 address, as 10.0.0.7, or a name of letters, digits, `-` and `.`",
         ),
         Fault::Port => text.extend_from_slice(b" is no port: write a number from 1 to 65535"),
         Fault::Repeated(line) => add_numbered(

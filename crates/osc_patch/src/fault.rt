@@ -1,5 +1,5 @@
 //! Why a patch isn't read.
-ghost use Rattle.std.specs.Prelude.{◌≡◌, IfOk};
+ghost use Rattle.std.specs.Prelude.{◌≡◌};
 ghost use Rattle.osc_patch.specs.declared.fault.PatchError.TheVariants.{NoMemory};
 
 use crate::advice::{add_advice, add_heading, add_word};

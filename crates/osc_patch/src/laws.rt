@@ -50,9 +50,11 @@ pub fn patches_are_apart()
 
 /// Each fault, comments and blanks, and several lines for one address.
 pub fn examples()
-    ensures unknown { line_says 1 (codes "remove /a") ≡ Err (wrong_line 1 UnknownWord (codes "remove")) }
+    ensures unknown { line_says 1 (codes "remove /a")
+        ≡ Err (wrong_line 1 UnknownWord (codes "remove")) }
     ensures few { line_says 2 (codes "add") ≡ Err (wrong_line 2 WordCount (codes "add")) }
-    ensures two { line_says 2 (codes "add /a 10.0.0.7") ≡ Err (wrong_line 2 WordCount (codes "add")) }
+    ensures two { line_says 2 (codes "add /a 10.0.0.7")
+        ≡ Err (wrong_line 2 WordCount (codes "add")) }
     ensures many { line_says 2 (codes "add /a 10.0.0.7 9 9")
         ≡ Err (wrong_line 2 WordCount (codes "add")) }
     ensures pattern { line_says 3 (codes "add /light/dim*")
@@ -60,7 +62,8 @@ pub fn examples()
     ensures bare { line_says 3 (codes "add dim") ≡ Err (wrong_line 3 Address (codes "dim")) }
     ensures octet { line_says 4 (codes "add /a 10.0.0.256 9")
         ≡ Err (wrong_line 4 Host (codes "10.0.0.256")) }
-    ensures name { line_says 4 (codes "add /a my_desk 9") ≡ Err (wrong_line 4 Host (codes "my_desk")) }
+    ensures name { line_says 4 (codes "add /a my_desk 9")
+        ≡ Err (wrong_line 4 Host (codes "my_desk")) }
     ensures zero { line_says 5 (codes "add /a 10.0.0.7 0") ≡ Err (wrong_line 5 Port (codes "0")) }
     ensures high { line_says 5 (codes "add /a 10.0.0.7 65536")
         ≡ Err (wrong_line 5 Port (codes "65536")) }

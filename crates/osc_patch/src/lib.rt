@@ -2,6 +2,7 @@
 #![tactic(auto)]
 
 mod advice;
+mod clash;
 mod entry;
 mod fault;
 mod host;

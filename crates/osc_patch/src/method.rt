@@ -1,6 +1,4 @@
 //! The methods of a patch.
-ghost use Rattle.std.specs.Prelude.{◌≡◌};
-
 use osc_atoms::Bytes;
 use osc_pattern::Address;
 use std::alloc::{AllocError, Global};
@@ -50,8 +48,8 @@ impl Routes {
     pub(crate) fn add(&mut self, route: Option<Route>) -> Result<(), AllocError>
         ensures { OnOk result (self.new ≡ self.old ++ option_to_list route) }
     {
-        if let Some(route) = route {
-            self.items.push(route)?;
+        if let Some(other) = route {
+            self.items.push(other)?;
         }
         Ok(())
     }
