@@ -9,3 +9,4 @@ pub mod Texts
 pub mod Plain
 pub mod Again
 pub mod Comments
+pub mod Telling

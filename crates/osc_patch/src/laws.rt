@@ -1,6 +1,6 @@
 //! What the definitions say of all patches, and of the examples of docs/FORMATS.md.
 ghost use Rattle.osc_patch.specs.declared.patch.TheConstants.{MAX_PATCH};
-ghost use Rattle.std.specs.Prelude.{◌≡◌, ◌≤◌, ◌↔◌, ℕ, true, List, [], ◌∷◌, ◌++◌, length, IsTrue};
+ghost use Rattle.std.specs.Prelude.{◌≡◌, ◌≤◌, ◌+◌, ℕ, true, List, [], ◌∷◌, ◌++◌, length, IsTrue};
 ghost use Rattle.std.specs.Prelude.{Some, None, Ok, Err, IfOk, codes};
 ghost use Rattle.std.specs.List.{AllByRecursion};
 ghost use Rattle.std.specs.Net.Grammar.{IsIpv4Text};
@@ -9,7 +9,8 @@ ghost use Rattle.osc_patch.specs.declared.fault.Fault.TheVariants.{UnknownWord, 
 ghost use Rattle.osc_patch.specs.declared.fault.Fault.TheVariants.{Address, Host, Port, Repeated};
 ghost use Rattle.osc_patch.specs.declared.fault.Fault.TheVariants.{Nested, TooMany};
 ghost use Rattle.osc_patch.specs.declared.fault.PatchError.TheVariants.{NoMethod, Lines};
-ghost use Rattle.osc_patch.specs.Words.{is_blank};
+ghost use Rattle.osc_patch.specs.declared.fault.WrongLine.{WrongLine};
+ghost use Rattle.osc_patch.specs.Words.{is_blank, lines_of};
 ghost use Rattle.osc_patch.specs.Hosts.{is_dotted, is_host, port_of};
 ghost use Rattle.osc_patch.specs.Entries.{wrong_line, line_says};
 ghost use Rattle.osc_patch.specs.Patches.{patch_of, outcome_of, unread, ArePatched};
@@ -21,6 +22,15 @@ pub fn written_patches_are_read_again()
     ensures { (limit : ℕ) (forms : List Form) → AllByRecursion IsForm forms
         → length (written forms) ≤ MAX_PATCH
         → patch_of limit (written forms) ≡ outcome_of (settled_all limit 1 unread forms) }
+{}
+
+/// Each line that is wrong by itself is told, with its number, counted from 1, whatever stands before and after it.
+pub fn each_wrong_line_is_told()
+    ensures { (limit : ℕ) (bytes : List ℕ) (before : List (List ℕ)) (text : List ℕ)
+        (after : List (List ℕ)) (line : WrongLine) → lines_of bytes ≡ before ++ text ∷ after
+        → line_says (length before + 1) text ≡ Err line → length bytes ≤ MAX_PATCH
+        → (front rest : List WrongLine)
+        × (patch_of limit bytes ≡ Err (Lines (front ++ line ∷ rest))) }
 {}
 
 /// A comment says nothing, nor does a space or a tab before a line's first word.

@@ -2,6 +2,8 @@
 #![tactic(auto)]
 
 #[cfg(test)]
+mod patches;
+#[cfg(test)]
 mod relays;
 #[cfg(test)]
 mod relays_by_udp;
