@@ -2,6 +2,10 @@
 #![tactic(auto)]
 
 #[cfg(test)]
+mod console;
+#[cfg(test)]
+mod patches;
+#[cfg(test)]
 mod relays;
 #[cfg(test)]
 mod relays_by_udp;

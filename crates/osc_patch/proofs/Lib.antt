@@ -1,0 +1,12 @@
+pub mod Above
+pub mod Entering
+pub mod Ports
+pub mod Dotted
+pub mod Apart
+pub mod Counts
+pub mod Operands
+pub mod Texts
+pub mod Plain
+pub mod Again
+pub mod Comments
+pub mod Telling

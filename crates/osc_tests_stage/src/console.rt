@@ -1,0 +1,234 @@
+//! Links whose datagrams are shown.
+use jiff_core::Offset;
+use osc_atoms::Room;
+use osc_console::{
+    Chore, ConsoleGate, Ending, EndingLink, Printer, RingSink, Rounds, Sender, ShownLink, Slot,
+    View, Watch, print_while,
+};
+use osc_core::Submitted;
+use osc_edge::{Datagram, Link, MAX_DATAGRAM, MemoryClock, MemorySink};
+use osc_life::Gate;
+use osc_live::Submission;
+use osc_model::Late;
+use osc_pattern::Address;
+use osc_shown::{Look, Route, WallClock};
+use rtrb::{Consumer, RingBuffer};
+use std::alloc::{AllocError, Global};
+use std::net::{Ipv4Addr, SocketAddrV4};
+use std::sync::Wait;
+use std::test::*;
+
+/// A controller's fader, at a half.
+const FADER: &[u8] = b"/1/fader1\0\0\0,f\0\0\x3f\0\0\0";
+
+/// How the fader's line begins a second after the clocks of time tags began, up to the tail.
+const LINE: &[u8] = b"00:00:01.000    /1/fader1 0.5                   ";
+
+/// A second after the beginning, as a time tag.
+const MOMENT: u64 = 1 << 32;
+
+/// A link that gives the fader so many times, and then ends.
+#[derive(Drop)]
+struct Faders {
+    left: u32,
+}
+
+impl Sender for Faders {
+    fn sender(&self) -> Option<SocketAddrV4> {
+        Some(SocketAddrV4::new(Ipv4Addr::new(10, 0, 0, 9), 51234))
+    }
+}
+
+impl Link for Faders {
+    ghost left = { λ _. None };
+
+    ghost faults = { λ _. 0 };
+
+    ghost quiets = { λ _. 0 };
+
+    fn next(&mut self, into: &mut [u8]) -> Datagram {
+        if self.left == 0 || into.len() < FADER.len() {
+            return Datagram::End;
+        }
+        self.left -= 1;
+        into[..FADER.len()].copy_from_slice(FADER);
+        Datagram::Got(FADER.len())
+    }
+}
+
+/// A method at the fader's address that sends nothing.
+fn routes(alloc: Global) -> Result<Vec<Route>, Fail> {
+    let mut routes = Vec::new(alloc);
+    let address = Address::read(alloc, b"/1/fader1").ok().ok_or("an address")?;
+    routes.push(Route {
+        address,
+        to: Vec::new(alloc),
+    })?;
+    Ok(routes)
+}
+
+fn view(routes: &[Route], quiet: bool) -> View<'_> {
+    View {
+        look: Look {
+            clock: WallClock::at(Offset::UTC),
+            colours: false,
+            quiet,
+        },
+        late: Late::Discard,
+        routes,
+    }
+}
+
+fn clock(alloc: Global) -> Result<MemoryClock, AllocError> {
+    Ok(MemoryClock::open(Vec::from_array(alloc, [MOMENT])?, Vec::new(alloc)))
+}
+
+/// All that comes out of the ring.
+fn printed(alloc: Global, ring: &mut Consumer<u8, Global>) -> Result<Vec<u8>, AllocError> {
+    let mut bytes = vec![in alloc; 0; 65_536]?;
+    let count = ring.pop_partial_slice(&mut bytes);
+    bytes.truncate(count);
+    Ok(bytes)
+}
+
+/// What is printed of a fader to which this was answered.
+fn shown<W: Wait>(rt: &W, alloc: Global, answer: Submitted, quiet: bool) -> Result<Vec<u8>, Fail> {
+    let routes = routes(alloc)?;
+    let (rounds, printer) = (Rounds::new(), Printer::new());
+    let slots = [Slot::new()];
+    let gate = ConsoleGate::new(&rounds, &slots);
+    let (producer, mut ring) = RingBuffer::new(alloc, 4_096)?;
+    let watch = Watch {
+        threads: rt,
+        rounds: &rounds,
+        slot: &slots[0],
+    };
+    let out = RingSink::new(producer, &printer);
+    let link = Faders { left: 1 };
+    let mut link = ShownLink::open(alloc, link, clock(alloc)?, out, view(&routes, quiet), watch)?;
+    let mut space = vec![in alloc; 0; MAX_DATAGRAM]?;
+    let _ = link.next(&mut space);
+    gate.answered(0, 1, &Submission { answer, clock: 1 });
+    link.finish();
+    Ok(printed(alloc, &mut ring)?)
+}
+
+/// The fader's line with this tail.
+fn line(alloc: Global, tail: &[u8]) -> Result<Vec<u8>, AllocError> {
+    let mut line = Vec::from_slice(alloc, LINE)?;
+    line.extend_from_slice(tail)?;
+    Ok(line)
+}
+
+#[test]
+fn a_datagram_is_shown_with_the_servers_answer(rt: HostRuntime) -> Result<(), Fail> {
+    let alloc = rt.alloc();
+    let queued = Submitted::Queued {
+        first: 0,
+        count: 1,
+        late: 0,
+    };
+    let played = line(alloc, b"from 10.0.0.9:51234\n")?;
+    assert_eq!(rt;
+        shown(&rt, alloc, queued, false)?.as_slice(),
+        played.as_slice()
+    );
+    assert!(rt; shown(&rt, alloc, queued, true)?.is_empty());
+    let full = Submitted::UnitsFull(Room::new(1, 0));
+    let mut refused = line(alloc, b"refused, the queue is full, from 10.0.0.9:51234\n")?;
+    refused[13] = b'!';
+    assert_eq!(rt;
+        shown(&rt, alloc, full, false)?.as_slice(),
+        refused.as_slice()
+    );
+    assert_eq!(rt;
+        shown(&rt, alloc, full, true)?.as_slice(),
+        refused.as_slice()
+    );
+    Ok(())
+}
+
+/// What a link of 10,000 faders does over a ring that nobody reads: how many it gave, and what comes out of the ring then, and
+/// at the next line.
+fn give_unread<W: Wait>(rt: &W, alloc: Global) -> Result<(u32, Vec<u8>, Vec<u8>), Fail> {
+    let routes = routes(alloc)?;
+    let (rounds, printer) = (Rounds::new(), Printer::new());
+    let slots = [Slot::new()];
+    let gate = ConsoleGate::new(&rounds, &slots);
+    let (producer, mut ring) = RingBuffer::new(alloc, 4_096)?;
+    let watch = Watch {
+        threads: rt,
+        rounds: &rounds,
+        slot: &slots[0],
+    };
+    let out = RingSink::new(producer, &printer);
+    let link = Faders { left: 10_000 };
+    let mut link = ShownLink::open(alloc, link, clock(alloc)?, out, view(&routes, false), watch)?;
+    let mut space = vec![in alloc; 0; MAX_DATAGRAM]?;
+    let answer = Submitted::RecordFull(Room::new(72, 0));
+    let mut given = 0u32;
+    for _ in 0..10_001u32 {
+        if let Datagram::Got(_) = link.next(&mut space) {
+            given = given.saturating_add(1);
+            gate.answered(0, given, &Submission { answer, clock: 1 });
+        }
+        if given == 9_999 {
+            break;
+        }
+    }
+    let before = printed(alloc, &mut ring)?;
+    let _ = link.next(&mut space);
+    link.finish();
+    Ok((given, before, printed(alloc, &mut ring)?))
+}
+
+#[test]
+fn nobody_who_reads_holds_no_link(rt: HostRuntime) -> Result<(), Fail> {
+    let (given, before, after) = give_unread(&rt, rt.alloc())?;
+    assert_eq!(rt; given, 9_999);
+    assert!(rt; before.starts_with(b"00:00:01.000 !  /1/fader1 0.5"));
+    assert!(rt; before.ends_with(b"from 10.0.0.9:51234\n"));
+    assert!(rt; after.starts_with(b"-- 99"));
+    Ok(())
+}
+
+#[test]
+fn a_show_that_is_ended_ends_its_links(rt: HostRuntime) -> Result<(), Fail> {
+    let ending = Ending::new();
+    let mut link = EndingLink::new(Faders { left: 10 }, &ending);
+    let mut space = vec![in rt.alloc(); 0; MAX_DATAGRAM]?;
+    assert_eq!(rt; link.next(&mut space), Datagram::Got(FADER.len()));
+    ending.end();
+    assert!(rt; ending.is_over());
+    assert_eq!(rt; link.next(&mut space), Datagram::End);
+    Ok(())
+}
+
+/// Counts how often it is run.
+#[derive(Drop)]
+struct Counter {
+    runs: u32,
+}
+
+impl Chore for Counter {
+    fn run(&mut self) {
+        self.runs = self.runs.saturating_add(1);
+    }
+}
+
+#[test]
+fn what_is_left_is_printed_at_the_end(rt: HostRuntime) -> Result<(), Fail> {
+    let alloc = rt.alloc();
+    let printer = Printer::new();
+    let (mut producer, ring) = RingBuffer::new(alloc, 64)?;
+    assert!(rt; producer.push_entire_slice(b"the last line\n").is_ok());
+    printer.end();
+    let mut rings = Vec::new(alloc);
+    rings.push(ring)?;
+    let mut out = MemorySink::open(alloc, Vec::new(alloc));
+    let mut chore = Counter { runs: 0 };
+    print_while(&rt, &printer, &mut rings, &mut out, &mut chore);
+    assert_eq!(rt; out.bytes(), b"the last line\n".as_slice());
+    assert_eq!(rt; chore.runs, 0);
+    Ok(())
+}
