@@ -1,0 +1,5 @@
+mod Adding
+mod Ending
+mod Failing
+mod Hosting
+mod Sending

@@ -1,0 +1,86 @@
+-- What a stage plays, and what became of it.
+use Rattle.std.specs.Prelude.{◌≡◌, ◌⊎◌, ℕ, ◌<◌, List, [], length, map, All, Option}
+use Rattle.std.specs.List.{AllByRecursion}
+use Rattle.std.specs.Option.{option_or}
+use Rattle.osc_model.specs.Limits.{Limits}
+use Rattle.osc_model.specs.State.{opening}
+use Rattle.osc_model.specs.Events.{Entry, Invocation}
+use Rattle.osc_model.specs.Heard.{calls_bytes}
+use Rattle.osc_model.specs.History.{Legal, HaveHeard, invocations}
+use Rattle.osc_model.specs.Recordings.{record_text}
+use Rattle.osc_laws.specs.Laws.{KeepsTheLaws}
+use Rattle.osc_core.specs.Telling.{told}
+use Rattle.osc_script.specs.declared.act.Act.TheVariants.{Add}
+use Rattle.osc_script.specs.declared.line.Line.{Line}
+use Rattle.osc_ends.specs.Sinks.{SinkChange}
+use Rattle.osc_lanes.specs.Performs.{Part}
+use Rattle.osc_links.specs.declared.run.Hosted.{Hosted}
+use Rattle.osc_links.specs.Hosts.{Hosts}
+use Rattle.osc_links.specs.Links.{LinkTurn}
+use Rattle.osc_links.specs.Ticks.{ClockRead}
+use Rattle.osc_relay.specs.declared.outlet.Outlet.{Ghosts}
+use Rattle.osc_relay.specs.declared.relay.Relay.{Relay}
+use Rattle.osc_relay.specs.Relays.{room_of}
+use Rattle.osc_stage.specs.declared.ended.Ended.{Ended}
+use Rattle.osc_stage.specs.declared.ended.Ended.TheVariants.{SinkFailed}
+use Rattle.osc_stage.specs.declared.stage.Stage.{Stage}
+use Rattle.osc_stage.specs.declared.stage.Staged.{Staged}
+use Rattle.osc_stage.specs.Ends.{ended_by, HasWritten}
+use Rattle.osc_stage.specs.Sent.{HasSent}
+
+-- the line that adds a method at an address
+abbrev pub line_for : List ℕ → Line
+line_for address = record { number = 0; lane = 0; act = Add address }
+
+-- how what was hosted ended, before the rest of its recording is written
+abbrev pub end_of : {M L : Type 0} → Hosted M L → Ended
+end_of hosted = ended_by hosted.links.failed hosted.links.clock_failed
+    (option_or hosted.opening.stop (option_or hosted.unenrolled hosted.links.stop))
+
+module _ {O : Type 0} {G : Ghosts O} where
+  abbrev pub add_line : Relay O G → Line
+  add_line relay = line_for relay.address
+
+  -- each relay is added at its own address, in their order
+  abbrev pub adds_of : List (Relay O G) → Part (Relay O G)
+  adds_of relays = record { lines = map add_line relays; boxes = relays }
+
+  module _ (keep : Relay O G → ℕ) (heard : Relay O G → Option (List ℕ)) where
+    -- The relays were added by caller 0 on one new server, and the links were served. The relays
+    -- that are registered at the end come back with their ids; those that weren't added come back
+    -- too, and no other was removed.
+    pub record IsStaged {L : Type 0} (left : L → Option (List LinkTurn)) (faults : L → ℕ)
+        (stage : Stage O L G) (clock : ClockRead) (staged : Staged O L G) : Type 0 where
+      pub hosted : Hosted (Relay O G) L
+      pub hosts : Hosts left faults keep heard stage.caps stage.links.bounds
+          (adds_of stage.relays.items) stage.links.from.items clock hosted
+      pub recording_is : staged.recording.items ≡ hosted.closed.bytes.items
+      pub relays_are : staged.relays.items ≡ hosted.closed.kept.items
+      pub left_are : staged.left.items ≡ hosted.opening.back.items
+      pub none_removed : hosted.opening.removed.items ≡ []
+      pub links_are : staged.links.items ≡ hosted.links.links.items
+      pub faults_are : staged.faults.items ≡ hosted.links.faults.items
+      pub ended_is : (staged.ended ≡ end_of hosted) ⊎ (staged.ended ≡ SinkFailed)
+
+    module _ (sent : O → Option (List (List ℕ))) (losses : O → ℕ) where
+      -- Where the calls of a relay's id have fewer bytes than the relay keeps, each of its outlets
+      -- has sent them.
+      abbrev pub HaveSent : List Invocation → ℕ × Relay O G → Type 0
+      HaveSent invocations one = length (calls_bytes invocations one.0) < keep one.1
+          → All (λ outlet. HasSent invocations one.0 one.1.address (room_of one.1) (sent outlet)
+          (losses outlet)) one.1.outlets.items
+
+      -- There is one history, which is legal and keeps the four laws. Each method that is
+      -- registered at its end has its relay, which has heard its calls, and sent them. The sink
+      -- has gained the recording of this history, or a front of it where it failed.
+      pub record RecordsStage {L : Type 0} (caps : Limits) (staged : Staged O L G)
+          (rec : SinkChange) : Type 0 where
+        pub history : List Entry
+        pub legal : Legal caps history
+        pub laws : KeepsTheLaws caps history
+        pub have_heard : HaveHeard (record { caps = caps; history = history })
+            (told keep heard staged.relays.items)
+        pub have_sent : AllByRecursion (HaveSent (invocations (opening caps) history))
+            staged.relays.items
+        pub recording : staged.recording.items ≡ record_text caps history
+        pub written : HasWritten staged.ended rec (record_text caps history)
