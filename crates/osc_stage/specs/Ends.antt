@@ -1,6 +1,6 @@
 -- How a stage ends, and why.
-use Rattle.std.specs.Prelude.{◌≡◌, ℕ, Bool, true, false, List, map, take, slice_get, IsSomeAnd, Option}
-use Rattle.std.specs.Prelude.{Some, None}
+use Rattle.std.specs.Prelude.{◌≡◌, ℕ, Bool, true, false, List, map, take, slice_get, IsSomeAnd}
+use Rattle.std.specs.Prelude.{Option, Some, None}
 use Rattle.osc_atoms.specs.declared.room.Room.{Room}
 use Rattle.osc_edge.specs.Faults.{Rose}
 use Rattle.osc_ends.specs.Sinks.{SinkChange, Fails, IsSteady, GainsAll, GainsPart}

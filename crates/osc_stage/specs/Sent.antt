@@ -17,4 +17,5 @@ messages_to invocations id =
 pub record HasSent (invocations : List Invocation) (id : ℕ) (address : List ℕ) (room : ℕ)
     (sent : Option (List (List ℕ))) (losses : ℕ) : Type 0 where
   pub relays : ∥ Relays address room (messages_to invocations id) sent losses ∥₁
-  pub all : losses ≡ 0 → sent ≡ option_map (λ _. map (relayed address) (messages_to invocations id)) sent
+  pub all : losses ≡ 0
+      → sent ≡ option_map (λ _. map (relayed address) (messages_to invocations id)) sent

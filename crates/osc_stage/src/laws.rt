@@ -1,5 +1,4 @@
-//! What holds of every history and of the relays that have heard it. These functions do nothing; their contracts are the
-//! laws.
+//! What holds of every history and of the relays that have heard it. The function does nothing; its contract is the law.
 ghost use Rattle.std.specs.Prelude.{◌≡◌, ◌<◌, ℕ, List, length, Option};
 ghost use Rattle.osc_model.specs.Limits.{Limits};
 ghost use Rattle.osc_model.specs.Events.{Entry};
