@@ -1,0 +1,2 @@
+-- Inside the crate.
+pub mod Shows
