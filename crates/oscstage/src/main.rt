@@ -71,7 +71,7 @@ fn serve<W: Threads + Wait + Sync>(
     match open_bank(rt, &patch, &ports)? {
         Ok(bank) => play(rt, threads, serving, &ports, bank),
         Err(wrong) => {
-            report_routes(rt, &wrong);
+            report_routes(rt, serving.names.patch.as_str(), &wrong);
             Ok(REFUSED)
         }
     }

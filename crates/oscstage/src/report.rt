@@ -18,24 +18,29 @@ const USAGE: &str =
 
 const HELP: &str = "oscstage serve [OPTIONS] PATCH FILE
 
-Serves Open Sound Control until it is ended: what comes in is shown, each call is sent on as PATCH says, and all of it is recorded in FILE.
+Serves Open Sound Control until it is ended: what comes in is shown, each call
+is sent on as PATCH says, and all of it is recorded in FILE.
 
 PATCH has a line for each method:
     add ADDRESS               calls of the method are shown
-    add ADDRESS HOST PORT     they are sent on, too, by UDP; several such lines are several machines
+    add ADDRESS HOST PORT     they are sent on, too, by UDP; more such lines
+                              send to more machines
     # ..                      a comment
 
-  --port N          the UDP port to listen to, 9000 where nothing is said
+  --port N          the port to listen to, 9000 where nothing is said
   --links N         so many ports, from that one on
   --tcp             TCP in place of UDP
   --late discard    a bundle that comes after its time isn't played
   --recording N     how many bytes FILE may have
-  --units N, --blocks N, --methods N, --nodes N     what the server has room for
-  --count N, --idle N     each link ends after N packets, or after N waits in a row
+  --units N, --blocks N, --methods N, --nodes N
+                    what the server has room for
+  --count N, --idle N
+                    each link ends after N packets, or after N waits in a row
   --quiet           show refusals alone
   --force           overwrite FILE
 
-Type end and Enter to end the show. Ctrl-C ends it at once, and FILE keeps all but the last 50 milliseconds.
+Type end and Enter to end the show. Ctrl-C ends it at once, and FILE keeps all
+but the last 50 milliseconds.
 ";
 
 pub(crate) fn report_help(rt: &HostRuntime) {
@@ -77,7 +82,7 @@ pub(crate) fn report_patch(
 }
 
 /// Reports the lines whose routes are wrong.
-pub(crate) fn report_routes(rt: &HostRuntime, wrong: &[WrongRoute]) {
+pub(crate) fn report_routes(rt: &HostRuntime, name: &str, wrong: &[WrongRoute]) {
     for WrongRoute { line, fault } in wrong {
         let words = match fault {
             RouteFault::UnknownHost =>
@@ -85,7 +90,7 @@ pub(crate) fn report_routes(rt: &HostRuntime, wrong: &[WrongRoute]) {
             RouteFault::OwnPort =>
                 "it sends to the port that oscstage itself listens to, which would go on for ever: name another port",
         };
-        eprintln!(rt; "oscstage: line {line}: {words}").ok();
+        eprintln!(rt; "oscstage: {name}, line {line}: {words}").ok();
     }
 }
 
