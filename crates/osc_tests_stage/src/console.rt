@@ -21,8 +21,10 @@ use std::test::*;
 /// A controller's fader, at a half.
 const FADER: &[u8] = b"/1/fader1\0\0\0,f\0\0\x3f\0\0\0";
 
-/// How the fader's line begins a second after the clocks of time tags began, up to the tail.
-const LINE: &[u8] = b"00:00:01.000    /1/fader1 0.5                   ";
+/// How the fader's line begins a second after the clocks of time tags began, up to the mark, and what follows that up to the tail.
+const TIME: &[u8] = b"00:00:01.000 ";
+
+const FADER_WORDS: &[u8] = b"  /1/fader1 0.5                   ";
 
 /// A second after the beginning, as a time tag.
 const MOMENT: u64 = 1 << 32;
@@ -40,6 +42,8 @@ impl Sender for Faders {
 }
 
 impl Link for Faders {
+    ghost use Rattle.std.specs.Prelude.{None};
+
     ghost left = { λ _. None };
 
     ghost faults = { λ _. 0 };
@@ -91,6 +95,12 @@ fn printed(alloc: Global, ring: &mut Consumer<u8, Global>) -> Result<Vec<u8>, Al
     Ok(bytes)
 }
 
+/// What the link gives next.
+fn give<L: Link>(alloc: Global, link: &mut L) -> Result<Datagram, AllocError> {
+    let mut space = vec![in alloc; 0; MAX_DATAGRAM]?;
+    Ok(link.next(&mut space))
+}
+
 /// What is printed of a fader to which this was answered.
 fn shown<W: Wait>(rt: &W, alloc: Global, answer: Submitted, quiet: bool) -> Result<Vec<u8>, Fail> {
     let routes = routes(alloc)?;
@@ -106,16 +116,17 @@ fn shown<W: Wait>(rt: &W, alloc: Global, answer: Submitted, quiet: bool) -> Resu
     let out = RingSink::new(producer, &printer);
     let link = Faders { left: 1 };
     let mut link = ShownLink::open(alloc, link, clock(alloc)?, out, view(&routes, quiet), watch)?;
-    let mut space = vec![in alloc; 0; MAX_DATAGRAM]?;
-    let _ = link.next(&mut space);
+    let _ = give(alloc, &mut link)?;
     gate.answered(0, 1, &Submission { answer, clock: 1 });
     link.finish();
     Ok(printed(alloc, &mut ring)?)
 }
 
-/// The fader's line with this tail.
-fn line(alloc: Global, tail: &[u8]) -> Result<Vec<u8>, AllocError> {
-    let mut line = Vec::from_slice(alloc, LINE)?;
+/// The fader's line with this mark and this tail.
+fn line(alloc: Global, mark: u8, tail: &[u8]) -> Result<Vec<u8>, AllocError> {
+    let mut line = Vec::from_slice(alloc, TIME)?;
+    line.push(mark)?;
+    line.extend_from_slice(FADER_WORDS)?;
     line.extend_from_slice(tail)?;
     Ok(line)
 }
@@ -128,15 +139,18 @@ fn a_datagram_is_shown_with_the_servers_answer(rt: HostRuntime) -> Result<(), Fa
         count: 1,
         late: 0,
     };
-    let played = line(alloc, b"from 10.0.0.9:51234\n")?;
+    let played = line(alloc, b' ', b"from 10.0.0.9:51234\n")?;
     assert_eq!(rt;
         shown(&rt, alloc, queued, false)?.as_slice(),
         played.as_slice()
     );
     assert!(rt; shown(&rt, alloc, queued, true)?.is_empty());
     let full = Submitted::UnitsFull(Room::new(1, 0));
-    let mut refused = line(alloc, b"refused, the queue is full, from 10.0.0.9:51234\n")?;
-    refused[13] = b'!';
+    let refused = line(
+        alloc,
+        b'!',
+        b"refused, the queue is full, from 10.0.0.9:51234\n",
+    )?;
     assert_eq!(rt;
         shown(&rt, alloc, full, false)?.as_slice(),
         refused.as_slice()
@@ -164,11 +178,10 @@ fn give_unread<W: Wait>(rt: &W, alloc: Global) -> Result<(u32, Vec<u8>, Vec<u8>)
     let out = RingSink::new(producer, &printer);
     let link = Faders { left: 10_000 };
     let mut link = ShownLink::open(alloc, link, clock(alloc)?, out, view(&routes, false), watch)?;
-    let mut space = vec![in alloc; 0; MAX_DATAGRAM]?;
     let answer = Submitted::RecordFull(Room::new(72, 0));
     let mut given = 0u32;
     for _ in 0..10_001u32 {
-        if let Datagram::Got(_) = link.next(&mut space) {
+        if let Datagram::Got(_) = give(alloc, &mut link)? {
             given = given.saturating_add(1);
             gate.answered(0, given, &Submission { answer, clock: 1 });
         }
@@ -177,7 +190,7 @@ fn give_unread<W: Wait>(rt: &W, alloc: Global) -> Result<(u32, Vec<u8>, Vec<u8>)
         }
     }
     let before = printed(alloc, &mut ring)?;
-    let _ = link.next(&mut space);
+    let _ = give(alloc, &mut link)?;
     link.finish();
     Ok((given, before, printed(alloc, &mut ring)?))
 }
@@ -196,11 +209,10 @@ fn nobody_who_reads_holds_no_link(rt: HostRuntime) -> Result<(), Fail> {
 fn a_show_that_is_ended_ends_its_links(rt: HostRuntime) -> Result<(), Fail> {
     let ending = Ending::new();
     let mut link = EndingLink::new(Faders { left: 10 }, &ending);
-    let mut space = vec![in rt.alloc(); 0; MAX_DATAGRAM]?;
-    assert_eq!(rt; link.next(&mut space), Datagram::Got(FADER.len()));
+    assert_eq!(rt; give(rt.alloc(), &mut link)?, Datagram::Got(FADER.len()));
     ending.end();
     assert!(rt; ending.is_over());
-    assert_eq!(rt; link.next(&mut space), Datagram::End);
+    assert_eq!(rt; give(rt.alloc(), &mut link)?, Datagram::End);
     Ok(())
 }
 

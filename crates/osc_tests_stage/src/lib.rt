@@ -11,3 +11,5 @@ mod relays;
 mod relays_by_udp;
 #[cfg(test)]
 mod shown;
+#[cfg(test)]
+mod stages;
