@@ -1,6 +1,7 @@
 // What a call answers.
 
-/// What an event is answered: a number of `status`, and what it tells besides. What an answer doesn't tell is 0.
+/// What an event is answered: a number of `status`, and what it tells besides. What an answer
+/// doesn't tell is 0.
 #[repr(C)]
 #[derive(Clone, Copy, Debug, PartialEq, Eq)]
 pub struct Answer {
@@ -8,7 +9,8 @@ pub struct Answer {
     pub status: u32,
     /// A method's id; the kind of a fault; a limit.
     pub number: u32,
-    /// The first queued unit, the unit that was released, the next moment, the clock; a fault's place.
+    /// The first queued unit, the unit that was released, the next moment, the clock; a fault's
+    /// place.
     pub unit: u64,
     /// How many units were numbered, or calls made.
     pub count: u32,

@@ -10,8 +10,8 @@ use std::alloc::Global;
 use std::marker::Brand;
 use std::sync::ledger::{Blank, Ledger};
 
-/// Whether the pattern matches the address: 1 or 0. 2 where the pattern is none, 3 where the address is none, and 4
-/// where there is no memory.
+/// Whether the pattern matches the address: 1 or 0. 2 where the pattern is none, 3 where the
+/// address is none, and 4 where there is no memory.
 #[unsafe(no_mangle)]
 pub extern "C" fn osc_pattern_matches(pattern: &[u8], address: &[u8], alloc: Global) -> u32
     ensures answer { result ≢ 4 → result ≡ match_answered pattern.now address.now }

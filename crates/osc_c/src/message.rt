@@ -19,8 +19,8 @@ use osc_message::laws::written_is_read_again;
 use osc_message::{Arg, Args, Message, argument_size};
 use osc_packet::MAX_PACKET;
 
-/// Reads the arguments of the message that the bytes are, as far as there is room: tells how many there are, or the
-/// first fault.
+/// Reads the arguments of the message that the bytes are, as far as there is room: tells how many
+/// there are, or the first fault.
 #[unsafe(no_mangle)]
 pub extern "C" fn osc_message_read(bytes: &[u8], arguments: &mut [Argument]) -> Answer
     ensures { ReadsMessage (message_fault MAX_PACKET bytes.now) bytes.now result arguments.old
@@ -67,7 +67,8 @@ fn tag_string_size(tags: &[u8]) -> usize
     string_size(1 + tags.len())
 }
 
-/// Writes the arguments whose bytes begin at the place, as far as there is room, and counts them all.
+/// Writes the arguments whose bytes begin at the place, as far as there is room, and counts them
+/// all.
 fn fill(args: Args<'_>, place: usize, arguments: &mut [Argument]) -> u32
     requires inside { place + length (flat_map atom_of (left args)) ≤ MAX_PACKET }
     requires few { length (left args) ≤ MAX_PACKET }

@@ -111,7 +111,8 @@ fn add_in(state: &mut State, caller: u32, address: Address) -> Answer
     adding_shown(&state.core.add(caller, address, Mute))
 }
 
-/// Removes the method at the address, for which it takes memory for a while. It is caller 0's event.
+/// Removes the method at the address, for which it takes memory for a while. It is caller 0's
+/// event.
 #[unsafe(no_mangle)]
 pub extern "C" fn osc_server_remove(handle: &mut Handle, address: &[u8], alloc: Global) -> Answer
     ensures answer { result.status ≢ 15

@@ -19,8 +19,8 @@ use osc_atoms::Room;
 use osc_message::{Arg, BuildFault, Builder};
 use std::alloc::Global;
 
-/// Writes the message with this pattern and these arguments, whose texts and blobs stand among the bytes by their place
-/// and size. It takes memory for a while.
+/// Writes the message with this pattern and these arguments, whose texts and blobs stand among the
+/// bytes by their place and size. It takes memory for a while.
 #[unsafe(no_mangle)]
 pub extern "C" fn osc_message_write(
     pattern: &[u8],

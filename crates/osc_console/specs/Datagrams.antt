@@ -1,5 +1,6 @@
 -- The lines of a datagram, and what a link that is shown has written.
-use Rattle.std.specs.Prelude.{◌≡◌, ℕ, List, [], ◌∷◌, ◌++◌, take, Option, Some, option_map, MatchOption}
+use Rattle.std.specs.Prelude.{◌≡◌, ℕ, List, [], ◌∷◌, ◌++◌, take, Option, Some, option_map}
+use Rattle.std.specs.Prelude.{MatchOption}
 use Rattle.osc_edge.specs.declared.link.Datagram.{Datagram}
 use Rattle.osc_edge.specs.declared.link.Datagram.TheVariants.{Got}
 use Rattle.osc_ends.specs.Sinks.{SinkChange, GainsAll}

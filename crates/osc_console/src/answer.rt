@@ -7,8 +7,8 @@ use osc_live::Submission;
 use osc_model::Late;
 use osc_shown::Answered;
 
-/// What became of a unit with this tag, by what was answered to its packet and where the server's clock stood
-/// (docs/SERVER.md, "Step").
+/// What became of a unit with this tag, by what was answered to its packet and where the server's
+/// clock stood (docs/SERVER.md, "Step").
 pub(crate) fn answer_of(late: Late, submission: Submission, tag: u64) -> Answered
     ensures { result ≡ answer_of late submission tag }
 {

@@ -19,8 +19,9 @@ pub struct View<'a> {
     pub routes: &'a [Route],
 }
 
-/// Adds the lines of a datagram, by what the server answered to it: those of its units, or one for its fault. Where
-/// nothing was answered to a packet, as where it wasn't handed in yet, it adds none. An `Err` means out of memory.
+/// Adds the lines of a datagram, by what the server answered to it: those of its units, or one for
+/// its fault. Where nothing was answered to a packet, as where it wasn't handed in yet, it adds
+/// none. An `Err` means out of memory.
 pub fn datagram_lines(
     text: &mut Vec<u8>,
     view: View<'_>,

@@ -5,8 +5,8 @@ use crate::{Ending, Sender};
 use osc_edge::{Datagram, Link};
 use std::net::SocketAddrV4;
 
-/// A link that answers `End` once the show is to end, and what the link below answers until then. So it tells nothing of
-/// the datagrams that are left.
+/// A link that answers `End` once the show is to end, and what the link below answers until then.
+/// So it tells nothing of the datagrams that are left.
 #[derive(Drop)]
 pub struct EndingLink<'a, L> {
     link: L,

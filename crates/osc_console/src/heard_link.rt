@@ -1,4 +1,5 @@
-//! The trusted edge to the network: a link that binds a port of UDP, and keeps who has sent the last datagram.
+//! The trusted edge to the network: a link that binds a port of UDP, and keeps who has sent the
+//! last datagram.
 ghost use Rattle.std.specs.Prelude.{◌≡◌, ◌≤◌, length, IfOk, None};
 
 use crate::Sender;
@@ -8,8 +9,8 @@ use std::io::ErrorKind;
 use std::net::{Ipv4Addr, SocketAddr, SocketAddrV4, UdpSocket};
 use std::time::Duration;
 
-/// As `UdpLink` of `osc_edge`, but that a call waits as many milliseconds for a datagram as it is told; and it knows who has
-/// sent the last datagram.
+/// As `UdpLink` of `osc_edge`, but that a call waits as many milliseconds for a datagram as it is
+/// told; and it knows who has sent the last datagram.
 #[derive(Drop)]
 pub struct HeardLink {
     rt: HostRuntime,

@@ -1,5 +1,6 @@
-//! What stands round a server on a stage: a clock that waits until something is due or comes, links whose datagrams are
-//! shown with the server's answers, and a ring through which another thread prints them.
+//! What stands round a server on a stage: a clock that waits until something is due or comes, links
+//! whose datagrams are shown with the server's answers, and a ring through which another thread
+//! prints them.
 #![tactic(auto)]
 
 mod answer;

@@ -50,8 +50,8 @@ pub trait Chore {
     fn run(&mut self);
 }
 
-/// Writes what comes out of the rings, ring by ring, whenever the printer is woken, until it is ended; then what is left. A
-/// sink that waits holds up nobody else but the chore.
+/// Writes what comes out of the rings, ring by ring, whenever the printer is woken, until it is
+/// ended; then what is left. A sink that waits holds up nobody else but the chore.
 pub fn print_while<W: Wait, O: Sink, D: Chore>(
     rt: &W,
     printer: &Printer,

@@ -7,8 +7,9 @@ use osc_edge::{Put, Sink};
 use rtrb::Producer;
 use std::alloc::Global;
 
-/// One end of a ring of bytes, and whom to wake: the thread that writes what comes out of it. It takes a piece whole, or
-/// fails where the ring has no room for it, and counts that. It never waits.
+/// One end of a ring of bytes, and whom to wake: the thread that writes what comes out of it. It
+/// takes a piece whole, or fails where the ring has no room for it, and counts that. It never
+/// waits.
 #[derive(Drop)]
 pub struct RingSink<'a> {
     producer: Producer<u8, Global>,

@@ -46,8 +46,8 @@ impl Rounds {
         self.handed.load(Ordering::SeqCst)
     }
 
-    /// Has the ticker play a round, and waits until it has handed in this moment or a later one, at most a tenth of a
-    /// second: whoever submits then is judged by a clock that isn't behind.
+    /// Has the ticker play a round, and waits until it has handed in this moment or a later one, at
+    /// most a tenth of a second: whoever submits then is judged by a clock that isn't behind.
     pub(crate) fn catch_up<W: Wait>(&self, rt: &W, moment: u64) {
         for _ in 0..LOOKS {
             let seen = self.handed();

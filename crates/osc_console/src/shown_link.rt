@@ -26,7 +26,8 @@ struct Pending {
     sender: Option<SocketAddrV4>,
 }
 
-/// What a link that is shown knows of the server: the ticker's rounds, and the slot in which its gate leaves the answers.
+/// What a link that is shown knows of the server: the ticker's rounds, and the slot in which its
+/// gate leaves the answers.
 #[derive(Drop)]
 pub struct Watch<'a, W> {
     pub threads: &'a W,
@@ -34,10 +35,11 @@ pub struct Watch<'a, W> {
     pub slot: &'a Slot,
 }
 
-/// A link, each of whose datagrams is written to a sink as lines, with the server's answer to it, when the next one is
-/// asked for: so after all that the server did with it. What the sink doesn't take is lost, and what has no memory isn't
-/// shown; how many datagrams that were stands before the next lines. Where late units are discarded the ticker plays a round
-/// before a bundle is handed in, so that the bundle is judged by a clock that isn't behind.
+/// A link, each of whose datagrams is written to a sink as lines, with the server's answer to it,
+/// when the next one is asked for: so after all that the server did with it. What the sink doesn't
+/// take is lost, and what has no memory isn't shown; how many datagrams that were stands before the
+/// next lines. Where late units are discarded the ticker plays a round before a bundle is handed
+/// in, so that the bundle is judged by a clock that isn't behind.
 #[derive(Drop)]
 pub struct ShownLink<'a, L, C, O, W> {
     link: L,
@@ -156,7 +158,8 @@ fn catch_up<W: Wait>(watch: &Watch<'_, W>, moment: Option<u64>) {
     }
 }
 
-/// Writes the lines, if they were made. Answers how many datagrams were not shown then, of which so many were before.
+/// Writes the lines, if they were made. Answers how many datagrams were not shown then, of which so
+/// many were before.
 fn unshown_after<O: Sink>(
     made: Result<(), AllocError>,
     out: &mut O,
@@ -209,7 +212,8 @@ fn front(space: &[u8], size: usize) -> &[u8]
     &space[..size.min(space.len())]
 }
 
-/// Copies the datagram to the front of the space, as far as it has room, and answers how many bytes.
+/// Copies the datagram to the front of the space, as far as it has room, and answers how many
+/// bytes.
 fn copied(space: &mut [u8], datagram: &[u8]) -> usize
     ensures same { length space.new ≡ length space.old }
     ensures whole { length datagram.now ≤ length space.old → take result space.new ≡ datagram.now }

@@ -2,7 +2,8 @@
 use osc_live::Submission;
 use std::sync::Mutex;
 
-/// The server's last answer to one link. The gate puts it there and the link takes it, both on the link's own thread.
+/// The server's last answer to one link. The gate puts it there and the link takes it, both on the
+/// link's own thread.
 #[derive(Drop)]
 pub struct Slot {
     last: Mutex<Option<Submission>>,

@@ -9,9 +9,9 @@ use std::time::Duration;
 /// How many milliseconds the clock may stand still where nothing is due.
 const LONGEST: u64 = 1_000;
 
-/// The system's clock. `now` reads it at once, and answers `Failed` for every error of the system and where the seconds
-/// since 1900 aren't 32 bits, and counts it. `until` waits until the moment comes or somebody wakes the ticker, but no
-/// longer than a second.
+/// The system's clock. `now` reads it at once, and answers `Failed` for every error of the system
+/// and where the seconds since 1900 aren't 32 bits, and counts it. `until` waits until the moment
+/// comes or somebody wakes the ticker, but no longer than a second.
 #[derive(Drop)]
 pub struct WaitingClock<'a, W> {
     rt: HostRuntime,
@@ -66,7 +66,8 @@ impl<'a, W: Wait> Clock for WaitingClock<'a, W> {
     }
 }
 
-/// How long it is until the next moment, if there is one, but no longer than the clock may stand still.
+/// How long it is until the next moment, if there is one, but no longer than the clock may stand
+/// still.
 fn time_until(next: Option<u64>, now: Option<u64>) -> Duration {
     let longest = Duration::from_millis(LONGEST);
     match (next, now) {

@@ -1,5 +1,6 @@
 -- The calls of the last release are those that it made.
-use Rattle.std.proofs.Common.{◌≡◌, ◌≢◌, ℕ, zero, suc, ◌+◌, ◌*◌, ◌-◌, ◌<◌, ◌≤◌, ◌^◌, Bool, true, false, cond, IsTrue, List, [], ◌∷◌, ◌++◌, map, take, drop, length}
+use Rattle.std.proofs.Common.{◌≡◌, ◌≢◌, ℕ, zero, suc, ◌+◌, ◌*◌, ◌-◌, ◌<◌, ◌≤◌, ◌^◌, Bool, true, false, cond, IsTrue, List, [], ◌∷◌, ◌++◌, map, take, drop}
+use Rattle.std.proofs.Common.{length}
 use Rattle.std.proofs.Common.{get_or, refl, sym, ap, subst, ◌∙◌, arith, length-append, append_assoc}
 use Rattle.std.specs.Prelude.{is_some, nat_le, slice_index, Option, Some, None}
 use Rattle.std.specs.Int.{w32, from_be_bytes}
@@ -12,7 +13,8 @@ use Rattle.osc_pattern.specs.Methods.{Method}
 use Rattle.osc_message.specs.Reading.{pattern_of, is_message}
 use Rattle.osc_message.specs.Arguments.{unknown_of}
 use Rattle.osc_tree.specs.Matching.{matching}
-use Rattle.osc_model.specs.Events.{Event, enrol, submit, add, remove, tick, release, Answer, released, nothing_due, record_full, adds_entry, Entry, Hit, Invocation}
+use Rattle.osc_model.specs.Events.{Event, enrol, submit, add, remove, tick, release, Answer, released, nothing_due, record_full, adds_entry, Entry, Hit}
+use Rattle.osc_model.specs.Events.{Invocation}
 use Rattle.osc_model.specs.Events.{Call as Made}
 use Rattle.osc_model.specs.Recordings.{record_text, entry_text, hits_in, hits_text, IsHit, IsRecordable}
 use Rattle.osc_model.specs.State.{State, Queued, opening}
@@ -30,7 +32,8 @@ use Rattle.osc_core.specs.declared.answers.Releasing.{Releasing}
 use Rattle.osc_core.specs.declared.answers.Releasing.TheVariants as releasing
 use Rattle.osc_core.specs.declared.release.LastRelease.{LastRelease}
 use Rattle.osc_core.specs.Calls.{hit_by}
-use Rattle.osc_core.specs.Invoked.{is_release, last_from, last_invocations, Call, call_of, last_calls, starts_of, FindEach, message_at, call_at, hits_at, calls_in, SplitsHit}
+use Rattle.osc_core.specs.Invoked.{is_release, last_from, last_invocations, Call, call_of, last_calls, starts_of, FindEach, message_at, call_at, hits_at}
+use Rattle.osc_core.specs.Invoked.{calls_in, SplitsHit}
 use Rattle.osc_core.proofs.Firsts.{hits_by}
 use Rattle.osc_core.proofs.Played.{stays}
 use Rattle.osc_core.proofs.Storing.{message_small, message_again, rest_again, messages-framed, split_is}

@@ -1,5 +1,6 @@
 -- The units that wait: one alone, or those that are queued.
-use Rattle.std.proofs.Common.{◌≡◌, ℕ, ◌+◌, ◌<◌, ◌≤◌, IsTrue, nat_le, true, false, List, [], ◌∷◌, ◌++◌, append-nil, drop, length, slice_get, Option, Some, None, unwrap_or, is_some, max}
+use Rattle.std.proofs.Common.{◌≡◌, ℕ, ◌+◌, ◌<◌, ◌≤◌, IsTrue, nat_le, true, false, List, [], ◌∷◌, ◌++◌, append-nil, drop, length, slice_get, Option, Some, None}
+use Rattle.std.proofs.Common.{unwrap_or, is_some, max}
 use Rattle.std.proofs.Common.{refl, sym, ap, subst, ◌∙◌, arith}
 use Rattle.std.proofs.lemmas.Bool.Decides.{nat_tests}
 use Rattle.std.specs.List.{AllByRecursion, list_all}
@@ -19,7 +20,7 @@ use Rattle.osc_core.specs.Frames.{framed, messages_in, AreFramed}
 use Rattle.osc_core.specs.Stored.{unit_in, IsStored}
 use Rattle.osc_core.specs.Views.{queued_of, queue_of, AreKept, lone_of, waiting_units, IsAlone, MayBeAlone, BeginsWith, FirstIsDue, first_messages}
 use Rattle.osc_core.specs.declared.store.Stored.{Stored}
-use Rattle.osc_core.specs.declared.waiting.Lone.{Lone}
+use Rattle.osc_core.specs.declared.backlog.Lone.{Lone}
 use Rattle.osc_core.proofs.Storing.{length-framed, messages-framed}
 
 -- the numbers of the items are those of their units

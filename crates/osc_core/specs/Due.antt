@@ -21,7 +21,8 @@ pub record IsReleased (unit calls caller : ℕ) (old new : State)
   pub hits : List Hit
   pub due : IsDue old unit hits
   pub many : calls ≡ length hits
-  pub fits : length (recording_text before) + (release_head_size + 8 * calls) ≤ before.caps.recording
+  pub fits : length (recording_text before) + (release_head_size + 8 * calls)
+      ≤ before.caps.recording
   pub state : new ≡ (decided old release).state
   pub recorder : after
       ≡ with_hits (with_release before caller unit calls)

@@ -1,5 +1,6 @@
 -- What the last release invoked, and how its calls are told.
-use Rattle.std.specs.Prelude.{◌≡◌, ℕ, ◌+◌, ◌*◌, ◌<◌, ◌≤◌, Bool, true, false, if◌then◌else◌, List, [], ◌∷◌}
+use Rattle.std.specs.Prelude.{◌≡◌, ℕ, ◌+◌, ◌*◌, ◌<◌, ◌≤◌, Bool, true, false, if◌then◌else◌, List}
+use Rattle.std.specs.Prelude.{[], ◌∷◌}
 use Rattle.std.specs.Prelude.{length, map, take, drop, slice_index, refl, Option, Some, None}
 use Rattle.std.specs.Coded.{Coded, code_by, coded×, coded_ℕ, coded_list}
 use Rattle.std.specs.Int.{w32, from_be_bytes}
@@ -109,7 +110,8 @@ SplitsHit bytes (Some split) = (8 ≤ length bytes)
 -- a call is stored as the tuple of its parts
 abbrev call_code : Coded Call
 call_code =
-    code_by (ℕ × (ℕ × (ℕ × List ℕ))) (coded× coded_ℕ (coded× coded_ℕ (coded× coded_ℕ (coded_list coded_ℕ))))
+    code_by (ℕ × (ℕ × (ℕ × List ℕ)))
+    (coded× coded_ℕ (coded× coded_ℕ (coded× coded_ℕ (coded_list coded_ℕ))))
     (λ call. (call.unit, (call.index, (call.id, call.message))))
     (λ p. record { unit = p.0; index = p.1.0; id = p.1.1.0; message = p.1.1.1 }) (λ _. refl)
 

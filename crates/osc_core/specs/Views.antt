@@ -13,8 +13,8 @@ use Rattle.osc_model.specs.Counts.{queued_blocks}
 use Rattle.osc_model.specs.Step.{is_kept, waiting}
 use Rattle.osc_model.specs.declared.late.Late.{Late}
 use Rattle.osc_core.specs.declared.store.Stored.{Stored}
-use Rattle.osc_core.specs.declared.waiting.Lone.{Lone}
-use Rattle.osc_core.specs.declared.waiting.Waiting.{Waiting}
+use Rattle.osc_core.specs.declared.backlog.Lone.{Lone}
+use Rattle.osc_core.specs.declared.backlog.Backlog.{Backlog}
 use Rattle.osc_core.specs.Frames.{messages_in, AreFramed}
 use Rattle.osc_core.specs.Stored.{unit_in, AreStored}
 
@@ -51,7 +51,7 @@ abbrev pub waiting_units : Option Lone → List ℕ → List (List ℕ) → List
 waiting_units (Some lone) bytes held items = lone_of lone bytes ∷ []
 waiting_units None bytes held items = queue_of held items
 
-abbrev pub units_of : Waiting → List Queued
+abbrev pub units_of : Backlog → List Queued
 units_of w = waiting_units w.lone w.bytes.items w.store w.queue.items
 
 -- a unit that waits alone takes a place and a block, which are there, and none is queued
@@ -68,13 +68,13 @@ MayBeAlone (Some lone) bytes items places blocks = IsAlone bytes items places bl
 MayBeAlone None bytes items places blocks = Unit {0}
 
 -- what holds the units that wait fits together, and there is room for the messages of one
-pub record AreWaiting (w : Waiting) : Type 0 where
+pub record AreWaiting (w : Backlog) : Type 0 where
   pub kept : AreKept w.store w.queue.items
   pub alone : MayBeAlone w.lone w.bytes.items w.queue.items w.queue.limit (length w.store)
   pub room : MAX_STORED ≤ vec_capacity w.bytes
 
 -- no unit waits, and there are a place and a block for one
-pub record IsUnused (w : Waiting) : Type 0 where
+pub record IsUnused (w : Backlog) : Type 0 where
   pub lone : w.lone ≡ None
   pub none : w.queue.items ≡ []
   pub place : 0 < w.queue.limit
@@ -82,7 +82,7 @@ pub record IsUnused (w : Waiting) : Type 0 where
 
 -- the only unit of a packet is kept, and waits alone under this number
 pub record StandsAlone (late : Late) (clock number : ℕ) (units : List TimedUnit)
-    (old new : Waiting) : Type 0 where
+    (old new : Backlog) : Type 0 where
   pub unused : IsUnused old
   pub unit : TimedUnit
   pub only : units ≡ unit ∷ []
@@ -106,7 +106,7 @@ first_messages [] = []
 first_messages (first ∷ others) = first.2.messages
 
 -- the parts of a server fit together
-pub record IsRunning (tree : Registry) (hits : HitList) (waiting : Waiting)
+pub record IsRunning (tree : Registry) (hits : HitList) (waiting : Backlog)
     (next_id next_unit callers caller_limit : ℕ) : Type 0 where
   pub methods : AreRegistered tree hits next_id
   pub units : AreWaiting waiting

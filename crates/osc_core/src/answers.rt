@@ -41,8 +41,8 @@ impl Enrolled {
 /// What a submit is answered.
 #[derive(Clone, Copy, Debug, PartialEq, Eq)]
 pub enum Submitted {
-    /// So many units were numbered, the first of which has this number. All wait but `late` of them, which are late
-    /// and aren't kept.
+    /// So many units were numbered, the first of which has this number. All wait but `late` of
+    /// them, which are late and aren't kept.
     Queued { first: u64, count: u32, late: u32 },
     /// The entry has more bytes than the recording has left.
     RecordFull(Room),
@@ -173,9 +173,11 @@ impl Ticking {
 pub enum Releasing {
     /// The unit with this number left the queue, and made so many calls.
     Released { unit: u64, calls: u32 },
-    /// No unit is due. `next` is the least due moment in the queue, `None` where the queue is empty.
+    /// No unit is due. `next` is the least due moment in the queue, `None` where the queue is
+    /// empty.
     NothingDue { next: Option<u64> },
-    /// The entry has more bytes than the recording has left: the unit stays queued, and no box is called.
+    /// The entry has more bytes than the recording has left: the unit stays queued, and no box is
+    /// called.
     RecordFull(Room),
 }
 

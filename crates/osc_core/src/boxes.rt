@@ -82,8 +82,8 @@ fn invoke<M: Method>(boxed: &mut (u32, M), call: &Call<'_>)
     boxed.1.invoke(call);
 }
 
-/// The place of the id among the boxes. It is first looked for at the place of that number, where the ids of the
-/// methods added stand until one is removed.
+/// The place of the id among the boxes. It is first looked for at the place of that number, where
+/// the ids of the methods added stand until one is removed.
 pub(crate) fn place_of<M>(boxes: &[(u32, M)], id: u32) -> Option<usize>
     requires { IsTrue (is_ascending (map (λ one. one.0) boxes.now)) }
     ensures { IsPlaceOf result id (map (λ one. one.0) boxes.now) }

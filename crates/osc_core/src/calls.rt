@@ -24,11 +24,12 @@ use osc_method::{Call, Method as Called};
 use osc_record::{Recorder, release_size};
 use osc_tree::{Hits, Tree};
 
-/// How many numbers are kept of what a unit's messages call: for each of them how many methods, and their ids.
+/// How many numbers are kept of what a unit's messages call: for each of them how many methods, and
+/// their ids.
 pub(crate) const MAX_KEPT: usize = 16_384;
 
-/// Records the release of a unit, and makes the calls of its messages in order. Where the recording has no room for the
-/// entry, it tells how much the entry needs, and all stays.
+/// Records the release of a unit, and makes the calls of its messages in order. Where the recording
+/// has no room for the entry, it tells how much the entry needs, and all stays.
 pub(crate) fn release_unit<M: Called>(
     tree: &Tree,
     hits: &mut Hits,
@@ -59,7 +60,8 @@ pub(crate) fn release_unit<M: Called>(
     ensures limit { hits.new.limit ≡ hits.old.limit }
 {
     let Some(message) = messages.only() else {
-        // The methods of several messages are found to be counted, and kept to be called as far as there is room.
+        // The methods of several messages are found to be counted, and kept to be called as far as
+        // there is room.
         let count = count_calls(tree, hits, kept, messages.again());
         let calls = start_release(recorder, caller, unit, count)?;
         invoke_unit(tree, hits, kept, unit, messages, recorder, boxes);
@@ -84,8 +86,8 @@ fn start_release(recorder: &mut Recorder, caller: u32, unit: u64, calls: u64) ->
     requires whole { recorder.old.begun ≡ None }
     requires small { recorder.old.caps.recording < 2 ^ 32 }
     ensures count { IfOk result (λ count. count ≡ calls) }
-    ensures fits { OnOk result (length (recording_text recorder.old) + (release_head_size + 8 * calls)
-        ≤ recorder.old.caps.recording) }
+    ensures fits { OnOk result (length (recording_text recorder.old)
+        + (release_head_size + 8 * calls) ≤ recorder.old.caps.recording) }
     ensures begun { OnOk result (recorder.new ≡ with_release recorder.old caller unit calls) }
     ensures full { IfErr result
         (λ room. TellsRoom (Some room) recorder.old (release_head_size + 8 * calls)) }
@@ -99,7 +101,8 @@ fn start_release(recorder: &mut Recorder, caller: u32, unit: u64, calls: u64) ->
     Ok(calls)
 }
 
-/// How many calls the messages make. What they call is kept, from the first message on, as long as there is room.
+/// How many calls the messages make. What they call is kept, from the first message on, as long as
+/// there is room.
 fn count_calls(tree: &Tree, hits: &mut Hits, kept: &mut Vec<u32>, messages: Messages<'_>) -> u64
     requires limit { tree.now.method_limit ≤ hits.old.limit }
     requires few { length messages < 2 ^ 32 }
@@ -205,8 +208,8 @@ fn invoke_unit<M: Called>(
     }
 }
 
-/// Makes the calls of one message, and hands back what is kept of the others. Where nothing is kept of it, its methods
-/// are found again.
+/// Makes the calls of one message, and hands back what is kept of the others. Where nothing is kept
+/// of it, its methods are found again.
 fn invoke_message<'a, M: Called>(
     tree: &Tree,
     hits: &mut Hits,

@@ -1,10 +1,11 @@
-//! The sequential server: methods by address with their boxes, a queue of units, a clock and callers, what a release
-//! invokes, and the recording of it all (docs/SERVER.md).
+//! The sequential server: methods by address with their boxes, a queue of units, a clock and
+//! callers, what a release invokes, and the recording of it all (docs/SERVER.md).
 //!
 //! Each call answers what the rules of `osc_model` give, and leaves the state that they give.
 #![tactic(auto)]
 
 mod answers;
+mod backlog;
 mod boxes;
 mod called;
 mod calls;
@@ -20,7 +21,6 @@ mod shortage;
 mod standing;
 mod store;
 mod units;
-mod waiting;
 
 pub use answers::{AddRefusal, Adding, Closed, Enrolled, Releasing, Removing, Submitted, Ticking};
 pub use called::{Called, Calls};

@@ -11,7 +11,8 @@ ghost use Rattle.osc_model.specs.Refusals.{IsRefusal};
 ghost use Rattle.osc_model.specs.History.{IsLawful, Legal, state_of, stepped_in, onward};
 ghost use Rattle.osc_record.specs.Shown.{event_of, answer_of};
 ghost use Rattle.osc_core.specs.Answers.{enrolled_of, submitted_of, refusal_of, removing_of};
-ghost use Rattle.osc_core.specs.Answers.{ticking_of, OnRemoved, TellsRelease, OnReleased, OnWaiting};
+ghost use Rattle.osc_core.specs.Answers.{ticking_of, OnRemoved, TellsRelease, OnReleased};
+ghost use Rattle.osc_core.specs.Answers.{OnWaiting};
 ghost use Rattle.osc_core.specs.Frames.{messages_in, AreFramed};
 ghost use Rattle.osc_packet.specs.declared.limits.TheConstants.{MAX_STORED};
 ghost use Rattle.osc_model.specs.Step.{calls_from, invocations_of};
@@ -34,9 +35,11 @@ use osc_record::{
 use std::alloc::{AllocError, Global};
 use std::marker::Model;
 
-/// A server's tables, and the recording of what was handed in and answered. A contract sees the limits and the history.
+/// A server's tables, and the recording of what was handed in and answered. A contract sees the
+/// limits and the history.
 ///
-/// Where the entry of an event has more bytes than are free, all stays. No call but `open` takes memory.
+/// Where the entry of an event has more bytes than are free, all stays. No call but `open` takes
+/// memory.
 #[derive(Drop)]
 pub(crate) struct Performance {
     server: Server,

@@ -15,9 +15,9 @@ ghost use Rattle.osc_core.specs.Playing.{performance_of};
 use osc_model::laws;
 use osc_record::laws as recordings;
 
-/// The numbers of a server that is played and recorded are small. Where there is no room for an event's entry, all
-/// stays; else the event is answered by the server's rules, and its entry can be appended. An event that is refused
-/// leaves the tables.
+/// The numbers of a server that is played and recorded are small. Where there is no room for an
+/// event's entry, all stays; else the event is answered by the server's rules, and its entry can be
+/// appended. An event that is refused leaves the tables.
 pub(crate) fn a_performance_is_played()
     ensures small { (server : State) (recorder : Recording) (entries : ℕ)
         → IsPlaying server recorder entries → AreSmall server entries }
@@ -48,8 +48,8 @@ pub(crate) fn a_performance_is_played()
     recordings::sizes();
 }
 
-/// An event that doesn't speak of methods leaves them, and what their boxes have heard; and so does each that is
-/// refused.
+/// An event that doesn't speak of methods leaves them, and what their boxes have heard; and so does
+/// each that is refused.
 pub(crate) fn boxes_stay()
     ensures quiet { (performance : Performance) (caller : ℕ) (event : Event) (boxes : List Told)
         → IsQuiet event → HaveHeard performance boxes

@@ -14,10 +14,10 @@ use osc_pattern::Address;
 use osc_record::{Entry, Event};
 
 impl<M: Method> Core<M> {
-    /// Plays an entry of a history again, on the server after the entries before it. With a method that was added its
-    /// address and a box are handed in, with one that was removed its address, and nothing else. A box that is handed
-    /// in is reset and kept, the boxes of a release are invoked, and a removed one comes out. It can't be refused, and
-    /// takes no memory.
+    /// Plays an entry of a history again, on the server after the entries before it. With a method
+    /// that was added its address and a box are handed in, with one that was removed its address,
+    /// and nothing else. A box that is handed in is reset and kept, the boxes of a release are
+    /// invoked, and a removed one comes out. It can't be refused, and takes no memory.
     pub fn redo(
         &mut self,
         entry: &Entry<'_>,

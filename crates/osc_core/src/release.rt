@@ -41,7 +41,8 @@ impl LastRelease {
         })
     }
 
-    /// The release of a unit whose messages are there, with so many calls, ends a recording of so many bytes.
+    /// The release of a unit whose messages are there, with so many calls, ends a recording of so
+    /// many bytes.
     pub(crate) fn note(&mut self, unit: u64, calls: u32, recorded: usize)
         requires framed { AreFramed self.old.bytes.items }
         requires room { MAX_STORED ≤ 4 * vec_capacity self.old.starts }

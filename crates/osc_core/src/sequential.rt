@@ -39,12 +39,13 @@ use osc_pattern::Address;
 use osc_record::{Answer, Caps, Event};
 use std::alloc::{AllocError, Global};
 
-/// Methods by address with their boxes, units that wait for their moment, a clock and callers (OSC 1.0, "OSC Message
-/// Dispatching and Pattern Matching" and "Temporal Semantics and OSC Time Tags"), and the recording of all that was
-/// handed in and answered. Caller 0 is enrolled from the start.
+/// Methods by address with their boxes, units that wait for their moment, a clock and callers (OSC
+/// 1.0, "OSC Message Dispatching and Pattern Matching" and "Temporal Semantics and OSC Time Tags"),
+/// and the recording of all that was handed in and answered. Caller 0 is enrolled from the start.
 ///
-/// A contract sees its limits and its history as `performance`, and what each of its boxes keeps and tells. All
-/// memory is taken at opening. Where a call is answered `RecordFull`, all is as it was.
+/// A contract sees its limits and its history as `performance`, and what each of its boxes keeps
+/// and tells. All memory is taken at opening. Where a call is answered `RecordFull`, all is as it
+/// was.
 #[derive(Drop)]
 pub struct Core<M: Method> {
     performance: Performance,
@@ -65,7 +66,8 @@ pub struct Core<M: Method> {
 }
 
 impl<M: Method> Core<M> {
-    /// A server with these limits. Its clock stands at 1. The `Err` means that there is no memory for its tables.
+    /// A server with these limits. Its clock stands at 1. The `Err` means that there is no memory
+    /// for its tables.
     pub fn open(alloc: Global, caps: Caps) -> Result<Core<M>, AllocError>
         ensures performance { IfOk result
             (λ core. core.performance ≡ record { caps = caps; history = [] }) }
@@ -206,9 +208,9 @@ impl<M: Method> Core<M> {
         self.performance.tick(caller, now)
     }
 
-    /// Takes the unit that is least by due moment and number, if it is due, and invokes for each of its messages in
-    /// order each method that its pattern matches, in ascending order of the address. The calls are counted first:
-    /// where the entry has no room, no box is called.
+    /// Takes the unit that is least by due moment and number, if it is due, and invokes for each of
+    /// its messages in order each method that its pattern matches, in ascending order of the
+    /// address. The calls are counted first: where the entry has no room, no box is called.
     pub fn release(&mut self, caller: u32) -> Releasing
         requires { caller < (state_of self.old.performance).callers }
         ensures answer { TellsRelease result (stepped_in self.old.performance release).answer }
@@ -269,8 +271,8 @@ impl<M: Method> Core<M> {
         self.performance.clock()
     }
 
-    /// The moment of the unit that a release takes next, once the clock stands there: the least of those that wait, or
-    /// `None` where none waits.
+    /// The moment of the unit that a release takes next, once the clock stands there: the least of
+    /// those that wait, or `None` where none waits.
     pub fn due(&self) -> Option<u64>
         ensures { IsLeastDue (state_of self.now.performance).queue result }
     {
@@ -302,7 +304,8 @@ impl<M: Method> Core<M> {
         self.calls_from(0)
     }
 
-    /// Those of them from this one on, counted from 0. So a host that keeps no `Calls` reads them one by one.
+    /// Those of them from this one on, counted from 0. So a host that keeps no `Calls` reads them
+    /// one by one.
     pub fn calls_from(&self, first: u32) -> Calls<'_>
         ensures { calls_left result ≡ drop first (last_calls self.now.performance) }
     {

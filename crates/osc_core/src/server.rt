@@ -23,9 +23,9 @@ ghost use Rattle.osc_core.specs.Frames.{messages_in, AreFramed};
 ghost use Rattle.osc_core.specs.Playing.{tables};
 
 use crate::answers::{Enrolled, Releasing, Removing, Submitted, Ticking};
+use crate::backlog::Backlog;
 use crate::calls::{MAX_KEPT, release_unit};
 use crate::messages::Messages;
-use crate::waiting::Waiting;
 use osc_atoms::Room;
 use osc_method::Method;
 use osc_model::{Late, Need, need_of};
@@ -36,8 +36,8 @@ use osc_tree::{Hits, Tree, TreeRefusal};
 use std::alloc::{AllocError, Global};
 use std::marker::Model;
 
-/// The methods' addresses, the units with their messages, the clock and the numbers that are given next. A contract
-/// sees the server's state, in which nothing is recorded.
+/// The methods' addresses, the units with their messages, the clock and the numbers that are given
+/// next. A contract sees the server's state, in which nothing is recorded.
 #[derive(Drop)]
 pub(crate) struct Server {
     tree: Tree,
@@ -45,7 +45,7 @@ pub(crate) struct Server {
     /// What the messages of the unit that is released call.
     kept: Vec<u32>,
     /// The units that are not released yet.
-    waiting: Waiting,
+    waiting: Backlog,
     clock: u64,
     next_id: u32,
     next_unit: u64,
@@ -95,7 +95,7 @@ impl Server {
             tree: Tree::open(alloc, caps.methods(), caps.nodes())?,
             hits: Hits::open(alloc, caps.methods())?,
             kept: Vec::with_capacity(alloc, MAX_KEPT)?,
-            waiting: Waiting::open(alloc, caps.units(), caps.blocks())?,
+            waiting: Backlog::open(alloc, caps.units(), caps.blocks())?,
             clock: 1,
             next_id: 0,
             next_unit: 0,
@@ -237,8 +237,8 @@ impl Server {
         Ticking::Ticked
     }
 
-    /// Takes the first unit, if it is due, and makes the calls of its messages, each of which is recorded and then
-    /// made. Where the recording has no room for the entry, all stays.
+    /// Takes the first unit, if it is due, and makes the calls of its messages, each of which is
+    /// recorded and then made. Where the recording has no room for the entry, all stays.
     pub(crate) fn release<M: Method>(
         &mut self,
         caller: u32,

@@ -1,4 +1,5 @@
-// What the server stands for, where a turn keeps it: the texts of its entries, with the marks of its boxes.
+// What the server stands for, where a turn keeps it: the texts of its entries, with the marks of
+// its boxes.
 ghost use Rattle.std.specs.Prelude.{◌≡◌, ◌<◌, ℕ, List, [], ◌∷◌, ◌++◌};
 ghost use Rattle.osc_turn.specs.Jobs.{StandsNext};
 ghost use Rattle.osc_model.specs.Events.{Event, added, adds_entry, Invocation};
@@ -13,8 +14,8 @@ use osc_model::laws;
 use osc_record::laws as recordings;
 use osc_turn::Kept;
 
-/// A server that stood for texts stands, after a caller's event, for one text more where the event adds an entry, and
-/// else for the same texts, as long as its boxes have heard the history.
+/// A server that stood for texts stands, after a caller's event, for one text more where the event
+/// adds an entry, and else for the same texts, as long as its boxes have heard the history.
 pub(crate) fn a_server_stands_for_more()
     ensures same { (performance : Performance) (caller : ℕ) (event : Event) (boxes : List Told)
         (texts : List (List ℕ)) → StandsFor performance boxes texts

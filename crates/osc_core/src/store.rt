@@ -29,7 +29,8 @@ pub(crate) struct Stored {
 /// The most bytes of a message that stands in a block beside its length.
 pub(crate) const MOST_BESIDE: usize = 60;
 
-/// Blocks of 64 bytes, in which the messages of units are chains. A contract sees what a pool holds.
+/// Blocks of 64 bytes, in which the messages of units are chains. A contract sees what a pool
+/// holds.
 ///
 /// No call but `open` takes memory.
 #[derive(Drop)]

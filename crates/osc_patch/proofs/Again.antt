@@ -1,6 +1,7 @@
 -- Each line that is written is read as its form.
 use Rattle.osc_patch.specs.declared.patch.TheConstants.{MAX_PATCH}
-use Rattle.std.proofs.Common.{◌≡◌, ◌∙◌, ℕ, ◌+◌, ◌<◌, ◌≤◌, ◌^◌, ◌&&◌, true, false, cond, nat_lt, List, [], ◌∷◌, ◌++◌, map, length, take, filter, Option, Some, None, Ok, Err, refl, ap, ap₂, arith, one-add, append_assoc, codes, decimal, IfSome}
+use Rattle.std.proofs.Common.{◌≡◌, ◌∙◌, ℕ, ◌+◌, ◌<◌, ◌≤◌, ◌^◌, ◌&&◌, true, false, cond, nat_lt, List, [], ◌∷◌, ◌++◌, map, length, take, filter, Option, Some}
+use Rattle.std.proofs.Common.{None, Ok, Err, refl, ap, ap₂, arith, one-add, append_assoc, codes, decimal, IfSome}
 use Rattle.std.specs.List.{AllByRecursion, list_all, slice_split, prefix_len, take_while}
 use Rattle.std.specs.Str.Parse.{digits_value}
 use Rattle.std.proofs.lemmas.Bool.{le-ltb, lt-ltb}
@@ -11,7 +12,7 @@ use Rattle.std.proofs.lemmas.Fmt.{digits_decimal, digits_value-decimal}
 use Rattle.osc_pattern.specs.Addresses.{is_address}
 use Rattle.osc_patch.specs.declared.fault.PatchError.TheVariants.{TooLong}
 use Rattle.osc_patch.specs.declared.fault.Fault.TheVariants.{Host}
-use Rattle.osc_patch.specs.declared.reading.Reading.{Reading}
+use Rattle.osc_patch.specs.declared.draft.Draft.{Draft}
 use Rattle.osc_patch.specs.Words.{is_blank, is_line_feed, is_word, is_said, words_of, lines_of}
 use Rattle.osc_patch.specs.Hosts.{is_host, port_of, within_ports}
 use Rattle.osc_patch.specs.Entries.{address_of, host_of, port_at, port_or, and_then, wrong_line, address_fault, operands_say, words_say, line_says}
@@ -110,7 +111,7 @@ lines_are (form ∷ forms) all =
     ∙ slice_split_at is_line_feed (form_text form) 10 (written forms) (no_feeds (form_text form) inside) refl
     ∙ ap (λ l. form_text form ∷ l) (lines_are forms all.1)
 
-all_settled : (limit number : ℕ) (reading : Reading) (forms : List Form) → AllByRecursion IsForm forms
+all_settled : (limit number : ℕ) (reading : Draft) (forms : List Form) → AllByRecursion IsForm forms
     → read_from limit number reading (map form_text forms ++ [] ∷ []) ≡ settled_all limit number reading forms
 all_settled limit number reading [] all = refl
 all_settled limit number reading (form ∷ forms) all =

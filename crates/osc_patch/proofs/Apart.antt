@@ -1,5 +1,6 @@
 -- The addresses of a patch differ, and none lies under another.
-use Rattle.std.proofs.Common.{◌≡◌, ◌≢◌, ℕ, ◌+◌, ◌<◌, ◌≤◌, ◌||◌, ◌==◌, Bool, true, false, cond, nat_le, nat_lt, rules, List, [], ◌∷◌, ◌++◌, length, find, Option, Some, None, Result, Ok, Err, IfOk, refl, sym, ap, subst, arith, length-append}
+use Rattle.std.proofs.Common.{◌≡◌, ◌≢◌, ℕ, ◌+◌, ◌<◌, ◌≤◌, ◌||◌, ◌==◌, Bool, true, false, cond, nat_le, nat_lt, rules, List, [], ◌∷◌, ◌++◌, length, find, Option}
+use Rattle.std.proofs.Common.{Some, None, Result, Ok, Err, IfOk, refl, sym, ap, subst, arith, length-append}
 use Rattle.std.specs.Str.{bytes_eq}
 use Rattle.std.specs.List.{AllPairs, AllByRecursion}
 use Rattle.std.proofs.lemmas.Bool.{leb-false}
@@ -17,11 +18,12 @@ use Rattle.osc_patch.specs.declared.fault.PatchError.{PatchError}
 use Rattle.osc_patch.specs.declared.fault.PatchError.TheVariants.{TooLong}
 use Rattle.osc_patch.specs.declared.entry.Entry.{Entry}
 use Rattle.osc_patch.specs.declared.method.PatchMethod.{PatchMethod}
-use Rattle.osc_patch.specs.declared.reading.Reading.{Reading}
+use Rattle.osc_patch.specs.declared.draft.Draft.{Draft}
 use Rattle.osc_patch.specs.Answers.{Reads}
 use Rattle.osc_patch.specs.Words.{lines_of}
 use Rattle.osc_patch.specs.Entries.{line_says}
-use Rattle.osc_patch.specs.Patches.{is_at, is_nested, with_route, clash, clash_with, refused, entered, settled, after_line, read_from, unread, outcome, outcome_of, patch_of, IsApart, ArePatched, addresses_of}
+use Rattle.osc_patch.specs.Patches.{is_at, is_nested, with_route, clash, clash_with, refused, entered, settled, after_line, read_from, unread, outcome}
+use Rattle.osc_patch.specs.Patches.{outcome_of, patch_of, IsApart, ArePatched, addresses_of}
 
 -- The addresses with an entry more.
 
@@ -101,19 +103,19 @@ kept_with limit methods entry (Some method) kept found clear = subst (Kept limit
 kept_with limit methods entry None kept found clear =
     kept_new limit methods entry (find (is_nested entry.address) methods) kept found refl clear
 
-kept_entry : (limit : ℕ) (reading : Reading) (entry : Entry) (fault : Option Fault) → Kept limit (addresses_of reading.methods)
+kept_entry : (limit : ℕ) (reading : Draft) (entry : Entry) (fault : Option Fault) → Kept limit (addresses_of reading.methods)
     → clash limit reading.methods entry ≡ fault → Kept limit (addresses_of (settled reading entry fault).methods)
 kept_entry limit reading entry (Some fault) kept is = kept
 kept_entry limit reading entry None kept is =
     kept_with limit reading.methods entry (find (is_at entry.address) reading.methods) kept refl is
 
-kept_line : (limit : ℕ) (reading : Reading) (said : Result (Option Entry) WrongLine) → Kept limit (addresses_of reading.methods)
+kept_line : (limit : ℕ) (reading : Draft) (said : Result (Option Entry) WrongLine) → Kept limit (addresses_of reading.methods)
     → Kept limit (addresses_of (after_line limit reading said).methods)
 kept_line limit reading (Ok None) kept = kept
 kept_line limit reading (Ok (Some entry)) kept = kept_entry limit reading entry (clash limit reading.methods entry) kept refl
 kept_line limit reading (Err line) kept = kept
 
-kept_from : (limit number : ℕ) (reading : Reading) (texts : List (List ℕ)) → Kept limit (addresses_of reading.methods)
+kept_from : (limit number : ℕ) (reading : Draft) (texts : List (List ℕ)) → Kept limit (addresses_of reading.methods)
     → Kept limit (addresses_of (read_from limit number reading texts).methods)
 kept_from limit number reading [] kept = kept
 kept_from limit number reading (text ∷ texts) kept =
@@ -146,10 +148,10 @@ patched_read limit bytes (Ok methods) reads = subst (λ r. IfOk r (ArePatched li
 patched_read limit bytes (Err fault) reads = tt
 
 -- what is answered where there are methods and no wrong line
-pub read_is : (limit : ℕ) (bytes : List ℕ) (reading : Reading) (methods : List PatchMethod) → reading ≡ read_from limit 1 unread (lines_of bytes)
+pub read_is : (limit : ℕ) (bytes : List ℕ) (reading : Draft) (methods : List PatchMethod) → reading ≡ read_from limit 1 unread (lines_of bytes)
     → methods ≡ reading.methods → (length methods == 0) ≡ false → ArePatched limit reading.methods
 read_is limit bytes reading methods is same some =
-    let kept = subst (λ (r : Reading). Kept limit (addresses_of r.methods)) (sym is) (kept_from limit 1 unread (lines_of bytes) (nothing limit)) in
+    let kept = subst (λ (r : Draft). Kept limit (addresses_of r.methods)) (sym is) (kept_from limit 1 unread (lines_of bytes) (nothing limit)) in
     record {
       some = omega (arith, ap length same, some_if (length methods) some);
       few = omega (arith, kept.few, length-map reading.methods (λ (method : PatchMethod). method.address));

@@ -1,5 +1,6 @@
 -- Hosts of digits and dots are IPv4 addresses.
-use Rattle.std.proofs.Common.{◌≡◌, ◌∙◌, ℕ, ◌<◌, ◌==◌, ◌^◌, ◌&&◌, ◌||◌, not, Bool, true, false, nat_lt, List, [], ◌∷◌, ◌++◌, length, All, refl, sym, ap, arith, decimal, append_assoc}
+use Rattle.std.proofs.Common.{◌≡◌, ◌∙◌, ℕ, ◌<◌, ◌==◌, ◌^◌, ◌&&◌, ◌||◌, not, Bool, true, false, nat_lt, List, [], ◌∷◌, ◌++◌, length, All, refl, sym, ap, arith}
+use Rattle.std.proofs.Common.{decimal, append_assoc}
 use Rattle.std.proofs.Common.{slice_index, slice_index_or, inl, inr, Result, Ok, Err, is_ok}
 use Rattle.std.specs.List.{slice_split, list_all, join_with_byte}
 use Rattle.std.specs.Char.{is_ascii_digit}

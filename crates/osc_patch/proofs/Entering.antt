@@ -1,5 +1,6 @@
 -- An entry at the place of its method, or after all methods.
-use Rattle.std.proofs.Common.{◌≡◌, ◌∙◌, ℕ, suc, ◌+◌, ◌<◌, ◌≤◌, Bool, true, false, not, cond, nat_lt, List, [], ◌∷◌, ◌++◌, length, get_or, set, position, Some, None, refl, sym, ap, arith, one-add}
+use Rattle.std.proofs.Common.{◌≡◌, ◌∙◌, ℕ, suc, ◌+◌, ◌<◌, ◌≤◌, Bool, true, false, not, cond, nat_lt, List, [], ◌∷◌, ◌++◌, length, get_or, set, position, Some}
+use Rattle.std.proofs.Common.{None, refl, sym, ap, arith, one-add}
 use Rattle.std.proofs.Common.{Result, Ok, Err, OnOk, option_to_list}
 use Rattle.std.specs.List.{position_or_len}
 use Rattle.std.proofs.lemmas.Bool.{ltb-false, ltb-true}

@@ -1,5 +1,6 @@
 -- Words of plain bytes: none is a blank, ends a line or begins a comment.
-use Rattle.std.proofs.Common.{◌≡◌, ℕ, zero, suc, ◌-◌, ◌<◌, ◌==◌, ◌^◌, Bool, true, false, cond, nat_lt, nat_eq, nat_le, not, ◌&&◌, ◌||◌, List, [], ◌∷◌, length, take, drop, Some, refl, ap, ap₂, arith}
+use Rattle.std.proofs.Common.{◌≡◌, ℕ, zero, suc, ◌-◌, ◌<◌, ◌==◌, ◌^◌, Bool, true, false, cond, nat_lt, nat_eq, nat_le, not, ◌&&◌, ◌||◌, List, [], ◌∷◌, length}
+use Rattle.std.proofs.Common.{take, drop, Some, refl, ap, ap₂, arith}
 use Rattle.std.proofs.Common.{slice_index_or, codes, decimal, find, is_none}
 use Rattle.std.specs.List.{All, list_all, list_any, slice_split, onto_first}
 use Rattle.std.specs.Char.{is_ascii_digit}

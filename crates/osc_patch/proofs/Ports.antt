@@ -1,5 +1,6 @@
 -- What the digits of a port are read as.
-use Rattle.std.proofs.Common.{◌≡◌, ℕ, ◌<◌, ◌^◌, ◌&&◌, Bool, true, false, cond, nat_lt, List, [], ◌∷◌, length, rules, Result, Err, Some, None, refl, arith, slice_index_or}
+use Rattle.std.proofs.Common.{◌≡◌, ℕ, ◌<◌, ◌^◌, ◌&&◌, Bool, true, false, cond, nat_lt, List, [], ◌∷◌, length, rules, Result, Err, Some, None, refl, arith}
+use Rattle.std.proofs.Common.{slice_index_or}
 use Rattle.std.specs.Char.{is_ascii_digit}
 use Rattle.std.specs.Result.{OkIff}
 use Rattle.std.specs.Str.Parse.{digits_value, ParsesUnsigned}

@@ -1,6 +1,7 @@
 -- Each line that is wrong by itself is told.
 use Rattle.osc_patch.specs.declared.patch.TheConstants.{MAX_PATCH}
-use Rattle.std.proofs.Common.{◌≡◌, ◌∙◌, ℕ, suc, ◌+◌, ◌≤◌, Bool, true, false, cond, nat_lt, List, [], ◌∷◌, ◌++◌, length, Option, Some, None, Result, Ok, Err, refl, sym, ap, subst, arith, append_assoc}
+use Rattle.std.proofs.Common.{◌≡◌, ◌∙◌, ℕ, suc, ◌+◌, ◌≤◌, Bool, true, false, cond, nat_lt, List, [], ◌∷◌, ◌++◌, length, Option, Some, None, Result, Ok, Err}
+use Rattle.std.proofs.Common.{refl, sym, ap, subst, arith, append_assoc}
 use Rattle.std.proofs.lemmas.Bool.{le-ltb}
 use Rattle.std.proofs.lemmas.List.{append-nil}
 use Rattle.osc_patch.specs.declared.fault.Fault.{Fault}
@@ -9,7 +10,7 @@ use Rattle.osc_patch.specs.declared.fault.PatchError.{PatchError}
 use Rattle.osc_patch.specs.declared.fault.PatchError.TheVariants.{TooLong, Lines}
 use Rattle.osc_patch.specs.declared.entry.Entry.{Entry}
 use Rattle.osc_patch.specs.declared.method.PatchMethod.{PatchMethod}
-use Rattle.osc_patch.specs.declared.reading.Reading.{Reading}
+use Rattle.osc_patch.specs.declared.draft.Draft.{Draft}
 use Rattle.osc_patch.specs.Words.{lines_of}
 use Rattle.osc_patch.specs.Entries.{wrong_line, line_says}
 use Rattle.osc_patch.specs.Patches.{clash, settled, with_wrong, after_line, read_from, unread, outcome, outcome_of, patch_of}
@@ -28,16 +29,16 @@ joined first second third one two = record {
   is = two.is ∙ ap (λ l. l ++ two.more) one.is ∙ append_assoc first one.more two.more;
 }
 
-settled_grows : (reading : Reading) (entry : Entry) (fault : Option Fault) → Grows reading.wrong (settled reading entry fault).wrong
+settled_grows : (reading : Draft) (entry : Entry) (fault : Option Fault) → Grows reading.wrong (settled reading entry fault).wrong
 settled_grows reading entry None = stays reading.wrong
 settled_grows reading entry (Some fault) = record { more = wrong_line entry.line fault entry.address ∷ []; is = refl }
 
-line_grows : (limit : ℕ) (reading : Reading) (said : Result (Option Entry) WrongLine) → Grows reading.wrong (after_line limit reading said).wrong
+line_grows : (limit : ℕ) (reading : Draft) (said : Result (Option Entry) WrongLine) → Grows reading.wrong (after_line limit reading said).wrong
 line_grows limit reading (Ok None) = stays reading.wrong
 line_grows limit reading (Ok (Some entry)) = settled_grows reading entry (clash limit reading.methods entry)
 line_grows limit reading (Err line) = record { more = line ∷ []; is = refl }
 
-grows : (limit number : ℕ) (reading : Reading) (texts : List (List ℕ)) → Grows reading.wrong (read_from limit number reading texts).wrong
+grows : (limit number : ℕ) (reading : Draft) (texts : List (List ℕ)) → Grows reading.wrong (read_from limit number reading texts).wrong
 grows limit number reading [] = stays reading.wrong
 grows limit number reading (text ∷ texts) =
     let next = after_line limit reading (line_says number text) in
@@ -50,7 +51,7 @@ record Tells (line : WrongLine) (lines : List WrongLine) : Type 0 where
   rest : List WrongLine
   is : lines ≡ front ++ line ∷ rest
 
-here : (limit number : ℕ) (reading : Reading) (text : List ℕ) (after : List (List ℕ)) (line : WrongLine) → line_says number text ≡ Err line
+here : (limit number : ℕ) (reading : Draft) (text : List ℕ) (after : List (List ℕ)) (line : WrongLine) → line_says number text ≡ Err line
     → Tells line (read_from limit number reading (text ∷ after)).wrong
 here limit number reading text after line says =
     let more = grows limit (number + 1) (with_wrong reading line) after in
@@ -60,7 +61,7 @@ here limit number reading text after line says =
       is = ap (λ r. (read_from limit (number + 1) (after_line limit reading r) after).wrong) says ∙ more.is ∙ append_assoc reading.wrong (line ∷ []) more.more;
     }
 
-tells_from : (limit number : ℕ) (reading : Reading) (before : List (List ℕ)) (text : List ℕ) (after : List (List ℕ)) (line : WrongLine)
+tells_from : (limit number : ℕ) (reading : Draft) (before : List (List ℕ)) (text : List ℕ) (after : List (List ℕ)) (line : WrongLine)
     → line_says (number + length before) text ≡ Err line → Tells line (read_from limit number reading (before ++ text ∷ after)).wrong
 tells_from limit number reading [] text after line says =
     let same : number + 0 ≡ number = omega arith in

@@ -2,7 +2,8 @@
 use Rattle.std.specs.Prelude.{◌≡◌, Result, Ok, Err}
 use Rattle.osc_patch.specs.declared.fault.WrongLine.{WrongLine}
 use Rattle.osc_patch.specs.declared.fault.PatchError.{PatchError}
-use Rattle.osc_patch.specs.declared.fault.PatchError.TheVariants.{TooLong, NoMethod, Lines, NoMemory}
+use Rattle.osc_patch.specs.declared.fault.PatchError.TheVariants.{TooLong, NoMethod, Lines}
+use Rattle.osc_patch.specs.declared.fault.PatchError.TheVariants.{NoMemory}
 use Rattle.osc_patch.specs.declared.entry.LineError.{LineError}
 use Rattle.osc_patch.specs.declared.entry.LineError.TheVariants.{Wrong, NoMemory as NoLineMemory}
 

@@ -1,6 +1,7 @@
 -- What a patch says, line by line.
 use Rattle.osc_patch.specs.declared.patch.TheConstants.{MAX_PATCH}
-use Rattle.std.specs.Prelude.{◌≡◌, ◌≢◌, ℕ, ◌+◌, ◌==◌, ◌≤◌, ◌<◌, ◌&&◌, ◌||◌, Bool, false, nat_le, nat_lt}
+use Rattle.std.specs.Prelude.{◌≡◌, ◌≢◌, ℕ, ◌+◌, ◌==◌, ◌≤◌, ◌<◌, ◌&&◌, ◌||◌, Bool, false, nat_le}
+use Rattle.std.specs.Prelude.{nat_lt}
 use Rattle.std.specs.Prelude.{if◌then◌else◌, List, [], ◌∷◌, ◌++◌, length, find, map, bytes_eq}
 use Rattle.std.specs.List.{AllPairs}
 use Rattle.std.specs.Prelude.{Option, Some, None, option_map, option_to_list, Result, Ok, Err}
@@ -13,7 +14,7 @@ use Rattle.osc_patch.specs.declared.fault.PatchError.TheVariants.{TooLong, NoMet
 use Rattle.osc_patch.specs.declared.entry.Entry.{Entry}
 use Rattle.osc_patch.specs.declared.method.Route.{Route}
 use Rattle.osc_patch.specs.declared.method.PatchMethod.{PatchMethod}
-use Rattle.osc_patch.specs.declared.reading.Reading.{Reading}
+use Rattle.osc_patch.specs.declared.draft.Draft.{Draft}
 use Rattle.osc_patch.specs.Words.{lines_of}
 use Rattle.osc_patch.specs.Entries.{wrong_line, line_says}
 
@@ -71,29 +72,29 @@ entered (method ∷ methods) entry = if is_at entry.address method
     then with_route entry.route method ∷ methods else method ∷ entered methods entry
 
 -- the next wrong line
-abbrev pub with_wrong : Reading → WrongLine → Reading
+abbrev pub with_wrong : Draft → WrongLine → Draft
 with_wrong reading line = record reading { wrong = reading.wrong ++ line ∷ [] }
 
 -- an entry that nothing stands against, or the fault of its line
-abbrev pub settled : Reading → Entry → Option Fault → Reading
+abbrev pub settled : Draft → Entry → Option Fault → Draft
 settled reading entry None = record reading { methods = entered reading.methods entry }
 settled reading entry (Some fault) = with_wrong reading (wrong_line entry.line fault entry.address)
 
 -- what is read after one line more
-abbrev pub after_line : ℕ → Reading → Result (Option Entry) WrongLine → Reading
+abbrev pub after_line : ℕ → Draft → Result (Option Entry) WrongLine → Draft
 after_line limit reading (Ok None) = reading
 after_line limit reading (Ok (Some entry)) =
     settled reading entry (clash limit reading.methods entry)
 after_line limit reading (Err line) = with_wrong reading line
 
 -- what is read after these lines, counted from a number on
-abbrev pub read_from : ℕ → ℕ → Reading → List (List ℕ) → Reading
+abbrev pub read_from : ℕ → ℕ → Draft → List (List ℕ) → Draft
 read_from limit number reading [] = reading
 read_from limit number reading (text ∷ texts) =
     read_from limit (number + 1) (after_line limit reading (line_says number text)) texts
 
 -- nothing
-abbrev pub unread : Reading
+abbrev pub unread : Draft
 unread = record { methods = []; wrong = [] }
 
 -- the methods, or all wrong lines; there is a method at least
@@ -102,7 +103,7 @@ outcome methods (line ∷ lines) = Err (Lines (line ∷ lines))
 outcome [] [] = Err NoMethod
 outcome (method ∷ methods) [] = Ok (method ∷ methods)
 
-abbrev pub outcome_of : Reading → Result (List PatchMethod) PatchError
+abbrev pub outcome_of : Draft → Result (List PatchMethod) PatchError
 outcome_of reading = outcome reading.methods reading.wrong
 
 -- the methods of a patch, with a limit on how many, or why it isn't read

@@ -4,7 +4,7 @@ use Rattle.std.specs.Prelude.{option_map, flat_map, IfSome}
 use Rattle.std.specs.Fmt.{decimal}
 use Rattle.osc_pattern.specs.Addresses.{is_address}
 use Rattle.osc_patch.specs.declared.entry.Entry.{Entry}
-use Rattle.osc_patch.specs.declared.reading.Reading.{Reading}
+use Rattle.osc_patch.specs.declared.draft.Draft.{Draft}
 use Rattle.osc_patch.specs.Hosts.{is_host}
 use Rattle.osc_patch.specs.Patches.{clash, settled}
 
@@ -46,7 +46,7 @@ entry_at line form = record {
 }
 
 -- what is read after these forms, counted from a number on
-abbrev pub settled_all : ℕ → ℕ → Reading → List Form → Reading
+abbrev pub settled_all : ℕ → ℕ → Draft → List Form → Draft
 settled_all limit number reading [] = reading
 settled_all limit number reading (form ∷ forms) =
     settled_all limit (number + 1)

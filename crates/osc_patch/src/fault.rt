@@ -24,7 +24,8 @@ pub enum Fault {
     Port,
     /// The line of this number has sent the same method to the same host and port.
     Repeated(u32),
-    /// The address lies under or above the method that the line of this number was the first to add (`osc_tree`).
+    /// The address lies under or above the method that the line of this number was the first to add
+    /// (`osc_tree`).
     Nested(u32),
     /// There are as many methods already as may be, which is this number.
     TooMany(u32),
@@ -45,8 +46,8 @@ impl WrongLine {
     ghost use Rattle.std.specs.Prelude.{◌≡◌, ◌++◌, OnOk};
     ghost use Rattle.osc_patch.specs.Texts.{wrong_text};
 
-    /// Adds what is told of the line, without a line feed: its number, the word with question marks in place of control
-    /// characters, and what to write instead. An `Err` means out of memory.
+    /// Adds what is told of the line, without a line feed: its number, the word with question marks
+    /// in place of control characters, and what to write instead. An `Err` means out of memory.
     #[tactic(auto, using(crate::proofs::Texts::four))]
     pub fn add_text(&self, text: &mut Vec<u8>) -> Result<(), AllocError>
         ensures { OnOk result (text.new.items ≡ text.old.items ++ wrong_text self.now) }

@@ -24,7 +24,8 @@ pub fn written_patches_are_read_again()
         → patch_of limit (written forms) ≡ outcome_of (settled_all limit 1 unread forms) }
 {}
 
-/// Each line that is wrong by itself is told, with its number, counted from 1, whatever stands before and after it.
+/// Each line that is wrong by itself is told, with its number, counted from 1, whatever stands
+/// before and after it.
 pub fn each_wrong_line_is_told()
     ensures { (limit : ℕ) (bytes : List ℕ) (before : List (List ℕ)) (text : List ℕ)
         (after : List (List ℕ)) (line : WrongLine) → lines_of bytes ≡ before ++ text ∷ after
@@ -51,8 +52,8 @@ pub fn dotted_hosts_are_addresses()
         → IsTrue (is_dotted word) }
 {}
 
-/// The methods of a patch can be added one after the other: there is one at least and at most as many as the limit, their
-/// addresses differ, and none lies under another.
+/// The methods of a patch can be added one after the other: there is one at least and at most as
+/// many as the limit, their addresses differ, and none lies under another.
 #[tactic(auto, using(crate::proofs::Apart::patched))]
 pub fn patches_are_apart()
     ensures { (limit : ℕ) (bytes : List ℕ) → IfOk (patch_of limit bytes) (ArePatched limit) }

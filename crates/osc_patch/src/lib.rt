@@ -3,6 +3,7 @@
 
 mod advice;
 mod clash;
+mod draft;
 mod entry;
 mod fault;
 mod host;
@@ -10,7 +11,6 @@ pub mod laws;
 mod method;
 mod patch;
 mod port;
-mod reading;
 mod words;
 
 pub use fault::{Fault, PatchError, WrongLine, WrongLines};

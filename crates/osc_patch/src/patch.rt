@@ -4,10 +4,10 @@ ghost use Rattle.std.specs.Prelude.{◌≡◌, ◌≤◌, OnOk, IfOk, length, po
 ghost use Rattle.osc_patch.specs.Words.{lines_of};
 ghost use Rattle.osc_patch.specs.Patches.{is_at, entered, read_from, unread};
 
+use crate::draft::Draft;
 use crate::entry::Entry;
 use crate::fault::{PatchError, WrongLines};
 use crate::method::{PatchMethod, Routes};
-use crate::reading::Reading;
 use crate::words::cut_lines;
 use osc_pattern::Address;
 use std::alloc::{AllocError, Global};
@@ -38,8 +38,9 @@ impl Patch {
     ghost use Rattle.osc_patch.specs.Patches.{patch_of, read_from, unread, entered, ArePatched};
     ghost use Rattle.osc_patch.specs.Answers.{Reads};
 
-    /// The methods of the patch, at most `methods_limit`; or all lines that are wrong, each with its first fault, in their
-    /// order (docs/FORMATS.md, "Patches"). `NoMemory` where memory runs out.
+    /// The methods of the patch, at most `methods_limit`; or all lines that are wrong, each with
+    /// its first fault, in their order (docs/FORMATS.md, "Patches"). `NoMemory` where memory runs
+    /// out.
     pub fn read(alloc: Global, bytes: &[u8], methods_limit: u32) -> Result<Patch, PatchError>
         ensures reads { Reads result (patch_of methods_limit bytes.now) }
         ensures patched { IfOk result (ArePatched methods_limit) }
@@ -79,13 +80,13 @@ impl Patch {
     }
 }
 
-/// What the lines come to.
-fn read_lines(alloc: Global, bytes: &[u8], limit: u32) -> Result<Reading, AllocError>
+/// What all lines say together.
+fn read_lines(alloc: Global, bytes: &[u8], limit: u32) -> Result<Draft, AllocError>
     requires { length bytes.now ≤ MAX_PATCH }
     ensures { IfOk result (λ reading. reading ≡ read_from limit 1 unread (lines_of bytes.now)) }
 {
     let lines = cut_lines(alloc, bytes)?;
-    let mut reading = Reading::new(alloc);
+    let mut reading = Draft::new(alloc);
     let mut number = 1;
     for text in &lines {
         reading.read_line(alloc, limit, number, text)?;

@@ -1,7 +1,7 @@
 // What the server answered.
 
-/// What the server answered about a unit: its own answer to the packet, and what its rules make of each unit of it
-/// (docs/SERVER.md, "Step").
+/// What the server answered about a unit: its own answer to the packet, and what its rules make of
+/// each unit of it (docs/SERVER.md, "Step").
 #[derive(Clone, Copy, Debug, PartialEq, Eq)]
 pub enum Answered {
     /// It is queued and due, or was released.

@@ -22,8 +22,9 @@ const DAYS_TO_1970: i64 = 25_569;
 /// How many seconds lie between the starts of 1899-12-30 and of 1900.
 const TWO_DAYS: u64 = 172_800;
 
-/// Adds the line that stands before the first line of a day: the weekday, the date, and how far the clock is ahead of
-/// UTC, in whole minutes. It is shown whatever is left out. An `Err` means out of memory.
+/// Adds the line that stands before the first line of a day: the weekday, the date, and how far the
+/// clock is ahead of UTC, in whole minutes. It is shown whatever is left out. An `Err` means out of
+/// memory.
 pub fn day_line(text: &mut Vec<u8>, look: Look, moment: u64) -> Result<(), AllocError>
     ensures ok { OnOk result (AddsDay look moment text.old.items text.new.items) }
     ensures err { OnErr result (text.new.items ≡ text.old.items) }
@@ -71,7 +72,8 @@ fn weekday(place: u64) -> &'static [u8]
     }
 }
 
-/// Adds the time of day, and the date before it where it is another day than the one from which it is seen.
+/// Adds the time of day, and the date before it where it is another day than the one from which it
+/// is seen.
 pub(crate) fn add_dated(
     out: &mut Vec<u8>,
     clock: WallClock,

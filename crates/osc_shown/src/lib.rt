@@ -7,7 +7,7 @@ mod arrival;
 mod bytes;
 mod columns;
 mod day;
-mod going;
+mod destination;
 pub mod laws;
 mod look;
 mod message;
@@ -18,7 +18,7 @@ mod route;
 mod tail;
 mod time;
 mod unit;
-mod waiting;
+mod wait;
 mod wall_clock;
 
 pub use answered::Answered;

@@ -116,8 +116,8 @@ pub(crate) fn add_all_shown(out: &mut Vec<u8>, bytes: &[u8]) -> Result<(), Alloc
     Ok(())
 }
 
-/// Adds a byte as it stands between quotes: a quote or a backslash after a backslash, and what can't be printed as `\x`
-/// and two digits.
+/// Adds a byte as it stands between quotes: a quote or a backslash after a backslash, and what
+/// can't be printed as `\x` and two digits.
 pub(crate) fn add_shown(out: &mut Vec<u8>, byte: u8) -> Result<(), AllocError>
     ensures { OnOk result (out.new.items ≡ out.old.items ++ shown_byte byte) }
 {

@@ -15,8 +15,9 @@ use std::alloc::{AllocError, Global};
 /// How many bytes of a datagram are shown.
 const MOST_BYTES: usize = 20;
 
-/// Adds the line of a datagram that is no packet: its first 20 bytes, how many it has, and its first fault in words
-/// (docs/FORMATS.md, "Kinds of faults"). It is shown whatever is left out. An `Err` means out of memory.
+/// Adds the line of a datagram that is no packet: its first 20 bytes, how many it has, and its
+/// first fault in words (docs/FORMATS.md, "Kinds of faults"). It is shown whatever is left out. An
+/// `Err` means out of memory.
 pub fn refusal_line(
     text: &mut Vec<u8>,
     look: Look,

@@ -7,7 +7,7 @@ ghost use Rattle.osc_shown.specs.Tails.{called_mark, due_mark, mark_of, outcome,
 ghost use Rattle.osc_shown.specs.Tails.{unknown_words, waits};
 
 use crate::bytes::add;
-use crate::going::{add_going, count_hits};
+use crate::destination::{add_going, count_hits};
 use crate::quoted::add_shown;
 use crate::time::add_span;
 use crate::{Answered, Arrival, Route};
@@ -15,7 +15,8 @@ use osc_message::Message;
 use std::alloc::{AllocError, Global};
 use std::net::SocketAddrV4;
 
-/// Adds what became of a message of a unit with this tag, which goes `there` where it is called, and who has sent it.
+/// Adds what became of a message of a unit with this tag, which goes `there` where it is called,
+/// and who has sent it.
 pub(crate) fn add_tail(
     out: &mut Vec<u8>,
     arrival: Arrival,

@@ -8,7 +8,7 @@ use crate::bytes::add;
 use crate::columns::{add_head, add_line, is_left_out};
 use crate::message::add_message;
 use crate::tail::{add_goes, add_tail, due_mark, mark_of, waits};
-use crate::waiting::add_waiting;
+use crate::wait::add_waiting;
 use crate::{Answered, Arrival, Look, Route};
 use osc_message::Message;
 use osc_packet::Unit;
@@ -24,8 +24,9 @@ struct Report<'a> {
     routes: &'a [Route],
 }
 
-/// Adds the lines of a unit: one for each message, or for one that waits, its first message alone (docs/FORMATS.md,
-/// "Shown lines"). The routes stand in the order in which methods are called, by address. An `Err` means out of memory.
+/// Adds the lines of a unit: one for each message, or for one that waits, its first message alone
+/// (docs/FORMATS.md, "Shown lines"). The routes stand in the order in which methods are called, by
+/// address. An `Err` means out of memory.
 pub fn unit_lines(
     text: &mut Vec<u8>,
     look: Look,

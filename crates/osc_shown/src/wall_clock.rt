@@ -3,10 +3,12 @@ ghost use Rattle.std.specs.Prelude.{◌≡◌, pos, ◌+ℤ◌};
 
 use jiff_core::Offset;
 
-/// The seconds from the start of 1899-12-30 to that of 1900-01-01, more than any clock is behind UTC.
+/// The seconds from the start of 1899-12-30 to that of 1900-01-01, more than any clock is behind
+/// UTC.
 const SECONDS_TO_1900: i32 = 172_800;
 
-/// A clock that is always as far ahead of UTC. A zone's clock is one as long as its offset doesn't change.
+/// A clock that is always as far ahead of UTC. A zone's clock is one as long as its offset doesn't
+/// change.
 #[derive(Clone, Copy)]
 pub struct WallClock {
     /// In seconds, and two days more, so that it is no negative number.

@@ -1,4 +1,5 @@
-//! What holds of every history and of the relays that have heard it. The function does nothing; its contract is the law.
+//! What holds of every history and of the relays that have heard it. The function does nothing; its
+//! contract is the law.
 ghost use Rattle.std.specs.Prelude.{◌≡◌, ◌<◌, ℕ, List, length, Option};
 ghost use Rattle.osc_model.specs.Limits.{Limits};
 ghost use Rattle.osc_model.specs.Events.{Entry};
@@ -11,8 +12,9 @@ ghost use Rattle.osc_stage.specs.Sent.{HasSent};
 use osc_model::laws::{a_server_stays_sound, invocations_are_of_registered_methods};
 use osc_relay::laws::what_was_sent_is_what_was_called;
 
-/// What a relay sent is what the history called. Where the relay's calls in a legal history have fewer bytes than it
-/// keeps, each outlet was handed exactly these calls, and each was sent or lost.
+/// What a relay sent is what the history called. Where the relay's calls in a legal history have
+/// fewer bytes than it keeps, each outlet was handed exactly these calls, and each was sent or
+/// lost.
 pub fn what_was_sent_is_what_the_history_called()
     ensures { (caps : Limits) (history : List Entry) (told : Told) (address : List ℕ) (room : ℕ)
         (sent : Option (List (List ℕ))) (losses : ℕ)

@@ -1,4 +1,5 @@
-//! The top call of a stage: relays and links on one new server, whose recording is written while it grows.
+//! The top call of a stage: relays and links on one new server, whose recording is written while it
+//! grows.
 #![tactic(auto)]
 
 mod ended;

@@ -24,11 +24,12 @@ pub struct Staged<O: Outlet, L> {
     pub recording: Vec<u8>,
     /// The relays that are registered at the end, each with its id, ascending.
     pub relays: Vec<(u32, Relay<O>)>,
-    /// The relays that weren't added, in their order: the server refused the address, or the recording had no room.
+    /// The relays that weren't added, in their order: the server refused the address, or the
+    /// recording had no room.
     pub left: Vec<Relay<O>>,
     /// The links that were handed in, in their order.
     pub links: Vec<L>,
-    /// Link, number of the datagram and fault of each datagram that was refused, link by link in the order of the
-    /// datagrams. Links are numbered from 0, and the datagrams of each from 1.
+    /// Link, number of the datagram and fault of each datagram that was refused, link by link in
+    /// the order of the datagrams. Links are numbered from 0, and the datagrams of each from 1.
     pub faults: Vec<(u32, u32, Fault)>,
 }

@@ -22,13 +22,13 @@ use std::alloc::{AllocError, Global};
 use std::sync::Wait;
 use std::thread::Threads;
 
-/// Plays a stage: opens a server with its limits, adds its relays as caller 0, each at its own address, serves each
-/// of its links by a thread of its own and the ticker, who reads `clock`, by another, and writes to `rec` what is
-/// recorded, while it grows and at the end. `gate` is called round each datagram. An `Err` means out of memory, and
-/// the relays and the links are gone then.
+/// Plays a stage: opens a server with its limits, adds its relays as caller 0, each at its own
+/// address, serves each of its links by a thread of its own and the ticker, who reads `clock`, by
+/// another, and writes to `rec` what is recorded, while it grows and at the end. `gate` is called
+/// round each datagram. An `Err` means out of memory, and the relays and the links are gone then.
 ///
-/// A relay whose add is refused, since its address is taken or lies above or below another's, or since a limit is
-/// reached, comes back in [`left`](Staged::left), and the stage plays without it.
+/// A relay whose add is refused, since its address is taken or lies above or below another's, or
+/// since a limit is reached, comes back in [`left`](Staged::left), and the stage plays without it.
 pub fn stage_top<
     O: Outlet + Send,
     L: Link + Send + Drop,
@@ -114,8 +114,8 @@ fn settle<O: Outlet, L: Drop, R: Sink>(
     })
 }
 
-/// Writes what is left of the recording: how the stage ended, if it isn't that the sink fails or has failed. An `Err`
-/// means out of memory.
+/// Writes what is left of the recording: how the stage ended, if it isn't that the sink fails or
+/// has failed. An `Err` means out of memory.
 fn write_end<R: Sink>(
     recording: &[u8],
     growth: Growth,

@@ -21,7 +21,8 @@ use std::test::*;
 /// A controller's fader, at a half.
 const FADER: &[u8] = b"/1/fader1\0\0\0,f\0\0\x3f\0\0\0";
 
-/// How the fader's line begins a second after the clocks of time tags began, up to the mark, and what follows that up to the tail.
+/// How the fader's line begins a second after the clocks of time tags began, up to the mark, and
+/// what follows that up to the tail.
 const TIME: &[u8] = b"00:00:01.000 ";
 
 const FADER_WORDS: &[u8] = b"  /1/fader1 0.5                   ";
@@ -162,8 +163,8 @@ fn a_datagram_is_shown_with_the_servers_answer(rt: HostRuntime) -> Result<(), Fa
     Ok(())
 }
 
-/// What a link of 10,000 faders does over a ring that nobody reads: how many it gave, and what comes out of the ring then, and
-/// at the next line.
+/// What a link of 10,000 faders does over a ring that nobody reads: how many it gave, and what
+/// comes out of the ring then, and at the next line.
 fn give_unread<W: Wait>(rt: &W, alloc: Global) -> Result<(u32, Vec<u8>, Vec<u8>), Fail> {
     let routes = routes(alloc)?;
     let (rounds, printer) = (Rounds::new(), Printer::new());

@@ -3,7 +3,8 @@ use osc_patch::{MAX_PATCH, Patch, PatchError};
 use std::alloc::{AllocError, Global};
 use std::test::Fail;
 
-/// What is told of each wrong line of a patch that may have so many methods, with a line feed after it; or its methods.
+/// What is told of each wrong line of a patch that may have so many methods, with a line feed after
+/// it; or its methods.
 fn told(alloc: Global, bytes: &[u8], limit: u32) -> Result<Vec<u8>, Fail> {
     match Patch::read(alloc, bytes, limit) {
         Ok(patch) => Ok(methods(alloc, &patch)?),
@@ -67,7 +68,7 @@ line 10: `/light` and the address of line 2 lie one under the other, and a metho
 line 12: `/log/all` comes after 2 methods, and there may be no more: take lines away, or raise the limit
 ";
 
-/// Each how many methods there may be, a patch, and what it comes to.
+/// Each how many methods there may be, a patch, and the result.
 const PATCHES: [(u32, &[u8], &[u8]); 9] = [
     (2, WRONG, WRONG_TOLD),
     (

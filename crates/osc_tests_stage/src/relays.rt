@@ -46,8 +46,9 @@ fn last(relay: &Relay<MemoryOutlet>, outlet: usize) -> Option<&[u8]> {
     Some(last.as_slice())
 }
 
-/// Each an address, that address as a string, a pattern as a string, and what follows it in a message: the two messages
-/// that the standard shows (OSC 1.0 examples); one without tags; and one with a tag that the standard doesn't have.
+/// Each an address, that address as a string, a pattern as a string, and what follows it in a
+/// message: the two messages that the standard shows (OSC 1.0 examples); one without tags; and one
+/// with a tag that the standard doesn't have.
 const RELAYED: [(&[u8], &[u8], &[u8], &[u8]); 4] = [
     (
         b"/oscillator/4/frequency",

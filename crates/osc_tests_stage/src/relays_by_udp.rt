@@ -20,8 +20,8 @@ fn sendable<T: Send>(value: T) -> T {
     value
 }
 
-/// The standard's message to its frequency (OSC 1.0 examples), called by a pattern, reaches a port and all of a network;
-/// a destination of port 0 can't be sent to.
+/// The standard's message to its frequency (OSC 1.0 examples), called by a pattern, reaches a port
+/// and all of a network; a destination of port 0 can't be sent to.
 #[test]
 fn a_relay_by_udp_reaches_its_destinations(rt: HostRuntime) -> Result<(), Fail> {
     let alloc = rt.alloc();

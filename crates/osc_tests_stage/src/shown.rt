@@ -1,5 +1,5 @@
-// Lines as a person reads them. The expected lines are those of a reader of recordings in Python that shares no code with
-// the crate, followed by who has sent the datagram.
+// Lines as a person reads them. The expected lines are those of a reader of recordings in Python
+// that shares no code with the crate, followed by who has sent the datagram.
 use jiff_core::Offset;
 use osc_atoms::Fault;
 use osc_packet::{MAX_PACKET, Packet};

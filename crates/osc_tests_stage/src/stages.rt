@@ -67,7 +67,8 @@ impl Clock for AnsweredClock {
     }
 }
 
-/// A stage of a relay at each of two addresses, and of a link that has one datagram, and fails at these calls.
+/// A stage of a relay at each of two addresses, and of a link that has one datagram, and fails at
+/// these calls.
 fn stage_of(
     alloc: Global,
     addresses: [&[u8]; 2],
@@ -140,7 +141,8 @@ fn a_bundle_for_later_reaches_two_relays(rt: HostRuntime) -> Result<(), Fail> {
     Ok(())
 }
 
-/// Plays the two lights' stage over a clock at 200 that fails at these calls, and a sink that fails at those.
+/// Plays the two lights' stage over a clock at 200 that fails at these calls, and a sink that fails
+/// at those.
 fn play<R: Threads + Wait + Sync>(
     rt: &R,
     alloc: Global,

@@ -20,7 +20,8 @@ pub(crate) struct Destination {
     pub(crate) losses: Arc<Losses, Global>,
 }
 
-/// A relay for each method of a patch, where each sends in words, by address, and all that calls are sent to.
+/// A relay for each method of a patch, where each sends in words, by address, and all that calls
+/// are sent to.
 #[derive(Drop)]
 pub(crate) struct Bank {
     pub(crate) relays: Vec<Relay<UdpOutlet>>,
@@ -122,7 +123,8 @@ fn host_of(rt: &HostRuntime, route: &Route) -> Option<Ipv4Addr> {
     None
 }
 
-/// Whether what is sent to the address may come to this machine: only then can a port be bound there.
+/// Whether what is sent to the address may reach this machine: only then can a port be bound
+/// there.
 fn is_own(rt: &HostRuntime, host: Ipv4Addr) -> bool {
     host.is_unspecified() || host.is_broadcast() || UdpSocket::bind(rt, (host, 0u16)).is_ok()
 }

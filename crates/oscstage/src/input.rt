@@ -10,8 +10,8 @@ use std::{fs, thread};
 /// The line that ends a show.
 const END: &[u8] = b"end";
 
-/// Ends the show at the line `end` on standard input, and at its end, unless that is a device such as /dev/null. A thread
-/// waits for it, which the program doesn't wait for.
+/// Ends the show at the line `end` on standard input, and at its end, unless that is a device such
+/// as /dev/null. A thread waits for it, which the program doesn't wait for.
 pub(crate) fn watch_input<W: Threads>(rt: &HostRuntime, threads: &W, ending: Arc<Ending, Global>) {
     let rt = *rt;
     let _ = thread::spawn(threads, move || read_until_end(&rt, &ending));

@@ -1,5 +1,5 @@
-//! An Open Sound Control server for a stage: it serves links as `oscd serve` does, shows what comes in, and sends each call on
-//! to the lights and machines of a patch, on time.
+//! An Open Sound Control server for a stage: it serves links as `oscd serve` does, shows what comes
+//! in, and sends each call on to the lights and machines of a patch, on time.
 #![tactic(auto)]
 
 ghost use Rattle.std.specs.Prelude.{◌≡◌, length, IfOk};

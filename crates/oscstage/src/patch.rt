@@ -7,7 +7,8 @@ use osc_ends::{Whole, read_input};
 use osc_patch::{MAX_PATCH, Patch, PatchError};
 use std::alloc::AllocError;
 
-/// Reads the patch; the `Err` inside is the status, where it can't be read or is refused, which is reported.
+/// Reads the patch; the `Err` inside is the status, where it can't be read or is refused, which is
+/// reported.
 pub(crate) fn read_patch(
     rt: &HostRuntime,
     serving: &Serving,

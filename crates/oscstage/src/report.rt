@@ -130,7 +130,8 @@ pub(crate) struct ShowEnd {
     pub(crate) refused: usize,
 }
 
-/// Reports how the show ended, how many datagrams were no packets, and how many bytes the recording has.
+/// Reports how the show ended, how many datagrams were no packets, and how many bytes the recording
+/// has.
 pub(crate) fn report_end(rt: &HostRuntime, serving: &Serving, end: ShowEnd) {
     let ShowEnd {
         ended,

@@ -10,8 +10,8 @@ use std::io::{IsTerminal, Write};
 /// The seconds from the start of 1900 to that of 1970.
 const SECONDS_TO_1970: i128 = 2_208_988_800;
 
-/// The look of lines on this machine's standard output: in the zone of the machine as it is now, and in colours on a terminal
-/// unless `NO_COLOR` is set.
+/// The look of lines on this machine's standard output: in the zone of the machine as it is now,
+/// and in colours on a terminal unless `NO_COLOR` is set.
 pub(crate) fn look_of(rt: &HostRuntime, quiet: bool) -> Look {
     Look {
         clock: WallClock::at(offset_of(rt)),

@@ -42,7 +42,8 @@ pub(crate) struct Flags {
     pub(crate) help: bool,
 }
 
-/// Reads `serve [OPTIONS] [--quiet] [--force] PATCH FILE`: all but these flags and PATCH are the words of `oscd serve`.
+/// Reads `serve [OPTIONS] [--quiet] [--force] PATCH FILE`: all but these flags and PATCH are the
+/// words of `oscd serve`.
 pub(crate) fn read_words(alloc: Global, all: Vec<String>) -> Result<Said, AllocError> {
     let (flags, mut words) = split_flags(alloc, all)?;
     if flags.help {
@@ -100,7 +101,8 @@ fn split_flags(alloc: Global, all: Vec<String>) -> Result<(Flags, Vec<String>), 
     Ok((flags, words))
 }
 
-/// Takes PATCH, the word before the last, out of the words, and copies FILE, the last; there is none in fewer than three.
+/// Takes PATCH, the word before the last, out of the words, and copies FILE, the last; there is
+/// none in fewer than three.
 fn split_names(alloc: Global, words: &mut Vec<String>) -> Result<Option<Names>, AllocError> {
     if words.len() < 3 {
         return Ok(None);
@@ -115,7 +117,8 @@ fn split_names(alloc: Global, words: &mut Vec<String>) -> Result<Option<Names>, 
     }
 }
 
-/// The number, if an option of this name is among the words, and else so many that nobody counts them.
+/// The number, if an option of this name is among the words, and else so many that nobody counts
+/// them.
 fn if_said(words: &[String], name: &str, number: u32) -> u32
     requires { 0 < number }
     ensures { 0 < result }
