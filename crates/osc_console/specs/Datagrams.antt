@@ -1,9 +1,8 @@
--- The lines of a datagram, and what a link that is shown has written.
+-- The lines of a datagram, and what a link that is shown has kept.
 use Rattle.std.specs.Prelude.{◌≡◌, ℕ, List, [], ◌∷◌, ◌++◌, take, Option, Some, option_map}
 use Rattle.std.specs.Prelude.{MatchOption}
 use Rattle.osc_edge.specs.declared.link.Datagram.{Datagram}
 use Rattle.osc_edge.specs.declared.link.Datagram.TheVariants.{Got}
-use Rattle.osc_ends.specs.Sinks.{SinkChange, GainsAll}
 use Rattle.osc_atoms.specs.declared.limits.TheConstants.{MAX_PACKET}
 use Rattle.osc_packet.specs.Reading.{packet_fault, units_read}
 use Rattle.osc_packet.specs.Units.{TimedUnit}
@@ -34,26 +33,3 @@ module _ (look : Look) (late : Late) (routes : List Route) (arrival : Arrival) w
       (MatchOption submission (after ≡ before)
       (λ given. AddsUnits given (units_read datagram) before after))
       (λ fault. after ≡ before ++ refusal_text look arrival datagram fault)
-
--- the datagram that waits to be shown
-abbrev pub waiting : Option Pending → List ℕ → Option (List ℕ)
-waiting pending space = option_map (λ one. take one.size space) pending
-
--- a datagram that was got waits then
-abbrev pub Keeps : Datagram → Option (List ℕ) → List ℕ → Type 0
-Keeps (Got count) then into = then ≡ Some (take count into)
-Keeps _ then into = Unit {0}
-
--- The lines of a datagram, after a mark for what wasn't shown before. When it came, from whom, and
--- what was answered to it are those of the link's clock, the link, and the gate.
-pub record ShownAs (look : Look) (late : Late) (routes : List Route)
-    (datagram lines : List ℕ) : Type 0 where
-  pub mark : List ℕ
-  pub arrival : Arrival
-  pub submission : Option Submission
-  pub adds : AddsDatagram look late routes arrival datagram submission mark lines
-
--- the sink has gained its lines
-abbrev pub GainsLines : Look → Late → List Route → SinkChange → List ℕ → Type 0
-GainsLines look late routes sink datagram =
-    (lines : List ℕ) × ShownAs look late routes datagram lines × GainsAll sink lines

@@ -2,19 +2,21 @@
 //! last datagram.
 ghost use Rattle.std.specs.Prelude.{◌≡◌, ◌≤◌, length, IfOk, None};
 
-use crate::Sender;
+use crate::{Pace, Sender};
 use osc_edge::{Datagram, Link};
 use std::io;
 use std::io::ErrorKind;
 use std::net::{Ipv4Addr, SocketAddr, SocketAddrV4, UdpSocket};
 use std::time::Duration;
 
-/// As `UdpLink` of `osc_edge`, but that a call waits as many milliseconds for a datagram as it is
-/// told; and it knows who has sent the last datagram.
+/// As `UdpLink` of `osc_edge`, but that a call waits as long for a datagram as its pace says; and it
+/// knows who has sent the last datagram.
 #[derive(Drop)]
-pub struct HeardLink {
+pub struct HeardLink<'a> {
     rt: HostRuntime,
     port: u16,
+    pace: &'a Pace,
+    /// How many milliseconds the socket waits, once the port is bound.
     wait: u32,
     /// The socket, once the port is bound.
     socket: Option<UdpSocket>,
@@ -23,17 +25,18 @@ pub struct HeardLink {
     quiets: u64,
 }
 
-impl HeardLink {
+impl<'a> HeardLink<'a> {
     /// A link for the port. Takes no memory, and binds nothing.
-    pub fn at(rt: &HostRuntime, port: u16, wait: u32) -> Self
-        ensures left { ⟦<HeardLink as Link>⟧.left result ≡ None }
-        ensures faults { ⟦<HeardLink as Link>⟧.faults result ≡ 0 }
-        ensures quiets { ⟦<HeardLink as Link>⟧.quiets result ≡ 0 }
+    pub fn at(rt: &HostRuntime, port: u16, pace: &'a Pace) -> Self
+        ensures left { ⟦<HeardLink<'a> as Link>⟧.left result ≡ None }
+        ensures faults { ⟦<HeardLink<'a> as Link>⟧.faults result ≡ 0 }
+        ensures quiets { ⟦<HeardLink<'a> as Link>⟧.quiets result ≡ 0 }
     {
         HeardLink {
             rt: *rt,
             port,
-            wait,
+            pace,
+            wait: 0,
             socket: None,
             sender: None,
             faults: 0,
@@ -49,13 +52,27 @@ impl HeardLink {
     {
         let socket = match self.socket.take() {
             Some(socket) => socket,
-            None => bind(&self.rt, self.port, self.wait)?,
+            None => UdpSocket::bind(&self.rt, (Ipv4Addr::UNSPECIFIED, self.port))?,
         };
+        self.set_wait(&socket)?;
         let received = socket.recv_from(into);
         self.socket = Some(socket);
         let (count, sender) = received?;
         self.sender = of_four(sender);
         Ok(count)
+    }
+
+    /// Has the socket wait as long as the pace says, if it doesn't yet.
+    fn set_wait(&mut self, socket: &UdpSocket) -> io::Result<()>
+        ensures faults { self.new.faults ≡ self.old.faults }
+        ensures quiets { self.new.quiets ≡ self.old.quiets }
+    {
+        let wait = self.pace.wait().max(1);
+        if wait != self.wait {
+            socket.set_read_timeout(Some(Duration::from_millis(u64::from(wait))))?;
+            self.wait = wait;
+        }
+        Ok(())
     }
 }
 
@@ -67,12 +84,6 @@ fn of_four(sender: SocketAddr) -> Option<SocketAddrV4> {
     }
 }
 
-fn bind(rt: &HostRuntime, port: u16, wait: u32) -> io::Result<UdpSocket> {
-    let socket = UdpSocket::bind(rt, (Ipv4Addr::UNSPECIFIED, port))?;
-    socket.set_read_timeout(Some(Duration::from_millis(u64::from(wait.max(1)))))?;
-    Ok(socket)
-}
-
 /// Whether the error says that no datagram came in time.
 fn is_quiet(error: &io::Error) -> bool {
     matches!(
@@ -81,13 +92,13 @@ fn is_quiet(error: &io::Error) -> bool {
     )
 }
 
-impl Sender for HeardLink {
+impl Sender for HeardLink<'_> {
     fn sender(&self) -> Option<SocketAddrV4> {
         self.sender
     }
 }
 
-impl Link for HeardLink {
+impl Link for HeardLink<'_> {
     ghost use Rattle.osc_edge.specs.Link.{IsGotWithin, TakesTurn, HasLinkCause, HasQuietCause};
 
     ghost left = { λ _. None };

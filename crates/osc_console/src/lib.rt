@@ -3,29 +3,39 @@
 //! prints them.
 #![tactic(auto)]
 
+mod agenda;
 mod answer;
+mod awaited;
+mod calendar;
 mod console_gate;
 mod datagram;
-mod ending;
-mod ending_link;
 mod heard_link;
+mod lines;
+mod pace;
 mod printer;
 mod ring_sink;
 mod rounds;
 mod sender;
 mod shown_link;
+mod shutdown;
+mod shutdown_link;
 mod slot;
+mod view;
 mod waiting_clock;
 
+pub use agenda::Agenda;
+pub use calendar::Calendar;
 pub use console_gate::ConsoleGate;
-pub use datagram::{View, datagram_lines};
-pub use ending::Ending;
-pub use ending_link::EndingLink;
 pub use heard_link::HeardLink;
+pub use lines::{Came, Lines};
+pub use pace::Pace;
 pub use printer::{Chore, Printer, print_while};
 pub use ring_sink::RingSink;
 pub use rounds::Rounds;
 pub use sender::Sender;
 pub use shown_link::{ShownLink, Watch};
+pub use shutdown::Shutdown;
+pub use shutdown_link::ShutdownLink;
 pub use slot::Slot;
+pub use view::View;
 pub use waiting_clock::WaitingClock;

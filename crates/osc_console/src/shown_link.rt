@@ -1,14 +1,12 @@
 //! A link whose datagrams are shown.
-ghost use Rattle.std.specs.Prelude.{◌≡◌, ◌≤◌, vec_len, length, take, IsOk, OnOk, Some};
-ghost use Rattle.osc_ends.specs.Sinks.{sink_change, GainsAll};
-ghost use Rattle.osc_console.specs.Datagrams.{ShownAs};
+ghost use Rattle.std.specs.Prelude.{◌≡◌, ◌≤◌, vec_len, length, take};
+ghost use Rattle.osc_console.specs.Links.{waiting, came_bytes};
 ghost use Rattle.osc_edge.specs.declared.limits.TheConstants.{MAX_DATAGRAM};
 
-use crate::{Rounds, Sender, Slot, View, datagram_lines};
+use crate::lines::{Came, Lines};
+use crate::waiting_clock::millis_between;
+use crate::{Calendar, Pace, Rounds, Sender, Slot, View};
 use osc_edge::{Clock, Datagram, Link, MAX_DATAGRAM, Moment, Sink};
-use osc_ends::status::DONE;
-use osc_ends::write_text;
-use osc_live::Submission;
 use osc_model::Late;
 use osc_shown::Arrival;
 use std::alloc::{AllocError, Global};
@@ -26,32 +24,32 @@ struct Pending {
     sender: Option<SocketAddrV4>,
 }
 
-/// What a link that is shown knows of the server: the ticker's rounds, and the slot in which its
-/// gate leaves the answers.
+/// What a link that is shown shares with others: the ticker's rounds, the slot in which its gate leaves
+/// the answers, how long the link below waits, and the day that was shown last.
 #[derive(Drop)]
 pub struct Watch<'a, W> {
     pub threads: &'a W,
     pub rounds: &'a Rounds,
     pub slot: &'a Slot,
+    pub pace: &'a Pace,
+    pub calendar: &'a Calendar,
 }
 
 /// A link, each of whose datagrams is written to a sink as lines, with the server's answer to it,
-/// when the next one is asked for: so after all that the server did with it. What the sink doesn't
-/// take is lost, and what has no memory isn't shown; how many datagrams that were stands before the
-/// next lines. Where late units are discarded the ticker plays a round before a bundle is handed
-/// in, so that the bundle is judged by a clock that isn't behind.
+/// when the next one is asked for: so after all that the server did with it. The units that waited
+/// are written again once the ticker has played a round at their time tags or after. What the sink
+/// doesn't take is lost, and what has no memory isn't shown; how many datagrams that were stands
+/// before the next lines. Where late units are discarded the ticker plays a round before a bundle is
+/// handed in, so that the bundle is judged by a clock that isn't behind.
 #[derive(Drop)]
 pub struct ShownLink<'a, L, C, O, W> {
     link: L,
     clock: C,
     out: O,
-    view: View<'a>,
     watch: Watch<'a, W>,
+    lines: Lines<'a>,
     space: Vec<u8>,
-    text: Vec<u8>,
     pending: Option<Pending>,
-    /// How many datagrams were not shown since the last that was.
-    unshown: u32,
     ghost room: { vec_len space ≡ MAX_DATAGRAM },
 }
 
@@ -63,11 +61,11 @@ impl<'a, L: Link + Sender + Drop, C: Clock + Drop, O: Sink + Drop, W: Wait> Show
     W,
 > {
     ghost use Rattle.osc_edge.specs.declared.limits.TheConstants.{MAX_DATAGRAM};
-    ghost use Rattle.std.specs.Prelude.{◌≡◌, ◌≤◌, length, Some, None, IfSome};
+    ghost use Rattle.std.specs.Prelude.{◌≡◌, ◌≤◌, [], length, Some, None, IfOk};
     ghost use Rattle.osc_ends.specs.Sinks.{sink_change};
-    ghost use Rattle.osc_console.specs.Datagrams.{waiting, GainsLines};
+    ghost use Rattle.osc_console.specs.Links.{waiting, ShowsPending};
 
-    /// Reserves the room of a datagram.
+    /// Reserves the room of a datagram. An `Err` means out of memory.
     pub fn open(
         alloc: Global,
         link: L,
@@ -75,31 +73,50 @@ impl<'a, L: Link + Sender + Drop, C: Clock + Drop, O: Sink + Drop, W: Wait> Show
         out: O,
         view: View<'a>,
         watch: Watch<'a, W>,
-    ) -> Result<Self, AllocError> {
+    ) -> Result<Self, AllocError>
+        ensures link { IfOk result (λ shown. shown.link ≡ link) }
+        ensures out { IfOk result (λ shown. shown.out ≡ out) }
+        ensures view { IfOk result (λ shown. shown.lines.view ≡ view.entry) }
+        ensures pending { IfOk result (λ shown. shown.pending ≡ None) }
+        ensures waiters { IfOk result (λ shown. shown.lines.agenda.waiters.items ≡ []) }
+        ensures unshown { IfOk result (λ shown. shown.lines.unshown ≡ 0) }
+    {
         let space = vec![in alloc; 0; MAX_DATAGRAM]?;
         Ok(ShownLink {
             link,
             clock,
             out,
-            view,
+            lines: Lines::new(alloc, view, watch.calendar),
             watch,
             space,
-            text: Vec::new(alloc),
             pending: None,
-            unshown: 0,
         })
     }
 
-    /// Shows the last datagram, which no later call of the link shows.
-    pub fn finish(&mut self) {
-        self.show();
+    /// Shows the last datagram, which no later call of the link shows, and the units that were called
+    /// since.
+    pub fn finish(&mut self)
+        ensures link { self.new.link ≡ self.old.link }
+        ensures pending { self.new.pending ≡ None }
+        ensures rests { self.old.pending ≡ None → self.old.lines.agenda.waiters.items ≡ []
+            → self.new.out ≡ self.old.out }
+        ensures shows { self.new.lines.unshown ≡ 0 → ShowsPending self.old.lines.view
+            (waiting self.old.pending self.old.space.items) self.old.lines.agenda.waiters.items
+            self.new.lines.agenda.waiters.items
+            (sink_change O.held O.faults self.old.out self.new.out) }
+    {
+        let round = self.watch.rounds.handed();
+        let came = came_of(self.pending.take(), &self.space, self.watch.slot);
+        self.lines.show(came, round, &mut self.out);
     }
 
     /// The moment, where the clock tells it.
     fn moment(&mut self) -> Option<u64>
         ensures link { self.new.link ≡ self.old.link }
         ensures out { self.new.out ≡ self.old.out }
-        ensures unshown { self.new.unshown ≡ self.old.unshown }
+        ensures lines { self.new.lines ≡ self.old.lines }
+        ensures pending { self.new.pending ≡ self.old.pending }
+        ensures space { self.new.space ≡ self.old.space }
     {
         match self.clock.now() {
             Moment::At(moment) => Some(moment),
@@ -111,7 +128,7 @@ impl<'a, L: Link + Sender + Drop, C: Clock + Drop, O: Sink + Drop, W: Wait> Show
     fn keep(&mut self, datagram: &[u8])
         ensures link { self.new.link ≡ self.old.link }
         ensures out { self.new.out ≡ self.old.out }
-        ensures unshown { self.new.unshown ≡ self.old.unshown }
+        ensures lines { self.new.lines ≡ self.old.lines }
         ensures kept { length datagram.now ≤ MAX_DATAGRAM
             → waiting self.new.pending self.new.space.items ≡ Some datagram.now }
     {
@@ -123,86 +140,49 @@ impl<'a, L: Link + Sender + Drop, C: Clock + Drop, O: Sink + Drop, W: Wait> Show
             moment,
             sender,
         });
-        if self.view.late == Late::Discard && datagram.starts_with(BUNDLE) {
+        if self.lines.view.late == Late::Discard && datagram.starts_with(BUNDLE) {
             catch_up(&self.watch, moment);
         }
     }
 
-    /// Shows the datagram that was kept, if one was.
-    fn show(&mut self)
+    /// Has the link below wait no longer than until the first unit that waits is called.
+    fn set_pace(&mut self)
         ensures link { self.new.link ≡ self.old.link }
-        ensures rests { self.old.pending ≡ None → self.new.out ≡ self.old.out }
-        ensures shows { IfSome (waiting self.old.pending self.old.space.items)
-            (λ datagram. self.new.unshown ≡ 0
-            → GainsLines self.old.view.look self.old.view.late self.old.view.routes.now
-            (sink_change O.held O.faults self.old.out self.new.out) datagram) }
+        ensures out { self.new.out ≡ self.old.out }
+        ensures lines { self.new.lines ≡ self.old.lines }
+        ensures pending { self.new.pending ≡ self.old.pending }
+        ensures space { self.new.space ≡ self.old.space }
     {
-        if let Some(pending) = self.pending.take() {
-            let submission = self.watch.slot.take();
-            let made = lines_of(
-                &mut self.text,
-                self.view,
-                &self.space,
-                pending,
-                submission,
-                self.unshown,
-            );
-            self.unshown = unshown_after(made, &mut self.out, &self.text, self.unshown);
-        }
+        let wait = match self.lines.first() {
+            Some(tag) => match self.moment() {
+                Some(now) => millis_between(now, tag).saturating_add(1),
+                None => 1,
+            },
+            None => u64::MAX,
+        };
+        self.watch.pace.set(wait);
     }
+}
+
+/// The datagram that was kept, if one was, with what was answered to it.
+fn came_of<'b>(pending: Option<Pending>, space: &'b [u8], slot: &Slot) -> Option<Came<'b>>
+    ensures { came_bytes result ≡ waiting pending space.now }
+{
+    let pending = pending?;
+    Some(Came {
+        arrival: Arrival {
+            moment: pending.moment,
+            sender: pending.sender,
+        },
+        datagram: front(space, pending.size),
+        submission: slot.take(),
+    })
 }
 
 fn catch_up<W: Wait>(watch: &Watch<'_, W>, moment: Option<u64>) {
     if let Some(moment) = moment {
         watch.rounds.catch_up(watch.threads, moment);
     }
-}
-
-/// Writes the lines, if they were made. Answers how many datagrams were not shown then, of which so
-/// many were before.
-fn unshown_after<O: Sink>(
-    made: Result<(), AllocError>,
-    out: &mut O,
-    lines: &[u8],
-    unshown: u32,
-) -> u32
-    ensures { result ≡ 0 → IsOk made
-        × GainsAll (sink_change O.held O.faults out.old out.new) lines.now }
-{
-    match made {
-        Ok(()) if write_text(DONE, lines, out) == DONE => 0,
-        _ => unshown.saturating_add(1),
-    }
-}
-
-/// Puts the lines of the datagram in the space into the text, after how many weren't shown before.
-fn lines_of(
-    text: &mut Vec<u8>,
-    view: View<'_>,
-    space: &[u8],
-    pending: Pending,
-    submission: Option<Submission>,
-    unshown: u32,
-) -> Result<(), AllocError>
-    ensures { OnOk result (ShownAs view.entry.look view.entry.late view.entry.routes.now
-        (take pending.size space.now) text.new.items) }
-{
-    text.clear();
-    if unshown > 0 {
-        add_unshown(text, unshown)?;
-    }
-    let arrival = Arrival {
-        moment: pending.moment,
-        sender: pending.sender,
-    };
-    datagram_lines(text, view, arrival, front(space, pending.size), submission)
-}
-
-fn add_unshown(text: &mut Vec<u8>, unshown: u32) -> Result<(), AllocError> {
-    text.extend_from_slice(b"-- ")?;
-    let mut digits = itoa::Buffer::new();
-    text.extend_from_slice(digits.format(unshown).as_bytes())?;
-    text.extend_from_slice(b" datagrams were not shown\n")
 }
 
 /// The first so many bytes, or all.
@@ -212,8 +192,7 @@ fn front(space: &[u8], size: usize) -> &[u8]
     &space[..size.min(space.len())]
 }
 
-/// Copies the datagram to the front of the space, as far as it has room, and answers how many
-/// bytes.
+/// Copies the datagram to the front of the space, as far as it has room, and answers how many bytes.
 fn copied(space: &mut [u8], datagram: &[u8]) -> usize
     ensures same { length space.new ≡ length space.old }
     ensures whole { length datagram.now ≤ length space.old → take result space.new ≡ datagram.now }
@@ -227,9 +206,9 @@ impl<'a, L: Link + Sender + Drop, C: Clock + Drop, O: Sink + Drop, W: Wait> Link
     for ShownLink<'a, L, C, O, W> {
     ghost use Rattle.osc_edge.specs.Link.{IsGotWithin, TakesTurn, HasLinkCause, HasQuietCause};
     ghost use Rattle.osc_edge.specs.declared.limits.TheConstants.{MAX_DATAGRAM};
-    ghost use Rattle.std.specs.Prelude.{◌≡◌, None, IfSome, length};
+    ghost use Rattle.std.specs.Prelude.{◌≡◌, [], None, length};
     ghost use Rattle.osc_ends.specs.Sinks.{sink_change};
-    ghost use Rattle.osc_console.specs.Datagrams.{waiting, Keeps, GainsLines};
+    ghost use Rattle.osc_console.specs.Links.{waiting, Keeps, ShowsPending};
 
     ghost left = { λ s. L.left s.link };
 
@@ -237,21 +216,23 @@ impl<'a, L: Link + Sender + Drop, C: Clock + Drop, O: Sink + Drop, W: Wait> Link
 
     ghost quiets = { λ s. L.quiets s.link };
 
-    /// Shows the datagram before, and then asks the link.
+    /// Shows the datagram before, and what was called since, and then asks the link.
     fn next(&mut self, into: &mut [u8]) -> Datagram
         requires space { length into.old ≡ MAX_DATAGRAM }
         ensures within { IsGotWithin result into.new }
         ensures turns { TakesTurn (L.left self.old.link) (L.left self.new.link) result into.new }
         ensures cause { HasLinkCause (L.faults self.old.link) (L.faults self.new.link) result }
         ensures ready { HasQuietCause (L.quiets self.old.link) (L.quiets self.new.link) result }
-        ensures rests { self.old.pending ≡ None → self.new.out ≡ self.old.out }
-        ensures shows { IfSome (waiting self.old.pending self.old.space.items)
-            (λ datagram. self.new.unshown ≡ 0
-            → GainsLines self.old.view.look self.old.view.late self.old.view.routes.now
-            (sink_change O.held O.faults self.old.out self.new.out) datagram) }
+        ensures rests { self.old.pending ≡ None → self.old.lines.agenda.waiters.items ≡ []
+            → self.new.out ≡ self.old.out }
+        ensures shows { self.new.lines.unshown ≡ 0 → ShowsPending self.old.lines.view
+            (waiting self.old.pending self.old.space.items) self.old.lines.agenda.waiters.items
+            self.new.lines.agenda.waiters.items
+            (sink_change O.held O.faults self.old.out self.new.out) }
         ensures keeps { Keeps result (waiting self.new.pending self.new.space.items) into.new }
     {
-        self.show();
+        self.finish();
+        self.set_pace();
         let came = self.link.next(into);
         if let Datagram::Got(count) = came {
             self.keep(&into[..count]);

@@ -1,13 +1,20 @@
 //! The trusted edge to the time: the system's clock, with waits that a datagram ends.
 ghost use Rattle.std.specs.Prelude.{◌≡◌, None};
+ghost use Rattle.osc_console.specs.Waits.{wait_nanos, span_nanos};
 
 use crate::Rounds;
 use osc_edge::{Clock, Moment, system_moment};
 use std::sync::Wait;
 use std::time::Duration;
 
-/// How many milliseconds the clock may stand still where nothing is due.
-const LONGEST: u64 = 1_000;
+/// How many nanoseconds a second has.
+const SECOND: u64 = 1_000_000_000;
+
+/// How many nanoseconds the clock may stand still where nothing is due.
+const LONGEST: u64 = SECOND;
+
+/// The fraction of a second in a moment.
+const LOW_WORD: u64 = 0xffff_ffff;
 
 /// The system's clock. `now` reads it at once, and answers `Failed` for every error of the system
 /// and where the seconds since 1900 aren't 32 bits, and counts it. `until` waits until the moment
@@ -59,26 +66,34 @@ impl<'a, W: Wait> Clock for WaitingClock<'a, W> {
     /// Tells the links that the round is over, and waits.
     fn until(&mut self, next: Option<u64>) {
         self.rounds.note(self.last);
-        let time = time_until(next, system_moment(&self.rt));
-        if !time.is_zero() {
-            self.rounds.pause(self.threads, time);
+        let wait = wait_until(next, system_moment(&self.rt));
+        if wait > 0 {
+            self.rounds.pause(self.threads, Duration::from_nanos(wait));
         }
     }
 }
 
-/// How long it is until the next moment, if there is one, but no longer than the clock may stand
-/// still.
-fn time_until(next: Option<u64>, now: Option<u64>) -> Duration {
-    let longest = Duration::from_millis(LONGEST);
+/// How many nanoseconds the clock waits: until the next moment, if there is one, but no longer than
+/// it may stand still.
+fn wait_until(next: Option<u64>, now: Option<u64>) -> u64
+    ensures { result ≡ wait_nanos next now }
+{
     match (next, now) {
-        (Some(next), Some(now)) => time_between(now, next).min(longest),
-        _ => longest,
+        (Some(next), Some(now)) => nanos_between(now, next).min(LONGEST),
+        _ => LONGEST,
     }
 }
 
-/// The time from one moment to another, at least as long as it is; nothing where it isn't later.
-fn time_between(now: u64, next: u64) -> Duration {
-    let gap = next.saturating_sub(now);
-    let nanos = ((gap & 0xffff_ffff) * 1_000_000_000).div_ceil(1 << 32);
-    Duration::from_secs(gap >> 32).saturating_add(Duration::from_nanos(nanos))
+/// How many nanoseconds it is from one moment to another, rounded up; none where it isn't later.
+fn nanos_between(now: u64, next: u64) -> u64
+    ensures { result ≡ span_nanos now next }
+{
+    let span = next.saturating_sub(now);
+    let part = ((span & LOW_WORD) * SECOND).div_ceil(1 << 32);
+    (span >> 32) * SECOND + part
+}
+
+/// How many whole milliseconds it is from one moment to another; none where it isn't later.
+pub(crate) fn millis_between(now: u64, next: u64) -> u64 {
+    nanos_between(now, next) / 1_000_000
 }

@@ -2,9 +2,9 @@
 //! grows.
 #![tactic(auto)]
 
+mod adds;
 mod ended;
 pub mod laws;
-mod opening;
 mod stage;
 mod top;
 

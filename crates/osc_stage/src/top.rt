@@ -7,9 +7,9 @@ ghost use Rattle.osc_links.specs.declared.limits.TheConstants.{MAX_LINKS};
 ghost use Rattle.osc_stage.specs.Ends.{HasCause, HasWritten};
 ghost use Rattle.osc_stage.specs.Stages.{RecordsStage, IsStaged, end_of};
 
+use crate::adds::adds_of;
 use crate::ended::ended_by;
 use crate::laws::what_was_sent_is_what_the_history_called;
-use crate::opening::adds_of;
 use crate::{Ended, Stage, Staged};
 use osc_edge::{Clock, Link, Sink};
 use osc_ends::status::{DONE, SINK_FAILED};

@@ -2,11 +2,11 @@
 use jiff_core::Offset;
 use osc_atoms::Room;
 use osc_console::{
-    Chore, ConsoleGate, Ending, EndingLink, Printer, RingSink, Rounds, Sender, ShownLink, Slot,
-    View, Watch, print_while,
+    Calendar, Chore, ConsoleGate, Pace, Printer, RingSink, Rounds, Sender, ShownLink, Shutdown,
+    ShutdownLink, Slot, View, WaitingClock, Watch, print_while,
 };
 use osc_core::Submitted;
-use osc_edge::{Datagram, Link, MAX_DATAGRAM, MemoryClock, MemorySink};
+use osc_edge::{Clock, Datagram, Link, MAX_DATAGRAM, MemoryClock, MemorySink};
 use osc_life::Gate;
 use osc_live::Submission;
 use osc_model::Late;
@@ -30,10 +30,27 @@ const FADER_WORDS: &[u8] = b"  /1/fader1 0.5                   ";
 /// A second after the beginning, as a time tag.
 const MOMENT: u64 = 1 << 32;
 
-/// A link that gives the fader so many times, and then ends.
+/// The fader in a bundle for two seconds after the clocks of time tags began.
+const TIMED_FADER: &[u8] = b"#bundle\0\0\0\0\x02\0\0\0\0\0\0\0\x14/1/fader1\0\0\0,f\0\0\x3f\0\0\0";
+
+/// The line before the first of a day.
+const DAY: &[u8] = b"-- Monday 1900-01-01, UTC\n";
+
+/// A link that gives a datagram so many times, and then ends.
 #[derive(Drop)]
 struct Faders {
+    datagram: &'static [u8],
     left: u32,
+}
+
+impl Faders {
+    /// Gives the fader.
+    fn new(left: u32) -> Faders {
+        Faders {
+            datagram: FADER,
+            left,
+        }
+    }
 }
 
 impl Sender for Faders {
@@ -52,12 +69,13 @@ impl Link for Faders {
     ghost quiets = { λ _. 0 };
 
     fn next(&mut self, into: &mut [u8]) -> Datagram {
-        if self.left == 0 || into.len() < FADER.len() {
+        let size = self.datagram.len();
+        if self.left == 0 || into.len() < size {
             return Datagram::End;
         }
         self.left -= 1;
-        into[..FADER.len()].copy_from_slice(FADER);
-        Datagram::Got(FADER.len())
+        into[..size].copy_from_slice(self.datagram);
+        Datagram::Got(size)
     }
 }
 
@@ -106,6 +124,7 @@ fn give<L: Link>(alloc: Global, link: &mut L) -> Result<Datagram, AllocError> {
 fn shown<W: Wait>(rt: &W, alloc: Global, answer: Submitted, quiet: bool) -> Result<Vec<u8>, Fail> {
     let routes = routes(alloc)?;
     let (rounds, printer) = (Rounds::new(), Printer::new());
+    let (pace, calendar) = (Pace::new(50), Calendar::new(alloc));
     let slots = [Slot::new()];
     let gate = ConsoleGate::new(&rounds, &slots);
     let (producer, mut ring) = RingBuffer::new(alloc, 4_096)?;
@@ -113,9 +132,11 @@ fn shown<W: Wait>(rt: &W, alloc: Global, answer: Submitted, quiet: bool) -> Resu
         threads: rt,
         rounds: &rounds,
         slot: &slots[0],
+        pace: &pace,
+        calendar: &calendar,
     };
     let out = RingSink::new(producer, &printer);
-    let link = Faders { left: 1 };
+    let link = Faders::new(1);
     let mut link = ShownLink::open(alloc, link, clock(alloc)?, out, view(&routes, quiet), watch)?;
     let _ = give(alloc, &mut link)?;
     gate.answered(0, 1, &Submission { answer, clock: 1 });
@@ -123,9 +144,10 @@ fn shown<W: Wait>(rt: &W, alloc: Global, answer: Submitted, quiet: bool) -> Resu
     Ok(printed(alloc, &mut ring)?)
 }
 
-/// The fader's line with this mark and this tail.
+/// The fader's line with this mark and this tail, after that of its day.
 fn line(alloc: Global, mark: u8, tail: &[u8]) -> Result<Vec<u8>, AllocError> {
-    let mut line = Vec::from_slice(alloc, TIME)?;
+    let mut line = Vec::from_slice(alloc, DAY)?;
+    line.extend_from_slice(TIME)?;
     line.push(mark)?;
     line.extend_from_slice(FADER_WORDS)?;
     line.extend_from_slice(tail)?;
@@ -163,11 +185,66 @@ fn a_datagram_is_shown_with_the_servers_answer(rt: HostRuntime) -> Result<(), Fa
     Ok(())
 }
 
+/// What is printed of a bundle that waits: before the ticker has played a round at its time tag, and
+/// after that.
+fn shown_twice<W: Wait>(rt: &HostRuntime, threads: &W) -> Result<(Vec<u8>, Vec<u8>), Fail> {
+    let alloc = rt.alloc();
+    let routes = routes(alloc)?;
+    let (rounds, printer) = (Rounds::new(), Printer::new());
+    let (pace, calendar) = (Pace::new(50), Calendar::new(alloc));
+    let slots = [Slot::new()];
+    let gate = ConsoleGate::new(&rounds, &slots);
+    let (producer, mut ring) = RingBuffer::new(alloc, 4_096)?;
+    let watch = Watch {
+        threads,
+        rounds: &rounds,
+        slot: &slots[0],
+        pace: &pace,
+        calendar: &calendar,
+    };
+    let out = RingSink::new(producer, &printer);
+    let link = Faders {
+        datagram: TIMED_FADER,
+        left: 1,
+    };
+    let mut link = ShownLink::open(alloc, link, clock(alloc)?, out, view(&routes, false), watch)?;
+    let _ = give(alloc, &mut link)?;
+    let answer = Submitted::Queued {
+        first: 0,
+        count: 1,
+        late: 0,
+    };
+    gate.answered(0, 1, &Submission { answer, clock: 1 });
+    link.finish();
+    let waits = printed(alloc, &mut ring)?;
+    let mut ticker = WaitingClock::open(rt, threads, &rounds);
+    let _ = ticker.now();
+    ticker.until(Some(0));
+    link.finish();
+    Ok((waits, printed(alloc, &mut ring)?))
+}
+
+#[test]
+fn a_bundle_that_waits_is_shown_again_when_it_is_called(rt: HostRuntime) -> Result<(), Fail> {
+    let alloc = rt.alloc();
+    let (waits, called) = shown_twice(&rt, &rt)?;
+    let first = line(
+        alloc,
+        b'~',
+        b"for 00:00:02.000, in 1.000 s, from 10.0.0.9:51234\n",
+    )?;
+    assert_eq!(rt; waits.as_slice(), first.as_slice());
+    assert!(rt; called.starts_with(b"-- "));
+    assert!(rt; called.ends_with(b"   /1/fader1 0.5                   from 10.0.0.9:51234\n"));
+    Ok(())
+}
+
 /// What a link of 10,000 faders does over a ring that nobody reads: how many it gave, and what
 /// comes out of the ring then, and at the next line.
 fn give_unread<W: Wait>(rt: &W, alloc: Global) -> Result<(u32, Vec<u8>, Vec<u8>), Fail> {
     let routes = routes(alloc)?;
     let (rounds, printer) = (Rounds::new(), Printer::new());
+    let (pace, calendar) = (Pace::new(50), Calendar::new(alloc));
     let slots = [Slot::new()];
     let gate = ConsoleGate::new(&rounds, &slots);
     let (producer, mut ring) = RingBuffer::new(alloc, 4_096)?;
@@ -175,9 +252,11 @@ fn give_unread<W: Wait>(rt: &W, alloc: Global) -> Result<(u32, Vec<u8>, Vec<u8>)
         threads: rt,
         rounds: &rounds,
         slot: &slots[0],
+        pace: &pace,
+        calendar: &calendar,
     };
     let out = RingSink::new(producer, &printer);
-    let link = Faders { left: 10_000 };
+    let link = Faders::new(10_000);
     let mut link = ShownLink::open(alloc, link, clock(alloc)?, out, view(&routes, false), watch)?;
     let answer = Submitted::RecordFull(Room::new(72, 0));
     let mut given = 0u32;
@@ -200,7 +279,7 @@ fn give_unread<W: Wait>(rt: &W, alloc: Global) -> Result<(u32, Vec<u8>, Vec<u8>)
 fn nobody_who_reads_holds_no_link(rt: HostRuntime) -> Result<(), Fail> {
     let (given, before, after) = give_unread(&rt, rt.alloc())?;
     assert_eq!(rt; given, 9_999);
-    assert!(rt; before.starts_with(b"00:00:01.000 !  /1/fader1 0.5"));
+    assert!(rt; before.starts_with(b"-- Monday 1900-01-01, UTC\n00:00:01.000 !  /1/fader1 0.5"));
     assert!(rt; before.ends_with(b"from 10.0.0.9:51234\n"));
     assert!(rt; after.starts_with(b"-- 99"));
     Ok(())
@@ -208,11 +287,11 @@ fn nobody_who_reads_holds_no_link(rt: HostRuntime) -> Result<(), Fail> {
 
 #[test]
 fn a_show_that_is_ended_ends_its_links(rt: HostRuntime) -> Result<(), Fail> {
-    let ending = Ending::new();
-    let mut link = EndingLink::new(Faders { left: 10 }, &ending);
+    let shutdown = Shutdown::new();
+    let mut link = ShutdownLink::new(Faders::new(10), &shutdown);
     assert_eq!(rt; give(rt.alloc(), &mut link)?, Datagram::Got(FADER.len()));
-    ending.end();
-    assert!(rt; ending.is_over());
+    shutdown.ask();
+    assert!(rt; shutdown.is_asked());
     assert_eq!(rt; give(rt.alloc(), &mut link)?, Datagram::End);
     Ok(())
 }

@@ -1,5 +1,5 @@
 //! The word that ends a show.
-use osc_console::{Ending, Rounds};
+use osc_console::Shutdown;
 use std::alloc::Global;
 use std::io::{IsTerminal, Read};
 use std::os::unix::fs::FileTypeExt;
@@ -12,12 +12,16 @@ const END: &[u8] = b"end";
 
 /// Ends the show at the line `end` on standard input, and at its end, unless that is a device such
 /// as /dev/null. A thread waits for it, which the program doesn't wait for.
-pub(crate) fn watch_input<W: Threads>(rt: &HostRuntime, threads: &W, ending: Arc<Ending, Global>) {
+pub(crate) fn watch_input<W: Threads>(
+    rt: &HostRuntime,
+    threads: &W,
+    shutdown: Arc<Shutdown, Global>,
+) {
     let rt = *rt;
-    let _ = thread::spawn(threads, move || read_until_end(&rt, &ending));
+    let _ = thread::spawn(threads, move || read_until_end(&rt, &shutdown));
 }
 
-fn read_until_end(rt: &HostRuntime, ending: &Ending) {
+fn read_until_end(rt: &HostRuntime, shutdown: &Shutdown) {
     let mut stdin = rt.stdin();
     let mut line = [0; 16];
     let mut used = 0usize;
@@ -30,7 +34,7 @@ fn read_until_end(rt: &HostRuntime, ending: &Ending) {
         }
         if byte[0] == b'\n' {
             if line.get(..used).unwrap_or(&[]).trim_ascii() == END {
-                ending.end();
+                shutdown.ask();
                 return;
             }
             used = 0;
@@ -40,7 +44,7 @@ fn read_until_end(rt: &HostRuntime, ending: &Ending) {
         }
     }
     if ends_with_input(rt) {
-        ending.end();
+        shutdown.ask();
     }
 }
 

@@ -10,8 +10,8 @@ use crate::report::{ShowEnd, report_end, report_start};
 use crate::view::{look_of, print_day};
 use crate::words::Serving;
 use osc_console::{
-    Chore, ConsoleGate, Ending, EndingLink, HeardLink, Printer, RingSink, Rounds, Sender,
-    ShownLink, Slot, View, WaitingClock, Watch, print_while,
+    Calendar, Chore, ConsoleGate, HeardLink, Pace, Printer, RingSink, Rounds, Sender, ShownLink,
+    Shutdown, ShutdownLink, Slot, View, WaitingClock, Watch, print_while,
 };
 use osc_edge::{FileSink, Link, StdSink, TcpSource};
 use osc_ends::limits_for;
@@ -41,23 +41,40 @@ const COUNTED_WAIT: u32 = 50;
 /// What the threads of a show share.
 #[derive(Drop)]
 struct Shared {
+    shutdown: Arc<Shutdown, Global>,
     rounds: Rounds,
-    slots: Vec<Slot>,
+    calendar: Calendar,
     printer: Printer,
+    slots: Vec<Slot>,
+    paces: Vec<Pace>,
 }
 
 impl Shared {
     /// For so many links.
-    fn open(alloc: Global, links: usize) -> Result<Shared, AllocError> {
+    fn open(alloc: Global, serving: &Serving, links: usize) -> Result<Shared, AllocError> {
         let mut slots = Vec::with_capacity(alloc, links)?;
+        let mut paces = Vec::with_capacity(alloc, links)?;
         for _ in 0..links {
             slots.push(Slot::new())?;
+            paces.push(pace_of(serving))?;
         }
         Ok(Shared {
+            shutdown: Arc::new(alloc, Shutdown::new())?,
             rounds: Rounds::new(),
-            slots,
+            calendar: Calendar::new(alloc),
             printer: Printer::new(),
+            slots,
+            paces,
         })
+    }
+}
+
+/// A link wakes up seldom, so that an idle show costs nothing, unless `--idle` counts its waits.
+fn pace_of(serving: &Serving) -> Pace {
+    if serving.links.bounds.idle < u32::MAX {
+        Pace::steady(COUNTED_WAIT)
+    } else {
+        Pace::new(LONG_WAIT)
     }
 }
 
@@ -71,18 +88,17 @@ pub(crate) fn play<W: Threads + Wait + Sync>(
 ) -> Result<u8, AllocError>
     requires { length ports.now ≡ serving.now.links.count }
 {
-    let alloc = rt.alloc();
     report_start(rt, serving, ports, &bank);
-    let ending = Arc::new(alloc, Ending::new())?;
-    watch_input(rt, threads, Arc::try_clone(&ending)?);
+    let shared = Shared::open(rt.alloc(), serving, ports.len())?;
+    watch_input(rt, threads, Arc::try_clone(&shared.shutdown)?);
     match serving.links.transport {
         Transport::Udp => {
-            let links = datagram_links(rt, &ending, ports, link_wait(serving))?;
-            play_links(rt, threads, serving, links, bank)
+            let links = datagram_links(rt, &shared, ports)?;
+            play_links(rt, threads, serving, &shared, links, bank)
         }
         Transport::Tcp => {
-            let links = stream_links(rt, &ending, ports)?;
-            play_links(rt, threads, serving, links, bank)
+            let links = stream_links(rt, &shared, ports)?;
+            play_links(rt, threads, serving, &shared, links, bank)
         }
     }
 }
@@ -90,16 +106,17 @@ pub(crate) fn play<W: Threads + Wait + Sync>(
 /// A link over UDP for each port.
 fn datagram_links<'a>(
     rt: &HostRuntime,
-    ending: &'a Ending,
+    shared: &'a Shared,
     ports: &[u16],
-    wait: u32,
-) -> Result<Vec<EndingLink<'a, HeardLink>>, AllocError>
-    ensures { IfOk result (λ links. length links.items ≡ length ports.now) }
+) -> Result<Vec<ShutdownLink<'a, HeardLink<'a>>>, AllocError>
+    ensures { IfOk result (λ links. length links.items ≤ length ports.now) }
 {
     let mut links = Vec::with_capacity(rt.alloc(), ports.len())?;
+    let mut paces = shared.paces.iter();
     for port in ports {
-        let link = HeardLink::at(rt, *port, wait);
-        links.push(EndingLink::new(link, ending))?;
+        let Some(pace) = paces.next() else { break };
+        let link = HeardLink::at(rt, *port, pace);
+        links.push(ShutdownLink::new(link, &shared.shutdown))?;
     }
     Ok(links)
 }
@@ -107,26 +124,17 @@ fn datagram_links<'a>(
 /// A link over TCP for each port.
 fn stream_links<'a>(
     rt: &HostRuntime,
-    ending: &'a Ending,
+    shared: &'a Shared,
     ports: &[u16],
-) -> Result<Vec<EndingLink<'a, StreamLink<TcpSource>>>, AllocError>
-    ensures { IfOk result (λ links. length links.items ≡ length ports.now) }
+) -> Result<Vec<ShutdownLink<'a, StreamLink<TcpSource>>>, AllocError>
+    ensures { IfOk result (λ links. length links.items ≤ length ports.now) }
 {
     let mut links = Vec::with_capacity(rt.alloc(), ports.len())?;
     for port in ports {
         let link = StreamLink::open(rt.alloc(), TcpSource::at(rt, *port))?;
-        links.push(EndingLink::new(link, ending))?;
+        links.push(ShutdownLink::new(link, &shared.shutdown))?;
     }
     Ok(links)
-}
-
-/// A link wakes up seldom, so that an idle show costs nothing, unless `--idle` counts its waits.
-fn link_wait(serving: &Serving) -> u32 {
-    if serving.links.bounds.idle < u32::MAX {
-        COUNTED_WAIT
-    } else {
-        LONG_WAIT
-    }
 }
 
 /// Serves these links, and prints meanwhile.
@@ -134,6 +142,7 @@ fn play_links<W: Threads + Wait + Sync, L: Link + Sender + Send + Drop>(
     rt: &HostRuntime,
     threads: &W,
     serving: &Serving,
+    shared: &Shared,
     links: Vec<L>,
     bank: Bank,
 ) -> Result<u8, AllocError>
@@ -141,8 +150,7 @@ fn play_links<W: Threads + Wait + Sync, L: Link + Sender + Send + Drop>(
 {
     let alloc = rt.alloc();
     let look = look_of(rt, serving.flags.quiet);
-    print_day(rt, look)?;
-    let shared = Shared::open(alloc, links.len())?;
+    print_day(rt, look, &shared.calendar)?;
     let Bank {
         relays,
         routes,
@@ -158,13 +166,13 @@ fn play_links<W: Threads + Wait + Sync, L: Link + Sender + Send + Drop>(
         caps: limits_for(CALLERS, serving.caps),
         relays,
         links: LinksPart {
-            from: show_links(rt, threads, &shared, view, links, &mut rings)?,
+            from: show_links(rt, threads, shared, view, links, &mut rings)?,
             bounds: serving.links.bounds,
         },
         rec: FileSink::at(rt, String::from_str(alloc, &serving.names.file)?),
     };
     let mut report = LossReport::new(rt, &destinations);
-    let end = play_printed(rt, threads, &shared, show, &mut rings, &mut report)?;
+    let end = play_printed(rt, threads, shared, show, &mut rings, &mut report)?;
     report_losses(rt, &destinations);
     report_end(rt, serving, end);
     Ok(status_of(end.ended))
@@ -221,14 +229,18 @@ fn show_links<'a, W: Wait, L: Link + Sender + Drop>(
 {
     let alloc = rt.alloc();
     let mut shown = Vec::with_capacity(alloc, links.len())?;
-    let mut slots = shared.slots.iter();
+    let mut desks = shared.slots.iter().zip(&shared.paces);
     for link in links {
-        let Some(slot) = slots.next() else { break };
+        let Some((slot, pace)) = desks.next() else {
+            break;
+        };
         let (producer, consumer) = RingBuffer::new(alloc, RING)?;
         let watch = Watch {
             threads,
             rounds: &shared.rounds,
             slot,
+            pace,
+            calendar: &shared.calendar,
         };
         let clock = WaitingClock::open(rt, threads, &shared.rounds);
         let sink = RingSink::new(producer, &shared.printer);

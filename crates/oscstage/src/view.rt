@@ -1,6 +1,7 @@
 //! How what comes in is shown.
 use jiff_core::{Offset, Timestamp};
 use jiff_tz::{SystemTimeZone, TimeZoneDatabase};
+use osc_console::Calendar;
 use osc_edge::system_moment;
 use osc_shown::{Look, WallClock, day_line};
 use std::alloc::AllocError;
@@ -20,11 +21,16 @@ pub(crate) fn look_of(rt: &HostRuntime, quiet: bool) -> Look {
     }
 }
 
-/// Prints the line of the day.
-pub(crate) fn print_day(rt: &HostRuntime, look: Look) -> Result<(), AllocError> {
+/// Prints the line of the day, which is the last that was shown then.
+pub(crate) fn print_day(
+    rt: &HostRuntime,
+    look: Look,
+    calendar: &Calendar,
+) -> Result<(), AllocError> {
     if let Some(moment) = system_moment(rt) {
         let mut line = Vec::new(rt.alloc());
         day_line(&mut line, look, moment)?;
+        calendar.turns_to(&line)?;
         rt.stdout().write_all(&line).ok();
     }
     Ok(())
