@@ -185,8 +185,8 @@ fn a_datagram_is_shown_with_the_servers_answer(rt: HostRuntime) -> Result<(), Fa
     Ok(())
 }
 
-/// What is printed of a bundle that waits: before the ticker has played a round at its time tag, and
-/// after that.
+/// What is printed of a bundle that waits: before the ticker has played a round at its time tag,
+/// and after that.
 fn shown_twice<W: Wait>(rt: &HostRuntime, threads: &W) -> Result<(Vec<u8>, Vec<u8>), Fail> {
     let alloc = rt.alloc();
     let routes = routes(alloc)?;

@@ -78,7 +78,8 @@ const PATCHES: [(u32, &[u8], &[u8]); 9] = [
     ),
     (
         2,
-        b"\r\n  add\t/log/all\t# all that comes\r\n#add /a\nadd /b desk-2.local 65535\r\nadd /log/all 10.0.0.255 08",
+        b"\r\n  add\t/log/all\t# all that comes\r\n#add /a\nadd /b desk-2.local 65535\r\nadd \
+          /log/all 10.0.0.255 08",
         b"/log/all 2, 10.0.0.255:8 5\n/b 4, desk-2.local:65535 4\n",
     ),
     (

@@ -28,18 +28,27 @@ const PATCH: [(&[u8], &[u8]); 7] = [
 const UNITS: [(Answered, &[u8], &[u8]); 21] = [
     (
         Answered::Due,
-        b"/video/clip\0,ifsSbbhtdcrmTFNI[]\0\xff\xff\xff\xf9?@\0\0act \"two\"\\\0\0x\0\0\0\0\0\0\x02\x01\x02\0\0\0\0\0\n\x01\x02\x03\x04\x05\x06\x07\x08\x09\n\0\0\0\0\0\x01*\x05\xf2\0\x80\0\0\0\0\0\0\0?\xb9\x99\x99\x99\x99\x99\x9a\0\0\0A\0\xff\x88\0\0\x90<\x7f",
-        b"20:00:44.500    /video/clip -7 0.75 \"act \\\"two\\\"\\\\\" S:\"x\" b:0102 b:0102030405060708..10 h:5000000000 t:8000000000000000 d:0.1 c:A r:00ff8800 m:00903c7f true false nil infinitum [ ]  -> 10.0.0.8:8000, from 10.0.0.9:51234\n",
+        b"/video/clip\0,ifsSbbhtdcrmTFNI[]\0\xff\xff\xff\xf9?@\0\0act \
+          \"two\"\\\0\0x\0\0\0\0\0\0\x02\x01\x02\0\0\0\0\0\n\x01\x02\x03\x04\x05\x06\x07\x08\x09\n\
+          \0\0\0\0\0\x01*\x05\xf2\0\x80\0\0\0\0\0\0\0?\xb9\x99\x99\x99\x99\x99\x9a\0\0\0A\0\xff\x88\
+          \0\0\x90<\x7f",
+        b"20:00:44.500    /video/clip -7 0.75 \"act \\\"two\\\"\\\\\" S:\"x\" b:0102 \
+          b:0102030405060708..10 h:5000000000 t:8000000000000000 d:0.1 c:A r:00ff8800 m:00903c7f \
+          true false nil infinitum [ ]  -> 10.0.0.8:8000, from 10.0.0.9:51234\n",
     ),
     (
         Answered::Due,
-        b"/video/clip\0,ffdcs\0\0\x7f\xc0\0\0\xff\x80\0\0\x7f\xf0\0\0\0\0\0\0\0\0\0\ngr\xc3\xbcn\x09\xc2\x85\0\0\0\0",
-        b"20:00:44.500    /video/clip f:7fc00000 f:ff800000 d:7ff0000000000000 c:0000000a \"gr\xc3\xbcn\\x09\\xc2\\x85\"  -> 10.0.0.8:8000, from 10.0.0.9:51234\n",
+        b"/video/clip\0,ffdcs\0\0\x7f\xc0\0\0\xff\x80\0\0\x7f\xf0\0\0\0\0\0\0\0\0\0\ngr\xc3\xbcn\
+          \x09\xc2\x85\0\0\0\0",
+        b"20:00:44.500    /video/clip f:7fc00000 f:ff800000 d:7ff0000000000000 c:0000000a \
+          \"gr\xc3\xbcn\\x09\\xc2\\x85\"  -> 10.0.0.8:8000, from 10.0.0.9:51234\n",
     ),
     (
         Answered::Due,
-        b"/video/clip\0,ss\0gr\xfcn\x1b[31m\0\0\0a clip whose title is too long for any \xc3\xb6a clip whose title is too long for any \xc3\xb6\0\0",
-        b"20:00:44.500    /video/clip \"gr\\xfcn\\x1b[31m\" \"a clip whose title is too long for any \xc3\xb6\"..82  -> 10.0.0.8:8000, from 10.0.0.9:51234\n",
+        b"/video/clip\0,ss\0gr\xfcn\x1b[31m\0\0\0a clip whose title is too long for any \xc3\xb6a \
+          clip whose title is too long for any \xc3\xb6\0\0",
+        b"20:00:44.500    /video/clip \"gr\\xfcn\\x1b[31m\" \"a clip whose title is too long for \
+          any \xc3\xb6\"..82  -> 10.0.0.8:8000, from 10.0.0.9:51234\n",
     ),
     (
         Answered::Due,
@@ -59,22 +68,30 @@ const UNITS: [(Answered, &[u8], &[u8]); 21] = [
     (
         Answered::Due,
         b"/video/clip\0,A\0\0",
-        b"20:00:44.500 ?  /video/clip ,A                  unknown type A, so it calls nothing, from 10.0.0.9:51234\n",
+        b"20:00:44.500 ?  /video/clip ,A                  unknown type A, so it calls nothing, \
+          from 10.0.0.9:51234\n",
     ),
     (
         Answered::Due,
         b"/light/*\0\0\0\0,i\0\0\0\0\0\0",
-        b"20:00:44.500    /light/* 0                      -> /light/back, /light/front, /light/house 10.0.0.7:8000, /light/left and 1 more, from 10.0.0.9:51234\n",
+        b"20:00:44.500    /light/* 0                      -> /light/back, /light/front, \
+          /light/house 10.0.0.7:8000, /light/left and 1 more, from 10.0.0.9:51234\n",
     ),
     (
         Answered::Due,
-        b"#bundle\0\0\0\0\0\0\0\0\x01\0\0\0\x18/light/front\0\0\0\0,f\0\0?@\0\0\0\0\0\x18/cue/name\0\0\0,s\0\0act two\0\0\0\0\x14/light/*\0\0\0\0,i\0\0\0\0\0\0",
-        b"20:00:44.500  { /light/front 0.75               -> 10.0.0.7:8000, from 10.0.0.9:51234\n20:00:44.500 ?| /cue/name \"act two\"             no method, from 10.0.0.9:51234\n20:00:44.500  } /light/* 0                      -> /light/back, /light/front, /light/house 10.0.0.7:8000, /light/left and 1 more, from 10.0.0.9:51234\n",
+        b"#bundle\0\0\0\0\0\0\0\0\x01\0\0\0\x18/light/front\0\0\0\0,f\0\0?@\0\0\0\0\0\x18/cue/name\
+          \0\0\0,s\0\0act two\0\0\0\0\x14/light/*\0\0\0\0,i\0\0\0\0\0\0",
+        b"20:00:44.500  { /light/front 0.75               -> 10.0.0.7:8000, from \
+          10.0.0.9:51234\n20:00:44.500 ?| /cue/name \"act two\"             no method, from \
+          10.0.0.9:51234\n20:00:44.500  } /light/* 0                      -> /light/back, \
+          /light/front, /light/house 10.0.0.7:8000, /light/left and 1 more, from 10.0.0.9:51234\n",
     ),
     (
         Answered::Due,
-        b"#bundle\0\0\0\0\0\0\0\0\x01\0\0\0\x18/light/front\0\0\0\0,f\0\0?@\0\0\0\0\0\x0c/sound/go\0\0\0",
-        b"20:00:44.500  { /light/front 0.75               -> 10.0.0.7:8000, from 10.0.0.9:51234\n20:00:44.500  } /sound/go                       from 10.0.0.9:51234\n",
+        b"#bundle\0\0\0\0\0\0\0\0\x01\0\0\0\x18/light/front\0\0\0\0,f\0\0?@\0\0\0\0\0\x0c/sound/go\
+          \0\0\0",
+        b"20:00:44.500  { /light/front 0.75               -> 10.0.0.7:8000, from \
+          10.0.0.9:51234\n20:00:44.500  } /sound/go                       from 10.0.0.9:51234\n",
     ),
     (
         Answered::Due,
@@ -83,13 +100,19 @@ const UNITS: [(Answered, &[u8], &[u8]); 21] = [
     ),
     (
         Answered::Due,
-        b"#bundle\0\0\0\0\0\0\0\0\x01\0\0\0\x18/light/front\0\0\0\0,f\0\0?@\0\0\0\0\0 #bundle\0\0\0\0\0\0\0\0\x01\0\0\0\x0c/sound/go\0\0\0",
-        b"20:00:44.500    /light/front 0.75               -> 10.0.0.7:8000, from 10.0.0.9:51234\n20:00:44.500    /sound/go                       from 10.0.0.9:51234\n",
+        b"#bundle\0\0\0\0\0\0\0\0\x01\0\0\0\x18/light/front\0\0\0\0,f\0\0?@\0\0\0\0\0 \
+          #bundle\0\0\0\0\0\0\0\0\x01\0\0\0\x0c/sound/go\0\0\0",
+        b"20:00:44.500    /light/front 0.75               -> 10.0.0.7:8000, from \
+          10.0.0.9:51234\n20:00:44.500    /sound/go                       from 10.0.0.9:51234\n",
     ),
     (
         Answered::Late,
-        b"#bundle\0\xee\xb7\x02\xebaG\xae\x15\0\0\0\x18/light/front\0\0\0\0,f\0\0?@\0\0\0\0\0\x18/cue/name\0\0\0,s\0\0act two\0\0\0\0\x0c/sound/go\0\0\0",
-        b"20:00:44.500  { /light/front 0.75               -> 10.0.0.7:8000, late by 1.120 s, from 10.0.0.9:51234\n20:00:44.500 ?| /cue/name \"act two\"             no method, late by 1.120 s, from 10.0.0.9:51234\n20:00:44.500  } /sound/go                       late by 1.120 s, from 10.0.0.9:51234\n",
+        b"#bundle\0\xee\xb7\x02\xebaG\xae\x15\0\0\0\x18/light/front\0\0\0\0,f\0\0?@\0\0\0\0\0\x18/c\
+          ue/name\0\0\0,s\0\0act two\0\0\0\0\x0c/sound/go\0\0\0",
+        b"20:00:44.500  { /light/front 0.75               -> 10.0.0.7:8000, late by 1.120 s, from \
+          10.0.0.9:51234\n20:00:44.500 ?| /cue/name \"act two\"             no method, late by \
+          1.120 s, from 10.0.0.9:51234\n20:00:44.500  } /sound/go                       late by \
+          1.120 s, from 10.0.0.9:51234\n",
     ),
     (
         Answered::Late,
@@ -98,38 +121,50 @@ const UNITS: [(Answered, &[u8], &[u8]); 21] = [
     ),
     (
         Answered::Discarded,
-        b"#bundle\0\xee\xb7\x02\xebaG\xae\x15\0\0\0\x18/light/front\0\0\0\0,f\0\0?@\0\0\0\0\0\x18/cue/name\0\0\0,s\0\0act two\0",
-        b"20:00:44.500 !{ /light/front 0.75               discarded, late by 1.120 s, from 10.0.0.9:51234\n20:00:44.500 !} /cue/name \"act two\"             discarded, late by 1.120 s, from 10.0.0.9:51234\n",
+        b"#bundle\0\xee\xb7\x02\xebaG\xae\x15\0\0\0\x18/light/front\0\0\0\0,f\0\0?@\0\0\0\0\0\x18/c\
+          ue/name\0\0\0,s\0\0act two\0",
+        b"20:00:44.500 !{ /light/front 0.75               discarded, late by 1.120 s, from \
+          10.0.0.9:51234\n20:00:44.500 !} /cue/name \"act two\"             discarded, late by \
+          1.120 s, from 10.0.0.9:51234\n",
     ),
     (
         Answered::Waiting,
-        b"#bundle\0\xee\xb7\x02\xf2\0\0\0\0\0\0\0\x14/light/*\0\0\0\0,i\0\0\0\0\0\0\0\0\0\x18/light/front\0\0\0\0,f\0\0?@\0\0\0\0\0\x18/cue/name\0\0\0,s\0\0act two\0",
-        b"20:00:44.500 ~  /light/* 0 and 2 more           for 20:00:50.000, in 5.500 s, from 10.0.0.9:51234\n",
+        b"#bundle\0\xee\xb7\x02\xf2\0\0\0\0\0\0\0\x14/light/*\0\0\0\0,i\0\0\0\0\0\0\0\0\0\x18/light\
+          /front\0\0\0\0,f\0\0?@\0\0\0\0\0\x18/cue/name\0\0\0,s\0\0act two\0",
+        b"20:00:44.500 ~  /light/* 0 and 2 more           for 20:00:50.000, in 5.500 s, from \
+          10.0.0.9:51234\n",
     ),
     (
         Answered::Waiting,
         b"#bundle\0\xee\xb7=X\0\0\0\0\0\0\0\x18/light/front\0\0\0\0,f\0\0?@\0\0",
-        b"20:00:44.500 ~  /light/front 0.75               for 2026-11-30 00:10:00.000, in 14955.500 s, from 10.0.0.9:51234\n",
+        b"20:00:44.500 ~  /light/front 0.75               for 2026-11-30 00:10:00.000, in \
+          14955.500 s, from 10.0.0.9:51234\n",
     ),
     (
         Answered::Waiting,
         b"#bundle\0\xee\xb7\x02\xf2\0\0\0\0",
-        b"20:00:44.500 ~  (no message)                    for 20:00:50.000, in 5.500 s, from 10.0.0.9:51234\n",
+        b"20:00:44.500 ~  (no message)                    for 20:00:50.000, in 5.500 s, from \
+          10.0.0.9:51234\n",
     ),
     (
         Answered::UnitsFull,
         b"/cue/name\0\0\0,s\0\0act two\0",
-        b"20:00:44.500 !  /cue/name \"act two\"             refused, the queue is full, from 10.0.0.9:51234\n",
+        b"20:00:44.500 !  /cue/name \"act two\"             refused, the queue is full, from \
+          10.0.0.9:51234\n",
     ),
     (
         Answered::PoolFull,
-        b"#bundle\0\xee\xb7\x02\xf2\0\0\0\0\0\0\0\x18/light/front\0\0\0\0,f\0\0?@\0\0\0\0\0\x0c/sound/go\0\0\0",
-        b"20:00:44.500 !{ /light/front 0.75               refused, no room for its messages, from 10.0.0.9:51234\n20:00:44.500 !} /sound/go                       refused, no room for its messages, from 10.0.0.9:51234\n",
+        b"#bundle\0\xee\xb7\x02\xf2\0\0\0\0\0\0\0\x18/light/front\0\0\0\0,f\0\0?@\0\0\0\0\0\x0c/sou\
+          nd/go\0\0\0",
+        b"20:00:44.500 !{ /light/front 0.75               refused, no room for its messages, from \
+          10.0.0.9:51234\n20:00:44.500 !} /sound/go                       refused, no room for its \
+          messages, from 10.0.0.9:51234\n",
     ),
     (
         Answered::RecordFull,
         b"/sound/go\0\0\0",
-        b"20:00:44.500 !  /sound/go                       refused, the recording is full, from 10.0.0.9:51234\n",
+        b"20:00:44.500 !  /sound/go                       refused, the recording is full, from \
+          10.0.0.9:51234\n",
     ),
 ];
 
@@ -139,109 +174,127 @@ const FAULTS: [(u8, u32, &[u8], &[u8]); 18] = [
         1,
         0,
         b"",
-        b"20:00:44.500 !   (0 bytes)                      no packet, byte 0: it is empty, from 10.0.0.9:51234\n",
+        b"20:00:44.500 !   (0 bytes)                      no packet, byte 0: it is empty, from \
+          10.0.0.9:51234\n",
     ),
     (
         2,
         18,
         b"GET / HTTP/1.1\x0d\n\x0d\n",
-        b"20:00:44.500 !  GET / HTTP/1.1.... (18 bytes)   no packet, byte 18: its size is no multiple of 4, from 10.0.0.9:51234\n",
+        b"20:00:44.500 !  GET / HTTP/1.1.... (18 bytes)   no packet, byte 18: its size is no \
+          multiple of 4, from 10.0.0.9:51234\n",
     ),
     (
         3,
         65504,
         b"/////////////////////",
-        b"20:00:44.500 !  //////////////////// (21 bytes)  no packet, byte 65,504: it is over 65,504 bytes, from 10.0.0.9:51234\n",
+        b"20:00:44.500 !  //////////////////// (21 bytes)  no packet, byte 65,504: it is over \
+          65,504 bytes, from 10.0.0.9:51234\n",
     ),
     (
         4,
         0,
         b"x",
-        b"20:00:44.500 !  x (1 byte)                      no packet, byte 0: no slash and no # begins it, from 10.0.0.9:51234\n",
+        b"20:00:44.500 !  x (1 byte)                      no packet, byte 0: no slash and no # \
+          begins it, from 10.0.0.9:51234\n",
     ),
     (
         5,
         0,
         b"#bindle\0",
-        b"20:00:44.500 !  #bindle. (8 bytes)              no packet, byte 0: #bundle is misspelt, from 10.0.0.9:51234\n",
+        b"20:00:44.500 !  #bindle. (8 bytes)              no packet, byte 0: #bundle is misspelt, \
+          from 10.0.0.9:51234\n",
     ),
     (
         6,
         8,
         b"#bundle\0",
-        b"20:00:44.500 !  #bundle. (8 bytes)              no packet, byte 8: a bundle has no whole time tag, from 10.0.0.9:51234\n",
+        b"20:00:44.500 !  #bundle. (8 bytes)              no packet, byte 8: a bundle has no whole \
+          time tag, from 10.0.0.9:51234\n",
     ),
     (
         7,
         16,
         b"#bundle\0\0\0\0\0\0\0\0\0\0\0\0\0",
-        b"20:00:44.500 !  #bundle............. (20 bytes)  no packet, byte 16: a size in a bundle is wrong, from 10.0.0.9:51234\n",
+        b"20:00:44.500 !  #bundle............. (20 bytes)  no packet, byte 16: a size in a bundle \
+          is wrong, from 10.0.0.9:51234\n",
     ),
     (
         8,
         0,
         b"/abc",
-        b"20:00:44.500 !  /abc (4 bytes)                  no packet, byte 0: a text has no end, from 10.0.0.9:51234\n",
+        b"20:00:44.500 !  /abc (4 bytes)                  no packet, byte 0: a text has no end, \
+          from 10.0.0.9:51234\n",
     ),
     (
         9,
         19,
         b"/buf\0\0\0\0,b\0\0\0\0\0\x01\xff\x01\x01\x01",
-        b"20:00:44.500 !  /buf....,b.......... (20 bytes)  no packet, byte 19: padding isn't zero, from 10.0.0.9:51234\n",
+        b"20:00:44.500 !  /buf....,b.......... (20 bytes)  no packet, byte 19: padding isn't zero, \
+          from 10.0.0.9:51234\n",
     ),
     (
         10,
         1,
         b"/\x01\0\0",
-        b"20:00:44.500 !  /... (4 bytes)                  no packet, byte 1: no address has such a byte, from 10.0.0.9:51234\n",
+        b"20:00:44.500 !  /... (4 bytes)                  no packet, byte 1: no address has such a \
+          byte, from 10.0.0.9:51234\n",
     ),
     (
         11,
         1,
         b"/[a\0",
-        b"20:00:44.500 !  /[a. (4 bytes)                  no packet, byte 1: a bracket isn't closed, from 10.0.0.9:51234\n",
+        b"20:00:44.500 !  /[a. (4 bytes)                  no packet, byte 1: a bracket isn't \
+          closed, from 10.0.0.9:51234\n",
     ),
     (
         12,
         4,
         b"/a\0\0\0\0\0\x01",
-        b"20:00:44.500 !  /a...... (8 bytes)              no packet, byte 4: it has no type tags, from 10.0.0.9:51234\n",
+        b"20:00:44.500 !  /a...... (8 bytes)              no packet, byte 4: it has no type tags, \
+          from 10.0.0.9:51234\n",
     ),
     (
         13,
         8,
         b"/a\0\0,b\0\0\xff\xff\xff\xff",
-        b"20:00:44.500 !  /a..,b...... (12 bytes)         no packet, byte 8: the size of a blob is wrong, from 10.0.0.9:51234\n",
+        b"20:00:44.500 !  /a..,b...... (12 bytes)         no packet, byte 8: the size of a blob is \
+          wrong, from 10.0.0.9:51234\n",
     ),
     (
         14,
         8,
         b"/a\0\0,i\0\0",
-        b"20:00:44.500 !  /a..,i.. (8 bytes)              no packet, byte 8: an argument is cut off, from 10.0.0.9:51234\n",
+        b"20:00:44.500 !  /a..,i.. (8 bytes)              no packet, byte 8: an argument is cut \
+          off, from 10.0.0.9:51234\n",
     ),
     (
         15,
         5,
         b"/a\0\0,[\0\0",
-        b"20:00:44.500 !  /a..,[.. (8 bytes)              no packet, byte 5: array brackets don't match, from 10.0.0.9:51234\n",
+        b"20:00:44.500 !  /a..,[.. (8 bytes)              no packet, byte 5: array brackets don't \
+          match, from 10.0.0.9:51234\n",
     ),
     (
         16,
         12345,
         b"/a\0\0,\0\0\0",
-        b"20:00:44.500 !  /a..,... (8 bytes)              no packet, byte 12,345: bytes are left over, from 10.0.0.9:51234\n",
+        b"20:00:44.500 !  /a..,... (8 bytes)              no packet, byte 12,345: bytes are left \
+          over, from 10.0.0.9:51234\n",
     ),
     (
         17,
         260,
         b"#bundle\0",
-        b"20:00:44.500 !  #bundle. (8 bytes)              no packet, byte 260: bundles lie over 16 deep, from 10.0.0.9:51234\n",
+        b"20:00:44.500 !  #bundle. (8 bytes)              no packet, byte 260: bundles lie over 16 \
+          deep, from 10.0.0.9:51234\n",
     ),
     (
         18,
         20,
         b"#bundle\0",
-        b"20:00:44.500 !  #bundle. (8 bytes)              no packet, byte 20: a bundle in a bundle is for an earlier time, from 10.0.0.9:51234\n",
+        b"20:00:44.500 !  #bundle. (8 bytes)              no packet, byte 20: a bundle in a bundle \
+          is for an earlier time, from 10.0.0.9:51234\n",
     ),
 ];
 
