@@ -5,6 +5,7 @@
 ghost use Rattle.std.specs.Prelude.{◌≡◌, length, IfOk};
 
 mod bank;
+mod carry;
 mod input;
 mod links;
 mod losses;
@@ -15,6 +16,7 @@ mod view;
 mod words;
 
 use crate::bank::open_bank;
+use crate::carry::write_script;
 use crate::links::Links;
 use crate::patch::read_patch;
 use crate::report::{report_help, report_routes, report_usage};
@@ -46,6 +48,7 @@ fn run<W: Threads + Wait + Sync>(rt: &HostRuntime, threads: &W) -> Result<u8, Al
             report_usage(rt);
             Ok(USAGE)
         }
+        Said::Carry(file) => write_script(rt, &file),
         Said::Serve(serving) => serve(rt, threads, &serving),
     }
 }

@@ -1,6 +1,7 @@
 //! What is reported on standard error, and the help.
 use crate::bank::{Bank, RouteFault, WrongRoute};
 use crate::words::Serving;
+use osc_carry::CarryFault;
 use osc_patch::PatchError;
 use osc_stage::Ended;
 use osc_words::Transport;
@@ -14,7 +15,8 @@ const MESSAGE_SIZE: u32 = 172;
 const HOUR_SIZE: u32 = 172_800;
 
 const USAGE: &str =
-    "usage: oscstage serve [OPTIONS] [--quiet] [--force] PATCH FILE; oscstage --help tells more";
+    "usage: oscstage serve [OPTIONS] [--quiet] [--force] PATCH FILE, or oscstage carry FILE; \
+    oscstage --help tells more";
 
 const HELP: &str = "oscstage serve [OPTIONS] PATCH FILE
 
@@ -41,6 +43,11 @@ PATCH has a line for each method:
 
 Type end and Enter to end the show. Ctrl-C ends it at once, and FILE keeps all
 but the last 50 milliseconds.
+
+oscstage carry FILE
+
+Writes the script that brings a new server, with an empty recording, to where
+the recording in FILE ends: its methods, its clock, and the bundles that wait.
 ";
 
 pub(crate) fn report_help(rt: &HostRuntime) {
@@ -91,6 +98,31 @@ pub(crate) fn report_routes(rt: &HostRuntime, name: &str, wrong: &[WrongRoute]) 
                 "it sends to the port that oscstage itself listens to, which would go on for ever: name another port",
         };
         eprintln!(rt; "oscstage: {name}, line {line}: {words}").ok();
+    }
+}
+
+/// Reports why a recording isn't carried on.
+pub(crate) fn report_carry(rt: &HostRuntime, file: &str, fault: &CarryFault) {
+    match fault {
+        CarryFault::NoMemory => {}
+        CarryFault::Malformed { at: 0 } => {
+            eprintln!(rt; "oscstage: {file} is no recording of a server").ok();
+        }
+        CarryFault::Malformed { at } => {
+            eprintln!(rt;
+                "oscstage: {file} is cut off at byte {at}: head -c {at} {file} has all that is whole"
+            ).ok();
+        }
+        CarryFault::Disagrees { entry, .. } => {
+            eprintln!(rt;
+                "oscstage: {file} wasn't recorded by this server, as its entry {entry} shows"
+            ).ok();
+        }
+        CarryFault::TooLong => {
+            eprintln!(rt;
+                "oscstage: the script of {file} would have over 64 MiB, as so many bundles wait"
+            ).ok();
+        }
     }
 }
 

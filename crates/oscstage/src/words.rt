@@ -12,6 +12,8 @@ use std::alloc::{AllocError, Global};
 pub(crate) enum Said {
     Help,
     Refused,
+    /// A script is to be written that carries on the recording in this file.
+    Carry(String),
     Serve(Serving),
 }
 
@@ -42,12 +44,15 @@ pub(crate) struct Flags {
     pub(crate) help: bool,
 }
 
-/// Reads `serve [OPTIONS] [--quiet] [--force] PATCH FILE`: all but these flags and PATCH are the
-/// words of `oscd serve`.
+/// Reads `carry FILE`, or `serve [OPTIONS] [--quiet] [--force] PATCH FILE`, of which all but these
+/// flags and PATCH are the words of `oscd serve`.
 pub(crate) fn read_words(alloc: Global, all: Vec<String>) -> Result<Said, AllocError> {
     let (flags, mut words) = split_flags(alloc, all)?;
     if flags.help {
         return Ok(Said::Help);
+    }
+    if let Some(file) = carried_name(alloc, &words)? {
+        return Ok(Said::Carry(file));
     }
     let Some(names) = split_names(alloc, &mut words)? else {
         return Ok(Said::Refused);
@@ -99,6 +104,16 @@ fn split_flags(alloc: Global, all: Vec<String>) -> Result<(Flags, Vec<String>), 
         }
     }
     Ok((flags, words))
+}
+
+/// A copy of FILE, where the words are `carry FILE`.
+fn carried_name(alloc: Global, words: &[String]) -> Result<Option<String>, AllocError> {
+    match words {
+        [command, file] if command.as_str() == "carry" => {
+            Ok(Some(String::from_str(alloc, file)?))
+        }
+        _ => Ok(None),
+    }
 }
 
 /// Takes PATCH, the word before the last, out of the words, and copies FILE, the last; there is

@@ -1,0 +1,4 @@
+//! Servers that differ in numbers alone.
+#![tactic(auto)]
+
+pub mod laws;

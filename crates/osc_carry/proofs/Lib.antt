@@ -1,0 +1,13 @@
+pub mod Bytes
+pub mod Recorded
+pub mod Packets
+pub mod Waits
+pub mod Queue
+pub mod Methods
+pub mod Whole
+pub mod Writable
+pub mod Written
+pub mod Chained
+pub mod Leads
+pub mod Carrying
+pub mod Bounds

@@ -1,0 +1,5 @@
+pub mod Carried
+pub mod Waiting
+pub mod Leading
+pub mod Chains
+pub mod Answers

@@ -1,0 +1,7 @@
+-- What public contracts cite.
+pub mod Standings
+pub mod Seen
+pub mod Following
+-- Inside the crate.
+pub mod Hits
+pub mod Looks

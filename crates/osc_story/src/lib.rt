@@ -1,0 +1,22 @@
+//! What stands after the entries of a recording, and what each entry called, with no server and no
+//! matching: by the entries alone.
+#![tactic(auto)]
+
+mod calls;
+mod disagreement;
+mod follower;
+mod hand;
+pub mod laws;
+mod look;
+mod reader;
+mod registered;
+mod story;
+mod waiter;
+
+pub use calls::{Call, Calls};
+pub use disagreement::{Disagreement, SeeFault};
+pub use follower::{Follower, Progress, TakeFault};
+pub use reader::{Stop, see_all};
+pub use registered::Registered;
+pub use story::Story;
+pub use waiter::Waiting;
