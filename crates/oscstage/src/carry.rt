@@ -12,8 +12,8 @@ pub(crate) fn write_script(rt: &HostRuntime, file: &str) -> Result<u8, AllocErro
     let alloc = rt.alloc();
     let mut source = FileSource::at(rt, String::from_str(alloc, file)?);
     let bytes = match read_input(alloc, MAX_RECORDING as usize, &mut source) {
-        Ok(Whole::Bytes(bytes)) => bytes,
-        Ok(Whole::TooLong) => {
+        Ok(Whole::Bytes(bytes)) if bytes.len() <= MAX_RECORDING as usize => bytes,
+        Ok(_) => {
             eprintln!(rt;
                 "oscstage: {file} has over 1 GiB, which is more than a recording may have"
             ).ok();
