@@ -81,4 +81,5 @@ pub record HasSeen (old : Standing) (left : Remaining) (stop : Stop) (new : Stan
 abbrev pub SeesNext : Standing → Remaining → Option Stop → Standing → Remaining → Type 0
 SeesNext old left None new after = (placed : Placed) × Reads left placed after
     × Follows old placed.entry new
-SeesNext old left (Some stop) new after = (new ≡ old) × StopsFor stop left.caps old left.at left.rest
+SeesNext old left (Some stop) new after =
+    (new ≡ old) × StopsFor stop left.caps old left.at left.rest
