@@ -148,8 +148,10 @@ step_shown state event =
 pub entry_shown : (state : State) (standing : Standing) (entry : Entry) → entry.answer ≡ (step state entry.event).answer → Shows standing state
     → Shows (seen standing entry) (step state entry.event).state
 entry_shown state standing entry is shows =
-    subst (λ (answer : Answer). Shows (seen_by standing entry.caller entry.event answer) (step state entry.event).state) (sym is)
+    let shown = subst (λ (answer : Answer). Shows (seen_by standing entry.caller entry.event answer) (step state entry.event).state) (sym is)
     (step_shown state entry.event entry.caller standing shows)
+    in
+    record { late = shown.late; clock = shown.clock; methods = shown.methods; queue = shown.queue }
 
 -- and after a history
 pub history_shown : (state : State) (standing : Standing) (entries : List Entry) → LegalFrom state entries → Shows standing state

@@ -1,4 +1,5 @@
 -- What public contracts cite.
+pub mod Totals
 pub mod Standings
 pub mod Seen
 pub mod Following

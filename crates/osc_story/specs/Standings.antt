@@ -15,6 +15,8 @@ use Rattle.osc_model.specs.Events.{Event, enrol, submit, add, remove, tick, rele
 use Rattle.osc_model.specs.Events.{queued, added, removed, ticked, released, Entry, Call}
 use Rattle.osc_model.specs.Events.{Invocation}
 use Rattle.osc_model.specs.Step.{is_kept, kept, waiting, invocations_of}
+use Rattle.osc_story.specs.declared.totals.Totals.{Totals}
+use Rattle.osc_story.specs.Totals.{none, with_entry, with_packet, with_release}
 use Rattle.osc_story.specs.declared.disagreement.Disagreement.{Disagreement}
 use Rattle.osc_story.specs.declared.disagreement.Disagreement.TheVariants.{NoPacket, OtherCount}
 use Rattle.osc_story.specs.declared.disagreement.Disagreement.TheVariants.{NotFirst, NoSuchCall}
@@ -24,17 +26,19 @@ pub record Handed : Type 0 where
   pub caller : ℕ
   pub unit : TimedUnit
 
--- What stands: what becomes of late units, the clock, the methods in the order of adding, and the
--- units that wait, in the order of their release: due moment, number, and as they were handed in.
+-- What stands: what becomes of late units, the clock, the methods in the order of adding, the units
+-- that wait, in the order of their release: due moment, number, and as they were handed in; and how
+-- much was told.
 pub record Standing : Type 0 where
   pub late : Late
   pub clock : ℕ
   pub methods : List Method
   pub waiting : List (Item Handed)
+  pub totals : Totals
 
 -- before the first entry
 abbrev pub opened : Late → Standing
-opened late = record { late = late; clock = 1; methods = []; waiting = [] }
+opened late = record { late = late; clock = 1; methods = []; waiting = []; totals = none }
 
 -- the units that wait, as the rules of the server have them
 abbrev pub queue_of : List (Item Handed) → List Queued
@@ -112,9 +116,25 @@ seen_by standing caller (remove address) answer = without_method standing addres
 seen_by standing caller (tick now) answer = at_moment standing now answer
 seen_by standing caller release answer = without_first standing answer
 
+-- the messages of the first unit that waits
+abbrev pub first_messages : List (Item Handed) → List (List ℕ)
+first_messages [] = []
+first_messages (first ∷ others) = first.2.unit.messages
+
+-- how much was told after an event and its answer
+abbrev pub told_by : Standing → Event → Answer → Totals
+told_by standing (submit packet) answer =
+    with_packet standing.totals standing.late standing.clock (units_read packet) answer
+told_by standing release answer =
+    with_release standing.totals (length (first_messages standing.waiting)) answer
+told_by standing _ answer = standing.totals
+
 -- what stands after an entry
 abbrev pub seen : Standing → Entry → Standing
-seen standing entry = seen_by standing entry.caller entry.event entry.answer
+seen standing entry =
+    record (seen_by standing entry.caller entry.event entry.answer) {
+      totals = with_entry (told_by standing entry.event entry.answer);
+    }
 
 -- and after entries
 abbrev pub seen_all : Standing → List Entry → Standing
@@ -181,11 +201,6 @@ AgreesAll standing (entry ∷ entries) =
 pub record Follows (old : Standing) (entry : Entry) (new : Standing) : Type 0 where
   pub agrees : disagreement old entry ≡ None
   pub becomes : new ≡ seen old entry
-
--- the messages of the first unit that waits
-abbrev pub first_messages : List (Item Handed) → List (List ℕ)
-first_messages [] = []
-first_messages (first ∷ others) = first.2.unit.messages
 
 -- the call of a hit: the method's address and the message
 abbrev pub call_of : List Method → List (List ℕ) → Hit → Call

@@ -15,7 +15,7 @@ use std::marker::Model;
 /// The first hit of bytes, where there is one: its message's index and its method's id, and the
 /// bytes after it.
 #[tactic(auto, using(crate::proofs::Splits::splits))]
-fn split_hit(bytes: &[u8]) -> Option<(u32, u32, &[u8])>
+pub(crate) fn split_hit(bytes: &[u8]) -> Option<(u32, u32, &[u8])>
     ensures { SplitsHit bytes.now (option_map (λ split. (split.0, split.1, split.2.now)) result) }
 {
     split_words(bytes)

@@ -11,6 +11,7 @@ mod look;
 mod reader;
 mod registered;
 mod story;
+mod totals;
 mod waiter;
 
 pub use calls::{Call, Calls};
@@ -19,4 +20,5 @@ pub use follower::{Follower, Progress, TakeFault};
 pub use reader::{Stop, see_all};
 pub use registered::Registered;
 pub use story::Story;
+pub use totals::Totals;
 pub use waiter::Waiting;

@@ -1,5 +1,5 @@
 // What stands after entries of a recording.
-ghost use Rattle.std.specs.Prelude.{◌≡◌};
+ghost use Rattle.std.specs.Prelude.{◌≡◌, length};
 ghost use Rattle.osc_tree.specs.Registry.{without};
 ghost use Rattle.osc_model.specs.Recordings.{hits_in};
 ghost use Rattle.osc_story.specs.Standings as spec;
@@ -8,6 +8,7 @@ use crate::calls::{Calls, are_calls};
 use crate::disagreement::{Disagreement, SeeFault};
 use crate::hand::{Hand, enter_all, kept_units};
 use crate::registered::Registered;
+use crate::totals::Totals;
 use crate::waiter::Waiting;
 use osc_model::{Late, need_of};
 use osc_packet::{MAX_PACKET, Packet};
@@ -24,6 +25,7 @@ pub struct Story {
     clock: u64,
     methods: Vec<Registered>,
     waiting: Vec<Waiting>,
+    totals: Totals,
 }
 
 impl Model for Story {
@@ -36,11 +38,12 @@ impl Model for Story {
       clock = s.clock;
       methods = s.methods.items;
       waiting = s.waiting.items;
+      totals = s.totals;
     } };
 }
 
 impl Story {
-    ghost use Rattle.std.specs.Prelude.{◌≡◌, ◌+◌, ◌<◌, ◌^◌, length, drop, OnOk, OnErr, IfErr};
+    ghost use Rattle.std.specs.Prelude.{◌≡◌, ◌+◌, ◌<◌, ◌^◌, length, drop, None, OnOk, OnErr, IfErr};
     ghost use Rattle.osc_packet.specs.Reading.{units_read};
     ghost use Rattle.osc_model.specs.Events as model;
     ghost use Rattle.osc_model.specs.Events.{added};
@@ -48,7 +51,7 @@ impl Story {
     ghost use Rattle.osc_record.specs.Shown.{event_of, answer_of};
     ghost use Rattle.osc_story.specs.Standings as spec;
     ghost use Rattle.osc_story.specs.Standings.{opened, Follows, are_counted, kept_handed};
-    ghost use Rattle.osc_story.specs.Standings.{all_enter, calls_told};
+    ghost use Rattle.osc_story.specs.Standings.{all_enter, calls_told, fault_of, told_by};
     ghost use Rattle.osc_story.specs.Seen.{Sees, IsFaultOf};
 
     /// Nothing is seen yet. Takes no memory.
@@ -61,6 +64,7 @@ impl Story {
             clock: 1,
             methods: Vec::new(alloc),
             waiting: Vec::new(alloc),
+            totals: Totals::none(),
         }
     }
 
@@ -91,6 +95,13 @@ impl Story {
         &self.waiting
     }
 
+    /// How much the entries told.
+    pub fn totals(&self) -> Totals
+        ensures { result ≡ self.now.totals }
+    {
+        self.totals
+    }
+
     /// Sees the next entry. Whatever keeps it from that, nothing changes; out of memory, it can be
     /// seen later.
     pub fn see(&mut self, entry: &Entry<'_>) -> Result<(), SeeFault>
@@ -99,7 +110,24 @@ impl Story {
             (λ fault. IsFaultOf fault self.old (placed_of entry.now).entry) }
         ensures err { OnErr result (self.new ≡ self.old) }
     {
-        self.see_event(entry.caller, entry.event, entry.answer)
+        let totals = self.told_by(entry.event, entry.answer);
+        self.see_event(entry.caller, entry.event, entry.answer)?;
+        self.totals = totals.with_entry();
+        Ok(())
+    }
+
+    /// How much is told with an event and its answer.
+    fn told_by(&self, event: Event<'_>, answer: Answer<'_>) -> Totals
+        ensures { fault_of self.now (event_of event.entry) (answer_of answer.entry) ≡ None
+            → result ≡ told_by self.now (event_of event.entry) (answer_of answer.entry) }
+    {
+        match event {
+            Event::Submit(packet) => self
+                .totals
+                .with_packet(self.late, self.clock, packet, answer),
+            Event::Release => self.totals.with_release(first_count(&self.waiting), answer),
+            _ => self.totals,
+        }
     }
 
     fn see_event(
@@ -252,6 +280,16 @@ impl Story {
             (Answer::Released { hits, .. }, None) => Calls::new(&self.methods, &[], hits),
             _ => Calls::new(&self.methods, &[], b""),
         }
+    }
+}
+
+/// How many messages the first unit has.
+fn first_count(waiting: &[Waiting]) -> usize
+    ensures { result ≡ length (spec.first_messages waiting.now) }
+{
+    match waiting.first() {
+        Some(first) => first.messages().len(),
+        None => 0,
     }
 }
 

@@ -117,6 +117,21 @@ fn a_call_is_told_before_its_release_is_seen(rt: HostRuntime) {
 }
 
 #[test]
+fn what_was_told_is_counted(rt: HostRuntime) {
+    let mut follower = Follower::open(rt.alloc());
+    take(&rt, &mut follower, &RECORDING);
+    let want = Totals {
+        entries: 5,
+        messages: 1,
+        calls: 1,
+        unheard: 0,
+        discarded: 0,
+        refused: 0,
+    };
+    assert_eq!(rt; follower.story().map(|story| story.totals()), Some(want));
+}
+
+#[test]
 fn a_release_of_nothing_disagrees(rt: HostRuntime) {
     let mut bytes = [0; 112];
     bytes[..60].copy_from_slice(&RECORDING[..60]);
