@@ -1,11 +1,10 @@
 -- What stands at the end of a recording is what is carried on.
 use Rattle.osc_script.specs.declared.script.TheConstants.{MAX_SCRIPT}
-use Rattle.std.proofs.Common.{◌≡◌, ℕ, ◌+◌, ◌<◌, ◌≤◌, ◌^◌, List, [], ◌∷◌, ◌++◌, length, map, inl, inr, refl, sym, ap, ◌∙◌, subst, subst₂, arith}
+use Rattle.std.proofs.Common.{◌≡◌, ℕ, ◌<◌, ◌≤◌, ◌^◌, List, [], ◌∷◌, ◌++◌, length, map, inl, inr, sym, ap, ◌∙◌, subst, subst₂, arith}
 use Rattle.std.specs.List.{AllByRecursion}
 use Rattle.osc_atoms.specs.Atoms.{AreBytes}
 use Rattle.osc_pattern.specs.Methods.{Method}
 use Rattle.osc_packet.specs.Units.{TimedUnit, stored_size}
-use Rattle.osc_packet.specs.Known.{OfMessages}
 use Rattle.osc_queue.specs.Timed.{Item}
 use Rattle.osc_model.specs.declared.late.Late.{Late}
 use Rattle.osc_model.specs.Limits.{Limits}
@@ -26,7 +25,7 @@ use Rattle.osc_carry.specs.declared.fault.CarryFault.TheVariants.{Malformed, Dis
 use Rattle.osc_carry.specs.Carried.{queue_acts, carried_from, carried_acts, carried_script, carried_size}
 use Rattle.osc_carry.specs.Leading.{LeadsThere}
 use Rattle.osc_carry.specs.Answers.{OnMalformed, OnDisagrees, OnTooLong, Adds, IsScriptUnlessShort}
-use Rattle.osc_carry.specs.Waiting.{IsShort, IsWaiting, AreWaiting, AreOfBytes, AreShort, HaveShort}
+use Rattle.osc_carry.specs.Waiting.{IsShort, IsWaiting, AreOfBytes, AreShort, HaveShort}
 use Rattle.osc_carry.proofs.Recorded.{recorded_bytes}
 use Rattle.osc_carry.proofs.Written.{written_on}
 

@@ -26,8 +26,8 @@ abbrev pub OnTooLong : {X : Type 0} → Result X CarryFault → Type 0 → Type 
 OnTooLong (Err TooLong) holds = holds
 OnTooLong _ holds = Unit {0}
 
--- the bytes of the script are these, where it has as many bytes as a script may have; it is too long, where it
--- has more; or memory ran out
+-- the bytes of the script are these, where they are as many as a script may have; it is too long,
+-- where they are more; or memory ran out
 abbrev pub IsScriptUnlessShort : {X : Type 0} → Result X CarryFault → (X → List ℕ) → List ℕ
     → Type 0
 IsScriptUnlessShort (Ok script) bytes expected =
@@ -43,8 +43,8 @@ refused_as (replay.Malformed at) = Malformed at
 refused_as (replay.Disagrees entry kept computed) = Disagrees entry kept computed
 refused_as replay.NoMemory = NoMemory
 
--- Inside the crate: the lines of acts were added, and the script isn't too long; it is too long with
--- them; or memory ran out.
+-- Inside the crate: the lines of acts were added, and the script isn't too long; it is too long
+-- with them; or memory ran out.
 abbrev pub Adds : Result ⊤ CarryFault → List ℕ → List Act → List ℕ → Type 0
 Adds (Ok _) old acts new = (new ≡ old ++ written acts) × (length new ≤ MAX_SCRIPT)
 Adds (Err TooLong) old acts new = MAX_SCRIPT < length (old ++ written acts)

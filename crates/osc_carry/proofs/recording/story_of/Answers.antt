@@ -1,6 +1,4 @@
-use Rattle.osc_model.specs.Limits.{Limits}
 use Rattle.osc_record.specs.Reading.{unplaced}
-use Rattle.osc_replay.specs.Disagreeing.{IsRecordingOf}
 use Rattle.osc_carry.proofs.Carrying.{OfRecordings, is_record, recording_read}
 use Rattle.osc_carry.proofs.recording.story_of.Goals as goal
 

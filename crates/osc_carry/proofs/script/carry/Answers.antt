@@ -1,4 +1,4 @@
-use Rattle.std.proofs.Common.{◌≡◌, rules, List, ℕ, Err, sym, subst, arith}
+use Rattle.std.proofs.Common.{◌≡◌, rules, Err, sym, subst, arith}
 use Rattle.osc_carry.specs.Answers.{OnTooLong}
 use Rattle.osc_carry.proofs.Carrying.{Stands, stands_of, stand_short, text_of, answer_ok, answer_leads, answer_long, answer_complete, answer_malformed}
 use Rattle.osc_carry.proofs.Carrying.{answer_disagrees, none_long, IsTooLong}
@@ -40,7 +40,8 @@ returns-clause-leads c =
       apart = c.texts_differ.ensures;
     }) c.entries_show_the_state.ensures c.args.recording.now c.in_ok-story.story (λ i. omega (arith, c.type_inv.recording i))
     c.in_ok-story.ensures.ok in
-    answer_leads (λ script. script.items) c.args.recording.now c.in_ok-story.story stands c.a_carried_script_leads_there.ensures c.script_of.result c.script_of.ensures
+    answer_leads (λ script. script.items) c.args.recording.now c.in_ok-story.story stands c.a_carried_script_leads_there.ensures
+    c.script_of.result c.script_of.ensures
 
 pub returns-clause-too_long : goal.returns-clause-too_long
 returns-clause-too_long c =

@@ -1,5 +1,4 @@
-use Rattle.osc_script.specs.declared.script.TheConstants.{MAX_SCRIPT}
-use Rattle.std.proofs.Common.{◌≡◌, ◌≤◌, ◌++◌, rules, List, ℕ, length, Err, ◌∙◌, subst, sym}
+use Rattle.std.proofs.Common.{◌≡◌, ◌++◌, rules, Err, ◌∙◌, subst, sym}
 use Rattle.osc_script.specs.Written.{written}
 use Rattle.osc_story.specs.Standings.{queue_of}
 use Rattle.osc_carry.specs.Carried.{queue_acts}
