@@ -53,6 +53,12 @@ enter_all late submission sender (unit ∷ units) waiters =
     (if waits (answer_of late submission unit.tag)
     then enter (record { sender = sender; unit = unit }) waiters else waiters)
 
+-- the units that wait after others that waited already, of senders that aren't known
+abbrev pub expect_all : List TimedUnit → List Waiter → List Waiter
+expect_all [] waiters = waiters
+expect_all (unit ∷ units) waiters =
+    expect_all units (enter (record { sender = None; unit = unit }) waiters)
+
 -- the units that wait after a datagram, which has this fault or none, and to which this was answered
 -- or nothing
 abbrev pub after_datagram : Late → Option Fault → Option Submission → Option SocketAddrV4

@@ -30,7 +30,8 @@ impl Agenda {
     ghost use Rattle.std.specs.Prelude.{◌≡◌, ◌↔◌, [], IsTrue, OnOk};
     ghost use Rattle.osc_atoms.specs.declared.limits.TheConstants.{MAX_PACKET};
     ghost use Rattle.osc_packet.specs.Reading.{packet_fault, units_read};
-    ghost use Rattle.osc_console.specs.Agenda.{after_datagram, enter_all, AddsCalled, first_tag};
+    ghost use Rattle.osc_console.specs.Agenda.{after_datagram, enter_all, expect_all};
+    ghost use Rattle.osc_console.specs.Agenda.{AddsCalled, first_tag};
     ghost use Rattle.osc_console.specs.Datagrams.{AddsDatagram, AddsUnits};
 
     /// Nothing waits. Takes no memory yet.
@@ -102,6 +103,18 @@ impl Agenda {
             if waits(answer_of(late, submission, unit.tag())) {
                 enter(&mut self.waiters, Awaited::of(self.alloc, sender, &unit)?)?;
             }
+        }
+        Ok(())
+    }
+
+    /// Notes the units of a packet that waits already when the link begins: who has sent it isn't
+    /// known. An `Err` means out of memory.
+    pub fn expect(&mut self, packet: &Packet<'_>) -> Result<(), AllocError>
+        ensures { OnOk result (self.new.waiters.items
+            ≡ expect_all (units_read packet.now) self.old.waiters.items) }
+    {
+        for unit in packet.units() {
+            enter(&mut self.waiters, Awaited::of(self.alloc, None, &unit)?)?;
         }
         Ok(())
     }

@@ -2,12 +2,15 @@
 //! last datagram.
 ghost use Rattle.std.specs.Prelude.{◌≡◌, ◌≤◌, length, IfOk, None};
 
-use crate::{Pace, Sender};
+use crate::{Changeover, Pace, Sender};
 use osc_edge::{Datagram, Link};
 use std::io;
 use std::io::ErrorKind;
 use std::net::{Ipv4Addr, SocketAddr, SocketAddrV4, UdpSocket};
 use std::time::Duration;
+
+/// How many milliseconds a call waits at most where the recording is soon changed over.
+const SHORT_WAIT: u32 = 5;
 
 /// As `UdpLink` of `osc_edge`, but that a call waits as long for a datagram as its pace says; and it
 /// knows who has sent the last datagram.
@@ -16,6 +19,7 @@ pub struct HeardLink<'a> {
     rt: HostRuntime,
     port: u16,
     pace: &'a Pace,
+    changeover: &'a Changeover,
     /// How many milliseconds the socket waits, once the port is bound.
     wait: u32,
     /// The socket, once the port is bound.
@@ -27,7 +31,7 @@ pub struct HeardLink<'a> {
 
 impl<'a> HeardLink<'a> {
     /// A link for the port. Takes no memory, and binds nothing.
-    pub fn at(rt: &HostRuntime, port: u16, pace: &'a Pace) -> Self
+    pub fn at(rt: &HostRuntime, port: u16, pace: &'a Pace, changeover: &'a Changeover) -> Self
         ensures left { ⟦<HeardLink<'a> as Link>⟧.left result ≡ None }
         ensures faults { ⟦<HeardLink<'a> as Link>⟧.faults result ≡ 0 }
         ensures quiets { ⟦<HeardLink<'a> as Link>⟧.quiets result ≡ 0 }
@@ -36,6 +40,7 @@ impl<'a> HeardLink<'a> {
             rt: *rt,
             port,
             pace,
+            changeover,
             wait: 0,
             socket: None,
             sender: None,
@@ -67,7 +72,12 @@ impl<'a> HeardLink<'a> {
         ensures faults { self.new.faults ≡ self.old.faults }
         ensures quiets { self.new.quiets ≡ self.old.quiets }
     {
-        let wait = self.pace.wait().max(1);
+        let pace = self.pace.wait().max(1);
+        let wait = if self.changeover.is_near() {
+            pace.min(SHORT_WAIT)
+        } else {
+            pace
+        };
         if wait != self.wait {
             socket.set_read_timeout(Some(Duration::from_millis(u64::from(wait))))?;
             self.wait = wait;

@@ -3,6 +3,7 @@ ghost use Rattle.std.specs.Prelude.{◌≡◌, ◌≤◌, vec_len, length, take}
 ghost use Rattle.osc_console.specs.Links.{waiting, came_bytes};
 ghost use Rattle.osc_edge.specs.declared.limits.TheConstants.{MAX_DATAGRAM};
 
+use crate::agenda::Agenda;
 use crate::lines::{Came, Lines};
 use crate::waiting_clock::millis_between;
 use crate::{Calendar, Pace, Rounds, Sender, Slot, View};
@@ -91,6 +92,19 @@ impl<'a, L: Link + Sender + Drop, C: Clock + Drop, O: Sink + Drop, W: Wait> Show
             space,
             pending: None,
         })
+    }
+
+    /// These units wait already, in place of those that it noted.
+    pub fn expect(&mut self, agenda: Agenda)
+        ensures link { self.new.link ≡ self.old.link }
+        ensures out { self.new.out ≡ self.old.out }
+        ensures pending { self.new.pending ≡ self.old.pending }
+        ensures space { self.new.space ≡ self.old.space }
+        ensures view { self.new.lines.view ≡ self.old.lines.view }
+        ensures unshown { self.new.lines.unshown ≡ self.old.lines.unshown }
+        ensures waiters { self.new.lines.agenda ≡ agenda }
+    {
+        self.lines.agenda = agenda;
     }
 
     /// Shows the last datagram, which no later call of the link shows, and the units that were called

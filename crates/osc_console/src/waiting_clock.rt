@@ -2,7 +2,7 @@
 ghost use Rattle.std.specs.Prelude.{◌≡◌, None};
 ghost use Rattle.osc_console.specs.Waits.{wait_nanos, span_nanos};
 
-use crate::Rounds;
+use crate::{Changeover, Rounds};
 use osc_edge::{Clock, Moment, system_moment};
 use std::sync::Wait;
 use std::time::Duration;
@@ -12,6 +12,9 @@ const SECOND: u64 = 1_000_000_000;
 
 /// How many nanoseconds the clock may stand still where nothing is due.
 const LONGEST: u64 = SECOND;
+
+/// How many it waits at most where the recording is soon changed over.
+const SHORT_WAIT: u64 = 5_000_000;
 
 /// The fraction of a second in a moment.
 const LOW_WORD: u64 = 0xffff_ffff;
@@ -24,6 +27,7 @@ pub struct WaitingClock<'a, W> {
     rt: HostRuntime,
     threads: &'a W,
     rounds: &'a Rounds,
+    changeover: &'a Changeover,
     /// The moment that was read last.
     last: u64,
     faults: u64,
@@ -31,7 +35,12 @@ pub struct WaitingClock<'a, W> {
 
 impl<'a, W: Wait> WaitingClock<'a, W> {
     /// Takes no memory, and reads nothing.
-    pub fn open(rt: &HostRuntime, threads: &'a W, rounds: &'a Rounds) -> Self
+    pub fn open(
+        rt: &HostRuntime,
+        threads: &'a W,
+        rounds: &'a Rounds,
+        changeover: &'a Changeover,
+    ) -> Self
         ensures left { ⟦<WaitingClock<'a, W> as Clock>⟧.left result ≡ None }
         ensures faults { ⟦<WaitingClock<'a, W> as Clock>⟧.faults result ≡ 0 }
     {
@@ -39,6 +48,7 @@ impl<'a, W: Wait> WaitingClock<'a, W> {
             rt: *rt,
             threads,
             rounds,
+            changeover,
             last: 0,
             faults: 0,
         }
@@ -66,7 +76,12 @@ impl<'a, W: Wait> Clock for WaitingClock<'a, W> {
     /// Tells the links that the round is over, and waits.
     fn until(&mut self, next: Option<u64>) {
         self.rounds.note(self.last);
-        let wait = wait_until(next, system_moment(&self.rt));
+        let longest = wait_until(next, system_moment(&self.rt));
+        let wait = if self.changeover.is_near() {
+            longest.min(SHORT_WAIT)
+        } else {
+            longest
+        };
         if wait > 0 {
             self.rounds.pause(self.threads, Duration::from_nanos(wait));
         }

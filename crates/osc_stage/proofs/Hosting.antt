@@ -6,7 +6,7 @@ use Rattle.std.proofs.lemmas.List.Elements.{All-weaker}
 use Rattle.osc_ends.specs.Sinks.{SinkChange}
 use Rattle.osc_core.specs.Standing.{history_in}
 use Rattle.osc_core.specs.Telling.{told}
-use Rattle.osc_lanes.specs.Performs.{Part, told_of}
+use Rattle.osc_lanes.specs.Performs.{part_of, told_of}
 use Rattle.osc_lanes.specs.Shares.{known_of}
 use Rattle.osc_life.specs.Holders.{holder_at}
 use Rattle.osc_links.specs.declared.run.Hosted.{Hosted}
@@ -29,10 +29,10 @@ use Rattle.osc_stage.specs.declared.stage.Stage.{Stage}
 use Rattle.osc_stage.specs.declared.stage.Staged.{Staged}
 use Rattle.osc_stage.specs.Ends.{HasWritten, HasCause}
 use Rattle.osc_stage.specs.Sent.{HasSent}
-use Rattle.osc_stage.specs.Stages.{adds_of, end_of, HaveSent, RecordsStage, IsStaged}
+use Rattle.osc_stage.specs.Stages.{end_of, HaveSent, RecordsStage, IsStaged, IsOpened}
 use Rattle.osc_stage.proofs.Ending.{ended_cause}
-use Rattle.osc_stage.proofs.Failing.{links_steady, clock_steady, hosts_link_risen, hosts_clock_risen}
 use Rattle.osc_stage.proofs.Adding.{none_removed}
+use Rattle.osc_stage.proofs.Failing.{links_steady, clock_steady, hosts_link_risen, hosts_clock_risen}
 
 -- what was written in the end, from where it began
 pub written_on : {X E R : Type 0} (result : Result X E) (written : R → X → Type 0) (start : R) (grown : R → Type 0)
@@ -68,34 +68,28 @@ module _ {O : Type 0} {G : Ghosts O} (keep : Relay O G → ℕ) (heard : Relay O
       relays_sent relayed law caps history legal relays hear.1,
     )
 
-  -- what was played first are the adds
-  pub hosts_adds : {L : Type 0} (left : L → Option (List LinkTurn)) (faults : L → ℕ) (caps : Limits) (bounds : Bounds) (part : Part (Relay O G))
-      (relays : List (Relay O G)) (links : List L) (clock : ClockRead) (hosted : Hosted (Relay O G) L) → part ≡ adds_of relays
-      → Hosts left faults keep heard caps bounds part links clock hosted → Hosts left faults keep heard caps bounds (adds_of relays) links clock hosted
-  hosts_adds left faults caps bounds part relays links clock hosted is hosts =
-      subst (λ (p : Part (Relay O G)). Hosts left faults keep heard caps bounds p links clock hosted) is hosts
-
   module _ {L E : Type 0} (left : L → Option (List LinkTurn)) (faults : L → ℕ) (stage : Stage O L G) (clock : ClockRead) (hosted : Hosted (Relay O G) L)
-      (hosts : Hosts left faults keep heard stage.caps stage.links.bounds (adds_of stage.relays.items) stage.links.from.items clock hosted) where
+      (hosts : Hosts left faults keep heard stage.caps stage.links.bounds (part_of stage.opening) stage.links.from.items clock hosted) where
     -- it is staged so
     pub staged_so : (result : Result (Staged O L G) E) → IfOk result (λ staged. staged.recording.items ≡ hosted.closed.bytes.items)
-        → IfOk result (λ staged. staged.relays.items ≡ hosted.closed.kept.items) → IfOk result (λ staged. staged.left.items ≡ hosted.opening.back.items)
+        → IfOk result (λ staged. staged.relays.items ≡ hosted.closed.kept.items) → IfOk result (λ staged. IsOpened staged hosted.opening)
         → IfOk result (λ staged. staged.links.items ≡ hosted.links.links.items) → IfOk result (λ staged. staged.faults.items ≡ hosted.links.faults.items)
         → IfOk result (λ staged. (staged.ended ≡ end_of hosted) ⊎ (staged.ended ≡ SinkFailed))
         → IfOk result (λ staged. IsStaged keep heard left faults stage clock staged)
-    staged_so (Ok staged) recording relays back links refused ended = record {
+    staged_so (Ok staged) recording relays opened links refused ended = record {
       hosted = hosted;
       hosts = hosts;
       recording_is = recording;
       relays_are = relays;
-      left_are = back;
-      none_removed =
-          none_removed keep heard (holder_at stage.caps 0) stage.relays.items stage.relays.items (told_of hosted.opening) [] hosts.opened hosts.plays;
+      opened = opened;
+      none_removed = λ keeps. opened.removed_are
+          ∙ none_removed keep heard (holder_at stage.caps 0) stage.opening.lines.items stage.opening.boxes.items (told_of hosted.opening) [] hosts.opened
+          hosts.plays keeps;
       links_are = links;
       faults_are = refused;
       ended_is = ended;
     }
-    staged_so (Err short) recording relays back links refused ended = tt
+    staged_so (Err short) recording relays opened links refused ended = tt
 
     -- the one history
     pub history_so : (sent : O → Option (List (List ℕ))) (losses : O → ℕ) (rec : SinkChange) → AreRelayed sent losses → IsSentAsCalled sent losses
@@ -128,7 +122,7 @@ module _ {O : Type 0} {G : Ghosts O} (keep : Relay O G → ℕ) (heard : Relay O
     cause_so rec (Err short) links ended written = tt
     cause_so rec (Ok staged) links ended written =
         let from = stage.links.from.items in
-        let part = adds_of stage.relays.items in
+        let part = part_of stage.opening in
         let bounds = stage.links.bounds in
         let told = hosted.links in
         let stop = option_or hosted.opening.stop (option_or hosted.unenrolled told.stop) in

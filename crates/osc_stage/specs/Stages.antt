@@ -1,5 +1,6 @@
 -- What a stage plays, and what became of it.
-use Rattle.std.specs.Prelude.{◌≡◌, ◌⊎◌, ℕ, ◌<◌, List, [], length, map, All, Option}
+use Rattle.std.specs.Prelude.{◌≡◌, ◌⊎◌, ℕ, ◌<◌, Bool, true, false, not, List, [], ◌++◌, length, map}
+use Rattle.std.specs.Prelude.{filter, All, Option}
 use Rattle.std.specs.List.{AllByRecursion}
 use Rattle.std.specs.Option.{option_or}
 use Rattle.osc_model.specs.Limits.{Limits}
@@ -10,10 +11,13 @@ use Rattle.osc_model.specs.History.{Legal, HaveHeard, invocations}
 use Rattle.osc_model.specs.Recordings.{record_text}
 use Rattle.osc_laws.specs.Laws.{KeepsTheLaws}
 use Rattle.osc_core.specs.Telling.{told}
-use Rattle.osc_script.specs.declared.act.Act.TheVariants.{Add}
+use Rattle.osc_script.specs.Adds.{is_add}
+use Rattle.osc_script.specs.declared.act.Act.{Act}
+use Rattle.osc_script.specs.declared.act.Act.TheVariants.{Add, Remove}
 use Rattle.osc_script.specs.declared.line.Line.{Line}
 use Rattle.osc_ends.specs.Sinks.{SinkChange}
-use Rattle.osc_lanes.specs.Performs.{Part}
+use Rattle.osc_lanes.specs.declared.part.LaneTold.{LaneTold}
+use Rattle.osc_lanes.specs.Performs.{Part, part_of}
 use Rattle.osc_links.specs.declared.run.Hosted.{Hosted}
 use Rattle.osc_links.specs.Hosts.{Hosts}
 use Rattle.osc_links.specs.Links.{LinkTurn}
@@ -32,6 +36,19 @@ use Rattle.osc_stage.specs.Sent.{HasSent}
 abbrev pub line_for : List ℕ → Line
 line_for address = record { number = 0; lane = 0; act = Add address }
 
+-- whether a line removes a method
+abbrev pub is_removal : Act → Bool
+is_removal (Remove address) = true
+is_removal _ = false
+
+-- no line removes a method
+abbrev pub RemoveNone : List Line → Type 0
+RemoveNone lines = AllByRecursion (λ line. is_removal line.act ≡ false) lines
+
+-- a line that adds no method
+abbrev pub is_other : Line → Bool
+is_other line = not (is_add line.act)
+
 -- how what was hosted ended, before the rest of its recording is written
 abbrev pub end_of : {M L : Type 0} → Hosted M L → Ended
 end_of hosted = ended_by hosted.links.failed hosted.links.clock_failed
@@ -45,19 +62,31 @@ module _ {O : Type 0} {G : Ghosts O} where
   abbrev pub adds_of : List (Relay O G) → Part (Relay O G)
   adds_of relays = record { lines = map add_line relays; boxes = relays }
 
+  -- the same, and then what these lines do but for their adds
+  abbrev pub carried_on : List (Relay O G) → List Line → Part (Relay O G)
+  carried_on relays lines =
+      record { lines = map add_line relays ++ filter is_other lines; boxes = relays }
+
+  -- what the opening left: the boxes that weren't added and that were removed, and its faults
+  pub record IsOpened {L : Type 0} (staged : Staged O L G) (opening : LaneTold (Relay O G))
+      : Type 0 where
+    pub left_are : staged.left.items ≡ opening.back.items
+    pub removed_are : staged.removed.items ≡ opening.removed.items
+    pub opening_faults_are : staged.opening_faults.items ≡ opening.faults.items
+
   module _ (keep : Relay O G → ℕ) (heard : Relay O G → Option (List ℕ)) where
-    -- The relays were added by caller 0 on one new server, and the links were served. The relays
+    -- The opening was played by caller 0 on one new server, and the links were served. The relays
     -- that are registered at the end come back with their ids; those that weren't added come back
-    -- too, and no other was removed.
+    -- too, and those that the opening removed.
     pub record IsStaged {L : Type 0} (left : L → Option (List LinkTurn)) (faults : L → ℕ)
         (stage : Stage O L G) (clock : ClockRead) (staged : Staged O L G) : Type 0 where
       pub hosted : Hosted (Relay O G) L
       pub hosts : Hosts left faults keep heard stage.caps stage.links.bounds
-          (adds_of stage.relays.items) stage.links.from.items clock hosted
+          (part_of stage.opening) stage.links.from.items clock hosted
       pub recording_is : staged.recording.items ≡ hosted.closed.bytes.items
       pub relays_are : staged.relays.items ≡ hosted.closed.kept.items
-      pub left_are : staged.left.items ≡ hosted.opening.back.items
-      pub none_removed : hosted.opening.removed.items ≡ []
+      pub opened : IsOpened staged hosted.opening
+      pub none_removed : RemoveNone stage.opening.lines.items → staged.removed.items ≡ []
       pub links_are : staged.links.items ≡ hosted.links.links.items
       pub faults_are : staged.faults.items ≡ hosted.links.faults.items
       pub ended_is : (staged.ended ≡ end_of hosted) ⊎ (staged.ended ≡ SinkFailed)

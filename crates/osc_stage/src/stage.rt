@@ -1,6 +1,7 @@
 //! What a stage plays, and what became of it.
 use crate::Ended;
 use osc_atoms::Fault;
+use osc_lanes::LanePart;
 use osc_links::LinksPart;
 use osc_record::Caps;
 use osc_relay::{Outlet, Relay};
@@ -10,8 +11,10 @@ use osc_relay::{Outlet, Relay};
 pub struct Stage<O: Outlet, L> {
     /// The limits of the server.
     pub caps: Caps,
-    /// The relays, which are added in this order, each at its own address.
-    pub relays: Vec<Relay<O>>,
+    /// What caller 0 plays before the links are served: the adds of the relays
+    /// ([`adds_of`](crate::adds_of)), and what else there is to begin with
+    /// ([`carried_on`](crate::carried_on)).
+    pub opening: LanePart<Relay<O>>,
     /// The links whose datagrams are submitted, and when each ends by itself.
     pub links: LinksPart<L>,
 }
@@ -27,6 +30,10 @@ pub struct Staged<O: Outlet, L> {
     /// The relays that weren't added, in their order: the server refused the address, or the
     /// recording had no room.
     pub left: Vec<Relay<O>>,
+    /// Those that the opening removed again, each with its id, in that order.
+    pub removed: Vec<(u32, Relay<O>)>,
+    /// The line and the fault of each send of the opening that was no packet, in line order.
+    pub opening_faults: Vec<(u32, Fault)>,
     /// The links that were handed in, in their order.
     pub links: Vec<L>,
     /// Link, number of the datagram and fault of each datagram that was refused, link by link in

@@ -2,12 +2,12 @@
 ghost use Rattle.std.specs.Prelude.{◌≡◌, ◌≢◌, ◌⊎◌, ◌+◌, ◌<◌, ◌≤◌, List, length, IfOk};
 ghost use Rattle.osc_ends.specs.Sinks.{sink_change};
 ghost use Rattle.osc_growing.specs.Growing.{HasGrown, IsWithin};
+ghost use Rattle.osc_lanes.specs.Performs.{part_of, IsWhole};
 ghost use Rattle.osc_links.specs.Ticks.{clock_read};
 ghost use Rattle.osc_links.specs.declared.limits.TheConstants.{MAX_LINKS};
 ghost use Rattle.osc_stage.specs.Ends.{HasCause, HasWritten};
-ghost use Rattle.osc_stage.specs.Stages.{RecordsStage, IsStaged, end_of};
+ghost use Rattle.osc_stage.specs.Stages.{RecordsStage, IsStaged, IsOpened, end_of};
 
-use crate::adds::adds_of;
 use crate::ended::ended_by;
 use crate::laws::what_was_sent_is_what_the_history_called;
 use crate::{Ended, Stage, Staged};
@@ -22,10 +22,10 @@ use std::alloc::{AllocError, Global};
 use std::sync::Wait;
 use std::thread::Threads;
 
-/// Plays a stage: opens a server with its limits, adds its relays as caller 0, each at its own
-/// address, serves each of its links by a thread of its own and the ticker, who reads `clock`, by
-/// another, and writes to `rec` what is recorded, while it grows and at the end. `gate` is called
-/// round each datagram. An `Err` means out of memory, and the relays and the links are gone then.
+/// Plays a stage: opens a server with its limits, plays its opening as caller 0, serves each of its
+/// links by a thread of its own and the ticker, who reads `clock`, by another, and writes to `rec`
+/// what is recorded, while it grows and at the end. `gate` is called round each datagram. An `Err`
+/// means out of memory, and the relays and the links are gone then.
 ///
 /// A relay whose add is refused, since its address is taken or lies above or below another's, or
 /// since a limit is reached, comes back in [`left`](Staged::left), and the stage plays without it.
@@ -46,6 +46,7 @@ pub fn stage_top<
 ) -> Result<Staged<O, L>, AllocError>
     requires callers { length stage.links.from.items + 2 ≤ stage.caps.callers }
     requires few { length stage.links.from.items ≤ MAX_LINKS }
+    requires whole { IsWhole (part_of stage.opening) }
     requires count { 0 < stage.links.bounds.count }
     requires idle { 0 < stage.links.bounds.idle }
 
@@ -54,7 +55,7 @@ pub fn stage_top<
         ⟦<Relay<O> as Method>⟧.heard O.sent O.losses stage.caps staged
         (sink_change R.held R.faults rec.old rec.new)) }
 
-    // The same history by its callers: the adds, each link's datagrams, and the ticker's rounds.
+    // The same history by its callers: the opening, each link's datagrams, and the ticker's rounds.
     ensures staged { IfOk result (λ staged. IsStaged ⟦<Relay<O> as Method>⟧.keep
         ⟦<Relay<O> as Method>⟧.heard L.left L.faults stage
         (clock_read C.left C.faults clock.old clock.new) staged) }
@@ -67,7 +68,7 @@ pub fn stage_top<
     what_was_sent_is_what_the_history_called();
     let host = HostPart {
         caps: stage.caps,
-        opening: adds_of(alloc, stage.relays)?,
+        opening: stage.opening,
         links: stage.links,
     };
     let hosted = run_links(rt, alloc, host, clock, rec, gate)?;
@@ -83,7 +84,7 @@ fn settle<O: Outlet, L: Drop, R: Sink>(
     ensures recording { IfOk result
         (λ staged. staged.recording.items ≡ hosted.closed.bytes.items) }
     ensures relays { IfOk result (λ staged. staged.relays.items ≡ hosted.closed.kept.items) }
-    ensures left { IfOk result (λ staged. staged.left.items ≡ hosted.opening.back.items) }
+    ensures opening { IfOk result (λ staged. IsOpened staged hosted.opening) }
     ensures links { IfOk result (λ staged. staged.links.items ≡ hosted.links.links.items) }
     ensures faults { IfOk result (λ staged. staged.faults.items ≡ hosted.links.faults.items) }
     ensures ended { IfOk result
@@ -109,6 +110,8 @@ fn settle<O: Outlet, L: Drop, R: Sink>(
         recording: closed.bytes,
         relays: closed.kept,
         left: opening.back,
+        removed: opening.removed,
+        opening_faults: opening.faults,
         links: told.links,
         faults: told.faults,
     })

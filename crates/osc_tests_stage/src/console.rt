@@ -2,14 +2,15 @@
 use jiff_core::Offset;
 use osc_atoms::Room;
 use osc_console::{
-    Calendar, Chore, ConsoleGate, Pace, Printer, RingSink, Rounds, Sender, ShownLink, Shutdown,
-    ShutdownLink, Slot, View, WaitingClock, Watch, print_while,
+    Agenda, Calendar, Changeover, Chore, ConsoleGate, MeteredSink, Pace, Printer, RingSink, Rounds,
+    Sender, ShownLink, Shutdown, ShutdownLink, Slot, View, WaitingClock, Watch, print_while,
 };
 use osc_core::Submitted;
-use osc_edge::{Clock, Datagram, Link, MAX_DATAGRAM, MemoryClock, MemorySink};
+use osc_edge::{Clock, Datagram, Link, MAX_DATAGRAM, MemoryClock, MemorySink, Put, Sink};
 use osc_life::Gate;
 use osc_live::Submission;
 use osc_model::Late;
+use osc_packet::{MAX_PACKET, Packet};
 use osc_pattern::Address;
 use osc_shown::{Look, Route, WallClock};
 use rtrb::{Consumer, RingBuffer};
@@ -217,7 +218,8 @@ fn shown_twice<W: Wait>(rt: &HostRuntime, threads: &W) -> Result<(Vec<u8>, Vec<u
     gate.answered(0, 1, &Submission { answer, clock: 1 });
     link.finish();
     let waits = printed(alloc, &mut ring)?;
-    let mut ticker = WaitingClock::open(rt, threads, &rounds);
+    let changeover = Changeover::at(u64::MAX);
+    let mut ticker = WaitingClock::open(rt, threads, &rounds, &changeover);
     let _ = ticker.now();
     ticker.until(Some(0));
     link.finish();
@@ -286,9 +288,16 @@ fn nobody_who_reads_holds_no_link(rt: HostRuntime) -> Result<(), Fail> {
 }
 
 #[test]
-fn a_show_that_is_ended_ends_its_links(rt: HostRuntime) -> Result<(), Fail> {
+fn a_show_that_is_changed_over_or_ended_ends_its_links(rt: HostRuntime) -> Result<(), Fail> {
     let shutdown = Shutdown::new();
-    let mut link = ShutdownLink::new(Faders::new(10), &shutdown);
+    let changeover = Changeover::at(8);
+    let mut link = ShutdownLink::new(Faders::new(10), &shutdown, &changeover);
+    assert_eq!(rt; give(rt.alloc(), &mut link)?, Datagram::Got(FADER.len()));
+    let memory = MemorySink::open(rt.alloc(), Vec::new(rt.alloc()));
+    let mut sink = MeteredSink::new(memory, &changeover);
+    assert_eq!(rt; sink.write(b"12345678"), Put::Took(8));
+    assert_eq!(rt; give(rt.alloc(), &mut link)?, Datagram::End);
+    changeover.begin();
     assert_eq!(rt; give(rt.alloc(), &mut link)?, Datagram::Got(FADER.len()));
     shutdown.ask();
     assert!(rt; shutdown.is_asked());
@@ -322,5 +331,19 @@ fn what_is_left_is_printed_at_the_end(rt: HostRuntime) -> Result<(), Fail> {
     print_while(&rt, &printer, &mut rings, &mut out, &mut chore);
     assert_eq!(rt; out.bytes(), b"the last line\n".as_slice());
     assert_eq!(rt; chore.runs, 0);
+    Ok(())
+}
+
+#[test]
+fn what_waited_before_the_show_is_shown_when_it_is_called(rt: HostRuntime) -> Result<(), Fail> {
+    let alloc = rt.alloc();
+    let mut agenda = Agenda::new(alloc);
+    agenda.expect(&Packet::check(TIMED_FADER, MAX_PACKET).ok().ok_or("a packet")?)?;
+    let routes = routes(alloc)?;
+    let mut text = Vec::new(alloc);
+    agenda.called_lines(&mut text, view(&routes, false), (2 << 32) - 1)?;
+    assert!(rt; text.is_empty());
+    agenda.called_lines(&mut text, view(&routes, false), 2 << 32)?;
+    assert_eq!(rt; text.as_slice(), b"00:00:02.000    /1/fader1 0.5\n");
     Ok(())
 }

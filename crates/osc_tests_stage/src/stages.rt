@@ -1,14 +1,17 @@
 // A stage over links, a clock, outlets and a sink in memory.
 ghost use Rattle.std.specs.Prelude.{◌≡◌, ◌≤◌, length, IfOk};
+ghost use Rattle.osc_lanes.specs.Performs.{part_of, IsWhole};
 
 use crate::relays::relay;
 use osc_atoms::Bytes;
 use osc_edge::{Clock, MemoryClock, MemoryLink, MemorySink, Moment};
 use osc_life::{Gate, OpenGate};
 use osc_links::{Bounds, LinksPart};
+use osc_pattern::Address;
 use osc_record::{Caps, Late};
 use osc_relay::{MemoryOutlet, Relay};
-use osc_stage::{Ended, Stage, Staged, stage_top};
+use osc_script::{Act, Line};
+use osc_stage::{Ended, Stage, Staged, adds_of, carried_on, stage_top};
 use std::alloc::{AllocError, Global};
 use std::sync::atomic::{AtomicU64, Ordering};
 use std::sync::{Arc, Wait};
@@ -81,6 +84,7 @@ fn stage_of(
     ensures links { IfOk result (λ stage. length stage.links.from.items ≡ 1) }
     ensures count { IfOk result (λ stage. stage.links.bounds.count ≡ 8) }
     ensures idle { IfOk result (λ stage. stage.links.bounds.idle ≡ 2) }
+    ensures whole { IfOk result (λ stage. IsWhole (part_of stage.opening)) }
 {
     let caps = Caps::new(8, 8, 8, 8, 4, recording, Late::Deliver)
         .ok()
@@ -96,7 +100,7 @@ fn stage_of(
     let bounds = Bounds { count: 8, idle: 2 };
     Ok(Stage {
         caps,
-        relays,
+        opening: adds_of(alloc, relays)?,
         links: LinksPart { from, bounds },
     })
 }
@@ -154,6 +158,7 @@ fn play<R: Threads + Wait + Sync>(
     requires links { length stage.links.from.items ≡ 1 }
     requires count { stage.links.bounds.count ≡ 8 }
     requires idle { stage.links.bounds.idle ≡ 2 }
+    requires whole { IsWhole (part_of stage.opening) }
 {
     let mut clock = MemoryClock::open(Vec::from_array(alloc, [200])?, clock_fails);
     let mut rec = MemorySink::open(alloc, sink_fails);
@@ -225,5 +230,48 @@ fn a_recording_without_room_starts_no_link(rt: HostRuntime) -> Result<(), Fail> 
     assert!(rt; matches!(staged.ended, Ended::RecordFull(room) if room.free == 0));
     assert_eq!(rt; (staged.relays.len(), staged.left.len()), (0, 2));
     assert_eq!(rt; written, 60);
+    Ok(())
+}
+
+/// What an old server left: a method, its clock, and the bundle that waits.
+fn left_lines(alloc: Global) -> Result<Vec<Line>, Fail> {
+    let add = Act::Add(Address::copied(alloc, b"/old")?);
+    let send = Act::Send(Bytes::copied(alloc, LATER)?);
+    let mut lines = Vec::with_capacity(alloc, 3)?;
+    for act in [add, Act::Tick(5), send] {
+        lines.push(Line {
+            number: 0,
+            lane: 0,
+            act,
+        })?;
+    }
+    Ok(lines)
+}
+
+#[test]
+fn what_waited_on_an_old_server_reaches_the_relays(rt: HostRuntime) -> Result<(), Fail> {
+    let alloc = rt.alloc();
+    let Stage {
+        caps,
+        opening,
+        links,
+    } = stage_of(
+        alloc,
+        [b"/light/1", b"/light/2"],
+        b"/abc",
+        Vec::new(alloc),
+        4096,
+    )?;
+    let opening = carried_on(alloc, opening.boxes, left_lines(alloc)?)?;
+    let stage = Stage {
+        caps,
+        opening,
+        links,
+    };
+    let (staged, _) = play(&rt, alloc, stage, Vec::new(alloc), Vec::new(alloc))?;
+    assert_eq!(rt; staged.ended, Ended::Done);
+    assert_eq!(rt; sent(&staged.relays, 0), Some((0, FIRST)));
+    assert_eq!(rt; sent(&staged.relays, 1), Some((1, SECOND)));
+    assert!(rt; staged.removed.is_empty() && staged.opening_faults.is_empty());
     Ok(())
 }

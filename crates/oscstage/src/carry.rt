@@ -1,35 +1,136 @@
 //! The script that carries a recording on.
-use crate::report::report_carry;
+ghost use Rattle.std.specs.Prelude.{◌≤◌, length, IfOk};
+ghost use Rattle.osc_model.specs.Limits.{max_recording};
+
+use crate::report::{LimitFault, report_carry, report_limit, report_unread};
+use crate::words::Serving;
 use osc_carry::{CarryFault, carry};
+use osc_console::Agenda;
 use osc_edge::{FileSource, StdSink};
 use osc_ends::status::{DONE, REFUSED};
 use osc_ends::{Whole, read_input, write_text};
-use osc_record::MAX_RECORDING;
-use std::alloc::AllocError;
+use osc_packet::{MAX_PACKET, Packet};
+use osc_record::{Caps, Late, MAX_RECORDING, Unread};
+use osc_script::{Act, Line, Mode, Script, ScriptRefusal};
+use osc_words::Capacities;
+use std::alloc::{AllocError, Global};
 
 /// Writes the script that brings a new server to where the recording in this file ends.
 pub(crate) fn write_script(rt: &HostRuntime, file: &str) -> Result<u8, AllocError> {
+    let recording = match read_recording(rt, file)? {
+        Ok(recording) => recording,
+        Err(status) => return Ok(status),
+    };
+    match script_of(rt, file, &recording)? {
+        Some(script) => Ok(write_text(DONE, &script, &mut StdSink::open(rt))),
+        None => Ok(REFUSED),
+    }
+}
+
+/// The lines of that script for the recording that is to be carried on; none where there is no such
+/// recording. The `Err` inside is the status, where it is refused, which is reported.
+pub(crate) fn read_carried(
+    rt: &HostRuntime,
+    serving: &Serving,
+) -> Result<Result<Vec<Line>, u8>, AllocError> {
+    let alloc = rt.alloc();
+    let Some(old) = &serving.names.old else {
+        return Ok(Ok(Vec::new(alloc)));
+    };
+    let recording = match read_recording(rt, old)? {
+        Ok(recording) => recording,
+        Err(status) => return Ok(Err(status)),
+    };
+    let Some(script) = script_of(rt, old, &recording)? else {
+        return Ok(Err(REFUSED));
+    };
+    if let Ok(unread) = Unread::open(&recording)
+        && let Some(fault) = limit_fault(unread.caps(), serving.caps)
+    {
+        report_limit(rt, old, fault);
+        return Ok(Err(REFUSED));
+    }
+    match lines_of(alloc, &script)? {
+        Some(lines) => Ok(Ok(lines)),
+        None => Ok(Err(REFUSED)),
+    }
+}
+
+/// The lines of a script, unless it is refused.
+pub(crate) fn lines_of(alloc: Global, script: &[u8]) -> Result<Option<Vec<Line>>, AllocError> {
+    match Script::read(alloc, script, Mode::Plain) {
+        Ok(script) => Ok(Some(script.into_lines())),
+        Err(ScriptRefusal::NoMemory) => Err(AllocError),
+        Err(_) => Ok(None),
+    }
+}
+
+/// The units that the lines send, which wait when a show begins with them.
+pub(crate) fn agenda_of(alloc: Global, lines: &[Line]) -> Result<Agenda, AllocError> {
+    let mut agenda = Agenda::new(alloc);
+    for line in lines {
+        if let Act::Send(bytes) = &line.act
+            && let Ok(packet) = Packet::check(bytes.as_slice(), MAX_PACKET)
+        {
+            agenda.expect(&packet)?;
+        }
+    }
+    Ok(agenda)
+}
+
+/// By which limit what waited on the old server could be lost on the new one.
+fn limit_fault(old: Caps, new: Capacities) -> Option<LimitFault> {
+    if new.units < old.units() {
+        return Some(LimitFault::Units(old.units()));
+    }
+    if new.blocks < old.blocks() {
+        return Some(LimitFault::Blocks(old.blocks()));
+    }
+    if old.late() == Late::Deliver && new.late != Late::Deliver {
+        return Some(LimitFault::Late);
+    }
+    None
+}
+
+/// The bytes of a recording; the `Err` inside is the status, where it can't be read, which is
+/// reported.
+pub(crate) fn read_recording(
+    rt: &HostRuntime,
+    file: &str,
+) -> Result<Result<Vec<u8>, u8>, AllocError>
+    ensures { IfOk result (λ read. IfOk read (λ bytes. length bytes.items ≤ max_recording)) }
+{
     let alloc = rt.alloc();
     let mut source = FileSource::at(rt, String::from_str(alloc, file)?);
-    let bytes = match read_input(alloc, MAX_RECORDING as usize, &mut source) {
-        Ok(Whole::Bytes(bytes)) if bytes.len() <= MAX_RECORDING as usize => bytes,
+    match read_input(alloc, MAX_RECORDING as usize, &mut source) {
+        Ok(Whole::Bytes(bytes)) if bytes.len() <= MAX_RECORDING as usize => Ok(Ok(bytes)),
         Ok(_) => {
             eprintln!(rt;
                 "oscstage: {file} has over 1 GiB, which is more than a recording may have"
             ).ok();
-            return Ok(REFUSED);
+            Ok(Err(REFUSED))
         }
         Err(status) => {
-            eprintln!(rt; "oscstage: {file} can't be read").ok();
-            return Ok(status);
+            report_unread(rt, file);
+            Ok(Err(status))
         }
-    };
-    match carry(alloc, &bytes) {
-        Ok(script) => Ok(write_text(DONE, script.as_slice(), &mut StdSink::open(rt))),
+    }
+}
+
+/// The script, unless the recording is refused, which is reported.
+fn script_of(
+    rt: &HostRuntime,
+    file: &str,
+    recording: &[u8],
+) -> Result<Option<Vec<u8>>, AllocError>
+    requires { length recording.now ≤ max_recording }
+{
+    match carry(rt.alloc(), recording) {
+        Ok(script) => Ok(Some(script)),
         Err(CarryFault::NoMemory) => Err(AllocError),
         Err(fault) => {
             report_carry(rt, file, &fault);
-            Ok(REFUSED)
+            Ok(None)
         }
     }
 }

@@ -6,26 +6,32 @@ ghost use Rattle.std.specs.Prelude.{◌≡◌, length, IfOk};
 
 mod bank;
 mod carry;
+mod chain;
+mod follower;
 mod input;
 mod links;
 mod losses;
+mod parts;
 mod patch;
+mod recording;
 mod report;
 mod show;
 mod view;
 mod words;
 
 use crate::bank::open_bank;
-use crate::carry::write_script;
+use crate::carry::{read_carried, write_script};
+use crate::follower::follow;
 use crate::links::Links;
+use crate::parts::{is_size, is_there, least_size};
 use crate::patch::read_patch;
-use crate::report::{report_help, report_routes, report_usage};
-use crate::show::play;
+use crate::recording::show_recording;
+use crate::report::{report_help, report_routes, report_size, report_usage};
+use crate::show::{Begin, play};
 use crate::words::{Said, Serving, read_words};
 use osc_edge::command_words;
 use osc_ends::status::{DONE, NO_MEMORY, REFUSED, SINK_FAILED, USAGE};
 use std::alloc::{AllocError, Global};
-use std::fs;
 use std::process::ExitCode;
 use std::sync::Wait;
 use std::thread::Threads;
@@ -49,6 +55,8 @@ fn run<W: Threads + Wait + Sync>(rt: &HostRuntime, threads: &W) -> Result<u8, Al
             Ok(USAGE)
         }
         Said::Carry(file) => write_script(rt, &file),
+        Said::Show(showing) if showing.follow => follow(rt, threads, &showing),
+        Said::Show(showing) => show_recording(rt, &showing),
         Said::Serve(serving) => serve(rt, threads, &serving),
     }
 }
@@ -66,25 +74,25 @@ fn serve<W: Threads + Wait + Sync>(
         ).ok();
         return Ok(SINK_FAILED);
     }
+    if !is_size(serving) {
+        report_size(rt, least_size(serving.caps), serving.caps.recording);
+        return Ok(USAGE);
+    }
     let ports = ports_of(rt.alloc(), serving.links)?;
     let patch = match read_patch(rt, serving)? {
         Ok(patch) => patch,
         Err(status) => return Ok(status),
     };
+    let carried = match read_carried(rt, serving)? {
+        Ok(lines) => lines,
+        Err(status) => return Ok(status),
+    };
     match open_bank(rt, &patch, &ports)? {
-        Ok(bank) => play(rt, threads, serving, &ports, bank),
+        Ok(bank) => play(rt, threads, serving, &ports, Begin { bank, carried }),
         Err(wrong) => {
             report_routes(rt, serving.names.patch.as_str(), &wrong);
             Ok(REFUSED)
         }
-    }
-}
-
-/// Whether there is a file of this name that holds bytes.
-fn is_there(rt: &HostRuntime, name: &str) -> bool {
-    match fs::metadata(rt, name) {
-        Ok(facts) => facts.is_file() && facts.len() > 0,
-        Err(_) => false,
     }
 }
 

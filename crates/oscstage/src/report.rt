@@ -1,5 +1,6 @@
 //! What is reported on standard error, and the help.
 use crate::bank::{Bank, RouteFault, WrongRoute};
+use crate::parts::{NEVER, size_of};
 use crate::words::Serving;
 use osc_carry::CarryFault;
 use osc_patch::PatchError;
@@ -15,7 +16,7 @@ const MESSAGE_SIZE: u32 = 172;
 const HOUR_SIZE: u32 = 172_800;
 
 const USAGE: &str =
-    "usage: oscstage serve [OPTIONS] [--quiet] [--force] PATCH FILE, or oscstage carry FILE; \
+    "usage: oscstage serve [OPTIONS] PATCH FILE, oscstage show FILE, or oscstage carry FILE; \
     oscstage --help tells more";
 
 const HELP: &str = "oscstage serve [OPTIONS] PATCH FILE
@@ -40,9 +41,23 @@ PATCH has a line for each method:
                     each link ends after N packets, or after N waits in a row
   --quiet           show refusals alone
   --force           overwrite FILE
+  --carry OLD       go on from the recording OLD: its clock, and the bundles that
+                    wait, which call the methods of PATCH
+  --turn-over N     at N bytes of FILE go on in FILE.2, FILE.3 and so on; by
+                    default at nine tenths of its room, and over TCP never
 
 Type end and Enter to end the show. Ctrl-C ends it at once, and FILE keeps all
 but the last 50 milliseconds.
+
+oscstage show [--utc] [--ticks] [--quiet] [--follow] FILE
+
+Prints the recording in FILE as a stage manager would note it: a line for each
+message, with what became of it.
+
+  --utc             times of UTC, and not of this machine's zone
+  --ticks           lines for the clock's ticks and for new callers, too
+  --quiet           show refusals alone
+  --follow          show what comes while FILE grows, until Ctrl-C
 
 oscstage carry FILE
 
@@ -105,25 +120,76 @@ pub(crate) fn report_routes(rt: &HostRuntime, name: &str, wrong: &[WrongRoute]) 
 pub(crate) fn report_carry(rt: &HostRuntime, file: &str, fault: &CarryFault) {
     match fault {
         CarryFault::NoMemory => {}
-        CarryFault::Malformed { at: 0 } => {
-            eprintln!(rt; "oscstage: {file} is no recording of a server").ok();
-        }
+        CarryFault::Malformed { at: 0 } => report_malformed(rt, file),
         CarryFault::Malformed { at } => {
             eprintln!(rt;
                 "oscstage: {file} is cut off at byte {at}: head -c {at} {file} has all that is whole"
             ).ok();
         }
-        CarryFault::Disagrees { entry, .. } => {
-            eprintln!(rt;
-                "oscstage: {file} wasn't recorded by this server, as its entry {entry} shows"
-            ).ok();
-        }
+        CarryFault::Disagrees { entry, .. } => report_unlike(rt, file, *entry),
         CarryFault::TooLong => {
             eprintln!(rt;
                 "oscstage: the script of {file} would have over 64 MiB, as so many bundles wait"
             ).ok();
         }
     }
+}
+
+/// Reports that a file can't be read.
+pub(crate) fn report_unread(rt: &HostRuntime, file: &str) {
+    eprintln!(rt; "oscstage: {file} can't be read").ok();
+}
+
+/// Reports that a file is no recording.
+pub(crate) fn report_malformed(rt: &HostRuntime, file: &str) {
+    eprintln!(rt; "oscstage: {file} is no recording of a server").ok();
+}
+
+/// Reports by which entry, counted from 0, a file isn't one of this server.
+pub(crate) fn report_unlike(rt: &HostRuntime, file: &str, entry: u32) {
+    eprintln!(rt;
+        "oscstage: {file} wasn't recorded by this server, as its entry {entry} shows"
+    ).ok();
+}
+
+/// By which limit of the words a show can't be carried on.
+#[derive(Clone, Copy)]
+pub(crate) enum LimitFault {
+    /// The old server had room for so many units.
+    Units(u32),
+    /// It had room for so many blocks.
+    Blocks(u32),
+    /// It performed late bundles.
+    Late,
+}
+
+/// Reports why a recording can't be carried on by a server with these limits.
+pub(crate) fn report_limit(rt: &HostRuntime, old: &str, fault: LimitFault) {
+    match fault {
+        LimitFault::Units(units) => {
+            eprintln!(rt; "oscstage: {old} had --units {units}: say at least as many").ok();
+        }
+        LimitFault::Blocks(blocks) => {
+            eprintln!(rt; "oscstage: {old} had --blocks {blocks}: say at least as many").ok();
+        }
+        LimitFault::Late => {
+            eprintln!(rt;
+                "oscstage: a late bundle may still wait in {old}: leave --late discard out"
+            ).ok();
+        }
+    }
+}
+
+/// Reports between which sizes a show can go on in another recording.
+pub(crate) fn report_size(rt: &HostRuntime, least: u64, most: u32) {
+    eprintln!(rt;
+        "oscstage: with these limits --turn-over has to be from {least} to {most} bytes"
+    ).ok();
+}
+
+/// Reports that the show goes on in another recording.
+pub(crate) fn report_part(rt: &HostRuntime, name: &str) {
+    eprintln!(rt; "oscstage: goes on in {name}").ok();
 }
 
 /// Reports what is listened to, which methods there are, and how long the recording lasts.
@@ -149,28 +215,34 @@ pub(crate) fn report_start(rt: &HostRuntime, serving: &Serving, ports: &[u16], b
     eprintln!(rt;
         "oscstage: {file} grows as it plays, with room for some {messages} messages or {hours} hours of silence"
     ).ok();
+    let size = size_of(serving);
+    if size != NEVER {
+        eprintln!(rt; "oscstage: at {size} bytes the show goes on in {file}.2").ok();
+    }
     eprintln!(rt;
         "oscstage: type end and Enter to end the show; Ctrl-C ends it at once, and {file} keeps all but the last 50 ms"
     ).ok();
 }
 
-/// How a show ended, how many bytes its recording has, and how many datagrams were no packets.
-#[derive(Clone, Copy)]
+/// How a show ended, its last recording and how many bytes that has, and how many datagrams were no
+/// packets.
+#[derive(Drop)]
 pub(crate) struct ShowEnd {
     pub(crate) ended: Ended,
+    pub(crate) file: String,
     pub(crate) size: usize,
     pub(crate) refused: usize,
 }
 
 /// Reports how the show ended, how many datagrams were no packets, and how many bytes the recording
 /// has.
-pub(crate) fn report_end(rt: &HostRuntime, serving: &Serving, end: ShowEnd) {
+pub(crate) fn report_end(rt: &HostRuntime, serving: &Serving, end: &ShowEnd) {
     let ShowEnd {
         ended,
+        file,
         size,
         refused,
     } = end;
-    let file = serving.names.file.as_str();
     match ended {
         Ended::Done => {}
         Ended::RecordFull(_) => {
@@ -179,7 +251,7 @@ pub(crate) fn report_end(rt: &HostRuntime, serving: &Serving, end: ShowEnd) {
             ).ok();
         }
         Ended::LinkFailed(link) => {
-            let port = serving.links.port.wrapping_add((link % 65_536) as u16);
+            let port = serving.links.port.wrapping_add((*link % 65_536) as u16);
             eprintln!(rt;
                 "oscstage: port {port} failed: another program may have it, or the system refuses it"
             ).ok();
@@ -193,8 +265,14 @@ pub(crate) fn report_end(rt: &HostRuntime, serving: &Serving, end: ShowEnd) {
             ).ok();
         }
     }
-    if refused > 0 {
-        eprintln!(rt; "oscstage: {refused} datagrams were no packets").ok();
+    match refused {
+        0 => {}
+        1 => {
+            eprintln!(rt; "oscstage: 1 datagram was no packet").ok();
+        }
+        _ => {
+            eprintln!(rt; "oscstage: {refused} datagrams were no packets").ok();
+        }
     }
     eprintln!(rt; "oscstage: {file} has {size} bytes").ok();
 }

@@ -4,22 +4,24 @@ ghost use Rattle.osc_links.specs.declared.limits.TheConstants.{MAX_LINKS};
 ghost use Rattle.oscstage.specs.Shows.{CanPlay};
 
 use crate::bank::Bank;
+use crate::carry::agenda_of;
+use crate::chain::{Finish, Reel, Show, play_show};
 use crate::input::watch_input;
 use crate::losses::{LossReport, report_losses};
+use crate::parts::size_of;
 use crate::report::{ShowEnd, report_end, report_start};
 use crate::view::{look_of, print_day};
 use crate::words::Serving;
 use osc_console::{
-    Calendar, Chore, ConsoleGate, HeardLink, Pace, Printer, RingSink, Rounds, Sender, ShownLink,
-    Shutdown, ShutdownLink, Slot, View, WaitingClock, Watch, print_while,
+    Agenda, Calendar, Changeover, Chore, HeardLink, Pace, Printer, RingSink, Rounds, Sender,
+    ShownLink, Shutdown, ShutdownLink, Slot, View, WaitingClock, Watch, print_while,
 };
-use osc_edge::{FileSink, Link, StdSink, TcpSource};
+use osc_edge::{Link, StdSink, TcpSource, system_moment};
 use osc_ends::limits_for;
 use osc_ends::status::{DONE, EDGE_FAILED, RECORDING_FULL, SINK_FAILED};
 use osc_links::LinksPart;
-use osc_record::Caps;
-use osc_relay::{Relay, UdpOutlet};
-use osc_stage::{Ended, Stage, Staged, stage_top};
+use osc_script::Line;
+use osc_stage::{Ended, carried_on};
 use osc_stream::StreamLink;
 use osc_words::Transport;
 use rtrb::{Consumer, RingBuffer};
@@ -40,13 +42,14 @@ const COUNTED_WAIT: u32 = 50;
 
 /// What the threads of a show share.
 #[derive(Drop)]
-struct Shared {
-    shutdown: Arc<Shutdown, Global>,
-    rounds: Rounds,
+pub(crate) struct Shared {
+    pub(crate) shutdown: Arc<Shutdown, Global>,
+    pub(crate) rounds: Rounds,
     calendar: Calendar,
     printer: Printer,
-    slots: Vec<Slot>,
+    pub(crate) slots: Vec<Slot>,
     paces: Vec<Pace>,
+    pub(crate) changeover: Changeover,
 }
 
 impl Shared {
@@ -65,6 +68,7 @@ impl Shared {
             printer: Printer::new(),
             slots,
             paces,
+            changeover: Changeover::at(size_of(serving)),
         })
     }
 }
@@ -78,27 +82,34 @@ fn pace_of(serving: &Serving) -> Pace {
     }
 }
 
+/// What a show begins with: the methods, and the lines that carry an old show on.
+#[derive(Drop)]
+pub(crate) struct Begin {
+    pub(crate) bank: Bank,
+    pub(crate) carried: Vec<Line>,
+}
+
 /// Serves the links that the words say to serve.
 pub(crate) fn play<W: Threads + Wait + Sync>(
     rt: &HostRuntime,
     threads: &W,
     serving: &Serving,
     ports: &[u16],
-    bank: Bank,
+    begin: Begin,
 ) -> Result<u8, AllocError>
     requires { length ports.now ≡ serving.now.links.count }
 {
-    report_start(rt, serving, ports, &bank);
+    report_start(rt, serving, ports, &begin.bank);
     let shared = Shared::open(rt.alloc(), serving, ports.len())?;
     watch_input(rt, threads, Arc::try_clone(&shared.shutdown)?);
     match serving.links.transport {
         Transport::Udp => {
             let links = datagram_links(rt, &shared, ports)?;
-            play_links(rt, threads, serving, &shared, links, bank)
+            play_links(rt, threads, serving, &shared, links, begin)
         }
         Transport::Tcp => {
             let links = stream_links(rt, &shared, ports)?;
-            play_links(rt, threads, serving, &shared, links, bank)
+            play_links(rt, threads, serving, &shared, links, begin)
         }
     }
 }
@@ -115,8 +126,8 @@ fn datagram_links<'a>(
     let mut paces = shared.paces.iter();
     for port in ports {
         let Some(pace) = paces.next() else { break };
-        let link = HeardLink::at(rt, *port, pace);
-        links.push(ShutdownLink::new(link, &shared.shutdown))?;
+        let link = HeardLink::at(rt, *port, pace, &shared.changeover);
+        links.push(ShutdownLink::new(link, &shared.shutdown, &shared.changeover))?;
     }
     Ok(links)
 }
@@ -132,7 +143,7 @@ fn stream_links<'a>(
     let mut links = Vec::with_capacity(rt.alloc(), ports.len())?;
     for port in ports {
         let link = StreamLink::open(rt.alloc(), TcpSource::at(rt, *port))?;
-        links.push(ShutdownLink::new(link, &shared.shutdown))?;
+        links.push(ShutdownLink::new(link, &shared.shutdown, &shared.changeover))?;
     }
     Ok(links)
 }
@@ -144,13 +155,14 @@ fn play_links<W: Threads + Wait + Sync, L: Link + Sender + Send + Drop>(
     serving: &Serving,
     shared: &Shared,
     links: Vec<L>,
-    bank: Bank,
+    begin: Begin,
 ) -> Result<u8, AllocError>
     requires { length links.items ≤ MAX_LINKS }
 {
     let alloc = rt.alloc();
-    let look = look_of(rt, serving.flags.quiet);
+    let look = look_of(rt, system_moment(rt), serving.flags.quiet);
     print_day(rt, look, &shared.calendar)?;
+    let Begin { bank, carried } = begin;
     let Bank {
         relays,
         routes,
@@ -162,29 +174,26 @@ fn play_links<W: Threads + Wait + Sync, L: Link + Sender + Send + Drop>(
         routes: &routes,
     };
     let mut rings = Vec::with_capacity(alloc, links.len())?;
+    let mut from = show_links(rt, threads, shared, view, links, &mut rings)?;
+    expect_units(&mut from, agenda_of(alloc, &carried)?);
     let show = Show {
         caps: limits_for(CALLERS, serving.caps),
-        relays,
+        opening: carried_on(alloc, relays, carried)?,
         links: LinksPart {
-            from: show_links(rt, threads, shared, view, links, &mut rings)?,
+            from,
             bounds: serving.links.bounds,
         },
-        rec: FileSink::at(rt, String::from_str(alloc, &serving.names.file)?),
+        reel: Reel {
+            file: String::from_str(alloc, &serving.names.file)?,
+            part: 1,
+            refused: 0,
+        },
     };
     let mut report = LossReport::new(rt, &destinations);
     let end = play_printed(rt, threads, shared, show, &mut rings, &mut report)?;
     report_losses(rt, &destinations);
-    report_end(rt, serving, end);
+    report_end(rt, serving, &end);
     Ok(status_of(end.ended))
-}
-
-/// What is played, and what is written meanwhile.
-#[derive(Drop)]
-struct Show<L> {
-    caps: Caps,
-    relays: Vec<Relay<UdpOutlet>>,
-    links: LinksPart<L>,
-    rec: FileSink,
 }
 
 /// Plays the show, and prints meanwhile what comes out of the rings.
@@ -242,7 +251,7 @@ fn show_links<'a, W: Wait, L: Link + Sender + Drop>(
             pace,
             calendar: &shared.calendar,
         };
-        let clock = WaitingClock::open(rt, threads, &shared.rounds);
+        let clock = WaitingClock::open(rt, threads, &shared.rounds, &shared.changeover);
         let sink = RingSink::new(producer, &shared.printer);
         shown.push(ShownLink::open(alloc, link, clock, sink, view, watch)?)?;
         rings.push(consumer)?;
@@ -250,50 +259,14 @@ fn show_links<'a, W: Wait, L: Link + Sender + Drop>(
     Ok(shown)
 }
 
-/// Plays the show, and then shows what was left to be shown.
-fn play_show<W: Threads + Wait + Sync, L: Link + Finish + Send + Drop>(
-    rt: &HostRuntime,
-    threads: &W,
-    shared: &Shared,
-    show: Show<L>,
-) -> Result<ShowEnd, AllocError>
-    requires { CanPlay show }
-{
-    let Show {
-        caps,
-        relays,
-        links,
-        mut rec,
-    } = show;
-    let mut clock = WaitingClock::open(rt, threads, &shared.rounds);
-    let gate = ConsoleGate::new(&shared.rounds, &shared.slots);
-    let stage = Stage {
-        caps,
-        relays,
-        links,
-    };
-    let staged = stage_top(threads, rt.alloc(), stage, &mut clock, &mut rec, &gate)?;
-    let Staged {
-        ended,
-        mut links,
-        recording,
-        faults,
-        ..
-    } = staged;
-    for link in &mut links {
-        link.finish();
+/// Has the first link show the units that wait already, when they are called.
+fn expect_units<'a, L: Link + Sender + Drop, W: Wait>(
+    links: &mut [StageLink<'a, L, W>],
+    agenda: Agenda,
+) {
+    if let Some(first) = links.first_mut() {
+        first.expect(agenda);
     }
-    Ok(ShowEnd {
-        ended,
-        size: recording.len(),
-        refused: faults.len(),
-    })
-}
-
-/// What may have something left to show.
-trait Finish {
-    /// Shows it.
-    fn finish(&mut self);
 }
 
 impl<'a, L: Link + Sender + Drop, W: Wait> Finish for StageLink<'a, L, W> {

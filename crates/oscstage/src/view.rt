@@ -11,11 +11,16 @@ use std::io::{IsTerminal, Write};
 /// The seconds from the start of 1900 to that of 1970.
 const SECONDS_TO_1970: i128 = 2_208_988_800;
 
-/// The look of lines on this machine's standard output: in the zone of the machine as it is now,
-/// and in colours on a terminal unless `NO_COLOR` is set.
-pub(crate) fn look_of(rt: &HostRuntime, quiet: bool) -> Look {
+/// The look of lines on this machine's standard output: in the zone of the machine as it is at this
+/// moment, and in colours on a terminal unless `NO_COLOR` is set.
+pub(crate) fn look_of(rt: &HostRuntime, moment: Option<u64>, quiet: bool) -> Look {
+    look_at(rt, zone_offset(rt, moment).unwrap_or(Offset::UTC), quiet)
+}
+
+/// The same in another zone.
+pub(crate) fn look_at(rt: &HostRuntime, offset: Offset, quiet: bool) -> Look {
     Look {
-        clock: WallClock::at(offset_of(rt)),
+        clock: WallClock::at(offset),
         colours: rt.stdout().is_terminal() && !has_no_color(rt),
         quiet,
     }
@@ -44,20 +49,16 @@ fn has_no_color(rt: &HostRuntime) -> bool {
     )
 }
 
-/// How far the machine's zone is ahead of UTC now; not at all where that isn't known.
-fn offset_of(rt: &HostRuntime) -> Offset {
-    zone_offset(rt).unwrap_or(Offset::UTC)
-}
-
-fn zone_offset(rt: &HostRuntime) -> Option<Offset> {
+/// How far the machine's zone is ahead of UTC at this moment, where that is known.
+fn zone_offset(rt: &HostRuntime, moment: Option<u64>) -> Option<Offset> {
     let zone = SystemTimeZone::read(rt).ok()?;
     let database = TimeZoneDatabase::new(rt.alloc());
     let zone = zone.time_zone(&database).ok()?;
-    Some(zone.to_offset(now(rt)?))
+    Some(zone.to_offset(time_of(moment?)?))
 }
 
-/// The time now.
-fn now(rt: &HostRuntime) -> Option<Timestamp> {
-    let seconds = i128::from(system_moment(rt)? >> 32) - SECONDS_TO_1970;
+/// The time that a moment is.
+fn time_of(moment: u64) -> Option<Timestamp> {
+    let seconds = i128::from(moment >> 32) - SECONDS_TO_1970;
     Timestamp::from_nanosecond(seconds * 1_000_000_000).ok()
 }

@@ -1,0 +1,171 @@
+//! Shows a recording that grows.
+ghost use Rattle.std.specs.Prelude.{◌≤◌, length, IfOk};
+ghost use Rattle.osc_model.specs.Limits.{max_recording};
+
+use crate::recording::{Page, look_for, show_all};
+use crate::report::{report_malformed, report_unread};
+use crate::words::Showing;
+use osc_edge::{FileSource, Source, Taken};
+use osc_ends::status::{DONE, REFUSED, SOURCE_FAILED};
+use osc_record::{Answer, Entry, Event, HEADER_SIZE, MAX_RECORDING, Unread};
+use osc_report::{Options, Reporter};
+use std::alloc::{AllocError, Global};
+use std::sync::Wait;
+use std::thread;
+use std::time::Duration;
+
+/// How long it is from one look to the next, in milliseconds.
+const LOOK: u64 = 100;
+
+/// How many bytes are read at once, and how often in a look.
+const PIECE: usize = 65_536;
+const PIECES: u32 = 32_768;
+
+/// What is kept of a recording that grows.
+#[derive(Drop)]
+struct Follower {
+    /// The header, and the bytes that came after the last entry that was shown.
+    bytes: Vec<u8>,
+    /// Once the header is there.
+    reporter: Option<Reporter>,
+}
+
+/// Shows a recording while it grows, until the program is stopped. A line stands once its moment is
+/// known, at the next tick or release.
+pub(crate) fn follow<W: Wait>(
+    rt: &HostRuntime,
+    threads: &W,
+    showing: &Showing,
+) -> Result<u8, AllocError> {
+    let alloc = rt.alloc();
+    let mut source = FileSource::at(rt, String::from_str(alloc, &showing.file)?);
+    let mut page = Page::open(rt);
+    let mut follower = Follower {
+        bytes: Vec::new(alloc),
+        reporter: None,
+    };
+    for _ in threads.forever() {
+        if !read_more(&mut source, &mut follower.bytes)? {
+            report_unread(rt, &showing.file);
+            return Ok(SOURCE_FAILED);
+        }
+        if !follower.show_more(rt, showing, &mut page)? {
+            report_malformed(rt, &showing.file);
+            return Ok(REFUSED);
+        }
+        page.write();
+        if page.status() != DONE {
+            return Ok(page.status());
+        }
+        thread::sleep(rt, Duration::from_millis(LOOK));
+    }
+    unreachable!()
+}
+
+/// Reads what has come, and answers whether the source gives it.
+fn read_more(source: &mut FileSource, bytes: &mut Vec<u8>) -> Result<bool, AllocError> {
+    let alloc: Global = *bytes.allocator();
+    let mut piece = vec![in alloc; 0; PIECE]?;
+    for _ in 0..PIECES {
+        match source.read(&mut piece) {
+            Taken::Bytes(0) => return Ok(true),
+            Taken::Bytes(count) => bytes.extend_from_slice(&piece[..count.min(PIECE)])?,
+            Taken::Failed => return Ok(false),
+        }
+    }
+    Ok(true)
+}
+
+impl Follower {
+    /// Shows the entries up to and with the last tick or release, and keeps the bytes after them.
+    /// Answers whether they are those of a server.
+    fn show_more(
+        &mut self,
+        rt: &HostRuntime,
+        showing: &Showing,
+        page: &mut Page,
+    ) -> Result<bool, AllocError> {
+        let header = HEADER_SIZE as usize;
+        if self.bytes.len() < header {
+            return Ok(true);
+        }
+        if self.bytes.len() > MAX_RECORDING as usize {
+            return Ok(false);
+        }
+        let Some(ticks) = ticks_of(&self.bytes) else {
+            return Ok(false);
+        };
+        let reporter = match &mut self.reporter {
+            Some(reporter) => reporter,
+            None => {
+                let Ok(unread) = Unread::open(&self.bytes) else {
+                    return Ok(false);
+                };
+                let options = Options {
+                    look: look_for(rt, showing, ticks.first),
+                    ticks: showing.ticks,
+                };
+                let late = unread.caps().late();
+                self.reporter
+                    .insert(Reporter::open(rt.alloc(), options, late))
+            }
+        };
+        let end = ticks.end.max(header).min(self.bytes.len());
+        if !show_all(page, reporter, &self.bytes[..end])? {
+            return Ok(false);
+        }
+        self.bytes.drain(header..end);
+        Ok(true)
+    }
+}
+
+/// The first moment that bytes hand the clock, and where their last tick or release ends.
+#[derive(Clone, Copy)]
+struct Ticks {
+    first: Option<u64>,
+    end: usize,
+}
+
+/// The ticks of bytes that begin with a header, if they do.
+fn ticks_of(bytes: &[u8]) -> Option<Ticks>
+    requires { length bytes.now ≤ max_recording }
+{
+    let Ok(mut unread) = Unread::open(bytes) else {
+        return None;
+    };
+    let mut ticks = Ticks {
+        first: None,
+        end: 0,
+    };
+    let mut ends = false;
+    // Each entry has a byte.
+    for _ in 0..=bytes.len() {
+        let (at, entry) = match unread.next_entry() {
+            Ok(Some(entry)) => (entry.at as usize, Some(entry)),
+            Ok(None) => (bytes.len(), None),
+            Err(malformed) => (malformed.at as usize, None),
+        };
+        if ends {
+            ticks.end = at;
+        }
+        let Some(entry) = entry else {
+            return Some(ticks);
+        };
+        ends = ends_stretch(&entry);
+        ticks.first = ticks.first.or(moment_of(&entry));
+    }
+    Some(ticks)
+}
+
+/// Whether an entry gives those before it their moment.
+fn ends_stretch(entry: &Entry<'_>) -> bool {
+    matches!(entry.event, Event::Tick(_) | Event::Release)
+}
+
+/// The moment that an entry hands the clock.
+pub(crate) fn moment_of(entry: &Entry<'_>) -> Option<u64> {
+    match (entry.event, entry.answer) {
+        (Event::Tick(moment), Answer::Ticked) => Some(moment),
+        _ => None,
+    }
+}

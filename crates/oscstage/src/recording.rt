@@ -1,0 +1,233 @@
+//! Shows a recording.
+ghost use Rattle.std.specs.Prelude.{◌≤◌, length};
+ghost use Rattle.osc_model.specs.Limits.{max_recording};
+
+use crate::carry::read_recording;
+use crate::follower::moment_of;
+use crate::report::{report_malformed, report_unlike};
+use crate::view::{look_at, look_of};
+use crate::words::Showing;
+use jiff_core::Offset;
+use osc_edge::StdSink;
+use osc_ends::status::{DONE, REFUSED};
+use osc_ends::write_text;
+use osc_record::{Entry, Late, Unread};
+use osc_replay::{ReplayFault, check};
+use osc_report::{Options, Reporter, ShowFault, Shown};
+use osc_shown::{Look, cut_line, opening_line};
+use std::alloc::AllocError;
+
+/// How many bytes of lines are written at once.
+const PAGE: usize = 65_536;
+
+/// How far a recording is that of a server.
+enum Judged {
+    /// All of it.
+    Whole,
+    /// Up to this byte, where an entry begins that is cut.
+    CutAt(usize),
+    /// It isn't, which is reported.
+    Refused,
+}
+
+/// Shows a recording as far as it is whole, unless it is refused.
+pub(crate) fn show_recording(rt: &HostRuntime, showing: &Showing) -> Result<u8, AllocError> {
+    let recording = match read_recording(rt, &showing.file)? {
+        Ok(recording) => recording,
+        Err(status) => return Ok(status),
+    };
+    match judge(rt, &showing.file, &recording)? {
+        Judged::Whole => show_bytes(rt, showing, &recording, None),
+        Judged::CutAt(at) => show_bytes(rt, showing, &recording, Some(at)),
+        Judged::Refused => Ok(REFUSED),
+    }
+}
+
+/// Plays the recording again, and reports why it is refused, if it is.
+fn judge(rt: &HostRuntime, file: &str, recording: &[u8]) -> Result<Judged, AllocError>
+    requires { length recording.now ≤ max_recording }
+{
+    match check(rt.alloc(), recording) {
+        Ok(_) => Ok(Judged::Whole),
+        Err(ReplayFault::NoMemory) => Err(AllocError),
+        Err(ReplayFault::Malformed { at }) if at > 0 => judge_front(rt, file, recording, at),
+        Err(fault) => Ok(refuse(rt, file, &fault)),
+    }
+}
+
+/// The same of what stands before a byte.
+fn judge_front(
+    rt: &HostRuntime,
+    file: &str,
+    recording: &[u8],
+    at: u32,
+) -> Result<Judged, AllocError>
+    requires { length recording.now ≤ max_recording }
+{
+    let end = (at as usize).min(recording.len());
+    match check(rt.alloc(), &recording[..end]) {
+        Ok(_) => Ok(Judged::CutAt(end)),
+        Err(ReplayFault::NoMemory) => Err(AllocError),
+        Err(fault) => Ok(refuse(rt, file, &fault)),
+    }
+}
+
+fn refuse(rt: &HostRuntime, file: &str, fault: &ReplayFault) -> Judged {
+    match fault {
+        ReplayFault::Disagrees { entry, .. } => report_unlike(rt, file, *entry),
+        _ => report_malformed(rt, file),
+    }
+    Judged::Refused
+}
+
+/// What stands in a recording besides its lines.
+#[derive(Clone, Copy)]
+struct Facts {
+    late: Late,
+    entries: u64,
+    /// The first moment that the clock was handed.
+    first: Option<u64>,
+}
+
+/// Shows the bytes up to where they are cut.
+fn show_bytes(
+    rt: &HostRuntime,
+    showing: &Showing,
+    recording: &[u8],
+    cut: Option<usize>,
+) -> Result<u8, AllocError>
+    requires { length recording.now ≤ max_recording }
+{
+    let Some(facts) = facts_of(recording) else {
+        return Ok(REFUSED);
+    };
+    let look = look_for(rt, showing, facts.first);
+    let mut page = Page::open(rt);
+    let size = recording.len() as u64;
+    let discards = facts.late == Late::Discard;
+    opening_line(&mut page.text, look, size, facts.entries, discards)?;
+    let options = Options {
+        look,
+        ticks: showing.ticks,
+    };
+    let mut reporter = Reporter::open(rt.alloc(), options, facts.late);
+    if !show_all(&mut page, &mut reporter, recording)? {
+        return Ok(REFUSED);
+    }
+    reporter.end(&mut page.text)?;
+    if let Some(at) = cut {
+        cut_line(&mut page.text, look, at as u64)?;
+    }
+    Ok(page.close())
+}
+
+/// How lines look, in the zone of the machine at the recording's first moment, or in UTC.
+pub(crate) fn look_for(rt: &HostRuntime, showing: &Showing, first: Option<u64>) -> Look {
+    if showing.utc {
+        look_at(rt, Offset::UTC, showing.quiet)
+    } else {
+        look_of(rt, first, showing.quiet)
+    }
+}
+
+/// Lines that are to be written, and how it went.
+#[derive(Drop)]
+pub(crate) struct Page {
+    out: StdSink,
+    text: Vec<u8>,
+    status: u8,
+}
+
+impl Page {
+    /// Nothing is to be written yet. Takes no memory.
+    pub(crate) fn open(rt: &HostRuntime) -> Page {
+        Page {
+            out: StdSink::open(rt),
+            text: Vec::new(rt.alloc()),
+            status: DONE,
+        }
+    }
+
+    /// The exit status so far.
+    pub(crate) fn status(&self) -> u8 {
+        self.status
+    }
+
+    /// Writes the lines, if they are many. After a sink that failed nothing more is written.
+    fn turn(&mut self) {
+        if self.text.len() >= PAGE {
+            self.write();
+        }
+    }
+
+    /// Writes the lines.
+    pub(crate) fn write(&mut self) {
+        if self.status == DONE {
+            self.status = write_text(DONE, &self.text, &mut self.out);
+        }
+        self.text.clear();
+    }
+
+    /// Writes what is left, and tells how it went.
+    fn close(mut self) -> u8 {
+        self.write();
+        self.status
+    }
+}
+
+/// Adds the lines of all whole entries. Answers whether the reporter took all of them, which it
+/// does of a recording that was played again.
+pub(crate) fn show_all(
+    page: &mut Page,
+    reporter: &mut Reporter,
+    recording: &[u8],
+) -> Result<bool, AllocError>
+    requires { length recording.now ≤ max_recording }
+{
+    let Ok(mut unread) = Unread::open(recording) else {
+        return Ok(false);
+    };
+    // Each stretch but the last has a byte.
+    for _ in 0..=recording.len() {
+        match reporter.show(&mut page.text, &mut unread) {
+            Ok(Shown::Stretch) => page.turn(),
+            Ok(_) => return Ok(true),
+            Err(ShowFault::NoMemory) => return Err(AllocError),
+            Err(ShowFault::Disagrees { .. }) => return Ok(false),
+        }
+    }
+    Ok(true)
+}
+
+/// The facts of a recording, if it begins with a header.
+fn facts_of(recording: &[u8]) -> Option<Facts>
+    requires { length recording.now ≤ max_recording }
+{
+    let Ok(mut unread) = Unread::open(recording) else {
+        return None;
+    };
+    let mut facts = Facts {
+        late: unread.caps().late(),
+        entries: 0,
+        first: None,
+    };
+    // Each entry has a byte.
+    for _ in 0..recording.len() {
+        match unread.next_entry() {
+            Ok(Some(entry)) => facts = facts.with(&entry),
+            _ => return Some(facts),
+        }
+    }
+    Some(facts)
+}
+
+impl Facts {
+    /// With an entry more.
+    fn with(self, entry: &Entry<'_>) -> Facts {
+        Facts {
+            entries: self.entries.saturating_add(1),
+            first: self.first.or(moment_of(entry)),
+            ..self
+        }
+    }
+}
