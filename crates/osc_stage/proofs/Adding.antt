@@ -1,6 +1,6 @@
 -- What the opening adds, and what it removes.
 use Rattle.std.proofs.Common.{◌≡◌, ℕ, ◌+◌, Bool, true, false, not, List, [], ◌∷◌, ◌++◌, map, filter, length, Option, Some, None}
-use Rattle.std.proofs.Common.{refl, ap, ◌∙◌, arith}
+use Rattle.std.proofs.Common.{cond, refl, ap, ◌∙◌, arith}
 use Rattle.std.specs.Prelude.{MatchOption}
 use Rattle.osc_atoms.specs.declared.fault.Fault.{Fault}
 use Rattle.osc_atoms.specs.declared.limits.TheConstants.{MAX_PACKET}
@@ -25,10 +25,10 @@ others_counted (line ∷ lines) = go (is_add line.act) refl (others_counted line
   go : (is : Bool) → is_add line.act ≡ is → count_adds (filter is_other lines) ≡ 0
       → count_adds (cond (not is) (line ∷ filter is_other lines) (filter is_other lines)) ≡ 0
   go true is rest = rest
-  go false is rest = omega (arith, rest, is)
+  go false is rest = let none : adds_in line.act ≡ 0 = ap (λ (b : Bool). cond b 1 0) is in omega (arith, rest, none)
 
 counted_append : (some others : List Line) → count_adds (some ++ others) ≡ count_adds some + count_adds others
-counted_append [] others = refl
+counted_append [] others = omega arith
 counted_append (line ∷ some) others = omega (arith, counted_append some others)
 
 module _ {O : Type 0} {G : Ghosts O} where

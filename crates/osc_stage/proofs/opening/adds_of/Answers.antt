@@ -1,8 +1,10 @@
-use Rattle.std.proofs.Common.{sym, subst}
+use Rattle.std.proofs.Common.{map, sym, subst, ap, ◌∙◌}
 use Rattle.osc_lanes.specs.Performs.{IsWhole}
+use Rattle.osc_stage.specs.Stages.{add_line}
 use Rattle.osc_stage.proofs.Adding.{adds_whole}
 use Rattle.osc_stage.proofs.opening.adds_of.Goals as goal
 
 pub returns-clause-whole : goal.returns-clause-whole
 returns-clause-whole g c =
-    subst (λ lines. IsWhole (record { lines = lines; boxes = c.args.relays.items })) (sym c.in_ok-lines.ensures) (adds_whole c.args.relays.items)
+    subst (λ lines. IsWhole (record { lines = lines; boxes = c.args.relays.items })) (sym (c.in_ok-lines.ensures ∙ ap (map add_line) c.deref.ensures.value))
+    (adds_whole c.args.relays.items)

@@ -7,7 +7,6 @@ use Rattle.osc_stage.proofs.opening.carried_on.Goals as goal
 
 pub returns-clause-whole : goal.returns-clause-whole
 returns-clause-whole g c =
-    let at = goal.at.returns-clause-whole g c in
     let adds = c.in_ok-all.ensures.adds in
     let lines : c.append.new.self.items ≡ map add_line c.args.relays.items ++ filter is_other c.args.lines.items =
     c.in_ok-append.ensures.items ∙ (λ i. (ap (λ (p : Part _). p.lines) adds) i ++ c.keep_others.ensures i) in
