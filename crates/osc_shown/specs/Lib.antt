@@ -9,3 +9,6 @@ pub mod Tails
 pub mod Lines
 pub mod Added
 pub mod Refusals
+pub mod Told
+pub mod Called
+pub mod Summaries

@@ -12,7 +12,7 @@ use osc_pattern::Pattern;
 use std::alloc::AllocError;
 
 /// How many addresses are listed.
-const MOST_LISTED: usize = 4;
+pub(crate) const MOST_LISTED: usize = 4;
 
 /// Adds where a pattern goes: the addresses that it matches and where they send, or that it matches
 /// none.
@@ -146,7 +146,7 @@ fn add_to(out: &mut Vec<u8>, to: &[u8]) -> Result<(), AllocError>
 }
 
 /// Adds how many addresses aren't listed, of so many after the first.
-fn add_unlisted(out: &mut Vec<u8>, more: usize) -> Result<(), AllocError>
+pub(crate) fn add_unlisted(out: &mut Vec<u8>, more: usize) -> Result<(), AllocError>
     ensures { OnOk result (out.new.items ≡ out.old.items ++ unlisted more) }
 {
     if more < MOST_LISTED {

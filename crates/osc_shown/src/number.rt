@@ -1,11 +1,11 @@
 // Numbers, as a person reads them.
-ghost use Rattle.std.specs.Prelude.{◌≡◌, ◌+◌, ◌%◌, ◌∷◌, ◌++◌, OnOk};
+ghost use Rattle.std.specs.Prelude.{◌≡◌, ◌+◌, ◌%◌, ◌∷◌, ◌++◌, OnOk, IfOk};
 ghost use Rattle.std.specs.Fmt.{decimal, signed_decimal};
 ghost use Rattle.osc_shown.specs.Numbers.{two, three, comma_before, grouped, thousands};
 
 use crate::bytes::{add, add_byte};
 use itoa::Buffer;
-use std::alloc::AllocError;
+use std::alloc::{AllocError, Global};
 
 /// Adds the number in decimal.
 pub(crate) fn add_decimal(out: &mut Vec<u8>, number: u64) -> Result<(), AllocError>
@@ -73,4 +73,13 @@ fn add_first(out: &mut Vec<u8>, digit: u8, left: usize) -> Result<(), AllocError
         return add_byte(out, b',');
     }
     Ok(())
+}
+
+/// The number in groups of three digits, with commas between them. An `Err` means out of memory.
+pub fn number_words(alloc: Global, number: u64) -> Result<Vec<u8>, AllocError>
+    ensures { IfOk result (λ words. words.items ≡ thousands number) }
+{
+    let mut words = Vec::new(alloc);
+    add_thousands(&mut words, number)?;
+    Ok(words)
 }

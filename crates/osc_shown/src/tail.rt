@@ -75,7 +75,7 @@ fn add_discarded(out: &mut Vec<u8>, moment: Option<u64>, tag: u64) -> Result<(),
 }
 
 /// Adds how much later it came than its time tag says.
-fn add_late(out: &mut Vec<u8>, moment: Option<u64>, tag: u64) -> Result<(), AllocError>
+pub(crate) fn add_late(out: &mut Vec<u8>, moment: Option<u64>, tag: u64) -> Result<(), AllocError>
     ensures { OnOk result (out.new.items ≡ out.old.items ++ late_words moment tag) }
 {
     match moment {
@@ -111,7 +111,7 @@ fn add_wait_from(out: &mut Vec<u8>, moment: u64, tag: u64) -> Result<(), AllocEr
 }
 
 /// Adds a comma, if there is something before it.
-fn add_comma(out: &mut Vec<u8>) -> Result<(), AllocError>
+pub(crate) fn add_comma(out: &mut Vec<u8>) -> Result<(), AllocError>
     ensures { OnOk result (out.new.items ≡ comma out.old.items) }
 {
     if out.is_empty() {
@@ -171,7 +171,7 @@ fn add_goes_by(
     }
 }
 
-fn add_unknown(out: &mut Vec<u8>, tag: u8) -> Result<(), AllocError>
+pub(crate) fn add_unknown(out: &mut Vec<u8>, tag: u8) -> Result<(), AllocError>
     ensures { OnOk result (out.new.items ≡ out.old.items ++ unknown_words tag) }
 {
     add(out, b"unknown type ")?;
@@ -186,7 +186,7 @@ pub(crate) fn due_mark(message: &Message<'_>, routes: &[Route]) -> u8
     called_mark(message.unknown(), count_hits(&message.pattern(), routes))
 }
 
-fn called_mark(unknown: Option<u8>, count: usize) -> u8
+pub(crate) fn called_mark(unknown: Option<u8>, count: usize) -> u8
     ensures { result ≡ called_mark unknown count }
 {
     match unknown {

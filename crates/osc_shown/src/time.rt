@@ -1,5 +1,5 @@
 // Moments, as a wall clock shows them.
-ghost use Rattle.std.specs.Prelude.{◌≡◌, ◌<◌, ◌^◌, ◌++◌, OnOk};
+ghost use Rattle.std.specs.Prelude.{◌≡◌, ◌<◌, ◌^◌, ◌++◌, OnOk, IfOk};
 ghost use Rattle.osc_shown.specs.Times.{millis_of, shown_millis, day_of, clock_text};
 ghost use Rattle.osc_shown.specs.Times.{time_text, when_text, span_text, seconds_text};
 ghost use Rattle.osc_shown.specs.Times.{is_other_day};
@@ -7,7 +7,7 @@ ghost use Rattle.osc_shown.specs.Times.{is_other_day};
 use crate::WallClock;
 use crate::bytes::add;
 use crate::number::{add_decimal, add_three, add_two};
-use std::alloc::AllocError;
+use std::alloc::{AllocError, Global};
 
 /// Adds the time of day, or dashes where there is no moment.
 pub(crate) fn add_when(
@@ -51,7 +51,7 @@ pub(crate) fn add_span(out: &mut Vec<u8>, from: u64, to: u64) -> Result<(), Allo
     add_seconds(out, millis_of(to).saturating_sub(millis_of(from)))
 }
 
-fn add_seconds(out: &mut Vec<u8>, millis: u64) -> Result<(), AllocError>
+pub(crate) fn add_seconds(out: &mut Vec<u8>, millis: u64) -> Result<(), AllocError>
     ensures { OnOk result (out.new.items ≡ out.old.items ++ seconds_text millis) }
 {
     add_decimal(out, millis / 1000)?;
@@ -88,9 +88,25 @@ fn shown_millis(clock: WallClock, moment: u64) -> u64
 
 #[tactic(auto, unfolding(crate::specs::Times::millis_of))]
 /// The milliseconds since the start of 1900, to the nearest.
-fn millis_of(moment: u64) -> u64
+pub(crate) fn millis_of(moment: u64) -> u64
     ensures value { result ≡ millis_of moment }
     ensures small { result < 2 ^ 43 }
 {
     ((u128::from(moment) * 1000 + 0x8000_0000) / 0x1_0000_0000) as u64
+}
+
+/// The time of day of a moment, as `20:15:03.300`. An `Err` means out of memory.
+pub fn time_words(alloc: Global, clock: WallClock, moment: u64) -> Result<Vec<u8>, AllocError>
+    ensures { IfOk result (λ words. words.items ≡ time_text clock moment) }
+{
+    let mut words = Vec::new(alloc);
+    add_time(&mut words, clock, moment)?;
+    Ok(words)
+}
+
+/// The day on which a moment falls, counted from 1899-12-30.
+pub fn day_number(clock: WallClock, moment: u64) -> u64
+    ensures { result ≡ day_of clock moment }
+{
+    day_of(clock, moment)
 }

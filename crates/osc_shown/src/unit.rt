@@ -6,10 +6,10 @@ ghost use Rattle.osc_shown.specs.Lines.{AddsUnit, empty_line, join_of};
 
 use crate::bytes::add;
 use crate::columns::{add_head, add_line, is_left_out};
-use crate::message::add_message;
+use crate::line::add_headed;
 use crate::tail::{add_goes, add_tail, due_mark, mark_of, waits};
 use crate::wait::add_waiting;
-use crate::{Answered, Arrival, Look, Route};
+use crate::{Answered, Arrival, Head, Look, Route};
 use osc_message::Message;
 use osc_packet::Unit;
 use std::alloc::{AllocError, Global};
@@ -118,8 +118,8 @@ fn add_messages(out: &mut Vec<u8>, report: Report<'_>, unit: &Unit<'_>) -> Resul
     Ok(())
 }
 
-/// How a message is joined to those around it.
-fn join_of(first: bool, last: bool) -> u8
+/// How a message is joined to those around it, by whether it is the first of its unit and the last.
+pub fn join_of(first: bool, last: bool) -> u8
     ensures { result ≡ join_of first last }
 {
     match (first, last) {
@@ -158,18 +158,15 @@ fn add_marked_line(
         out.old.items out.new.items) }
 {
     let alloc: Global = *out.allocator();
-    let mut front = Vec::new(alloc);
-    add_head(
-        &mut front,
-        report.look.clock,
-        report.arrival.moment,
-        mark,
-        join,
-    )?;
-    add_message(&mut front, message)?;
     let mut there = Vec::new(alloc);
     add_goes(&mut there, message, report.routes)?;
     let mut tail = Vec::new(alloc);
     add_tail(&mut tail, report.arrival, report.answer, report.tag, &there)?;
-    add_line(out, report.look.colours, mark, &front, &tail)
+    let head = Head {
+        look: report.look,
+        moment: report.arrival.moment,
+        mark,
+        join,
+    };
+    add_headed(out, head, message, &tail)
 }
