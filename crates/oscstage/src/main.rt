@@ -7,6 +7,7 @@ ghost use Rattle.std.specs.Prelude.{◌≡◌, length, IfOk};
 mod bank;
 mod carry;
 mod chain;
+mod cues;
 mod follower;
 mod input;
 mod links;
@@ -21,6 +22,7 @@ mod words;
 
 use crate::bank::open_bank;
 use crate::carry::{read_carried, write_script};
+use crate::cues::check_cues;
 use crate::follower::follow;
 use crate::links::Links;
 use crate::parts::{is_size, is_there, least_size};
@@ -55,6 +57,7 @@ fn run<W: Threads + Wait + Sync>(rt: &HostRuntime, threads: &W) -> Result<u8, Al
             Ok(USAGE)
         }
         Said::Carry(file) => write_script(rt, &file),
+        Said::Check(checking) => check_cues(rt, &checking),
         Said::Show(showing) if showing.follow => follow(rt, threads, &showing),
         Said::Show(showing) => show_recording(rt, &showing),
         Said::Serve(serving) => serve(rt, threads, &serving),
@@ -79,7 +82,7 @@ fn serve<W: Threads + Wait + Sync>(
         return Ok(USAGE);
     }
     let ports = ports_of(rt.alloc(), serving.links)?;
-    let patch = match read_patch(rt, serving)? {
+    let patch = match read_patch(rt, &serving.names.patch, serving.caps.methods)? {
         Ok(patch) => patch,
         Err(status) => return Ok(status),
     };

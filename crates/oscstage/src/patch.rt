@@ -1,6 +1,5 @@
 //! The patch that the words name.
 use crate::report::report_patch;
-use crate::words::Serving;
 use osc_edge::FileSource;
 use osc_ends::status::REFUSED;
 use osc_ends::{Whole, read_input};
@@ -11,10 +10,10 @@ use std::alloc::AllocError;
 /// reported.
 pub(crate) fn read_patch(
     rt: &HostRuntime,
-    serving: &Serving,
+    name: &str,
+    methods: u32,
 ) -> Result<Result<Patch, u8>, AllocError> {
     let alloc = rt.alloc();
-    let name = serving.names.patch.as_str();
     let mut source = FileSource::at(rt, String::from_str(alloc, name)?);
     let bytes = match read_input(alloc, MAX_PATCH, &mut source) {
         Ok(Whole::Bytes(bytes)) => bytes,
@@ -29,7 +28,7 @@ pub(crate) fn read_patch(
             return Ok(Err(status));
         }
     };
-    match Patch::read(alloc, &bytes, serving.caps.methods) {
+    match Patch::read(alloc, &bytes, methods) {
         Ok(patch) => Ok(Ok(patch)),
         Err(PatchError::NoMemory) => Err(AllocError),
         Err(error) => {

@@ -15,7 +15,7 @@ use osc_record::{Entry, Late, Unread};
 use osc_replay::{ReplayFault, check};
 use osc_report::{Options, Reporter, ShowFault, Shown};
 use osc_shown::{Look, cut_line, opening_line};
-use std::alloc::AllocError;
+use std::alloc::{AllocError, Global};
 
 /// How many bytes of lines are written at once.
 const PAGE: usize = 65_536;
@@ -148,6 +148,17 @@ impl Page {
         }
     }
 
+    /// Adds lines, and writes them if they are many.
+    pub(crate) fn add(&mut self, lines: &[u8]) -> Result<(), AllocError> {
+        self.text.extend_from_slice(lines)?;
+        self.turn();
+        Ok(())
+    }
+
+    pub(crate) fn alloc(&self) -> Global {
+        *self.text.allocator()
+    }
+
     /// The exit status so far.
     pub(crate) fn status(&self) -> u8 {
         self.status
@@ -169,7 +180,7 @@ impl Page {
     }
 
     /// Writes what is left, and tells how it went.
-    fn close(mut self) -> u8 {
+    pub(crate) fn close(mut self) -> u8 {
         self.write();
         self.status
     }

@@ -2,7 +2,9 @@
 use crate::bank::{Bank, RouteFault, WrongRoute};
 use crate::parts::{NEVER, size_of};
 use crate::words::Serving;
+use jiff_core::Offset;
 use osc_carry::CarryFault;
+use osc_cues::WrongLine;
 use osc_patch::PatchError;
 use osc_stage::Ended;
 use osc_words::Transport;
@@ -16,7 +18,8 @@ const MESSAGE_SIZE: u32 = 172;
 const HOUR_SIZE: u32 = 172_800;
 
 const USAGE: &str =
-    "usage: oscstage serve [OPTIONS] PATCH FILE, oscstage show FILE, or oscstage carry FILE; \
+    "usage: oscstage serve [OPTIONS] PATCH FILE, oscstage show FILE, oscstage play \
+    --check PATCH, or oscstage carry FILE; \
     oscstage --help tells more";
 
 const HELP: &str = "oscstage serve [OPTIONS] PATCH FILE
@@ -58,6 +61,15 @@ message, with what became of it.
   --ticks           lines for the clock's ticks and for new callers, too
   --quiet           show refusals alone
   --follow          show what comes while FILE grows, until Ctrl-C
+
+oscstage play --check [--skip] PATCH < SHEET
+
+Reads a sheet of cues, and prints what would be sent and when, or all lines that
+are wrong. Nothing is sent yet. A line is MOMENT ADDRESS ARGUMENT..:
+    20:00:00 /light/* 0.0           at a time of day; + 0.5 s: +0.5 /light/1 1.0
+    tempo 96 in 4 from 20:00:00     then bars and beats: 5|2.5 /bass/note 36 1.5
+
+  --skip            leave out what has gone by
 
 oscstage carry FILE
 
@@ -133,6 +145,31 @@ pub(crate) fn report_carry(rt: &HostRuntime, file: &str, fault: &CarryFault) {
             ).ok();
         }
     }
+}
+
+/// Reports the wrong lines of a sheet, in the times of a clock that is so far ahead of UTC.
+pub(crate) fn report_cues(
+    rt: &HostRuntime,
+    lines: &[WrongLine],
+    offset: Offset,
+) -> Result<(), AllocError> {
+    for line in lines {
+        let mut text = Vec::new(rt.alloc());
+        line.add_text(&mut text, offset)?;
+        let text = str::from_utf8(&text).unwrap_or("");
+        eprint!(rt; "{text}").ok();
+    }
+    match lines.len() {
+        1 => eprintln!(rt; "1 line is wrong").ok(),
+        count => eprintln!(rt; "{count} lines are wrong").ok(),
+    };
+    Ok(())
+}
+
+pub(crate) fn report_long_sheet(rt: &HostRuntime) {
+    eprintln!(rt;
+        "oscstage: the sheet has over 1 MiB, which is more than a sheet may have"
+    ).ok();
 }
 
 /// Reports that a file can't be read.

@@ -1,4 +1,5 @@
 //! How what comes in is shown.
+use jiff_core::civil::Date;
 use jiff_core::{Offset, Timestamp};
 use jiff_tz::{SystemTimeZone, TimeZoneDatabase};
 use osc_console::Calendar;
@@ -50,11 +51,16 @@ fn has_no_color(rt: &HostRuntime) -> bool {
 }
 
 /// How far the machine's zone is ahead of UTC at this moment, where that is known.
-fn zone_offset(rt: &HostRuntime, moment: Option<u64>) -> Option<Offset> {
+pub(crate) fn zone_offset(rt: &HostRuntime, moment: Option<u64>) -> Option<Offset> {
     let zone = SystemTimeZone::read(rt).ok()?;
     let database = TimeZoneDatabase::new(rt.alloc());
     let zone = zone.time_zone(&database).ok()?;
     Some(zone.to_offset(time_of(moment?)?))
+}
+
+/// The day of a moment, where a clock is so far ahead of UTC.
+pub(crate) fn civil_date(moment: u64, offset: Offset) -> Option<Date> {
+    Some(offset.to_datetime(time_of(moment)?).date)
 }
 
 /// The time that a moment is.

@@ -15,6 +15,7 @@ pub(crate) enum Said {
     /// A script is to be written that carries on the recording in this file.
     Carry(String),
     Show(Showing),
+    Check(Checking),
     Serve(Serving),
 }
 
@@ -30,6 +31,14 @@ pub(crate) struct Showing {
     pub(crate) quiet: bool,
     /// The recording grows, and is shown until the program is stopped.
     pub(crate) follow: bool,
+}
+
+/// Of which patch a sheet of cues is to be checked.
+#[derive(Drop)]
+pub(crate) struct Checking {
+    pub(crate) patch: String,
+    /// Cues that have gone by are left out.
+    pub(crate) skip: bool,
 }
 
 /// What is to be served, and how.
@@ -81,6 +90,9 @@ pub(crate) fn read_words(alloc: Global, all: Vec<String>) -> Result<Said, AllocE
     };
     if let Some(showing) = showing_of(alloc, &words, flags)? {
         return Ok(Said::Show(showing));
+    }
+    if let Some(checking) = checking_of(alloc, &words)? {
+        return Ok(Said::Check(checking));
     }
     if let Some(file) = carried_name(alloc, &words)? {
         return Ok(Said::Carry(file));
@@ -206,6 +218,25 @@ fn showing_of(
         quiet: flags.quiet,
         follow: options.iter().any(|word| word.as_str() == "--follow"),
     }))
+}
+
+/// What is to be checked, where the words are `play --check [--skip] PATCH`.
+fn checking_of(alloc: Global, words: &[String]) -> Result<Option<Checking>, AllocError> {
+    let [command, options @ .., patch] = words else {
+        return Ok(None);
+    };
+    let checks = options.iter().any(|word| word.as_str() == "--check");
+    if command.as_str() != "play" || !checks || !options.iter().all(|word| is_play_flag(word)) {
+        return Ok(None);
+    }
+    Ok(Some(Checking {
+        patch: String::from_str(alloc, patch)?,
+        skip: options.iter().any(|word| word.as_str() == "--skip"),
+    }))
+}
+
+fn is_play_flag(word: &String) -> bool {
+    matches!(word.as_str(), "--check" | "--skip")
 }
 
 fn is_show_flag(word: &String) -> bool {
