@@ -6,3 +6,9 @@ pub mod Answers
 pub mod Cuts
 pub mod Moments
 pub mod Bounds
+pub mod Words
+pub mod Cues
+pub mod LineAnswers
+pub mod Sheets
+pub mod SheetAnswers
+pub mod Texts
