@@ -1,5 +1,5 @@
 -- Inside the crate: what the word of a moment tells is small.
-use Rattle.std.specs.Prelude.{ℕ, ◌<◌, ◌^◌, ◌≤◌, Option, Some, None}
+use Rattle.std.specs.Prelude.{◌<◌, ◌^◌}
 use Rattle.osc_cues.specs.declared.told.Zone.{Zone}
 use Rattle.osc_cues.specs.declared.told.Zone.TheVariants.{Local, Ahead, Behind}
 use Rattle.osc_cues.specs.declared.told.ClockTime.{ClockTime}

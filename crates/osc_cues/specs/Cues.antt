@@ -1,5 +1,5 @@
 -- What the words of a cue say: its address, its arguments and its message.
-use Rattle.std.specs.Prelude.{ℕ, ◌+◌, ◌-◌, ◌==◌, ◌&&◌, ◌||◌, Bool, true, false, not, nat_le}
+use Rattle.std.specs.Prelude.{ℕ, ◌+◌, ◌-◌, ◌==◌, ◌&&◌, ◌||◌, Bool, true, not, nat_le}
 use Rattle.std.specs.Prelude.{nat_lt, min, ◌^◌}
 use Rattle.std.specs.Prelude.{if◌then◌else◌, List, [], ◌∷◌, length, position, codes, bytes_eq}
 use Rattle.std.specs.Prelude.{Option, Some, None, option_map, Result, Ok, Err}

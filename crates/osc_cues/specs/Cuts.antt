@@ -1,5 +1,5 @@
 -- What is cut off the front of a text.
-use Rattle.std.specs.Prelude.{ℕ, ◌-◌, ◌*◌, ◌^◌, ◌==◌, ◌&&◌, Bool, not, nat_lt, nat_le}
+use Rattle.std.specs.Prelude.{ℕ, ◌-◌, ◌*◌, ◌^◌, ◌==◌, ◌&&◌, Bool, not, nat_le}
 use Rattle.std.specs.Prelude.{if◌then◌else◌, List, [], ◌∷◌, length, take, drop, position, codes}
 use Rattle.std.specs.Prelude.{Option, Some, None, option_map, nat_eq}
 use Rattle.std.specs.List.{starts_with}

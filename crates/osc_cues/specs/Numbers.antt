@@ -1,7 +1,7 @@
 -- Numbers, read from words. A fault is at a place that is given.
 use Rattle.std.specs.Prelude.{ℕ, ◌-◌, ◌^◌, ◌==◌, ◌&&◌, ◌||◌, Bool, true, false, not, nat_le, nat_lt}
 use Rattle.std.specs.Prelude.{if◌then◌else◌, min, ℤ, pos, negsuc, List, [], ◌∷◌, length, Option}
-use Rattle.std.specs.Prelude.{Some, None, option_map, Result, Ok, Err, to_bits}
+use Rattle.std.specs.Prelude.{Some, None, option_map, Result, Ok, to_bits}
 use Rattle.std.specs.List.{list_all}
 use Rattle.std.specs.Char.{is_ascii_digit}
 use Rattle.std.specs.Int.{w32, w64, from_be_bytes}

@@ -1,6 +1,6 @@
 -- What a sheet says, line by line.
 use Rattle.osc_cues.specs.declared.limits.TheConstants.{MAX_SHEET, ROOM}
-use Rattle.std.specs.Prelude.{ℕ, ◌+◌, ◌-◌, ◌*◌, ◌==◌, ◌&&◌, ◌||◌, Bool, false, not, nat_le, nat_lt}
+use Rattle.std.specs.Prelude.{ℕ, ◌+◌, ◌-◌, ◌*◌, ◌==◌, ◌&&◌, Bool, not, nat_le, nat_lt}
 use Rattle.std.specs.Prelude.{if◌then◌else◌, List, [], ◌∷◌, ◌++◌, length, codes, bytes_eq}
 use Rattle.std.specs.Prelude.{Option, Some, None, option_and_then, Result, Ok, Err}
 use Rattle.std.specs.Prelude.{IfSome, unwrap_or, slice_get}
@@ -23,7 +23,7 @@ use Rattle.osc_cues.specs.Numbers.{has_zero_first}
 use Rattle.osc_cues.specs.Cuts.{number_cut, fraction_cut}
 use Rattle.osc_cues.specs.Moments.{moment_read, moment_at, tag_of, IsMoment, IsTempo}
 use Rattle.osc_cues.specs.Words.{lines_of, without_return, spans_of, word_at, column_of}
-use Rattle.osc_cues.specs.Cues.{and_then, moved, words_say}
+use Rattle.osc_cues.specs.Cues.{and_then, words_say}
 
 -- Tempos.
 
