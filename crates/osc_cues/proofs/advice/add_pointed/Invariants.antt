@@ -1,0 +1,6 @@
+use Rattle.std.proofs.Common.{◌≡◌, ◌++◌, map, drop}
+use Rattle.osc_cues.specs.Texts
+use Rattle.osc_cues.proofs.advice.add_pointed.Given as goal
+
+abbrev pub invariant-loop-byte : goal.invariant-loop-byte
+invariant-loop-byte l = l.out.items ++ map Texts.pointed (drop l.byte-index l.bytes) ≡ l.initial.out.items ++ map Texts.pointed l.bytes

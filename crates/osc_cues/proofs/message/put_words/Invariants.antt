@@ -1,0 +1,12 @@
+use Rattle.std.proofs.Common.{◌≡◌, length}
+use Rattle.osc_cues.specs.Cues.{arguments_at}
+use Rattle.osc_cues.specs.LineAnswers.{onto}
+use Rattle.osc_cues.proofs.message.put_words.Given as goal
+
+abbrev pub invariant-loop-span : goal.invariant-loop-span
+invariant-loop-span l =
+    onto l.tags.items l.atoms.items (arguments_at l.line l.rest)
+    ≡ onto l.initial.tags.items l.initial.atoms.items (arguments_at l.line l.spans)
+
+abbrev pub decreases-loop-span : goal.decreases-loop-span
+decreases-loop-span l = length l.rest

@@ -1,0 +1,14 @@
+pub mod Faults
+pub mod Numbers
+pub mod Quoted
+pub mod Arguments
+pub mod Answers
+pub mod Cuts
+pub mod Moments
+pub mod Bounds
+pub mod Words
+pub mod Cues
+pub mod LineAnswers
+pub mod Sheets
+pub mod SheetAnswers
+pub mod Texts

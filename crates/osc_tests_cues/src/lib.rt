@@ -1,0 +1,5 @@
+//! Tests of sheets of cues, over their public calls.
+#![tactic(auto)]
+
+#[cfg(test)]
+mod sheets;
