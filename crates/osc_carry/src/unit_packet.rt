@@ -5,8 +5,7 @@ ghost use Rattle.osc_packet.specs.Bundling.{sized, bundled};
 ghost use Rattle.osc_carry.specs.Carried.{packet_of as unit_packet};
 ghost use Rattle.osc_carry.specs.Waiting.{AreShort};
 
-use osc_atoms::Bytes;
-use osc_story::Waiting;
+use osc_story::{KeptMessage, Waiting};
 use std::alloc::{AllocError, Global};
 
 /// Its message alone, or the bundle of its messages.
@@ -21,7 +20,7 @@ pub(crate) fn packet_of(alloc: Global, unit: &Waiting) -> Result<Vec<u8>, AllocE
 }
 
 /// The bundle of messages with a tag.
-fn bundle_of(alloc: Global, tag: u64, messages: &[Bytes]) -> Result<Vec<u8>, AllocError>
+fn bundle_of(alloc: Global, tag: u64, messages: &[KeptMessage]) -> Result<Vec<u8>, AllocError>
     requires { AreShort messages.now }
     ensures { IfOk result
         (λ packet. packet.items ≡ bundled (record { tag = tag; messages = messages.now })) }

@@ -8,8 +8,8 @@ ghost use Rattle.osc_model.specs.Recordings.{hits_in};
 ghost use Rattle.osc_story.specs.Standings as spec;
 ghost use Rattle.osc_story.specs.Hits.{SplitsHit, SplitsWords};
 
+use crate::kept_message::KeptMessage;
 use crate::registered::Registered;
-use osc_atoms::Bytes;
 use std::marker::Model;
 
 /// The first hit of bytes, where there is one: its message's index and its method's id, and the
@@ -34,8 +34,8 @@ fn split_words(bytes: &[u8]) -> Option<(u32, u32, &[u8])>
     ))
 }
 
-/// The address of the method with an id.
-fn address_of(methods: &[Registered], id: u32) -> Option<&[u8]>
+/// The address of the method with an id, if it is there.
+pub fn address_of(methods: &[Registered], id: u32) -> Option<&[u8]>
     ensures { option_map (λ address. address.now) result ≡ address_by_id methods.now id }
 {
     methods
@@ -52,7 +52,7 @@ fn is_there(methods: &[Registered], id: u32) -> bool
 }
 
 /// Whether each hit is of a message of the unit, and of a method that is there.
-pub(crate) fn are_calls(methods: &[Registered], messages: &[Bytes], hits: &[u8]) -> bool
+pub(crate) fn are_calls(methods: &[Registered], messages: &[KeptMessage], hits: &[u8]) -> bool
     ensures { result ≡ list_all (spec.is_call methods.now messages.now) (hits_in hits.now) }
 {
     let mut rest = hits;
@@ -66,7 +66,7 @@ pub(crate) fn are_calls(methods: &[Registered], messages: &[Bytes], hits: &[u8])
 }
 
 /// Whether a hit is of a message of the unit, and of a method that is there.
-fn is_call(methods: &[Registered], messages: &[Bytes], index: u32, id: u32) -> bool
+fn is_call(methods: &[Registered], messages: &[KeptMessage], index: u32, id: u32) -> bool
     ensures { result ≡ spec.is_call methods.now messages.now (record { index = index; id = id }) }
 {
     (index as usize) < messages.len() && is_there(methods, id)
@@ -132,7 +132,7 @@ impl<'a> Call<'a> {
 #[derive(Drop)]
 pub struct Calls<'a> {
     methods: &'a [Registered],
-    messages: &'a [Bytes],
+    messages: &'a [KeptMessage],
     hits: &'a [u8],
 }
 
@@ -152,7 +152,11 @@ impl<'a> Calls<'a> {
     ghost use Rattle.osc_model.specs.Recordings.{hits_in};
     ghost use Rattle.osc_story.specs.Standings.{call_of};
 
-    pub(crate) fn new(methods: &'a [Registered], messages: &'a [Bytes], hits: &'a [u8]) -> Calls<'a>
+    pub(crate) fn new(
+        methods: &'a [Registered],
+        messages: &'a [KeptMessage],
+        hits: &'a [u8],
+    ) -> Calls<'a>
         ensures { result ≡ map (call_of methods.now messages.now) (hits_in hits.now) }
     {
         Calls {
@@ -180,7 +184,12 @@ impl<'a> Iterator for Calls<'a> {
 }
 
 /// The call of a hit.
-fn call_of<'a>(methods: &'a [Registered], messages: &'a [Bytes], index: u32, id: u32) -> Call<'a>
+fn call_of<'a>(
+    methods: &'a [Registered],
+    messages: &'a [KeptMessage],
+    index: u32,
+    id: u32,
+) -> Call<'a>
     ensures { result ≡ spec.call_of methods.now messages.now (record { index = index; id = id }) }
 {
     Call {
@@ -200,7 +209,7 @@ fn address_or_none(methods: &[Registered], id: u32) -> &[u8]
     }
 }
 
-fn message_or_none(messages: &[Bytes], index: u32) -> &[u8]
+fn message_or_none(messages: &[KeptMessage], index: u32) -> &[u8]
     ensures { result.now ≡ slice_index_or messages.now index [] }
 {
     match messages.get(index as usize) {

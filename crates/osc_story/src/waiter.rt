@@ -1,7 +1,7 @@
 // A unit that waits.
 ghost use Rattle.std.specs.Prelude.{◌≡◌, IfOk};
 
-use osc_atoms::Bytes;
+use crate::kept_message::KeptMessage;
 use osc_packet::{Unit, UnitMessages};
 use std::alloc::{AllocError, Global};
 use std::marker::Model;
@@ -14,7 +14,7 @@ pub struct Waiting {
     number: u64,
     caller: u32,
     tag: u64,
-    messages: Vec<Bytes>,
+    messages: Vec<KeptMessage>,
 }
 
 impl Model for Waiting {
@@ -86,7 +86,7 @@ impl Waiting {
         self.tag
     }
 
-    pub fn messages(&self) -> &[Bytes]
+    pub fn messages(&self) -> &[KeptMessage]
         ensures { result.now ≡ self.now.2.unit.messages }
     {
         &self.messages
@@ -108,12 +108,12 @@ impl Waiting {
 }
 
 /// Copies of the messages.
-fn copied(alloc: Global, messages: UnitMessages<'_>) -> Result<Vec<Bytes>, AllocError>
+fn copied(alloc: Global, messages: UnitMessages<'_>) -> Result<Vec<KeptMessage>, AllocError>
     ensures { IfOk result (λ copies. copies.items ≡ messages.entry) }
 {
     let mut copies = Vec::new(alloc);
     for message in messages {
-        copies.push(Bytes::copied(alloc, message.bytes())?)?;
+        copies.push(KeptMessage::copied(alloc, &message)?)?;
     }
     Ok(copies)
 }
