@@ -1,5 +1,5 @@
--- What is told of a wrong line: a line for its place and what is wrong, the line itself, and a caret below
--- the fault.
+-- What is told of a wrong line: a line for its place and what is wrong, the line itself, and a
+-- caret below the fault.
 use Rattle.std.specs.Prelude.{ℕ, ◌+◌, ◌*◌, ◌/◌, ◌%◌, ◌^◌, ◌-◌, ◌==◌, Bool, min, ℤ, pos, ◌+ℤ◌}
 use Rattle.std.specs.Prelude.{unsigned_abs, if◌then◌else◌, List, [], ◌∷◌, ◌++◌, length, take, drop}
 use Rattle.std.specs.Prelude.{map, replicate, position, codes, Option, Some, None}

@@ -228,7 +228,8 @@ fn pointed(byte: u8) -> u8
     if byte == b',' { b'.' } else { shown(byte) }
 }
 
-/// Adds bytes with a space in place of each tab, and a question mark in place of any other control character.
+/// Adds bytes with a space in place of each tab, and a question mark in place of any other
+/// control character.
 fn add_shown(out: &mut Vec<u8>, bytes: &[u8]) -> Result<(), AllocError>
     ensures { OnOk result (out.new.items ≡ out.old.items ++ map Texts.shown bytes.now) }
 {

@@ -1,7 +1,8 @@
 // Reads the words of arguments.
 ghost use Rattle.osc_atoms.specs.declared.limits.TheConstants.{MAX_BYTES};
 ghost use Rattle.osc_cues.specs.declared.limits.TheConstants.{MAX_SHEET};
-ghost use Rattle.std.specs.Prelude.{◌≡◌, ◌≤◌, ◌+◌, length, IsTrue, IfOk, IfSome, option_map, Ok, position};
+ghost use Rattle.std.specs.Prelude.{◌≡◌, ◌≤◌, ◌+◌, length, IsTrue, IfOk, IfSome, option_map, Ok};
+ghost use Rattle.std.specs.Prelude.{position};
 ghost use Rattle.osc_atoms.specs.Atoms.{has_no_zero};
 ghost use Rattle.osc_message.specs.Messages.{tag_of, atom_of, HasNoZero, content};
 ghost use Rattle.osc_message.specs.Shown.{shown};

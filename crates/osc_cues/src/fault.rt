@@ -22,7 +22,8 @@ pub enum Fault {
     LargeFloat,
     /// A number is too large for 64 bits.
     LargeDouble,
-    /// Something stands after the quote that closes a text, or nothing is between two quotes that are one.
+    /// Something stands after the quote that closes a text, or nothing is between two quotes that
+    /// are one.
     NotText,
     /// A double quote stands within a text.
     InnerQuote,

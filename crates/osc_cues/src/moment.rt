@@ -16,8 +16,8 @@ use jiff_core::civil::{Date, days_in_month};
 /// How many billionths of a time tag's unit are in a nanosecond.
 const UNITS: u128 = 0x1_0000_0000;
 
-/// The moment of a word, after a line at that moment, by that tempo; or what is wrong with the word. A moment is
-/// counted from 1900 in billionths of a time tag's unit.
+/// The moment of a word, after a line at that moment, by that tempo; or what is wrong with the
+/// word. A moment is counted from 1900 in billionths of a time tag's unit.
 pub fn read_moment(
     setting: Setting,
     before: Option<u128>,

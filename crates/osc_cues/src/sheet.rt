@@ -43,8 +43,9 @@ impl Sheet {
     ghost use Rattle.osc_cues.specs.Sheets.{sheet_of};
     ghost use Rattle.osc_cues.specs.SheetAnswers.{Reads};
 
-    /// The cues of a sheet, each with an address that one of these methods answers; or all lines that are wrong, each
-    /// with its first fault, in their order. `NoMemory` where memory runs out.
+    /// The cues of a sheet, each with an address that one of these methods answers; or all lines
+    /// that are wrong, each with its first fault, in their order. `NoMemory` where memory runs
+    /// out.
     pub fn read(
         alloc: Global,
         bytes: &[u8],

@@ -3,7 +3,8 @@ ghost use Rattle.std.specs.Prelude.{◌≡◌, ◌<◌, ◌≤◌, ◌^◌, opti
 ghost use Rattle.osc_cues.specs.Moments;
 ghost use Rattle.osc_cues.specs.Moments.{decimal_told, billionths, after_told, beat_told, day_cut};
 ghost use Rattle.osc_cues.specs.Moments.{minute_cut, seconds_of, ahead_told, zoned, second_told};
-ghost use Rattle.osc_cues.specs.Moments.{zone_told, after_minute, minute_at, time_told, clock_told, told_of};
+ghost use Rattle.osc_cues.specs.Moments.{zone_told, after_minute, minute_at, time_told};
+ghost use Rattle.osc_cues.specs.Moments.{clock_told, told_of};
 ghost use Rattle.osc_cues.specs.Bounds.{IsSmall, IsSmallClock, IsSmallZone};
 
 use crate::cut::{cut_byte, cut_digits, cut_fraction, cut_number};

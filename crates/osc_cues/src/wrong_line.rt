@@ -25,8 +25,9 @@ impl WrongLine {
     ghost use Rattle.std.specs.Prelude.{◌≡◌, ◌++◌, OnOk};
     ghost use Rattle.osc_cues.specs.Texts.{wrong_text};
 
-    /// Adds three lines: the place and what is wrong, the line itself, and a caret below the fault. Times are those of
-    /// a clock at this offset from UTC. An `Err` means out of memory, which may leave a part of the text.
+    /// Adds three lines: the place and what is wrong, the line itself, and a caret below the
+    /// fault. Times are those of a clock at this offset from UTC. An `Err` means out of memory,
+    /// which may leave a part of the text.
     #[tactic(auto, using(crate::proofs::Rows::four))]
     pub fn add_text(&self, text: &mut Vec<u8>, offset: Offset) -> Result<(), AllocError>
         ensures { OnOk result
