@@ -5,4 +5,6 @@
 #[cfg(test)]
 mod carry;
 #[cfg(test)]
+mod report;
+#[cfg(test)]
 mod story;

@@ -1,0 +1,5 @@
+mod Clocks
+mod Stretching
+mod Showing
+mod Joining
+mod Telling

@@ -1,0 +1,11 @@
+-- What public contracts cite.
+pub mod Moments
+pub mod Notes
+pub mod Units
+pub mod Entries
+pub mod Pages
+pub mod Stretches
+pub mod Reports
+pub mod Endings
+-- Inside the crate.
+pub mod Told

@@ -1,0 +1,61 @@
+-- The lines of a unit's messages, when it is called, and when it waits at the end.
+use Rattle.std.specs.Prelude.{◌≡◌, ℕ, ◌+◌, ◌==◌, Bool, if◌then◌else◌, List, [], ◌∷◌, length}
+use Rattle.std.specs.Prelude.{Option}
+use Rattle.std.specs.List.{flat_map}
+use Rattle.osc_message.specs.Arguments.{unknown_of}
+use Rattle.osc_model.specs.Events.{Call}
+use Rattle.osc_shown.specs.declared.look.Look.{Look}
+use Rattle.osc_shown.specs.Called.{called_by, late_part, IsQueuedTail}
+use Rattle.osc_shown.specs.Lines.{join_of}
+use Rattle.osc_shown.specs.Tails.{called_mark, joined}
+use Rattle.osc_shown.specs.Told.{AddsTold}
+
+-- What is told of a unit's messages: that they make calls, and for which time tag they came late, if
+-- they did; or that they aren't called yet, and are due from a moment on, which has come or hasn't.
+pub data Tell : Type 0 where
+  calls : List Call → Option ℕ → Tell
+  waits : ℕ → Bool → Tell
+
+-- the address of a call of the message at an index
+abbrev pub place_in : ℕ → Call → List (List ℕ)
+place_in index call = if call.index == index then call.address ∷ [] else []
+
+-- the addresses of all its calls
+abbrev pub places_in : ℕ → List Call → List (List ℕ)
+places_in index made = flat_map (place_in index) made
+
+-- its mark
+abbrev pub mark_of_called : List Call → ℕ → List ℕ → ℕ
+mark_of_called made index message =
+    called_mark (unknown_of message) (length (places_in index made))
+
+-- its tail
+abbrev pub tail_of_called : Option ℕ → Option ℕ → List Call → ℕ → List ℕ → List ℕ
+tail_of_called moment late made index message =
+    joined (called_by (unknown_of message) message (places_in index made)) (late_part moment late)
+
+-- the mark and the tail of the message at an index
+abbrev pub IsTell : Look → Option ℕ → Tell → ℕ → List ℕ → ℕ → List ℕ → Type 0
+IsTell look moment (calls made late) index message mark tail =
+    (mark ≡ mark_of_called made index message)
+    × (tail ≡ tail_of_called moment late made index message)
+IsTell look moment (waits due is_due) index message mark tail =
+    (mark ≡ 126) × IsQueuedTail look.clock moment due is_due tail
+
+-- its line was added, with a join
+pub record AddsToldLine (look : Look) (moment : Option ℕ) (tell : Tell) (index join : ℕ)
+    (message before after : List ℕ) : Type 0 where
+  pub mark : ℕ
+  pub tail : List ℕ
+  pub told : IsTell look moment tell index message mark tail
+  pub text : AddsTold (record { look = look; moment = moment; mark = mark; join = join }) message
+      tail before after
+
+-- the lines of the messages from an index on were added
+abbrev pub AddsToldLines : Look → Option ℕ → Tell → ℕ → List (List ℕ) → List ℕ → List ℕ → Type 0
+AddsToldLines look moment tell index [] before after = after ≡ before
+AddsToldLines look moment tell index (message ∷ messages) before after =
+    (mid : List ℕ)
+    × AddsToldLine look moment tell index (join_of (index == 0) (length messages == 0)) message
+    before mid
+    × AddsToldLines look moment tell (index + 1) messages mid after

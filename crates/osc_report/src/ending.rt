@@ -1,0 +1,86 @@
+// The lines after those of all entries.
+ghost use Rattle.std.specs.Prelude.{◌≡◌, OnOk, IfOk};
+ghost use Rattle.osc_report.specs.Endings as spec;
+ghost use Rattle.osc_report.specs.Endings.{AddsQueued, AddsWaiting, IsEnd};
+
+use crate::page::page_of;
+use crate::stretch::shown_moment;
+use crate::told::{Told, add_all_told};
+use crate::{Options, Span};
+use osc_shown::{Look, Sums, totals_line};
+use osc_story::{Story, Waiting};
+use std::alloc::{AllocError, Global};
+
+/// The lines of each message that waits, and of how much was told.
+pub(crate) fn end_lines(
+    alloc: Global,
+    options: Options,
+    story: &Story,
+    span: Span,
+) -> Result<Vec<u8>, AllocError>
+    ensures { IfOk result (λ text. IsEnd options.look story.now span text.items) }
+{
+    let look = options.look;
+    let mut lines = Vec::new(alloc);
+    add_waiting(&mut lines, look, story.clock(), story.waiting())?;
+    let moment = shown_moment(story.clock());
+    let (mut page, _) = page_of(alloc, look, span, moment, &lines)?;
+    totals_line(&mut page, look, sums_of(story, span))?;
+    Ok(page)
+}
+
+/// Adds the lines of the units that wait, where the clock stands at a moment.
+fn add_waiting(
+    out: &mut Vec<u8>,
+    look: Look,
+    clock: u64,
+    units: &[Waiting],
+) -> Result<(), AllocError>
+    ensures { OnOk result (AddsWaiting look clock units.now out.old.items out.new.items) }
+{
+    let mut rest = units;
+    while let Some((unit, others)) = rest.split_first() {
+        add_queued(out, look, clock, unit)?;
+        rest = others;
+    }
+    Ok(())
+}
+
+fn add_queued(out: &mut Vec<u8>, look: Look, clock: u64, unit: &Waiting) -> Result<(), AllocError>
+    ensures { OnOk result (AddsQueued look clock unit.now out.old.items out.new.items) }
+{
+    let told = Told::Queued {
+        due: unit.due(),
+        is_due: unit.due() <= clock,
+    };
+    add_all_told(out, look, shown_moment(clock), told, unit.messages())
+}
+
+fn sums_of(story: &Story, span: Span) -> Sums
+    ensures { result ≡ spec.sums_of story.now span }
+{
+    let totals = story.totals();
+    Sums {
+        first: span.first.unwrap_or(story.clock()),
+        last: story.clock(),
+        messages: totals.messages,
+        calls: totals.calls,
+        unheard: totals.unheard,
+        discarded: totals.discarded,
+        refused: totals.refused,
+        waiting: count_waiting(story.waiting()),
+    }
+}
+
+/// How many messages wait.
+fn count_waiting(units: &[Waiting]) -> u64
+    ensures { result ≡ spec.more_waiting 0 units.now }
+{
+    let mut count: u64 = 0;
+    let mut rest = units;
+    while let Some((unit, others)) = rest.split_first() {
+        count = count.saturating_add(unit.messages().len() as u64);
+        rest = others;
+    }
+    count
+}

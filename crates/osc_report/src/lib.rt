@@ -1,0 +1,21 @@
+//! The report of a recording, as a stage manager would note it: lines of all that its entries tell,
+//! with no server and no matching.
+#![tactic(auto)]
+
+mod ending;
+mod entry;
+pub mod laws;
+mod note;
+mod options;
+mod page;
+mod release;
+mod reporter;
+mod span;
+mod stretch;
+mod submit;
+mod told;
+
+pub use options::Options;
+pub use reporter::{Reporter, ShowFault};
+pub use span::Span;
+pub use stretch::Shown;

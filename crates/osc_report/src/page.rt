@@ -1,0 +1,73 @@
+// Lines of one moment, after the line of the day where it is another one.
+ghost use Rattle.std.specs.Prelude.{◌≡◌, [], IfOk, OnOk};
+ghost use Rattle.osc_report.specs.Pages.{begins_day, IsPage, IsPageAt, AddsDated};
+
+use crate::Span;
+use osc_shown::{Look, WallClock, day_line, day_number};
+use std::alloc::{AllocError, Global};
+
+/// The lines, after the line of a day where they are the first of it; and from when to when lines
+/// were shown then.
+pub(crate) fn page_of(
+    alloc: Global,
+    look: Look,
+    span: Span,
+    moment: Option<u64>,
+    lines: &[u8],
+) -> Result<(Vec<u8>, Span), AllocError>
+    ensures { IfOk result (λ page. IsPage look span moment lines.now page.0.items page.1) }
+{
+    let mut page = Vec::new(alloc);
+    if lines.is_empty() {
+        return Ok((page, span));
+    }
+    let after = add_page(&mut page, look, span, moment, lines)?;
+    Ok((page, after))
+}
+
+fn add_page(
+    page: &mut Vec<u8>,
+    look: Look,
+    span: Span,
+    moment: Option<u64>,
+    lines: &[u8],
+) -> Result<Span, AllocError>
+    requires { page.old.items ≡ [] }
+    ensures { IfOk result (λ after. IsPageAt look span moment lines.now page.new.items after) }
+{
+    match moment {
+        Some(moment) => {
+            add_dated(page, look, span.last, moment, lines)?;
+            Ok(span.with(moment))
+        }
+        None => {
+            page.extend_from_slice(lines)?;
+            Ok(span)
+        }
+    }
+}
+
+fn add_dated(
+    page: &mut Vec<u8>,
+    look: Look,
+    last: Option<u64>,
+    moment: u64,
+    lines: &[u8],
+) -> Result<(), AllocError>
+    ensures { OnOk result (AddsDated look last moment lines.now page.old.items page.new.items) }
+{
+    if begins_day(look.clock, last, moment) {
+        day_line(page, look, moment)?;
+    }
+    page.extend_from_slice(lines)
+}
+
+/// Whether a moment is on another day than the last one that was shown, if any was.
+fn begins_day(clock: WallClock, last: Option<u64>, moment: u64) -> bool
+    ensures { result ≡ begins_day clock last moment }
+{
+    match last {
+        Some(last) => day_number(clock, last) != day_number(clock, moment),
+        None => true,
+    }
+}
