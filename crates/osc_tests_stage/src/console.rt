@@ -338,7 +338,11 @@ fn what_is_left_is_printed_at_the_end(rt: HostRuntime) -> Result<(), Fail> {
 fn what_waited_before_the_show_is_shown_when_it_is_called(rt: HostRuntime) -> Result<(), Fail> {
     let alloc = rt.alloc();
     let mut agenda = Agenda::new(alloc);
-    agenda.expect(&Packet::check(TIMED_FADER, MAX_PACKET).ok().ok_or("a packet")?)?;
+    agenda.expect(
+        &Packet::check(TIMED_FADER, MAX_PACKET)
+            .ok()
+            .ok_or("a packet")?,
+    )?;
     let routes = routes(alloc)?;
     let mut text = Vec::new(alloc);
     agenda.called_lines(&mut text, view(&routes, false), (2 << 32) - 1)?;

@@ -118,11 +118,7 @@ pub(crate) fn read_recording(
 }
 
 /// The script, unless the recording is refused, which is reported.
-fn script_of(
-    rt: &HostRuntime,
-    file: &str,
-    recording: &[u8],
-) -> Result<Option<Vec<u8>>, AllocError>
+fn script_of(rt: &HostRuntime, file: &str, recording: &[u8]) -> Result<Option<Vec<u8>>, AllocError>
     requires { length recording.now ≤ max_recording }
 {
     match carry(rt.alloc(), recording) {

@@ -112,9 +112,7 @@ fn play_part<'a, W: Threads + Wait + Sync, L: Link + Finish + Send + Drop>(
 
 /// Whether the show goes on in another recording: its own was full enough, and nothing ended it.
 fn goes_on<L>(shared: &Shared, staged: &Staged<UdpOutlet, L>) -> bool {
-    matches!(staged.ended, Ended::Done)
-        && shared.changeover.is_due()
-        && !shared.shutdown.is_asked()
+    matches!(staged.ended, Ended::Done) && shared.changeover.is_due() && !shared.shutdown.is_asked()
 }
 
 /// Shows what was left to be shown, and how the show ended.

@@ -106,12 +106,7 @@ struct Listing<'a> {
 }
 
 /// Prints the lines of the cues, a bundle for each moment, and how many there are.
-fn show_cues(
-    rt: &HostRuntime,
-    look: Look,
-    patch: &Patch,
-    cues: &[Cue],
-) -> Result<u8, AllocError> {
+fn show_cues(rt: &HostRuntime, look: Look, patch: &Patch, cues: &[Cue]) -> Result<u8, AllocError> {
     let alloc = rt.alloc();
     let routes = routes_of(alloc, patch)?;
     let mut listing = Listing {

@@ -19,6 +19,7 @@ const LOOK: u64 = 100;
 
 /// How many bytes are read at once, and how often in a look.
 const PIECE: usize = 65_536;
+
 const PIECES: u32 = 32_768;
 
 /// What is kept of a recording that grows.

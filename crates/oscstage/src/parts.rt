@@ -7,8 +7,11 @@ use std::fs;
 /// How many bytes what is carried on takes at most: so many, and so many for each method, each unit
 /// and each block (`osc_carry`, `carrying_is_small`).
 const HEAD: u64 = 108;
+
 const METHOD: u64 = 299;
+
 const UNIT: u64 = 119;
+
 const BLOCK: u64 = 64;
 
 /// The size at which a show never goes on in another recording.

@@ -17,8 +17,7 @@ const MESSAGE_SIZE: u32 = 172;
 /// How many an hour of silence takes: a tick each second.
 const HOUR_SIZE: u32 = 172_800;
 
-const USAGE: &str =
-    "usage: oscstage serve [OPTIONS] PATCH FILE, oscstage show FILE, oscstage play \
+const USAGE: &str = "usage: oscstage serve [OPTIONS] PATCH FILE, oscstage show FILE, oscstage play \
     --check PATCH, or oscstage carry FILE; \
     oscstage --help tells more";
 
@@ -167,9 +166,7 @@ pub(crate) fn report_cues(
 }
 
 pub(crate) fn report_long_sheet(rt: &HostRuntime) {
-    eprintln!(rt;
-        "oscstage: the sheet has over 1 MiB, which is more than a sheet may have"
-    ).ok();
+    eprintln!(rt; "oscstage: the sheet has over 1 MiB, which is more than a sheet may have").ok();
 }
 
 /// Reports that a file can't be read.
