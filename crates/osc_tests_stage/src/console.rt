@@ -348,6 +348,9 @@ fn what_waited_before_the_show_is_shown_when_it_is_called(rt: HostRuntime) -> Re
     agenda.called_lines(&mut text, view(&routes, false), (2 << 32) - 1)?;
     assert!(rt; text.is_empty());
     agenda.called_lines(&mut text, view(&routes, false), 2 << 32)?;
-    assert_eq!(rt; text.as_slice(), b"00:00:02.000    /1/fader1 0.5\n");
+    assert_eq!(rt;
+        text.as_slice(),
+        b"00:00:02.000    /1/fader1 0.5\n".as_slice()
+    );
     Ok(())
 }

@@ -235,7 +235,8 @@ fn a_recording_without_room_starts_no_link(rt: HostRuntime) -> Result<(), Fail> 
 
 /// What an old server left: a method, its clock, and the bundle that waits.
 fn left_lines(alloc: Global) -> Result<Vec<Line>, Fail> {
-    let add = Act::Add(Address::copied(alloc, b"/old")?);
+    let address = Address::read(alloc, b"/old").ok().ok_or("an address")?;
+    let add = Act::Add(address);
     let send = Act::Send(Bytes::copied(alloc, LATER)?);
     let mut lines = Vec::with_capacity(alloc, 3)?;
     for act in [add, Act::Tick(5), send] {
