@@ -7,7 +7,7 @@ use crate::report::{report_malformed, report_unread};
 use crate::words::Showing;
 use osc_edge::{FileSource, Source, Taken};
 use osc_ends::status::{DONE, REFUSED, SOURCE_FAILED};
-use osc_record::{Answer, Entry, Event, HEADER_SIZE, MAX_RECORDING, Unread};
+use osc_record::{Answer, Entry, Event, HEADER_SIZE, Late, MAX_RECORDING, Unread};
 use osc_report::{Options, Reporter};
 use std::alloc::{AllocError, Global};
 use std::sync::Wait;
@@ -22,15 +22,6 @@ const PIECE: usize = 65_536;
 
 const PIECES: u32 = 32_768;
 
-/// What is kept of a recording that grows.
-#[derive(Drop)]
-struct Follower {
-    /// The header, and the bytes that came after the last entry that was shown.
-    bytes: Vec<u8>,
-    /// Once the header is there.
-    reporter: Option<Reporter>,
-}
-
 /// Shows a recording while it grows, until the program is stopped. A line stands once its moment is
 /// known, at the next tick or release.
 pub(crate) fn follow<W: Wait>(
@@ -41,16 +32,15 @@ pub(crate) fn follow<W: Wait>(
     let alloc = rt.alloc();
     let mut source = FileSource::at(rt, String::from_str(alloc, &showing.file)?);
     let mut page = Page::open(rt);
-    let mut follower = Follower {
-        bytes: Vec::new(alloc),
-        reporter: None,
-    };
+    // The header, and the bytes that came after the last entry that was shown.
+    let mut bytes = Vec::new(alloc);
+    let mut reporter = None;
     for _ in threads.forever() {
-        if !read_more(&mut source, &mut follower.bytes)? {
+        if !read_more(&mut source, &mut bytes)? {
             report_unread(rt, &showing.file);
             return Ok(SOURCE_FAILED);
         }
-        if !follower.show_more(rt, showing, &mut page)? {
+        if !show_more(rt, showing, &mut page, &mut bytes, &mut reporter)? {
             report_malformed(rt, &showing.file);
             return Ok(REFUSED);
         }
@@ -77,52 +67,50 @@ fn read_more(source: &mut FileSource, bytes: &mut Vec<u8>) -> Result<bool, Alloc
     Ok(true)
 }
 
-impl Follower {
-    /// Shows the entries up to and with the last tick or release, and keeps the bytes after them.
-    /// Answers whether they are those of a server.
-    fn show_more(
-        &mut self,
-        rt: &HostRuntime,
-        showing: &Showing,
-        page: &mut Page,
-    ) -> Result<bool, AllocError> {
-        let header = HEADER_SIZE as usize;
-        if self.bytes.len() < header {
-            return Ok(true);
-        }
-        if self.bytes.len() > MAX_RECORDING as usize {
-            return Ok(false);
-        }
-        let Some(ticks) = ticks_of(&self.bytes) else {
-            return Ok(false);
-        };
-        let reporter = match &mut self.reporter {
-            Some(reporter) => reporter,
-            None => {
-                let Ok(unread) = Unread::open(&self.bytes) else {
-                    return Ok(false);
-                };
-                let options = Options {
-                    look: look_for(rt, showing, ticks.first),
-                    ticks: showing.ticks,
-                };
-                let late = unread.caps().late();
-                self.reporter
-                    .insert(Reporter::open(rt.alloc(), options, late))
-            }
-        };
-        let end = ticks.end.max(header).min(self.bytes.len());
-        if !show_all(page, reporter, &self.bytes[..end])? {
-            return Ok(false);
-        }
-        self.bytes.drain(header..end);
-        Ok(true)
+/// Shows the entries up to and with the last tick or release, and keeps the bytes after them. Answers
+/// whether they are those of a server.
+fn show_more(
+    rt: &HostRuntime,
+    showing: &Showing,
+    page: &mut Page,
+    bytes: &mut Vec<u8>,
+    slot: &mut Option<Reporter>,
+) -> Result<bool, AllocError> {
+    let header = HEADER_SIZE as usize;
+    if bytes.len() < header {
+        return Ok(true);
     }
+    if bytes.len() > MAX_RECORDING as usize {
+        return Ok(false);
+    }
+    let Some(ticks) = ticks_of(bytes) else {
+        return Ok(false);
+    };
+    let mut reporter = match slot.take() {
+        Some(reporter) => reporter,
+        None => reporter_of(rt, showing, ticks),
+    };
+    let end = ticks.end.max(header).min(bytes.len());
+    let are_shown = show_all(page, &mut reporter, &bytes[..end])?;
+    bytes.drain(header..end);
+    *slot = Some(reporter);
+    Ok(are_shown)
 }
 
-/// The first moment that bytes hand the clock, and where their last tick or release ends.
+/// A reporter that has shown nothing.
+fn reporter_of(rt: &HostRuntime, showing: &Showing, ticks: Ticks) -> Reporter {
+    let options = Options {
+        look: look_for(rt, showing, ticks.first),
+        ticks: showing.ticks,
+    };
+    Reporter::open(rt.alloc(), options, ticks.late)
+}
+
+/// What becomes of late units, the first moment that bytes hand the clock, and where their last tick
+/// or release ends.
 #[derive(Clone, Copy)]
 struct Ticks {
+    late: Late,
     first: Option<u64>,
     end: usize,
 }
@@ -135,6 +123,7 @@ fn ticks_of(bytes: &[u8]) -> Option<Ticks>
         return None;
     };
     let mut ticks = Ticks {
+        late: unread.caps().late(),
         first: None,
         end: 0,
     };
