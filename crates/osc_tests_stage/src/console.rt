@@ -192,6 +192,7 @@ fn shown_twice<W: Wait>(rt: &HostRuntime, threads: &W) -> Result<(Vec<u8>, Vec<u
     let alloc = rt.alloc();
     let routes = routes(alloc)?;
     let (rounds, printer) = (Rounds::new(), Printer::new());
+    let changeover = Changeover::at(u64::MAX);
     let (pace, calendar) = (Pace::new(50), Calendar::new(alloc));
     let slots = [Slot::new()];
     let gate = ConsoleGate::new(&rounds, &slots);
@@ -218,7 +219,6 @@ fn shown_twice<W: Wait>(rt: &HostRuntime, threads: &W) -> Result<(Vec<u8>, Vec<u
     gate.answered(0, 1, &Submission { answer, clock: 1 });
     link.finish();
     let waits = printed(alloc, &mut ring)?;
-    let changeover = Changeover::at(u64::MAX);
     let mut ticker = WaitingClock::open(rt, threads, &rounds, &changeover);
     let _ = ticker.now();
     ticker.until(Some(0));
