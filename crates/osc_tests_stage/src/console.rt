@@ -186,13 +186,20 @@ fn a_datagram_is_shown_with_the_servers_answer(rt: HostRuntime) -> Result<(), Fa
     Ok(())
 }
 
+/// Has the ticker play a round at the present.
+fn play_round<W: Wait>(rt: &HostRuntime, threads: &W, rounds: &Rounds) {
+    let changeover = Changeover::at(u64::MAX);
+    let mut ticker = WaitingClock::open(rt, threads, rounds, &changeover);
+    let _ = ticker.now();
+    ticker.until(Some(0));
+}
+
 /// What is printed of a bundle that waits: before the ticker has played a round at its time tag,
 /// and after that.
 fn shown_twice<W: Wait>(rt: &HostRuntime, threads: &W) -> Result<(Vec<u8>, Vec<u8>), Fail> {
     let alloc = rt.alloc();
     let routes = routes(alloc)?;
     let (rounds, printer) = (Rounds::new(), Printer::new());
-    let changeover = Changeover::at(u64::MAX);
     let (pace, calendar) = (Pace::new(50), Calendar::new(alloc));
     let slots = [Slot::new()];
     let gate = ConsoleGate::new(&rounds, &slots);
@@ -219,9 +226,7 @@ fn shown_twice<W: Wait>(rt: &HostRuntime, threads: &W) -> Result<(Vec<u8>, Vec<u
     gate.answered(0, 1, &Submission { answer, clock: 1 });
     link.finish();
     let waits = printed(alloc, &mut ring)?;
-    let mut ticker = WaitingClock::open(rt, threads, &rounds, &changeover);
-    let _ = ticker.now();
-    ticker.until(Some(0));
+    play_round(rt, threads, &rounds);
     link.finish();
     Ok((waits, printed(alloc, &mut ring)?))
 }
