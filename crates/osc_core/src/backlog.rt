@@ -182,13 +182,16 @@ impl Backlog {
         ensures places { self.new.queue.limit ≡ self.old.queue.limit }
         ensures limit { length self.new.store ≡ length self.old.store }
     {
+        if !self.is_unused() {
+            return false;
+        }
         let Some(unit) = packet.alone() else {
             return false;
         };
         let Some(message) = unit.alone() else {
             return false;
         };
-        if message.len() > MOST_BESIDE || !self.is_unused() || !keeps(late, clock, &unit) {
+        if message.len() > MOST_BESIDE || !keeps(late, clock, &unit) {
             return false;
         }
         self.stand(message, unit.tag(), clock, number);
@@ -196,6 +199,7 @@ impl Backlog {
     }
 
     /// Whether no unit waits, and there are a place and a block for one.
+    #[inline(always)]
     fn is_unused(&self) -> bool
         ensures { IsTrue result → IsUnused self.now }
     {
@@ -231,6 +235,7 @@ impl Backlog {
     }
 
     /// The unit that waits alone is queued, where there is one.
+    #[inline(always)]
     fn settle(&mut self)
         requires { AreWaiting self.old }
         ensures none { self.new.lone ≡ None }
