@@ -60,9 +60,14 @@ impl WrongLine {
 }
 
 /// Wrong lines, in the order of the patch. A contract sees the list.
-#[derive(Drop)]
 pub struct WrongLines {
     items: Vec<WrongLine>,
+}
+
+impl Drop for WrongLines {
+    fn drop(self) {
+        let WrongLines { items: _ } = self;
+    }
 }
 
 impl Model for WrongLines {

@@ -17,9 +17,14 @@ use std::marker::Model;
 pub const MAX_PATCH: usize = 67_108_864;
 
 /// The methods of a patch, in the order in which they appear first. A contract sees the list.
-#[derive(Drop)]
 pub struct Patch {
     items: Vec<PatchMethod>,
+}
+
+impl Drop for Patch {
+    fn drop(self) {
+        let Patch { items: _ } = self;
+    }
 }
 
 impl Model for Patch {

@@ -18,7 +18,6 @@ use std::alloc::{AllocError, Global};
 
 /// A method that sends each message that it is called with to each of its outlets, with its own address in place of the
 /// message's pattern. It tells the last bytes of its calls, as [`Trace`] does. No call takes memory of its own.
-#[derive(Drop)]
 pub struct Relay<O: Outlet> {
     address: Address,
     /// The address as a string, and room for what follows it.
@@ -32,6 +31,18 @@ pub struct Relay<O: Outlet> {
     ghost relayed: { All (λ outlet. ∥ HasRelayed address (length space.items)
         (⟦<Trace as Method>⟧.keep trace) (⟦<Trace as Method>⟧.heard trace)
         (O.sent outlet) (O.losses outlet) ∥₁) outlets.items },
+}
+
+impl<O: Outlet> Drop for Relay<O> {
+    fn drop(self) {
+        let Relay {
+            address: _,
+            space: _,
+            start: _,
+            trace: _,
+            outlets: _,
+        } = self;
+    }
 }
 
 impl<O: Outlet> Relay<O> {

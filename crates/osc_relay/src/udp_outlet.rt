@@ -10,7 +10,6 @@ use std::sync::Arc;
 /// Datagrams to one destination by UDP, from a port that the system chooses, which is bound at the first send. The
 /// destination may be a broadcast address. A send doesn't wait. Whatever the system doesn't send whole is lost:
 /// without a route or a buffer, and from 65,508 bytes on. That a datagram was sent doesn't say that it arrives.
-#[derive(Drop)]
 pub struct UdpOutlet {
     rt: HostRuntime,
     to: SocketAddrV4,
@@ -18,6 +17,18 @@ pub struct UdpOutlet {
     /// The socket, once it is bound.
     socket: Option<UdpSocket>,
     lost: u64,
+}
+
+impl Drop for UdpOutlet {
+    fn drop(self) {
+        let UdpOutlet {
+            rt: _,
+            to: _,
+            shared: _,
+            socket: _,
+            lost: _,
+        } = self;
+    }
 }
 
 impl UdpOutlet {

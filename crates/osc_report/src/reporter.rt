@@ -23,12 +23,22 @@ pub enum ShowFault {
 
 /// Shows the entries of a recording, one stretch after another: up to and with the next tick or
 /// release, which gives all of them their moment.
-#[derive(Drop)]
 pub struct Reporter {
     alloc: Global,
     options: Options,
     story: Story,
     span: Span,
+}
+
+impl Drop for Reporter {
+    fn drop(self) {
+        let Reporter {
+            alloc: _,
+            options: _,
+            story: _,
+            span: _,
+        } = self;
+    }
 }
 
 impl Model for Reporter {
