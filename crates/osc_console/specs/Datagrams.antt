@@ -1,8 +1,6 @@
 -- The lines of a datagram, and what a link that is shown has kept.
-use Rattle.std.specs.Prelude.{◌≡◌, ℕ, List, [], ◌∷◌, ◌++◌, take, Option, Some, option_map}
+use Rattle.std.specs.Prelude.{◌≡◌, ℕ, List, [], ◌∷◌, ◌++◌, Option}
 use Rattle.std.specs.Prelude.{MatchOption}
-use Rattle.osc_edge.specs.declared.link.Datagram.{Datagram}
-use Rattle.osc_edge.specs.declared.link.Datagram.TheVariants.{Got}
 use Rattle.osc_atoms.specs.declared.limits.TheConstants.{MAX_PACKET}
 use Rattle.osc_packet.specs.Reading.{packet_fault, units_read}
 use Rattle.osc_packet.specs.Units.{TimedUnit}
@@ -13,7 +11,6 @@ use Rattle.osc_shown.specs.declared.look.Look.{Look}
 use Rattle.osc_shown.specs.declared.route.Route.{Route}
 use Rattle.osc_shown.specs.Lines.{AddsUnit}
 use Rattle.osc_shown.specs.Refusals.{refusal_text}
-use Rattle.osc_console.specs.declared.shown_link.Pending.{Pending}
 use Rattle.osc_console.specs.Answers.{answer_of}
 
 module _ (look : Look) (late : Late) (routes : List Route) (arrival : Arrival) where

@@ -20,10 +20,18 @@ use std::net::SocketAddrV4;
 
 /// The units of a link's datagrams that wait for their time tags, by tag, and in the order in which
 /// they came: as the server calls them.
-#[derive(Drop)]
 pub struct Agenda {
     alloc: Global,
     waiters: Vec<Awaited>,
+}
+
+impl Drop for Agenda {
+    fn drop(self) {
+        let Agenda {
+            alloc: _,
+            waiters: _,
+        } = self;
+    }
 }
 
 impl Agenda {

@@ -14,7 +14,6 @@ const SHORT_WAIT: u32 = 5;
 
 /// As `UdpLink` of `osc_edge`, but that a call waits as long for a datagram as its pace says; and it
 /// knows who has sent the last datagram.
-#[derive(Drop)]
 pub struct HeardLink<'a> {
     rt: HostRuntime,
     port: u16,
@@ -27,6 +26,22 @@ pub struct HeardLink<'a> {
     sender: Option<SocketAddrV4>,
     faults: u64,
     quiets: u64,
+}
+
+impl Drop for HeardLink<'_> {
+    fn drop(self) {
+        let HeardLink {
+            rt: _,
+            port: _,
+            pace: _,
+            changeover: _,
+            wait: _,
+            socket: _,
+            sender: _,
+            faults: _,
+            quiets: _,
+        } = self;
+    }
 }
 
 impl<'a> HeardLink<'a> {

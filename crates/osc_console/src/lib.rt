@@ -22,6 +22,7 @@ mod shown_link;
 mod shutdown;
 mod shutdown_link;
 mod slot;
+mod timed_link;
 mod view;
 mod waiting_clock;
 
@@ -41,5 +42,6 @@ pub use shown_link::{ShownLink, Watch};
 pub use shutdown::Shutdown;
 pub use shutdown_link::ShutdownLink;
 pub use slot::Slot;
+pub use timed_link::TimedLink;
 pub use view::View;
 pub use waiting_clock::WaitingClock;

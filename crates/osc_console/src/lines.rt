@@ -21,7 +21,6 @@ pub struct Came<'a> {
 
 /// The lines that a link shows: those of its datagrams, and of their units that waited, when these are
 /// called.
-#[derive(Drop)]
 pub struct Lines<'a> {
     pub(crate) view: View<'a>,
     calendar: &'a Calendar,
@@ -34,6 +33,20 @@ pub struct Lines<'a> {
     /// The minute since 1900 for which the day was looked at last, if it was. A day begins with a
     /// minute.
     minute: Option<u64>,
+}
+
+impl Drop for Lines<'_> {
+    fn drop(self) {
+        let Lines {
+            view: _,
+            calendar: _,
+            agenda: _,
+            text: _,
+            page: _,
+            unshown: _,
+            minute: _,
+        } = self;
+    }
 }
 
 impl<'a> Lines<'a> {
@@ -57,6 +70,15 @@ impl<'a> Lines<'a> {
             unshown: 0,
             minute: None,
         }
+    }
+
+    /// These units wait already, in place of those that it noted.
+    pub fn expect(&mut self, agenda: Agenda)
+        ensures view { self.new.view ≡ self.old.view }
+        ensures unshown { self.new.unshown ≡ self.old.unshown }
+        ensures waiters { self.new.agenda ≡ agenda }
+    {
+        self.agenda = agenda;
     }
 
     /// Writes the lines of what came, if anything did, and of the units that were called up to the

@@ -1,5 +1,10 @@
 //! Writes what comes out of rings.
-use osc_edge::{Put, Sink};
+ghost use Rattle.osc_ends.specs.Sinks.{sink_change};
+ghost use Rattle.osc_console.specs.Printing.{Prints, PrintsRing};
+
+use osc_edge::Sink;
+use osc_ends::status::DONE;
+use osc_ends::write_text;
 use rtrb::Consumer;
 use std::alloc::Global;
 use std::sync::Wait;
@@ -51,20 +56,25 @@ pub trait Chore {
 }
 
 /// Writes what comes out of the rings, ring by ring, whenever the printer is woken, until it is
-/// ended; then what is left. A sink that waits holds up nobody else but the chore.
+/// ended; then what is left. A sink that waits holds up nobody else but the chore. Answers whether
+/// the sink took all; what it didn't take is lost.
 pub fn print_while<W: Wait, O: Sink, D: Chore>(
     rt: &W,
     printer: &Printer,
     rings: &mut [Consumer<u8, Global>],
     out: &mut O,
     chore: &mut D,
-) {
+) -> bool
+    ensures { Prints rings.old rings.new (sink_change O.held O.faults out.old out.new) result }
+{
     let mut space = [0; PIECE];
+    let mut whole = true;
     for _ in rt.forever() {
         let is_over = printer.is_over.load(Ordering::SeqCst) != 0;
-        print_each(rings, &mut space, out);
+        let taken = print_rings(rings, &mut space, out);
+        whole = whole && taken;
         if is_over {
-            return;
+            return whole;
         }
         chore.run();
         printer.parker.park_timeout(rt, Duration::from_millis(WAIT));
@@ -72,29 +82,40 @@ pub fn print_while<W: Wait, O: Sink, D: Chore>(
     unreachable!()
 }
 
-fn print_each<O: Sink>(rings: &mut [Consumer<u8, Global>], space: &mut [u8], out: &mut O) {
-    for ring in rings {
-        print_ring(ring, space, out);
+/// Writes what is in each ring, or the first of it.
+fn print_rings<O: Sink>(rings: &mut [Consumer<u8, Global>], space: &mut [u8], out: &mut O) -> bool
+    ensures { Prints rings.old rings.new (sink_change O.held O.faults out.old out.new) result }
+{
+    let mut whole = true;
+    for ring in rings.iter_mut() {
+        let taken = print_ring(ring, space, out);
+        whole = whole && taken;
     }
+    whole
 }
 
-fn print_ring<O: Sink>(ring: &mut Consumer<u8, Global>, space: &mut [u8], out: &mut O) {
+fn print_ring<O: Sink>(ring: &mut Consumer<u8, Global>, space: &mut [u8], out: &mut O) -> bool
+    ensures { PrintsRing ring.old ring.new (sink_change O.held O.faults out.old out.new) result }
+{
+    let mut whole = true;
     for _ in 0..PIECES {
-        let count = ring.pop_partial_slice(space);
+        let (count, taken) = print_piece(ring, space, out);
+        whole = whole && taken;
         if count == 0 {
-            return;
+            break;
         }
-        write_all(out, &space[..count]);
     }
+    whole
 }
 
-/// Writes the bytes, up to where the sink fails.
-fn write_all<O: Sink>(out: &mut O, bytes: &[u8]) {
-    let mut rest = bytes;
-    for _ in 0..bytes.len() {
-        match out.write(rest) {
-            Put::Took(count) if count < rest.len() => rest = &rest[count..],
-            _ => return,
-        }
-    }
+/// Writes as much as there is space for. Answers how much that was, and whether the sink took it.
+fn print_piece<O: Sink>(
+    ring: &mut Consumer<u8, Global>,
+    space: &mut [u8],
+    out: &mut O,
+) -> (usize, bool)
+    ensures { PrintsRing ring.old ring.new (sink_change O.held O.faults out.old out.new) result.1 }
+{
+    let count = ring.pop_partial_slice(space);
+    (count, write_text(DONE, &space[..count], out) == DONE)
 }

@@ -10,11 +10,20 @@ use std::alloc::Global;
 /// One end of a ring of bytes, and whom to wake: the thread that writes what comes out of it. It
 /// takes a piece whole, or fails where the ring has no room for it, and counts that. It never
 /// waits.
-#[derive(Drop)]
 pub struct RingSink<'a> {
     producer: Producer<u8, Global>,
     printer: &'a Printer,
     faults: u64,
+}
+
+impl Drop for RingSink<'_> {
+    fn drop(self) {
+        let RingSink {
+            producer: _,
+            printer: _,
+            faults: _,
+        } = self;
+    }
 }
 
 impl<'a> RingSink<'a> {

@@ -9,6 +9,9 @@ const LOOKS: u32 = 50;
 
 const LOOK: u64 = 2;
 
+/// How many milliseconds who waits for a round waits at most.
+const WAIT: u64 = 1_000;
+
 /// The ticker's last round, and who wakes it for the next one.
 #[derive(Drop)]
 pub struct Rounds {
@@ -41,9 +44,21 @@ impl Rounds {
         self.handed.wake_all();
     }
 
-    /// The moment that the last round has handed in.
-    pub(crate) fn handed(&self) -> u64 {
+    /// The moment that the last round has handed in; 0 before the first.
+    pub fn handed(&self) -> u64 {
         self.handed.load(Ordering::SeqCst)
+    }
+
+    /// Waits for a round that hands in another moment than this one, or until it is told that none
+    /// comes; at most a second.
+    pub fn wait<W: Wait>(&self, rt: &W, seen: u64) {
+        self.handed
+            .park_timeout(rt, low_word(seen), Duration::from_millis(WAIT));
+    }
+
+    /// Tells whoever waits for a round that none comes.
+    pub fn end(&self) {
+        self.handed.wake_all();
     }
 
     /// Has the ticker play a round, and waits until it has handed in this moment or a later one, at

@@ -42,7 +42,6 @@ pub struct Watch<'a, W> {
 /// doesn't take is lost, and what has no memory isn't shown; how many datagrams that were stands
 /// before the next lines. Where late units are discarded the ticker plays a round before a bundle is
 /// handed in, so that the bundle is judged by a clock that isn't behind.
-#[derive(Drop)]
 pub struct ShownLink<'a, L, C, O, W> {
     link: L,
     clock: C,
@@ -52,6 +51,20 @@ pub struct ShownLink<'a, L, C, O, W> {
     space: Vec<u8>,
     pending: Option<Pending>,
     ghost room: { vec_len space ≡ MAX_DATAGRAM },
+}
+
+impl<L: Drop, C: Drop, O: Drop, W> Drop for ShownLink<'_, L, C, O, W> {
+    fn drop(self) {
+        let ShownLink {
+            link: _,
+            clock: _,
+            out: _,
+            watch: _,
+            lines: _,
+            space: _,
+            pending: _,
+        } = self;
+    }
 }
 
 impl<'a, L: Link + Sender + Drop, C: Clock + Drop, O: Sink + Drop, W: Wait> ShownLink<
@@ -104,7 +117,7 @@ impl<'a, L: Link + Sender + Drop, C: Clock + Drop, O: Sink + Drop, W: Wait> Show
         ensures unshown { self.new.lines.unshown ≡ self.old.lines.unshown }
         ensures waiters { self.new.lines.agenda ≡ agenda }
     {
-        self.lines.agenda = agenda;
+        self.lines.expect(agenda);
     }
 
     /// Shows the last datagram, which no later call of the link shows, and the units that were called

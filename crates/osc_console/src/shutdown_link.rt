@@ -8,11 +8,20 @@ use std::net::SocketAddrV4;
 /// A link that answers `End` where the show is to end, or its recording has the size at which it
 /// goes on in a new one, and else what the link below answers. So it tells nothing of the datagrams
 /// that are left.
-#[derive(Drop)]
 pub struct ShutdownLink<'a, L> {
     link: L,
     shutdown: &'a Shutdown,
     changeover: &'a Changeover,
+}
+
+impl<L: Drop> Drop for ShutdownLink<'_, L> {
+    fn drop(self) {
+        let ShutdownLink {
+            link: _,
+            shutdown: _,
+            changeover: _,
+        } = self;
+    }
 }
 
 impl<'a, L: Link> ShutdownLink<'a, L> {

@@ -100,7 +100,7 @@ fn wait_until(next: Option<u64>, now: Option<u64>) -> u64
 }
 
 /// How many nanoseconds it is from one moment to another, rounded up; none where it isn't later.
-fn nanos_between(now: u64, next: u64) -> u64
+pub(crate) fn nanos_between(now: u64, next: u64) -> u64
     ensures { result ≡ span_nanos now next }
 {
     let span = next.saturating_sub(now);

@@ -3,7 +3,8 @@ use jiff_core::Offset;
 use osc_atoms::Room;
 use osc_console::{
     Agenda, Calendar, Changeover, Chore, ConsoleGate, MeteredSink, Pace, Printer, RingSink, Rounds,
-    Sender, ShownLink, Shutdown, ShutdownLink, Slot, View, WaitingClock, Watch, print_while,
+    Sender, ShownLink, Shutdown, ShutdownLink, Slot, TimedLink, View, WaitingClock, Watch,
+    print_while,
 };
 use osc_core::Submitted;
 use osc_edge::{Clock, Datagram, Link, MAX_DATAGRAM, MemoryClock, MemorySink, Put, Sink};
@@ -333,9 +334,38 @@ fn what_is_left_is_printed_at_the_end(rt: HostRuntime) -> Result<(), Fail> {
     rings.push(ring)?;
     let mut out = MemorySink::open(alloc, Vec::new(alloc));
     let mut chore = Counter { runs: 0 };
-    print_while(&rt, &printer, &mut rings, &mut out, &mut chore);
+    assert!(rt; print_while(&rt, &printer, &mut rings, &mut out, &mut chore));
     assert_eq!(rt; out.bytes(), b"the last line\n".as_slice());
     assert_eq!(rt; chore.runs, 0);
+    Ok(())
+}
+
+#[test]
+fn a_line_that_is_not_taken_is_told(rt: HostRuntime) -> Result<(), Fail> {
+    let alloc = rt.alloc();
+    let printer = Printer::new();
+    let (mut producer, ring) = RingBuffer::new(alloc, 64)?;
+    assert!(rt; producer.push_entire_slice(b"the last line\n").is_ok());
+    printer.end();
+    let mut rings = Vec::new(alloc);
+    rings.push(ring)?;
+    let mut fails = Vec::new(alloc);
+    fails.push(1)?;
+    let mut out = MemorySink::open(alloc, fails);
+    let mut chore = Counter { runs: 0 };
+    assert!(rt; !print_while(&rt, &printer, &mut rings, &mut out, &mut chore));
+    Ok(())
+}
+
+#[test]
+fn a_datagram_whose_moment_is_over_comes_at_once(rt: HostRuntime) -> Result<(), Fail> {
+    let alloc = rt.alloc();
+    let rounds = Rounds::new();
+    let mut moments = Vec::new(alloc);
+    moments.push(MOMENT)?;
+    let mut link = TimedLink::new(&rt, &rt, &rounds, Faders::new(1), moments);
+    assert_eq!(rt; give(alloc, &mut link)?, Datagram::Got(FADER.len()));
+    assert_eq!(rt; give(alloc, &mut link)?, Datagram::End);
     Ok(())
 }
 
