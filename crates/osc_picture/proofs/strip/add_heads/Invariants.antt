@@ -1,0 +1,10 @@
+use Rattle.std.proofs.Common.{◌≡◌, ◌++◌, length}
+use Rattle.osc_picture.specs.Strips.{heads}
+use Rattle.osc_picture.proofs.strip.add_heads.Given as goal
+
+-- what is added, and what the rest adds, is all
+abbrev pub invariant-loop-shelf : goal.invariant-loop-shelf
+invariant-loop-shelf l = l.out.items ++ heads l.places l.rest ≡ l.initial.out.items ++ heads l.shelves l.rows
+
+abbrev pub decreases-loop-shelf : goal.decreases-loop-shelf
+decreases-loop-shelf l = length l.rest
