@@ -1,5 +1,6 @@
 -- A sheet has one line more at most than bytes.
-use Rattle.std.proofs.Common.{◌≡◌, ℕ, zero, suc, ◌+◌, ◌≤◌, Bool, true, false, cond, List, [], ◌∷◌, length, map, get_or, filter, Result, Ok, Err, IfOk, ap, arith}
+use Rattle.std.proofs.Common.{◌≡◌, ℕ, zero, suc, ◌+◌, ◌≤◌, Bool, true, false, cond, List, [], ◌∷◌, length, map, get_or, filter, Result}
+use Rattle.std.proofs.Common.{Ok, Err, IfOk, ap, arith}
 use Rattle.std.proofs.Common.{Bor, Vec, ◌<◌, drop, refl, sym, subst, nat_eq, length-drop}
 use Rattle.std.specs.List.{slice_split, onto_first, starts_with}
 use Rattle.std.proofs.lemmas.List.{length-map}
@@ -19,7 +20,8 @@ few_lines bytes lines are =
     )
 
 pub few_of : {E : Type 0} {Z : Type 0} (bytes : List ℕ) (size : ℕ) (result : Result (Vec (Bor (List ℕ)) Z) E) → length bytes ≤ size
-    → IfOk result (λ lines. map (λ line. line.now) lines.items ≡ slice_split is_line_feed bytes) → IfOk result (λ lines. length lines.items ≤ size + 1)
+    → IfOk result (λ lines. map (λ line. line.now) lines.items ≡ slice_split is_line_feed bytes)
+    → IfOk result (λ lines. length lines.items ≤ size + 1)
 few_of bytes size (Ok lines) few are = omega (arith, few, few_lines bytes lines.items are)
 few_of bytes size (Err e) few are = tt
 

@@ -6,7 +6,8 @@ use Rattle.hex.proofs.HexLemmas.{decode_of-ok}
 use Rattle.osc_atoms.specs.Atoms.{string, string_end, blob, blob_end, word}
 
 pub string_few : (bytes : List ℕ) → length (string bytes) ≤ length bytes + 4
-string_few bytes = omega (arith, length-append bytes (replicate (string_end (length bytes)) 0), length-replicate {A = ℕ} (string_end (length bytes)) 0)
+string_few bytes = omega
+    (arith, length-append bytes (replicate (string_end (length bytes)) 0), length-replicate {A = ℕ} (string_end (length bytes)) 0)
 
 padding_few : (n : ℕ) → blob_end n ≤ 3
 padding_few n = omega arith

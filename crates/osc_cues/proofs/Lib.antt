@@ -5,3 +5,7 @@ pub mod Putting
 pub mod Counts
 pub mod Outcomes
 pub mod Rows
+pub mod BracketWords
+pub mod Notes
+pub mod Groups
+pub mod Orders

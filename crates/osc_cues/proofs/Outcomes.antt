@@ -1,9 +1,10 @@
 -- What a sheet is read as, where lines are wrong.
-use Rattle.std.proofs.Common.{◌≡◌, ◌∙◌, ℕ, ◌<◌, ◌≤◌, Bool, true, false, cond, nat_lt, List, [], ◌∷◌, length, Result, Err, refl, sym, ap, arith}
+use Rattle.std.proofs.Common.{◌≡◌, ◌∙◌, ℕ, ◌<◌, ◌≤◌, Bool, true, false, cond, nat_lt, List, [], ◌∷◌, length, Result, Err, refl, sym}
+use Rattle.std.proofs.Common.{ap, arith}
 use Rattle.std.proofs.lemmas.Bool.Decides.{nat_tests}
 use Rattle.osc_cues.specs.declared.limits.TheConstants.{MAX_SHEET}
 use Rattle.osc_cues.specs.declared.setting.Setting.{Setting}
-use Rattle.osc_cues.specs.declared.sheet.Cue.{Cue}
+use Rattle.osc_cues.specs.Plans.{Plan}
 use Rattle.osc_cues.specs.declared.wrong_line.WrongLine.{WrongLine}
 use Rattle.osc_cues.specs.declared.wrong_line.SheetError.{SheetError}
 use Rattle.osc_cues.specs.declared.wrong_line.SheetError.TheVariants.{TooLong, Lines}
@@ -11,11 +12,11 @@ use Rattle.osc_cues.specs.declared.draft.Draft.{Draft}
 use Rattle.osc_cues.specs.Words.{lines_of}
 use Rattle.osc_cues.specs.Sheets.{read_from, unread, outcome, outcome_of, sheet_of}
 
-outcome_wrong : (cues : List Cue) (wrong : List WrongLine) → 0 < length wrong → outcome cues wrong ≡ Err (Lines wrong)
-outcome_wrong cues [] some = absurd (omega arith)
-outcome_wrong cues (line ∷ lines) some = refl
+outcome_wrong : (plan : Plan) (wrong : List WrongLine) → 0 < length wrong → outcome plan wrong ≡ Err (Lines wrong)
+outcome_wrong plan [] some = absurd (omega arith)
+outcome_wrong plan (line ∷ lines) some = refl
 
-short_only : (bytes : List ℕ) (read : Result (List Cue) SheetError) → length bytes ≤ MAX_SHEET
+short_only : (bytes : List ℕ) (read : Result Plan SheetError) → length bytes ≤ MAX_SHEET
     → cond (nat_lt MAX_SHEET (length bytes)) (Err TooLong) read ≡ read
 short_only bytes read short = go (nat_lt MAX_SHEET (length bytes)) refl where
   go : (t : Bool) → nat_lt MAX_SHEET (length bytes) ≡ t → cond t (Err TooLong) read ≡ read
@@ -28,4 +29,4 @@ pub read_wrong : (methods : List (List ℕ)) (setting : Setting) (bytes : List �
 read_wrong methods setting bytes draft wrong is same short some =
     short_only bytes (outcome_of (read_from methods setting 1 unread (lines_of bytes))) short
     ∙ ap outcome_of (sym is)
-    ∙ outcome_wrong draft.cues draft.wrong (omega (arith, some, ap length same))
+    ∙ outcome_wrong (record { cues = draft.cues; tempo = draft.first }) draft.wrong (omega (arith, some, ap length same))

@@ -1,5 +1,6 @@
 -- What digits of a number that is too large are read as.
-use Rattle.std.proofs.Common.{◌≡◌, ℕ, zero, suc, ◌+◌, ◌-◌, ◌<◌, ◌≤◌, ◌^◌, ◌&&◌, Bool, true, false, nat_lt, min, List, length, rules, Result, Ok, Err, refl, ap, arith}
+use Rattle.std.proofs.Common.{◌≡◌, ℕ, zero, suc, ◌+◌, ◌-◌, ◌<◌, ◌≤◌, ◌^◌, ◌&&◌, Bool, true, false, nat_lt, min, List, length, rules}
+use Rattle.std.proofs.Common.{Result, Ok, Err, refl, ap, arith}
 use Rattle.std.proofs.lemmas.Int.Digits.{digits_value-lt}
 use Rattle.std.proofs.lemmas.Grind.{pow_more}
 use Rattle.std.specs.Char.{is_ascii_digit}
@@ -28,7 +29,8 @@ high n more = go (nat_lt n (2 ^ 64)) refl where
   go true lt = absurd (more (low_if n lt))
   go false lt = grind (arith, nat_tests)
 
-pub too_large : {E : Type 0} (word : List ℕ) (e : E) → ParsesUnsigned 64 10 word (Err e) → are_digits word ≡ true → 2 ^ 64 - 1 ≡ size_of word
+pub too_large : {E : Type 0} (word : List ℕ) (e : E) → ParsesUnsigned 64 10 word (Err e) → are_digits word ≡ true
+    → 2 ^ 64 - 1 ≡ size_of word
 too_large word e none are = go (nat_lt 0 (length word)) (list_all is_ascii_digit word) refl refl are where
   go : (t u : Bool) → nat_lt 0 (length word) ≡ t → list_all is_ascii_digit word ≡ u → (t && u) ≡ true → 2 ^ 64 - 1 ≡ size_of word
   go false u some all is = absurd (cc)
@@ -77,7 +79,8 @@ told : {E : Type 0} (word : List ℕ) (r : Result ℕ E) → AreFew word
 told word (Ok number) is read = (read.1, omega (arith, read.1, is.small))
 told word (Err error) is read = read (is.some, omega (arith, is.small))
 
-pub few_read : {E : Type 0} (word : List ℕ) (r : Result ℕ E) → ParsesUnsigned 64 10 word r → are_digits word ≡ true → length word ≤ 9 → AreRead word r
+pub few_read : {E : Type 0} (word : List ℕ) (r : Result ℕ E) → ParsesUnsigned 64 10 word r → are_digits word ≡ true → length word ≤ 9
+    → AreRead word r
 few_read word r parses are few = let is = are_few word are few in told word r is (digits_read word r parses is.all)
 
 pub few_ok : (word : List ℕ) (number : ℕ) → ParsesUnsigned {E = Unit {0}} 64 10 word (Ok number) → are_digits word ≡ true → length word ≤ 9

@@ -1,5 +1,6 @@
 -- The bytes of a text, one after another.
-use Rattle.std.proofs.Common.{◌≡◌, ℕ, zero, suc, ◌-◌, ◌<◌, ◌≤◌, ◌==◌, ◌&&◌, ◌||◌, Bool, true, false, cond, not, IsTrue, List, [], ◌∷◌, ◌++◌, length, Option, Some, None, Result, Ok, Err, IfOk, refl, sym, ap, ◌∙◌, subst, arith}
+use Rattle.std.proofs.Common.{◌≡◌, ℕ, zero, suc, ◌-◌, ◌<◌, ◌≤◌, ◌==◌, ◌&&◌, ◌||◌, Bool, true, false, cond, not, IsTrue, List, [], ◌∷◌}
+use Rattle.std.proofs.Common.{◌++◌, length, Option, Some, None, Result, Ok, Err, IfOk, refl, sym, ap, ◌∙◌, subst, arith}
 use Rattle.std.proofs.Common.{append_assoc, append-nil}
 use Rattle.std.proofs.lemmas.Bool.Decides.{nat_tests}
 use Rattle.osc_atoms.specs.Atoms.{has_no_zero}
@@ -7,7 +8,8 @@ use Rattle.osc_cues.specs.declared.fault.Fault.{Fault}
 use Rattle.osc_cues.specs.declared.fault.Fault.TheVariants.{PlainByte, ZeroByte, InnerQuote, QuotedEscape, PlainEscape}
 use Rattle.osc_cues.specs.declared.fault.WordFault.{WordFault}
 use Rattle.osc_cues.specs.Faults.{wrong_at, made, before}
-use Rattle.osc_cues.specs.Quoted.{pair_read, byte_or, escape_read, marked_read, quoted_first, is_plain, plain_first, first_read, then_text, text_within, text_read}
+use Rattle.osc_cues.specs.Quoted.{pair_read, byte_or, escape_read, marked_read, quoted_first, is_plain, plain_first, first_read}
+use Rattle.osc_cues.specs.Quoted.{then_text, text_within, text_read}
 
 either : {X E : Type 0} (P : X → Type 0) (t : Bool) (x y : Result X E) → IfOk x P → IfOk y P → IfOk (cond t x y) P
 either P true x y one two = one
@@ -49,7 +51,8 @@ marked_first (first ∷ rest) = go (first == 34 || first == 92) refl where
 quoted_is : (text : List ℕ) → IfOk (quoted_first text) (IsFirst (length text))
 quoted_is [] = tt
 quoted_is (byte ∷ rest) =
-    either (IsFirst (suc (length rest))) (byte == 92) (marked_read rest) (cond (byte == 34) (Err InnerQuote) (cond (byte == 0) (Err ZeroByte) (Ok (byte, rest))))
+    either (IsFirst (suc (length rest))) (byte == 92) (marked_read rest)
+    (cond (byte == 34) (Err InnerQuote) (cond (byte == 0) (Err ZeroByte) (Ok (byte, rest))))
     (weaker (length rest) (suc (length rest)) (marked_read rest) (omega arith) (marked_first rest))
     (either (IsFirst (suc (length rest))) (byte == 34) (Err InnerQuote) (cond (byte == 0) (Err ZeroByte) (Ok (byte, rest))) tt
     (byte_first ZeroByte rest (suc (length rest)) (Some byte) (omega arith)))
@@ -57,7 +60,8 @@ quoted_is (byte ∷ rest) =
 plain_is : (text : List ℕ) → IfOk (plain_first text) (IsFirst (length text))
 plain_is [] = tt
 plain_is (byte ∷ rest) =
-    either (IsFirst (suc (length rest))) (byte == 92) (escape_read PlainEscape rest) (cond (is_plain byte) (Ok (byte, rest)) (Err PlainByte))
+    either (IsFirst (suc (length rest))) (byte == 92) (escape_read PlainEscape rest)
+    (cond (is_plain byte) (Ok (byte, rest)) (Err PlainByte))
     (weaker (length rest) (suc (length rest)) (escape_read PlainEscape rest) (omega arith) (escape_first PlainEscape rest))
     (go (is_plain byte) refl) where
       go : (t : Bool) → is_plain byte ≡ t → IfOk (cond t (Ok (byte, rest)) (Err PlainByte)) (IsFirst (suc (length rest)))
@@ -69,14 +73,16 @@ first_is true text = quoted_is text
 first_is false text = plain_is text
 
 -- it doesn't matter how many bytes there may be, where there may be enough
-enough : (quoted : Bool) (end m n : ℕ) (word : List ℕ) → length word ≤ m → length word ≤ n → text_within quoted end m word ≡ text_within quoted end n word
+enough : (quoted : Bool) (end m n : ℕ) (word : List ℕ) → length word ≤ m → length word ≤ n
+    → text_within quoted end m word ≡ text_within quoted end n word
 enough quoted end m n [] few also = both m n where
   both : (m n : ℕ) → text_within quoted end m [] ≡ text_within quoted end n []
   both m n = refl
 enough quoted end zero n (byte ∷ word) few also = absurd (omega arith)
 enough quoted end (suc m) zero (byte ∷ word) few also = absurd (omega arith)
 enough quoted end (suc m) (suc n) (byte ∷ word) few also =
-    go (first_read quoted (byte ∷ word)) (first_is quoted (byte ∷ word)) (λ rest short. enough quoted end m n rest (omega arith) (omega arith)) where
+    go (first_read quoted (byte ∷ word)) (first_is quoted (byte ∷ word))
+    (λ rest short. enough quoted end m n rest (omega arith) (omega arith)) where
       go : (o : Result (ℕ × List ℕ) Fault) → IfOk o (IsFirst (suc (length word)))
           → ((rest : List ℕ) → length rest < suc (length word) → text_within quoted end m rest ≡ text_within quoted end n rest)
           → then_text (end - suc (length word)) (λ text. text_within quoted end m text) o
@@ -98,15 +104,18 @@ pub byte_on : (quoted : Bool) (end byte : ℕ) (word rest front : List ℕ) → 
 byte_on quoted end byte [] rest front some is short = absurd (omega arith)
 byte_on quoted end byte (first ∷ word) rest front some is short =
     onto_one front byte (text_read quoted end rest)
-    ∙ ap (λ (t : Result (List ℕ) WordFault). onto front (before byte t)) (enough quoted end (length rest) (length word) rest (omega arith) (omega arith))
-    ∙ ap (λ (o : Result (ℕ × List ℕ) Fault). onto front (then_text (end - suc (length word)) (λ text. text_within quoted end (length word) text) o)) (sym is)
+    ∙ ap (λ (t : Result (List ℕ) WordFault). onto front (before byte t))
+    (enough quoted end (length rest) (length word) rest (omega arith) (omega arith))
+    ∙ ap (λ (o : Result (ℕ × List ℕ) Fault). onto front
+    (then_text (end - suc (length word)) (λ text. text_within quoted end (length word) text) o)) (sym is)
 
 -- a byte that isn't read
 pub byte_wrong : (quoted : Bool) (end : ℕ) (word front : List ℕ) (fault : Fault) → 0 < length word → first_read quoted word ≡ Err fault
     → onto front (text_read quoted end word) ≡ wrong_at (end - length word) fault
 byte_wrong quoted end [] front fault some is = absurd (omega arith)
 byte_wrong quoted end (first ∷ word) front fault some is =
-    ap (λ (o : Result (ℕ × List ℕ) Fault). onto front (then_text (end - suc (length word)) (λ text. text_within quoted end (length word) text) o)) is
+    ap (λ (o : Result (ℕ × List ℕ) Fault). onto front
+    (then_text (end - suc (length word)) (λ text. text_within quoted end (length word) text) o)) is
 
 -- a text has no zero byte, and isn't longer than what it is read from
 pub record IsText (size : ℕ) (bytes : List ℕ) : Type 0 where

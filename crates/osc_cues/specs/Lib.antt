@@ -9,6 +9,11 @@ pub mod Bounds
 pub mod Words
 pub mod Cues
 pub mod LineAnswers
+pub mod Plans
 pub mod Sheets
+pub mod Bundles
+pub mod BundleAnswers
+pub mod Order
 pub mod SheetAnswers
+pub mod Guesses
 pub mod Texts

@@ -3,7 +3,8 @@ use Rattle.osc_cues.specs.declared.limits.TheConstants.{MAX_SHEET, ROOM}
 use Rattle.std.specs.Prelude.{ℕ, ◌+◌, ◌-◌, ◌*◌, ◌==◌, ◌&&◌, Bool, not, nat_le, nat_lt}
 use Rattle.std.specs.Prelude.{if◌then◌else◌, List, [], ◌∷◌, ◌++◌, length, codes, bytes_eq}
 use Rattle.std.specs.Prelude.{Option, Some, None, option_and_then, Result, Ok, Err}
-use Rattle.std.specs.Prelude.{IfSome, unwrap_or, slice_get}
+use Rattle.std.specs.Prelude.{IfSome, IfOk, unwrap_or, slice_get, is_none}
+use Rattle.osc_packet.specs.Bundling.{IsSpelled}
 use Rattle.osc_cues.specs.declared.fault.Fault.{Fault}
 use Rattle.osc_cues.specs.declared.fault.Fault.TheVariants.{TempoForm, NotTempo, NotMeter}
 use Rattle.osc_cues.specs.declared.fault.Fault.TheVariants.{BeforeLine, Gone, LargeMoment}
@@ -11,7 +12,7 @@ use Rattle.osc_cues.specs.declared.fault.WordFault.{WordFault}
 use Rattle.osc_cues.specs.declared.setting.Setting.{Setting}
 use Rattle.osc_cues.specs.declared.setting.Tempo.{Tempo}
 use Rattle.osc_cues.specs.declared.scan.Span.{Span}
-use Rattle.osc_cues.specs.declared.sheet.Cue.{Cue}
+use Rattle.osc_cues.specs.declared.cue.Cue.{Cue}
 use Rattle.osc_cues.specs.declared.wrong_line.WrongLine.{WrongLine}
 use Rattle.osc_cues.specs.declared.wrong_line.SheetError.{SheetError}
 use Rattle.osc_cues.specs.declared.wrong_line.SheetError.TheVariants.{TooLong, Lines}
@@ -24,6 +25,7 @@ use Rattle.osc_cues.specs.Cuts.{number_cut, fraction_cut}
 use Rattle.osc_cues.specs.Moments.{moment_read, moment_at, tag_of, IsMoment, IsTempo}
 use Rattle.osc_cues.specs.Words.{lines_of, without_return, spans_of, word_at, column_of}
 use Rattle.osc_cues.specs.Cues.{and_then, words_say}
+use Rattle.osc_cues.specs.Plans.{Plan}
 
 -- Tempos.
 
@@ -108,12 +110,16 @@ order_fault None moment = None
 order_fault (Some before) moment =
     if nat_lt moment before then Some (BeforeLine (tag_of before)) else None
 
+-- the time tag before which a cue has gone by: now, or that before which cues are left out
+abbrev pub least_of : Setting → ℕ
+least_of setting = unwrap_or setting.skip setting.now
+
 abbrev pub has_gone : Setting → ℕ → Bool
-has_gone setting moment = nat_lt moment (moment_at setting.now)
+has_gone setting moment = nat_lt moment (moment_at (least_of setting))
 
 abbrev pub gone_fault : Setting → ℕ → Option Fault
 gone_fault setting moment =
-    if has_gone setting moment && not setting.skip then Some (Gone setting.now) else None
+    if has_gone setting moment && is_none setting.skip then Some (Gone setting.now) else None
 
 abbrev pub or_fault : Option Fault → Option Fault → Option Fault
 or_fault (Some fault) other = Some fault
@@ -198,7 +204,8 @@ settled setting draft number line moment (Ok message) =
 abbrev pub after_said : Setting → Draft → ℕ → List ℕ → Result Said WordFault → Draft
 after_said setting draft number line (Err wrong) = with_wrong draft number line wrong
 after_said setting draft number line (Ok Nothing) = draft
-after_said setting draft number line (Ok (Counted tempo)) = record draft { tempo = Some tempo }
+after_said setting draft number line (Ok (Counted tempo)) =
+    record draft { tempo = Some tempo; first = Some (unwrap_or draft.first tempo) }
 after_said setting draft number line (Ok (Cued moment message)) =
     settled setting (record draft { before = Some moment }) number line moment message
 
@@ -220,22 +227,23 @@ unread =
     record {
       before = None;
       tempo = None;
+      first = None;
       last = 0;
       room = ROOM;
       cues = [];
       wrong = [];
     }
 
--- the cues, or all wrong lines
-abbrev pub outcome : List Cue → List WrongLine → Result (List Cue) SheetError
-outcome cues [] = Ok cues
-outcome cues (line ∷ lines) = Err (Lines (line ∷ lines))
+-- the sheet, or all wrong lines
+abbrev pub outcome : Plan → List WrongLine → Result Plan SheetError
+outcome plan [] = Ok plan
+outcome plan (line ∷ lines) = Err (Lines (line ∷ lines))
 
-abbrev pub outcome_of : Draft → Result (List Cue) SheetError
-outcome_of draft = outcome draft.cues draft.wrong
+abbrev pub outcome_of : Draft → Result Plan SheetError
+outcome_of draft = outcome (record { cues = draft.cues; tempo = draft.first }) draft.wrong
 
--- the cues of a sheet, or why it isn't read
-abbrev pub sheet_of : List (List ℕ) → Setting → List ℕ → Result (List Cue) SheetError
+-- the cues of a sheet and its first tempo, or why it isn't read
+abbrev pub sheet_of : List (List ℕ) → Setting → List ℕ → Result Plan SheetError
 sheet_of methods setting bytes =
     if nat_lt MAX_SHEET (length bytes) then Err TooLong
     else outcome_of (read_from methods setting 1 unread (lines_of bytes))
@@ -244,8 +252,9 @@ sheet_of methods setting bytes =
 pub record IsReading (draft : Draft) : Type 0 where
   pub before : IfSome draft.before IsMoment
   pub tempo : IfSome draft.tempo IsTempo
+  pub first : IfSome draft.first IsTempo
 
 abbrev pub IsSaid : Said → Type 0
 IsSaid Nothing = Unit {0}
 IsSaid (Counted tempo) = IsTempo tempo
-IsSaid (Cued moment message) = IsMoment moment
+IsSaid (Cued moment message) = IsMoment moment × IfOk message IsSpelled

@@ -26,6 +26,7 @@ use Rattle.osc_cues.specs.declared.advice.Cite.{Cite}
 use Rattle.osc_cues.specs.declared.advice.Cite.TheVariants.{Nothing, Rest, Ten, Char, Letter}
 use Rattle.osc_cues.specs.declared.advice.Cite.TheVariants.{Pointed}
 use Rattle.osc_cues.specs.Words.{is_blank, begins_char}
+use Rattle.osc_cues.specs.Guesses.{nearest}
 
 -- Times.
 
@@ -198,12 +199,19 @@ detail ahead LargeFloat line at = map shown (word_from line at)
 detail ahead NotArgument line at = map shown (word_from line at)
 detail ahead _ line at = []
 
--- what is told of an address that no method answers
-abbrev pub no_method : List ℕ → List ℕ
-no_method word =
+abbrev pub meant_text : List ℕ → List ℕ
+meant_text name = codes "; did you mean " ++ name ++ codes "?"
+
+abbrev pub guess_text : Option (List ℕ) → List ℕ
+guess_text None = []
+guess_text (Some name) = meant_text name
+
+-- what is told of an address that none of these methods answers
+abbrev pub no_method : List (List ℕ) → List ℕ → List ℕ
+no_method methods word =
     if list_any is_pattern_byte word
     then codes "the patch has no method that " ++ map shown word ++ codes " matches"
-    else codes "the patch has no method " ++ map shown word
+    else codes "the patch has no method " ++ map shown word ++ guess_text (nearest word methods)
 
 abbrev pub plain_message : ℤ → Fault → List ℕ → ℕ → List ℕ
 plain_message ahead fault line at =
@@ -211,9 +219,9 @@ plain_message ahead fault line at =
     ++ end fault
 
 -- what is wrong with a line
-abbrev pub message_text : ℤ → Fault → List ℕ → ℕ → List ℕ
-message_text ahead NoMethod line at = no_method (word_from line at)
-message_text ahead fault line at = plain_message ahead fault line at
+abbrev pub message_text : ℤ → List (List ℕ) → Fault → List ℕ → ℕ → List ℕ
+message_text ahead methods NoMethod line at = no_method methods (word_from line at)
+message_text ahead methods fault line at = plain_message ahead fault line at
 
 -- `line 24, column 17: `
 abbrev pub heading : ℕ → ℕ → List ℕ
@@ -229,8 +237,8 @@ abbrev pub caret : ℕ → List ℕ
 caret column = replicate (column - 1) 32 ++ codes "^\n"
 
 -- three lines: the place and what is wrong, the line, and a caret below the fault; by a clock that
--- is so many seconds ahead of UTC
-abbrev pub wrong_text : ℤ → WrongLine → List ℕ
-wrong_text ahead wrong =
-    heading wrong.line wrong.column ++ message_text ahead wrong.fault wrong.text wrong.at
+-- is so many seconds ahead of UTC, where a patch has these methods
+abbrev pub wrong_text : ℤ → List (List ℕ) → WrongLine → List ℕ
+wrong_text ahead methods wrong =
+    heading wrong.line wrong.column ++ message_text ahead methods wrong.fault wrong.text wrong.at
     ++ line_text wrong.text ++ caret wrong.column

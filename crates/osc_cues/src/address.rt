@@ -1,8 +1,8 @@
 // Reads the address of a cue.
 ghost use Rattle.osc_pattern.specs.declared.limits.TheConstants.{MAX_PATTERN};
-ghost use Rattle.std.specs.Prelude.{◌≡◌, ◌≤◌, ◌<◌, position, length};
+ghost use Rattle.std.specs.Prelude.{◌≡◌, ◌≤◌, ◌<◌, position, length, IsTrue, IfOk};
 ghost use Rattle.std.specs.List.{list_any};
-ghost use Rattle.osc_pattern.specs.Patterns.{matches, begins_with_slash};
+ghost use Rattle.osc_pattern.specs.Patterns.{matches, begins_with_slash, is_pattern};
 ghost use Rattle.osc_cues.specs.Cues;
 ghost use Rattle.osc_cues.specs.Faults.{made};
 ghost use Rattle.osc_cues.specs.Cues.{address_read};
@@ -164,7 +164,8 @@ fn is_answered(methods: &[Address], word: &[u8]) -> bool
 /// The word, if it is an address or a pattern that a method answers.
 pub(crate) fn read_address<'a>(methods: &[Address], word: &'a [u8]) -> Result<&'a [u8], WordFault>
     requires { length word.now ≤ MAX_PATTERN }
-    ensures { made (λ address. address.now) result ≡ address_read methods.now word.now }
+    ensures value { made (λ address. address.now) result ≡ address_read methods.now word.now }
+    ensures pattern { IfOk result (λ address. IsTrue (is_pattern address.now)) }
 {
     if let Some(fault) = address_fault(word) {
         return Err(fault);

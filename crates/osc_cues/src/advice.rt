@@ -6,12 +6,15 @@ ghost use Rattle.std.specs.Fmt.{decimal};
 ghost use Rattle.osc_cues.specs.Words.{is_blank, begins_char};
 ghost use Rattle.osc_cues.specs.Texts;
 ghost use Rattle.osc_cues.specs.Texts.{day_time, clock_text, cited, detail, no_method};
-ghost use Rattle.osc_cues.specs.Texts.{plain_message, message_text};
+ghost use Rattle.osc_cues.specs.Texts.{plain_message, message_text, guess_text, meant_text};
+ghost use Rattle.std.specs.Prelude.{option_map};
 
 use crate::fault::Fault;
+use crate::guess::nearest;
 use crate::scan::front;
 use itoa::Buffer;
 use jiff_core::Offset;
+use osc_pattern::Address;
 use std::alloc::{AllocError, Global};
 
 /// What is cited of a line.
@@ -340,17 +343,41 @@ fn is_pattern(word: &[u8]) -> bool
     word.iter().any(|byte| b"?*[]{}".contains(byte))
 }
 
-/// Adds what is told of an address that no method answers.
-fn add_no_method(out: &mut Vec<u8>, word: &[u8]) -> Result<(), AllocError>
-    ensures { OnOk result (out.new.items ≡ out.old.items ++ no_method word.now) }
+/// Adds a name that may have been meant.
+fn add_meant(out: &mut Vec<u8>, name: &[u8]) -> Result<(), AllocError>
+    ensures { OnOk result (out.new.items ≡ out.old.items ++ meant_text name.now) }
+{
+    add(out, b"; did you mean ")?;
+    add(out, name)?;
+    add(out, b"?")
+}
+
+/// Adds the name that may have been meant, if there is one.
+fn add_guess(out: &mut Vec<u8>, guess: Option<&[u8]>) -> Result<(), AllocError>
+    ensures { OnOk result (out.new.items
+        ≡ out.old.items ++ guess_text (option_map (λ name. name.now) guess.entry)) }
+{
+    match guess {
+        None => Ok(()),
+        Some(name) => add_meant(out, name),
+    }
+}
+
+/// Adds what is told of an address that none of these methods answers.
+#[tactic(auto, using(crate::proofs::Rows::three))]
+fn add_no_method(out: &mut Vec<u8>, methods: &[Address], word: &[u8]) -> Result<(), AllocError>
+    ensures { OnOk result (out.new.items ≡ out.old.items ++ no_method methods.now word.now) }
 {
     if is_pattern(word) {
         add(out, b"the patch has no method that ")?;
         add_shown(out, word)?;
         return add(out, b" matches");
     }
+    let alloc: Global = *out.allocator();
+    let guess = nearest(alloc, word, methods)?;
     add(out, b"the patch has no method ")?;
-    add_shown(out, word)
+    add_shown(out, word)?;
+    add_guess(out, guess)
 }
 
 #[tactic(auto, using(crate::proofs::Rows::five))]
@@ -375,15 +402,16 @@ fn add_plain(
 pub(crate) fn add_message(
     out: &mut Vec<u8>,
     offset: Offset,
+    methods: &[Address],
     fault: Fault,
     line: &[u8],
     at: usize,
 ) -> Result<(), AllocError>
-    ensures { OnOk result
-        (out.new.items ≡ out.old.items ++ message_text offset.seconds fault line.now at) }
+    ensures { OnOk result (out.new.items
+        ≡ out.old.items ++ message_text offset.seconds methods.now fault line.now at) }
 {
     match fault {
-        Fault::NoMethod => add_no_method(out, word_from(line, at)),
+        Fault::NoMethod => add_no_method(out, methods, word_from(line, at)),
         _ => add_plain(out, offset, fault, line, at),
     }
 }

@@ -1,11 +1,11 @@
 // Reads a sheet line by line.
+use crate::cue::{Cue, Cues};
 use crate::fault::{Fault, WordError, WordFault};
 use crate::limits::ROOM;
 use crate::moment::tag_of;
 use crate::said::{Said, has_gone, read_line};
 use crate::scan::column_of;
 use crate::setting::{Setting, Tempo};
-use crate::sheet::{Cue, Sheet};
 use crate::wrong_line::{WrongLine, WrongLines};
 use osc_atoms::Bytes;
 use osc_pattern::Address;
@@ -17,11 +17,13 @@ pub(crate) struct Draft {
     /// The moment of the last line that has one.
     pub(crate) before: Option<u128>,
     pub(crate) tempo: Option<Tempo>,
+    /// The first that there was.
+    pub(crate) first: Option<Tempo>,
     /// The time tag of the last cue, or 0.
     pub(crate) last: u64,
     /// How many bytes the cues of that time tag may still have, each with the four of its size.
     pub(crate) room: usize,
-    pub(crate) cues: Sheet,
+    pub(crate) cues: Cues,
     pub(crate) wrong: WrongLines,
 }
 
@@ -31,16 +33,20 @@ impl Draft {
     ghost use Rattle.osc_cues.specs.Sheets.{unread, after_line, after_said, settled, entered};
     ghost use Rattle.osc_cues.specs.Sheets.{with_wrong, with_cue, IsReading, IsSaid};
     ghost use Rattle.osc_cues.specs.Sheets.{room_at as room_in};
+    ghost use Rattle.osc_cues.specs.Order.{IsSound};
 
+    #[tactic(auto, using(crate::proofs::Orders::unread_on))]
     pub(crate) fn new(alloc: Global) -> Draft
-        ensures { result ≡ unread }
+        ensures value { result ≡ unread }
+        ensures sound { IsSound result }
     {
         Draft {
             before: None,
             tempo: None,
+            first: None,
             last: 0,
             room: ROOM,
-            cues: Sheet::new(alloc),
+            cues: Cues::new(alloc),
             wrong: WrongLines::new(alloc),
         }
     }
@@ -55,10 +61,12 @@ impl Draft {
         line: &[u8],
     ) -> Result<(), AllocError>
         requires reading { IsReading self.old }
+        requires sound { IsSound self.old }
         requires short { length line.now ≤ MAX_SHEET }
         ensures line { OnOk result
             (self.new ≡ after_line methods.now setting self.old number line.now) }
         ensures reading { OnOk result (IsReading self.new) }
+        ensures sound { OnOk result (IsSound self.new) }
     {
         match read_line(alloc, methods, setting, &*self, line) {
             Ok(said) => self.accept(alloc, setting, number, line, said),
@@ -86,6 +94,7 @@ impl Draft {
             Said::Nothing => Ok(()),
             Said::Counted(tempo) => {
                 self.tempo = Some(tempo);
+                self.first = Some(self.first.unwrap_or(tempo));
                 Ok(())
             }
             Said::Cued(moment, message) => {

@@ -2,7 +2,7 @@
 use std::alloc::AllocError;
 
 /// What is wrong with a line.
-#[derive(Clone, Copy, Debug, PartialEq, Eq)]
+#[derive(Clone, Copy, PartialEq)]
 pub enum Fault {
     /// A word that is neither a number nor any other argument.
     NotArgument,
@@ -94,7 +94,7 @@ pub enum Fault {
 }
 
 /// What is wrong with a word, and where in it.
-#[derive(Clone, Copy, Debug, PartialEq, Eq)]
+#[derive(Clone, Copy)]
 pub struct WordFault {
     /// The place of the byte, counted from the word's first.
     pub at: usize,
@@ -102,7 +102,7 @@ pub struct WordFault {
 }
 
 /// Why a word isn't read.
-#[derive(Clone, Copy, Debug, PartialEq, Eq)]
+#[derive(Clone, Copy)]
 pub enum WordError {
     NoMemory,
     Wrong(WordFault),

@@ -2,6 +2,9 @@
 ghost use Rattle.osc_pattern.specs.declared.limits.TheConstants.{MAX_PATTERN};
 ghost use Rattle.osc_cues.specs.declared.limits.TheConstants.{MAX_SHEET};
 ghost use Rattle.std.specs.Prelude.{◌≡◌, ◌≤◌, ◌++◌, ◌∷◌, [], length, IfOk, OnOk, replicate};
+ghost use Rattle.std.specs.Prelude.{IsTrue};
+ghost use Rattle.osc_pattern.specs.Patterns.{is_pattern};
+ghost use Rattle.osc_packet.specs.Bundling.{IsSpelled};
 ghost use Rattle.osc_atoms.specs.Atoms.{string};
 ghost use Rattle.osc_cues.specs.Cues;
 ghost use Rattle.osc_cues.specs.Cues.{moved, argument_at, arguments_at, message_at, words_say};
@@ -105,8 +108,10 @@ fn read_message(
     spans: &[Span],
     address: &[u8],
 ) -> Result<Bytes, WordError>
-    requires { length line.now ≤ MAX_SHEET }
-    ensures { Says result (message_at line.now spans.now address.now) }
+    requires short { length line.now ≤ MAX_SHEET }
+    requires pattern { IsTrue (is_pattern address.now) }
+    ensures says { Says result (message_at line.now spans.now address.now) }
+    ensures message { IfOk result IsSpelled }
 {
     let mut tags = Vec::from_slice(alloc, b",")?;
     let mut atoms = Vec::new(alloc);
@@ -122,8 +127,9 @@ fn read_message(
 /// The address of a word of a line.
 fn address_at<'a>(methods: &[Address], line: &'a [u8], span: Span) -> Result<&'a [u8], WordFault>
     requires { length line.now ≤ MAX_SHEET }
-    ensures { made (λ address. address.now) result
+    ensures value { made (λ address. address.now) result
         ≡ moved span.from (address_read methods.now (Words.word_at line.now span)) }
+    ensures pattern { IfOk result (λ address. IsTrue (is_pattern address.now)) }
 {
     match read_address(methods, word_at(line, span)) {
         Ok(address) => Ok(address),
@@ -139,7 +145,8 @@ pub(crate) fn read_words(
     spans: &[Span],
 ) -> Result<Bytes, WordError>
     requires { length line.now ≤ MAX_SHEET }
-    ensures { Says result (words_say methods.now line.now spans.now) }
+    ensures says { Says result (words_say methods.now line.now spans.now) }
+    ensures message { IfOk result IsSpelled }
 {
     match spans {
         [] => Err(WordError::Wrong(WordFault {

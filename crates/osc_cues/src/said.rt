@@ -8,6 +8,7 @@ ghost use Rattle.osc_cues.specs.Sheets;
 ghost use Rattle.osc_cues.specs.Sheets.{spans_say, line_says, time_fault};
 ghost use Rattle.osc_cues.specs.Sheets.{IsReading, IsSaid};
 ghost use Rattle.osc_cues.specs.Answers.{Says};
+ghost use Rattle.osc_packet.specs.Bundling.{IsSpelled};
 
 use crate::draft::Draft;
 use crate::fault::{Fault, WordError, WordFault};
@@ -51,7 +52,7 @@ fn order_fault(before: Option<u128>, moment: u128) -> Option<Fault>
 pub(crate) fn has_gone(setting: Setting, moment: u128) -> bool
     ensures { result ≡ Sheets.has_gone setting moment }
 {
-    moment < moment_of_tag(setting.now)
+    moment < moment_of_tag(setting.skip.unwrap_or(setting.now))
 }
 
 /// What is wrong with a moment.
@@ -62,7 +63,7 @@ fn time_fault(setting: Setting, before: Option<u128>, moment: u128) -> Option<Fa
     if let Some(fault) = order_fault(before, moment) {
         return Some(fault);
     }
-    if has_gone(setting, moment) && !setting.skip {
+    if has_gone(setting, moment) && setting.skip.is_none() {
         Some(Fault::Gone(setting.now))
     } else {
         None
@@ -79,7 +80,8 @@ fn message_unless(
     spans: &[Span],
 ) -> Result<Bytes, WordError>
     requires { length line.now ≤ MAX_SHEET }
-    ensures { Says result (Sheets.message_unless wrong methods.now line.now first spans.now) }
+    ensures says { Says result (Sheets.message_unless wrong methods.now line.now first spans.now) }
+    ensures message { IfOk result IsSpelled }
 {
     match wrong {
         Some(fault) => Err(WordError::Wrong(WordFault {
@@ -92,7 +94,8 @@ fn message_unless(
 
 /// A moment, and what was read of its message.
 fn cued(moment: u128, message: Result<Bytes, WordError>) -> Result<Said, WordError>
-    requires { IsMoment moment }
+    requires moment { IsMoment moment }
+    requires message { IfOk message IsSpelled }
     ensures says { (read : Result (List ℕ) WordFault) → Says message read
         → Says result (Ok (Said.Cued moment read)) }
     ensures said { IfOk result IsSaid }

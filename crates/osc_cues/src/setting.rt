@@ -11,8 +11,9 @@ pub struct Setting {
     pub date: Date,
     /// How far the clock on the wall is ahead of UTC.
     pub offset: Offset,
-    /// Whether cues are left out that have gone by; else they are wrong.
-    pub skip: bool,
+    /// The time tag before whose moment cues are left out. Without one, cues that have gone by are
+    /// wrong.
+    pub skip: Option<u64>,
 }
 
 /// How bars and beats are counted.

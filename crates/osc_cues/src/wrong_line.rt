@@ -3,6 +3,7 @@ use crate::advice::{add_caret, add_heading, add_line, add_message};
 use crate::fault::Fault;
 use jiff_core::Offset;
 use osc_atoms::Bytes;
+use osc_pattern::Address;
 use std::alloc::{AllocError, Global};
 use std::marker::Model;
 
@@ -26,24 +27,36 @@ impl WrongLine {
     ghost use Rattle.osc_cues.specs.Texts.{wrong_text};
 
     /// Adds three lines: the place and what is wrong, the line itself, and a caret below the
-    /// fault. Times are those of a clock at this offset from UTC. An `Err` means out of memory,
-    /// which may leave a part of the text.
+    /// fault. Times are those of a clock at this offset from UTC. Where no method answers an
+    /// address, the nearest of these is named. An `Err` means out of memory, which may leave a part
+    /// of the text.
     #[tactic(auto, using(crate::proofs::Rows::four))]
-    pub fn add_text(&self, text: &mut Vec<u8>, offset: Offset) -> Result<(), AllocError>
-        ensures { OnOk result
-            (text.new.items ≡ text.old.items ++ wrong_text offset.seconds self.now) }
+    pub fn add_text(
+        &self,
+        text: &mut Vec<u8>,
+        offset: Offset,
+        methods: &[Address],
+    ) -> Result<(), AllocError>
+        ensures { OnOk result (text.new.items
+            ≡ text.old.items ++ wrong_text offset.seconds methods.now self.now) }
     {
+        let line = self.text.as_slice();
         add_heading(text, self.line, self.column)?;
-        add_message(text, offset, self.fault, self.text.as_slice(), self.at)?;
-        add_line(text, self.text.as_slice())?;
+        add_message(text, offset, methods, self.fault, line, self.at)?;
+        add_line(text, line)?;
         add_caret(text, self.column)
     }
 }
 
 /// Wrong lines, in the order of the sheet. A contract sees the list.
-#[derive(Drop)]
 pub struct WrongLines {
     items: Vec<WrongLine>,
+}
+
+impl Drop for WrongLines {
+    fn drop(self) {
+        let WrongLines { items: _ } = self;
+    }
 }
 
 impl Model for WrongLines {

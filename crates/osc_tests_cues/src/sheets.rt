@@ -41,11 +41,16 @@ const CUES: [(u64, &[u8]); 6] = [
     ),
     (
         0xeeb702c000000000,
-        b"/light/*\x00\x00\x00\x00,ihdfccrmt\x00\x00\xff\xff\xff\xf9\xff\xff\xff\xff\xff\xff\xff\xf9?\xb9\x99\x99\x99\x99\x99\x9a\x7f\xc0\x00\x00\x00\x00\x00A\x00\x00\x00\x01\xff\x88\x00\xff\x00\x90<\x7f\x00\x00\x00\x00\x00\x00\x00\x01",
+        b"/light/*\x00\x00\x00\x00,ihdfccrmt\x00\x00\xff\xff\xff\xf9\
+            \xff\xff\xff\xff\xff\xff\xff\xf9?\xb9\x99\x99\x99\x99\x99\x9a\
+            \x7f\xc0\x00\x00\x00\x00\x00A\x00\x00\x00\x01\xff\x88\x00\xff\
+            \x00\x90<\x7f\x00\x00\x00\x00\x00\x00\x00\x01",
     ),
     (
         0xeeb702c080000000,
-        b"/cue/name\x00\x00\x00,ssSbbTFNI[f]\x00\x00\x00act \x22two\x22 \x7f\x5c\x00\x00\x00\x00a b\x00x\x00\x00\x00\x00\x00\x00\x02\x01\x02\x00\x00\x00\x00\x00\x00:\x83\x12o",
+        b"/cue/name\x00\x00\x00,ssSbbTFNI[f]\x00\x00\x00act \x22two\x22 \x7f\x5c\
+            \x00\x00\x00\x00a b\x00x\x00\x00\x00\x00\x00\x00\x02\x01\x02\
+            \x00\x00\x00\x00\x00\x00:\x83\x12o",
     ),
     (
         0xeeb709c800000000,
@@ -158,22 +163,21 @@ fn methods(alloc: Global) -> Result<Vec<Address>, Fail> {
     Ok(methods)
 }
 
-fn read(alloc: Global, bytes: &[u8]) -> Result<Result<Sheet, SheetError>, Fail> {
-    let methods = methods(alloc)?;
+fn setting(skip: Option<u64>) -> Result<Setting, Fail> {
     match Date::new(2026, 11, 29) {
-        Ok(date) => Ok(Sheet::read(
-            alloc,
-            bytes,
-            &methods,
-            Setting {
-                now: NOW,
-                date,
-                offset: Offset::UTC,
-                skip: false,
-            },
-        )),
+        Ok(date) => Ok(Setting {
+            now: NOW,
+            date,
+            offset: Offset::UTC,
+            skip,
+        }),
         Err(_) => Err("the day is none".into()),
     }
+}
+
+fn read(alloc: Global, bytes: &[u8]) -> Result<Result<Sheet, SheetError>, Fail> {
+    let methods = methods(alloc)?;
+    Ok(Sheet::read(alloc, bytes, &methods, setting(None)?))
 }
 
 #[test]
@@ -236,7 +240,8 @@ line 6, column 1: 2037-01-01T20:00 is past 2036-02-07T06:28:15Z, where time tags
 line 7, column 1: 18:00 has gone by: it is 19:58:00.000; --skip leaves out what has gone by
     18:00 /light/front 1.0
     ^
-line 8, column 1: 1|1 is a bar and a beat, and no line `tempo 96 in 4 from 20:00:00` stands before it
+line 8, column 1: 1|1 is a bar and a beat, and no line `tempo 96 in 4 from 20:00:00` stands \
+before it
     1|1 /drums/hit \"kick\" 110
     ^
 line 9, column 7: a tempo is written as in: tempo 96 in 4 from 20:00:00
@@ -263,13 +268,13 @@ line 18, column 4: light/front is no address: an address begins with a slash
 line 19, column 10: a slash has no name behind it
     +0 /light//front 1.0
              ^
-line 20, column 4: the patch has no method /light/front,
+line 20, column 4: the patch has no method /light/front,; did you mean /light/front?
     +0 /light/front, 1.0
        ^
 line 21, column 11: [ isn't closed before the next slash
     +0 /light/[ab 1.0
               ^
-line 22, column 4: the patch has no method /ligth/front
+line 22, column 4: the patch has no method /ligth/front; did you mean /light/front?
     +0 /ligth/front 1.0
        ^
 line 23, column 4: the patch has no method that /light/*/x matches
@@ -335,11 +340,151 @@ line 42, column 1: now is before the line before, which is at 20:00:06.100
 fn a_wrong_line_is_told_in_three_lines(rt: HostRuntime) -> Result<(), Fail> {
     match read(rt.alloc(), WRONG)? {
         Err(SheetError::Lines(lines)) => {
+            let methods = methods(rt.alloc())?;
             let mut text = Vec::new(rt.alloc());
             for line in lines.as_slice() {
-                line.add_text(&mut text, Offset::UTC)?;
+                line.add_text(&mut text, Offset::UTC, &methods)?;
             }
             assert!(rt; text.as_slice() == TOLD);
+            Ok(())
+        }
+        _ => Err("the sheet is read".into()),
+    }
+}
+
+/// A sheet whose lines share moments.
+const SHARED: &[u8] = b"20:00 /light/front 1.0
++0 /cue/name \"go\"
+20:00:01 /light/* 0.0
++0.5 /cue/name \"end\"
++0 /light/back 0.5
+20:00:01.5 /bass/note 36
+";
+
+/// The time tag and the bytes of each of its bundles, as another program made them.
+const BUNDLES: [(u64, &[u8]); 3] = [
+    (
+        0xeeb702c000000000,
+        b"#bundle\x00\xee\xb7\x02\xc0\x00\x00\x00\x00\
+            \x00\x00\x00\x18/light/front\x00\x00\x00\x00,f\x00\x00?\x80\x00\x00\
+            \x00\x00\x00\x14/cue/name\x00\x00\x00,s\x00\x00go\x00\x00",
+    ),
+    (
+        0xeeb702c100000000,
+        b"#bundle\x00\xee\xb7\x02\xc1\x00\x00\x00\x00\
+            \x00\x00\x00\x14/light/*\x00\x00\x00\x00,f\x00\x00\x00\x00\x00\x00",
+    ),
+    (
+        0xeeb702c180000000,
+        b"#bundle\x00\xee\xb7\x02\xc1\x80\x00\x00\x00\
+            \x00\x00\x00\x14/cue/name\x00\x00\x00,s\x00\x00end\x00\
+            \x00\x00\x00\x14/light/back\x00,f\x00\x00?\x00\x00\x00\
+            \x00\x00\x00\x14/bass/note\x00\x00,i\x00\x00\x00\x00\x00$",
+    ),
+];
+
+#[test]
+fn the_cues_of_a_moment_are_one_bundle(rt: HostRuntime) -> Result<(), Fail> {
+    match read(rt.alloc(), SHARED)? {
+        Ok(sheet) => {
+            let bundles = sheet.bundles(rt.alloc())?;
+            assert!(rt; bundles.len() == BUNDLES.len());
+            for (place, row) in BUNDLES.iter().enumerate() {
+                match bundles.get(place) {
+                    Some(bundle) => {
+                        assert!(rt; bundle.tag == row.0);
+                        assert!(rt; bundle.packet.as_slice() == row.1);
+                    }
+                    None => return Err("a bundle is missing".into()),
+                }
+            }
+            Ok(())
+        }
+        Err(_) => Err("the sheet isn't read".into()),
+    }
+}
+
+/// Moments to play from, and their time tags.
+const STARTS: [(&[u8], u64); 5] = [
+    (b"20:00", 0xeeb702c000000000),
+    (b"20:00:00.5", 0xeeb702c080000000),
+    (b"2026-11-29T21:30+01:00", 0xeeb709c800000000),
+    (b"2|2.5", 0xeeb710d266666666),
+    (b"1|1", 0xeeb710d000000000),
+];
+
+#[test]
+fn a_show_starts_at_a_time_or_at_a_beat(rt: HostRuntime) -> Result<(), Fail> {
+    match read(rt.alloc(), SHEET)? {
+        Ok(sheet) => {
+            for row in STARTS.iter() {
+                match sheet.start(setting(None)?, row.0) {
+                    Ok(tag) => assert!(rt; tag == row.1),
+                    Err(_) => return Err("no moment".into()),
+                }
+            }
+            assert!(rt; sheet.start(setting(None)?, b"2|4").is_err());
+            assert!(rt; sheet.start(setting(None)?, b"soon").is_err());
+            Ok(())
+        }
+        Err(_) => Err("the sheet isn't read".into()),
+    }
+}
+
+#[test]
+fn bars_need_a_tempo(rt: HostRuntime) -> Result<(), Fail> {
+    match read(rt.alloc(), SHARED)? {
+        Ok(sheet) => {
+            match sheet.start(setting(None)?, b"1|1") {
+                Err(fault) => assert!(rt; fault == Fault::NoTempo),
+                Ok(_) => return Err("a bar without a tempo".into()),
+            }
+            Ok(())
+        }
+        Err(_) => Err("the sheet isn't read".into()),
+    }
+}
+
+/// Addresses that no method answers, and what is told of them.
+const MISSPELT: &[u8] = b"+0 /kue/name 1
++0 /bass/notes 1
++0 /light/bank 1
++0 /light/dim 1
++0 /light/hise 1
++0 /light 1
+";
+
+/// The nearest is within a third of the length; of those as near the first by its bytes.
+const MEANT: &[u8] = b"line 1, column 4: the patch has no method /kue/name; did you mean /cue/name?
+    +0 /kue/name 1
+       ^
+line 2, column 4: the patch has no method /bass/notes; did you mean /bass/note?
+    +0 /bass/notes 1
+       ^
+line 3, column 4: the patch has no method /light/bank; did you mean /light/back?
+    +0 /light/bank 1
+       ^
+line 4, column 4: the patch has no method /light/dim; did you mean /light/side?
+    +0 /light/dim 1
+       ^
+line 5, column 4: the patch has no method /light/hise; did you mean /light/house?
+    +0 /light/hise 1
+       ^
+line 6, column 4: the patch has no method /light
+    +0 /light 1
+       ^
+";
+
+#[test]
+fn the_nearest_name_is_told(rt: HostRuntime) -> Result<(), Fail> {
+    match read(rt.alloc(), MISSPELT)? {
+        Err(SheetError::Lines(lines)) => {
+            let methods = methods(rt.alloc())?;
+            let mut text = Vec::new(rt.alloc());
+            for line in lines.as_slice() {
+                line.add_text(&mut text, Offset::UTC, &methods)?;
+            }
+            assert!(rt; text.as_slice() == MEANT);
             Ok(())
         }
         _ => Err("the sheet is read".into()),

@@ -67,8 +67,8 @@ fn read_more(source: &mut FileSource, bytes: &mut Vec<u8>) -> Result<bool, Alloc
     Ok(true)
 }
 
-/// Shows the entries up to and with the last tick or release, and keeps the bytes after them. Answers
-/// whether they are those of a server.
+/// Shows the entries up to and with the last tick or release, and keeps the bytes after them.
+/// Answers whether they are those of a server.
 fn show_more(
     rt: &HostRuntime,
     showing: &Showing,
@@ -91,7 +91,7 @@ fn show_more(
         None => reporter_of(rt, showing, ticks),
     };
     let end = ticks.end.max(header).min(bytes.len());
-    let are_shown = show_all(page, &mut reporter, &bytes[..end])?;
+    let are_shown = show_all(page, &mut reporter, &bytes[..end], &mut None)?;
     bytes.drain(header..end);
     *slot = Some(reporter);
     Ok(are_shown)
@@ -106,8 +106,8 @@ fn reporter_of(rt: &HostRuntime, showing: &Showing, ticks: Ticks) -> Reporter {
     Reporter::open(rt.alloc(), options, ticks.late)
 }
 
-/// What becomes of late units, the first moment that bytes hand the clock, and where their last tick
-/// or release ends.
+/// What becomes of late units, the first moment that bytes hand the clock, and where their last
+/// tick or release ends.
 #[derive(Clone, Copy)]
 struct Ticks {
     late: Late,

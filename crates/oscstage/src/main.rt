@@ -5,6 +5,7 @@
 ghost use Rattle.std.specs.Prelude.{◌≡◌, length, IfOk};
 
 mod bank;
+mod bundle;
 mod carry;
 mod chain;
 mod cues;
@@ -12,23 +13,29 @@ mod follower;
 mod input;
 mod links;
 mod losses;
+mod moment;
 mod parts;
 mod patch;
+mod playback;
+mod prompt;
 mod recording;
 mod report;
+mod score;
 mod show;
 mod view;
+mod window;
 mod words;
 
 use crate::bank::open_bank;
 use crate::carry::{read_carried, write_script};
-use crate::cues::check_cues;
+use crate::cues::play_cues;
 use crate::follower::follow;
 use crate::links::Links;
+use crate::moment::print_moment;
 use crate::parts::{is_size, is_there, least_size};
 use crate::patch::read_patch;
 use crate::recording::show_recording;
-use crate::report::{report_help, report_routes, report_size, report_usage};
+use crate::report::{report_help, report_routes, report_size, report_there, report_usage};
 use crate::show::{Begin, play};
 use crate::words::{Said, Serving, read_words};
 use osc_edge::command_words;
@@ -57,7 +64,8 @@ fn run<W: Threads + Wait + Sync>(rt: &HostRuntime, threads: &W) -> Result<u8, Al
             Ok(USAGE)
         }
         Said::Carry(file) => write_script(rt, &file),
-        Said::Check(checking) => check_cues(rt, &checking),
+        Said::Play(playing) => play_cues(rt, threads, &playing),
+        Said::Moment(word) => print_moment(rt, &word),
         Said::Show(showing) if showing.follow => follow(rt, threads, &showing),
         Said::Show(showing) => show_recording(rt, &showing),
         Said::Serve(serving) => serve(rt, threads, &serving),
@@ -72,9 +80,7 @@ fn serve<W: Threads + Wait + Sync>(
 ) -> Result<u8, AllocError> {
     let file = serving.names.file.as_str();
     if !serving.flags.force && is_there(rt, file) {
-        eprintln!(rt;
-            "oscstage: {file} is there already: name another file, or say --force to overwrite it"
-        ).ok();
+        report_there(rt, file);
         return Ok(SINK_FAILED);
     }
     if !is_size(serving) {

@@ -4,12 +4,13 @@ ghost use Rattle.osc_model.specs.Limits.{max_recording};
 
 use crate::carry::read_recording;
 use crate::follower::moment_of;
-use crate::report::{report_malformed, report_unlike};
-use crate::view::{look_at, look_of};
+use crate::report::{report_malformed, report_time, report_unlike};
+use crate::view::{look_at, zone_offset};
+use crate::window::Window;
 use crate::words::Showing;
 use jiff_core::Offset;
 use osc_edge::StdSink;
-use osc_ends::status::{DONE, REFUSED};
+use osc_ends::status::{DONE, REFUSED, USAGE};
 use osc_ends::write_text;
 use osc_record::{Entry, Late, Unread};
 use osc_replay::{ReplayFault, check};
@@ -21,7 +22,7 @@ use std::alloc::{AllocError, Global};
 const PAGE: usize = 65_536;
 
 /// How far a recording is that of a server.
-enum Judged {
+pub(crate) enum Judged {
     /// All of it.
     Whole,
     /// Up to this byte, where an entry begins that is cut.
@@ -44,7 +45,7 @@ pub(crate) fn show_recording(rt: &HostRuntime, showing: &Showing) -> Result<u8, 
 }
 
 /// Plays the recording again, and reports why it is refused, if it is.
-fn judge(rt: &HostRuntime, file: &str, recording: &[u8]) -> Result<Judged, AllocError>
+pub(crate) fn judge(rt: &HostRuntime, file: &str, recording: &[u8]) -> Result<Judged, AllocError>
     requires { length recording.now ≤ max_recording }
 {
     match check(rt.alloc(), recording) {
@@ -102,6 +103,10 @@ fn show_bytes(
         return Ok(REFUSED);
     };
     let look = look_for(rt, showing, facts.first);
+    let window = match window_for(rt, showing, facts.first) {
+        Ok(window) => window,
+        Err(status) => return Ok(status),
+    };
     let mut page = Page::open(rt);
     let size = recording.len() as u64;
     let discards = facts.late == Late::Discard;
@@ -111,23 +116,73 @@ fn show_bytes(
         ticks: showing.ticks,
     };
     let mut reporter = Reporter::open(rt.alloc(), options, facts.late);
-    if !show_all(&mut page, &mut reporter, recording)? {
+    if !show_part(&mut page, &mut reporter, recording, window)? {
         return Ok(REFUSED);
     }
-    reporter.end(&mut page.text)?;
     if let Some(at) = cut {
         cut_line(&mut page.text, look, at as u64)?;
     }
     Ok(page.close())
 }
 
-/// How lines look, in the zone of the machine at the recording's first moment, or in UTC.
-pub(crate) fn look_for(rt: &HostRuntime, showing: &Showing, first: Option<u64>) -> Look {
-    if showing.utc {
-        look_at(rt, Offset::UTC, showing.quiet)
-    } else {
-        look_of(rt, first, showing.quiet)
+/// Adds the lines of all whole entries that are in the window, if there is one, and those after
+/// them. Answers whether the reporter took all of them.
+fn show_part(
+    page: &mut Page,
+    reporter: &mut Reporter,
+    recording: &[u8],
+    mut window: Option<Window>,
+) -> Result<bool, AllocError>
+    requires { length recording.now ≤ max_recording }
+{
+    if !show_all(page, reporter, recording, &mut window)? {
+        return Ok(false);
     }
+    let mut ending = Vec::new(page.alloc());
+    reporter.end(&mut ending)?;
+    match window {
+        Some(window) => window.add_ending(&mut page.text, &ending, reporter.story().clock())?,
+        None => page.text.extend_from_slice(&ending)?,
+    }
+    Ok(true)
+}
+
+/// From when to when a recording is shown, where that is said. The `Err` is the status, where a
+/// word is no time, which is reported.
+fn window_for(
+    rt: &HostRuntime,
+    showing: &Showing,
+    first: Option<u64>,
+) -> Result<Option<Window>, u8> {
+    if showing.from.is_none() && showing.to.is_none() {
+        return Ok(None);
+    }
+    let offset = offset_for(rt, showing, first);
+    let from = showing.from.as_ref().map(|word| word.as_str());
+    let to = showing.to.as_ref().map(|word| word.as_str());
+    let look = look_for(rt, showing, first);
+    match Window::of(look, offset, first.unwrap_or(0), from, to) {
+        Ok(window) => Ok(Some(window)),
+        Err(word) => {
+            report_time(rt, word);
+            Err(USAGE)
+        }
+    }
+}
+
+/// How far a clock is ahead of UTC in the zone of the machine at the recording's first moment, or
+/// in UTC.
+fn offset_for(rt: &HostRuntime, showing: &Showing, first: Option<u64>) -> Offset {
+    if showing.utc {
+        Offset::UTC
+    } else {
+        zone_offset(rt, first).unwrap_or(Offset::UTC)
+    }
+}
+
+/// How lines look in that zone.
+pub(crate) fn look_for(rt: &HostRuntime, showing: &Showing, first: Option<u64>) -> Look {
+    look_at(rt, offset_for(rt, showing, first), showing.quiet)
 }
 
 /// Lines that are to be written, and how it went.
@@ -192,6 +247,7 @@ pub(crate) fn show_all(
     page: &mut Page,
     reporter: &mut Reporter,
     recording: &[u8],
+    window: &mut Option<Window>,
 ) -> Result<bool, AllocError>
     requires { length recording.now ≤ max_recording }
 {
@@ -200,7 +256,12 @@ pub(crate) fn show_all(
     };
     // Each stretch but the last has a byte.
     for _ in 0..=recording.len() {
-        match reporter.show(&mut page.text, &mut unread) {
+        let place = page.text.len();
+        let shown = reporter.show(&mut page.text, &mut unread);
+        if let Some(window) = window {
+            window.cut(&mut page.text, place, reporter.story().clock())?;
+        }
+        match shown {
             Ok(Shown::Stretch) => page.turn(),
             Ok(_) => return Ok(true),
             Err(ShowFault::NoMemory) => return Err(AllocError),

@@ -6,6 +6,7 @@ use jiff_core::Offset;
 use osc_carry::CarryFault;
 use osc_cues::WrongLine;
 use osc_patch::PatchError;
+use osc_pattern::Address;
 use osc_stage::Ended;
 use osc_words::Transport;
 use std::alloc::AllocError;
@@ -17,9 +18,8 @@ const MESSAGE_SIZE: u32 = 172;
 /// How many an hour of silence takes: a tick each second.
 const HOUR_SIZE: u32 = 172_800;
 
-const USAGE: &str = "usage: oscstage serve [OPTIONS] PATCH FILE, oscstage show FILE, oscstage play \
-    --check PATCH, or oscstage carry FILE; \
-    oscstage --help tells more";
+const USAGE: &str = "usage: oscstage serve [OPTIONS] PATCH FILE, play [OPTIONS] PATCH [FILE], \
+    show [OPTIONS] FILE, carry FILE, or moment WORD; oscstage --help tells more";
 
 const HELP: &str = "oscstage serve [OPTIONS] PATCH FILE
 
@@ -51,24 +51,36 @@ PATCH has a line for each method:
 Type end and Enter to end the show. Ctrl-C ends it at once, and FILE keeps all
 but the last 50 milliseconds.
 
-oscstage show [--utc] [--ticks] [--quiet] [--follow] FILE
+oscstage show [OPTIONS] FILE
 
 Prints the recording in FILE as a stage manager would note it: a line for each
 message, with what became of it.
 
+  --from TIME, --to TIME
+                    only what was from or to then, as 20:15 or 20:15:30.5
   --utc             times of UTC, and not of this machine's zone
   --ticks           lines for the clock's ticks and for new callers, too
   --quiet           show refusals alone
   --follow          show what comes while FILE grows, until Ctrl-C
 
-oscstage play --check [--skip] PATCH < SHEET
+oscstage play [OPTIONS] PATCH [FILE] < SHEET
 
-Reads a sheet of cues, and prints what would be sent and when, or all lines that
-are wrong. Nothing is sent yet. A line is MOMENT ADDRESS ARGUMENT..:
+Reads a sheet of cues, prints all lines that are wrong, and where none is sends
+each cue at its moment as PATCH says. FILE gets the recording. A line is MOMENT
+ADDRESS ARGUMENT..:
     20:00:00 /light/* 0.0           at a time of day; + 0.5 s: +0.5 /light/1 1.0
     tempo 96 in 4 from 20:00:00     then bars and beats: 5|2.5 /bass/note 36 1.5
 
+  --check           print what would be sent and when, and send nothing
+  --as-score        write the cues as a score for osc score, and send nothing
   --skip            leave out what has gone by
+  --from MOMENT     begin now with what stands at MOMENT, as 5|1 or 20:15:00
+  --force           overwrite FILE
+
+oscstage moment WORD
+
+Prints the time tag of a moment, as 2026-11-29T20:00:00+01:00, or the moment of
+a time tag of 16 digits.
 
 oscstage carry FILE
 
@@ -146,27 +158,83 @@ pub(crate) fn report_carry(rt: &HostRuntime, file: &str, fault: &CarryFault) {
     }
 }
 
-/// Reports the wrong lines of a sheet, in the times of a clock that is so far ahead of UTC.
+/// Reports the wrong lines of a sheet for these methods, in the times of a clock that is so far
+/// ahead of UTC.
 pub(crate) fn report_cues(
     rt: &HostRuntime,
     lines: &[WrongLine],
     offset: Offset,
+    methods: &[Address],
 ) -> Result<(), AllocError> {
     for line in lines {
         let mut text = Vec::new(rt.alloc());
-        line.add_text(&mut text, offset)?;
+        line.add_text(&mut text, offset, methods)?;
         let text = str::from_utf8(&text).unwrap_or("");
         eprint!(rt; "{text}").ok();
     }
     match lines.len() {
-        1 => eprintln!(rt; "1 line is wrong").ok(),
-        count => eprintln!(rt; "{count} lines are wrong").ok(),
+        1 => eprintln!(rt; "1 line is wrong; nothing was sent").ok(),
+        count => eprintln!(rt; "{count} lines are wrong; nothing was sent").ok(),
     };
     Ok(())
 }
 
 pub(crate) fn report_long_sheet(rt: &HostRuntime) {
     eprintln!(rt; "oscstage: the sheet has over 1 MiB, which is more than a sheet may have").ok();
+}
+
+/// Reports that the notes of a sheet are no score, as this line of it shows.
+pub(crate) fn report_score(rt: &HostRuntime, line: u32) {
+    eprintln!(rt;
+        "oscstage: these cues are no score, as its line {line} would show: a score has at most 1 MiB, 1,024 addresses, and 65,504 bytes at one moment"
+    ).ok();
+}
+
+/// Reports that a word is no moment at which a sheet can begin.
+pub(crate) fn report_moment(rt: &HostRuntime, word: &str) {
+    eprintln!(rt;
+        "oscstage: {word} is no moment of the sheet: write 5|1, where it has a tempo, or 20:15:00"
+    ).ok();
+}
+
+/// Reports that a word is no time.
+pub(crate) fn report_time(rt: &HostRuntime, word: &str) {
+    eprintln!(rt;
+        "oscstage: {word} is no time: write 20:00, 20:00:05.5 or 2026-11-29T20:00:00"
+    ).ok();
+}
+
+/// Reports that a file that is to be written is there already.
+pub(crate) fn report_there(rt: &HostRuntime, file: &str) {
+    eprintln!(rt;
+        "oscstage: {file} is there already: name another file, or say --force to overwrite it"
+    ).ok();
+}
+
+/// Reports how long after its moment the latest bundle was called, in a time tag's units.
+pub(crate) fn report_latest(rt: &HostRuntime, latest: u64) {
+    let micros = (u128::from(latest) * 1_000_000) >> 32;
+    let (millis, part) = (micros / 1_000, micros % 1_000);
+    eprintln!(rt;
+        "oscstage: the latest moment was called {millis}.{part:03} ms after its time"
+    ).ok();
+}
+
+/// Reports why a sheet wasn't played to its end, if it wasn't.
+pub(crate) fn report_played(rt: &HostRuntime, ended: Ended) {
+    let words = match ended {
+        Ended::Done => return,
+        Ended::RecordFull(_) => "the recording is full, and nothing more was sent",
+        Ended::ClockFailed | Ended::LinkFailed(_) => "the machine's clock failed",
+        Ended::SinkFailed =>
+            "the recording could not be written: look at its folder and the room on its disk",
+    };
+    eprintln!(rt; "oscstage: {words}").ok();
+}
+
+/// Reports how many bytes a recording has.
+pub(crate) fn report_kept(rt: &HostRuntime, file: &str, size: usize) {
+    eprintln!(rt; "oscstage: {file} has {size} bytes").ok();
 }
 
 /// Reports that a file can't be read.
@@ -256,6 +324,11 @@ pub(crate) fn report_start(rt: &HostRuntime, serving: &Serving, ports: &[u16], b
     eprintln!(rt;
         "oscstage: type end and Enter to end the show; Ctrl-C ends it at once, and {file} keeps all but the last 50 ms"
     ).ok();
+}
+
+/// Reports that standard output didn't take all lines.
+pub(crate) fn report_unprinted(rt: &HostRuntime) {
+    eprintln!(rt; "oscstage: some lines could not be printed; the recording has all of it").ok();
 }
 
 /// How a show ended, its last recording and how many bytes that has, and how many datagrams were no

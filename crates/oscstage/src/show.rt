@@ -9,7 +9,7 @@ use crate::chain::{Finish, Reel, Show, play_show};
 use crate::input::watch_input;
 use crate::losses::{LossReport, report_losses};
 use crate::parts::size_of;
-use crate::report::{ShowEnd, report_end, report_start};
+use crate::report::{ShowEnd, report_end, report_start, report_unprinted};
 use crate::view::{look_of, print_day};
 use crate::words::Serving;
 use osc_console::{
@@ -30,7 +30,7 @@ use std::sync::{Arc, Wait};
 use std::thread::{Threads, join_mut};
 
 /// How many callers a server of a stage may have: more than links.
-const CALLERS: u32 = 32;
+pub(crate) const CALLERS: u32 = 32;
 
 /// How many bytes of lines may wait to be printed.
 const RING: usize = 262_144;
@@ -209,7 +209,7 @@ fn play_printed<W: Threads + Wait + Sync, L: Link + Finish + Send + Drop, D: Cho
 {
     let mut out = StdSink::open(rt);
     let mut given = Some(show);
-    let (_, end) = join_mut(
+    let (is_whole, end) = join_mut(
         threads,
         &mut || print_while(threads, &shared.printer, rings, &mut out, report),
         &mut || -> Result<ShowEnd, AllocError>
@@ -220,6 +220,9 @@ fn play_printed<W: Threads + Wait + Sync, L: Link + Finish + Send + Drop, D: Cho
             end
         },
     );
+    if !is_whole {
+        report_unprinted(rt);
+    }
     end
 }
 
@@ -276,7 +279,7 @@ impl<'a, L: Link + Sender + Drop, W: Wait> Finish for StageLink<'a, L, W> {
 }
 
 /// The exit status of an end (docs/FORMATS.md, "Exit statuses").
-fn status_of(ended: Ended) -> u8 {
+pub(crate) fn status_of(ended: Ended) -> u8 {
     match ended {
         Ended::Done => DONE,
         Ended::SinkFailed => SINK_FAILED,

@@ -63,8 +63,9 @@ pub(crate) fn civil_date(moment: u64, offset: Offset) -> Option<Date> {
     Some(offset.to_datetime(time_of(moment)?).date)
 }
 
-/// The time that a moment is.
-fn time_of(moment: u64) -> Option<Timestamp> {
+/// The time that a moment is, to the nearest nanosecond.
+pub(crate) fn time_of(moment: u64) -> Option<Timestamp> {
     let seconds = i128::from(moment >> 32) - SECONDS_TO_1970;
-    Timestamp::from_nanosecond(seconds * 1_000_000_000).ok()
+    let part = ((moment & 0xffff_ffff) * 1_000_000_000 + (1 << 31)) >> 32;
+    Timestamp::from_nanosecond(seconds * 1_000_000_000 + i128::from(part)).ok()
 }

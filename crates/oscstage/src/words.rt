@@ -15,7 +15,9 @@ pub(crate) enum Said {
     /// A script is to be written that carries on the recording in this file.
     Carry(String),
     Show(Showing),
-    Check(Checking),
+    Play(Playing),
+    /// A moment is to be written as a time tag, or a time tag as a moment.
+    Moment(String),
     Serve(Serving),
 }
 
@@ -31,14 +33,35 @@ pub(crate) struct Showing {
     pub(crate) quiet: bool,
     /// The recording grows, and is shown until the program is stopped.
     pub(crate) follow: bool,
+    /// From when to when it is shown, where that is said.
+    pub(crate) from: Option<String>,
+    pub(crate) to: Option<String>,
 }
 
-/// Of which patch a sheet of cues is to be checked.
+/// What is done with the cues of a sheet.
+#[derive(Clone, Copy)]
+pub(crate) enum Way {
+    /// What would be sent is printed.
+    Check,
+    /// They are written as a score.
+    Score,
+    /// They are sent.
+    Send,
+}
+
+/// Which cues are to be played, and how.
 #[derive(Drop)]
-pub(crate) struct Checking {
+pub(crate) struct Playing {
+    pub(crate) way: Way,
     pub(crate) patch: String,
+    /// The file for the recording, if there is to be one.
+    pub(crate) file: Option<String>,
     /// Cues that have gone by are left out.
     pub(crate) skip: bool,
+    /// A file that is there is overwritten.
+    pub(crate) force: bool,
+    /// The moment of the sheet at which play begins, if one is said.
+    pub(crate) from: Option<String>,
 }
 
 /// What is to be served, and how.
@@ -69,12 +92,32 @@ pub(crate) struct Flags {
     pub(crate) quiet: bool,
     /// A file that is there is overwritten.
     pub(crate) force: bool,
-    pub(crate) help: bool,
 }
 
-/// Reads `carry FILE`, `show [FLAGS] FILE`, or `serve [OPTIONS] [--quiet] [--force] [--carry OLD] [--turn-over BYTES] PATCH
-/// FILE`, of which all but these flags, their words and PATCH are the words of `oscd serve`.
+/// Reads `serve ..`, `show ..`, `play ..`, `moment WORD` or `carry FILE`.
 pub(crate) fn read_words(alloc: Global, all: Vec<String>) -> Result<Said, AllocError> {
+    if all.iter().any(|word| word.as_str() == "--help") {
+        return Ok(Said::Help);
+    }
+    let command = match all.first() {
+        Some(word) => word.as_str(),
+        None => "",
+    };
+    match command {
+        "show" => showing_of(alloc, all),
+        "play" => playing_of(alloc, all),
+        "moment" => moment_word(alloc, &all),
+        "carry" => Ok(match file_name(alloc, &all)? {
+            Some(file) => Said::Carry(file),
+            None => Said::Refused,
+        }),
+        _ => serving_of(alloc, all),
+    }
+}
+
+/// Reads `serve [OPTIONS] [--quiet] [--force] [--carry OLD] [--turn-over BYTES] PATCH FILE`, of
+/// which all but these flags, their words and PATCH are the words of `oscd serve`.
+fn serving_of(alloc: Global, all: Vec<String>) -> Result<Said, AllocError> {
     let Split {
         flags,
         old,
@@ -82,21 +125,9 @@ pub(crate) fn read_words(alloc: Global, all: Vec<String>) -> Result<Said, AllocE
         mut words,
         takes,
     } = split_words(alloc, all)?;
-    if flags.help {
-        return Ok(Said::Help);
-    }
     let (Takes::Nothing, Ok(size)) = (takes, size_in(size.as_ref())) else {
         return Ok(Said::Refused);
     };
-    if let Some(showing) = showing_of(alloc, &words, flags)? {
-        return Ok(Said::Show(showing));
-    }
-    if let Some(checking) = checking_of(alloc, &words)? {
-        return Ok(Said::Check(checking));
-    }
-    if let Some(file) = carried_name(alloc, &words)? {
-        return Ok(Said::Carry(file));
-    }
     let Some(names) = split_names(alloc, &mut words, old)? else {
         return Ok(Said::Refused);
     };
@@ -156,7 +187,6 @@ fn split_words(alloc: Global, all: Vec<String>) -> Result<Split, AllocError> {
         flags: Flags {
             quiet: false,
             force: false,
-            help: false,
         },
         old: None,
         size: None,
@@ -179,7 +209,6 @@ fn take_word(split: &mut Split, word: String) -> Result<(), AllocError> {
         (Takes::Nothing, "--turn-over") => split.takes = Takes::Size,
         (Takes::Nothing, "--quiet") => split.flags.quiet = true,
         (Takes::Nothing, "--force") => split.flags.force = true,
-        (Takes::Nothing, "--help") => split.flags.help = true,
         (Takes::Nothing, _) => split.words.push(word)?,
     }
     Ok(())
@@ -199,56 +228,172 @@ fn size_in(word: Option<&String>) -> Result<Option<u32>, ()> {
     }
 }
 
-/// What is to be shown, where the words are `show FILE` with its flags between.
-fn showing_of(
-    alloc: Global,
-    words: &[String],
-    flags: Flags,
-) -> Result<Option<Showing>, AllocError> {
-    let [command, options @ .., file] = words else {
-        return Ok(None);
+/// What is to be shown, where the words are
+/// `show [--utc] [--ticks] [--quiet] [--follow] [--from TIME] [--to TIME] FILE`.
+fn showing_of(alloc: Global, words: Vec<String>) -> Result<Said, AllocError> {
+    let mut read = ShowWords {
+        showing: Showing {
+            file: String::new(alloc),
+            utc: false,
+            ticks: false,
+            quiet: false,
+            follow: false,
+            from: None,
+            to: None,
+        },
+        takes: ShowTakes::File,
+        is_wrong: false,
     };
-    if command.as_str() != "show" || !options.iter().all(|word| is_show_flag(word)) {
-        return Ok(None);
+    for word in words.into_iter().skip(1) {
+        take_show_word(&mut read, word);
     }
-    Ok(Some(Showing {
-        file: String::from_str(alloc, file)?,
-        utc: options.iter().any(|word| word.as_str() == "--utc"),
-        ticks: options.iter().any(|word| word.as_str() == "--ticks"),
-        quiet: flags.quiet,
-        follow: options.iter().any(|word| word.as_str() == "--follow"),
-    }))
-}
-
-/// What is to be checked, where the words are `play --check [--skip] PATCH`.
-fn checking_of(alloc: Global, words: &[String]) -> Result<Option<Checking>, AllocError> {
-    let [command, options @ .., patch] = words else {
-        return Ok(None);
-    };
-    let checks = options.iter().any(|word| word.as_str() == "--check");
-    if command.as_str() != "play" || !checks || !options.iter().all(|word| is_play_flag(word)) {
-        return Ok(None);
+    let ShowWords {
+        showing,
+        takes,
+        is_wrong,
+    } = read;
+    let is_part = showing.from.is_some() || showing.to.is_some();
+    if is_wrong || !matches!(takes, ShowTakes::Nothing) || (is_part && showing.follow) {
+        return Ok(Said::Refused);
     }
-    Ok(Some(Checking {
-        patch: String::from_str(alloc, patch)?,
-        skip: options.iter().any(|word| word.as_str() == "--skip"),
-    }))
+    Ok(Said::Show(showing))
 }
 
-fn is_play_flag(word: &String) -> bool {
-    matches!(word.as_str(), "--check" | "--skip")
+/// The words of `show` that were read so far.
+#[derive(Drop)]
+struct ShowWords {
+    showing: Showing,
+    takes: ShowTakes,
+    is_wrong: bool,
 }
 
-fn is_show_flag(word: &String) -> bool {
-    matches!(word.as_str(), "--utc" | "--ticks" | "--follow")
+/// What the next word of `show` can be.
+#[derive(Clone, Copy)]
+enum ShowTakes {
+    /// An option, or FILE.
+    File,
+    From,
+    To,
+    /// None: FILE was the last word.
+    Nothing,
 }
 
-/// A copy of FILE, where the words are `carry FILE`.
-fn carried_name(alloc: Global, words: &[String]) -> Result<Option<String>, AllocError> {
-    match words {
-        [command, file] if command.as_str() == "carry" => {
-            Ok(Some(String::from_str(alloc, file)?))
+fn take_show_word(read: &mut ShowWords, word: String) {
+    let takes = read.takes;
+    read.takes = ShowTakes::File;
+    match (takes, word.as_str()) {
+        (ShowTakes::From, _) => read.showing.from = Some(word),
+        (ShowTakes::To, _) => read.showing.to = Some(word),
+        (ShowTakes::Nothing, _) => read.is_wrong = true,
+        (ShowTakes::File, "--utc") => read.showing.utc = true,
+        (ShowTakes::File, "--ticks") => read.showing.ticks = true,
+        (ShowTakes::File, "--quiet") => read.showing.quiet = true,
+        (ShowTakes::File, "--follow") => read.showing.follow = true,
+        (ShowTakes::File, "--from") => read.takes = ShowTakes::From,
+        (ShowTakes::File, "--to") => read.takes = ShowTakes::To,
+        (ShowTakes::File, _) if is_option(&word) => read.is_wrong = true,
+        (ShowTakes::File, _) => {
+            read.showing.file = word;
+            read.takes = ShowTakes::Nothing;
         }
+    }
+}
+
+/// The words of `play` that were read so far.
+#[derive(Drop)]
+struct PlayWords {
+    way: Option<Way>,
+    skip: bool,
+    force: bool,
+    from: Option<String>,
+    names: Vec<String>,
+    /// The last word was `--from`, which takes another one.
+    takes: bool,
+    is_wrong: bool,
+}
+
+/// What is to be played, where the words are
+/// `play [--check | --as-score] [--skip] [--from MOMENT] [--force] PATCH [FILE]`.
+fn playing_of(alloc: Global, words: Vec<String>) -> Result<Said, AllocError> {
+    let mut read = PlayWords {
+        way: None,
+        skip: false,
+        force: false,
+        from: None,
+        names: Vec::new(alloc),
+        takes: false,
+        is_wrong: false,
+    };
+    for word in words.into_iter().skip(1) {
+        take_play_word(&mut read, word)?;
+    }
+    let PlayWords {
+        way,
+        skip,
+        force,
+        from,
+        mut names,
+        takes,
+        is_wrong,
+    } = read;
+    let way = way.unwrap_or(Way::Send);
+    let file = if names.len() == 2 { names.pop() } else { None };
+    let (Some(patch), true) = (names.pop(), names.is_empty()) else {
+        return Ok(Said::Refused);
+    };
+    if takes || is_wrong || (file.is_some() && !matches!(way, Way::Send)) {
+        return Ok(Said::Refused);
+    }
+    Ok(Said::Play(Playing {
+        way,
+        patch,
+        file,
+        skip,
+        force,
+        from,
+    }))
+}
+
+fn take_play_word(read: &mut PlayWords, word: String) -> Result<(), AllocError> {
+    if read.takes {
+        read.takes = false;
+        read.from = Some(word);
+        return Ok(());
+    }
+    match word.as_str() {
+        "--check" => set_way(read, Way::Check),
+        "--as-score" => set_way(read, Way::Score),
+        "--skip" => read.skip = true,
+        "--force" => read.force = true,
+        "--from" => read.takes = true,
+        _ if is_option(&word) => read.is_wrong = true,
+        _ => read.names.push(word)?,
+    }
+    Ok(())
+}
+
+/// Another way than the one that was said before is wrong.
+fn set_way(read: &mut PlayWords, way: Way) {
+    read.is_wrong = read.is_wrong || read.way.is_some();
+    read.way = Some(way);
+}
+
+/// The moment, where the words are `moment WORD`.
+fn moment_word(alloc: Global, words: &[String]) -> Result<Said, AllocError> {
+    match words {
+        [_, word] => Ok(Said::Moment(String::from_str(alloc, word)?)),
+        _ => Ok(Said::Refused),
+    }
+}
+
+fn is_option(word: &String) -> bool {
+    word.as_str().starts_with("--")
+}
+
+/// A copy of FILE, where the words are a command and FILE.
+fn file_name(alloc: Global, words: &[String]) -> Result<Option<String>, AllocError> {
+    match words {
+        [_, file] if !is_option(file) => Ok(Some(String::from_str(alloc, file)?)),
         _ => Ok(None),
     }
 }

@@ -19,11 +19,13 @@ loop-rest-preserved c =
 pub returns-clause-no_zero : goal.returns-clause-no_zero
 returns-clause-no_zero c =
     let none : length c.loop-rest.rest.now ≡ 0 = grind (arith, nat_tests) in
-    let is = text_done c.args.quoted c.args.end c.args.text.now c.loop-rest.rest.now c.loop-rest.bytes.items none c.loop-rest.invariant.read in
+    let is = text_done c.args.quoted c.args.end c.args.text.now c.loop-rest.rest.now c.loop-rest.bytes.items none
+    c.loop-rest.invariant.read in
     subst (λ (l : List ℕ). IsTrue (has_no_zero l)) (sym c.of.ensures) is.no_zero
 
 pub returns-clause-short : goal.returns-clause-short
 returns-clause-short c =
     let none : length c.loop-rest.rest.now ≡ 0 = grind (arith, nat_tests) in
-    let is = text_done c.args.quoted c.args.end c.args.text.now c.loop-rest.rest.now c.loop-rest.bytes.items none c.loop-rest.invariant.read in
+    let is = text_done c.args.quoted c.args.end c.args.text.now c.loop-rest.rest.now c.loop-rest.bytes.items none
+    c.loop-rest.invariant.read in
     subst (λ (l : List ℕ). length l ≤ length c.args.text.now) (sym c.of.ensures) is.short

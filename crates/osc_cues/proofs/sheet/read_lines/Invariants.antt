@@ -1,6 +1,7 @@
 use Rattle.std.proofs.Common.{◌≡◌, ◌≤◌, ◌+◌, length, drop, map}
 use Rattle.osc_cues.specs.Words.{lines_of}
 use Rattle.osc_cues.specs.Sheets.{read_from, unread, IsReading}
+use Rattle.osc_cues.specs.Order.{IsSound}
 use Rattle.osc_cues.proofs.sheet.read_lines.Given as goal
 
 abbrev pub invariant-loop-text : goal.invariant-loop-text
@@ -10,4 +11,5 @@ invariant-loop-text l = record {
   number : l.number ≡ l.text-index + 1;
   few : length l.text-items ≤ length l.bytes + 1;
   reading : IsReading l.draft;
+  sound : IsSound l.draft;
 }

@@ -1,0 +1,5 @@
+pub mod Printed
+pub mod Spaced
+pub mod Fronts
+pub mod Again
+pub mod Lawful
