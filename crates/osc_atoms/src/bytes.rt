@@ -5,9 +5,14 @@ use std::alloc::{AllocError, Global};
 use std::marker::Model;
 
 /// A list of bytes.
-#[derive(Drop)]
 pub struct Bytes {
     items: Vec<u8>,
+}
+
+impl Drop for Bytes {
+    fn drop(self) {
+        let Bytes { items: _ } = self;
+    }
 }
 
 impl Model for Bytes {

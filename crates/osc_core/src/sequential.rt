@@ -46,7 +46,6 @@ use std::alloc::{AllocError, Global};
 /// A contract sees its limits and its history as `performance`, and what each of its boxes keeps
 /// and tells. All memory is taken at opening. Where a call is answered `RecordFull`, all is as it
 /// was.
-#[derive(Drop)]
 pub struct Core<M: Method> {
     performance: Performance,
     boxes: Vec<(u32, M)>,
@@ -63,6 +62,16 @@ pub struct Core<M: Method> {
     ghost reserved: { performance.caps.methods ≤ vec_capacity boxes },
     ghost heard: { HaveHeard performance
         (told M.keep M.heard boxes.items) } by { HaveHeard-prop performance _ },
+}
+
+impl<M: Method> Drop for Core<M> {
+    fn drop(self) {
+        let Core {
+            performance: _,
+            boxes: _,
+            last: _,
+        } = self;
+    }
 }
 
 impl<M: Method> Core<M> {
@@ -335,9 +344,14 @@ impl<M: Method> Core<M> {
         ensures ascending { IsTrue (is_ascending (map (λ one. one.0) result.kept.items)) }
     {
         every_history_keeps_the_laws();
+        let Core {
+            performance,
+            boxes,
+            last: _,
+        } = self;
         Closed {
-            bytes: self.performance.close(),
-            kept: self.boxes,
+            bytes: performance.close(),
+            kept: boxes,
         }
     }
 }

@@ -19,12 +19,22 @@ use std::marker::Model;
 
 /// A message in the making: a pattern, and the arguments that were pushed (OSC 1.0, "OSC Messages"). A contract sees
 /// the two.
-#[derive(Drop)]
 pub struct Builder {
     pattern: Vec<u8>,
     tags: Vec<u8>,
     atoms: Vec<u8>,
     alloc: Global,
+}
+
+impl Drop for Builder {
+    fn drop(self) {
+        let Builder {
+            pattern: _,
+            tags: _,
+            atoms: _,
+            alloc: _,
+        } = self;
+    }
 }
 
 impl Model for Builder {

@@ -7,10 +7,15 @@ use circular_buffer::HeapCircularBuffer;
 use std::alloc::{AllocError, Global};
 
 /// A method that tells the last bytes of what it was told, at most as many as it was made for.
-#[derive(Drop)]
 pub struct Trace {
     bytes: HeapCircularBuffer<u8>,
     ghost few: { bytes.capacity < 2 ^ 32 },
+}
+
+impl Drop for Trace {
+    fn drop(self) {
+        let Trace { bytes: _ } = self;
+    }
 }
 
 impl Trace {

@@ -16,10 +16,15 @@ use std::marker::Model;
 
 /// A bundle in the making: a time tag, and the messages that were pushed (OSC 1.0, "OSC Bundles"). A contract sees the
 /// two.
-#[derive(Drop)]
 pub struct Bundler {
     bytes: Vec<u8>,
     alloc: Global,
+}
+
+impl Drop for Bundler {
+    fn drop(self) {
+        let Bundler { bytes: _, alloc: _ } = self;
+    }
 }
 
 impl Model for Bundler {

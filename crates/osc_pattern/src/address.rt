@@ -24,9 +24,15 @@ use std::marker::Model;
 ///
 /// The bytes of a name are from 0x21 to 0x7E, without `#*,?[]{}` (OSC 1.0, "OSC Address Spaces and OSC Addresses").
 /// Addresses are ordered by their bytes.
-#[derive(Debug, Drop)]
+#[derive(Debug)]
 pub struct Address {
     bytes: Vec<u8>,
+}
+
+impl Drop for Address {
+    fn drop(self) {
+        let Address { bytes: _ } = self;
+    }
 }
 
 impl Model for Address {

@@ -15,7 +15,6 @@ use std::marker::Model;
 /// that begins there; none where no chain does.
 ///
 /// No call but `open` takes memory.
-#[derive(Drop)]
 pub struct Pool {
     /// The blocks that chains have reached, in room that is reserved for all.
     blocks: Vec<Block>,
@@ -27,6 +26,18 @@ pub struct Pool {
     first: u32,
     /// How many blocks are free.
     free: u32,
+}
+
+impl Drop for Pool {
+    fn drop(self) {
+        let Pool {
+            blocks: _,
+            next: _,
+            sizes: _,
+            first: _,
+            free: _,
+        } = self;
+    }
 }
 
 impl Model for Pool {

@@ -9,9 +9,14 @@ use std::alloc::{AllocError, Global};
 use std::marker::Model;
 
 /// A list of bytes, to whose end words and lines are added. An `Err` of its calls means out of memory.
-#[derive(Drop)]
 pub struct Text {
     bytes: Vec<u8>,
+}
+
+impl Drop for Text {
+    fn drop(self) {
+        let Text { bytes: _ } = self;
+    }
 }
 
 impl Model for Text {

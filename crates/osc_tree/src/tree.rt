@@ -31,7 +31,6 @@ use std::sync::ledger::Ledger;
 ///
 /// The list is lawful: ids and addresses differ, and no method lies below another (OSC 1.0, "OSC Address Spaces and
 /// OSC Addresses"). No call but `open` takes memory.
-#[derive(Drop)]
 pub struct Tree {
     methods: Vec<Registered>,
     places: Vec<u32>,
@@ -39,6 +38,19 @@ pub struct Tree {
     method_limit: u32,
     node_limit: u32,
     node_count: u32,
+}
+
+impl Drop for Tree {
+    fn drop(self) {
+        let Tree {
+            methods: _,
+            places: _,
+            guesses: _,
+            method_limit: _,
+            node_limit: _,
+            node_count: _,
+        } = self;
+    }
 }
 
 impl Model for Tree {

@@ -1,9 +1,7 @@
 //! How a turn is closed.
-ghost use Rattle.std.specs.Prelude.{◌≡◌, ◌≢◌, ℕ, ◌<◌, ◌≤◌, List, [], ◌∷◌, false, length, map, All};
+ghost use Rattle.std.specs.Prelude.{◌≡◌, ◌≢◌, ◌<◌, ◌≤◌, [], length, map, All};
 ghost use Rattle.std.specs.Prelude.{IfOk, OnOk, IfErr};
 ghost use Rattle.osc_turn.specs.declared.limits.TheConstants.{MAX_PASSES};
-ghost use Rattle.osc_turn.specs.History.{StartsWith, entries_of, texts};
-ghost use Rattle.osc_turn.specs.Numbers.{times};
 ghost use Rattle.osc_turn.specs.Rule.{number_of, Rests};
 ghost use Rattle.osc_turn.specs.Passes.{view, IsPassOf, opened_with};
 ghost use Rattle.osc_turn.specs.Closing.{Gathers, Closes, first_view};
@@ -31,25 +29,6 @@ impl<S: Kept> Turn<S> {
             self.count(seat);
         }
         passes.destroy_empty();
-    }
-
-    // Takes the value out, where the seat has every number that was drawn.
-    fn into_value(self, seat: Seat<Option<S>, View>) -> S
-        requires ours { seat.table_id ≡ self.table.shared.table_id }
-        requires whole { (seat.me.0.holds ≡ false) × (seat.me.0.spare ≡ [])
-            × (0 < times 0 seat.me.0.numbers)
-            × (length seat.me.0.numbers ≡ seat.me.0.made) }
-        ensures stands { S.stands result (texts seat.me.0.seen) }
-        ensures kind { S.kind result ≡ seat.me.0.kind }
-        ensures each { All (λ e. times e.number seat.me.0.numbers ≡ 1) seat.me.0.seen }
-        ensures opened { seat.me.0.opened_at ≡ length (S.history (opened_with self)) }
-        ensures begins { StartsWith seat.me.0.seen (entries_of (S.history (opened_with self))) }
-    {
-        let Turn { table, .. } = self;
-        let mut closed = table.close_with(seat);
-        let value = closed.take(0).unwrap();
-        closed.free();
-        value
     }
 
     /// The number of passes that were made, which the first pass knows.

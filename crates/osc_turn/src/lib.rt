@@ -11,7 +11,6 @@ mod limits;
 mod open;
 mod pass;
 mod plays;
-mod seating;
 mod still_out;
 mod tried;
 mod turn;
