@@ -4,7 +4,7 @@ ghost use Rattle.osc_c.specs.Held.{played, TellsDue};
 
 use crate::answer::Answer;
 use crate::handle::{Handle, put, take};
-use crate::showing::{due_shown, told};
+use crate::shown::{due_shown, told};
 use crate::status;
 use std::alloc::Global;
 

@@ -11,7 +11,7 @@ ghost use Rattle.osc_c.specs.Reading.{left_of};
 
 use crate::answer::Answer;
 use crate::handle::{Handle, put, take};
-use crate::showing::{
+use crate::shown::{
     enrolled_shown, fault_shown, releasing_shown, submitted_shown, ticking_shown, told,
 };
 use crate::state::State;

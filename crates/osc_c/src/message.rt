@@ -13,7 +13,7 @@ ghost use Rattle.osc_c.specs.Arguments.{ReadsMessage, put_at, tags_size};
 
 use crate::answer::Answer;
 use crate::argument::Argument;
-use crate::showing::{counted, fault_shown};
+use crate::shown::{counted, fault_shown};
 use osc_atoms::string_size;
 use osc_message::laws::written_is_read_again;
 use osc_message::{Arg, Args, Message, argument_size};

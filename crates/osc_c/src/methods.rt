@@ -9,7 +9,7 @@ ghost use Rattle.osc_c.specs.Reading.{left_of};
 
 use crate::answer::Answer;
 use crate::handle::{Handle, put, take};
-use crate::showing::{adding_shown, numbered, removing_shown, told};
+use crate::shown::{adding_shown, numbered, removing_shown, told};
 use crate::state::State;
 use crate::status;
 use osc_method::Mute;

@@ -5,7 +5,7 @@ ghost use Rattle.osc_packet.specs.Reading.{packet_fault};
 ghost use Rattle.osc_c.specs.Plain.{packet_answered};
 
 use crate::answer::Answer;
-use crate::showing::{fault_shown, told};
+use crate::shown::{fault_shown, told};
 use crate::status;
 use osc_packet::{MAX_PACKET, Packet};
 

@@ -36,7 +36,7 @@ state_on caps history room =
 abbrev pub CarriesOn : Limits → List Entry → ℕ → Type 0
 CarriesOn caps history room = IsCarriedOn caps history room (played_on caps history room)
 
--- The script is read as the lines that carry the history on, and by them a new server comes to
+-- The script is read as the lines that carry the history on, and by them a new server gets to
 -- where the old one was, up to numbers. From there on it invokes what the old one would invoke if
 -- its recording had no end, as long as the new recording has room.
 pub record LeadsThere (script : List ℕ) (caps : Limits) (history : List Entry) (room : ℕ)

@@ -1,4 +1,4 @@
--- What became of the units of a packet, by what was answered to it.
+-- What happened to the units of a packet, by what was answered to it.
 use Rattle.std.specs.Prelude.{ℕ, ◌==◌, ◌||◌, nat_lt, if◌then◌else◌}
 use Rattle.osc_core.specs.declared.answers.Submitted.{Submitted}
 use Rattle.osc_core.specs.declared.answers.Submitted.TheVariants as submitted
@@ -19,7 +19,7 @@ queued late clock tag =
     if nat_lt clock tag then answered.Waiting
     else if (tag == 1) || (tag == clock) then answered.Due else over late
 
--- what became of a unit of a packet to which this was answered
+-- what happened to a unit of a packet to which this was answered
 abbrev pub answered_so : Late → ℕ → Submitted → ℕ → Answered
 answered_so late clock (submitted.Queued first count discarded) tag = queued late clock tag
 answered_so late clock (submitted.RecordFull room) tag = answered.RecordFull

@@ -14,7 +14,7 @@ use Rattle.osc_shown.specs.Refusals.{refusal_text}
 use Rattle.osc_console.specs.Answers.{answer_of}
 
 module _ (look : Look) (late : Late) (routes : List Route) (arrival : Arrival) where
-  -- the lines of units, one after another, by what became of each
+  -- the lines of units, one after another, by what happened to each
   abbrev pub AddsUnits : Submission → List TimedUnit → List ℕ → List ℕ → Type 0
   AddsUnits submission [] before after = after ≡ before
   AddsUnits submission (unit ∷ units) before after =

@@ -1,4 +1,4 @@
-//! What became of each unit of a packet.
+//! What happened to each unit of a packet.
 ghost use Rattle.std.specs.Prelude.{◌≡◌};
 ghost use Rattle.osc_console.specs.Answers.{answer_of, queued};
 
@@ -7,7 +7,7 @@ use osc_live::Submission;
 use osc_model::Late;
 use osc_shown::Answered;
 
-/// What became of a unit with this tag, by what was answered to its packet and where the server's
+/// What happened to a unit with this tag, by what was answered to its packet and where the server's
 /// clock stood (docs/SERVER.md, "Step").
 pub(crate) fn answer_of(late: Late, submission: Submission, tag: u64) -> Answered
     ensures { result ≡ answer_of late submission tag }
@@ -20,7 +20,7 @@ pub(crate) fn answer_of(late: Late, submission: Submission, tag: u64) -> Answere
     }
 }
 
-/// What became of a unit of a packet that was queued.
+/// What happened to a unit of a packet that was queued.
 fn queued(late: Late, clock: u64, tag: u64) -> Answered
     ensures { result ≡ queued late clock tag }
 {

@@ -62,7 +62,7 @@ impl Rounds {
     }
 
     /// Has the ticker play a round, and waits until it has handed in this moment or a later one, at
-    /// most a tenth of a second: whoever submits then is judged by a clock that isn't behind.
+    /// most a tenth of a second: whoever submits then is judged by a clock that isn't late.
     pub(crate) fn catch_up<W: Wait>(&self, rt: &W, moment: u64) {
         for _ in 0..LOOKS {
             let seen = self.handed();

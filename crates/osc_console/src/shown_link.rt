@@ -41,7 +41,7 @@ pub struct Watch<'a, W> {
 /// are written again once the ticker has played a round at their time tags or after. What the sink
 /// doesn't take is lost, and what has no memory isn't shown; how many datagrams that were stands
 /// before the next lines. Where late units are discarded the ticker plays a round before a bundle is
-/// handed in, so that the bundle is judged by a clock that isn't behind.
+/// handed in, so that the bundle is judged by a clock that isn't late.
 pub struct ShownLink<'a, L, C, O, W> {
     link: L,
     clock: C,

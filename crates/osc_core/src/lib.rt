@@ -10,15 +10,15 @@ mod boxes;
 mod called;
 mod calls;
 mod entry_answers;
+mod kept;
 mod messages;
+mod past;
 mod performance;
-mod playing;
-mod redoing;
+mod performance_laws;
 mod release;
 mod sequential;
 mod server;
 mod shortage;
-mod standing;
 mod store;
 mod units;
 

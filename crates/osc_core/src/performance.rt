@@ -23,7 +23,7 @@ use crate::answers::{AddRefusal, Enrolled, Releasing, Removing, Submitted, Ticki
 use crate::entry_answers::{
     enrol_answer, refusal_in_words, remove_answer, submit_answer, tick_answer,
 };
-use crate::playing::a_performance_is_played;
+use crate::performance_laws::a_performance_is_played;
 use crate::server::Server;
 use crate::shortage::shortage;
 use osc_method::Method;

@@ -24,10 +24,10 @@ ghost use Rattle.osc_core.specs.Hearing.{HaveHeard-prop};
 use crate::answers::{Adding, Closed, Enrolled, Releasing, Removing, Submitted, Ticking};
 use crate::boxes::{box_of, hand_out, keep_box};
 use crate::called::Calls;
+use crate::kept::a_server_stands_for_more;
 use crate::performance::Performance;
-use crate::playing::boxes_stay;
+use crate::performance_laws::boxes_stay;
 use crate::release::LastRelease;
-use crate::standing::a_server_stands_for_more;
 use osc_laws::laws::every_history_keeps_the_laws;
 use osc_method::Method;
 use osc_model::laws::{

@@ -26,7 +26,7 @@ pub(crate) struct Stored {
     chain: Chain,
 }
 
-/// The most bytes of a message that stands in a block beside its length.
+/// The most bytes of a message that stands in a block next to its length.
 pub(crate) const MOST_BESIDE: usize = 60;
 
 /// Blocks of 64 bytes, in which the messages of units are chains. A contract sees what a pool

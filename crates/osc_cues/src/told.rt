@@ -25,7 +25,7 @@ pub(crate) enum Zone {
     Local,
     /// So many seconds.
     Ahead(u64),
-    /// It is so many seconds behind.
+    /// It is so many seconds late.
     Behind(u64),
 }
 

@@ -4,9 +4,9 @@ use Rattle.osc_model.specs.Limits.{Limits}
 use Rattle.osc_model.specs.Events.{Entry}
 use Rattle.osc_replay.specs.Checking.{IsCheckOf}
 use Rattle.osc_replay.specs.Disagreeing.{IsRecordingOf}
-use Rattle.osc_ends.specs.declared.judging.CheckedRecording.{CheckedRecording}
-use Rattle.osc_ends.specs.declared.judging.Whole.{Whole}
-use Rattle.osc_ends.specs.declared.judging.Whole.TheVariants.{Bytes, TooLong}
+use Rattle.osc_ends.specs.declared.judgement.CheckedRecording.{CheckedRecording}
+use Rattle.osc_ends.specs.declared.judgement.Whole.{Whole}
+use Rattle.osc_ends.specs.declared.judgement.Whole.TheVariants.{Bytes, TooLong}
 use Rattle.osc_ends.specs.Recordings.{RefusesRecording}
 use Rattle.osc_ends.specs.Sinks.{SinkChange, GainsUnless}
 

@@ -34,9 +34,9 @@ ghost use Rattle.osc_ends.specs.Inputs.{
 ghost use Rattle.osc_ends.specs.Printing.{refusal_text};
 ghost use Rattle.osc_ends.specs.Sinks.{sink_change, GainsUnless};
 
+use crate::prints::{malformed, refuse};
 use crate::status::{NO_MEMORY, SOURCE_FAILED};
 use crate::whole::{Input, read_whole};
-use crate::writing::{malformed, refuse};
 use osc_edge::{Sink, Source};
 use osc_record::MAX_RECORDING;
 use osc_script::{Line, MAX_SCRIPT, Mode, Script, ScriptFault, ScriptRefusal};

@@ -29,9 +29,9 @@ ghost use Rattle.osc_ends.specs.Inputs.{OfInput, ReadsInput, RefusesScore, read_
 ghost use Rattle.osc_ends.specs.Printing.{score_fault_text};
 ghost use Rattle.osc_ends.specs.Sinks.{sink_change, GainsUnless};
 
+use crate::prints::refuse_score;
 use crate::status::{NO_MEMORY, SOURCE_FAILED};
 use crate::whole::{Input, read_whole};
-use crate::writing::refuse_score;
 use osc_edge::{Sink, Source};
 use osc_score::{MAX_SCORE, Score, ScoreFault, ScoreRefusal};
 use std::alloc::Global;

@@ -19,7 +19,7 @@ use Rattle.osc_life.specs.declared.worker.Job.{Job}
 use Rattle.osc_life.specs.Holders.{Holder}
 use Rattle.osc_life.specs.Works.{CanPlay, CanGoOn, ArePlayed}
 
--- A caller who has looked comes back, and this came of it, where something that was lent was as the
+-- A caller who has looked comes back, and this is the result, where something that was lent was as the
 -- first and is as the second.
 pub record IsBack {Y D : Type 0} (looks : Y → Y → D → Limits → View → Type 0) {M : Type 0}
     {G : Ghosts M} (live : Live M G) (before after : Y) (first : Caller)

@@ -19,7 +19,7 @@ pub trait Aside<M: Method, Y> {
     /// The result of it.
     type End: Drop;
 
-    /// This came of it, where what is lent was as the first and is as the second, of a server with
+    /// This is its result, where what is lent was as the first and is as the second, of a server with
     /// these limits, and the token has seen this in the end.
     ghost looks: { Y → Y → Self.End → Limits → View → Type 0 };
 

@@ -34,7 +34,7 @@ pub struct Life<M: Method> {
     pub(crate) others: Vec<Caller>,
 }
 
-/// What became of the works.
+/// The results of the works.
 #[derive(Drop)]
 pub enum Played<P, E> {
     /// The result of each, in their order.

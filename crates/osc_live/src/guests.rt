@@ -10,7 +10,7 @@ ghost use Rattle.osc_live.specs.Calls.{Calls};
 ghost use Rattle.osc_live.specs.Enrolments.{enrolment_of};
 
 use crate::caller::Caller;
-use crate::enrolling::Enrol;
+use crate::enrol::Enrol;
 use crate::guest::Guest;
 use crate::live::Live;
 use crate::refusal::EnrolRefusal;

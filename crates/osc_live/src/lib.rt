@@ -2,31 +2,31 @@
 //! entries before it. Each caller has a token, which knows in the proofs how much of the history it has seen.
 #![tactic(auto)]
 
-mod adding;
+mod add;
 mod ask;
-mod asking;
+mod asked;
 mod busy;
 mod caller;
 mod clock;
 mod close;
-mod copying;
-mod enrolling;
+mod copy;
+mod enrol;
 mod guest;
 mod guests;
 mod live;
 mod meets;
 mod methods;
-mod playing;
+mod play;
 mod pumped;
 mod reads;
 mod refusal;
-mod releasing;
-mod removing;
-mod resuming;
+mod release;
+mod remove;
+mod resume;
 mod submission;
+mod submit;
 mod submits;
-mod submitting;
-mod ticking;
+mod tick;
 mod turns;
 
 pub use busy::Busy;
@@ -36,5 +36,5 @@ pub use guest::Guest;
 pub use live::Live;
 pub use pumped::{PumpEnd, Pumped};
 pub use refusal::EnrolRefusal;
-pub use resuming::LiveResumed;
+pub use resume::LiveResumed;
 pub use submission::Submission;

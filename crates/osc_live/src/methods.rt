@@ -10,10 +10,10 @@ ghost use Rattle.osc_live.specs.Seen.{performance_in};
 ghost use Rattle.osc_live.specs.Tokens.{IsOurs};
 ghost use Rattle.osc_live.specs.Calls.{Calls};
 
-use crate::adding::Add;
+use crate::add::Add;
 use crate::caller::Caller;
 use crate::live::Live;
-use crate::removing::Remove;
+use crate::remove::Remove;
 use osc_core::{Adding, Removing};
 use osc_method::Method;
 use osc_pattern::Address;

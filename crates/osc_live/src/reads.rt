@@ -6,7 +6,7 @@ ghost use Rattle.osc_live.specs.Tokens.{IsOurs};
 ghost use Rattle.osc_live.specs.Reads.{Reads};
 
 use crate::caller::Caller;
-use crate::copying::Copying;
+use crate::copy::Copying;
 use crate::live::Live;
 use osc_method::Method;
 use osc_model::laws::callers_are_counted;

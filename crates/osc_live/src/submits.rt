@@ -13,7 +13,7 @@ use crate::busy::Busy;
 use crate::caller::Caller;
 use crate::live::Live;
 use crate::submission::Submission;
-use crate::submitting::{ClockedSubmit, Submit};
+use crate::submit::{ClockedSubmit, Submit};
 use osc_core::Submitted;
 use osc_method::Method;
 use osc_packet::Packet;

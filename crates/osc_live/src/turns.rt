@@ -8,11 +8,11 @@ ghost use Rattle.osc_live.specs.Tokens.{IsOurs};
 ghost use Rattle.osc_live.specs.Calls.{Calls, IsBusy};
 
 use crate::ask::Ask;
-use crate::asking::Asking;
+use crate::asked::Asking;
 use crate::busy::Busy;
 use crate::caller::Caller;
 use crate::live::Live;
-use crate::playing::Playing;
+use crate::play::Playing;
 use osc_method::Method;
 use osc_model::laws::callers_are_counted;
 use osc_turn::Tried;

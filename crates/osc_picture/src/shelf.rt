@@ -12,7 +12,7 @@ pub(crate) struct Shelf {
     pub(crate) height: u32,
     /// The name that it shares with the next stands above it.
     pub(crate) headed: bool,
-    /// It shares its first name with a row beside it.
+    /// It shares its first name with a row next to it.
     pub(crate) shared: bool,
 }
 

@@ -199,7 +199,7 @@ fn add_others(out: &mut Vec<u8>, frame: Frame, top: u64, row: &Row) -> Result<()
     add_marked(out, b"class=\"x\" ", frame, 20, cross, &row.crosses)
 }
 
-/// Adds a rectangle behind each row for each time in which the method was there.
+/// Adds a rectangle after each row for each time in which the method was there.
 pub(crate) fn add_lives(
     out: &mut Vec<u8>,
     frame: Frame,

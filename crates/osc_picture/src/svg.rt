@@ -71,7 +71,7 @@ fn add_style(out: &mut Vec<u8>, height: u64) -> Result<(), AllocError>
     add(out, b"</style>\n")
 }
 
-/// Adds what stands behind the rows: when methods were there, and the scale.
+/// Adds what stands after the rows: when methods were there, and the scale.
 #[tactic(auto, unfolding(crate::specs::Pictures::ground_text))]
 fn add_ground(
     out: &mut Vec<u8>,

@@ -1,15 +1,15 @@
 //! All that the program `osc` does, over any source and sink.
 #![tactic(auto)]
 
-mod generating;
+mod drawn;
 pub mod laws;
 mod limits;
-mod reading;
+mod outputs;
+mod recordings;
 mod report;
-mod running;
-mod scoring;
+mod run;
+mod scores;
 mod top;
-mod writing;
 
 pub use osc_ends::{Ended, traces};
 pub use top::plain_top;

@@ -1,5 +1,5 @@
 //! The top call of `osc`.
-ghost use Rattle.osc_script.specs.declared.generating.TheConstants.{MAX_GENERATED_LINES};
+ghost use Rattle.osc_script.specs.declared.drawn_script.TheConstants.{MAX_GENERATED_LINES};
 ghost use Rattle.osc_ends.specs.declared.status.TheConstants.{
   BANK_SHORT,
   DONE,
@@ -48,12 +48,12 @@ ghost use Rattle.osc_plain.specs.Commands as commands;
 ghost use Rattle.osc_plain.specs.Runs.{EndsLines, IsPlayed};
 ghost use Rattle.osc_plain.specs.EndsPlain.{CanBeDone, EndsPlain, HandsBack};
 
-use crate::generating::drawn_lines;
+use crate::drawn::drawn_lines;
 use crate::limits::{default_limits, plain_limits};
-use crate::reading::{dump, replay, upgrade};
+use crate::recordings::{dump, replay, upgrade};
 use crate::report::{Report, report_of};
-use crate::running::{run, run_lines, unplayed};
-use crate::scoring::{play_score, write_score};
+use crate::run::{run, run_lines, unplayed};
+use crate::scores::{play_score, write_score};
 use osc_edge::{Sink, Source};
 use osc_ends::status::NO_MEMORY;
 use osc_ends::{Ended, usage};

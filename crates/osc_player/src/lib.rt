@@ -2,7 +2,7 @@
 #![tactic(auto)]
 
 pub mod laws;
+mod play;
 mod player;
-mod playing;
 
-pub use playing::{Played, gather, keep_rest, play};
+pub use play::{Played, gather, keep_rest, play};

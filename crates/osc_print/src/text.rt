@@ -118,7 +118,7 @@ impl Text {
         *self.bytes.allocator()
     }
 
-    /// Answers what became of a line, and cuts the text back to where the line began if it wasn't added whole.
+    /// Answers the result of a line, and cuts the text back to where the line began if it wasn't added whole.
     pub(crate) fn whole_line(
         &mut self,
         start: usize,

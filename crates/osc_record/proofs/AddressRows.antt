@@ -2,7 +2,7 @@
 use Rattle.std.proofs.Common.{◌≡◌, ℕ, ◌+◌, List, ◌++◌, length, sym, ap, ◌∙◌, arith, append_assoc, append-nil, length-append}
 use Rattle.osc_atoms.specs.Atoms.{word, string}
 use Rattle.osc_model.specs.Recordings.{row_text, add_row, remove_row, sized}
-use Rattle.osc_record.specs.declared.entry_reading.TheConstants.{ADD, REMOVE}
+use Rattle.osc_record.specs.declared.entry_messages.TheConstants.{ADD, REMOVE}
 
 abbrev added : ℕ → List ℕ → ℕ → ℕ → ℕ → List ℕ
 added caller address code first second = word caller ++ (string address ++ (word code ++ (word first ++ word second)))

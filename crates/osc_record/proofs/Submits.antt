@@ -2,7 +2,7 @@
 use Rattle.std.proofs.Common.{◌≡◌, ℕ, ◌+◌, List, ◌++◌, length, sym, ap, ◌∙◌, arith, append_assoc, append-nil, length-append}
 use Rattle.osc_atoms.specs.Atoms.{word, tag, blob}
 use Rattle.osc_model.specs.Recordings.{row_text, submit_row, sized}
-use Rattle.osc_record.specs.declared.entry_reading.TheConstants.{SUBMIT}
+use Rattle.osc_record.specs.declared.entry_messages.TheConstants.{SUBMIT}
 
 abbrev numbers : ℕ → List ℕ → ℕ → ℕ → ℕ → ℕ → List ℕ
 numbers caller packet code first second third =

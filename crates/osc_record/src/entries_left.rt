@@ -4,7 +4,7 @@ ghost use Rattle.std.specs.Prelude.{◌≡◌, ◌≤◌, length, drop, IsTrue, 
 ghost use Rattle.osc_record.specs.Reading.{entries_at};
 
 use crate::event::Entry;
-use crate::sized_reading::{first_entry, header_size};
+use crate::sized_messages::{first_entry, header_size};
 use crate::version::Version;
 
 /// The entries of a recording that are left, in order.

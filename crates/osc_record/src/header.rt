@@ -11,7 +11,7 @@ ghost use Rattle.osc_record.specs.Headers.{limits_in};
 use crate::arguments::{next_int, next_later};
 use crate::caps::Caps;
 use crate::policy::late_told;
-use crate::sized_reading::first_message;
+use crate::sized_messages::first_message;
 use crate::version::Version;
 use osc_atoms::MAX_BYTES;
 use osc_message::{Args, Message};

@@ -9,7 +9,7 @@ use crate::entries_left::Entries;
 use crate::header::{Header, lawful_caps, told_header};
 use crate::limits::{MAX_RECORDING, OLD_HEADER_SIZE};
 use crate::reader::Malformed;
-use crate::sized_reading::check_entries;
+use crate::sized_messages::check_entries;
 use crate::version::Version;
 use std::marker::Model;
 

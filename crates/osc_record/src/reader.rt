@@ -4,7 +4,7 @@ ghost use Rattle.std.specs.Prelude.{◌≡◌, ◌≤◌, length, Some, None};
 use crate::caps::Caps;
 use crate::entries_left::Entries;
 use crate::header::read_header;
-use crate::sized_reading::check_entries;
+use crate::sized_messages::check_entries;
 use crate::version::Version;
 use std::marker::Model;
 use thiserror::Error;

@@ -2,7 +2,7 @@
 ghost use Rattle.osc_model.specs.Limits.{max_recording};
 ghost use Rattle.osc_atoms.specs.declared.limits.TheConstants.{MAX_BYTES};
 ghost use Rattle.osc_atoms.specs.Atoms.{word, tag, blob, blob_end, string, has_no_zero};
-ghost use Rattle.osc_record.specs.declared.entry_reading.TheConstants.{SUBMIT};
+ghost use Rattle.osc_record.specs.declared.entry_messages.TheConstants.{SUBMIT};
 ghost use Rattle.std.specs.Prelude.{◌≡◌, ◌+◌, ◌≤◌, ◌++◌, ℤ, length, replicate, IsTrue};
 ghost use Rattle.std.specs.Vec.{vec_len, vec_capacity};
 ghost use Rattle.osc_message.specs.Messages.{AllFit};
@@ -10,16 +10,16 @@ ghost use Rattle.osc_model.specs.Recordings.{sized, row_text, enrol_row, submit_
 ghost use Rattle.osc_model.specs.Recordings.{remove_row, tick_row, header_text};
 
 use crate::caps::Caps;
-use crate::entry_reading::{ADD, REMOVE};
+use crate::entry_messages::{ADD, REMOVE};
 use crate::message::append_message;
 use crate::policy::late_code;
 use osc_atoms::{append_string, append_word, blob_size, string_size, write_tag, write_word};
 use osc_message::Arg;
 
-/// How many bytes the message of a submit has beside its packet.
+/// How many bytes the message of a submit has besides its packet.
 const SUBMIT_HEAD: u32 = 44;
 
-/// How many bytes the message of an add has beside its address, and that of a remove.
+/// How many bytes the message of an add has besides its address, and that of a remove.
 const ADD_HEAD: u32 = 36;
 
 const REMOVE_HEAD: u32 = 32;

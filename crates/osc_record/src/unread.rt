@@ -6,7 +6,7 @@ use crate::event::Entry;
 use crate::header::read_header;
 use crate::limits::HEADER_SIZE;
 use crate::reader::Malformed;
-use crate::sized_reading::first_entry;
+use crate::sized_messages::first_entry;
 use crate::version::Version;
 use std::marker::Model;
 

@@ -31,7 +31,7 @@ calls_text calls = flat_map called_text calls
 abbrev pub messages_of : List Called → List (List ℕ)
 messages_of calls = map (λ call. call.message) calls
 
--- a message that a relay was called with, and what became of it
+-- a message that a relay was called with, and what happened to it
 pub record Relaying : Type 0 where
   pub message : List ℕ
   pub sending : Sending

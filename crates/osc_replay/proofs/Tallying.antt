@@ -17,7 +17,7 @@ use Rattle.osc_replay.specs.Answers.{IsTextUnlessShort}
 use Rattle.osc_replay.specs.Checking.{IsCheckOf, IsCheckedUnlessShort, lines_of}
 use Rattle.osc_replay.specs.Disagreeing.{IsRecordingOf}
 use Rattle.osc_replay.specs.Playing.{Goes}
-use Rattle.osc_replay.specs.declared.checking.Checked.{Checked}
+use Rattle.osc_replay.specs.declared.checked.Checked.{Checked}
 use Rattle.osc_replay.specs.declared.fault.ReplayFault.{ReplayFault}
 use Rattle.osc_replay.specs.declared.fault.ReplayFault.TheVariants.{Malformed, Disagrees, NoMemory}
 use Rattle.osc_replay.proofs.Reached.{StaysWithin}

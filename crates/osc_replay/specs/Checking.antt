@@ -8,7 +8,7 @@ use Rattle.osc_model.specs.Events.{Entry, is_added}
 use Rattle.osc_model.specs.Step.{step}
 use Rattle.osc_model.specs.History.{after}
 use Rattle.std.specs.Prelude.{◌++◌}
-use Rattle.osc_replay.specs.declared.checking.Checked.{Checked}
+use Rattle.osc_replay.specs.declared.checked.Checked.{Checked}
 use Rattle.osc_replay.specs.declared.fault.ReplayFault.{ReplayFault}
 use Rattle.osc_replay.specs.declared.fault.ReplayFault.TheVariants.{NoMemory}
 

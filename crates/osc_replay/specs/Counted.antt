@@ -33,7 +33,7 @@ hit_count (released unit hits) = length hits
 hit_count _ = 0
 
 -- the entries, the submits, those of them that were queued and those that weren't, and what was
--- added, removed, ticked and released; beside them so many calls
+-- added, removed, ticked and released; besides them so many calls
 abbrev pub counts_of : ℕ → List Entry → Counts
 counts_of calls entries = record {
   entries = length entries;

@@ -4,26 +4,26 @@
 
 mod agreement;
 mod calls;
-mod checking;
+mod checked;
 mod counts;
-mod dumping;
+mod dump;
 mod event;
 mod fault;
-mod forming;
+mod form;
 pub mod laws;
 mod old;
 mod outcome;
-mod replaying;
+mod replay;
 mod row;
 mod server;
-mod summing;
+mod sums;
 mod units;
-mod upgrading;
+mod upgrade;
 
-pub use checking::{Checked, check};
-pub use dumping::{DumpFault, dump};
+pub use checked::{Checked, check};
+pub use dump::{DumpFault, dump};
 pub use fault::ReplayFault;
-pub use forming::well_formed;
-pub use replaying::replay;
-pub use summing::summary;
-pub use upgrading::{UpgradeFault, upgrade};
+pub use form::well_formed;
+pub use replay::replay;
+pub use sums::summary;
+pub use upgrade::{UpgradeFault, upgrade};

@@ -8,7 +8,7 @@ ghost use Rattle.osc_record.specs.Reading.{unplaced, IsMalformedIn};
 ghost use Rattle.osc_replay.specs.Old.{IsOldRecordingOf, IsOldUnformedAt};
 ghost use Rattle.osc_replay.specs.Unlawful.{first_unlawful_in};
 
-use crate::forming::lawful_event;
+use crate::form::lawful_event;
 use osc_record::{Entries, Malformed, Old};
 
 /// Accepts exactly a recording of the first version whose packets are valid and whose addresses are lawful, and borrows

@@ -7,7 +7,7 @@ use osc_record::Answer;
 pub(crate) enum Outcome {
     /// An entry with this answer, which releases no unit.
     Answered(Answer<'static>),
-    /// An entry of the release of the unit with this number, whose calls are kept beside it.
+    /// An entry of the release of the unit with this number, whose calls are kept next to it.
     Released(u64),
     /// No entry.
     Nothing,

@@ -31,7 +31,7 @@ abbrev pub natural_read : ℕ → List ℕ → Option ℕ
 natural_read most word =
     if is_decimal word && nat_le (number_in word) most then Some (number_in word) else None
 
--- a number below 0 has no zero behind its `-`
+-- a number below 0 has no zero after its `-`
 abbrev pub below_zero : ℕ → Option ℤ
 below_zero number = if number == 0 then None else Some (negsuc (number - 1))
 

@@ -87,7 +87,7 @@ words_read notes (word ∷ []) = Err count_kind
 words_read notes (moment ∷ address ∷ words) =
     and_then (note_read (least_of notes) moment address words) (note_added notes)
 
--- notes, and what a line says behind them; one that begins with `#` says nothing
+-- notes, and what a line says after them; one that begins with `#` says nothing
 abbrev pub line_read : List Note → List ℕ → Result (List Note) ℕ
 line_read notes text =
     if starts_with nat_eq text (codes "#") then Ok notes else words_read notes (words_of text)

@@ -1,20 +1,20 @@
 //! Scores: text whose lines say when what is played, and the script that plays one (docs/FORMATS.md).
 #![tactic(auto)]
 
-mod argument_reading;
+mod added_note;
+mod argument;
 mod brackets;
 mod fault;
 pub mod laws;
 mod limits;
-mod note_adding;
-mod note_reading;
-mod number_reading;
+mod lines;
+mod note;
+mod number;
 mod reader;
 mod run;
 mod score;
-mod score_reading;
-mod script_writing;
-mod text_reading;
+mod script;
+mod text;
 
 pub use fault::{ScoreFault, ScoreRefusal};
 pub use limits::{BATCH_SIZE, MAX_ADDRESSES, MAX_NODES, MAX_SCORE};

@@ -1,11 +1,11 @@
 // Scores.
+use crate::added_note::all_runs;
 use crate::fault::{ScoreFault, ScoreRefusal};
 use crate::limits::MAX_SCORE;
-use crate::note_adding::all_runs;
+use crate::lines::read_lines;
 use crate::reader::Reader;
 use crate::run::Run;
-use crate::score_reading::read_lines;
-use crate::script_writing::{put_adds, put_batches};
+use crate::script::{put_adds, put_batches};
 use osc_atoms::Bytes;
 use osc_pattern::Address;
 use std::alloc::{AllocError, Global};

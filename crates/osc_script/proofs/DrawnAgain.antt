@@ -1,6 +1,6 @@
 -- A script that is drawn from a seed is read as the acts that were drawn.
 use Rattle.osc_script.specs.declared.script.TheConstants.{MAX_SCRIPT}
-use Rattle.osc_script.specs.declared.generating.TheConstants.{MAX_GENERATED_LINES}
+use Rattle.osc_script.specs.declared.drawn_script.TheConstants.{MAX_GENERATED_LINES}
 use Rattle.std.proofs.Common.{◌≡◌, ◌∙◌, ℕ, zero, suc, ◌+◌, ◌-◌, ◌*◌, ◌/◌, ◌%◌, ◌<◌, ◌≤◌, ◌^◌, min, Bool, true, false, nat_lt, nat_eq, List, [], ◌∷◌, ◌++◌, map}
 use Rattle.std.proofs.Common.{length, replicate, refl, ap, ap₂, arith, length-append, codes, Ok}
 use Rattle.std.specs.Prelude.{◌&&◌}

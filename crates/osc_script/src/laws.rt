@@ -1,6 +1,6 @@
 //! What the definitions say of all scripts, and of the examples of docs/FORMATS.md.
 ghost use Rattle.osc_script.specs.declared.script.TheConstants.{MAX_SCRIPT};
-ghost use Rattle.osc_script.specs.declared.generating.TheConstants.{MAX_GENERATED_LINES};
+ghost use Rattle.osc_script.specs.declared.drawn_script.TheConstants.{MAX_GENERATED_LINES};
 ghost use Rattle.osc_script.specs.declared.lane.TheConstants.{MAX_LANES};
 ghost use Rattle.std.specs.Prelude.{◌≡◌, ◌≤◌, ◌<◌, ◌↔◌, ◌^◌, ◌%◌, ℕ, true, false, List, [], ◌∷◌};
 ghost use Rattle.std.specs.Prelude.{◌++◌, length, Some, None, Ok, Err, IsOk, IfOk, codes};

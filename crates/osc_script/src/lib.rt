@@ -2,18 +2,18 @@
 #![tactic(auto)]
 
 mod act;
-mod act_reading;
+mod act_words;
 mod digits;
-mod drawing;
+mod drawn_lines;
+mod drawn_packets;
+mod drawn_script;
 mod draws;
 mod fault;
-mod generating;
 mod lane;
 pub mod laws;
 mod line;
 mod line_kind;
-mod line_reading;
-mod line_writing;
+mod lines;
 mod mode;
 mod packets;
 mod patterns;
@@ -22,11 +22,11 @@ mod script;
 mod words;
 
 pub use act::Act;
+pub use drawn_lines::{put_digits, put_line};
+pub use drawn_script::MAX_GENERATED_LINES;
 pub use fault::{ScriptFault, ScriptRefusal};
-pub use generating::MAX_GENERATED_LINES;
 pub use lane::MAX_LANES;
 pub use line::Line;
-pub use line_writing::{put_digits, put_line};
 pub use mode::Mode;
 pub use script::{MAX_SCRIPT, Script};
 pub use words::{first_line, next_word};

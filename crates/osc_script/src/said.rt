@@ -5,7 +5,7 @@ ghost use Rattle.osc_script.specs.Scripts.{line_says, said_of, in_lane};
 ghost use Rattle.osc_script.specs.Answers.{Says};
 
 use crate::act::Act;
-use crate::act_reading::{read_act, read_served};
+use crate::act_words::{read_act, read_served};
 use crate::fault::{LineRefusal, ScriptFault};
 use crate::lane::lane_of;
 use crate::mode::Mode;

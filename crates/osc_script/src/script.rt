@@ -1,8 +1,8 @@
 // Scripts, read whole.
+use crate::drawn_script::script_of_seed;
 use crate::fault::{ScriptFault, ScriptRefusal};
-use crate::generating::script_of_seed;
 use crate::line::Line;
-use crate::line_reading::read_lines;
+use crate::lines::read_lines;
 use crate::mode::Mode;
 use osc_atoms::Bytes;
 use std::alloc::{AllocError, Global};
@@ -28,7 +28,7 @@ impl Model for Script {
 
 impl Script {
     ghost use Rattle.osc_script.specs.declared.script.TheConstants.{MAX_SCRIPT};
-    ghost use Rattle.osc_script.specs.declared.generating.TheConstants.{MAX_GENERATED_LINES};
+    ghost use Rattle.osc_script.specs.declared.drawn_script.TheConstants.{MAX_GENERATED_LINES};
     ghost use Rattle.std.specs.Prelude.{◌≡◌, ◌≤◌, ◌<◌, length, Err, IfOk};
     ghost use Rattle.osc_script.specs.Scripts.{script_of, AreLawful, AreOf};
     ghost use Rattle.osc_script.specs.Generated.{generated_script};

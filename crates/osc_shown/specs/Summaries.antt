@@ -16,7 +16,7 @@ entries_text number =
 abbrev pub size_words : ℕ → List ℕ
 size_words size = codes "-- a recording of " ++ thousands size ++ codes " bytes in "
 
--- how many entries it has, and what became of late bundles
+-- how many entries it has, and what happens to late bundles
 abbrev pub kept_words : ℕ → Bool → List ℕ
 kept_words entries discards =
     entries_text entries ++ codes "; late bundles are "

@@ -1,4 +1,4 @@
--- What became of a message.
+-- What happened to a message.
 use Rattle.std.specs.Prelude.{ℕ, ◌==◌, Bool, true, false, if◌then◌else◌}
 use Rattle.std.specs.Prelude.{List, [], ◌∷◌, ◌++◌, length, codes, Option, Some, None}
 use Rattle.std.specs.Net.Text.{socket_v4_text}
@@ -70,7 +70,7 @@ mark_of UnitsFull called = 33
 mark_of PoolFull called = 33
 mark_of RecordFull called = 33
 
--- what became of a message of a unit with this tag, which goes there where it is called
+-- what happened to a message of a unit with this tag, which goes there where it is called
 abbrev pub outcome : Answered → Option ℕ → ℕ → List ℕ → List ℕ
 outcome Due moment tag there = there
 outcome Late moment tag there = joined there (late_words moment tag)
@@ -80,7 +80,7 @@ outcome UnitsFull moment tag there = codes "refused, the queue is full"
 outcome PoolFull moment tag there = codes "refused, no room for its messages"
 outcome RecordFull moment tag there = codes "refused, the recording is full"
 
--- the tail of a line: what became of it, and who has sent it
+-- the tail of a line: what happened to it, and who has sent it
 abbrev pub tail_of : Arrival → Answered → ℕ → List ℕ → List ℕ
 tail_of arrival answer tag there =
     joined (outcome answer arrival.moment tag there) (from_words arrival.sender)

@@ -7,7 +7,7 @@ pub struct Head {
     pub look: Look,
     /// A time tag; `None` where no clock has ticked yet.
     pub moment: Option<u64>,
-    /// What became of it: `!`, `?`, `~`, a space, or another character.
+    /// What happened to it: `!`, `?`, `~`, a space, or another character.
     pub mark: u8,
     /// How a message is joined to those around it: `{`, `|`, `}` or a space.
     pub join: u8,

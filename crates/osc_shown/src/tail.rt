@@ -1,4 +1,4 @@
-// What became of a message.
+// What happened to a message.
 ghost use Rattle.std.specs.Prelude.{◌≡◌, ◌++◌, [], OnOk, IfOk, Some, codes, string_bytes};
 ghost use Rattle.std.specs.Net.Text.{socket_v4_text};
 ghost use Rattle.osc_shown.specs.Tails.{comma, joined, from_words, late_words, wait_words};
@@ -15,7 +15,7 @@ use osc_message::Message;
 use std::alloc::{AllocError, Global};
 use std::net::SocketAddrV4;
 
-/// Adds what became of a message of a unit with this tag, which goes `there` where it is called,
+/// Adds what happened to a message of a unit with this tag, which goes `there` where it is called,
 /// and who has sent it.
 pub(crate) fn add_tail(
     out: &mut Vec<u8>,

@@ -3,7 +3,7 @@ ghost use Rattle.std.specs.Prelude.{◌≡◌, pos, ◌+ℤ◌};
 
 use jiff_core::Offset;
 
-/// The seconds from the start of 1899-12-30 to that of 1900-01-01, more than any clock is behind
+/// The seconds from the start of 1899-12-30 to that of 1900-01-01, more than any clock is after
 /// UTC.
 const SECONDS_TO_1900: i32 = 172_800;
 

@@ -1,4 +1,4 @@
--- What a stage plays, and what became of it.
+-- What a stage plays, and its result.
 use Rattle.std.specs.Prelude.{◌≡◌, ◌⊎◌, ℕ, ◌<◌, Bool, true, false, not, List, [], ◌++◌, length, map}
 use Rattle.std.specs.Prelude.{filter, All, Option}
 use Rattle.std.specs.List.{AllByRecursion}

@@ -1,4 +1,4 @@
-//! What a stage plays, and what became of it.
+//! What a stage plays, and its result.
 use crate::Ended;
 use osc_atoms::Fault;
 use osc_lanes::LanePart;
@@ -19,7 +19,7 @@ pub struct Stage<O: Outlet, L> {
     pub links: LinksPart<L>,
 }
 
-/// What became of a stage.
+/// The result of a stage.
 #[derive(Drop)]
 pub struct Staged<O: Outlet, L> {
     pub ended: Ended,

@@ -75,7 +75,7 @@ pub fn stage_top<
     settle(hosted, rec)
 }
 
-/// Writes what is left of the recording, and puts together what became of the stage.
+/// Writes what is left of the recording, and puts together the result of the stage.
 fn settle<O: Outlet, L: Drop, R: Sink>(
     hosted: Hosted<Relay<O>, L>,
     rec: &mut R,

@@ -1,4 +1,4 @@
-// A display beside a live server.
+// A display next to a live server.
 ghost use Rattle.std.specs.Prelude.{List};
 ghost use Rattle.osc_model.specs.Limits.{Limits};
 ghost use Rattle.osc_model.specs.Events.{Entry};

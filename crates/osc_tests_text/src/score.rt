@@ -103,7 +103,7 @@ fn with_blob(alloc: Global, score: &mut Vec<u8>, digits: usize) -> Result<(), Fa
 #[test]
 fn a_bundle_has_at_most_65_504_bytes(rt: HostRuntime) -> Result<(), Fail> {
     let alloc = rt.alloc();
-    // 16 bytes of the bundle, and for a message its size, `/a`, `,b`, and the blob behind its size.
+    // 16 bytes of the bundle, and for a message its size, `/a`, `,b`, and the blob after its size.
     let mut score = Vec::new(alloc);
     with_blob(alloc, &mut score, 2 * (65_504 - 16 - 16))?;
     assert_eq!(rt; fault_of(alloc, &score), None);
@@ -175,7 +175,7 @@ fn a_score_is_written_as_its_script(rt: HostRuntime) -> Result<(), Fail> {
     Ok(())
 }
 
-/// Words of arguments, and a message with them to `/a`, behind its size. Another program computed the bytes.
+/// Words of arguments, and a message with them to `/a`, after its size. Another program computed the bytes.
 const WORDS: [(&str, &str); 7] = [
     (
         "i:0 i:-1 i:2147483647 i:-2147483648",

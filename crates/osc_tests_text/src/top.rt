@@ -15,7 +15,7 @@ const NESTED: &str =
 
 const REMOVED: &str = "add /a\nsend 2f610000\nremove /a\npump\nsend 2f610000\nadd /a\npump\n";
 
-/// What the program is given beside its words and its input.
+/// What the program is given besides its words and its input.
 #[derive(Clone, Copy)]
 pub(crate) struct Setting {
     pub(crate) boxes: u32,

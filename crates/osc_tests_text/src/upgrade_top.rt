@@ -44,7 +44,7 @@ fn an_old_recording_is_written_as_one_of_today(rt: HostRuntime) -> Result<(), Fa
     Ok(())
 }
 
-/// The entries of each, and its text, which stands beside it in examples/.
+/// The entries of each, and its text, which stands next to it in examples/.
 const PRINTED: [(&str, &str); 2] = [
     (SEND, "submit 0 queued 0 1\n"),
     (

@@ -1,4 +1,4 @@
-// Lanes that are played beside a display of their methods.
+// Lanes that are played while a display shows their methods.
 ghost use Rattle.std.specs.Prelude.{◌≤◌, length, IfOk};
 ghost use Rattle.osc_script.specs.Adds.{count_adds};
 
@@ -25,7 +25,7 @@ fn changing(alloc: Global) -> Result<LanePart<Mute>, Fail>
     Ok(part)
 }
 
-/// Plays the lane on a new server beside a display.
+/// Plays the lane on a new server with a display.
 fn displayed<R: Threads + Wait + Sync>(
     rt: &R,
     alloc: Global,

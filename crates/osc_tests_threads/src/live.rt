@@ -13,7 +13,7 @@ use std::thread::Threads;
 
 const TWO_LANES: &str = "0 add /a\n1 send 2f610000\n0 pump\n1 send 2f620000\n";
 
-/// What the program is given beside its words and its script.
+/// What the program is given besides its words and its script.
 #[derive(Clone, Copy)]
 pub(crate) struct Setting {
     boxes: usize,

@@ -1,4 +1,4 @@
-// Two links that are served on one server, with a ticker beside them.
+// Two links that are served on one server, with a ticker next to them.
 ghost use Rattle.std.specs.Prelude.{◌<◌, None};
 
 use crate::callers::enrolled;

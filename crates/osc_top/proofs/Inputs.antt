@@ -5,7 +5,7 @@ use Rattle.osc_script.specs.declared.fault.ScriptFault.{ScriptFault}
 use Rattle.osc_script.specs.declared.line.Line.{Line}
 use Rattle.osc_script.specs.declared.mode.Mode.TheVariants.{Lanes}
 use Rattle.osc_script.specs.Scripts.{script_of}
-use Rattle.osc_ends.specs.declared.judging.CheckedRecording.{CheckedRecording}
+use Rattle.osc_ends.specs.declared.judgement.CheckedRecording.{CheckedRecording}
 use Rattle.osc_ends.specs.Judging.{IsChecked}
 use Rattle.osc_ends.specs.Printing.{refusal_text}
 use Rattle.osc_ends.specs.Sinks.{SinkChange, GainsUnless}

@@ -17,7 +17,7 @@ use Rattle.osc_live.proofs.Roomier.{few_callers, few_in}
 use Rattle.osc_replay.specs.Checking.{IsCheckOf}
 use Rattle.osc_replay.specs.Disagreeing.{IsRecordingOf}
 use Rattle.osc_replay.specs.Printed.{printed}
-use Rattle.osc_replay.specs.declared.checking.Checked.{Checked}
+use Rattle.osc_replay.specs.declared.checked.Checked.{Checked}
 use Rattle.osc_script.specs.declared.fault.ScriptFault.{ScriptFault}
 use Rattle.osc_script.specs.declared.line.Line.{Line}
 use Rattle.osc_script.specs.declared.mode.Mode.TheVariants.{Lanes}
@@ -39,7 +39,7 @@ use Rattle.osc_top.specs.Recorded.{EndsBoth}
 use Rattle.osc_top.specs.Resumed.{PlaysResumed, RecordsOneHistory, boxes_for, callers_for}
 use Rattle.osc_top.specs.Staged.{IsStaged}
 use Rattle.osc_top.specs.Taken.{IsPast, OfInputs, RefusesPastOrScript, TakesIn}
-use Rattle.osc_top.specs.declared.taking.Taken.{Taken}
+use Rattle.osc_top.specs.declared.inputs.Taken.{Taken}
 use Rattle.osc_top.proofs.Continued.{history_since, resumed_ascending}
 use Rattle.osc_top.proofs.Dealt.{few_lanes}
 use Rattle.osc_top.proofs.Inputs.{any_inputs}

@@ -4,7 +4,7 @@ use Rattle.osc_model.specs.Limits.{Limits}
 use Rattle.osc_model.specs.Events.{Entry}
 use Rattle.osc_core.specs.Ids.{is_ascending}
 use Rattle.osc_replay.specs.Disagreeing.{IsRecordingOf}
-use Rattle.osc_replay.specs.declared.checking.Checked.{Checked}
+use Rattle.osc_replay.specs.declared.checked.Checked.{Checked}
 use Rattle.osc_script.specs.declared.line.Line.{Line}
 use Rattle.osc_script.specs.Adds.{count_adds}
 use Rattle.osc_ends.specs.declared.status.TheConstants.{BANK_SHORT, CALLERS_FULL}

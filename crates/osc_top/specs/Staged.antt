@@ -1,4 +1,4 @@
--- Inside the crate: what became of a script and of a bank, before it is written.
+-- Inside the crate: the results of a script and of a bank, before it is written.
 use Rattle.std.specs.Prelude.{◌≡◌, ℕ, Bool, List, Option}
 use Rattle.osc_model.specs.Events.{Entry, Room}
 use Rattle.osc_core.specs.Standing.{history_in}

@@ -27,12 +27,12 @@ ghost use Rattle.osc_top.specs.EndsResumed.{EndsResumed, IsUnresumed};
 ghost use Rattle.osc_top.specs.Resumed.{PlaysResumed};
 ghost use Rattle.osc_top.specs.Staged.{IsStaged};
 
-use crate::counting::lane_count;
-use crate::dealing::deal;
+use crate::bank::deal;
+use crate::counts::lane_count;
+use crate::inputs::Taken;
+use crate::lanes::settle;
 use crate::live::{end, unplayed};
 use crate::played::Played;
-use crate::staging::settle;
-use crate::taking::Taken;
 use osc_edge::Sink;
 use osc_ends::status::NO_MEMORY;
 use osc_ends::{Ended, bank_short, callers_full, count_adds};
@@ -114,7 +114,7 @@ fn refuse_short<O: Sink>(
     None
 }
 
-/// Plays the lanes of the lines beside each other on the server that goes on from the past. The k-th method that the
+/// Plays the lanes of the lines at the same time on the server that goes on from the past. The k-th method that the
 /// past adds has the k-th box, and the k-th add of the lines the k-th after these. An `Err` means out of memory.
 fn stage_after<M: Method + Send, W: Threads + Wait + Sync, G: Gate + Sync>(
     rt: &W,

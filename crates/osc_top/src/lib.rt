@@ -2,21 +2,21 @@
 #![tactic(auto)]
 
 mod after;
+mod bank;
 mod caps;
-mod counting;
-mod dealing;
+mod counts;
+mod inputs;
+mod lanes;
 pub mod laws;
 mod link_ports;
+mod links;
+mod list;
 mod live;
-mod live_writing;
 mod name;
+mod outputs;
 mod played;
 mod resume;
-mod serving;
-mod staging;
-mod taking;
 mod transport;
-mod watching;
 
 pub use link_ports::ports;
 pub use live::live_top;

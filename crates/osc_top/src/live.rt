@@ -64,11 +64,11 @@ ghost use Rattle.osc_ends.specs.Printing.{recorded_text};
 ghost use Rattle.osc_ends.specs.Sinks.{sink_change, Fails, IsSteady, GainsUnless};
 
 use crate::caps::live_limits;
+use crate::lanes::stage;
 use crate::laws::enough_room_stops_no_lane;
-use crate::live_writing::write_both;
+use crate::links::stage_links;
+use crate::outputs::write_both;
 use crate::played::Played;
-use crate::serving::stage_links;
-use crate::staging::stage;
 use osc_edge::{Clock, Link, Sink, Source};
 use osc_ends::status::NO_MEMORY;
 use osc_ends::{Ended, bank_short, count_adds, read_script, usage};

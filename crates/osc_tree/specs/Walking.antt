@@ -51,7 +51,7 @@ abbrev pub shared_before : List Method → List (List ℕ) → ℕ → ℕ
 shared_before methods names zero = 0
 shared_before methods names (suc at) = shared_at methods names at
 
--- two texts begin with the same names, so many and in so many bytes, each with a slash behind it
+-- two texts begin with the same names, so many and in so many bytes, each with a slash after it
 pub record IsBegun (count bytes : ℕ) (names others : List ℕ) : Type 0 where
   pub few : count ≤ bytes
   pub first : bytes ≤ length names
@@ -124,7 +124,7 @@ AreReadyParts read pattern = (place : ℕ) (d : ReadyPart) → place < length (p
 abbrev pub is_ahead : List ℕ → List ℕ → Bool
 is_ahead first second = is_lt (slice_cmp nat_cmp first second)
 
--- a text without a slash behind what is left of an address: what is left of a later one, and begins with a name that
+-- a text without a slash after what is left of an address: what is left of a later one, and begins with a name that
 -- the part matches, isn't before the text
 pub record IsAim (part rest text : List ℕ) : Type 0 where
   pub ahead : is_ahead rest text ≡ true
@@ -134,12 +134,12 @@ pub record IsAim (part rest text : List ℕ) : Type 0 where
       → is_ahead other rest ≡ false → is_ahead other text ≡ false
 
 -- what begins with a text, and isn't before what is left of an address, isn't before another text either; the byte is above
--- all that stands behind the first text
+-- all that stands after the first text
 abbrev pub IsReached : List ℕ → ℕ → List ℕ → List ℕ → Type 0
 IsReached rest end text aim = (other : List ℕ) → is_ahead other text ≡ false → is_ahead other (text ++ end ∷ []) ≡ true
     → is_ahead other rest ≡ false → is_ahead other aim ≡ false
 
--- the names behind the first that parts match, and where the walk goes on behind them
+-- the names after the first that parts match, and where the walk goes on after them
 pub record IsOnward (pattern names : List ℕ) (matching at : ℕ) (text : List ℕ) : Type 0 where
   pub part : matching < length (parts_of pattern)
   pub bound : at ≤ length names

@@ -1,4 +1,4 @@
-// Where a walk goes on, behind a name that a part doesn't match.
+// Where a walk goes on, after a name that a part doesn't match.
 ghost use Rattle.std.specs.Prelude.{◌≡◌, ◌≤◌, ◌<◌, ◌+◌, ◌++◌, ◌∷◌, ◌==◌, ℕ, List, [], All, Contains};
 ghost use Rattle.std.specs.Prelude.{IfSome, MatchOption, false, true, length, take, position};
 ghost use Rattle.std.specs.Prelude.{option_map, get_or, nat_eq, Some, if◌then◌else◌};
@@ -32,7 +32,7 @@ pub(crate) fn find_aim<'a>(part: &'a [u8], rest: &[u8]) -> Option<(usize, &'a [u
     aim_before(&part[..end], 0x7f, rest)
 }
 
-/// The text, where what is left of an address is before it; what no address is behind, where it is behind the text and
+/// The text, where what is left of an address is before it; what no address is after, where it is after the text and
 /// the byte.
 fn aim_before<'a>(text: &'a [u8], end: u8, rest: &[u8]) -> Option<(usize, &'a [u8])>
     requires low { All (λ byte. byte < 127) rest.now }
@@ -51,7 +51,7 @@ fn aim_before<'a>(text: &'a [u8], end: u8, rest: &[u8]) -> Option<(usize, &'a [u
     Some((0, b"\x7f"))
 }
 
-/// Whether what isn't before the text is before it with the byte behind it.
+/// Whether what isn't before the text is before it with the byte after it.
 fn is_within(rest: &[u8], text: &[u8], end: u8) -> bool
     requires { is_ahead rest.now text.now ≡ false }
     ensures { result ≡ is_ahead rest.now (text.now ++ end ∷ []) }
@@ -85,7 +85,7 @@ fn aim_among<'a>(part: &'a [u8], end: usize, rest: &[u8]) -> Option<(usize, &'a 
     Some((end, aim))
 }
 
-/// The byte that is above all which stand behind a text of a choice, by what follows that.
+/// The byte that is above all which stand after a text of a choice, by what follows that.
 fn byte_behind(behind: &[u8]) -> u8
     ensures { result ≡ if nat_eq (length behind.now) 0 then 48 else 127 }
 {
@@ -139,7 +139,7 @@ fn first_comma(texts: &[u8]) -> Option<usize>
     texts.iter().position(|byte| *byte == b',')
 }
 
-/// The least of the texts that what is left of an address is before, or what no address is behind. There is none where
+/// The least of the texts that what is left of an address is before, or what no address is after. There is none where
 /// what is left stands at one of the texts.
 fn least_text<'a>(texts: &'a [u8], end: u8, rest: &[u8]) -> Option<&'a [u8]>
     requires low { All (λ byte. byte < 127) rest.now }
@@ -162,7 +162,7 @@ fn least_text<'a>(texts: &'a [u8], end: u8, rest: &[u8]) -> Option<&'a [u8]>
     }
 }
 
-/// The text, if it is before what is aimed at and behind what is left of the address, which doesn't stand at it.
+/// The text, if it is before what is aimed at and after what is left of the address, which doesn't stand at it.
 fn nearer<'a>(aim: &'a [u8], text: &'a [u8], end: u8, rest: &[u8]) -> Option<&'a [u8]>
     requires ahead { is_ahead rest.now aim.now ≡ true }
     requires one { list_any is_slash aim.now ≡ false }

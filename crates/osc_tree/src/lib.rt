@@ -2,19 +2,19 @@
 //! Pattern Matching").
 #![tactic(auto)]
 
-mod adding;
+mod admission;
 mod aim;
-mod beginning;
 mod guesses;
 mod hits;
 pub mod laws;
 mod literal;
 mod lookup;
-mod matching;
+mod matches;
 mod names;
 mod nodes;
 mod order;
 mod parts;
+mod prefix;
 mod refusals;
 mod registered;
 mod search;

@@ -12,7 +12,7 @@ ghost use Rattle.osc_tree.specs.Walking.{shared, IsBegun};
 
 use osc_pattern::Address;
 
-/// Whole names that a text begins with, the slash behind each among their bytes.
+/// Whole names that a text begins with, the slash after each among their bytes.
 #[derive(Clone, Copy)]
 pub(crate) struct Front {
     pub(crate) names: usize,
@@ -61,7 +61,7 @@ fn first_slash(names: &[u8]) -> Option<usize>
     names.iter().position(|byte| *byte == b'/')
 }
 
-/// Where the names behind so many of them begin, if there are more.
+/// Where the names after so many of them begin, if there are more.
 pub(crate) fn names_at(names: &[u8], count: usize) -> Option<usize>
     ensures bound { IfSome result (λ at. at ≤ length names.now) }
     ensures cut { IfSome result (λ at. slice_split is_slash (drop at names.now)

@@ -14,7 +14,7 @@ use crate::registered::Registered;
 use osc_pattern::Address;
 
 /// How many prefixes by parts of the address no method's address has. No method has more names in common with it than
-/// one of the two beside the place that the search for it came to.
+/// one of the two next to the place that the search for it came to.
 pub(crate) fn new_nodes(methods: &[Registered], places: &[u32], at: usize, address: &Address) -> u32
     requires list { IsMethodList (methods_of methods.now) }
     requires order { IsOrder methods.now places.now }

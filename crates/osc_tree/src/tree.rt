@@ -11,11 +11,11 @@ ghost use Rattle.osc_tree.specs.Matching.{AreHits, matching_ids};
 ghost use Rattle.osc_tree.specs.Views.{methods_of};
 ghost use Rattle.osc_tree.specs.Walking.{most_steps};
 
-use crate::adding::admit;
+use crate::admission::admit;
 use crate::guesses::Guesses;
 use crate::hits::Hits;
 use crate::lookup::{is_there, with_id};
-use crate::matching::find_ids;
+use crate::matches::find_ids;
 use crate::nodes::new_nodes;
 use crate::order::{enter, leave};
 use crate::refusals::{NotThere, TreeRefusal};

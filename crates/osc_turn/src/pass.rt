@@ -1,7 +1,6 @@
 //! A caller's token.
-ghost use Rattle.std.specs.Prelude.{◌≡◌, length, slice_index_or, []};
+ghost use Rattle.std.specs.Prelude.{◌≡◌, length, slice_index_or};
 ghost use Rattle.osc_turn.specs.Rule.{spent, Rests};
-ghost use Rattle.osc_turn.specs.Passes.{view};
 
 use crate::view::View;
 use atomic_table::{Badge, Seat};
@@ -21,6 +20,10 @@ impl Drop for Pass {
 }
 
 impl Pass {
+    ghost use Rattle.std.specs.Prelude.{◌≡◌, []};
+    ghost use Rattle.osc_turn.specs.Rule.{Rests};
+    ghost use Rattle.osc_turn.specs.Passes.{view};
+
     pub(crate) fn of<S>(seat: Seat<Option<S>, View>) -> Pass
         requires slots { seat.me.1 ≡ [] }
         requires rests { Rests seat.me.0 }

@@ -1,8 +1,5 @@
 //! The turn and its value.
-ghost use Rattle.std.specs.Prelude.{◌≡◌, ◌<◌, [], false, length, All};
-ghost use Rattle.osc_turn.specs.History.{StartsWith, entries_of, texts};
-ghost use Rattle.osc_turn.specs.Numbers.{times};
-ghost use Rattle.osc_turn.specs.Passes.{opened_with};
+ghost use Rattle.std.specs.Prelude.{◌≡◌};
 
 use crate::job::Kept;
 use crate::plays::Law;
@@ -25,6 +22,11 @@ impl<S: Kept + Drop> Drop for Turn<S> {
 }
 
 impl<S: Kept> Turn<S> {
+    ghost use Rattle.std.specs.Prelude.{◌≡◌, ◌<◌, [], false, length, All};
+    ghost use Rattle.osc_turn.specs.History.{StartsWith, entries_of, texts};
+    ghost use Rattle.osc_turn.specs.Numbers.{times};
+    ghost use Rattle.osc_turn.specs.Passes.{opened_with};
+
     // Takes the value out, where the seat has every number that was drawn.
     pub(crate) fn into_value(self, seat: Seat<Option<S>, View>) -> S
         requires ours { seat.table_id ≡ self.table.shared.table_id }

@@ -1,4 +1,4 @@
-//! A display beside a live server: the list of its methods, for a watcher that never takes the turn.
+//! A display next to a live server: the list of its methods, for a watcher that never takes the turn.
 ghost use Rattle.std.specs.Prelude.{◌≡◌, length, IfOk};
 ghost use Rattle.osc_turn.specs.Passes.{view};
 ghost use Rattle.osc_turn.specs.History.{StartsWith};

@@ -14,7 +14,7 @@ use osc_method::Method;
 use osc_pattern::Address;
 use std::sync::Wait;
 
-/// What became of two methods, of which the one takes the other's place.
+/// What happened to two methods, of which the one takes the other's place.
 #[derive(Drop)]
 pub struct Replaced<M> {
     /// The one that was at the address: its id, and its box.

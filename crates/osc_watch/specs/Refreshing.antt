@@ -7,8 +7,8 @@ use Rattle.osc_model.specs.Recordings.{record_text}
 use Rattle.osc_watch.specs.declared.edit.Edit.{Edit}
 use Rattle.osc_watch.specs.declared.board.Board.{Board}
 use Rattle.osc_watch.specs.declared.stop.Stop.{Stop}
-use Rattle.osc_watch.specs.declared.refreshing.Part.{Part}
-use Rattle.osc_watch.specs.declared.refreshing.Part.TheVariants.{Whole}
+use Rattle.osc_watch.specs.declared.refresh.Part.{Part}
+use Rattle.osc_watch.specs.declared.refresh.Part.TheVariants.{Whole}
 use Rattle.osc_watch.specs.Edits.{edits_of}
 use Rattle.osc_watch.specs.Parts.{text_of}
 use Rattle.osc_watch.specs.Notes.{AreReadable, AllIn}

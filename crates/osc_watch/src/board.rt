@@ -5,8 +5,8 @@ ghost use Rattle.osc_watch.specs.Rule.{head_of};
 ghost use Rattle.osc_watch.specs.Waiting.{held_list, edits_in, newest};
 
 use crate::change::Change;
+use crate::reach::Head;
 use crate::reached::Reached;
-use crate::reaching::Head;
 use crate::told::SheetWriter;
 use std::alloc::Global;
 

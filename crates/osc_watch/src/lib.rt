@@ -2,37 +2,37 @@
 //! was published.
 #![tactic(auto)]
 
-mod agreeing;
+mod agreement;
 mod board;
 mod change;
-mod closing;
+mod close;
 mod edit;
 mod entries;
 mod law;
 pub mod laws;
-mod listing;
+mod notes;
 mod notice;
-mod noting;
-mod opening;
+mod open;
+mod reach;
 mod reached;
-mod reaching;
-mod reading;
+mod read;
 mod recorded;
-mod refreshing;
+mod refresh;
 mod row;
+mod rows;
 mod rule;
 mod served;
 mod sheet;
 mod stop;
-mod telling;
+mod tells;
 mod told;
 mod watcher;
 
 pub use board::Board;
 pub use edit::Edit;
 pub use notice::Notice;
-pub use opening::MAX_WATCHERS;
+pub use open::MAX_WATCHERS;
 pub use recorded::Recorded;
-pub use refreshing::Fresh;
+pub use refresh::Fresh;
 pub use row::{MethodRow, RowEdit};
 pub use watcher::{MethodRows, Methods, Watcher};

@@ -2,9 +2,9 @@
 ghost use Rattle.std.specs.Prelude.{◌≡◌};
 
 use crate::change::Change;
-use crate::listing::change;
 use crate::reached::Reached;
 use crate::row::MethodRow;
+use crate::rows::change;
 use left_right::Absorb;
 use std::alloc::{AllocError, Global};
 use std::collections::LinkedList;

@@ -6,7 +6,7 @@ pub mod laws;
 mod names;
 mod number;
 mod options;
-mod reading;
+mod parser;
 mod said;
 mod verb;
 

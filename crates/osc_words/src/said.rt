@@ -15,7 +15,7 @@ use crate::command::{
 use crate::names::{before_last_two, last_two};
 use crate::number::number_within;
 use crate::options::{Flag, Quantity};
-use crate::reading::{are_options, read};
+use crate::parser::{are_options, read};
 use crate::verb::Verb;
 use clap::ArgMatches;
 use osc_model::Late;

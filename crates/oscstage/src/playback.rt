@@ -109,7 +109,7 @@ impl Sink for Unkept {
 
 type SheetLink<'a, W> = TimedLink<'a, MemoryLink, W>;
 
-/// What became of the sheet.
+/// What happened to the sheet.
 #[derive(Drop)]
 struct Performed {
     ended: Ended,

@@ -1,7 +1,7 @@
 use Rattle.std.proofs.Common.{◌∙◌, ◌++◌, ℕ, length, length-append, replicate, ap, arith}
 use Rattle.std.proofs.lemmas.List.{length-replicate}
 use Rattle.osc_atoms.specs.Atoms.{word, string, string_end}
-use Rattle.osc_record.specs.declared.entry_reading.TheConstants.{REMOVE}
+use Rattle.osc_record.specs.declared.entry_messages.TheConstants.{REMOVE}
 use Rattle.osc_record.proofs.AddressRows.{remove_shape, one_more}
 use Rattle.osc_record.proofs.rows.append_remove.Goals as goal
 

@@ -1,6 +1,6 @@
 use Rattle.std.proofs.Common.{◌≡◌, List, ℕ, ◌++◌, length, replicate, ap, ◌∙◌, append_assoc}
 use Rattle.osc_atoms.specs.Atoms.{word, tag, blob_end}
-use Rattle.osc_record.specs.declared.entry_reading.TheConstants.{SUBMIT}
+use Rattle.osc_record.specs.declared.entry_messages.TheConstants.{SUBMIT}
 use Rattle.osc_record.proofs.rows.append_submit_row.Goals as goal
 
 three : (o o1 o2 o3 a b c d p e : List ℕ) → o1 ≡ o ++ (a ++ (b ++ (c ++ d))) → o2 ≡ o1 ++ p → o3 ≡ o2 ++ e

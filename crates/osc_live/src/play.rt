@@ -1,0 +1,45 @@
+// How an event is played by whoever holds the turn.
+use crate::ask::Ask;
+use crate::asked::Asking;
+use osc_core::Core;
+use osc_method::Method;
+use osc_model::laws::callers_are_counted;
+use osc_record::laws::headers_differ;
+use osc_turn::Job;
+
+/// What a caller asks, until it is played, and what it is answered then.
+#[derive(Drop)]
+pub(crate) struct Playing<A, B> {
+    pub(crate) asking: Asking,
+    pub(crate) asked: Option<A>,
+    pub(crate) answer: Option<B>,
+}
+
+impl<M: Method, B: Drop, A: Ask<M, B> + Drop> Job<Core<M>> for Playing<A, B> {
+    ghost use Rattle.osc_turn.specs.History.{texts};
+    ghost use Rattle.osc_turn.specs.Passes.{view};
+    ghost use Rattle.osc_model.specs.Recordings.{header_text};
+    ghost use Rattle.osc_live.specs.Asked.{Did};
+
+    ghost base_kind = { λ job. header_text job.asking.caps };
+
+    ghost base = { λ job. texts (view job.asking.was.value).seen };
+
+    ghost did = { λ old new before after.
+        Did A.event A.says A.tells old.asking.caps old.asking.caller old.asked new.answer before
+        after };
+
+    fn run(&mut self, state: &mut Core<M>) -> bool {
+        callers_are_counted();
+        headers_differ();
+        // Limits are in their ranges, as each of them tells.
+        let _ = self.asking.caps.units();
+        let caller = self.asking.caller;
+        let Some(asked) = self.asked.take() else {
+            return false;
+        };
+        let (answer, recorded) = asked.ask(caller, state);
+        let _ = self.answer.replace(answer);
+        recorded
+    }
+}

@@ -1,0 +1,564 @@
+// The methods that a pattern matches.
+ghost use Rattle.osc_pattern.specs.declared.limits.TheConstants.{MAX_NAME, MAX_NAMES};
+ghost use Rattle.std.specs.Prelude.{◌≡◌, ◌≤◌, ◌<◌, ◌+◌, ◌*◌, ◌++◌, ◌∷◌, ◌==◌, ◌&&◌, [], not, nat_le};
+ghost use Rattle.std.specs.Prelude.{nat_lt, if◌then◌else◌, true, None, length, take, drop, filter};
+ghost use Rattle.std.specs.Prelude.{map, position, get_or, All, vec_len, vec_capacity, MatchBool, IfSome, false};
+ghost use Rattle.std.specs.List.{list_any, slice_split, position_or_len};
+ghost use Rattle.std.specs.List.Sorted.{IsPartitionedBy};
+ghost use Rattle.osc_pattern.specs.Items.{is_slash};
+ghost use Rattle.osc_pattern.specs.Methods.{IsMethodList};
+ghost use Rattle.osc_pattern.specs.Patterns.{parts_of, part_at, is_special, matches};
+ghost use Rattle.osc_pattern.specs.Reading.{match_part};
+ghost use Rattle.osc_pattern.specs.ReadyParts.{StandsFor};
+ghost use Rattle.osc_tree.specs.Matching.{matching_ids};
+ghost use Rattle.osc_tree.specs.Order.{IsOrder};
+ghost use Rattle.osc_tree.specs.Views.{method_at, methods_of, methods_at};
+ghost use Rattle.osc_tree.specs.Walking.{most_steps, shared, agreeing, spent, known_at};
+ghost use Rattle.osc_tree.specs.Walking.{IsWalked, IsSorted, IsFront, IsOnward, AreParts};
+
+use crate::aim::find_aim;
+use crate::guesses::Guesses;
+use crate::literal::first_special;
+use crate::lookup::{guessed_id, id_at};
+use crate::names::{
+    Front, first_name, names_at, names_of, shared_front, shared_names, whole_names,
+};
+use crate::parts::{find_parts, read_parts, ready_parts};
+use crate::prefix::beginning_with;
+use crate::registered::Registered;
+use crate::search::count_before_after;
+use osc_pattern::laws::{an_address_is_a_pattern, plain_pattern, tests_are_exact};
+use osc_pattern::{MAX_NAMES, Part, Pattern, Steps};
+use std::sync::ledger::Ledger;
+
+/// What is found of a pattern before its walk: how many parts it has, and the whole names that all methods which are
+/// walked begin with.
+#[derive(Clone, Copy)]
+struct Outline {
+    parts: u32,
+    front: Front,
+}
+
+/// Fills the list with the ids of the methods that the pattern matches, in ascending order of the address. A pattern
+/// without special bytes is looked up; else only the methods that begin with its literal front are tried. One with more
+/// parts than an address has names matches none.
+#[inline(always)]
+pub(crate) fn find_ids<L: Ledger>(
+    methods: &[Registered],
+    places: &[u32],
+    guesses: &Guesses,
+    pattern: &Pattern<'_>,
+    ids: &mut Vec<u32>,
+    steps: &mut Steps<L>,
+)
+    requires list { IsMethodList (methods_of methods.now) }
+    requires order { IsOrder methods.now places.now }
+    requires room { length places.now ≤ vec_capacity ids.old }
+    ensures ids { ids.new.items ≡ matching_ids pattern.now (methods_of methods.now) }
+    ensures len { vec_len ids.new ≤ length places.now }
+    ensures capacity { vec_capacity ids.old ≤ vec_capacity ids.new }
+    ensures counted { steps.old ≤ steps.new }
+    ensures bounded { steps.new ≤ steps.old + most_steps pattern.now (methods_of methods.now) }
+{
+    ids.clear();
+    if add_guessed(methods, guesses, pattern, ids) {
+        return;
+    }
+    look_up(methods, places, pattern, ids, steps);
+}
+
+/// The same, where the method isn't where it is guessed to be.
+#[inline(never)]
+fn look_up<L: Ledger>(
+    methods: &[Registered],
+    places: &[u32],
+    pattern: &Pattern<'_>,
+    ids: &mut Vec<u32>,
+    steps: &mut Steps<L>,
+)
+    requires list { IsMethodList (methods_of methods.now) }
+    requires order { IsOrder methods.now places.now }
+    requires empty { ids.old.items ≡ [] }
+    requires room { length places.now ≤ vec_capacity ids.old }
+    ensures ids { ids.new.items ≡ matching_ids pattern.now (methods_of methods.now) }
+    ensures len { vec_len ids.new ≤ length places.now }
+    ensures capacity { vec_capacity ids.old ≤ vec_capacity ids.new }
+    ensures counted { steps.old ≤ steps.new }
+    ensures bounded { steps.new ≤ steps.old + most_steps pattern.now (methods_of methods.now) }
+{
+    let text = pattern.bytes();
+    match first_special(text) {
+        Some(end) => {
+            let parts = pattern.parts();
+            if parts as usize > MAX_NAMES {
+                return;
+            }
+            let near = beginning_with(methods, places, &text[..end]);
+            let front = whole_names(&text[1..end]);
+            walk(methods, near, pattern, Outline { parts, front }, ids, steps);
+        }
+        None => add_spelled(methods, places, pattern, ids),
+    }
+}
+
+/// Adds the id of the method whose address the pattern spells, where it stands where it is guessed to, and answers
+/// whether it does. The pattern matches no other.
+fn add_guessed(
+    methods: &[Registered],
+    guesses: &Guesses,
+    pattern: &Pattern<'_>,
+    ids: &mut Vec<u32>,
+) -> bool
+    requires list { IsMethodList (methods_of methods.now) }
+    requires empty { ids.old.items ≡ [] }
+    requires room { length methods.now ≤ vec_capacity ids.old }
+    ensures ids { MatchBool result
+        (ids.new.items ≡ matching_ids pattern.now (methods_of methods.now))
+        (ids.new.items ≡ []) }
+    ensures len { vec_len ids.new ≤ length methods.now }
+    ensures capacity { vec_capacity ids.old ≤ vec_capacity ids.new }
+{
+    an_address_is_a_pattern();
+    tests_are_exact();
+    let Some(id) = guessed_id(methods, guesses, pattern.bytes()) else {
+        return false;
+    };
+    add_id(id, ids);
+    true
+}
+
+/// Adds the id of the method whose address the pattern spells, if there is one. It matches no other.
+fn add_spelled(methods: &[Registered], places: &[u32], pattern: &Pattern<'_>, ids: &mut Vec<u32>)
+    requires list { IsMethodList (methods_of methods.now) }
+    requires order { IsOrder methods.now places.now }
+    requires plain { position is_special pattern.now ≡ None }
+    requires empty { ids.old.items ≡ [] }
+    requires room { length places.now ≤ vec_capacity ids.old }
+    ensures ids { ids.new.items ≡ matching_ids pattern.now (methods_of methods.now) }
+    ensures len { vec_len ids.new ≤ length places.now }
+    ensures capacity { vec_capacity ids.old ≤ vec_capacity ids.new }
+{
+    plain_pattern();
+    tests_are_exact();
+    if let Some(id) = id_at(methods, places, pattern.bytes()) {
+        add_id(id, ids);
+    }
+}
+
+/// A pattern with more bytes than this is worth reading once for all names.
+const SHORT_PATTERN: usize = 256;
+
+/// Adds the ids of those of the methods at these places that the pattern matches.
+fn walk<L: Ledger>(
+    methods: &[Registered],
+    near: &[u32],
+    pattern: &Pattern<'_>,
+    outline: Outline,
+    ids: &mut Vec<u32>,
+    steps: &mut Steps<L>,
+)
+    requires parts { outline.parts ≡ length (parts_of pattern.now) }
+    requires few { outline.parts ≤ MAX_NAMES }
+    requires within { All (λ place. place < length methods.now) near.now }
+    requires sorted { IsSorted (methods_at methods.now near.now) }
+    requires front { IsFront outline.front.names outline.front.bytes
+        (methods_at methods.now near.now) }
+    requires empty { ids.old.items ≡ [] }
+    requires room { length near.now ≤ vec_capacity ids.old }
+    ensures ids { ids.new.items ≡ map (λ method. method.id)
+        (filter (λ method. matches pattern.now method.address) (methods_at methods.now near.now)) }
+    ensures len { vec_len ids.new ≤ length near.now }
+    ensures capacity { vec_capacity ids.old ≤ vec_capacity ids.new }
+    ensures counted { steps.old ≤ steps.new }
+    ensures bounded { steps.new
+        ≤ steps.old + most_steps pattern.now (methods_at methods.now near.now) }
+{
+    if near.is_empty() {
+        return;
+    }
+    if pattern.bytes().len() > SHORT_PATTERN {
+        walk_read(methods, near, pattern, outline, ids, steps);
+    } else {
+        let found = find_parts(pattern, outline.parts);
+        walk_found(methods, near, pattern, outline, &found, ids, steps);
+    }
+}
+
+/// The same, for a pattern whose parts are read once. It alone needs their room, some 300 kilobytes, and so is not
+/// put into its caller: a function touches each page of its room when it is entered.
+#[inline(never)]
+fn walk_read<L: Ledger>(
+    methods: &[Registered],
+    near: &[u32],
+    pattern: &Pattern<'_>,
+    outline: Outline,
+    ids: &mut Vec<u32>,
+    steps: &mut Steps<L>,
+)
+    requires parts { outline.parts ≡ length (parts_of pattern.now) }
+    requires few { outline.parts ≤ MAX_NAMES }
+    requires within { All (λ place. place < length methods.now) near.now }
+    requires sorted { IsSorted (methods_at methods.now near.now) }
+    requires front { IsFront outline.front.names outline.front.bytes
+        (methods_at methods.now near.now) }
+    requires empty { ids.old.items ≡ [] }
+    requires room { length near.now ≤ vec_capacity ids.old }
+    ensures ids { ids.new.items ≡ map (λ method. method.id)
+        (filter (λ method. matches pattern.now method.address) (methods_at methods.now near.now)) }
+    ensures len { vec_len ids.new ≤ length near.now }
+    ensures capacity { vec_capacity ids.old ≤ vec_capacity ids.new }
+    ensures counted { steps.old ≤ steps.new }
+    ensures bounded { steps.new
+        ≤ steps.old + most_steps pattern.now (methods_at methods.now near.now) }
+{
+    let read = read_parts(pattern, outline.parts);
+    let found = ready_parts(pattern, outline.parts, &read);
+    walk_found(methods, near, pattern, outline, &found, ids, steps);
+}
+
+/// The same, for the parts that were found.
+fn walk_found<L: Ledger>(
+    methods: &[Registered],
+    near: &[u32],
+    pattern: &Pattern<'_>,
+    outline: Outline,
+    found: &[Part<'_>; MAX_NAMES],
+    ids: &mut Vec<u32>,
+    steps: &mut Steps<L>,
+)
+    requires parts { outline.parts ≡ length (parts_of pattern.now) }
+    requires few { outline.parts ≤ MAX_NAMES }
+    requires found { AreParts found.now pattern.now }
+    requires within { All (λ place. place < length methods.now) near.now }
+    requires sorted { IsSorted (methods_at methods.now near.now) }
+    requires front { IsFront outline.front.names outline.front.bytes
+        (methods_at methods.now near.now) }
+    requires empty { ids.old.items ≡ [] }
+    requires room { length near.now ≤ vec_capacity ids.old }
+    ensures ids { ids.new.items ≡ map (λ method. method.id)
+        (filter (λ method. matches pattern.now method.address) (methods_at methods.now near.now)) }
+    ensures len { vec_len ids.new ≤ length near.now }
+    ensures capacity { vec_capacity ids.old ≤ vec_capacity ids.new }
+    ensures counted { steps.old ≤ steps.new }
+    ensures bounded { steps.new
+        ≤ steps.old + most_steps pattern.now (methods_at methods.now near.now) }
+{
+    let wild = count_wild(pattern, outline.parts);
+    let mut at = 0;
+    let mut idle = 0;
+    while at < near.len() {
+        let (next, after) = visit(
+            methods, near, at, pattern, outline, found, wild, idle, ids, steps,
+        );
+        at = next;
+        idle = after;
+    }
+}
+
+/// How many parts there are up to the last that has a special byte.
+fn count_wild(pattern: &Pattern<'_>, parts: u32) -> u32
+    requires { parts ≡ length (parts_of pattern.now) }
+    ensures { All (λ part. list_any is_special part ≡ false) (drop result (parts_of pattern.now)) }
+{
+    if ends_special(pattern.bytes()) {
+        return parts;
+    }
+    let mut wild = parts;
+    while wild > 0 {
+        if first_special(pattern.part(wild - 1)).is_some() {
+            return wild;
+        }
+        wild -= 1;
+    }
+    0
+}
+
+/// Whether the last part is seen to have a special byte by its last byte alone.
+fn ends_special(text: &[u8]) -> bool {
+    match text {
+        [.., b'*' | b'?' | b']' | b'}'] => true,
+        _ => false,
+    }
+}
+
+/// How many bytes the names take up to the last part that isn't plain. With these names no other method matches.
+fn find_past(names: &[u8], wild: u32, parts: u32) -> Option<usize>
+    ensures bound { IfSome result (λ at. at ≤ length names.now) }
+    ensures cut { IfSome result (λ at. slice_split is_slash (drop at names.now)
+        ≡ drop wild (slice_split is_slash names.now)) }
+    ensures some { IfSome result (λ at. wild < parts) }
+{
+    if wild >= parts {
+        return None;
+    }
+    names_at(names, wild as usize)
+}
+
+/// Whether to look for where a walk goes on, after so many methods without: each time twice as rarely.
+fn looks(idle: u32) -> bool {
+    idle & idle.saturating_sub(1) == 0
+}
+
+/// Tries the method at this place, and tells where to go on: after all methods below the first node whose part doesn't
+/// match. What the method has in common with the one before it isn't matched again.
+#[inline(always)]
+fn visit<L: Ledger>(
+    methods: &[Registered],
+    places: &[u32],
+    at: usize,
+    pattern: &Pattern<'_>,
+    outline: Outline,
+    found: &[Part<'_>; MAX_NAMES],
+    wild: u32,
+    idle: u32,
+    ids: &mut Vec<u32>,
+    steps: &mut Steps<L>,
+) -> (usize, u32)
+    requires parts { outline.parts ≡ length (parts_of pattern.now) }
+    requires few { outline.parts ≤ MAX_NAMES }
+    requires found { AreParts found.now pattern.now }
+    requires within { All (λ place. place < length methods.now) places.now }
+    requires sorted { IsSorted (methods_at methods.now places.now) }
+    requires front { IsFront outline.front.names outline.front.bytes
+        (methods_at methods.now places.now) }
+    requires plain { All (λ part. list_any is_special part ≡ false)
+        (drop wild (parts_of pattern.now)) }
+    requires at { at < length places.now }
+    requires walked { IsWalked pattern.now (methods_at methods.now places.now) at ids.old.items }
+    requires room { length places.now ≤ vec_capacity ids.old }
+    ensures on { at < result.0 }
+    ensures walked { IsWalked pattern.now (methods_at methods.now places.now) result.0 ids.new.items }
+    ensures capacity { vec_capacity ids.old ≤ vec_capacity ids.new }
+    ensures counted { steps.old ≤ steps.new }
+    ensures bounded { steps.new + most_steps pattern.now
+        (take at (methods_at methods.now places.now))
+        ≤ steps.old + most_steps pattern.now (take result.0 (methods_at methods.now places.now)) }
+{
+    let method = &methods[places[at] as usize];
+    let names = names_of(&method.address);
+    let known = known_at(methods, places, at, names, outline.front);
+    let (matching, whole, last) = count_matching(
+        pattern,
+        outline.parts,
+        found,
+        known,
+        names,
+        steps,
+    );
+    if whole {
+        add_id(method.id, ids);
+        if let Some(bytes) = find_past(names, wild, outline.parts) {
+            let text = &method.address.bytes()[..1 + bytes];
+            return (
+                count_before_after(methods, places, at + 1, text, b"\x7f"),
+                0,
+            );
+        }
+        return (at + 1, idle);
+    }
+    if looks(idle)
+        && let Some((bytes, kept, tail)) = find_onward(pattern, outline.parts, matching, names)
+    {
+        let text = &method.address.bytes()[..1 + bytes + kept];
+        return (count_before_after(methods, places, at + 1, text, tail), 0);
+    }
+    if last {
+        return (at + 1, idle.saturating_add(1));
+    }
+    let least = least_shared(matching, outline.parts) as usize;
+    let more = count_sharing(methods, &places[at + 1..], names, least);
+    (at + 1 + more, idle.saturating_add(1))
+}
+
+/// The names that the method at this place has in common with the one before it, if any is. All begin with the front.
+fn known_at(methods: &[Registered], places: &[u32], at: usize, names: &[u8], front: Front) -> Front
+    requires within { All (λ place. place < length methods.now) places.now }
+    requires sorted { IsSorted (methods_at methods.now places.now) }
+    requires at { at < length places.now }
+    requires front { IsFront front.names front.bytes (methods_at methods.now places.now) }
+    requires bytes { names.now
+        ≡ drop 1 (get_or (methods_at methods.now places.now) at (method_at methods.now 0)).address }
+    requires names { slice_split is_slash names.now
+        ≡ parts_of (get_or (methods_at methods.now places.now) at
+        (method_at methods.now 0)).address }
+    ensures count { result.names
+        ≡ known_at (methods_at methods.now places.now) at (method_at methods.now 0) }
+    ensures bound { result.bytes ≤ length names.now }
+    ensures cut { slice_split is_slash (drop result.bytes names.now)
+        ≡ drop result.names (slice_split is_slash names.now) }
+{
+    if at == 0 {
+        return Front { names: 0, bytes: 0 };
+    }
+    let before = &methods[places[at - 1] as usize];
+    shared_front(front, names, names_of(&before.address))
+}
+
+/// Whether a part matches a name. A star alone does, and takes no step.
+#[inline(always)]
+fn matches_name<L: Ledger>(
+    pattern: &Pattern<'_>,
+    place: u32,
+    part: Part<'_>,
+    name: &[u8],
+    steps: &mut Steps<L>,
+) -> bool
+    requires part { place < length (parts_of pattern.now) }
+    requires found { StandsFor part (part_at pattern.now place) }
+    requires name { length name.now ≤ MAX_NAME }
+    ensures test { result ≡ match_part (part_at pattern.now place) name.now }
+    ensures counted { steps.old ≤ steps.new }
+    ensures bounded { steps.new
+        ≤ steps.old + (length (part_at pattern.now place) + 1) * (length name.now + 1) }
+{
+    if part.is_star() {
+        return true;
+    }
+    pattern.matches_found(place, part, name, steps)
+}
+
+/// How many parts match the names at their places, from the first on, whether these are all parts and all names, and
+/// whether no more than one name stands after them.
+/// Those that the names are known to begin with match.
+fn count_matching<L: Ledger>(
+    pattern: &Pattern<'_>,
+    parts: u32,
+    found: &[Part<'_>; MAX_NAMES],
+    known: Front,
+    names: &[u8],
+    steps: &mut Steps<L>,
+) -> (u32, bool, bool)
+    requires parts { parts ≡ length (parts_of pattern.now) }
+    requires few { parts ≤ MAX_NAMES }
+    requires found { AreParts found.now pattern.now }
+    requires short { All (λ name. length name ≤ MAX_NAME) (slice_split is_slash names.now) }
+    requires known { known.names
+        ≤ agreeing (parts_of pattern.now) (slice_split is_slash names.now) }
+    requires bound { known.bytes ≤ length names.now }
+    requires cut { slice_split is_slash (drop known.bytes names.now)
+        ≡ drop known.names (slice_split is_slash names.now) }
+    ensures count { result.0 ≡ agreeing (parts_of pattern.now) (slice_split is_slash names.now) }
+    ensures whole { result.1
+        ≡ (result.0 == parts && result.0 == length (slice_split is_slash names.now)) }
+    ensures last { result.2 ≡ true
+        → length (slice_split is_slash names.now) ≤ result.0 + 1 }
+    ensures more { result.2 ≡ true → result.1 ≡ false → result.0 < parts }
+    ensures counted { steps.old ≤ steps.new }
+    ensures bounded { steps.new
+        ≤ steps.old + spent known.names (parts_of pattern.now) (slice_split is_slash names.now) }
+{
+    let mut place = known.names as u32;
+    let mut rest = &names[known.bytes..];
+    while place < parts {
+        let (name, more) = first_name(rest);
+        if !matches_name(pattern, place, found[place as usize], name, steps) {
+            return (place, false, more.is_none());
+        }
+        place += 1;
+        match more {
+            Some(more) => rest = more,
+            None => return (place, place == parts, true),
+        }
+    }
+    (place, false, false)
+}
+
+/// Where the walk goes on after names of which so many match: how many bytes those take, how many more stay, and a text
+/// after them.
+#[inline(never)]
+fn find_onward<'a>(
+    pattern: &Pattern<'a>,
+    parts: u32,
+    matching: u32,
+    names: &[u8],
+) -> Option<(usize, usize, &'a [u8])>
+    requires parts { parts ≡ length (parts_of pattern.now) }
+    requires low { All (λ byte. byte < 127) names.now }
+    ensures kept { IfSome result (λ on. on.0 + on.1 ≤ length names.now) }
+    ensures on { IfSome result (λ on. IsOnward pattern.now names.now matching on.0
+        (take on.1 (drop on.0 names.now) ++ on.2.now)) }
+{
+    if matching >= parts {
+        return None;
+    }
+    let at = names_at(names, matching as usize)?;
+    let (kept, tail) = find_aim(pattern.part(matching), &names[at..])?;
+    Some((at, kept, tail))
+}
+
+/// How many names are shared by all methods that are passed over with one whose parts match so far.
+fn least_shared(matching: u32, parts: u32) -> u32
+    requires { matching ≤ parts }
+    ensures { result ≡ if nat_lt matching parts then matching + 1 else matching }
+{
+    if matching < parts {
+        matching + 1
+    } else {
+        matching
+    }
+}
+
+/// How many methods have at least so many names in common with an address, before the first that hasn't. Where
+/// addresses differ much, the first one hasn't.
+fn count_sharing(methods: &[Registered], places: &[u32], names: &[u8], least: usize) -> usize
+    requires within { All (λ place. place < length methods.now) places.now }
+    requires parted { IsPartitionedBy
+        (λ place. nat_le least (shared (slice_split is_slash names.now)
+        (parts_of (method_at methods.now place).address))) places.now }
+    ensures count { result
+        ≡ position_or_len (λ place. not (nat_le least (shared (slice_split is_slash names.now)
+        (parts_of (method_at methods.now place).address)))) places.now }
+    ensures bound { result ≤ length places.now }
+{
+    let [next, ..] = places else {
+        return 0;
+    };
+    if !is_sharing(methods, *next, names, least) {
+        return 0;
+    }
+    search_sharing(methods, places, names, least)
+}
+
+/// The same, by halving the range in which the first that hasn't must stand.
+fn search_sharing(methods: &[Registered], places: &[u32], names: &[u8], least: usize) -> usize
+    requires within { All (λ place. place < length methods.now) places.now }
+    requires parted { IsPartitionedBy
+        (λ place. nat_le least (shared (slice_split is_slash names.now)
+        (parts_of (method_at methods.now place).address))) places.now }
+    ensures count { result
+        ≡ position_or_len (λ place. not (nat_le least (shared (slice_split is_slash names.now)
+        (parts_of (method_at methods.now place).address)))) places.now }
+    ensures bound { result ≤ length places.now }
+{
+    let mut low = 0;
+    let mut high = places.len();
+    while low < high {
+        let middle = low + (high - low) / 2;
+        if is_sharing(methods, places[middle], names, least) {
+            low = middle + 1;
+        } else {
+            high = middle;
+        }
+    }
+    low
+}
+
+fn is_sharing(methods: &[Registered], place: u32, names: &[u8], least: usize) -> bool
+    requires { place < length methods.now }
+    ensures { result ≡ nat_le least (shared (slice_split is_slash names.now)
+        (parts_of (method_at methods.now place).address)) }
+{
+    least <= shared_names(names, names_of(&methods[place as usize].address))
+}
+
+fn add_id(id: u32, ids: &mut Vec<u32>)
+    requires { vec_len ids.old < vec_capacity ids.old }
+    ensures ids { ids.new.items ≡ ids.old.items ++ id ∷ [] }
+    ensures len { vec_len ids.new ≡ vec_len ids.old + 1 }
+    ensures capacity { vec_capacity ids.old ≤ vec_capacity ids.new }
+{
+    match ids.push(id) {
+        Ok(()) => {}
+        Err(_) => unreachable!(),
+    }
+}

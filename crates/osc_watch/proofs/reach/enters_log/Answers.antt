@@ -1,0 +1,16 @@
+use Rattle.std.proofs.Common.{sym, ◌∙◌, ap}
+use Rattle.osc_watch.specs.Listing.{edit_of}
+use Rattle.osc_watch.proofs.Begun.{adds_moves}
+use Rattle.osc_watch.proofs.reach.enters_log.Goals as goal
+
+pub compare_exchange-found-requires : goal.compare_exchange-found-requires
+compare_exchange-found-requires c =
+    let h = c.requires.head in
+    let offer = c.plain-offer.ensures in
+    let pen = c.no_pen-pen.ensures in (
+      ap (λ w. w.tracked) h,
+      sym (ap (λ w. w.book) h),
+      pen.0 ∙ sym (ap (λ w. w.book) h),
+      offer.0,
+      rw (ap (λ w. w.key) h, pen.1, offer.1, offer.3) (adds_moves c.args.seen.now.log (edit_of c.args.edit.now) c.args.edits (sym c.requires.counted)),
+    )
