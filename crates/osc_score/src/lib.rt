@@ -7,12 +7,12 @@ mod brackets;
 mod fault;
 pub mod laws;
 mod limits;
-mod lines;
 mod note;
 mod number;
 mod reader;
 mod run;
 mod score;
+mod score_lines;
 mod script;
 mod text;
 

@@ -2,9 +2,9 @@
 use crate::added_note::all_runs;
 use crate::fault::{ScoreFault, ScoreRefusal};
 use crate::limits::MAX_SCORE;
-use crate::lines::read_lines;
 use crate::reader::Reader;
 use crate::run::Run;
+use crate::score_lines::read_lines;
 use crate::script::{put_adds, put_batches};
 use osc_atoms::Bytes;
 use osc_pattern::Address;

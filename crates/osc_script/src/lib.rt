@@ -13,12 +13,12 @@ mod lane;
 pub mod laws;
 mod line;
 mod line_kind;
-mod lines;
 mod mode;
 mod packets;
 mod patterns;
 mod said;
 mod script;
+mod script_lines;
 mod words;
 
 pub use act::Act;

@@ -2,8 +2,8 @@
 use crate::drawn_script::script_of_seed;
 use crate::fault::{ScriptFault, ScriptRefusal};
 use crate::line::Line;
-use crate::lines::read_lines;
 use crate::mode::Mode;
+use crate::script_lines::read_lines;
 use osc_atoms::Bytes;
 use std::alloc::{AllocError, Global};
 use std::marker::Model;

@@ -39,7 +39,7 @@ use Rattle.osc_top.specs.Recorded.{EndsBoth}
 use Rattle.osc_top.specs.Resumed.{PlaysResumed, RecordsOneHistory, boxes_for, callers_for}
 use Rattle.osc_top.specs.Staged.{IsStaged}
 use Rattle.osc_top.specs.Taken.{IsPast, OfInputs, RefusesPastOrScript, TakesIn}
-use Rattle.osc_top.specs.declared.inputs.Taken.{Taken}
+use Rattle.osc_top.specs.declared.intake.Taken.{Taken}
 use Rattle.osc_top.proofs.Continued.{history_since, resumed_ascending}
 use Rattle.osc_top.proofs.Dealt.{few_lanes}
 use Rattle.osc_top.proofs.Inputs.{any_inputs}

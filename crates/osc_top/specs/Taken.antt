@@ -11,7 +11,7 @@ use Rattle.osc_ends.specs.declared.status.TheConstants.{REFUSED}
 use Rattle.osc_ends.specs.Judging.{IsChecked, RefusesPast}
 use Rattle.osc_ends.specs.Printing.{refusal_text}
 use Rattle.osc_ends.specs.Sinks.{SinkChange, GainsUnless}
-use Rattle.osc_top.specs.declared.inputs.Taken.{Taken}
+use Rattle.osc_top.specs.declared.intake.Taken.{Taken}
 
 -- what holds of the bytes that two inputs have left, or of some where one doesn't tell them
 abbrev pub OfInputs : Option (List ℕ) → Option (List ℕ) → (List ℕ → List ℕ → Type 0) → Type 0

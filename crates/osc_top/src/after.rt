@@ -29,7 +29,7 @@ ghost use Rattle.osc_top.specs.Staged.{IsStaged};
 
 use crate::bank::deal;
 use crate::counts::lane_count;
-use crate::inputs::Taken;
+use crate::intake::Taken;
 use crate::lanes::settle;
 use crate::live::{end, unplayed};
 use crate::played::Played;

@@ -5,7 +5,7 @@ mod after;
 mod bank;
 mod caps;
 mod counts;
-mod inputs;
+mod intake;
 mod lanes;
 pub mod laws;
 mod link_ports;

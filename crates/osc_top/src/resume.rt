@@ -39,7 +39,7 @@ ghost use Rattle.osc_top.specs.Resumed.{PlaysResumed, RecordsOneHistory};
 ghost use Rattle.osc_top.specs.Taken.{OfInputs};
 
 use crate::after::play_after;
-use crate::inputs::take_in;
+use crate::intake::take_in;
 use crate::live::unplayed;
 use osc_edge::{Sink, Source};
 use osc_ends::status::NO_MEMORY;

@@ -2,7 +2,7 @@ use Rattle.std.proofs.Common.{◌≡◌, ◌+◌, ◌≤◌, length}
 use Rattle.osc_script.specs.Words.{lines_of}
 use Rattle.osc_script.specs.Scripts.{script_from}
 use Rattle.osc_script.proofs.Lines.{behind}
-use Rattle.osc_script.proofs.lines.read_lines.Given as goal
+use Rattle.osc_script.proofs.script_lines.read_lines.Given as goal
 
 abbrev pub invariant-loop-rest : goal.invariant-loop-rest
 invariant-loop-rest l = record {

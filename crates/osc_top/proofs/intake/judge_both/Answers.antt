@@ -1,6 +1,6 @@
 use Rattle.std.proofs.Common.{◌≡◌, Err, rules}
 use Rattle.osc_top.proofs.Inputs.{script_judged}
-use Rattle.osc_top.proofs.inputs.judge_both.Goals as goal
+use Rattle.osc_top.proofs.intake.judge_both.Goals as goal
 
 pub returns-in_err-lines-clause-taken : goal.returns-in_err-lines-clause-taken
 returns-in_err-lines-clause-taken g c = λ bytes text past script.

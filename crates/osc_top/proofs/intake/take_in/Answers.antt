@@ -1,6 +1,6 @@
 use Rattle.std.proofs.Common.{◌≡◌, Err, rules}
 use Rattle.osc_top.proofs.Inputs.{any_inputs, both_so, unjudged}
-use Rattle.osc_top.proofs.inputs.take_in.Goals as goal
+use Rattle.osc_top.proofs.intake.take_in.Goals as goal
 
 pub returns-in_err-past-clause-taken : goal.returns-in_err-past-clause-taken
 returns-in_err-past-clause-taken g c =

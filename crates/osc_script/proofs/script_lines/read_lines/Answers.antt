@@ -3,7 +3,7 @@ use Rattle.std.proofs.lemmas.Bool.Decides.{nat_tests}
 use Rattle.osc_script.specs.Words.{lines_of}
 use Rattle.osc_script.specs.Scripts.{AreLawful, AreOf}
 use Rattle.osc_script.proofs.Lawful.{lines_fit}
-use Rattle.osc_script.proofs.lines.read_lines.Goals as goal
+use Rattle.osc_script.proofs.script_lines.read_lines.Goals as goal
 
 pub returns-clause-lawful : goal.returns-clause-lawful
 returns-clause-lawful c =

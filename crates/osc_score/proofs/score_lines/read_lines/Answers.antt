@@ -2,7 +2,7 @@ use Rattle.std.proofs.Common.{arith}
 use Rattle.osc_script.specs.Words.{lines_of}
 use Rattle.osc_score.proofs.Lines.{line_few}
 use Rattle.osc_score.proofs.Going.{on_line}
-use Rattle.osc_score.proofs.lines.read_lines.Goals as goal
+use Rattle.osc_score.proofs.score_lines.read_lines.Goals as goal
 
 pub read_line-requires-clause-short : goal.read_line-requires-clause-short
 read_line-requires-clause-short c =

@@ -1,7 +1,7 @@
 use Rattle.std.proofs.Common.{◌+◌, ◌≤◌, length}
 use Rattle.osc_script.specs.Words.{lines_of}
 use Rattle.osc_score.proofs.Going.{ReadsOn}
-use Rattle.osc_score.proofs.lines.read_lines.Given as goal
+use Rattle.osc_score.proofs.score_lines.read_lines.Given as goal
 
 abbrev pub invariant-loop-rest : goal.invariant-loop-rest
 invariant-loop-rest l = record {
