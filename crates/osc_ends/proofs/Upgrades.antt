@@ -2,8 +2,8 @@
 use Rattle.std.proofs.Common.{◌≡◌, ◌⊎◌, inl, inr, ℕ, ◌≤◌, List, length, Ok, Err, subst, arith}
 use Rattle.osc_model.specs.Limits.{Limits, max_recording}
 use Rattle.osc_model.specs.Events.{Entry}
-use Rattle.osc_replay.specs.declared.upgrade.UpgradeFault.{UpgradeFault}
-use Rattle.osc_replay.specs.declared.upgrade.UpgradeFault.TheVariants.{Malformed, TooLarge}
+use Rattle.osc_replay.specs.declared.upgrade_text.UpgradeFault.{UpgradeFault}
+use Rattle.osc_replay.specs.declared.upgrade_text.UpgradeFault.TheVariants.{Malformed, TooLarge}
 use Rattle.osc_replay.specs.Old.{IsOldRecordingOf, OldLegal}
 use Rattle.osc_replay.specs.Upgrading.{DisagreesThere, IsUpgradedUnlessShort, PrintsTheSame, upgraded_text}
 use Rattle.osc_ends.specs.Ends.{EndsText}

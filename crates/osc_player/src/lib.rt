@@ -2,7 +2,7 @@
 #![tactic(auto)]
 
 pub mod laws;
-mod play;
+mod performance;
 mod player;
 
-pub use play::{Played, gather, keep_rest, play};
+pub use performance::{Played, gather, keep_rest, play};

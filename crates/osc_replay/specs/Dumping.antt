@@ -1,7 +1,7 @@
 -- What a dump is answered.
 use Rattle.std.specs.Prelude.{◌≡◌, ℕ, List, Result, Ok, Err}
-use Rattle.osc_replay.specs.declared.dump.DumpFault.{DumpFault}
-use Rattle.osc_replay.specs.declared.dump.DumpFault.TheVariants.{Malformed, NoMemory}
+use Rattle.osc_replay.specs.declared.dump_text.DumpFault.{DumpFault}
+use Rattle.osc_replay.specs.declared.dump_text.DumpFault.TheVariants.{Malformed, NoMemory}
 
 -- where the recording is malformed, this holds of the place
 abbrev pub OnUnformed : Result (List ℕ) DumpFault → (ℕ → Type 0) → Type 0

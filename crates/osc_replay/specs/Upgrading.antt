@@ -7,9 +7,9 @@ use Rattle.osc_model.specs.Events.{Entry}
 use Rattle.osc_model.specs.State.{opening}
 use Rattle.osc_model.specs.History.{after}
 use Rattle.osc_model.specs.Recordings.{entry_text, record_text}
-use Rattle.osc_replay.specs.declared.upgrade.UpgradeFault.{UpgradeFault}
-use Rattle.osc_replay.specs.declared.upgrade.UpgradeFault.TheVariants.{Malformed, TooLarge}
-use Rattle.osc_replay.specs.declared.upgrade.UpgradeFault.TheVariants.{NoMemory}
+use Rattle.osc_replay.specs.declared.upgrade_text.UpgradeFault.{UpgradeFault}
+use Rattle.osc_replay.specs.declared.upgrade_text.UpgradeFault.TheVariants.{Malformed, TooLarge}
+use Rattle.osc_replay.specs.declared.upgrade_text.UpgradeFault.TheVariants.{NoMemory}
 use Rattle.osc_replay.specs.Counted.{is_submit}
 use Rattle.osc_replay.specs.Disagreeing.{DisagreesAt, IsRecordingOf, computed_text}
 use Rattle.osc_replay.specs.Formed.{IsFormed}

@@ -17,7 +17,7 @@ use crate::counts::is_added;
 use crate::fault::ReplayFault;
 use crate::form::{first_malformed, next_row};
 use crate::outcome::Outcome;
-use crate::replay::agreed;
+use crate::replay_text::agreed;
 use crate::row::Row;
 use crate::server::Server;
 use osc_atoms::Bytes;

@@ -1,7 +1,7 @@
 use Rattle.std.proofs.Common.{◌≡◌, Err, subst, rules}
 use Rattle.osc_print.specs.Dumps.{dumped}
-use Rattle.osc_replay.specs.declared.dump.DumpFault.{DumpFault}
-use Rattle.osc_replay.specs.declared.dump.DumpFault.TheVariants.{Malformed}
+use Rattle.osc_replay.specs.declared.dump_text.DumpFault.{DumpFault}
+use Rattle.osc_replay.specs.declared.dump_text.DumpFault.TheVariants.{Malformed}
 use Rattle.osc_replay.specs.Dumping.{IsDumpUnlessShort}
 use Rattle.osc_ends.proofs.prints.write_dump.Goals as goal
 

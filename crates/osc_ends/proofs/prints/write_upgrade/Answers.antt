@@ -1,6 +1,6 @@
 use Rattle.std.proofs.Common.{◌≡◌, rules}
 use Rattle.osc_model.specs.Limits.{max_recording}
-use Rattle.osc_replay.specs.declared.upgrade.UpgradeFault.TheVariants.{Malformed, TooLarge}
+use Rattle.osc_replay.specs.declared.upgrade_text.UpgradeFault.TheVariants.{Malformed, TooLarge}
 use Rattle.osc_ends.proofs.Upgrades.{not_malformed, not_too_large, upgrade_ends, upgrades_to}
 use Rattle.osc_ends.proofs.prints.write_upgrade.Goals as goal
 

@@ -4,7 +4,7 @@ use Rattle.osc_record.specs.Left.{entries_left}
 use Rattle.osc_record.specs.Reading.{Placed, unplaced}
 use Rattle.osc_replay.specs.Upgrading.{submits_in}
 use Rattle.osc_replay.proofs.Upgraded.{Recordable, all_today, prints_the_same, disagrees_at, few_in, needs, text_is, made}
-use Rattle.osc_replay.proofs.upgrade.upgrade.Goals as goal
+use Rattle.osc_replay.proofs.upgrade_text.upgrade.Goals as goal
 
 pub returns-in_err-old-clause-complete : goal.returns-in_err-old-clause-complete
 returns-in_err-old-clause-complete c = λ caps history is. absurd (c.in_err-old.ensures.complete caps history is)

@@ -5,7 +5,7 @@ use Rattle.osc_model.specs.Recordings.{IsRecordable}
 use Rattle.osc_record.specs.Left.{entries_left}
 use Rattle.osc_record.specs.Reading.{unplaced}
 use Rattle.osc_replay.specs.Upgrading.{texts_of}
-use Rattle.osc_replay.proofs.upgrade.append_entries.Given as goal
+use Rattle.osc_replay.proofs.upgrade_text.append_entries.Given as goal
 
 -- the bytes so far and those of the entries that are left are all, and there is room for these
 abbrev pub invariant-loop-entry : goal.invariant-loop-entry

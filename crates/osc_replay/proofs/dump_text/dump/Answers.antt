@@ -3,10 +3,10 @@ use Rattle.osc_print.specs.Dumps.{limits_text}
 use Rattle.osc_record.specs.Left.{placed_of}
 use Rattle.osc_record.specs.Unread.{Reads}
 use Rattle.osc_replay.specs.declared.row.Row.{Row}
-use Rattle.osc_replay.specs.declared.dump.DumpFault.TheVariants.{Malformed}
+use Rattle.osc_replay.specs.declared.dump_text.DumpFault.TheVariants.{Malformed}
 use Rattle.osc_replay.proofs.Formed.{of_some, of_none, row_lawful, formed_all, no_place}
 use Rattle.osc_replay.proofs.Listed.{listed_none, listed_more, not_listed, one_dump}
-use Rattle.osc_replay.proofs.dump.dump.Goals as goal
+use Rattle.osc_replay.proofs.dump_text.dump.Goals as goal
 
 pub returns-in_err-unread-clause-complete : goal.returns-in_err-unread-clause-complete
 returns-in_err-unread-clause-complete c =

@@ -1,6 +1,6 @@
 use Rattle.std.proofs.Common.{length}
 use Rattle.osc_replay.proofs.Listed.{IsListed}
-use Rattle.osc_replay.proofs.dump.dump.Given as goal
+use Rattle.osc_replay.proofs.dump_text.dump.Given as goal
 
 -- the entries so far are dumped
 abbrev pub invariant-loop-text : goal.invariant-loop-text

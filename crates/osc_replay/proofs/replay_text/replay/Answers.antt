@@ -7,7 +7,7 @@ use Rattle.osc_replay.specs.declared.fault.ReplayFault.TheVariants.{Malformed}
 use Rattle.osc_replay.proofs.Formed.{of_some, of_none, row_lawful}
 use Rattle.osc_replay.proofs.Replayed.{played_none, reached, played_more, few_played, played_all, one_printed, stops_disagreeing, stops_short, next_unformed}
 use Rattle.osc_replay.proofs.Replayed.{later_unformed, none_malformed}
-use Rattle.osc_replay.proofs.replay.replay.Goals as goal
+use Rattle.osc_replay.proofs.replay_text.replay.Goals as goal
 
 pub returns-in_err-unread-clause-complete : goal.returns-in_err-unread-clause-complete
 returns-in_err-unread-clause-complete c =

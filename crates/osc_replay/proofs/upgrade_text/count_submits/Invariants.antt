@@ -2,7 +2,7 @@ use Rattle.std.proofs.Common.{◌≡◌, ◌+◌, ◌≤◌}
 use Rattle.osc_record.specs.Left.{entries_left}
 use Rattle.osc_record.specs.Reading.{unplaced}
 use Rattle.osc_replay.specs.Upgrading.{submits_in}
-use Rattle.osc_replay.proofs.upgrade.count_submits.Given as goal
+use Rattle.osc_replay.proofs.upgrade_text.count_submits.Given as goal
 
 -- the count so far and that of the entries that are left are that of all
 abbrev pub invariant-loop-entry : goal.invariant-loop-entry

@@ -6,7 +6,7 @@ use Rattle.osc_record.specs.Shown.{answer_of}
 use Rattle.osc_replay.specs.Events.{event_in}
 use Rattle.osc_replay.proofs.Formed.{lawful_is}
 use Rattle.osc_replay.proofs.Agreeing.{made_fits, made_small, played_answered, played_released}
-use Rattle.osc_replay.proofs.replay.replay_row.Goals as goal
+use Rattle.osc_replay.proofs.replay_text.replay_row.Goals as goal
 
 pub play-requires-clause-lawful : goal.play-requires-clause-lawful
 play-requires-clause-lawful c = lawful_is (event_in c.args.row.event) c.args.row.lawful

@@ -1,6 +1,6 @@
 use Rattle.std.proofs.Common.{length}
 use Rattle.osc_replay.proofs.Replayed.{IsPlayed}
-use Rattle.osc_replay.proofs.replay.replay.Given as goal
+use Rattle.osc_replay.proofs.replay_text.replay.Given as goal
 
 -- the entries so far are played and printed
 abbrev pub invariant-loop-text : goal.invariant-loop-text

@@ -1,7 +1,7 @@
 use Rattle.std.proofs.Common.{◌≡◌, rules}
 use Rattle.osc_player.specs.Plain.{plain}
 use Rattle.osc_player.proofs.Endings.{accounted}
-use Rattle.osc_player.proofs.play.play.Goals as goal
+use Rattle.osc_player.proofs.performance.play.Goals as goal
 
 pub returns-clause-accounted : goal.returns-clause-accounted
 returns-clause-accounted g c =

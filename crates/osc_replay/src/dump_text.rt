@@ -4,8 +4,8 @@ ghost use Rattle.osc_print.specs.Dumps.{dumped};
 ghost use Rattle.osc_model.specs.Limits.{Limits, max_recording};
 ghost use Rattle.osc_model.specs.Events.{Entry as Recorded};
 ghost use Rattle.osc_model.specs.Recordings.{record_text};
-ghost use Rattle.osc_replay.specs.declared.dump.DumpFault.TheVariants.{Malformed as MalformedAt};
-ghost use Rattle.osc_replay.specs.declared.dump.DumpFault.TheVariants.{NoMemory};
+ghost use Rattle.osc_replay.specs.declared.dump_text.DumpFault.TheVariants.{Malformed as MalformedAt};
+ghost use Rattle.osc_replay.specs.declared.dump_text.DumpFault.TheVariants.{NoMemory};
 ghost use Rattle.osc_replay.specs.Dumping.{OnUnformed, IsDumpUnlessShort};
 ghost use Rattle.osc_replay.specs.Formed.{IsFormed, IsUnformedAt};
 

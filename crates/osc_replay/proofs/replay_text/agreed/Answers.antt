@@ -2,7 +2,7 @@ use Rattle.std.proofs.Common.{◌≡◌, Bool, true, false, refl, ap}
 use Rattle.osc_model.specs.Events.{Entry}
 use Rattle.osc_record.specs.Shown.{answer_of}
 use Rattle.osc_record.specs.Left.{placed_of}
-use Rattle.osc_replay.proofs.replay.agreed.Goals as goal
+use Rattle.osc_replay.proofs.replay_text.agreed.Goals as goal
 
 clash : (b : Bool) → b ≡ false → b ≡ true → ⊥
 clash b is_false is_true = absurd (cc)
