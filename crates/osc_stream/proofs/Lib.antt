@@ -1,3 +1,4 @@
+mod Buffered
 mod Fronts
 mod Fills
 mod FrameLaws

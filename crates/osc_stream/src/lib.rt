@@ -4,6 +4,7 @@
 //! and gives the packets as datagrams.
 #![tactic(auto)]
 
+mod buffered_source;
 mod fed;
 mod filling;
 mod front;
@@ -14,6 +15,7 @@ mod state;
 mod stream;
 mod stream_link;
 
+pub use buffered_source::BufferedSource;
 pub use fed::Fed;
 pub use osc_atoms::MAX_PACKET;
 pub use state::StreamState;

@@ -4,7 +4,7 @@ ghost use Rattle.osc_stream.specs.Feeding.{taken};
 
 use crate::edges::next;
 use osc_edge::{Datagram, MemorySource, Source, Taken, TcpSource};
-use osc_stream::{Fed, Stream, StreamLink, StreamState};
+use osc_stream::{BufferedSource, Fed, Stream, StreamLink, StreamState};
 use std::alloc::{AllocError, Global};
 use std::io::{ErrorKind, Write};
 use std::net::{Ipv4Addr, TcpListener, TcpStream};
@@ -207,7 +207,8 @@ fn a_link_gives_the_packets_of_a_connection(rt: HostRuntime) -> Result<(), Fail>
     let alloc = rt.alloc();
     let port = free_port(&rt)?;
     let sender = thread::spawn(&rt, move || send(&rt, port))?;
-    let mut link = StreamLink::open(alloc, TcpSource::at(&rt, port))?;
+    let source = BufferedSource::open(alloc, TcpSource::at(&rt, port))?;
+    let mut link = StreamLink::open(alloc, source)?;
     for expected in [
         Datagram::Got(4),
         Datagram::Got(8),

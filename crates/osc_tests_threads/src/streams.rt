@@ -3,7 +3,7 @@ use crate::program::words;
 use osc_edge::{Link, MemoryClock, MemorySource, SteadySink, SteadySource, TcpSource};
 use osc_lanes::OpenGate;
 use osc_method::{Method, Mute};
-use osc_stream::{StreamLink, StreamState};
+use osc_stream::{BufferedSource, StreamLink, StreamState};
 use osc_top::{live_top, wants_tcp};
 use std::alloc::Global;
 use std::io::{ErrorKind, Write};
@@ -83,7 +83,8 @@ fn packets_of_a_connection_call_their_method(rt: HostRuntime) -> Result<(), Fail
     let alloc = rt.alloc();
     let port = free_port(&rt)?;
     let sender = thread::spawn(&rt, move || send(&rt, port))?;
-    let link = StreamLink::open(alloc, TcpSource::at(&rt, port))?;
+    let source = BufferedSource::open(alloc, TcpSource::at(&rt, port))?;
+    let link = StreamLink::open(alloc, source)?;
     let (status, written, _) = serve(&rt, alloc, link)?;
     sender.join(&rt)?;
     assert_eq!(rt; status, 0);

@@ -12,7 +12,7 @@ use osc_edge::{
 use osc_ends::status::{DONE, NO_MEMORY, RECORDING_FULL, SINK_FAILED};
 use osc_lanes::OpenGate;
 use osc_method::Method;
-use osc_stream::StreamLink;
+use osc_stream::{BufferedSource, StreamLink};
 use osc_top::{live_top, ports, recording_name, resume_names, resume_top, traces, wants_tcp};
 use std::alloc::{AllocError, Global};
 use std::fs::{self, File};
@@ -140,7 +140,7 @@ fn datagram_links(rt: &HostRuntime, words: &[String]) -> Result<Vec<UdpLink>, Al
 fn stream_links(
     rt: &HostRuntime,
     words: &[String],
-) -> Result<Vec<StreamLink<TcpSource>>, AllocError>
+) -> Result<Vec<StreamLink<BufferedSource<TcpSource>>>, AllocError>
     ensures each { IfOk result
         (λ links. length links.items ≡ length (ports_of (map string_bytes words.now))) }
     ensures few { IfOk result (λ links. length links.items ≤ MAX_LINKS) }
@@ -148,7 +148,8 @@ fn stream_links(
     let ports = ports(rt.alloc(), words)?;
     let mut links = Vec::with_capacity(rt.alloc(), ports.len())?;
     for port in ports {
-        links.push(StreamLink::open(rt.alloc(), TcpSource::at(rt, port))?)?;
+        let source = BufferedSource::open(rt.alloc(), TcpSource::at(rt, port))?;
+        links.push(StreamLink::open(rt.alloc(), source)?)?;
     }
     Ok(links)
 }

@@ -22,7 +22,7 @@ use osc_ends::status::{DONE, EDGE_FAILED, RECORDING_FULL, SINK_FAILED};
 use osc_links::LinksPart;
 use osc_script::Line;
 use osc_stage::{Ended, carried_on};
-use osc_stream::StreamLink;
+use osc_stream::{BufferedSource, StreamLink};
 use osc_words::Transport;
 use rtrb::{Consumer, RingBuffer};
 use std::alloc::{AllocError, Global};
@@ -137,12 +137,13 @@ fn stream_links<'a>(
     rt: &HostRuntime,
     shared: &'a Shared,
     ports: &[u16],
-) -> Result<Vec<ShutdownLink<'a, StreamLink<TcpSource>>>, AllocError>
+) -> Result<Vec<ShutdownLink<'a, StreamLink<BufferedSource<TcpSource>>>>, AllocError>
     ensures { IfOk result (λ links. length links.items ≤ length ports.now) }
 {
     let mut links = Vec::with_capacity(rt.alloc(), ports.len())?;
     for port in ports {
-        let link = StreamLink::open(rt.alloc(), TcpSource::at(rt, *port))?;
+        let source = BufferedSource::open(rt.alloc(), TcpSource::at(rt, *port))?;
+        let link = StreamLink::open(rt.alloc(), source)?;
         links.push(ShutdownLink::new(link, &shared.shutdown, &shared.changeover))?;
     }
     Ok(links)
