@@ -1,3 +1,4 @@
+mod Faulted
 mod Continued
 mod Dealt
 mod Staged
