@@ -6,7 +6,7 @@ use crate::recording::{Page, look_for, show_all};
 use crate::report::{report_malformed, report_unread};
 use crate::words::Showing;
 use osc_edge::{FileSource, Source, Taken};
-use osc_ends::status::{DONE, REFUSED, SOURCE_FAILED};
+use osc_ends::status::{DONE, REFUSED, SOURCE_FAILED, USAGE};
 use osc_record::{Answer, Entry, Event, HEADER_SIZE, Late, MAX_RECORDING, Unread};
 use osc_report::{Options, Reporter};
 use std::alloc::{AllocError, Global};
@@ -30,18 +30,21 @@ pub(crate) fn follow<W: Wait>(
     showing: &Showing,
 ) -> Result<u8, AllocError> {
     let alloc = rt.alloc();
-    let mut source = FileSource::at(rt, String::from_str(alloc, &showing.file)?);
+    let [file] = showing.files.as_slice() else {
+        return Ok(USAGE);
+    };
+    let mut source = FileSource::at(rt, String::from_str(alloc, file)?);
     let mut page = Page::open(rt);
     // The header, and the bytes that came after the last entry that was shown.
     let mut bytes = Vec::new(alloc);
     let mut reporter = None;
     for _ in threads.forever() {
         if !read_more(&mut source, &mut bytes)? {
-            report_unread(rt, &showing.file);
+            report_unread(rt, file);
             return Ok(SOURCE_FAILED);
         }
         if !show_more(rt, showing, &mut page, &mut bytes, &mut reporter)? {
-            report_malformed(rt, &showing.file);
+            report_malformed(rt, file);
             return Ok(REFUSED);
         }
         page.write();

@@ -34,8 +34,10 @@ use crate::links::Links;
 use crate::moment::print_moment;
 use crate::parts::{is_size, is_there, least_size};
 use crate::patch::read_patch;
-use crate::recording::show_recording;
-use crate::report::{report_help, report_routes, report_size, report_there, report_usage};
+use crate::recording::show_recordings;
+use crate::report::{
+    report_help, report_routes, report_size, report_there, report_usage, report_zone,
+};
 use crate::show::{Begin, play};
 use crate::words::{Said, Serving, read_words};
 use osc_edge::command_words;
@@ -67,7 +69,11 @@ fn run<W: Threads + Wait + Sync>(rt: &HostRuntime, threads: &W) -> Result<u8, Al
         Said::Play(playing) => play_cues(rt, threads, &playing),
         Said::Moment(word) => print_moment(rt, &word),
         Said::Show(showing) if showing.follow => follow(rt, threads, &showing),
-        Said::Show(showing) => show_recording(rt, &showing),
+        Said::Show(showing) => show_recordings(rt, &showing),
+        Said::NoZone(word) => {
+            report_zone(rt, &word);
+            Ok(USAGE)
+        }
         Said::Serve(serving) => serve(rt, threads, &serving),
     }
 }

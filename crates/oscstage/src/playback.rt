@@ -266,7 +266,7 @@ fn finish(
     }
     report_played(rt, performed.ended);
     if let Some(file) = &playing.file {
-        report_kept(rt, file, recording.len());
+        report_kept(rt, file, recording.len(), performed.ended);
     }
     Ok(())
 }

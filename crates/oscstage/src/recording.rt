@@ -1,4 +1,4 @@
-//! Shows a recording.
+//! Shows recordings.
 ghost use Rattle.std.specs.Prelude.{◌≤◌, length};
 ghost use Rattle.osc_model.specs.Limits.{max_recording};
 
@@ -7,7 +7,7 @@ use crate::follower::moment_of;
 use crate::report::{report_malformed, report_time, report_unlike};
 use crate::view::{look_at, zone_offset};
 use crate::window::Window;
-use crate::words::Showing;
+use crate::words::{Showing, Zone};
 use jiff_core::Offset;
 use osc_edge::StdSink;
 use osc_ends::status::{DONE, REFUSED, USAGE};
@@ -31,15 +31,40 @@ pub(crate) enum Judged {
     Refused,
 }
 
+/// How all recordings are shown: by the first moment of the first.
+#[derive(Clone, Copy)]
+struct View {
+    look: Look,
+    /// From when to when, where that is said.
+    window: Option<Window>,
+}
+
+/// Shows the recordings one after another, each as far as it is whole, up to one that is refused.
+pub(crate) fn show_recordings(rt: &HostRuntime, showing: &Showing) -> Result<u8, AllocError> {
+    let mut view = None;
+    for file in &showing.files {
+        let status = show_recording(rt, showing, file, &mut view)?;
+        if status != DONE {
+            return Ok(status);
+        }
+    }
+    Ok(DONE)
+}
+
 /// Shows a recording as far as it is whole, unless it is refused.
-pub(crate) fn show_recording(rt: &HostRuntime, showing: &Showing) -> Result<u8, AllocError> {
-    let recording = match read_recording(rt, &showing.file)? {
+fn show_recording(
+    rt: &HostRuntime,
+    showing: &Showing,
+    file: &str,
+    view: &mut Option<View>,
+) -> Result<u8, AllocError> {
+    let recording = match read_recording(rt, file)? {
         Ok(recording) => recording,
         Err(status) => return Ok(status),
     };
-    match judge(rt, &showing.file, &recording)? {
-        Judged::Whole => show_bytes(rt, showing, &recording, None),
-        Judged::CutAt(at) => show_bytes(rt, showing, &recording, Some(at)),
+    match judge(rt, file, &recording)? {
+        Judged::Whole => show_bytes(rt, showing, &recording, None, view),
+        Judged::CutAt(at) => show_bytes(rt, showing, &recording, Some(at), view),
         Judged::Refused => Ok(REFUSED),
     }
 }
@@ -96,16 +121,15 @@ fn show_bytes(
     showing: &Showing,
     recording: &[u8],
     cut: Option<usize>,
+    view: &mut Option<View>,
 ) -> Result<u8, AllocError>
     requires { length recording.now ≤ max_recording }
 {
     let Some(facts) = facts_of(recording) else {
         return Ok(REFUSED);
     };
-    let look = look_for(rt, showing, facts.first);
-    let window = match window_for(rt, showing, facts.first) {
-        Ok(window) => window,
-        Err(status) => return Ok(status),
+    let Some(View { look, mut window }) = view_for(rt, showing, facts.first, *view) else {
+        return Ok(USAGE);
     };
     let mut page = Page::open(rt);
     let size = recording.len() as u64;
@@ -116,13 +140,30 @@ fn show_bytes(
         ticks: showing.ticks,
     };
     let mut reporter = Reporter::open(rt.alloc(), options, facts.late);
-    if !show_part(&mut page, &mut reporter, recording, window)? {
+    if !show_part(&mut page, &mut reporter, recording, &mut window)? {
         return Ok(REFUSED);
     }
+    *view = Some(View { look, window });
     if let Some(at) = cut {
         cut_line(&mut page.text, look, at as u64)?;
     }
     Ok(page.close())
+}
+
+/// The view of the recordings before, or else by the first moment of this one. There is none where
+/// a word is no time, which is reported.
+fn view_for(
+    rt: &HostRuntime,
+    showing: &Showing,
+    first: Option<u64>,
+    view: Option<View>,
+) -> Option<View> {
+    if view.is_some() {
+        return view;
+    }
+    let look = look_for(rt, showing, first);
+    let window = window_for(rt, showing, look, first)?;
+    Some(View { look, window })
 }
 
 /// Adds the lines of all whole entries that are in the window, if there is one, and those after
@@ -131,11 +172,11 @@ fn show_part(
     page: &mut Page,
     reporter: &mut Reporter,
     recording: &[u8],
-    mut window: Option<Window>,
+    window: &mut Option<Window>,
 ) -> Result<bool, AllocError>
     requires { length recording.now ≤ max_recording }
 {
-    if !show_all(page, reporter, recording, &mut window)? {
+    if !show_all(page, reporter, recording, window)? {
         return Ok(false);
     }
     let mut ending = Vec::new(page.alloc());
@@ -147,36 +188,35 @@ fn show_part(
     Ok(true)
 }
 
-/// From when to when a recording is shown, where that is said. The `Err` is the status, where a
-/// word is no time, which is reported.
+/// From when to when recordings are shown, if that is said; or nothing, where a word is no time,
+/// which is reported.
 fn window_for(
     rt: &HostRuntime,
     showing: &Showing,
+    look: Look,
     first: Option<u64>,
-) -> Result<Option<Window>, u8> {
+) -> Option<Option<Window>> {
     if showing.from.is_none() && showing.to.is_none() {
-        return Ok(None);
+        return Some(None);
     }
     let offset = offset_for(rt, showing, first);
     let from = showing.from.as_ref().map(|word| word.as_str());
     let to = showing.to.as_ref().map(|word| word.as_str());
-    let look = look_for(rt, showing, first);
     match Window::of(look, offset, first.unwrap_or(0), from, to) {
-        Ok(window) => Ok(Some(window)),
+        Ok(window) => Some(Some(window)),
         Err(word) => {
             report_time(rt, word);
-            Err(USAGE)
+            None
         }
     }
 }
 
-/// How far a clock is ahead of UTC in the zone of the machine at the recording's first moment, or
-/// in UTC.
+/// How far a clock is ahead of UTC in the zone that is said, or in that of the machine at the
+/// recording's first moment.
 fn offset_for(rt: &HostRuntime, showing: &Showing, first: Option<u64>) -> Offset {
-    if showing.utc {
-        Offset::UTC
-    } else {
-        zone_offset(rt, first).unwrap_or(Offset::UTC)
+    match showing.zone {
+        Zone::At(offset) => offset,
+        Zone::Machine => zone_offset(rt, first).unwrap_or(Offset::UTC),
     }
 }
 

@@ -19,7 +19,7 @@ const MESSAGE_SIZE: u32 = 172;
 const HOUR_SIZE: u32 = 172_800;
 
 const USAGE: &str = "usage: oscstage serve [OPTIONS] PATCH FILE, play [OPTIONS] PATCH [FILE], \
-    show [OPTIONS] FILE, carry FILE, or moment WORD; oscstage --help tells more";
+    show [OPTIONS] FILE.., carry FILE, or moment WORD; oscstage --help tells more";
 
 const HELP: &str = "oscstage serve [OPTIONS] PATCH FILE
 
@@ -51,14 +51,16 @@ PATCH has a line for each method:
 Type end and Enter to end the show. Ctrl-C ends it at once, and FILE keeps all
 but the last 50 milliseconds.
 
-oscstage show [OPTIONS] FILE
+oscstage show [OPTIONS] FILE..
 
 Prints the recording in FILE as a stage manager would note it: a line for each
-message, with what became of it.
+message, with what happened to it. Of a show that went on in FILE.2 all files
+can be named, in their order.
 
   --from TIME, --to TIME
                     only what was from or to then, as 20:15 or 20:15:30.5
-  --utc             times of UTC, and not of this machine's zone
+  --zone ZONE       times of a zone, as +01:00, and not of this machine's
+  --utc             times of UTC
   --ticks           lines for the clock's ticks and for new callers, too
   --quiet           show refusals alone
   --follow          show what comes while FILE grows, until Ctrl-C
@@ -197,6 +199,11 @@ pub(crate) fn report_moment(rt: &HostRuntime, word: &str) {
     ).ok();
 }
 
+/// Reports that a word is no zone.
+pub(crate) fn report_zone(rt: &HostRuntime, word: &str) {
+    eprintln!(rt; "oscstage: {word} is no zone: write +01:00, -03:30 or Z").ok();
+}
+
 /// Reports that a word is no time.
 pub(crate) fn report_time(rt: &HostRuntime, word: &str) {
     eprintln!(rt;
@@ -232,9 +239,11 @@ pub(crate) fn report_played(rt: &HostRuntime, ended: Ended) {
     eprintln!(rt; "oscstage: {words}").ok();
 }
 
-/// Reports how many bytes a recording has.
-pub(crate) fn report_kept(rt: &HostRuntime, file: &str, size: usize) {
-    eprintln!(rt; "oscstage: {file} has {size} bytes").ok();
+/// Reports how many bytes a recording has, if it could be written.
+pub(crate) fn report_kept(rt: &HostRuntime, file: &str, size: usize, ended: Ended) {
+    if !matches!(ended, Ended::SinkFailed) {
+        eprintln!(rt; "oscstage: {file} has {size} bytes").ok();
+    }
 }
 
 /// Reports that a file can't be read.
@@ -381,5 +390,5 @@ pub(crate) fn report_end(rt: &HostRuntime, serving: &Serving, end: &ShowEnd) {
             eprintln!(rt; "oscstage: {refused} datagrams were no packets").ok();
         }
     }
-    eprintln!(rt; "oscstage: {file} has {size} bytes").ok();
+    report_kept(rt, file, *size, *ended);
 }

@@ -27,8 +27,8 @@ pub(crate) struct Window {
 
 impl Window {
     /// From one time to the other, of a recording whose first moment this is. A time of day is the
-    /// first such time that isn't before the recording's first second, or of the end before the
-    /// start. The `Err` says which word is no time.
+    /// first such second that isn't before the recording's first, or where it names no second the
+    /// first such minute; the end isn't before the start. The `Err` says which word is no time.
     pub(crate) fn of<'a>(
         look: Look,
         offset: Offset,
@@ -37,11 +37,11 @@ impl Window {
         to: Option<&'a str>,
     ) -> Result<Window, &'a str> {
         let from = match from {
-            Some(word) => time_in(offset, first, word)?,
+            Some(word) => time_in(offset, first, span_of(word), word)?,
             None => 0,
         };
         let to = match to {
-            Some(word) => time_in(offset, from.max(first), word)?,
+            Some(word) => time_in(offset, from.max(first), 1, word)?,
             None => u64::MAX,
         };
         Ok(Window {
@@ -125,9 +125,17 @@ fn put_day(text: &mut Vec<u8>, place: usize, look: Look, moment: u64) -> Result<
     text.extend_from_slice(&line)
 }
 
-/// The moment of a word, on the day of a moment, or a day after where it would be before that one's
-/// second.
-fn time_in<'a>(offset: Offset, least: u64, word: &'a str) -> Result<u64, &'a str> {
+/// How many seconds a time of day names: a minute, or a second of it.
+fn span_of(word: &str) -> u64 {
+    match word.bytes().filter(|byte| *byte == b':').count() {
+        1 => 60,
+        _ => 1,
+    }
+}
+
+/// The moment of a word, on the day of a moment, or a day after where its span of so many seconds
+/// would be over before that one's second.
+fn time_in<'a>(offset: Offset, least: u64, span: u64, word: &'a str) -> Result<u64, &'a str> {
     let Some(setting) = setting_at_offset(least, offset) else {
         return Err(word);
     };
@@ -135,7 +143,7 @@ fn time_in<'a>(offset: Offset, least: u64, word: &'a str) -> Result<u64, &'a str
         return Err(word);
     };
     let tag = ((moment + HALF) / UNIT) as u64;
-    if tag >> 32 < least >> 32 && !word.contains('T') {
+    if (tag >> 32) + span <= least >> 32 && !word.contains('T') {
         Ok(tag.saturating_add(DAY))
     } else {
         Ok(tag)

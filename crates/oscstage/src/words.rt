@@ -1,8 +1,10 @@
 //! The words of the command line.
-ghost use Rattle.std.specs.Prelude.{◌<◌, IfOk};
+ghost use Rattle.std.specs.Prelude.{◌<◌, IfOk, IfSome};
 ghost use Rattle.osc_words.specs.Ranges.{AreInRange};
 
 use crate::links::Links;
+use jiff_core::Offset;
+use jiff_fmt::offset::Parser;
 use osc_links::Bounds;
 use osc_words::{Capacities, LiveCommand, live_command_of};
 use std::alloc::{AllocError, Global};
@@ -15,18 +17,29 @@ pub(crate) enum Said {
     /// A script is to be written that carries on the recording in this file.
     Carry(String),
     Show(Showing),
+    /// This word is no zone.
+    NoZone(String),
     Play(Playing),
     /// A moment is to be written as a time tag, or a time tag as a moment.
     Moment(String),
     Serve(Serving),
 }
 
-/// Which recording is to be shown, and how.
+/// In which zone times are.
+#[derive(Clone, Copy)]
+pub(crate) enum Zone {
+    /// That of the machine.
+    Machine,
+    /// One that is so far ahead of UTC.
+    At(Offset),
+}
+
+/// Which recordings are to be shown, and how.
 #[derive(Drop)]
 pub(crate) struct Showing {
-    pub(crate) file: String,
-    /// Times are those of UTC, and not of the machine's zone.
-    pub(crate) utc: bool,
+    /// In the order in which they are shown.
+    pub(crate) files: Vec<String>,
+    pub(crate) zone: Zone,
     /// Ticks and new callers have lines, too.
     pub(crate) ticks: bool,
     /// Refusals alone are shown.
@@ -131,35 +144,47 @@ fn serving_of(alloc: Global, all: Vec<String>) -> Result<Said, AllocError> {
     let Some(names) = split_names(alloc, &mut words, old)? else {
         return Ok(Said::Refused);
     };
-    match live_command_of(alloc, &words)? {
-        Some(
-            LiveCommand::Serve {
-                transport,
-                port,
-                links,
-                count,
-                idle,
-                caps,
-            },
-        ) => {
-            let count = if_said(&words, "--count", count);
-            let idle = if_said(&words, "--idle", idle);
-            let links = Links {
-                transport,
-                port,
-                count: links,
-                bounds: Bounds { count, idle },
-            };
-            Ok(Said::Serve(Serving {
-                names,
-                links,
-                caps,
-                size,
-                flags,
-            }))
-        }
-        _ => Ok(Said::Refused),
+    match serve_words(alloc, &words)? {
+        Some((links, caps)) => Ok(Said::Serve(Serving {
+            names,
+            links,
+            caps,
+            size,
+            flags,
+        })),
+        None => Ok(Said::Refused),
     }
+}
+
+/// The links and the limits, where the words are those of `oscd serve`. Where no count of packets
+/// and no idle time is said a link doesn't end by itself.
+fn serve_words(alloc: Global, words: &[String]) -> Result<Option<(Links, Capacities)>, AllocError>
+    ensures { IfOk result (λ read. IfSome read (λ both. AreInRange both.1)) }
+{
+    let Some(
+        LiveCommand::Serve {
+            transport,
+            port,
+            links,
+            count,
+            idle,
+            caps,
+        },
+    ) = live_command_of(alloc, words)?
+    else {
+        return Ok(None);
+    };
+    let bounds = Bounds {
+        count: if_said(words, "--count", count),
+        idle: if_said(words, "--idle", idle),
+    };
+    let links = Links {
+        transport,
+        port,
+        count: links,
+        bounds,
+    };
+    Ok(Some((links, caps)))
 }
 
 /// Which option was said that takes the next word.
@@ -229,40 +254,52 @@ fn size_in(word: Option<&String>) -> Result<Option<u32>, ()> {
 }
 
 /// What is to be shown, where the words are
-/// `show [--utc] [--ticks] [--quiet] [--follow] [--from TIME] [--to TIME] FILE`.
+/// `show [--utc | --zone ZONE] [--ticks] [--quiet] [--follow] [--from TIME] [--to TIME] FILE..`.
 fn showing_of(alloc: Global, words: Vec<String>) -> Result<Said, AllocError> {
     let mut read = ShowWords {
         showing: Showing {
-            file: String::new(alloc),
-            utc: false,
+            files: Vec::new(alloc),
+            zone: Zone::Machine,
             ticks: false,
             quiet: false,
             follow: false,
             from: None,
             to: None,
         },
-        takes: ShowTakes::File,
+        no_zone: None,
+        takes: ShowTakes::Option,
         is_wrong: false,
     };
     for word in words.into_iter().skip(1) {
-        take_show_word(&mut read, word);
+        take_show_word(&mut read, word)?;
     }
     let ShowWords {
         showing,
+        no_zone,
         takes,
         is_wrong,
     } = read;
-    let is_part = showing.from.is_some() || showing.to.is_some();
-    if is_wrong || !matches!(takes, ShowTakes::Nothing) || (is_part && showing.follow) {
+    if is_wrong || !matches!(takes, ShowTakes::More) || !can_follow(&showing) {
         return Ok(Said::Refused);
     }
-    Ok(Said::Show(showing))
+    match no_zone {
+        Some(word) => Ok(Said::NoZone(word)),
+        None => Ok(Said::Show(showing)),
+    }
+}
+
+/// Whether one recording is to be shown as a whole, if it is to be followed.
+fn can_follow(showing: &Showing) -> bool {
+    let is_part = showing.from.is_some() || showing.to.is_some();
+    !showing.follow || (!is_part && showing.files.len() == 1)
 }
 
 /// The words of `show` that were read so far.
 #[derive(Drop)]
 struct ShowWords {
     showing: Showing,
+    /// The word after `--zone`, where it is none.
+    no_zone: Option<String>,
     takes: ShowTakes,
     is_wrong: bool,
 }
@@ -270,32 +307,51 @@ struct ShowWords {
 /// What the next word of `show` can be.
 #[derive(Clone, Copy)]
 enum ShowTakes {
-    /// An option, or FILE.
-    File,
+    /// An option, or the first FILE.
+    Option,
     From,
     To,
-    /// None: FILE was the last word.
-    Nothing,
+    Zone,
+    /// Another FILE.
+    More,
 }
 
-fn take_show_word(read: &mut ShowWords, word: String) {
+fn take_show_word(read: &mut ShowWords, word: String) -> Result<(), AllocError> {
     let takes = read.takes;
-    read.takes = ShowTakes::File;
+    read.takes = ShowTakes::Option;
     match (takes, word.as_str()) {
         (ShowTakes::From, _) => read.showing.from = Some(word),
         (ShowTakes::To, _) => read.showing.to = Some(word),
-        (ShowTakes::Nothing, _) => read.is_wrong = true,
-        (ShowTakes::File, "--utc") => read.showing.utc = true,
-        (ShowTakes::File, "--ticks") => read.showing.ticks = true,
-        (ShowTakes::File, "--quiet") => read.showing.quiet = true,
-        (ShowTakes::File, "--follow") => read.showing.follow = true,
-        (ShowTakes::File, "--from") => read.takes = ShowTakes::From,
-        (ShowTakes::File, "--to") => read.takes = ShowTakes::To,
-        (ShowTakes::File, _) if is_option(&word) => read.is_wrong = true,
-        (ShowTakes::File, _) => {
-            read.showing.file = word;
-            read.takes = ShowTakes::Nothing;
+        (ShowTakes::Zone, _) => set_zone(read, word),
+        (ShowTakes::Option, "--utc") => read.showing.zone = Zone::At(Offset::UTC),
+        (ShowTakes::Option, "--ticks") => read.showing.ticks = true,
+        (ShowTakes::Option, "--quiet") => read.showing.quiet = true,
+        (ShowTakes::Option, "--follow") => read.showing.follow = true,
+        (ShowTakes::Option, "--from") => read.takes = ShowTakes::From,
+        (ShowTakes::Option, "--to") => read.takes = ShowTakes::To,
+        (ShowTakes::Option, "--zone") => read.takes = ShowTakes::Zone,
+        _ if is_option(&word) => read.is_wrong = true,
+        _ => {
+            read.showing.files.push(word)?;
+            read.takes = ShowTakes::More;
         }
+    }
+    Ok(())
+}
+
+/// Sets the zone, or keeps the word where it is none.
+fn set_zone(read: &mut ShowWords, word: String) {
+    match offset_in(word.as_bytes()) {
+        Some(offset) => read.showing.zone = Zone::At(offset),
+        None => read.no_zone = Some(word),
+    }
+}
+
+/// How far a zone is ahead of UTC, where the text is `+01:00`, say, or `Z`.
+fn offset_in(text: &[u8]) -> Option<Offset> {
+    match Parser::new().subsecond(false).parse(text) {
+        Ok((parsed, [])) => parsed.to_offset().ok(),
+        _ => None,
     }
 }
 
