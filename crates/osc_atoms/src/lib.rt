@@ -1,7 +1,7 @@
 //! The atoms of Open Sound Control, read out of borrowed bytes and written (OSC 1.0, "Atomic Data Types").
 #![tactic(auto)]
 
-mod appending;
+mod appends;
 mod blob;
 mod bytes;
 mod fault;
@@ -12,9 +12,9 @@ mod padding;
 mod room;
 mod sizes;
 mod string;
-mod writing;
+mod writes;
 
-pub use appending::{
+pub use appends::{
     append_blob, append_string, append_tag, append_word, put_blob, put_string, put_tag, put_word,
 };
 pub use blob::{blob_at, known_blob_at};
@@ -25,4 +25,4 @@ pub use number::{known_tag_at, known_word_at, tag_at, word_at};
 pub use room::Room;
 pub use sizes::{blob_size, string_size};
 pub use string::{known_string_at, string_at};
-pub use writing::{write_blob, write_string, write_tag, write_word};
+pub use writes::{write_blob, write_string, write_tag, write_word};

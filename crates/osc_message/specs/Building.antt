@@ -60,7 +60,7 @@ push_refusal building argument =
     (if nat_le (length (message_text (finished (pushed building argument)))) MAX_BUILT then None
     else Some TooLong)
 
--- the bytes that are kept: the pattern, the tags behind their comma, and the arguments' atoms
+-- the bytes that are kept: the pattern, the tags after their comma, and the arguments' atoms
 pub record IsKept (pattern tags atoms : List ℕ) : Type 0 where
   pub lawful : IsPattern pattern
   pub comma : IsTrue (begins 44 tags)

@@ -1,7 +1,7 @@
 -- Inside the crate: what the slices of a message hold.
 use Rattle.std.specs.Prelude.{◌≡◌, ℕ, Option, option_and_then, find}
 use Rattle.std.specs.Option.{option_map}
-use Rattle.osc_message.specs.declared.reading.Slices.{Slices}
+use Rattle.osc_message.specs.declared.parts.Slices.{Slices}
 use Rattle.osc_message.specs.Tags.{is_unknown}
 use Rattle.osc_message.specs.Reading.{Parts}
 

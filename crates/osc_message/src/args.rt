@@ -4,8 +4,8 @@ ghost use Rattle.std.specs.Prelude.{◌≡◌, ◌%◌, ◌≤◌, length, IsTru
 ghost use Rattle.osc_message.specs.ArgumentReading.{arguments_end, arguments_of};
 
 use crate::Arg;
-use crate::argument_reading::known_argument;
-use crate::reading::check_arguments;
+use crate::argument_at::known_argument;
+use crate::parts::check_arguments;
 
 /// The arguments of a message that are left, in order.
 #[derive(Drop)]

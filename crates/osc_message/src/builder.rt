@@ -8,10 +8,10 @@ ghost use Rattle.osc_message.specs.Building.{null_in};
 ghost use Rattle.osc_message.specs.Reading.{brackets_read};
 ghost use Rattle.osc_message.specs.Shown.{shown};
 
-use crate::argument_writing::{argument_size, find_null, null_at, put_argument};
+use crate::argument_bytes::{argument_size, find_null, null_at, put_argument};
 use crate::limits::{MAX_BUILT, MAX_BUILT_PATTERN};
 use crate::tags::check_brackets;
-use crate::{Arg, BuildFault, argument_writing};
+use crate::{Arg, BuildFault, argument_bytes};
 use osc_atoms::{Bytes, put_string, string_size};
 use osc_pattern::Pattern;
 use std::alloc::{AllocError, Global};
@@ -154,7 +154,7 @@ fn add_argument(tags: &mut Vec<u8>, atoms: &mut Vec<u8>, arg: Arg<'_>) -> Result
     ensures same_tags { OnErr result (tags.new.items ≡ tags.old.items) }
     ensures same_atoms { OnErr result (atoms.new.items ≡ atoms.old.items) }
 {
-    tags.push(argument_writing::tag_of(arg))?;
+    tags.push(argument_bytes::tag_of(arg))?;
     if let Err(error) = put_argument(atoms, arg) {
         tags.pop();
         return Err(error);
@@ -162,7 +162,7 @@ fn add_argument(tags: &mut Vec<u8>, atoms: &mut Vec<u8>, arg: Arg<'_>) -> Result
     Ok(())
 }
 
-/// The array brackets among the tags behind their comma balance.
+/// The array brackets among the tags after their comma balance.
 fn are_balanced(tags: &[u8]) -> bool
     requires comma { 0 < length tags.now }
     requires small { length tags.now ≤ MAX_BUILT }

@@ -6,19 +6,19 @@
 
 mod args;
 mod argument;
-mod argument_reading;
-mod argument_writing;
+mod argument_at;
+mod argument_bytes;
 mod build_fault;
 mod builder;
 pub mod laws;
 mod limits;
 mod message;
-mod reading;
+mod parts;
 mod tags;
 
 pub use args::Args;
 pub use argument::Arg;
-pub use argument_writing::{append_argument, argument_size};
+pub use argument_bytes::{append_argument, argument_size};
 pub use build_fault::BuildFault;
 pub use builder::Builder;
 pub use limits::{MAX_BUILT, MAX_BUILT_PATTERN};

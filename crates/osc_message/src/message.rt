@@ -10,7 +10,7 @@ ghost use Rattle.osc_message.specs.Seen.{seen, KeepsUnknown};
 ghost use Rattle.std.specs.Result.{result_map_both, result_err};
 
 use crate::Args;
-use crate::reading::{Slices, known_message, read_message};
+use crate::parts::{Slices, known_message, read_message};
 use osc_atoms::Fault;
 use osc_pattern::Pattern;
 use std::marker::Model;

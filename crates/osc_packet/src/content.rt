@@ -3,7 +3,7 @@ ghost use Rattle.std.specs.Prelude.{◌≡◌, ◌<◌, ◌≤◌, [], None, Mat
 ghost use Rattle.osc_packet.specs.Reading.{body_fault, messages_in};
 ghost use Rattle.osc_packet.specs.Contents.{own_fault, SplitsElements};
 
-use crate::checking::{first_size, is_bundle, split_element};
+use crate::checks::{first_size, is_bundle, split_element};
 
 /// Where the messages of a unit stand.
 #[derive(Clone, Copy)]

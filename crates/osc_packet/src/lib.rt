@@ -6,7 +6,7 @@
 
 mod bundle_fault;
 mod bundler;
-mod checking;
+mod checks;
 mod content;
 pub mod laws;
 mod limits;

@@ -1,6 +1,6 @@
 // Packets, borrowed from their bytes.
 
-use crate::checking::{IMMEDIATELY, check_packet, is_bundle};
+use crate::checks::{IMMEDIATELY, check_packet, is_bundle};
 use crate::content::Content;
 use crate::laws::{of_messages, units_are_read_again};
 use crate::{Unit, Units};

@@ -3,7 +3,7 @@ ghost use Rattle.std.specs.Prelude.{◌≡◌, None};
 ghost use Rattle.osc_packet.specs.Reading.{packet_fault, units_read};
 
 use crate::Unit;
-use crate::checking::{IMMEDIATELY, bundle_elements, bundle_tag, is_bundle};
+use crate::checks::{IMMEDIATELY, bundle_elements, bundle_tag, is_bundle};
 use crate::content::Content;
 use crate::limits::{BUNDLE_HEAD, MAX_DEPTH};
 use crate::walk::{OpenBundle, Walk, next_unit};

@@ -5,7 +5,7 @@ ghost use Rattle.std.specs.Prelude.{◌≡◌, ◌+◌, ◌≤◌, [], ◌∷◌
 ghost use Rattle.osc_packet.specs.Walks.{units_from, IsWalk, IsNext};
 
 use crate::Unit;
-use crate::checking::{
+use crate::checks::{
     bundle_elements, bundle_tag, effective_tag, first_size, is_bundle, split_element,
 };
 use crate::content::Content;

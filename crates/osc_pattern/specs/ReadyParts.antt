@@ -34,7 +34,7 @@ abbrev pub after_ready : Ready → List ℕ → List (List ℕ)
 after_ready (Set set) name = after_one (is_as set.bytes set.within) name
 after_ready (Other item) name = after_item (item_of item) name
 
--- whether the items match a name, and the text behind them
+-- whether the items match a name, and the text after them
 abbrev pub match_ready : List Ready → List ℕ → List ℕ → Bool
 match_ready [] rest name = match_part rest name
 match_ready (item ∷ items) rest name = list_any (match_ready items rest) (after_ready item name)
@@ -48,7 +48,7 @@ abbrev pub all_ready_size : List Ready → ℕ
 all_ready_size [] = 0
 all_ready_size (item ∷ items) = ready_size item + all_ready_size items
 
--- the items and the text behind them stand for a part, and aren't longer
+-- the items and the text after them stand for a part, and aren't longer
 pub record IsReady (items : List Ready) (rest part : List ℕ) : Type 0 where
   pub same : (name : List ℕ) → match_ready items rest name ≡ match_part part name
   pub size : all_ready_size items + length rest ≤ length part

@@ -40,7 +40,7 @@ begins_empty (first ∷ second ∷ rest) = first == 123 && second == 125
 abbrev pub is_place_of : Places → ℕ → Bool
 is_place_of places place = bit_at places.bits place == 1
 
--- whether it has begun before a place, or at one of the places from there on to so many behind it
+-- whether it has begun before a place, or at one of the places from there on to so many after it
 abbrev pub reached_from : Bool → (ℕ → Bool) → ℕ → ℕ → Bool
 reached_from begun places at zero = begun || places at
 reached_from begun places at (suc more) = reached_from (begun || places at) places (at + 1) more

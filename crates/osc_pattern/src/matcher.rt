@@ -160,7 +160,7 @@ pub(crate) fn behind<'a>(item: Item<'_>, others: &'a [u8]) -> &'a [u8]
     }
 }
 
-/// The part behind each star and each `{}` that it begins with. Behind a star they add nothing.
+/// The part after each star and each `{}` that it begins with. After a star they add nothing.
 fn without_idle(part: &[u8]) -> &[u8]
     ensures same { (name : List ℕ) → match_part (42 ∷ result.now) name
         ≡ match_part (42 ∷ part.now) name }
@@ -188,7 +188,7 @@ fn idle_bytes(part: &[u8]) -> usize
     }
 }
 
-/// The part behind each `{}` that it begins with. They match the empty text alone.
+/// The part after each `{}` that it begins with. They match the empty text alone.
 pub(crate) fn without_empty(part: &[u8]) -> &[u8]
     ensures same { (name : List ℕ) → match_part result.now name ≡ match_part part.now name }
     ensures shorter { length result.now ≤ length part.now }

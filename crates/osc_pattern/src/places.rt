@@ -57,7 +57,7 @@ impl Places {
         self.bits |= others.bits;
     }
 
-    /// The places right behind those that are marked.
+    /// The places right after those that are marked.
     pub(crate) fn behind(&self, marks: u64) -> Places
         ensures first { is_place_of result 0 ≡ false }
         ensures others { (place : ℕ) → place < MAX_NAME → is_place_of result (place + 1)
@@ -68,7 +68,7 @@ impl Places {
         }
     }
 
-    /// The first of the places, and all behind it.
+    /// The first of the places, and all after it.
     pub(crate) fn onward(&self) -> Places
         ensures { (place : ℕ) → place < MAX_PLACES → is_place_of result place
             ≡ reached_from false (is_place_of self.now) 0 place }

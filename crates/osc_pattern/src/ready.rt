@@ -26,7 +26,7 @@ pub struct ReadyPart<'a> {
     rest: &'a [u8],
 }
 
-/// A part as it is tried on names: the items that were made ready, and the text behind them.
+/// A part as it is tried on names: the items that were made ready, and the text after them.
 #[derive(Clone, Copy)]
 pub struct Part<'a> {
     pub(crate) items: &'a [Ready<'a>],

@@ -10,7 +10,7 @@ abbrev pub path : List ℕ → ℕ → ℕ → List ℕ
 path next zero block = []
 path next (suc count) block = block ∷ path next count (slice_index_or next block 0)
 
--- the block behind so many
+-- the block after so many
 abbrev pub behind : List ℕ → ℕ → ℕ → ℕ
 behind next zero block = block
 behind next (suc count) block = behind next count (slice_index_or next block 0)
@@ -79,7 +79,7 @@ pub record AreReached (blocks : List ℕ) (before after limit : ℕ) : Type 0 wh
   pub more : before ≤ after
   pub few : after ≤ limit
 
--- bytes are written on a path, and other blocks stay; the block behind the path is this one
+-- bytes are written on a path, and other blocks stay; the block after the path is this one
 pub record IsWritten (before after : List (List ℕ)) (next : List ℕ) (first behind_it : ℕ)
     (bytes : List ℕ) : Type 0 where
   pub ends : behind_it ≡ behind next (blocks_for (length bytes)) first

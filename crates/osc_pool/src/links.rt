@@ -54,7 +54,7 @@ pub(crate) fn last_of(next: &[u32], first: u32, count: usize) -> u32
     block
 }
 
-/// Writes the bytes into blocks, from the first on, and answers the block behind them.
+/// Writes the bytes into blocks, from the first on, and answers the block after them.
 pub(crate) fn write(blocks: &mut Vec<Block>, next: &[u32], first: u32, bytes: &[u8]) -> u32
     requires linked { length blocks.old.items ≤ length next.now }
     requires room { length next.now ≤ vec_capacity blocks.old }
@@ -77,7 +77,7 @@ pub(crate) fn write(blocks: &mut Vec<Block>, next: &[u32], first: u32, bytes: &[
     block
 }
 
-/// Writes a head and the bytes behind it into one block, and answers the block behind that.
+/// Writes a head and the bytes after it into one block, and answers the block after that.
 #[inline(always)]
 pub(crate) fn write_pair(
     blocks: &mut Vec<Block>,
@@ -105,7 +105,7 @@ pub(crate) fn write_pair(
     next[first as usize]
 }
 
-/// Writes a head and the bytes behind it over the beginning of a block.
+/// Writes a head and the bytes after it over the beginning of a block.
 #[inline(always)]
 fn put_pair(blocks: &mut Vec<Block>, block: usize, head: &[u8; 4], bytes: &[u8])
     requires room { block < vec_capacity blocks.old }
@@ -156,7 +156,7 @@ fn fill(block: &mut Block, piece: &[u8])
     block[..piece.len()].copy_from_slice(piece);
 }
 
-/// Writes a head and the bytes behind it over the beginning of a block.
+/// Writes a head and the bytes after it over the beginning of a block.
 #[inline(always)]
 fn fill_pair(block: &mut Block, head: &[u8; 4], bytes: &[u8])
     requires { length (head.now ++ bytes.now) ≤ BLOCK_SIZE }

@@ -106,7 +106,7 @@ impl Pool {
         Ok(Chain { first, len })
     }
 
-    /// Stores a head and the bytes behind it, which fit into one block, where one is free.
+    /// Stores a head and the bytes after it, which fit into one block, where one is free.
     #[inline(always)]
     pub fn store_pair(&mut self, head: &[u8; 4], bytes: &[u8]) -> Chain
         requires fits { length (head.now ++ bytes.now) ≤ 64 }

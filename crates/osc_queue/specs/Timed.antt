@@ -48,7 +48,7 @@ module _ {T : Type 0} where
   abbrev pub enter : Item T → List (Item T) → List (Item T)
   enter item items = insert items (position_or_len (is_before item) items) item
 
-  -- each item is taken before all those behind it
+  -- each item is taken before all those after it
   abbrev pub IsInOrder : List (Item T) → Type 0
   IsInOrder [] = Unit {0}
   IsInOrder (item ∷ items) = AllByRecursion (λ other. is_before item other ≡ true) items

@@ -18,7 +18,7 @@ module _ {T : Type 0} where
   abbrev pub items_of : List (Entry T) → List (Item T)
   items_of entries = map item_of entries
 
-  -- items in the order in which they are taken: each enters those behind it
+  -- items in the order in which they are taken: each enters those after it
   abbrev pub in_order : List (Item T) → List (Item T)
   in_order [] = []
   in_order (item ∷ items) = enter item (in_order items)

@@ -96,7 +96,7 @@ impl<T> Queue<T> {
         Ok(())
     }
 
-    /// The least item by due moment and unit number, behind these two, or `None` where the queue is empty.
+    /// The least item by due moment and unit number, after these two, or `None` where the queue is empty.
     pub fn first(&self) -> Option<(u64, u64, &T)>
         ensures empty { IsNone result ↔ (self.now.items ≡ []) }
         ensures head { IfSome result
@@ -111,7 +111,7 @@ impl<T> Queue<T> {
         Some((entry.due, entry.unit, &entry.item))
     }
 
-    /// Takes the least item by due moment and unit number, behind these two, if it is due at the moment `now`.
+    /// Takes the least item by due moment and unit number, after these two, if it is due at the moment `now`.
     pub fn pop_due<L: Ledger>(&mut self, now: u64, steps: &mut Steps<L>) -> Option<(u64, u64, T)>
         ensures none { IsNone result ↔ NoneIsDue now self.old.items }
         ensures unchanged { IfNone result (self.new ≡ self.old) }

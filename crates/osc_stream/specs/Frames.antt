@@ -35,7 +35,7 @@ abbrev pub wanted : List ℕ → ℕ
 wanted bytes = if nat_lt (length bytes) 4 then 4 - length bytes
     else (if is_length (first_word bytes) then 4 + first_word bytes - length bytes else 0)
 
--- how a stream ends: behind a whole packet, at a word that is no size, or within a frame
+-- how a stream ends: after a whole packet, at a word that is no size, or within a frame
 pub data Ending : Type 0 where
   Clean : Ending
   Broken : ℕ → ℕ → Ending
@@ -65,7 +65,7 @@ abbrev pub rest_ending : ℕ → List ℕ → Ending
 rest_ending at [] = Clean
 rest_ending at (byte ∷ bytes) = Cut at
 
--- the frames from a place on, by what stands there and by the frames behind it
+-- the frames from a place on, by what stands there and by the frames after it
 abbrev pub next_frames : Front → ℕ → List ℕ → (ℕ → List ℕ → Framing) → Framing
 next_frames Short at bytes others = ends (rest_ending at bytes)
 next_frames (Whole size) at bytes others =
@@ -81,6 +81,6 @@ frames_in (suc steps) at bytes = next_frames (front bytes) at bytes (frames_in s
 abbrev pub frames : ℕ → List ℕ → Framing
 frames at bytes = frames_in (length bytes) at bytes
 
--- the frames of a stream: as many packets as there are whole, one behind the other, and how it ends
+-- the frames of a stream: as many packets as there are whole, one after the other, and how it ends
 abbrev pub Frames : List ℕ → Framing
 Frames bytes = frames 0 bytes

@@ -1,4 +1,4 @@
--- Packets written one behind the other, each after its size.
+-- Packets written one after the other, each after its size.
 use Rattle.std.specs.Prelude.{ℕ, Bool, true, ◌&&◌, List, [], ◌∷◌, ◌++◌, length}
 use Rattle.osc_stream.specs.Frames.{frame, is_length}
 

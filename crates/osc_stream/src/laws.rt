@@ -15,7 +15,7 @@ pub fn any_pieces()
         ≡ with_packets (packets_answered feeds) (frames stream.place (stream.held ++ more)) }
 {}
 
-/// Packets that are written one behind the other, each after its size, are the first packets of the frames.
+/// Packets that are written one after the other, each after its size, are the first packets of the frames.
 pub fn written_packets()
     ensures { (packets : List (List ℕ)) (rest : List ℕ) → IsTrue (are_lawful packets)
         → Frames (written packets ++ rest)

@@ -6,11 +6,11 @@
 
 mod buffered_source;
 mod fed;
-mod filling;
+mod frame_bytes;
 mod front;
 pub mod laws;
 mod limits;
-mod reading;
+mod source_frame;
 mod state;
 mod stream;
 mod stream_link;

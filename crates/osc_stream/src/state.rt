@@ -7,7 +7,7 @@ ghost use Rattle.osc_stream.specs.Links.{is_end};
 pub enum StreamState {
     /// The last call gave a packet, or there was no call.
     Going,
-    /// The stream ended behind a packet, or as many bytes as can be counted were taken.
+    /// The stream ended after a packet, or as many bytes as can be counted were taken.
     Clean,
     /// The stream ended within the frame at this place.
     Cut { at: u64 },

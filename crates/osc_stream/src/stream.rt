@@ -6,7 +6,7 @@ ghost use Rattle.osc_stream.specs.Frames.{wanted};
 ghost use Rattle.osc_stream.specs.Feeding.{at_start, taken, IsFed};
 
 use crate::fed::Fed;
-use crate::filling::fill;
+use crate::frame_bytes::fill;
 use crate::front::{Front, wanted_after};
 use crate::limits::{LIMIT, MAX_FRAME};
 use std::alloc::{AllocError, Global};

@@ -3,7 +3,7 @@ ghost use Rattle.std.specs.Prelude.{◌≡◌, ◌≤◌, length, take, IfOk, Is
 ghost use Rattle.osc_stream.specs.Feeding.{at_start};
 ghost use Rattle.osc_stream.specs.Links.{is_below, is_sound};
 
-use crate::reading::read_frame;
+use crate::source_frame::read_frame;
 use crate::state::StreamState;
 use crate::stream::Stream;
 use osc_edge::{Datagram, Link, Source};

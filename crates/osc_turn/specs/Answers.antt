@@ -18,7 +18,7 @@ abbrev pub IfBusy : Tried → (ℕ → Type 0) → Type 0
 IfBusy (Done ran) P = ⊤
 IfBusy (Busy found) P = P found
 
--- the call took the turn exactly once, and beside that found words and saw entries
+-- the call took the turn exactly once, and next to that found words and saw entries
 abbrev pub TakesOnce : View → View → Type 0
 TakesOnce v w = w ≡ record v { seen = w.seen; words = w.words; taken = v.taken + 1 }
 
