@@ -1,0 +1,3 @@
+pub mod WholeArguments
+pub mod Lines
+pub mod Sheets
