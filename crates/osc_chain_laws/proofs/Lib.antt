@@ -1,0 +1,14 @@
+pub mod Added
+pub mod Alone
+pub mod Chaining
+pub mod Continuing
+pub mod Lines
+pub mod Opened
+pub mod Pumping
+pub mod Room
+pub mod Roomy
+pub mod Same
+pub mod Shown
+pub mod Silent
+pub mod Timed
+pub mod Turned

@@ -1,0 +1,4 @@
+//! A chain of recordings on a stage.
+#![tactic(auto)]
+
+pub mod laws;
