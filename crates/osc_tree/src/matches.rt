@@ -26,7 +26,7 @@ use crate::names::{
 use crate::parts::{find_parts, read_parts, ready_parts};
 use crate::prefix::beginning_with;
 use crate::registered::Registered;
-use crate::search::count_before_after;
+use crate::search::count_before_near;
 use osc_pattern::laws::{an_address_is_a_pattern, plain_pattern, tests_are_exact};
 use osc_pattern::{MAX_NAMES, Part, Pattern, Steps};
 use std::sync::ledger::Ledger;
@@ -245,13 +245,17 @@ fn walk_found<L: Ledger>(
 {
     let wild = count_wild(pattern, outline.parts);
     let mut at = 0;
-    let mut idle = 0;
+    let mut pace = Pace {
+        idle: 0,
+        past: 0,
+        onward: 0,
+    };
     while at < near.len() {
         let (next, after) = visit(
-            methods, near, at, pattern, outline, found, wild, idle, ids, steps,
+            methods, near, at, pattern, outline, found, wild, pace, ids, steps,
         );
         at = next;
-        idle = after;
+        pace = after;
     }
 }
 
@@ -294,6 +298,44 @@ fn find_past(names: &[u8], wild: u32, parts: u32) -> Option<usize>
     names_at(names, wild as usize)
 }
 
+/// How a walk went so far: how many methods were tried in vain since it last went on by a search, and how many it
+/// passed over then.
+#[derive(Clone, Copy)]
+struct Pace {
+    idle: u32,
+    past: usize,
+    onward: usize,
+}
+
+impl Pace {
+    /// After a method that matches, and a search past so many.
+    fn passed(self, count: usize) -> Pace {
+        Pace {
+            idle: 0,
+            past: count,
+            onward: self.onward,
+        }
+    }
+
+    /// After a method that doesn't match, and a search past so many.
+    fn went_on(self, count: usize) -> Pace {
+        Pace {
+            idle: 0,
+            past: self.past,
+            onward: count,
+        }
+    }
+
+    /// After one more method that was tried in vain.
+    fn waited(self) -> Pace {
+        Pace {
+            idle: self.idle.saturating_add(1),
+            past: self.past,
+            onward: self.onward,
+        }
+    }
+}
+
 /// Whether to look for where a walk goes on, after so many methods without: each time twice as rarely.
 fn looks(idle: u32) -> bool {
     idle & idle.saturating_sub(1) == 0
@@ -310,10 +352,10 @@ fn visit<L: Ledger>(
     outline: Outline,
     found: &[Part<'_>; MAX_NAMES],
     wild: u32,
-    idle: u32,
+    pace: Pace,
     ids: &mut Vec<u32>,
     steps: &mut Steps<L>,
-) -> (usize, u32)
+) -> (usize, Pace)
     requires parts { outline.parts ≡ length (parts_of pattern.now) }
     requires few { outline.parts ≤ MAX_NAMES }
     requires found { AreParts found.now pattern.now }
@@ -349,25 +391,24 @@ fn visit<L: Ledger>(
         add_id(method.id, ids);
         if let Some(bytes) = find_past(names, wild, outline.parts) {
             let text = &method.address.bytes()[..1 + bytes];
-            return (
-                count_before_after(methods, places, at + 1, text, b"\x7f"),
-                0,
-            );
+            let next = count_before_near(methods, places, at + 1, pace.past, text, b"\x7f");
+            return (next, pace.passed(next.saturating_sub(at + 1)));
         }
-        return (at + 1, idle);
+        return (at + 1, pace);
     }
-    if looks(idle)
+    if looks(pace.idle)
         && let Some((bytes, kept, tail)) = find_onward(pattern, outline.parts, matching, names)
     {
         let text = &method.address.bytes()[..1 + bytes + kept];
-        return (count_before_after(methods, places, at + 1, text, tail), 0);
+        let next = count_before_near(methods, places, at + 1, pace.onward, text, tail);
+        return (next, pace.went_on(next.saturating_sub(at + 1)));
     }
     if last {
-        return (at + 1, idle.saturating_add(1));
+        return (at + 1, pace.waited());
     }
     let least = least_shared(matching, outline.parts) as usize;
     let more = count_sharing(methods, &places[at + 1..], names, least);
-    (at + 1 + more, idle.saturating_add(1))
+    (at + 1 + more, pace.waited())
 }
 
 /// The names that the method at this place has in common with the one before it, if any is. All begin with the front.

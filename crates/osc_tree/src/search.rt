@@ -127,6 +127,46 @@ pub(crate) fn count_before_after(
     count_between(methods, places, low, high, text, tail)
 }
 
+/// The same, where so many that follow are guessed to be before the text, and no more.
+pub(crate) fn count_before_near(
+    methods: &[Registered],
+    places: &[u32],
+    from: usize,
+    guess: usize,
+    text: &[u8],
+    tail: &[u8],
+) -> usize
+    requires within { All (λ place. place < length methods.now) places.now }
+    requires ascending { IsAscending (methods_at methods.now places.now) }
+    requires known { IsSearched (text.now ++ tail.now) (methods_at methods.now places.now)
+        from (length places.now) }
+    ensures searched { IsSearched (text.now ++ tail.now) (methods_at methods.now places.now)
+        result result }
+    ensures bound { result ≤ length places.now }
+{
+    if guess == 0 || guess >= places.len() - from {
+        return count_before_after(methods, places, from, text, tail);
+    }
+    let next = from + guess;
+    let found = compare(methods, places[next], text, tail, 0);
+    if found.is_before {
+        return count_before_after(methods, places, next + 1, text, tail);
+    }
+    let below = compare(methods, places[next - 1], text, tail, 0);
+    if below.is_before {
+        return next;
+    }
+    let low = End {
+        place: from,
+        begun: 0,
+    };
+    let high = End {
+        place: next - 1,
+        begun: below.begun,
+    };
+    count_between(methods, places, low, high, text, tail)
+}
+
 /// The same, where all below one place are known to be, and none from another on. It halves what is between the two,
 /// and compares no byte with which the methods at both ends begin.
 fn count_between(

@@ -142,8 +142,8 @@ find_onward-requires-clause-low g c =
     (slash_names address c.names_of-names.result.now c.names_of-names.ensures.lawful.slash c.names_of-names.ensures.bytes)
     (address_low address c.names_of-names.ensures.lawful)
 
-pub count_before_after-requires-2-clause-known : goal.count_before_after-requires-2-clause-known
-count_before_after-requires-2-clause-known g c =
+pub count_before_near-next-requires-2-clause-known : goal.count_before_near-next-requires-2-clause-known
+count_before_near-next-requires-2-clause-known g c =
     let registered = c.args.methods.now in
     let places = c.args.places.now in
     let at = c.args.at in
@@ -174,8 +174,8 @@ returns-clause-on g c =
     let own : (get_or ms at d).address ≡ 47 ∷ names = ap (λ (m : Method). m.address) here ∙ slashed in
     let tail = take c.in-Some-find_onward.kept (drop c.in-Some-find_onward.bytes names) ++ c.in-Some-find_onward.tail.now in
     let text = text_is c.bytes-2.result.now names c.in-Some-find_onward.tail.now c.in-Some-find_onward.bytes c.in-Some-find_onward.kept (c.bytes-2.ensures.value ∙ slashed) in
-    on_further c.args.pattern.now names tail _ c.count_matching-matching.result.0 c.in-Some-find_onward.bytes at c.count_before_after-2.result ms d within own
-    c.in-Some-find_onward.ensures.on text c.count_before_after-2.ensures.searched
+    on_further c.args.pattern.now names tail _ c.count_matching-matching.result.0 c.in-Some-find_onward.bytes at c.count_before_near-next-2.result ms d within own
+    c.in-Some-find_onward.ensures.on text c.count_before_near-next-2.ensures.searched
 
 pub returns-clause-walked : goal.returns-clause-walked
 returns-clause-walked g c =
@@ -191,11 +191,11 @@ returns-clause-walked g c =
     let own : (get_or ms at d).address ≡ 47 ∷ names = ap (λ (m : Method). m.address) here ∙ slashed in
     let tail = take c.in-Some-find_onward.kept (drop c.in-Some-find_onward.bytes names) ++ c.in-Some-find_onward.tail.now in
     let text = text_is c.bytes-2.result.now names c.in-Some-find_onward.tail.now c.in-Some-find_onward.bytes c.in-Some-find_onward.kept (c.bytes-2.ensures.value ∙ slashed) in
-    let more = on_further c.args.pattern.now names tail _ c.count_matching-matching.result.0 c.in-Some-find_onward.bytes at c.count_before_after-2.result ms d
-    within own c.in-Some-find_onward.ensures.on text c.count_before_after-2.ensures.searched in
-    walked_on c.args.pattern.now ms at c.count_before_after-2.result c.count_matching-matching.result.0 c.in-Some-find_onward.bytes c.args.ids.now.items names tail
+    let more = on_further c.args.pattern.now names tail _ c.count_matching-matching.result.0 c.in-Some-find_onward.bytes at c.count_before_near-next-2.result ms d
+    within own c.in-Some-find_onward.ensures.on text c.count_before_near-next-2.ensures.searched in
+    walked_on c.args.pattern.now ms at c.count_before_near-next-2.result c.count_matching-matching.result.0 c.in-Some-find_onward.bytes c.args.ids.now.items names tail
     d c.requires.sorted within c.requires.walked own c.count_matching-matching.ensures.count c.in-Some-find_onward.ensures.on (omega arith)
-    (subst (λ l. IsSearched l ms c.count_before_after-2.result c.count_before_after-2.result) text c.count_before_after-2.ensures.searched)
+    (subst (λ l. IsSearched l ms c.count_before_near-next-2.result c.count_before_near-next-2.result) text c.count_before_near-next-2.ensures.searched)
 
 pub returns-clause-bounded : goal.returns-clause-bounded
 returns-clause-bounded g c =
@@ -211,8 +211,8 @@ returns-clause-bounded g c =
     let own : (get_or ms at d).address ≡ 47 ∷ names = ap (λ (m : Method). m.address) here ∙ slashed in
     let tail = take c.in-Some-find_onward.kept (drop c.in-Some-find_onward.bytes names) ++ c.in-Some-find_onward.tail.now in
     let text = text_is c.bytes-2.result.now names c.in-Some-find_onward.tail.now c.in-Some-find_onward.bytes c.in-Some-find_onward.kept (c.bytes-2.ensures.value ∙ slashed) in
-    let later = on_further c.args.pattern.now names tail _ c.count_matching-matching.result.0 c.in-Some-find_onward.bytes at c.count_before_after-2.result ms d
-    within own c.in-Some-find_onward.ensures.on text c.count_before_after-2.ensures.searched in
+    let later = on_further c.args.pattern.now names tail _ c.count_matching-matching.result.0 c.in-Some-find_onward.bytes at c.count_before_near-next-2.result ms d
+    within own c.in-Some-find_onward.ensures.on text c.count_before_near-next-2.ensures.searched in
     let split : slice_split is_slash names ≡ parts_of (get_or ms at d).address =
     c.names_of-names.ensures.parts ∙ ap (λ (m : Method). parts_of m.address) (sym here) in
     let spends : spent c.known_at-known.result.names (parts_of c.args.pattern.now) (slice_split is_slash names)
@@ -220,11 +220,11 @@ returns-clause-bounded g c =
     ap (λ (n : ℕ). spent n (parts_of c.args.pattern.now) (slice_split is_slash names)) c.known_at-known.ensures.count
     ∙ ap (spent (known_at ms at d) (parts_of c.args.pattern.now)) split in
     let most = charged c.args.pattern.now ms at d c.requires.sorted within in
-    let more = further c.args.pattern.now ms (suc at) c.count_before_after-2.result (omega arith) in
+    let more = further c.args.pattern.now ms (suc at) c.count_before_near-next-2.result (omega arith) in
     omega (arith, c.count_matching-matching.ensures.bounded)
 
-pub count_before_after-requires-clause-known : goal.count_before_after-requires-clause-known
-count_before_after-requires-clause-known g c =
+pub count_before_near-next-requires-clause-known : goal.count_before_near-next-requires-clause-known
+count_before_near-next-requires-clause-known g c =
     let registered = c.args.methods.now in
     let places = c.args.places.now in
     let at = c.args.at in
@@ -256,7 +256,7 @@ returns-in-Some-clause-on g c =
     let own : (get_or ms at d).address ≡ 47 ∷ names = ap (λ (m : Method). m.address) here ∙ slashed in
     let low = low_behind (47 ∷ []) names address slashed (address_low address c.names_of-names.ensures.lawful) in
     let text = past_text c.bytes.result.now names c.in-Some.bytes (c.bytes.ensures.value ∙ slashed) in
-    past_further names _ c.in-Some.bytes at c.count_before_after.result ms d within own low text c.count_before_after.ensures.searched
+    past_further names _ c.in-Some.bytes at c.count_before_near-next.result ms d within own low text c.count_before_near-next.ensures.searched
 
 pub returns-in-Some-clause-walked : goal.returns-in-Some-clause-walked
 returns-in-Some-clause-walked g c =
@@ -273,7 +273,7 @@ returns-in-Some-clause-walked g c =
     let own : (get_or ms at d).address ≡ 47 ∷ names = ap (λ (m : Method). m.address) here ∙ slashed in
     let low = low_behind (47 ∷ []) names address slashed (address_low address c.names_of-names.ensures.lawful) in
     let text = past_text c.bytes.result.now names c.in-Some.bytes (c.bytes.ensures.value ∙ slashed) in
-    let later = past_further names _ c.in-Some.bytes at c.count_before_after.result ms d within own low text c.count_before_after.ensures.searched in
+    let later = past_further names _ c.in-Some.bytes at c.count_before_near-next.result ms d within own low text c.count_before_near-next.ensures.searched in
     let split : slice_split is_slash names ≡ parts_of (get_or ms at d).address =
     c.names_of-names.ensures.parts ∙ ap (λ (m : Method). parts_of m.address) (sym here) in
     let matching = c.count_matching-matching.result.0 in
@@ -282,11 +282,11 @@ returns-in-Some-clause-walked g c =
     let agrees = c.count_matching-matching.ensures.count ∙ ap (agreeing (parts_of c.args.pattern.now)) split in
     let walked = walked_hit c.args.pattern.now ms at c.args.ids.now.items c.add_id.new.ids.items c.index-methods-places.result.id matching d within
     c.requires.walked agrees (whole.0 ∙ c.requires.parts) (whole.1 ∙ ap length split) (ap (λ (m : Method). m.id) (sym here)) c.add_id.ensures.ids in
-    walked_past c.args.pattern.now ms at c.count_before_after.result c.args.wild c.in-Some.bytes c.add_id.new.ids.items names d c.requires.sorted within walked own
+    walked_past c.args.pattern.now ms at c.count_before_near-next.result c.args.wild c.in-Some.bytes c.add_id.new.ids.items names d c.requires.sorted within walked own
     (hit_matches c.args.pattern.now (get_or ms at d).address matching agrees (whole.0 ∙ c.requires.parts) (whole.1 ∙ ap length split)) c.requires.plain
     (past_passing c.args.pattern.now names c.args.wild c.in-Some.bytes matching c.in-Some.ensures.bound c.in-Some.ensures.cut
     (omega (arith, c.in-Some.ensures.some, c.requires.parts)) c.count_matching-matching.ensures.count (whole.0 ∙ c.requires.parts)) (omega arith)
-    (subst (λ l. IsSearched l ms c.count_before_after.result c.count_before_after.result) text c.count_before_after.ensures.searched)
+    (subst (λ l. IsSearched l ms c.count_before_near-next.result c.count_before_near-next.result) text c.count_before_near-next.ensures.searched)
 
 pub returns-in-Some-clause-bounded : goal.returns-in-Some-clause-bounded
 returns-in-Some-clause-bounded g c =
@@ -303,7 +303,7 @@ returns-in-Some-clause-bounded g c =
     let own : (get_or ms at d).address ≡ 47 ∷ names = ap (λ (m : Method). m.address) here ∙ slashed in
     let low = low_behind (47 ∷ []) names address slashed (address_low address c.names_of-names.ensures.lawful) in
     let text = past_text c.bytes.result.now names c.in-Some.bytes (c.bytes.ensures.value ∙ slashed) in
-    let later = past_further names _ c.in-Some.bytes at c.count_before_after.result ms d within own low text c.count_before_after.ensures.searched in
+    let later = past_further names _ c.in-Some.bytes at c.count_before_near-next.result ms d within own low text c.count_before_near-next.ensures.searched in
     let split : slice_split is_slash names ≡ parts_of (get_or ms at d).address =
     c.names_of-names.ensures.parts ∙ ap (λ (m : Method). parts_of m.address) (sym here) in
     let spends : spent c.known_at-known.result.names (parts_of c.args.pattern.now) (slice_split is_slash names)
@@ -311,7 +311,7 @@ returns-in-Some-clause-bounded g c =
     ap (λ (n : ℕ). spent n (parts_of c.args.pattern.now) (slice_split is_slash names)) c.known_at-known.ensures.count
     ∙ ap (spent (known_at ms at d) (parts_of c.args.pattern.now)) split in
     let most = charged c.args.pattern.now ms at d c.requires.sorted within in
-    let more = further c.args.pattern.now ms (suc at) c.count_before_after.result (omega arith) in
+    let more = further c.args.pattern.now ms (suc at) c.count_before_near-next.result (omega arith) in
     omega (arith, c.count_matching-matching.ensures.bounded)
 
 pub returns-then-last-clause-walked : goal.returns-then-last-clause-walked
