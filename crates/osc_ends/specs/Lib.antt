@@ -5,6 +5,7 @@ pub mod Outcomes
 pub mod Printing
 pub mod Ends
 pub mod Inputs
+pub mod CommandEnds
 pub mod Judging
 pub mod Recordings
 -- Inside the crate.

@@ -6,6 +6,7 @@ use Rattle.osc_score.specs.Scores.{Note}
 use Rattle.osc_score.specs.Scripted.{score_script}
 use Rattle.osc_script.specs.declared.line.Line.{Line}
 use Rattle.osc_script.specs.declared.fault.ScriptFault.{ScriptFault}
+use Rattle.osc_script.specs.declared.script.TheConstants.{MAX_SCRIPT}
 use Rattle.osc_script.specs.declared.mode.Mode.TheVariants.{Plain}
 use Rattle.osc_script.specs.Adds.{count_adds}
 use Rattle.osc_script.specs.Scripts.{script_of}
@@ -15,22 +16,23 @@ use Rattle.osc_words.specs.declared.command.PlainCommand.{PlainCommand}
 use Rattle.osc_words.specs.declared.command.PlainCommand.TheVariants.{Read, Gen}
 use Rattle.osc_words.specs.declared.command.Reading.{Reading}
 use Rattle.osc_words.specs.declared.command.Reading.TheVariants.{Run, Replay, Dump, Upgrade, Score, PlayScore}
-use Rattle.osc_ends.proofs.Inputs.{any_bytes, of_so, refused_bytes}
+use Rattle.osc_ends.proofs.Inputs.{any_bytes, if_any, of_so, refused_bytes}
 use Rattle.osc_ends.specs.declared.status.TheConstants.{DONE, NO_MEMORY, SINK_FAILED}
-use Rattle.osc_ends.specs.Ends.{EndsLine, EndsText}
+use Rattle.osc_ends.specs.CommandEnds.{IsCommandsEnd}
+use Rattle.osc_ends.specs.Ends.{EndsLine, EndsText, left_behind}
 use Rattle.osc_ends.specs.Inputs.{OfInput, RefusesLength, RefusesScript}
 use Rattle.osc_ends.specs.Printing.{bank_short_text, malformed_text, refusal_text}
-use Rattle.osc_ends.specs.Recordings.{EndsDump, EndsRecording, EndsReplay, EndsUpgrade}
+use Rattle.osc_ends.specs.Recordings.{EndsRecording}
 use Rattle.osc_ends.specs.Recordings.{DumpsTo, RefusesForm, RefusesRecording, RefusesUpgrade, ReplaysTo, UpgradesTo}
-use Rattle.osc_ends.specs.Sinks.{SinkChange, GainsUnless}
+use Rattle.osc_ends.specs.Sinks.{SinkChange, sink_change, GainsUnless}
 use Rattle.osc_player.specs.Bank.{IsAccounted}
 use Rattle.osc_player.specs.Enough.{enough}
 use Rattle.osc_player.specs.Plain.{plain}
 use Rattle.osc_plain.specs.declared.report.Report.{Report}
-use Rattle.osc_plain.specs.Commands.{plain_limits}
-use Rattle.osc_plain.specs.EndsPlain.{AccountsReading, AccountsScore, AccountsScript, CanBeDone, EndsPlain, EndsReading, HandsAllBack}
+use Rattle.osc_plain.specs.Commands.{most_bytes, plain_limits}
+use Rattle.osc_plain.specs.EndsPlain.{AccountsReading, AccountsScript, CanBeRead, EndsPlain, EndsReading, HandsAllBack}
 use Rattle.osc_plain.specs.Runs.{IsPlayed, IsUnstopped, EndsLines, EndsRun, report_of}
-use Rattle.osc_plain.specs.Scores.{EndsNotes, EndsPlayedScore, EndsPlaying, EndsScore}
+use Rattle.osc_plain.specs.Scores.{EndsNotes, EndsPlaying}
 
 -- too few boxes
 pub short_ends : (report : Report) (caps : Limits) (status status' have have' need : ℕ) (lines : List Line) (out : SinkChange) → status' ≡ status
@@ -136,75 +138,108 @@ module _ {M : Type 0} (keep : M → ℕ) (tells : M → Option (List ℕ)) (stat
       ))
       (λ script three. (run_short report caps status (length bank) script out three, λ played. absurd (not_played status (inr three) played))) read
 
-  -- a script was run, as the words say
-  pub run_said : (input : Option (List ℕ)) (output : Output) (capacities : Capacities) (reading : Reading) (report : Report) (limits : Limits)
-      → reading ≡ Run output capacities → report ≡ report_of output → limits ≡ plain_limits capacities
-      → (status ≢ 4 → OfInput input
-      (λ script. EndsRun report limits status (length bank) script out × AccountsScript keep tells limits status script bank heard left))
-      → EndsPlain keep tells (Read reading) status input bank out heard left
-  run_said input output capacities reading report limits is said same ends =
-      subst (λ (r : Reading). EndsPlain keep tells (Read r) status input bank out heard left) (sym is)
-      (subst
-      (λ (r : Report). status ≢ 4 → OfInput input
-      (λ script. EndsRun r (plain_limits capacities) status (length bank) script out
-      × AccountsScript keep tells (plain_limits capacities) status script bank heard left)) said
-      (subst
-      (λ (l : Limits). status ≢ 4 → OfInput input
-      (λ script. EndsRun report l status (length bank) script out × AccountsScript keep tells l status script bank heard left)) same ends))
+  -- a command that reads an input ran out of memory
+  pub reading_short : status ≡ 3 → (reading : Reading) (all : List ℕ)
+      → EndsReading reading status (length bank) all out × AccountsReading keep tells reading status all bank heard left
+  reading_short three (Run output capacities) script = (
+    run_short (report_of output) (plain_limits capacities) status (length bank) script out three,
+    λ played. absurd (not_played status (inr three) played),
+  )
+  reading_short three Replay all = (recording_short ReplaysTo RefusesRecording status all out three, λ short. absurd (short three))
+  reading_short three Dump all = (recording_short DumpsTo RefusesForm status all out three, λ short. absurd (short three))
+  reading_short three Upgrade all = (recording_short UpgradesTo RefusesUpgrade status all out three, λ short. absurd (short three))
+  reading_short three Score score = (
+    notes_short (λ notes. EndsText 0 status (score_script notes) out) status score out three,
+    λ short. absurd (short three),
+  )
+  reading_short three PlayScore score = (
+    notes_short (EndsPlaying status (length bank) (length score) out) status score out three,
+    λ played. absurd (not_played status (inr three) played),
+  )
+
+module _ {S O M : Type 0} (to_read : S → Option (List ℕ)) (source_faults : S → ℕ) (held : O → Option (List ℕ)) (sink_faults : O → ℕ) (keep : M → ℕ)
+    (tells : M → Option (List ℕ)) (source source_after : S) (out out_after : O) (bank : List M) (heard : List (ℕ × M)) (left : List M) (status : ℕ) where
+  -- what becomes of the sink
+  abbrev change : SinkChange
+  change = sink_change held sink_faults out out_after
+
+  -- how this command ends
+  abbrev pub EndsHere : PlainCommand → Type 0
+  EndsHere command = EndsPlain to_read source_faults held sink_faults keep tells command status source source_after out out_after bank heard left
+
+  -- how one ends that reads an input
+  abbrev pub EndsWith : ℕ → ℕ → (List ℕ → SinkChange → Type 0) → (List ℕ → Type 0) → Type 0
+  EndsWith most decided Ends Can =
+      IsCommandsEnd to_read source_faults held sink_faults most decided source source_after out out_after Ends Can
+
+  -- a script is run
+  abbrev pub EndsRunning : Report → Limits → Type 0
+  EndsRunning report limits =
+      EndsWith MAX_SCRIPT status
+      (λ script sink. EndsRun report limits status (length bank) script sink × AccountsScript keep tells limits status script bank heard left)
+      (λ script. IsOkAnd (script_of Plain script) (λ lines. (count_adds lines ≤ length bank) × IsUnstopped limits lines))
+
+  -- as the words say
+  pub run_said : (output : Output) (capacities : Capacities) (reading : Reading) (report : Report) (limits : Limits) → reading ≡ Run output capacities
+      → report ≡ report_of output → limits ≡ plain_limits capacities → EndsRunning report limits → EndsHere (Read reading)
+  run_said output capacities reading report limits is said same end =
+      subst (λ (r : Reading). EndsHere (Read r)) (sym is)
+      (subst (λ (r : Report). EndsRunning r (plain_limits capacities)) said (subst (λ (l : Limits). EndsRunning report l) same end))
 
   -- a score was played
-  pub score_said : (input : Option (List ℕ)) (reading : Reading) → reading ≡ PlayScore
-      → (status ≢ 4 → OfInput input
-      (λ score. EndsPlayedScore status (length bank) score out × AccountsScore keep tells status score bank heard left))
-      → EndsPlain keep tells (Read reading) status input bank out heard left
-  score_said input reading is ends = subst (λ (r : Reading). EndsPlain keep tells (Read r) status input bank out heard left) (sym is) ends
+  pub score_said : (reading : Reading) → reading ≡ PlayScore → EndsHere (Read PlayScore) → EndsHere (Read reading)
+  score_said reading is end = subst (λ (r : Reading). EndsHere (Read r)) (sym is) end
 
   -- a command that plays nothing was done
-  pub unplayed_said : (input : Option (List ℕ)) (reading other : Reading) (decided : ℕ) → reading ≡ other → status ≡ decided → heard ≡ [] → left ≡ bank
+  pub unplayed_said : (reading other : Reading) (decided : ℕ) → reading ≡ other → status ≡ decided → heard ≡ [] → left ≡ bank
       → ((all : List ℕ) → HandsAllBack status bank heard left → AccountsReading keep tells other status all bank heard left)
-      → (decided ≢ 4 → OfInput input (λ all. EndsReading other decided (length bank) all out))
-      → EndsPlain keep tells (Read reading) status input bank out heard left
-  unplayed_said input reading other decided is same none all_left back ends =
-      subst (λ (r : Reading). EndsPlain keep tells (Read r) status input bank out heard left) (sym is)
-      (λ read.
-      of_so input (λ all. EndsReading other status (length bank) all out)
-      (λ all. EndsReading other status (length bank) all out × AccountsReading keep tells other status all bank heard left)
-      (λ all so. (so, back all (λ _. (none, all_left))))
-      (subst (λ (s : ℕ). s ≢ 4 → OfInput input (λ all. EndsReading other s (length bank) all out)) (sym same) ends read))
+      → EndsWith (most_bytes other) decided (λ all sink. EndsReading other decided (length bank) all sink) (CanBeRead other (length bank))
+      → EndsHere (Read reading)
+  unplayed_said reading other decided is same none all_left back given =
+      subst (λ (r : Reading). EndsHere (Read r)) (sym is)
+      (record {
+        known = end.known;
+        said = end.said;
+        input = end.input;
+        unwritten = end.unwritten;
+        ends = λ read.
+            of_so (to_read source) (λ all. EndsReading other status (length bank) all change)
+            (λ all. EndsReading other status (length bank) all change × AccountsReading keep tells other status all bank heard left)
+            (λ all so. (so, back all (λ _. (none, all_left)))) (end.ends read);
+        sink = end.sink;
+        steady = end.steady;
+        ended = end.ended;
+        complete = end.complete;
+      })
+    where
+      end : EndsWith (most_bytes other) status (λ all sink. EndsReading other status (length bank) all sink) (CanBeRead other (length bank))
+      end =
+          subst
+          (λ (s : ℕ). EndsWith (most_bytes other) s (λ all sink. EndsReading other s (length bank) all sink) (CanBeRead other (length bank))) (sym same)
+          given
 
   -- memory ran out
-  pub memory_short : (command : PlainCommand) (input : Option (List ℕ)) → status ≡ 3 → heard ≡ [] → left ≡ bank
-      → EndsPlain keep tells command status input bank out heard left
-  memory_short (Read (Run output capacities)) input three none all_left = λ _.
-      any_bytes input
-      (λ script. EndsRun (report_of output) (plain_limits capacities) status (length bank) script out
-      × AccountsScript keep tells (plain_limits capacities) status script bank heard left)
-      (λ script. (
-        run_short (report_of output) (plain_limits capacities) status (length bank) script out three,
-        λ played. absurd (not_played status (inr three) played),
-      ))
-  memory_short (Read Replay) input three none all_left = λ _.
-      any_bytes input (λ all. EndsReplay status all out × HandsAllBack status bank heard left)
-      (λ all. (recording_short ReplaysTo RefusesRecording status all out three, λ short. absurd (short three)))
-  memory_short (Read Dump) input three none all_left = λ _.
-      any_bytes input (λ all. EndsDump status all out × HandsAllBack status bank heard left)
-      (λ all. (recording_short DumpsTo RefusesForm status all out three, λ short. absurd (short three)))
-  memory_short (Read Upgrade) input three none all_left = λ _.
-      any_bytes input (λ all. EndsUpgrade status all out × HandsAllBack status bank heard left)
-      (λ all. (recording_short UpgradesTo RefusesUpgrade status all out three, λ short. absurd (short three)))
-  memory_short (Read Score) input three none all_left = λ _.
-      any_bytes input (λ score. EndsScore status score out × HandsAllBack status bank heard left)
-      (λ score. (
-        notes_short (λ notes. EndsText 0 status (score_script notes) out) status score out three,
-        λ short. absurd (short three),
-      ))
-  memory_short (Read PlayScore) input three none all_left = λ _.
-      any_bytes input (λ score. EndsPlayedScore status (length bank) score out × AccountsScore keep tells status score bank heard left)
-      (λ score. (
-        notes_short (EndsPlaying status (length bank) (length score) out) status score out three,
-        λ played. absurd (not_played status (inr three) played),
-      ))
-  memory_short (Gen seed lines) input three none all_left = (
+  pub memory_short : (command : PlainCommand) → status ≡ 3 → heard ≡ [] → left ≡ bank → EndsHere command
+  memory_short (Read reading) three none all_left = record {
+    known = inl (omega (arith, three));
+    said = λ two. omega (arith, three, two);
+    input = record {
+      source = λ four. absurd (omega (arith, three, four));
+      sound = λ short. absurd (short three);
+      read = if_any (to_read source)
+          (λ all. status ≢ 3 → status ≢ 4 → to_read source_after ≡ Some (left_behind (most_bytes reading) all)) (λ all short. absurd (short three));
+    };
+    unwritten = λ four. absurd (omega (arith, three, four));
+    ends = λ _.
+        any_bytes (to_read source)
+        (λ all. EndsReading reading status (length bank) all change × AccountsReading keep tells reading status all bank heard left)
+        (λ all. reading_short keep tells status bank heard left change three reading all);
+    sink = λ five. absurd (omega (arith, three, five));
+    steady = λ zero_is. absurd (omega (arith, three, zero_is));
+    ended = λ zero_is. absurd (omega (arith, three, zero_is));
+    complete = λ _ _. inr (inl three);
+  }
+  memory_short (Gen seed lines) three none all_left = (
     record {
       known = inr (inl three);
       done = λ zero_is. absurd (omega (arith, three, zero_is));
@@ -219,19 +254,6 @@ module _ {M : Type 0} (keep : M → ℕ) (tells : M → Option (List ℕ)) (stat
 pub any_said : (said : Option PlainCommand) (holds : PlainCommand → Type 0) → ((command : PlainCommand) → holds command) → IfSome said holds
 any_said None holds all = tt
 any_said (Some command) holds all = all command
-
--- what the words say is what is done
-pub can_so : (reading other : Reading) (have : ℕ) (input : Option (List ℕ)) → reading ≡ other → CanBeDone (Read reading) have input
-    → CanBeDone (Read other) have input
-can_so reading other have input is can = subst (λ (r : Reading). CanBeDone (Read r) have input) is can
-
-pub run_done : (output : Output) (capacities : Capacities) (reading : Reading) (limits : Limits) (have : ℕ) (input : Option (List ℕ))
-    → reading ≡ Run output capacities → limits ≡ plain_limits capacities → CanBeDone (Read reading) have input
-    → IsSomeAnd input (λ script. IsOkAnd (script_of Plain script) (λ lines. (count_adds lines ≤ have) × IsUnstopped limits lines))
-run_done output capacities reading limits have input is same can =
-    subst
-    (λ (l : Limits). IsSomeAnd input (λ script. IsOkAnd (script_of Plain script) (λ lines. (count_adds lines ≤ have) × IsUnstopped l lines)))
-    (sym same) (can_so reading (Run output capacities) have input is can)
 
 -- a recording that is too long is refused as one that is malformed behind the last byte that it may have
 pub length_ends : (Writes Refuses : List ℕ → List ℕ → Type 0) (status : ℕ) (left : Option (List ℕ)) (out : SinkChange)
@@ -277,7 +299,7 @@ module _ (unstopped : (caps : Limits) (lines : List Line) → enough lines ≤ c
 
   pub enough_done : (Rises Cuts : Type 0) (status : ℕ) (reading : Reading) (said : Option PlainCommand) (left : Option (List ℕ))
       → Some (Read reading) ≡ said → said ≡ Some (Read (Run output capacities))
-      → (CanBeDone (Read reading) have left → (Rises → ⊥) → (status ≡ DONE) ⊎ (status ≡ NO_MEMORY) ⊎ (status ≡ SINK_FAILED))
+      → (IsSomeAnd left (CanBeRead reading have) → (Rises → ⊥) → (status ≡ DONE) ⊎ (status ≡ NO_MEMORY) ⊎ (status ≡ SINK_FAILED))
       → (status ≡ SINK_FAILED → Cuts)
       → IfSome left (λ script. IsOkAnd (script_of Plain script) HasEnough → (Rises → ⊥) → (Cuts → ⊥)
       → (status ≡ DONE) ⊎ (status ≡ NO_MEMORY))
@@ -285,6 +307,6 @@ module _ (unstopped : (caps : Limits) (lines : List Line) → enough lines ≤ c
   enough_done Rises Cuts status reading said (Some script) reads is complete fails = λ has sound taken.
       done_or Cuts status
       (complete
-      (subst (λ (r : Reading). CanBeDone (Read r) have (Some script)) (is_run reading said reads is) (room_can (script_of Plain script) has))
+      (subst (λ (r : Reading). CanBeRead r have script) (is_run reading said reads is) (room_can (script_of Plain script) has))
       sound)
       fails taken

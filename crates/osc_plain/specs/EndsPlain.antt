@@ -1,6 +1,6 @@
 -- How each command of `osc` ends, and what becomes of the boxes that it was handed.
 use Rattle.std.specs.Prelude.{◌≡◌, ◌≢◌, ℕ, ◌≤◌, IsTrue, List, [], map, length, Option}
-use Rattle.std.specs.Prelude.{IsSomeAnd, IsOk, IsOkAnd}
+use Rattle.std.specs.Prelude.{IsOk, IsOkAnd}
 use Rattle.osc_core.specs.Ids.{is_ascending}
 use Rattle.osc_model.specs.Limits.{Limits, max_recording}
 use Rattle.osc_model.specs.Events.{Entry}
@@ -20,14 +20,14 @@ use Rattle.osc_score.specs.Scores.{addresses_of}
 use Rattle.osc_score.specs.Reading.{score_of}
 use Rattle.osc_score_laws.specs.Heard.{score_lines}
 use Rattle.osc_script.specs.Adds.{count_adds}
-use Rattle.osc_ends.specs.declared.status.TheConstants.{NO_MEMORY, SOURCE_FAILED}
+use Rattle.osc_ends.specs.declared.status.TheConstants.{NO_MEMORY}
 use Rattle.osc_ends.specs.Ends.{IsUnplayed}
-use Rattle.osc_ends.specs.Inputs.{OfInput}
+use Rattle.osc_ends.specs.CommandEnds.{IsCommandsEnd}
 use Rattle.osc_ends.specs.Recordings.{EndsDump, EndsReplay, EndsUpgrade}
-use Rattle.osc_ends.specs.Sinks.{SinkChange}
+use Rattle.osc_ends.specs.Sinks.{SinkChange, sink_change}
 use Rattle.osc_player.specs.Bank.{IsAccounted}
 use Rattle.osc_plain.specs.declared.report.Report.TheVariants.{Summary}
-use Rattle.osc_plain.specs.Commands.{plain_limits, default_limits, drawn_lines}
+use Rattle.osc_plain.specs.Commands.{default_limits, drawn_lines, most_bytes, plain_limits}
 use Rattle.osc_plain.specs.Runs.{IsPlayed, IsUnstopped, EndsLines, EndsRun, report_of}
 use Rattle.osc_plain.specs.Scores.{EndsPlayedScore, EndsScore}
 
@@ -41,32 +41,23 @@ EndsReading Upgrade status have input out = EndsUpgrade status input out
 EndsReading Score status have input out = EndsScore status input out
 EndsReading PlayScore status have input out = EndsPlayedScore status have input out
 
--- A command can be done with so many boxes and this input: a lawful script or a drawn one has a box
--- for each add and room for its recording; a score is lawful, and to be played it has a box for
--- each distinct address; a recording is that of a history which the server's
--- rules give, for a dump a well-formed one, and for an upgrade one of the first version that isn't
--- too large as one of today.
-abbrev pub CanBeDone : PlainCommand → ℕ → Option (List ℕ) → Type 0
-CanBeDone (Read (Run output caps)) have input =
-    IsSomeAnd input (λ script. IsOkAnd (script_of Plain script)
-    (λ lines. (count_adds lines ≤ have) × IsUnstopped (plain_limits caps) lines))
-CanBeDone (Read Replay) have input =
-    IsSomeAnd input
-    (λ recording. (caps : Limits) × (history : List Entry) × IsRecordingOf recording caps history)
-CanBeDone (Read Dump) have input =
-    IsSomeAnd input (λ recording. (caps : Limits) × (entries : List Entry)
-    × IsFormed caps entries × (recording ≡ record_text caps entries))
-CanBeDone (Read Upgrade) have input =
-    IsSomeAnd input (λ recording. (caps : Limits) × (history : List Entry)
+-- A command can be done with so many boxes and this input: a lawful script has a box for each add
+-- and room for its recording; a score is lawful, and to be played it has a box for each distinct
+-- address; a recording is that of a history which the server's rules give, for a dump a well-formed
+-- one, and for an upgrade one of the first version that isn't too large as one of today.
+abbrev pub CanBeRead : Reading → ℕ → List ℕ → Type 0
+CanBeRead (Run output caps) have script = IsOkAnd (script_of Plain script)
+    (λ lines. (count_adds lines ≤ have) × IsUnstopped (plain_limits caps) lines)
+CanBeRead Replay have recording =
+    (caps : Limits) × (history : List Entry) × IsRecordingOf recording caps history
+CanBeRead Dump have recording = (caps : Limits) × (entries : List Entry)
+    × IsFormed caps entries × (recording ≡ record_text caps entries)
+CanBeRead Upgrade have recording = (caps : Limits) × (history : List Entry)
     × IsOldRecordingOf recording caps history
-    × (length (upgraded_text max_recording caps history) ≤ max_recording))
-CanBeDone (Read Score) have input = IsSomeAnd input (λ score. IsOk (score_of score))
-CanBeDone (Read PlayScore) have input =
-    IsSomeAnd input (λ score. IsOkAnd (score_of score)
-    (λ notes. length (addresses_of notes) ≤ have))
-CanBeDone (Gen seed lines) have input =
-    (count_adds (drawn_lines seed lines) ≤ have)
-    × IsUnstopped default_limits (drawn_lines seed lines)
+    × (length (upgraded_text max_recording caps history) ≤ max_recording)
+CanBeRead Score have score = IsOk (score_of score)
+CanBeRead PlayScore have score =
+    IsOkAnd (score_of score) (λ notes. length (addresses_of notes) ≤ have)
 
 module _ {M : Type 0} where
   -- Where nothing was played all boxes of the bank come back. Those that were added stand by their
@@ -100,26 +91,25 @@ module _ {M : Type 0} where
       → List (ℕ × M) → List M → Type 0
   AccountsReading keep tells (Run output caps) status input bank heard left =
       AccountsScript keep tells (plain_limits caps) status input bank heard left
-  AccountsReading keep tells Replay status input bank heard left =
-      HandsAllBack status bank heard left
-  AccountsReading keep tells Dump status input bank heard left =
-      HandsAllBack status bank heard left
-  AccountsReading keep tells Upgrade status input bank heard left =
-      HandsAllBack status bank heard left
-  AccountsReading keep tells Score status input bank heard left =
-      HandsAllBack status bank heard left
   AccountsReading keep tells PlayScore status input bank heard left =
       AccountsScore keep tells status input bank heard left
+  AccountsReading keep tells reading status input bank heard left =
+      HandsAllBack status bank heard left
 
-  -- The end of a command, and what becomes of the boxes. But for a source that failed (4), there
-  -- are bytes that a command read, those that the source had left where it tells that.
-  abbrev pub EndsPlain : (M → ℕ) → (M → Option (List ℕ)) → PlainCommand → ℕ → Option (List ℕ)
-      → List M → SinkChange → List (ℕ × M) → List M → Type 0
-  EndsPlain keep tells (Read reading) status input bank out heard left =
-      status ≢ SOURCE_FAILED → OfInput input
-      (λ all. EndsReading reading status (length bank) all out
-      × AccountsReading keep tells reading status all bank heard left)
-  EndsPlain keep tells (Gen seed lines) status input bank out heard left =
-      EndsLines Summary default_limits status (length bank) (drawn_lines seed lines) out
-      × (IsPlayed status
-      → IsAccounted keep tells default_limits (drawn_lines seed lines) bank heard left)
+-- The end of a command, and what becomes of the boxes.
+abbrev pub EndsPlain : {S O M : Type 0} → (S → Option (List ℕ)) → (S → ℕ) → (O → Option (List ℕ))
+    → (O → ℕ) → (M → ℕ) → (M → Option (List ℕ)) → PlainCommand → ℕ → S → S → O → O → List M
+    → List (ℕ × M) → List M → Type 0
+EndsPlain to_read source_faults held sink_faults keep tells (Read reading) status source
+    source_after out out_after bank heard left =
+    IsCommandsEnd to_read source_faults held sink_faults (most_bytes reading) status source
+    source_after out out_after
+    (λ input sink. EndsReading reading status (length bank) input sink
+    × AccountsReading keep tells reading status input bank heard left)
+    (CanBeRead reading (length bank))
+EndsPlain to_read source_faults held sink_faults keep tells (Gen seed lines) status source
+    source_after out out_after bank heard left =
+    EndsLines Summary default_limits status (length bank) (drawn_lines seed lines)
+    (sink_change held sink_faults out out_after)
+    × (IsPlayed status
+    → IsAccounted keep tells default_limits (drawn_lines seed lines) bank heard left)

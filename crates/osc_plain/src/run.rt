@@ -1,37 +1,15 @@
 // Runs a script.
 ghost use Rattle.osc_script.specs.declared.script.TheConstants.{MAX_SCRIPT};
-ghost use Rattle.osc_ends.specs.declared.status.TheConstants.{
-  BANK_SHORT,
-  DONE,
-  NO_MEMORY,
-  RECORDING_FULL,
-  SINK_FAILED,
-  SOURCE_FAILED,
-  USAGE,
-};
-ghost use Rattle.std.specs.Prelude.{
-  ◌≡◌,
-  ◌≢◌,
-  ◌⊎◌,
-  ◌≤◌,
-  [],
-  List,
-  length,
-  IfSome,
-  IsSomeAnd,
-  IsOkAnd,
-  Some,
-};
+ghost use Rattle.std.specs.Prelude.{◌≡◌, ◌≤◌, [], List, length, IsOkAnd};
 ghost use Rattle.std.specs.Option.{option_map};
-ghost use Rattle.osc_edge.specs.Faults.{Rose};
 ghost use Rattle.osc_model.specs.Limits.{Limits};
 ghost use Rattle.osc_record.specs.Shown.{room_of};
 ghost use Rattle.osc_script.specs.declared.line.Line.{Line};
 ghost use Rattle.osc_script.specs.declared.mode.Mode.TheVariants.{Plain};
 ghost use Rattle.osc_script.specs.Adds.{count_adds};
 ghost use Rattle.osc_script.specs.Scripts.{script_of};
-ghost use Rattle.osc_ends.specs.Inputs.{OfInput, ReadsInput};
-ghost use Rattle.osc_ends.specs.Sinks.{sink_change, Fails, IsSteady};
+ghost use Rattle.osc_ends.specs.CommandEnds.{IsCommandsEnd};
+ghost use Rattle.osc_ends.specs.Sinks.{sink_change};
 ghost use Rattle.osc_player.specs.Bank.{IsAccounted};
 ghost use Rattle.osc_player.specs.Runs.{IsRunOf};
 ghost use Rattle.osc_plain.specs.EndsPlain.{AccountsScript, HandsBack};
@@ -57,27 +35,14 @@ pub(crate) fn run<S: Source, O: Sink>(
     out: &mut O,
     bank: Vec<Box<dyn Method + Send>>,
 ) -> Ended
-    ensures known { (result.status ≤ RECORDING_FULL) ⊎ (result.status ≡ BANK_SHORT) }
-    ensures said { result.status ≢ USAGE }
-    ensures input { ReadsInput MAX_SCRIPT result.status (S.left input.old) (S.left input.new)
-        (S.faults input.old) (S.faults input.new) }
-    ensures unwritten { result.status ≡ SOURCE_FAILED → out.new ≡ out.old }
-    ensures ends { result.status ≢ SOURCE_FAILED → OfInput (S.left input.old)
-        (λ script. EndsRun report caps result.status (length bank.items) script
-        (sink_change O.held O.faults out.old out.new)
+    ensures end { IsCommandsEnd S.left S.faults O.held O.faults MAX_SCRIPT result.status input.old
+        input.new out.old out.new
+        (λ script sink. EndsRun report caps result.status (length bank.items) script sink
         × AccountsScript (λ box. keep box) (λ box. heard box) caps result.status script
-        bank.items result.heard.items result.left.items) }
-    ensures sink { result.status ≡ SINK_FAILED
-        → Fails (sink_change O.held O.faults out.old out.new) }
-    ensures steady { result.status ≡ DONE
-        → IsSteady (sink_change O.held O.faults out.old out.new) }
-    ensures ended { result.status ≡ DONE
-        → IfSome (S.left input.old) (λ all. S.left input.new ≡ Some []) }
+        bank.items result.heard.items result.left.items)
+        (λ script. IsOkAnd (script_of Plain script)
+        (λ lines. (count_adds lines ≤ length bank.items) × IsUnstopped caps lines)) }
     ensures back { HandsBack result.status bank.items result.heard.items result.left.items }
-    ensures complete { IsSomeAnd (S.left input.old) (λ script. IsOkAnd (script_of Plain script)
-        (λ lines. (count_adds lines ≤ length bank.items) × IsUnstopped caps lines))
-        → ¬ Rose (S.faults input.old) (S.faults input.new) →
-        (result.status ≡ DONE) ⊎ (result.status ≡ NO_MEMORY) ⊎ (result.status ≡ SINK_FAILED) }
 {
     match read_script(alloc, Mode::Plain, input, out) {
         Ok(lines) => run_lines(alloc, report, caps, lines, out, bank),

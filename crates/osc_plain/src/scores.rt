@@ -1,38 +1,14 @@
 // Writes the script of a score, and plays it.
 ghost use Rattle.osc_score.specs.declared.limits.TheConstants.{MAX_SCORE};
-ghost use Rattle.osc_ends.specs.declared.status.TheConstants.{
-  BANK_SHORT,
-  DONE,
-  NO_MEMORY,
-  RECORDING_FULL,
-  REFUSED,
-  SINK_FAILED,
-  SOURCE_FAILED,
-  USAGE,
-};
-ghost use Rattle.std.specs.Prelude.{
-  ◌≡◌,
-  ◌≢◌,
-  ◌⊎◌,
-  ◌≤◌,
-  [],
-  List,
-  length,
-  IfOk,
-  IfSome,
-  IsOk,
-  IsOkAnd,
-  IsSomeAnd,
-  Some,
-};
-ghost use Rattle.osc_edge.specs.Faults.{Rose};
+ghost use Rattle.osc_ends.specs.declared.status.TheConstants.{DONE};
+ghost use Rattle.std.specs.Prelude.{◌≡◌, ◌≤◌, List, length, IfOk, IsOk, IsOkAnd};
 ghost use Rattle.osc_score.specs.Plans.{plan_script};
 ghost use Rattle.osc_score.specs.Reading.{score_of};
 ghost use Rattle.osc_score.specs.Scores.{addresses_of};
 ghost use Rattle.osc_script.specs.declared.line.Line.{Line};
+ghost use Rattle.osc_ends.specs.CommandEnds.{IsCommandsEnd};
 ghost use Rattle.osc_ends.specs.Ends.{EndsText};
-ghost use Rattle.osc_ends.specs.Inputs.{OfInput, ReadsInput};
-ghost use Rattle.osc_ends.specs.Sinks.{sink_change, Fails, IsSteady};
+ghost use Rattle.osc_ends.specs.Sinks.{sink_change};
 ghost use Rattle.osc_player.specs.Bank.{IsAccounted};
 ghost use Rattle.osc_plain.specs.Commands as commands;
 ghost use Rattle.osc_plain.specs.EndsPlain.{AccountsScore, HandsBack};
@@ -58,20 +34,8 @@ use std::alloc::{AllocError, Global};
 
 /// Writes the script of the score that the input is.
 pub(crate) fn write_score<S: Source, O: Sink>(alloc: Global, input: &mut S, out: &mut O) -> u8
-    ensures known { (result ≡ DONE) ⊎ (result ≡ REFUSED) ⊎ (result ≡ NO_MEMORY)
-        ⊎ (result ≡ SINK_FAILED) ⊎ (result ≡ SOURCE_FAILED) }
-    ensures input { ReadsInput MAX_SCORE result (S.left input.old) (S.left input.new)
-        (S.faults input.old) (S.faults input.new) }
-    ensures unwritten { result ≡ SOURCE_FAILED → out.new ≡ out.old }
-    ensures ends { result ≢ SOURCE_FAILED → OfInput (S.left input.old)
-        (λ score. EndsScore result score (sink_change O.held O.faults out.old out.new)) }
-    ensures sink { result ≡ SINK_FAILED → Fails (sink_change O.held O.faults out.old out.new) }
-    ensures steady { result ≡ DONE → IsSteady (sink_change O.held O.faults out.old out.new) }
-    ensures ended { result ≡ DONE
-        → IfSome (S.left input.old) (λ all. S.left input.new ≡ Some []) }
-    ensures complete { IsSomeAnd (S.left input.old) (λ score. IsOk (score_of score))
-        → ¬ Rose (S.faults input.old) (S.faults input.new) →
-        (result ≡ DONE) ⊎ (result ≡ NO_MEMORY) ⊎ (result ≡ SINK_FAILED) }
+    ensures end { IsCommandsEnd S.left S.faults O.held O.faults MAX_SCORE result input.old input.new
+        out.old out.new (EndsScore result) (λ score. IsOk (score_of score)) }
 {
     what_is_kept_plays_the_score();
     what_is_read_is_a_score();
@@ -100,27 +64,14 @@ pub(crate) fn play_score<S: Source, O: Sink>(
     out: &mut O,
     bank: Vec<Box<dyn Method + Send>>,
 ) -> Ended
-    ensures known { (result.status ≤ RECORDING_FULL) ⊎ (result.status ≡ BANK_SHORT) }
-    ensures said { result.status ≢ USAGE }
-    ensures input { ReadsInput MAX_SCORE result.status (S.left input.old) (S.left input.new)
-        (S.faults input.old) (S.faults input.new) }
-    ensures unwritten { result.status ≡ SOURCE_FAILED → out.new ≡ out.old }
-    ensures ends { result.status ≢ SOURCE_FAILED → OfInput (S.left input.old)
-        (λ score. EndsPlayedScore result.status (length bank.items) score
-        (sink_change O.held O.faults out.old out.new)
+    ensures end { IsCommandsEnd S.left S.faults O.held O.faults MAX_SCORE result.status input.old
+        input.new out.old out.new
+        (λ score sink. EndsPlayedScore result.status (length bank.items) score sink
         × AccountsScore (λ box. keep box) (λ box. heard box) result.status score bank.items
-        result.heard.items result.left.items) }
-    ensures sink { result.status ≡ SINK_FAILED
-        → Fails (sink_change O.held O.faults out.old out.new) }
-    ensures steady { result.status ≡ DONE
-        → IsSteady (sink_change O.held O.faults out.old out.new) }
-    ensures ended { result.status ≡ DONE
-        → IfSome (S.left input.old) (λ all. S.left input.new ≡ Some []) }
+        result.heard.items result.left.items)
+        (λ score. IsOkAnd (score_of score)
+        (λ notes. length (addresses_of notes) ≤ length bank.items)) }
     ensures back { HandsBack result.status bank.items result.heard.items result.left.items }
-    ensures complete { IsSomeAnd (S.left input.old) (λ score. IsOkAnd (score_of score)
-        (λ notes. length (addresses_of notes) ≤ length bank.items))
-        → ¬ Rose (S.faults input.old) (S.faults input.new) →
-        (result.status ≡ DONE) ⊎ (result.status ≡ NO_MEMORY) ⊎ (result.status ≡ SINK_FAILED) }
 {
     what_is_kept_plays_the_score();
     what_is_read_is_a_score();

@@ -5,19 +5,15 @@ ghost use Rattle.osc_ends.specs.declared.status.TheConstants.{
   DONE,
   NO_MEMORY,
   RECORDING_FULL,
-  SINK_FAILED,
-  SOURCE_FAILED,
   USAGE,
 };
 ghost use Rattle.std.specs.Prelude.{
   ◌≡◌,
-  ◌≢◌,
   ◌⊎◌,
   ◌≤◌,
   IsTrue,
   List,
   IfSome,
-  IsSome,
   IsOkAnd,
   Some,
   [],
@@ -34,10 +30,9 @@ ghost use Rattle.osc_words.specs.declared.command.Output.{Output};
 ghost use Rattle.osc_words.specs.declared.command.Capacities.{Capacities};
 ghost use Rattle.osc_words.specs.Commands as said;
 ghost use Rattle.osc_words.specs.Ranges.{IsLawfulReading};
-ghost use Rattle.osc_ends.specs.Ends.{left_behind, IsUnplayed};
-ghost use Rattle.osc_ends.specs.Inputs.{ReadsInput};
+ghost use Rattle.osc_ends.specs.Ends.{IsUnplayed};
 ghost use Rattle.osc_ends.specs.Printing.{usage_text};
-ghost use Rattle.osc_ends.specs.Sinks.{sink_change, Fails, IsSteady, GainsUnless};
+ghost use Rattle.osc_ends.specs.Sinks.{sink_change, Fails, GainsUnless};
 ghost use Rattle.osc_player.specs.Bank.{IsAccounted};
 ghost use Rattle.osc_player.specs.Enough.{enough};
 ghost use Rattle.osc_script.specs.declared.mode.Mode.TheVariants.{Plain};
@@ -46,7 +41,7 @@ ghost use Rattle.osc_script.specs.Scripts.{script_of};
 ghost use Rattle.osc_plain.specs.declared.report.Report.TheVariants.{Summary};
 ghost use Rattle.osc_plain.specs.Commands as commands;
 ghost use Rattle.osc_plain.specs.Runs.{EndsLines, IsPlayed};
-ghost use Rattle.osc_plain.specs.EndsPlain.{CanBeDone, EndsPlain, HandsBack};
+ghost use Rattle.osc_plain.specs.EndsPlain.{EndsPlain, HandsBack};
 
 use crate::drawn::drawn_lines;
 use crate::limits::{default_limits, plain_limits};
@@ -91,46 +86,20 @@ pub fn plain_top<S: Source, O: Sink>(
     ensures usage_text { result.status ≡ USAGE
         → GainsUnless (sink_change O.held O.faults out.old out.new) usage_text }
 
-    // Then a source that failed, of which nothing is written. Any other answer but out of memory means that the
-    // source didn't fail, and that it was read to its end, or to the first byte that is too many.
-    ensures source { result.status ≡ SOURCE_FAILED
-        → Rose (S.faults input.old) (S.faults input.new) }
-    ensures unwritten { result.status ≡ SOURCE_FAILED → out.new ≡ out.old }
-    ensures sound { result.status ≢ NO_MEMORY → result.status ≢ SOURCE_FAILED
-        → S.faults input.new ≡ S.faults input.old }
-    ensures read { IfSome (said.reading_of (map string_bytes words.now))
-        (λ reading. IfSome (S.left input.old)
-        (λ all. result.status ≢ NO_MEMORY → result.status ≢ SOURCE_FAILED →
-        S.left input.new ≡ Some (left_behind (commands.most_bytes reading) all))) }
-
-    // Then a script or a recording that is refused, or a script that adds more methods than there are boxes, or what
-    // the command writes, with a sink that took all of it or failed. Each box that was added has heard what the history
-    // says, which keeps the four laws, and each other one comes back as it was.
+    // Then the command is done, as far as its edges go: a source that failed, of which nothing is written; or a script
+    // or a recording that is refused, or a script that adds more methods than there are boxes, or what the command
+    // writes, with a sink that took all of it or failed. Each box that was added has heard what the history says, which
+    // keeps the four laws, and each other one comes back as it was. What can be done is done over edges that don't
+    // fail, unless memory runs out.
     ensures command { IfSome (said.plain_command_of (map string_bytes words.now))
-        (λ command. EndsPlain (λ box. keep box) (λ box. heard box) command result.status
-        (S.left input.old) bank.items (sink_change O.held O.faults out.old out.new)
-        result.heard.items result.left.items) }
-    ensures sink { result.status ≡ SINK_FAILED
-        → Fails (sink_change O.held O.faults out.old out.new) }
-
-    // Done means that nothing failed and that the input was read to its end.
-    ensures steady { result.status ≡ DONE
-        → IsSteady (sink_change O.held O.faults out.old out.new) }
-    ensures ended { result.status ≡ DONE
-        → IsSome (said.reading_of (map string_bytes words.now))
-        → IfSome (S.left input.old) (λ all. S.left input.new ≡ Some []) }
+        (λ command. EndsPlain S.left S.faults O.held O.faults (λ box. keep box) (λ box. heard box)
+        command result.status input.old input.new out.old out.new bank.items result.heard.items
+        result.left.items) }
 
     // Where nothing was played, all boxes come back.
     ensures ascending { IsTrue (is_ascending (map (λ one. one.0) result.heard.items)) }
     ensures none_heard { IsUnplayed result.status → result.heard.items ≡ [] }
     ensures all_left { IsUnplayed result.status → result.left.items ≡ bank.items }
-
-    // What can be done is done over edges that don't fail, unless memory runs out.
-    ensures complete { IfSome (said.plain_command_of (map string_bytes words.now))
-        (λ command. CanBeDone command (length bank.items) (S.left input.old)
-        → (IsSome (said.reading_in command) → ¬ Rose (S.faults input.old) (S.faults input.new))
-        → ¬ Fails (sink_change O.held O.faults out.old out.new) →
-        (result.status ≡ DONE) ⊎ (result.status ≡ NO_MEMORY)) }
 
     // No run is stopped where the recording may have as many bytes as `enough` says.
     ensures enough { (output : Output) (caps : Capacities)
@@ -159,24 +128,10 @@ fn follow<S: Source, O: Sink>(
     bank: Vec<Box<dyn Method + Send>>,
 ) -> Ended
     requires range { IsLawfulReading reading }
-    ensures known { (result.status ≤ RECORDING_FULL) ⊎ (result.status ≡ BANK_SHORT) }
-    ensures said { result.status ≢ USAGE }
-    ensures input { ReadsInput (commands.most_bytes reading) result.status (S.left input.old)
-        (S.left input.new) (S.faults input.old) (S.faults input.new) }
-    ensures unwritten { result.status ≡ SOURCE_FAILED → out.new ≡ out.old }
-    ensures ends { EndsPlain (λ box. keep box) (λ box. heard box) (Read reading) result.status
-        (S.left input.old) bank.items (sink_change O.held O.faults out.old out.new)
+    ensures end { EndsPlain S.left S.faults O.held O.faults (λ box. keep box) (λ box. heard box)
+        (Read reading) result.status input.old input.new out.old out.new bank.items
         result.heard.items result.left.items }
-    ensures sink { result.status ≡ SINK_FAILED
-        → Fails (sink_change O.held O.faults out.old out.new) }
-    ensures steady { result.status ≡ DONE
-        → IsSteady (sink_change O.held O.faults out.old out.new) }
-    ensures ended { result.status ≡ DONE
-        → IfSome (S.left input.old) (λ all. S.left input.new ≡ Some []) }
     ensures back { HandsBack result.status bank.items result.heard.items result.left.items }
-    ensures complete { CanBeDone (Read reading) (length bank.items) (S.left input.old)
-        → ¬ Rose (S.faults input.old) (S.faults input.new) →
-        (result.status ≡ DONE) ⊎ (result.status ≡ NO_MEMORY) ⊎ (result.status ≡ SINK_FAILED) }
 {
     match reading {
         Reading::Run { output, caps } => {

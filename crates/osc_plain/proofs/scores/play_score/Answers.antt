@@ -1,4 +1,4 @@
-use Rattle.std.proofs.Common.{◌≤◌, inl, length, IsOkAnd, refl}
+use Rattle.std.proofs.Common.{◌≤◌, inl, length, IsOkAnd, refl, rules}
 use Rattle.osc_ends.specs.Sinks.{sink_change}
 use Rattle.osc_score.specs.Scores.{addresses_of}
 use Rattle.osc_score.specs.Reading.{score_of}
@@ -19,8 +19,8 @@ play_script-requires g c =
     } in
     (score_lines read.2.0, script_with laws read.0 read.2.0 c.in-Ok.score read.2.1 read.2.2)
 
-pub returns-in-Ok-clause-ends : goal.returns-in-Ok-clause-ends
-returns-in-Ok-clause-ends g c =
+pub returns-in-Ok-clause-end : goal.returns-in-Ok-clause-end
+returns-in-Ok-clause-end g c =
     let read = c.in-Ok.ensures.score in
     let notes = read.2.0 in
     let laws : ScoreLaws = record {
@@ -32,33 +32,41 @@ returns-in-Ok-clause-ends g c =
     let plays = played_so read.0 notes read.2.1 (c.a_read_score_is_played.ensures default_limits read.0 roomy) in
     let ends = play_ends read.0 notes c.play_script.result.status (length c.args.bank.items) _ plays (c.a_score_adds_its_addresses.ensures notes)
     (c.play_script.ensures.ends (score_lines notes) spelled) laws c.in-Ok.score read.2.1 read.2.2 in
-    λ _. (
-      read.0,
-      read.1,
-      (
-        moved (c.in-Ok.ensures.unwritten (inl refl))
-            (λ before. EndsPlayedScore c.play_script.result.status (length c.args.bank.items) read.0
-            (sink_change g.O.Sink.held g.O.Sink.faults before c.play_script.new.out)) ends,
-        score_accounts _ _ c.play_script.result.status c.args.bank.items _ _ read.0 notes read.2.1
-            (c.play_script.ensures.accounted (score_lines notes) spelled),
-      ),
-    )
+    record {
+      known = search rules;
+      said = search rules;
+      input = search rules;
+      unwritten = search rules;
+      ends = λ _. (
+        read.0,
+        read.1,
+        (
+          moved (c.in-Ok.ensures.unwritten (inl refl))
+              (λ before. EndsPlayedScore c.play_script.result.status (length c.args.bank.items) read.0
+              (sink_change g.O.Sink.held g.O.Sink.faults before c.play_script.new.out)) ends,
+          score_accounts _ _ c.play_script.result.status c.args.bank.items _ _ read.0 notes read.2.1
+              (c.play_script.ensures.accounted (score_lines notes) spelled),
+        ),
+      );
+      sink = search rules;
+      steady = search rules;
+      ended = search rules;
+      complete = λ can steady.
+          can_play read.0 notes c.play_script.result.status (length c.args.bank.items) _ plays (c.a_score_adds_its_addresses.ensures notes)
+          (c.play_script.ensures.ends (score_lines notes) spelled) read.2.1
+          (some_bytes _ read.0 (λ score. IsOkAnd (score_of score) (λ notes. length (addresses_of notes) ≤ length c.args.bank.items)) read.1 can);
+    }
 
-pub returns-in-Ok-clause-complete : goal.returns-in-Ok-clause-complete
-returns-in-Ok-clause-complete g c = λ can steady.
-    let read = c.in-Ok.ensures.score in
-    let notes = read.2.0 in
-    let laws : ScoreLaws = record {
-      kept = c.what_is_kept_plays_the_score.ensures;
-      scored = c.what_is_read_is_a_score.ensures;
-      scripted = c.a_score_script_is_read.ensures;
-    } in
-    let spelled = script_with laws read.0 notes c.in-Ok.score read.2.1 read.2.2 in
-    let plays = played_so read.0 notes read.2.1 (c.a_read_score_is_played.ensures default_limits read.0 roomy) in
-    can_play read.0 notes c.play_script.result.status (length c.args.bank.items) _ plays (c.a_score_adds_its_addresses.ensures notes)
-    (c.play_script.ensures.ends (score_lines notes) spelled) read.2.1
-    (some_bytes _ read.0 (λ score. IsOkAnd (score_of score) (λ notes. length (addresses_of notes) ≤ length c.args.bank.items)) read.1 can)
-
-pub returns-in-Err-clause-ends : goal.returns-in-Err-clause-ends
-returns-in-Err-clause-ends g c =
-    score_refused _ _ c.unplayed.result.status c.args.bank.items _ _ _ _ c.in-Err.status c.unplayed.ensures.status c.in-Err.ensures.refused
+pub returns-in-Err-clause-end : goal.returns-in-Err-clause-end
+returns-in-Err-clause-end g c = record {
+  known = search rules;
+  said = search rules;
+  input = search rules;
+  unwritten = search rules;
+  ends = score_refused _ _ c.unplayed.result.status c.args.bank.items _ _ _ _ c.in-Err.status c.unplayed.ensures.status
+      c.in-Err.ensures.refused;
+  sink = search rules;
+  steady = search rules;
+  ended = search rules;
+  complete = search rules;
+}
