@@ -1,6 +1,7 @@
 -- How the commands end that read a score.
 use Rattle.std.proofs.Common.{◌≡◌, ◌≢◌, ◌⊎◌, inl, inr, ℕ, ◌≤◌, true, false, List, length, Option, IfOk, IsOkAnd, IsSome, Result, Ok, sym, ap, subst, ◌∙◌, arith}
 use Rattle.std.specs.Prelude.{IsErrAnd}
+use Rattle.osc_script.specs.declared.line.Line.{Line}
 use Rattle.osc_score.specs.declared.limits.TheConstants.{MAX_SCORE}
 use Rattle.osc_score.specs.declared.fault.ScoreFault.{ScoreFault}
 use Rattle.osc_script.specs.declared.mode.Mode.TheVariants.{Plain}
@@ -13,16 +14,14 @@ use Rattle.osc_score.specs.Plans.{Plan, plan_of, plan_script}
 use Rattle.osc_score.specs.Reading.{IsScored, score_of}
 use Rattle.osc_score_laws.specs.Heard.{IsRoomy, PlaysScore, score_lines}
 use Rattle.osc_ends.specs.Ends.{EndsText}
-use Rattle.osc_ends.proofs.Inputs.{of_so, refused_bytes}
+use Rattle.osc_ends.proofs.Inputs.{refused_bytes}
 use Rattle.osc_ends.specs.Inputs.{OfInput, RefusesScore}
 use Rattle.osc_ends.specs.Printing.{score_fault_text}
 use Rattle.osc_ends.specs.Sinks.{SinkChange, GainsUnless}
 use Rattle.osc_plain.specs.declared.report.Report.TheVariants.{Text}
 use Rattle.osc_plain.specs.Commands.{default_limits}
-use Rattle.osc_player.specs.Bank.{IsAccounted}
-use Rattle.osc_plain.specs.EndsPlain.{AccountsScore}
-use Rattle.osc_plain.specs.Runs.{EndsLines, IsPlayed}
-use Rattle.osc_plain.proofs.Tops.{not_played, notes_short}
+use Rattle.osc_plain.specs.Runs.{EndsLines}
+use Rattle.osc_plain.proofs.Tops.{lines_sound, notes_short}
 use Rattle.osc_plain.specs.Scores.{EndsNotes, EndsPlayedScore, EndsPlaying, EndsScore, IsScriptOf, IsScriptWith}
 
 -- what the laws of scores say
@@ -68,17 +67,12 @@ module _ (bytes : List ℕ) (notes : List Note) (status have : ℕ) (out : SinkC
   never_full six_is = let clash : false ≡ true = subst (λ (stop : Option Room). IsSome stop) plays.goes_on (run.full six_is).2 in
       absurd (cc (clash))
 
-  pub play_ends : ScoreLaws → (plan : Plan) → score_of bytes ≡ Ok notes → plan ≡ plan_of notes → EndsPlayedScore status have bytes out
-  play_ends laws plan is kept =
-      notes_end laws bytes notes plan is kept (λ notes. EndsPlaying status have (length bytes) out notes) status out (not_one run.known)
-      (record { run = run; adds = adds; plays = plays; roomy = never_full })
-    where
-      not_one : (status ≡ 0) ⊎ (status ≡ 3) ⊎ (status ≡ 5) ⊎ (status ≡ 6) ⊎ (status ≡ 8) → status ≡ 1 → ⊥
-      not_one (inl at) one_is = omega (arith, at, one_is)
-      not_one (inr (inl at)) one_is = omega (arith, at, one_is)
-      not_one (inr (inr (inl at))) one_is = omega (arith, at, one_is)
-      not_one (inr (inr (inr (inl at)))) one_is = omega (arith, at, one_is)
-      not_one (inr (inr (inr (inr at)))) one_is = omega (arith, at, one_is)
+  pub play_ends : (Ends : List Line → Type 0) → Ends (score_lines notes) → ScoreLaws → (plan : Plan) → score_of bytes ≡ Ok notes → plan ≡ plan_of notes
+      → EndsPlayedScore Ends status bytes out
+  play_ends Ends ends laws plan is kept =
+      notes_end laws bytes notes plan is kept (EndsPlaying Ends status (length bytes)) status out
+      (lines_sound Text default_limits status have (score_lines notes) out run)
+      (record { run = ends; adds = adds; plays = plays; roomy = never_full })
 
   pub can_play : score_of bytes ≡ Ok notes → IsOkAnd (score_of bytes) (λ notes. length (addresses_of notes) ≤ have)
       → (status ≡ 0) ⊎ (status ≡ 3) ⊎ (status ≡ 5)
@@ -102,32 +96,12 @@ refused_ends Ends status left out refuses =
     (λ score one refused. record { refused = λ _. refused; lawful = λ lawful _. absurd (lawful one) })
     (λ score three. notes_short (Ends score) status score out three)
 
-module _ {M : Type 0} (keep : M → ℕ) (tells : M → Option (List ℕ)) (status : ℕ) (bank : List M) (heard : List (ℕ × M)) (left : List M) where
-  -- the boxes of a score that was read
-  pub score_accounts : (bytes : List ℕ) (notes : List Note) → score_of bytes ≡ Ok notes
-      → (IsPlayed status → IsAccounted keep tells default_limits (score_lines notes) bank heard left)
-      → AccountsScore keep tells status bytes bank heard left
-  score_accounts bytes notes is accounts = λ played.
-      subst
-      (λ (r : Result (List Note) ScoreFault). IsOkAnd r (λ notes. IsAccounted keep tells default_limits (score_lines notes) bank heard left))
-      (sym is) (accounts played)
-
-  -- a score that is refused
-  pub score_refused : (input : Option (List ℕ)) (out : SinkChange) (decided : ℕ) → status ≡ decided → RefusesScore decided input out → (status ≡ 4 → ⊥)
-      → OfInput input (λ score. EndsPlayedScore status (length bank) score out × AccountsScore keep tells status score bank heard left)
-  score_refused input out decided same given read =
-      of_so input (λ score. EndsPlayedScore status (length bank) score out)
-      (λ score. EndsPlayedScore status (length bank) score out × AccountsScore keep tells status score bank heard left)
-      (λ score so. (so, λ played. absurd (go played refuses.known)))
-      (refused_ends (λ score notes. EndsPlaying status (length bank) (length score) out notes) status input out refuses read)
-    where
-      refuses : RefusesScore status input out
-      refuses = subst (λ (s : ℕ). RefusesScore s input out) (sym same) given
-
-      go : IsPlayed status → (status ≡ 1) ⊎ (status ≡ 3) ⊎ (status ≡ 4) → ⊥
-      go played (inl one) = not_played status (inl one) played
-      go played (inr (inl three)) = not_played status (inr three) played
-      go played (inr (inr four)) = read four
+-- one that was to be played
+pub score_refused : (Ends : List Line → Type 0) (status decided : ℕ) (input : Option (List ℕ)) (out : SinkChange) → status ≡ decided
+    → RefusesScore decided input out → (status ≡ 4 → ⊥) → OfInput input (λ score. EndsPlayedScore Ends status score out)
+score_refused Ends status decided input out same given =
+    refused_ends (λ score. EndsPlaying Ends status (length score)) status input out
+    (subst (λ (s : ℕ). RefusesScore s input out) (sym same) given)
 
 -- the score that is read is played
 pub played_so : (bytes : List ℕ) (notes : List Note) → score_of bytes ≡ Ok notes → IfOk (score_of bytes) (PlaysScore default_limits (length bytes))

@@ -25,13 +25,13 @@ use Rattle.osc_ends.specs.Printing.{bank_short_text, malformed_text, refusal_tex
 use Rattle.osc_ends.specs.Recordings.{EndsRecording}
 use Rattle.osc_ends.specs.Recordings.{DumpsTo, RefusesForm, RefusesRecording, RefusesUpgrade, ReplaysTo, UpgradesTo}
 use Rattle.osc_ends.specs.Sinks.{SinkChange, sink_change, GainsUnless}
-use Rattle.osc_player.specs.Bank.{IsAccounted}
 use Rattle.osc_player.specs.Enough.{enough}
 use Rattle.osc_player.specs.Plain.{plain}
 use Rattle.osc_plain.specs.declared.report.Report.{Report}
-use Rattle.osc_plain.specs.Commands.{most_bytes, plain_limits}
-use Rattle.osc_plain.specs.EndsPlain.{AccountsReading, AccountsScript, CanBeRead, EndsPlain, EndsReading, HandsAllBack}
-use Rattle.osc_plain.specs.Runs.{IsPlayed, IsUnstopped, EndsLines, EndsRun, report_of}
+use Rattle.osc_plain.specs.declared.report.Report.TheVariants.{Text}
+use Rattle.osc_plain.specs.Commands.{default_limits, most_bytes, plain_limits}
+use Rattle.osc_plain.specs.EndsPlain.{CanBeRead, EndsPlain, EndsReading, HandsAllBack}
+use Rattle.osc_plain.specs.Runs.{IsPlayed, IsUnstopped, EndsLines, EndsOver, EndsRun, report_of}
 use Rattle.osc_plain.specs.Scores.{EndsNotes, EndsPlaying}
 
 -- too few boxes
@@ -57,19 +57,24 @@ short_ends report caps status status' have have' need lines out same boxes adds 
     bank_short = λ eight_is. absurd (omega (arith, same, is, eight_is));
   }
 
+-- no run of lines is refused
+pub lines_sound : (report : Report) (caps : Limits) (status have : ℕ) (lines : List Line) (out : SinkChange)
+    → EndsLines report caps status have lines out → status ≡ 1 → ⊥
+lines_sound report caps status have lines out ends one_is = go ends.known where
+  go : (status ≡ 0) ⊎ (status ≡ 3) ⊎ (status ≡ 5) ⊎ (status ≡ 6) ⊎ (status ≡ 8) → ⊥
+  go (inl z) = omega (arith, z, one_is)
+  go (inr (inl z)) = omega (arith, z, one_is)
+  go (inr (inr (inl z))) = omega (arith, z, one_is)
+  go (inr (inr (inr (inl z)))) = omega (arith, z, one_is)
+  go (inr (inr (inr (inr z)))) = omega (arith, z, one_is)
+
 -- lines that were read end as their script
-pub lines_end : (report : Report) (caps : Limits) (status have : ℕ) (script : List ℕ) (lines : List Line) (out : SinkChange) → script_of Plain script ≡ Ok lines
-    → EndsLines report caps status have lines out → EndsRun report caps status have script out
-lines_end report caps status have script lines out is ends = record {
-  refused = λ one_is. absurd (not_one ends.known one_is);
-  lawful = λ lawful short. subst (λ (r : Result (List Line) ScriptFault). IsOkAnd r (λ lines. EndsLines report caps status have lines out)) (sym is) ends;
-} where
-  not_one : (status ≡ 0) ⊎ (status ≡ 3) ⊎ (status ≡ 5) ⊎ (status ≡ 6) ⊎ (status ≡ 8) → status ≡ 1 → ⊥
-  not_one (inl z) one_is = omega (arith, z, one_is)
-  not_one (inr (inl z)) one_is = omega (arith, z, one_is)
-  not_one (inr (inr (inl z))) one_is = omega (arith, z, one_is)
-  not_one (inr (inr (inr (inl z)))) one_is = omega (arith, z, one_is)
-  not_one (inr (inr (inr (inr z)))) one_is = omega (arith, z, one_is)
+pub lines_end : (Ends : List Line → Type 0) (status : ℕ) (script : List ℕ) (lines : List Line) (out : SinkChange) → script_of Plain script ≡ Ok lines
+    → (status ≡ 1 → ⊥) → Ends lines → EndsRun Ends status script out
+lines_end Ends status script lines out is sound ends = record {
+  refused = λ one_is. absurd (sound one_is);
+  lawful = λ _ _. subst (λ (r : Result (List Line) ScriptFault). IsOkAnd r Ends) (sym is) ends;
+}
 
 -- what holds of the command that the words say
 pub said_so : (said : Option PlainCommand) (command : PlainCommand) (holds : PlainCommand → Type 0) → said ≡ Some command → holds command → IfSome said holds
@@ -85,9 +90,8 @@ not_played status (inr three) (inr (inl five_is)) = omega (arith, three, five_is
 not_played status (inr three) (inr (inr six_is)) = omega (arith, three, six_is)
 
 -- a script of which a run ran out of memory
-pub run_short : (report : Report) (caps : Limits) (status have : ℕ) (script : List ℕ) (out : SinkChange) → status ≡ 3
-    → EndsRun report caps status have script out
-run_short report caps status have script out three = record {
+pub run_short : (Ends : List Line → Type 0) (status : ℕ) (script : List ℕ) (out : SinkChange) → status ≡ 3 → EndsRun Ends status script out
+run_short Ends status script out three = record {
   refused = λ one. absurd (omega (arith, one, three));
   lawful = λ _ short. absurd (short three);
 }
@@ -110,41 +114,23 @@ notes_short Ends status score out three = record {
 }
 
 module _ {M : Type 0} (keep : M → ℕ) (tells : M → Option (List ℕ)) (status : ℕ) (bank : List M) (heard : List (ℕ × M)) (left : List M) (out : SinkChange) where
-  -- lines that were read end as their script, and so do the boxes
+  -- how lines end
+  abbrev pub EndsLinesHere : Report → Limits → List Line → Type 0
+  EndsLinesHere report caps lines = EndsOver keep tells report caps status bank heard left out lines
+
+  -- lines that were read end as their script
   pub run_read : (input : Option (List ℕ)) (report : Report) (caps : Limits) (lines : List Line) → OfInput input (λ script. script_of Plain script ≡ Ok lines)
-      → EndsLines report caps status (length bank) lines out → (IsPlayed status → IsAccounted keep tells caps lines bank heard left)
-      → OfInput input (λ script. EndsRun report caps status (length bank) script out × AccountsScript keep tells caps status script bank heard left)
-  run_read input report caps lines read ends accounts =
-      of_so input (λ script. script_of Plain script ≡ Ok lines)
-      (λ script. EndsRun report caps status (length bank) script out × AccountsScript keep tells caps status script bank heard left)
-      (λ script is. (
-        lines_end report caps status (length bank) script lines out is ends,
-        λ played. subst (λ (r : Result (List Line) ScriptFault). IsOkAnd r (λ lines. IsAccounted keep tells caps lines bank heard left)) (sym is)
-            (accounts played),
-      ))
+      → EndsLinesHere report caps lines → OfInput input (λ script. EndsRun (EndsLinesHere report caps) status script out)
+  run_read input report caps lines read ends =
+      of_so input (λ script. script_of Plain script ≡ Ok lines) (λ script. EndsRun (EndsLinesHere report caps) status script out)
+      (λ script is.
+      lines_end (EndsLinesHere report caps) status script lines out is (lines_sound report caps status (length bank) lines out ends.0) ends)
       read
 
-  -- a script that is refused
-  pub run_refused : (input : Option (List ℕ)) (report : Report) (caps : Limits) (decided : ℕ) → status ≡ decided → RefusesScript Plain decided input out
-      → (status ≡ 4 → ⊥)
-      → OfInput input (λ script. EndsRun report caps status (length bank) script out × AccountsScript keep tells caps status script bank heard left)
-  run_refused input report caps decided same refuses read =
-      refused_bytes status input (λ script. IsErrAnd (script_of Plain script) (λ fault. GainsUnless out (refusal_text fault)))
-      (λ script. EndsRun report caps status (length bank) script out × AccountsScript keep tells caps status script bank heard left)
-      (subst (λ (s : ℕ). RefusesScript Plain s input out) (sym same) refuses)
-      (λ script one refused. (
-        record { refused = λ _. refused; lawful = λ lawful _. absurd (lawful one) },
-        λ played. absurd (not_played status (inl one) played),
-      ))
-      (λ script three. (run_short report caps status (length bank) script out three, λ played. absurd (not_played status (inr three) played))) read
-
   -- a command that reads an input ran out of memory
-  pub reading_short : status ≡ 3 → (reading : Reading) (all : List ℕ)
-      → EndsReading reading status (length bank) all out × AccountsReading keep tells reading status all bank heard left
-  reading_short three (Run output capacities) script = (
-    run_short (report_of output) (plain_limits capacities) status (length bank) script out three,
-    λ played. absurd (not_played status (inr three) played),
-  )
+  pub reading_short : status ≡ 3 → (reading : Reading) (all : List ℕ) → EndsReading keep tells reading status bank heard left all out
+  reading_short three (Run output capacities) script =
+      run_short (EndsLinesHere (report_of output) (plain_limits capacities)) status script out three
   reading_short three Replay all = (recording_short ReplaysTo RefusesRecording status all out three, λ short. absurd (short three))
   reading_short three Dump all = (recording_short DumpsTo RefusesForm status all out three, λ short. absurd (short three))
   reading_short three Upgrade all = (recording_short UpgradesTo RefusesUpgrade status all out three, λ short. absurd (short three))
@@ -152,10 +138,16 @@ module _ {M : Type 0} (keep : M → ℕ) (tells : M → Option (List ℕ)) (stat
     notes_short (λ notes. EndsText 0 status (score_script notes) out) status score out three,
     λ short. absurd (short three),
   )
-  reading_short three PlayScore score = (
-    notes_short (EndsPlaying status (length bank) (length score) out) status score out three,
-    λ played. absurd (not_played status (inr three) played),
-  )
+  reading_short three PlayScore score = notes_short (EndsPlaying (EndsLinesHere Text default_limits) status (length score)) status score out three
+
+-- a script that is refused
+pub run_refused : (Ends : List Line → Type 0) (status decided : ℕ) (input : Option (List ℕ)) (out : SinkChange) → status ≡ decided
+    → RefusesScript Plain decided input out → (status ≡ 4 → ⊥) → OfInput input (λ script. EndsRun Ends status script out)
+run_refused Ends status decided input out same refuses read =
+    refused_bytes status input (λ script. IsErrAnd (script_of Plain script) (λ fault. GainsUnless out (refusal_text fault)))
+    (λ script. EndsRun Ends status script out) (subst (λ (s : ℕ). RefusesScript Plain s input out) (sym same) refuses)
+    (λ script one refused. record { refused = λ _. refused; lawful = λ lawful _. absurd (lawful one) })
+    (λ script three. run_short Ends status script out three) read
 
 module _ {S O M : Type 0} (to_read : S → Option (List ℕ)) (source_faults : S → ℕ) (held : O → Option (List ℕ)) (sink_faults : O → ℕ) (keep : M → ℕ)
     (tells : M → Option (List ℕ)) (source source_after : S) (out out_after : O) (bank : List M) (heard : List (ℕ × M)) (left : List M) (status : ℕ) where
@@ -176,7 +168,7 @@ module _ {S O M : Type 0} (to_read : S → Option (List ℕ)) (source_faults : S
   abbrev pub EndsRunning : Report → Limits → Type 0
   EndsRunning report limits =
       EndsWith MAX_SCRIPT status
-      (λ script sink. EndsRun report limits status (length bank) script sink × AccountsScript keep tells limits status script bank heard left)
+      (λ script sink. EndsRun (EndsOver keep tells report limits status bank heard left sink) status script sink)
       (λ script. IsOkAnd (script_of Plain script) (λ lines. (count_adds lines ≤ length bank) × IsUnstopped limits lines))
 
   -- as the words say
@@ -191,11 +183,11 @@ module _ {S O M : Type 0} (to_read : S → Option (List ℕ)) (source_faults : S
   score_said reading is end = subst (λ (r : Reading). EndsHere (Read r)) (sym is) end
 
   -- a command that plays nothing was done
-  pub unplayed_said : (reading other : Reading) (decided : ℕ) → reading ≡ other → status ≡ decided → heard ≡ [] → left ≡ bank
-      → ((all : List ℕ) → HandsAllBack status bank heard left → AccountsReading keep tells other status all bank heard left)
-      → EndsWith (most_bytes other) decided (λ all sink. EndsReading other decided (length bank) all sink) (CanBeRead other (length bank))
-      → EndsHere (Read reading)
-  unplayed_said reading other decided is same none all_left back given =
+  pub unplayed_said : (Ends : ℕ → List ℕ → SinkChange → Type 0) (reading other : Reading) (decided : ℕ) → reading ≡ other → status ≡ decided
+      → heard ≡ [] → left ≡ bank
+      → ((all : List ℕ) → Ends status all change → HandsAllBack status bank heard left → EndsReading keep tells other status bank heard left all change)
+      → EndsWith (most_bytes other) decided (Ends decided) (CanBeRead other (length bank)) → EndsHere (Read reading)
+  unplayed_said Ends reading other decided is same none all_left so given =
       subst (λ (r : Reading). EndsHere (Read r)) (sym is)
       (record {
         known = end.known;
@@ -203,20 +195,16 @@ module _ {S O M : Type 0} (to_read : S → Option (List ℕ)) (source_faults : S
         input = end.input;
         unwritten = end.unwritten;
         ends = λ read.
-            of_so (to_read source) (λ all. EndsReading other status (length bank) all change)
-            (λ all. EndsReading other status (length bank) all change × AccountsReading keep tells other status all bank heard left)
-            (λ all so. (so, back all (λ _. (none, all_left)))) (end.ends read);
+            of_so (to_read source) (λ all. Ends status all change) (λ all. EndsReading keep tells other status bank heard left all change)
+            (λ all ends. so all ends (λ _. (none, all_left))) (end.ends read);
         sink = end.sink;
         steady = end.steady;
         ended = end.ended;
         complete = end.complete;
       })
     where
-      end : EndsWith (most_bytes other) status (λ all sink. EndsReading other status (length bank) all sink) (CanBeRead other (length bank))
-      end =
-          subst
-          (λ (s : ℕ). EndsWith (most_bytes other) s (λ all sink. EndsReading other s (length bank) all sink) (CanBeRead other (length bank))) (sym same)
-          given
+      end : EndsWith (most_bytes other) status (Ends status) (CanBeRead other (length bank))
+      end = subst (λ (s : ℕ). EndsWith (most_bytes other) s (Ends s) (CanBeRead other (length bank))) (sym same) given
 
   -- memory ran out
   pub memory_short : (command : PlainCommand) → status ≡ 3 → heard ≡ [] → left ≡ bank → EndsHere command
@@ -232,7 +220,7 @@ module _ {S O M : Type 0} (to_read : S → Option (List ℕ)) (source_faults : S
     unwritten = λ four. absurd (omega (arith, three, four));
     ends = λ _.
         any_bytes (to_read source)
-        (λ all. EndsReading reading status (length bank) all change × AccountsReading keep tells reading status all bank heard left)
+        (λ all. EndsReading keep tells reading status bank heard left all change)
         (λ all. reading_short keep tells status bank heard left change three reading all);
     sink = λ five. absurd (omega (arith, three, five));
     steady = λ zero_is. absurd (omega (arith, three, zero_is));

@@ -18,28 +18,16 @@ use Rattle.osc_words.specs.declared.command.Reading.TheVariants.{Run, Replay, Du
 use Rattle.osc_words.specs.declared.command.Reading.TheVariants.{Score, PlayScore}
 use Rattle.osc_score.specs.Scores.{addresses_of}
 use Rattle.osc_score.specs.Reading.{score_of}
-use Rattle.osc_score_laws.specs.Heard.{score_lines}
 use Rattle.osc_script.specs.Adds.{count_adds}
 use Rattle.osc_ends.specs.declared.status.TheConstants.{NO_MEMORY}
 use Rattle.osc_ends.specs.Ends.{IsUnplayed}
 use Rattle.osc_ends.specs.CommandEnds.{IsCommandsEnd}
 use Rattle.osc_ends.specs.Recordings.{EndsDump, EndsReplay, EndsUpgrade}
 use Rattle.osc_ends.specs.Sinks.{SinkChange, sink_change}
-use Rattle.osc_player.specs.Bank.{IsAccounted}
-use Rattle.osc_plain.specs.declared.report.Report.TheVariants.{Summary}
+use Rattle.osc_plain.specs.declared.report.Report.TheVariants.{Summary, Text}
 use Rattle.osc_plain.specs.Commands.{default_limits, drawn_lines, most_bytes, plain_limits}
-use Rattle.osc_plain.specs.Runs.{IsPlayed, IsUnstopped, EndsLines, EndsRun, report_of}
+use Rattle.osc_plain.specs.Runs.{IsUnstopped, EndsOver, EndsRun, report_of}
 use Rattle.osc_plain.specs.Scores.{EndsPlayedScore, EndsScore}
-
--- the end of a command that reads an input, of which so many boxes and this input were handed in
-abbrev pub EndsReading : Reading → ℕ → ℕ → List ℕ → SinkChange → Type 0
-EndsReading (Run output caps) status have input out =
-    EndsRun (report_of output) (plain_limits caps) status have input out
-EndsReading Replay status have input out = EndsReplay status input out
-EndsReading Dump status have input out = EndsDump status input out
-EndsReading Upgrade status have input out = EndsUpgrade status input out
-EndsReading Score status have input out = EndsScore status input out
-EndsReading PlayScore status have input out = EndsPlayedScore status have input out
 
 -- A command can be done with so many boxes and this input: a lawful script has a box for each add
 -- and room for its recording; a score is lawful, and to be played it has a box for each distinct
@@ -68,33 +56,27 @@ module _ {M : Type 0} where
     pub none_heard : IsUnplayed status → heard ≡ []
     pub all_left : IsUnplayed status → left ≡ bank
 
-  -- each box is accounted for by the lines of a script that was played
-  abbrev pub AccountsScript : (M → ℕ) → (M → Option (List ℕ)) → Limits → ℕ → List ℕ → List M
-      → List (ℕ × M) → List M → Type 0
-  AccountsScript keep tells caps status script bank heard left = IsPlayed status
-      → IsOkAnd (script_of Plain script)
-      (λ lines. IsAccounted keep tells caps lines bank heard left)
-
-  -- and by those of a score
-  abbrev pub AccountsScore : (M → ℕ) → (M → Option (List ℕ)) → ℕ → List ℕ → List M
-      → List (ℕ × M) → List M → Type 0
-  AccountsScore keep tells status score bank heard left = IsPlayed status
-      → IsOkAnd (score_of score)
-      (λ notes. IsAccounted keep tells default_limits (score_lines notes) bank heard left)
-
   -- a command that plays nothing hands all boxes back
   abbrev pub HandsAllBack : ℕ → List M → List (ℕ × M) → List M → Type 0
   HandsAllBack status bank heard left = status ≢ NO_MEMORY → (heard ≡ []) × (left ≡ bank)
 
-  -- what becomes of the boxes of a command that reads this input
-  abbrev pub AccountsReading : (M → ℕ) → (M → Option (List ℕ)) → Reading → ℕ → List ℕ → List M
-      → List (ℕ × M) → List M → Type 0
-  AccountsReading keep tells (Run output caps) status input bank heard left =
-      AccountsScript keep tells (plain_limits caps) status input bank heard left
-  AccountsReading keep tells PlayScore status input bank heard left =
-      AccountsScore keep tells status input bank heard left
-  AccountsReading keep tells reading status input bank heard left =
-      HandsAllBack status bank heard left
+  -- the end of a command that reads this input, and what becomes of the boxes
+  abbrev pub EndsReading : (M → ℕ) → (M → Option (List ℕ)) → Reading → ℕ → List M
+      → List (ℕ × M) → List M → List ℕ → SinkChange → Type 0
+  EndsReading keep tells (Run output caps) status bank heard left input out =
+      EndsRun (EndsOver keep tells (report_of output) (plain_limits caps) status bank heard left out)
+      status input out
+  EndsReading keep tells Replay status bank heard left input out =
+      EndsReplay status input out × HandsAllBack status bank heard left
+  EndsReading keep tells Dump status bank heard left input out =
+      EndsDump status input out × HandsAllBack status bank heard left
+  EndsReading keep tells Upgrade status bank heard left input out =
+      EndsUpgrade status input out × HandsAllBack status bank heard left
+  EndsReading keep tells Score status bank heard left input out =
+      EndsScore status input out × HandsAllBack status bank heard left
+  EndsReading keep tells PlayScore status bank heard left input out =
+      EndsPlayedScore (EndsOver keep tells Text default_limits status bank heard left out) status
+      input out
 
 -- The end of a command, and what becomes of the boxes.
 abbrev pub EndsPlain : {S O M : Type 0} → (S → Option (List ℕ)) → (S → ℕ) → (O → Option (List ℕ))
@@ -104,12 +86,8 @@ EndsPlain to_read source_faults held sink_faults keep tells (Read reading) statu
     source_after out out_after bank heard left =
     IsCommandsEnd to_read source_faults held sink_faults (most_bytes reading) status source
     source_after out out_after
-    (λ input sink. EndsReading reading status (length bank) input sink
-    × AccountsReading keep tells reading status input bank heard left)
-    (CanBeRead reading (length bank))
+    (EndsReading keep tells reading status bank heard left) (CanBeRead reading (length bank))
 EndsPlain to_read source_faults held sink_faults keep tells (Gen seed lines) status source
     source_after out out_after bank heard left =
-    EndsLines Summary default_limits status (length bank) (drawn_lines seed lines)
-    (sink_change held sink_faults out out_after)
-    × (IsPlayed status
-    → IsAccounted keep tells default_limits (drawn_lines seed lines) bank heard left)
+    EndsOver keep tells Summary default_limits status bank heard left
+    (sink_change held sink_faults out out_after) (drawn_lines seed lines)

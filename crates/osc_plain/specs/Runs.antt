@@ -1,8 +1,8 @@
 -- How a run of a script's lines ends, and what it writes.
 use Rattle.osc_ends.specs.declared.status.TheConstants.{BANK_SHORT, DONE, NO_MEMORY, RECORDING_FULL}
 use Rattle.osc_ends.specs.declared.status.TheConstants.{REFUSED, SINK_FAILED}
-use Rattle.std.specs.Prelude.{◌≡◌, ◌≢◌, ◌⊎◌, ℕ, ◌≤◌, ◌<◌, List, ◌++◌, None, IsSome}
-use Rattle.std.specs.Prelude.{IsOkAnd, IsErrAnd}
+use Rattle.std.specs.Prelude.{◌≡◌, ◌≢◌, ◌⊎◌, ℕ, ◌≤◌, ◌<◌, List, ◌++◌, length, Option, None}
+use Rattle.std.specs.Prelude.{IsSome, IsOkAnd, IsErrAnd}
 use Rattle.osc_model.specs.Limits.{Limits}
 use Rattle.osc_model.specs.Recordings.{record_text}
 use Rattle.osc_model.specs.History.{Legal}
@@ -18,6 +18,7 @@ use Rattle.osc_ends.specs.declared.outcome.Outcome.{Outcome}
 use Rattle.osc_ends.specs.Outcomes.{stopped}
 use Rattle.osc_ends.specs.Printing.{bank_short_text, last_text, recorded_text, refusal_text}
 use Rattle.osc_ends.specs.Sinks.{SinkChange, GainsAll, GainsPart, GainsUnless}
+use Rattle.osc_player.specs.Bank.{IsAccounted}
 use Rattle.osc_player.specs.Plain.{plain, printed_faults}
 use Rattle.osc_plain.specs.declared.report.Report.{Report}
 use Rattle.osc_plain.specs.declared.report.Report.TheVariants.{Text, Recording, Summary}
@@ -73,15 +74,22 @@ pub record EndsLines (report : Report) (caps : Limits) (status have : ℕ) (line
   pub bank_short : status ≡ BANK_SHORT → (have < count_adds lines)
       × GainsUnless out (bank_short_text (count_adds lines) have)
 
+-- The end of a run of lines over a bank, where each box is accounted for if something was played.
+abbrev pub EndsOver : {M : Type 0} → (M → ℕ) → (M → Option (List ℕ)) → Report → Limits → ℕ
+    → List M → List (ℕ × M) → List M → SinkChange → List Line → Type 0
+EndsOver keep tells report caps status bank heard left out lines =
+    EndsLines report caps status (length bank) lines out
+    × (IsPlayed status → IsAccounted keep tells caps lines bank heard left)
+
 -- The end of a run of a script, by its status: refused (1), where it has a first fault, and the
 -- line on that fault was gained; else, but out of memory (3), the script is lawful, and the
 -- end is that of a run of its lines.
-pub record EndsRun (report : Report) (caps : Limits) (status have : ℕ) (script : List ℕ)
-    (out : SinkChange) : Type 0 where
+pub record EndsRun (Ends : List Line → Type 0) (status : ℕ) (script : List ℕ) (out : SinkChange)
+    : Type 0 where
   pub refused : status ≡ REFUSED
       → IsErrAnd (script_of Plain script) (λ fault. GainsUnless out (refusal_text fault))
   pub lawful : status ≢ REFUSED → status ≢ NO_MEMORY
-      → IsOkAnd (script_of Plain script) (λ lines. EndsLines report caps status have lines out)
+      → IsOkAnd (script_of Plain script) Ends
 
 -- what was recorded of a run of lines: its recording, the lines of the faults, and how it ended
 pub record RecordsRun (bytes faults : List ℕ) (outcome : Outcome) (caps : Limits)

@@ -13,9 +13,7 @@ use Rattle.osc_score_laws.specs.Heard.{PlaysScore, score_lines}
 use Rattle.osc_ends.specs.Ends.{EndsText}
 use Rattle.osc_ends.specs.Printing.{score_fault_text}
 use Rattle.osc_ends.specs.Sinks.{SinkChange, GainsUnless}
-use Rattle.osc_plain.specs.declared.report.Report.TheVariants.{Text}
 use Rattle.osc_plain.specs.Commands.{default_limits}
-use Rattle.osc_plain.specs.Runs.{EndsLines}
 
 -- the script of the notes is lawful, and has these lines
 abbrev pub IsScriptOf : List Note → Type 0
@@ -38,15 +36,16 @@ EndsScore status score out =
 
 -- Its script is run: a method is added at each distinct address; each note is one call, in order,
 -- while the clock stands at its tag; no entry is a refusal, and the recording is never full.
-pub record EndsPlaying (status have size : ℕ) (out : SinkChange) (notes : List Note) : Type 0 where
-  pub run : EndsLines Text default_limits status have (score_lines notes) out
+pub record EndsPlaying (Ends : List Line → Type 0) (status size : ℕ) (notes : List Note)
+    : Type 0 where
+  pub run : Ends (score_lines notes)
   pub adds : count_adds (score_lines notes) ≡ length (addresses_of notes)
   pub plays : PlaysScore default_limits size notes
   pub roomy : status ≢ RECORDING_FULL
 
-abbrev pub EndsPlayedScore : ℕ → ℕ → List ℕ → SinkChange → Type 0
-EndsPlayedScore status have score out =
-    EndsNotes (EndsPlaying status have (length score) out) status score out
+abbrev pub EndsPlayedScore : (List Line → Type 0) → ℕ → List ℕ → SinkChange → Type 0
+EndsPlayedScore Ends status score out =
+    EndsNotes (EndsPlaying Ends status (length score)) status score out
 
 -- inside the crate: the script of what is kept of a score is lawful, and has these lines
 abbrev pub IsScriptWith : Plan → List Line → Type 0

@@ -10,10 +10,9 @@ ghost use Rattle.osc_script.specs.Adds.{count_adds};
 ghost use Rattle.osc_script.specs.Scripts.{script_of};
 ghost use Rattle.osc_ends.specs.CommandEnds.{IsCommandsEnd};
 ghost use Rattle.osc_ends.specs.Sinks.{sink_change};
-ghost use Rattle.osc_player.specs.Bank.{IsAccounted};
 ghost use Rattle.osc_player.specs.Runs.{IsRunOf};
-ghost use Rattle.osc_plain.specs.EndsPlain.{AccountsScript, HandsBack};
-ghost use Rattle.osc_plain.specs.Runs.{EndsLines, EndsPlayed, EndsRun, IsPlayed, IsUnstopped};
+ghost use Rattle.osc_plain.specs.EndsPlain.{HandsBack};
+ghost use Rattle.osc_plain.specs.Runs.{EndsOver, EndsPlayed, EndsRun, IsUnstopped};
 
 use crate::outputs::write_recorded;
 use crate::report::Report;
@@ -37,9 +36,9 @@ pub(crate) fn run<S: Source, O: Sink>(
 ) -> Ended
     ensures end { IsCommandsEnd S.left S.faults O.held O.faults MAX_SCRIPT result.status input.old
         input.new out.old out.new
-        (λ script sink. EndsRun report caps result.status (length bank.items) script sink
-        × AccountsScript (λ box. keep box) (λ box. heard box) caps result.status script
-        bank.items result.heard.items result.left.items)
+        (λ script sink. EndsRun (EndsOver (λ box. keep box) (λ box. heard box) report caps
+        result.status bank.items result.heard.items result.left.items sink) result.status script
+        sink)
         (λ script. IsOkAnd (script_of Plain script)
         (λ lines. (count_adds lines ≤ length bank.items) × IsUnstopped caps lines)) }
     ensures back { HandsBack result.status bank.items result.heard.items result.left.items }
@@ -59,11 +58,9 @@ pub(crate) fn run_lines<O: Sink>(
     out: &mut O,
     bank: Vec<Box<dyn Method + Send>>,
 ) -> Ended
-    ensures ends { EndsLines report caps result.status (length bank.items) lines.items
-        (sink_change O.held O.faults out.old out.new) }
-    ensures accounted { IsPlayed result.status
-        → IsAccounted (λ box. keep box) (λ box. heard box) caps lines.items bank.items
-        result.heard.items result.left.items }
+    ensures ends { EndsOver (λ box. keep box) (λ box. heard box) report caps result.status
+        bank.items result.heard.items result.left.items
+        (sink_change O.held O.faults out.old out.new) lines.items }
     ensures back { HandsBack result.status bank.items result.heard.items result.left.items }
 {
     let need = count_adds(&lines);

@@ -9,11 +9,10 @@ ghost use Rattle.osc_script.specs.declared.line.Line.{Line};
 ghost use Rattle.osc_ends.specs.CommandEnds.{IsCommandsEnd};
 ghost use Rattle.osc_ends.specs.Ends.{EndsText};
 ghost use Rattle.osc_ends.specs.Sinks.{sink_change};
-ghost use Rattle.osc_player.specs.Bank.{IsAccounted};
 ghost use Rattle.osc_plain.specs.Commands as commands;
-ghost use Rattle.osc_plain.specs.EndsPlain.{AccountsScore, HandsBack};
+ghost use Rattle.osc_plain.specs.EndsPlain.{HandsBack};
 ghost use Rattle.osc_plain.specs.declared.report.Report.TheVariants.{Text};
-ghost use Rattle.osc_plain.specs.Runs.{EndsLines, IsPlayed};
+ghost use Rattle.osc_plain.specs.Runs.{EndsOver};
 ghost use Rattle.osc_plain.specs.Scores.{EndsPlayedScore, EndsScore, IsScriptWith};
 
 use crate::drawn::read_again;
@@ -66,9 +65,9 @@ pub(crate) fn play_score<S: Source, O: Sink>(
 ) -> Ended
     ensures end { IsCommandsEnd S.left S.faults O.held O.faults MAX_SCORE result.status input.old
         input.new out.old out.new
-        (λ score sink. EndsPlayedScore result.status (length bank.items) score sink
-        × AccountsScore (λ box. keep box) (λ box. heard box) result.status score bank.items
-        result.heard.items result.left.items)
+        (λ score sink. EndsPlayedScore (EndsOver (λ box. keep box) (λ box. heard box) Text
+        commands.default_limits result.status bank.items result.heard.items result.left.items
+        sink) result.status score sink)
         (λ score. IsOkAnd (score_of score)
         (λ notes. length (addresses_of notes) ≤ length bank.items)) }
     ensures back { HandsBack result.status bank.items result.heard.items result.left.items }
@@ -93,12 +92,9 @@ fn play_script<O: Sink>(
 ) -> Ended
     requires { (lines : List Line) × IsScriptWith score.now lines }
     ensures ends { (lines : List Line) → IsScriptWith score.now lines
-        → EndsLines Text commands.default_limits result.status (length bank.items) lines
-        (sink_change O.held O.faults out.old out.new) }
-    ensures accounted { (lines : List Line) → IsScriptWith score.now lines
-        → IsPlayed result.status
-        → IsAccounted (λ box. keep box) (λ box. heard box) commands.default_limits lines
-        bank.items result.heard.items result.left.items }
+        → EndsOver (λ box. keep box) (λ box. heard box) Text commands.default_limits
+        result.status bank.items result.heard.items result.left.items
+        (sink_change O.held O.faults out.old out.new) lines }
     ensures back { HandsBack result.status bank.items result.heard.items result.left.items }
 {
     match script_lines(alloc, score) {

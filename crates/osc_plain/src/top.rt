@@ -33,14 +33,13 @@ ghost use Rattle.osc_words.specs.Ranges.{IsLawfulReading};
 ghost use Rattle.osc_ends.specs.Ends.{IsUnplayed};
 ghost use Rattle.osc_ends.specs.Printing.{usage_text};
 ghost use Rattle.osc_ends.specs.Sinks.{sink_change, Fails, GainsUnless};
-ghost use Rattle.osc_player.specs.Bank.{IsAccounted};
 ghost use Rattle.osc_player.specs.Enough.{enough};
 ghost use Rattle.osc_script.specs.declared.mode.Mode.TheVariants.{Plain};
 ghost use Rattle.osc_script.specs.Adds.{count_adds};
 ghost use Rattle.osc_script.specs.Scripts.{script_of};
 ghost use Rattle.osc_plain.specs.declared.report.Report.TheVariants.{Summary};
 ghost use Rattle.osc_plain.specs.Commands as commands;
-ghost use Rattle.osc_plain.specs.Runs.{EndsLines, IsPlayed};
+ghost use Rattle.osc_plain.specs.Runs.{EndsOver};
 ghost use Rattle.osc_plain.specs.EndsPlain.{EndsPlain, HandsBack};
 
 use crate::drawn::drawn_lines;
@@ -161,11 +160,9 @@ fn generate<O: Sink>(
     bank: Vec<Box<dyn Method + Send>>,
 ) -> Ended
     requires { lines ≤ MAX_GENERATED_LINES }
-    ensures ends { EndsLines Summary commands.default_limits result.status (length bank.items)
-        (commands.drawn_lines seed lines) (sink_change O.held O.faults out.old out.new) }
-    ensures accounted { IsPlayed result.status
-        → IsAccounted (λ box. keep box) (λ box. heard box) commands.default_limits
-        (commands.drawn_lines seed lines) bank.items result.heard.items result.left.items }
+    ensures ends { EndsOver (λ box. keep box) (λ box. heard box) Summary commands.default_limits
+        result.status bank.items result.heard.items result.left.items
+        (sink_change O.held O.faults out.old out.new) (commands.drawn_lines seed lines) }
     ensures back { HandsBack result.status bank.items result.heard.items result.left.items }
 {
     match drawn_lines(alloc, seed, lines) {

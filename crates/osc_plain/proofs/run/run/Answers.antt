@@ -12,11 +12,12 @@ returns-in-Ok-clause-end g c = record {
   input = search rules;
   unwritten = search rules;
   ends = λ _.
-      run_read _ _ c.run_lines.result.status c.args.bank.items _ _ _ _ c.args.report c.args.caps c.in-Ok.lines.items c.in-Ok.ensures.lines
-      (moved (c.in-Ok.ensures.unwritten (inl refl))
-      (λ before. EndsLines c.args.report c.args.caps c.run_lines.result.status (length c.args.bank.items) c.in-Ok.lines.items
-      (sink_change g.O.Sink.held g.O.Sink.faults before c.run_lines.new.out)) c.run_lines.ensures.ends)
-      c.run_lines.ensures.accounted;
+      run_read _ _ c.run_lines.result.status c.args.bank.items _ _ _ _ c.args.report c.args.caps c.in-Ok.lines.items c.in-Ok.ensures.lines (
+        moved (c.in-Ok.ensures.unwritten (inl refl))
+            (λ before. EndsLines c.args.report c.args.caps c.run_lines.result.status (length c.args.bank.items) c.in-Ok.lines.items
+            (sink_change g.O.Sink.held g.O.Sink.faults before c.run_lines.new.out)) c.run_lines.ensures.ends.0,
+        c.run_lines.ensures.ends.1,
+      );
   sink = search rules;
   steady = search rules;
   ended = search rules;
@@ -29,8 +30,7 @@ returns-in-Err-clause-end g c = record {
   said = search rules;
   input = search rules;
   unwritten = search rules;
-  ends = run_refused _ _ c.unplayed.result.status c.args.bank.items _ _ _ _ c.args.report c.args.caps c.in-Err.status
-      c.unplayed.ensures.status c.in-Err.ensures.refused;
+  ends = run_refused _ c.unplayed.result.status c.in-Err.status _ _ c.unplayed.ensures.status c.in-Err.ensures.refused;
   sink = search rules;
   steady = search rules;
   ended = search rules;

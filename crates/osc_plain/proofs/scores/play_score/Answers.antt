@@ -4,8 +4,9 @@ use Rattle.osc_score.specs.Scores.{addresses_of}
 use Rattle.osc_score.specs.Reading.{score_of}
 use Rattle.osc_score_laws.specs.Heard.{score_lines}
 use Rattle.osc_plain.specs.Commands.{default_limits}
-use Rattle.osc_plain.specs.Scores.{EndsPlayedScore}
-use Rattle.osc_plain.proofs.ScoreEnds.{ScoreLaws, can_play, moved, play_ends, played_so, roomy, score_accounts, score_refused, script_with}
+use Rattle.osc_plain.specs.Runs.{EndsLines}
+use Rattle.osc_plain.specs.declared.report.Report.TheVariants.{Text}
+use Rattle.osc_plain.proofs.ScoreEnds.{ScoreLaws, can_play, moved, play_ends, played_so, roomy, score_refused, script_with}
 use Rattle.osc_plain.proofs.Tops.{some_bytes}
 use Rattle.osc_plain.proofs.scores.play_score.Goals as goal
 
@@ -30,8 +31,11 @@ returns-in-Ok-clause-end g c =
     } in
     let spelled = script_with laws read.0 notes c.in-Ok.score read.2.1 read.2.2 in
     let plays = played_so read.0 notes read.2.1 (c.a_read_score_is_played.ensures default_limits read.0 roomy) in
-    let ends = play_ends read.0 notes c.play_script.result.status (length c.args.bank.items) _ plays (c.a_score_adds_its_addresses.ensures notes)
-    (c.play_script.ensures.ends (score_lines notes) spelled) laws c.in-Ok.score read.2.1 read.2.2 in
+    let over = c.play_script.ensures.ends (score_lines notes) spelled in
+    let run = moved (c.in-Ok.ensures.unwritten (inl refl))
+    (λ before. EndsLines Text default_limits c.play_script.result.status (length c.args.bank.items) (score_lines notes)
+    (sink_change g.O.Sink.held g.O.Sink.faults before c.play_script.new.out)) over.0 in
+    let adds = c.a_score_adds_its_addresses.ensures notes in
     record {
       known = search rules;
       said = search rules;
@@ -40,20 +44,14 @@ returns-in-Ok-clause-end g c =
       ends = λ _. (
         read.0,
         read.1,
-        (
-          moved (c.in-Ok.ensures.unwritten (inl refl))
-              (λ before. EndsPlayedScore c.play_script.result.status (length c.args.bank.items) read.0
-              (sink_change g.O.Sink.held g.O.Sink.faults before c.play_script.new.out)) ends,
-          score_accounts _ _ c.play_script.result.status c.args.bank.items _ _ read.0 notes read.2.1
-              (c.play_script.ensures.accounted (score_lines notes) spelled),
-        ),
+        play_ends read.0 notes c.play_script.result.status (length c.args.bank.items) _ plays adds run _ (run, over.1) laws c.in-Ok.score read.2.1
+            read.2.2,
       );
       sink = search rules;
       steady = search rules;
       ended = search rules;
       complete = λ can steady.
-          can_play read.0 notes c.play_script.result.status (length c.args.bank.items) _ plays (c.a_score_adds_its_addresses.ensures notes)
-          (c.play_script.ensures.ends (score_lines notes) spelled) read.2.1
+          can_play read.0 notes c.play_script.result.status (length c.args.bank.items) _ plays adds run read.2.1
           (some_bytes _ read.0 (λ score. IsOkAnd (score_of score) (λ notes. length (addresses_of notes) ≤ length c.args.bank.items)) read.1 can);
     }
 
@@ -63,8 +61,7 @@ returns-in-Err-clause-end g c = record {
   said = search rules;
   input = search rules;
   unwritten = search rules;
-  ends = score_refused _ _ c.unplayed.result.status c.args.bank.items _ _ _ _ c.in-Err.status c.unplayed.ensures.status
-      c.in-Err.ensures.refused;
+  ends = score_refused _ c.unplayed.result.status c.in-Err.status _ _ c.unplayed.ensures.status c.in-Err.ensures.refused;
   sink = search rules;
   steady = search rules;
   ended = search rules;
