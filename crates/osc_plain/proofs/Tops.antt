@@ -128,7 +128,7 @@ module _ {M : Type 0} (keep : M → ℕ) (tells : M → Option (List ℕ)) (stat
       read
 
   -- a command that reads an input ran out of memory
-  pub reading_short : status ≡ 3 → (reading : Reading) (all : List ℕ) → EndsReading keep tells reading status bank heard left all out
+  pub reading_short : status ≡ 3 → (reading : Reading) (all : List ℕ) → EndsReading keep tells status bank heard left reading all out
   reading_short three (Run output capacities) script =
       run_short (EndsLinesHere (report_of output) (plain_limits capacities)) status script out three
   reading_short three Replay all = (recording_short ReplaysTo RefusesRecording status all out three, λ short. absurd (short three))
@@ -185,7 +185,7 @@ module _ {S O M : Type 0} (to_read : S → Option (List ℕ)) (source_faults : S
   -- a command that plays nothing was done
   pub unplayed_said : (Ends : ℕ → List ℕ → SinkChange → Type 0) (reading other : Reading) (decided : ℕ) → reading ≡ other → status ≡ decided
       → heard ≡ [] → left ≡ bank
-      → ((all : List ℕ) → Ends status all change → HandsAllBack status bank heard left → EndsReading keep tells other status bank heard left all change)
+      → ((all : List ℕ) → Ends status all change → HandsAllBack status bank heard left → EndsReading keep tells status bank heard left other all change)
       → EndsWith (most_bytes other) decided (Ends decided) (CanBeRead other (length bank)) → EndsHere (Read reading)
   unplayed_said Ends reading other decided is same none all_left so given =
       subst (λ (r : Reading). EndsHere (Read r)) (sym is)
@@ -195,7 +195,7 @@ module _ {S O M : Type 0} (to_read : S → Option (List ℕ)) (source_faults : S
         input = end.input;
         unwritten = end.unwritten;
         ends = λ read.
-            of_so (to_read source) (λ all. Ends status all change) (λ all. EndsReading keep tells other status bank heard left all change)
+            of_so (to_read source) (λ all. Ends status all change) (λ all. EndsReading keep tells status bank heard left other all change)
             (λ all ends. so all ends (λ _. (none, all_left))) (end.ends read);
         sink = end.sink;
         steady = end.steady;
@@ -220,7 +220,7 @@ module _ {S O M : Type 0} (to_read : S → Option (List ℕ)) (source_faults : S
     unwritten = λ four. absurd (omega (arith, three, four));
     ends = λ _.
         any_bytes (to_read source)
-        (λ all. EndsReading keep tells reading status bank heard left all change)
+        (λ all. EndsReading keep tells status bank heard left reading all change)
         (λ all. reading_short keep tells status bank heard left change three reading all);
     sink = λ five. absurd (omega (arith, three, five));
     steady = λ zero_is. absurd (omega (arith, three, zero_is));

@@ -60,34 +60,28 @@ module _ {M : Type 0} where
   abbrev pub HandsAllBack : ℕ → List M → List (ℕ × M) → List M → Type 0
   HandsAllBack status bank heard left = status ≢ NO_MEMORY → (heard ≡ []) × (left ≡ bank)
 
-  -- the end of a command that reads this input, and what becomes of the boxes
-  abbrev pub EndsReading : (M → ℕ) → (M → Option (List ℕ)) → Reading → ℕ → List M
-      → List (ℕ × M) → List M → List ℕ → SinkChange → Type 0
-  EndsReading keep tells (Run output caps) status bank heard left input out =
-      EndsRun (EndsOver keep tells (report_of output) (plain_limits caps) status bank heard left out)
-      status input out
-  EndsReading keep tells Replay status bank heard left input out =
-      EndsReplay status input out × HandsAllBack status bank heard left
-  EndsReading keep tells Dump status bank heard left input out =
-      EndsDump status input out × HandsAllBack status bank heard left
-  EndsReading keep tells Upgrade status bank heard left input out =
-      EndsUpgrade status input out × HandsAllBack status bank heard left
-  EndsReading keep tells Score status bank heard left input out =
-      EndsScore status input out × HandsAllBack status bank heard left
-  EndsReading keep tells PlayScore status bank heard left input out =
-      EndsPlayedScore (EndsOver keep tells Text default_limits status bank heard left out) status
-      input out
+module _ {M : Type 0} (keep : M → ℕ) (tells : M → Option (List ℕ)) (status : ℕ) (bank : List M)
+    (heard : List (ℕ × M)) (left : List M) where
+  -- the end of a command that reads an input, and what becomes of the boxes
+  abbrev pub EndsReading : Reading → List ℕ → SinkChange → Type 0
+  EndsReading (Run output caps) input out = EndsRun (EndsOver keep tells (report_of output)
+      (plain_limits caps) status bank heard left out) status input out
+  EndsReading Replay input out = EndsReplay status input out × HandsAllBack status bank heard left
+  EndsReading Dump input out = EndsDump status input out × HandsAllBack status bank heard left
+  EndsReading Upgrade input out = EndsUpgrade status input out × HandsAllBack status bank heard left
+  EndsReading Score input out = EndsScore status input out × HandsAllBack status bank heard left
+  EndsReading PlayScore input out = EndsPlayedScore
+      (EndsOver keep tells Text default_limits status bank heard left out) status input out
 
--- The end of a command, and what becomes of the boxes.
-abbrev pub EndsPlain : {S O M : Type 0} → (S → Option (List ℕ)) → (S → ℕ) → (O → Option (List ℕ))
-    → (O → ℕ) → (M → ℕ) → (M → Option (List ℕ)) → PlainCommand → ℕ → S → S → O → O → List M
-    → List (ℕ × M) → List M → Type 0
-EndsPlain to_read source_faults held sink_faults keep tells (Read reading) status source
-    source_after out out_after bank heard left =
-    IsCommandsEnd to_read source_faults held sink_faults (most_bytes reading) status source
-    source_after out out_after
-    (EndsReading keep tells reading status bank heard left) (CanBeRead reading (length bank))
-EndsPlain to_read source_faults held sink_faults keep tells (Gen seed lines) status source
-    source_after out out_after bank heard left =
-    EndsOver keep tells Summary default_limits status bank heard left
-    (sink_change held sink_faults out out_after) (drawn_lines seed lines)
+module _ {S O M : Type 0} (to_read : S → Option (List ℕ)) (source_faults : S → ℕ)
+    (held : O → Option (List ℕ)) (sink_faults : O → ℕ) (keep : M → ℕ)
+    (tells : M → Option (List ℕ)) where
+  -- the end of a command, and what becomes of the boxes
+  abbrev pub EndsPlain : PlainCommand → ℕ → S → S → O → O → List M → List (ℕ × M) → List M → Type 0
+  EndsPlain (Read reading) status source source_after out out_after bank heard left =
+      IsCommandsEnd to_read source_faults held sink_faults (most_bytes reading) status source
+      source_after out out_after (EndsReading keep tells status bank heard left reading)
+      (CanBeRead reading (length bank))
+  EndsPlain (Gen seed lines) status source source_after out out_after bank heard left =
+      EndsOver keep tells Summary default_limits status bank heard left
+      (sink_change held sink_faults out out_after) (drawn_lines seed lines)
