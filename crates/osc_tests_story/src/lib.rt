@@ -5,6 +5,8 @@
 #[cfg(test)]
 mod carry;
 #[cfg(test)]
+mod drawing;
+#[cfg(test)]
 mod report;
 #[cfg(test)]
 mod story;

@@ -10,7 +10,7 @@ use std::test::*;
 
 /// Caller 0 enrols another, adds methods, some of which aren't added, and hands in packets that
 /// wait, are called, are refused, and are late.
-const RECORDING: [u8; 2524] =
+pub(crate) const RECORDING: [u8; 2524] =
     *b"\0\0\08/osc/rec\0\0\0\0,iiiiiiii\0\0\0\0\0\0\x02\0\0\0\x18\0\0\0@\0\0\0\x08\0\0\0\x10\0\0\0\
 \x04\0\x01\x86\xa0\0\0\0\x01\0\0\0\x18/osc/enrol\0\0,ii\0\0\0\0\0\0\0\0\x01\0\0\0\x18/osc/en\
 rol\0\0,ii\0\0\0\0\0\xff\xff\xff\xff\0\0\04/osc/add\0\0\0\0,isiii\0\0\0\0\0\0/light/front\0\
