@@ -1,0 +1,6 @@
+pub mod Boards
+pub mod Looks
+pub mod Seen
+pub mod Sights
+pub mod Watching
+pub mod Words

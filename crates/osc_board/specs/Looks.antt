@@ -1,0 +1,43 @@
+-- Inside the crate: what is seen of bytes that begin with a header.
+use Rattle.std.specs.Prelude.{◌≡◌, ℕ, ◌+◌, ◌-◌, ◌≤◌, List, ◌++◌, take, drop, Option, Some}
+use Rattle.std.specs.Prelude.{None}
+use Rattle.osc_model.specs.declared.late.Late.{Late}
+use Rattle.osc_model.specs.Limits.{header_size}
+use Rattle.osc_record.specs.Reading.{HasNoHeader}
+use Rattle.osc_record.specs.Unread.{Remaining, HasHeader}
+use Rattle.osc_story.specs.declared.reader.Stop.{Stop}
+use Rattle.osc_story.specs.Looks.{IsPast}
+use Rattle.osc_board.specs.declared.look.Look.{Look}
+use Rattle.osc_board.specs.declared.look.Look.TheVariants as look
+use Rattle.osc_board.specs.Sights.{Sight, opened}
+use Rattle.osc_board.specs.Seen.{HasSeen}
+use Rattle.osc_board.specs.Watching.{Watching}
+
+-- what is seen, also before the first entry
+abbrev pub begun : Option Sight → Late → Sight
+begun None late = opened late
+begun (Some sight) late = sight
+
+-- the header was read, and entries after it were seen
+pub record SawAfter (bytes : List ℕ) (came : ℕ) (old : Option Sight) (cause : Stop)
+    (new : Option Sight) : Type 0 where
+  pub left : Remaining
+  pub sight : Sight
+  pub header : HasHeader bytes left
+  pub within : came ≤ left.caps.recording
+  pub becomes : new ≡ Some sight
+  pub seen : HasSeen (begun old left.caps.late) left cause sight
+
+-- a look at bytes, of so many that came
+abbrev pub LooksAt : Look → List ℕ → ℕ → Option Sight → Option Sight → Type 0
+LooksAt look.Malformed bytes came old new = HasNoHeader bytes 0 × (new ≡ old)
+LooksAt look.TooLong bytes came old new = IsPast bytes came × (new ≡ old)
+LooksAt (look.Saw cause) bytes came old new = SawAfter bytes came old cause new
+
+-- the header and the bytes from a place on are kept
+abbrev pub from_place : Watching → ℕ → Watching
+from_place watcher place =
+    record watcher {
+      bytes = take header_size watcher.bytes ++ drop place watcher.bytes;
+      passed = watcher.passed + (place - header_size);
+    }

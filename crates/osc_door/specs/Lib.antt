@@ -1,0 +1,2 @@
+pub mod Comers
+pub mod Visitors

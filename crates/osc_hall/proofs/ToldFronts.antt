@@ -1,0 +1,43 @@
+-- A visitor that takes more of its answer.
+use Rattle.std.proofs.Common.{◌≡◌, ℕ, ◌+◌, ◌≤◌, List, ◌++◌, length, take, drop, Option, Some, None, refl, sym, ap, subst, ◌∙◌, arith, length-take, length-drop}
+use Rattle.std.specs.Prelude.{option_map}
+use Rattle.std.proofs.Math.Seq.{take-add}
+use Rattle.std.proofs.lemmas.List.{take-append-drop, take-append-le}
+use Rattle.osc_hall.specs.Visits.{text_of}
+
+front_of_front : (share count : ℕ) (xs : List ℕ) → count ≤ length (take share xs) → take count (take share xs) ≡ take count xs
+front_of_front share count xs within =
+    sym (take-append-le count (take share xs) (drop share xs) within) ∙ ap (λ (l : List ℕ). take count l) (take-append-drop share xs)
+
+two_fronts : (told share count : ℕ) (text t : List ℕ) → count ≤ length (take share (drop told text)) → t ≡ take told text
+    → t ++ take count (take share (drop told text)) ≡ take (told + count) text
+two_fronts told share count text t within is =
+    ap (λ (l : List ℕ). l ++ take count (take share (drop told text))) is
+    ∙ ap (λ (l : List ℕ). take told text ++ l) (front_of_front share count (drop told text) within)
+    ∙ sym (take-add told count text)
+
+pub told_more : (before after : Option (List ℕ)) (told share count : ℕ) (text piece : List ℕ) → piece ≡ take share (drop told text)
+    → count ≤ length piece → before ≡ option_map (λ (t : List ℕ). take told text) before
+    → after ≡ option_map (λ (t : List ℕ). t ++ take count piece) before
+    → after ≡ option_map (λ (t : List ℕ). take (told + count) text) after
+told_more None after told share count text piece is within so_far now =
+    subst (λ (a : Option (List ℕ)). a ≡ option_map (λ (t : List ℕ). take (told + count) text) a) (sym now) refl
+told_more (Some t) after told share count text piece is within so_far now =
+    subst (λ (a : Option (List ℕ)). a ≡ option_map (λ (t : List ℕ). take (told + count) text) a) (sym now)
+    (ap (λ (l : List ℕ). Some l) (ap (λ (l : List ℕ). t ++ take count l) is
+    ∙ two_fronts told share count text t (subst (λ (l : List ℕ). count ≤ length l) is within) (ap text_of so_far)))
+
+-- the same after a call that counts it
+pub told_then : (before after : Option (List ℕ)) (told then share count : ℕ) (text new piece : List ℕ) → piece ≡ take share (drop told text)
+    → count ≤ length piece → then ≡ told + count → new ≡ text → before ≡ option_map (λ (t : List ℕ). take told text) before
+    → after ≡ option_map (λ (t : List ℕ). t ++ take count piece) before
+    → after ≡ option_map (λ (t : List ℕ). take then new) after
+told_then before after told then share count text new piece is within sum same so_far now =
+    subst (λ (n : ℕ). after ≡ option_map (λ (t : List ℕ). take n new) after) (sym sum)
+    (subst (λ (l : List ℕ). after ≡ option_map (λ (t : List ℕ). take (told + count) l) after) (sym same)
+    (told_more before after told share count text piece is within so_far now))
+
+pub room_left : (told share count : ℕ) (text piece : List ℕ) → piece ≡ take share (drop told text) → count ≤ length piece
+    → told ≤ length text → told + count ≤ length text
+room_left told share count text piece is within before =
+    omega (arith, within, before, ap length is, length-take share (drop told text), length-drop told text)

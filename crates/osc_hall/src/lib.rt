@@ -1,0 +1,11 @@
+//! The visitors of a page: a bounded number of them, each for a bounded time, and none is waited
+//! for.
+#![tactic(auto)]
+
+mod guest;
+mod hall;
+mod limits;
+mod visit;
+
+pub use hall::Hall;
+pub use limits::{COMERS, GUESTS, PATIENCE};

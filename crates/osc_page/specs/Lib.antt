@@ -1,0 +1,5 @@
+pub mod Added
+pub mod Boards
+pub mod Replies
+pub mod Requests
+pub mod States

@@ -1,0 +1,9 @@
+//! Tests of the page of a show, over public calls.
+#![tactic(auto)]
+
+#[cfg(test)]
+mod board;
+#[cfg(test)]
+mod hall;
+#[cfg(test)]
+mod heads;
