@@ -1,5 +1,6 @@
 //! A show in one recording after another.
-ghost use Rattle.std.specs.Prelude.{◌<◌, IfOk};
+ghost use Rattle.std.specs.Prelude.{◌≡◌, ◌<◌, ◌++◌, ◌∷◌, [], true, map, IfOk, IfSome};
+ghost use Rattle.osc_chain_laws.specs.Openings.{added_in};
 ghost use Rattle.oscstage.specs.Shows.{CanPlay, GoesOnWhole};
 
 use crate::carry::lines_of;
@@ -13,7 +14,7 @@ use osc_lanes::LanePart;
 use osc_links::{Bounds, LinksPart, MAX_LINKS};
 use osc_record::{Caps, MAX_RECORDING};
 use osc_relay::{Relay, UdpOutlet};
-use osc_script::Line;
+use osc_script::{Act, Line};
 use osc_stage::{Ended, Stage, Staged, carried_on, stage_top};
 use std::alloc::{AllocError, Global};
 use std::sync::Wait;
@@ -138,8 +139,8 @@ fn end_of<L: Finish + Drop>(
     })
 }
 
-/// What is played after a part. Where what waits can't be carried on, or links are missing, which
-/// can't be, the show is over.
+/// What is played after a part. Where what waits can't be carried on, or links or relays are
+/// missing, which can't be, the show is over.
 fn next_show<L: Link + Finish + Drop>(
     alloc: Global,
     caps: Caps,
@@ -153,9 +154,12 @@ fn next_show<L: Link + Finish + Drop>(
 {
     let many = staged.links.len();
     let can_play = many <= MAX_LINKS as usize && many + 2 <= caps.callers() as usize;
-    let (true, Some(lines)) = (can_play, carried_lines(alloc, &staged.recording)?) else {
+    let Some(lines) = carried_lines(alloc, &staged.recording)? else {
         return Ok(Part::Over(end_of(alloc, staged, &reel)?));
     };
+    if !can_play || !are_added(&staged.relays, &lines) {
+        return Ok(Part::Over(end_of(alloc, staged, &reel)?));
+    }
     let opening = carried_on(alloc, relays_of(alloc, staged.relays)?, lines)?;
     let links = LinksPart {
         from: staged.links,
@@ -178,6 +182,40 @@ fn carried_lines(alloc: Global, recording: &[u8]) -> Result<Option<Vec<Line>>, A
         Ok(script) => lines_of(alloc, &script),
         Err(CarryFault::NoMemory) => Err(AllocError),
         Err(_) => Ok(None),
+    }
+}
+
+/// Whether the lines add a method for each relay, at its address and in their order. With it
+/// `osc_chain_laws` says that the next part carries this one on.
+fn are_added(relays: &[(u32, Relay<UdpOutlet>)], lines: &[Line]) -> bool
+    ensures { result ≡ true → map (λ one. one.1.address) relays.now ≡ added_in lines.now }
+{
+    let mut rest = relays;
+    for line in lines {
+        match after_line(rest, line) {
+            Some(others) => rest = others,
+            None => return false,
+        }
+    }
+    rest.is_empty()
+}
+
+/// The relays after the one that the line adds, if it adds one; nothing, where it adds a method
+/// elsewhere.
+fn after_line<'a>(
+    relays: &'a [(u32, Relay<UdpOutlet>)],
+    line: &Line,
+) -> Option<&'a [(u32, Relay<UdpOutlet>)]>
+    ensures { IfSome result
+        (λ rest. map (λ one. one.1.address) relays.now
+        ≡ added_in (line.now ∷ []) ++ map (λ one. one.1.address) rest.now) }
+{
+    let Act::Add(address) = &line.act else {
+        return Some(relays);
+    };
+    match relays.split_first() {
+        Some(((_, relay), others)) if relay.address() == address => Some(others),
+        _ => None,
     }
 }
 

@@ -9,11 +9,13 @@ mod bundle;
 mod carry;
 mod chain;
 mod cues;
+mod draw;
 mod follower;
 mod input;
 mod links;
 mod losses;
 mod moment;
+mod page;
 mod parts;
 mod patch;
 mod playback;
@@ -29,14 +31,16 @@ mod words;
 use crate::bank::open_bank;
 use crate::carry::{read_carried, write_script};
 use crate::cues::play_cues;
+use crate::draw::draw_recording;
 use crate::follower::follow;
 use crate::links::Links;
 use crate::moment::print_moment;
+use crate::page::serve_page;
 use crate::parts::{is_size, is_there, least_size};
 use crate::patch::read_patch;
 use crate::recording::show_recordings;
 use crate::report::{
-    report_help, report_routes, report_size, report_there, report_usage, report_zone,
+    report_help, report_routes, report_size, report_there, report_usage, report_wrong,
 };
 use crate::show::{Begin, play};
 use crate::words::{Said, Serving, read_words};
@@ -70,8 +74,10 @@ fn run<W: Threads + Wait + Sync>(rt: &HostRuntime, threads: &W) -> Result<u8, Al
         Said::Moment(word) => print_moment(rt, &word),
         Said::Show(showing) if showing.follow => follow(rt, threads, &showing),
         Said::Show(showing) => show_recordings(rt, &showing),
-        Said::NoZone(word) => {
-            report_zone(rt, &word);
+        Said::Draw(showing) => draw_recording(rt, &showing),
+        Said::Page(paging) => serve_page(rt, threads, &paging),
+        Said::Wrong(taken, word) => {
+            report_wrong(rt, taken, &word);
             Ok(USAGE)
         }
         Said::Serve(serving) => serve(rt, threads, &serving),

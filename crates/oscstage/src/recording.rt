@@ -213,7 +213,7 @@ fn window_for(
 
 /// How far a clock is ahead of UTC in the zone that is said, or in that of the machine at the
 /// recording's first moment.
-fn offset_for(rt: &HostRuntime, showing: &Showing, first: Option<u64>) -> Offset {
+pub(crate) fn offset_for(rt: &HostRuntime, showing: &Showing, first: Option<u64>) -> Offset {
     match showing.zone {
         Zone::At(offset) => offset,
         Zone::Machine => zone_offset(rt, first).unwrap_or(Offset::UTC),

@@ -1,7 +1,7 @@
 //! What is reported on standard error, and the help.
 use crate::bank::{Bank, RouteFault, WrongRoute};
 use crate::parts::{NEVER, size_of};
-use crate::words::Serving;
+use crate::words::{Paging, Serving, Taken};
 use jiff_core::Offset;
 use osc_carry::CarryFault;
 use osc_cues::WrongLine;
@@ -19,7 +19,8 @@ const MESSAGE_SIZE: u32 = 172;
 const HOUR_SIZE: u32 = 172_800;
 
 const USAGE: &str = "usage: oscstage serve [OPTIONS] PATCH FILE, play [OPTIONS] PATCH [FILE], \
-    show [OPTIONS] FILE.., carry FILE, or moment WORD; oscstage --help tells more";
+    show [OPTIONS] FILE.., draw [OPTIONS] FILE, \
+    page [OPTIONS] FILE, carry FILE, or moment WORD; oscstage --help tells more";
 
 const HELP: &str = "oscstage serve [OPTIONS] PATCH FILE
 
@@ -64,6 +65,21 @@ can be named, in their order.
   --ticks           lines for the clock's ticks and for new callers, too
   --quiet           show refusals alone
   --follow          show what comes while FILE grows, until Ctrl-C
+
+oscstage draw [OPTIONS] FILE > PICTURE.svg
+
+Writes a picture of the recording in FILE as SVG, which a browser shows: a row
+for each address, its calls and levels by their times, and what waited, was
+discarded or called no method. It takes --zone ZONE and --utc as show does.
+
+oscstage page [OPTIONS] FILE
+
+Serves a page to browsers that shows the recording in FILE while it grows: each
+method with its last call, what waits, and the totals. It runs until Ctrl-C.
+
+  --port N          the page's port, 8080 where nothing is said
+  --address A       this machine's address to serve it at; 0.0.0.0 is for all
+                    who reach the machine, and by default nobody else does
 
 oscstage play [OPTIONS] PATCH [FILE] < SHEET
 
@@ -199,9 +215,33 @@ pub(crate) fn report_moment(rt: &HostRuntime, word: &str) {
     ).ok();
 }
 
-/// Reports that a word is no zone.
-pub(crate) fn report_zone(rt: &HostRuntime, word: &str) {
-    eprintln!(rt; "oscstage: {word} is no zone: write +01:00, -03:30 or Z").ok();
+/// Reports that a word isn't what its option takes.
+pub(crate) fn report_wrong(rt: &HostRuntime, taken: Taken, word: &str) {
+    let words = match taken {
+        Taken::Zone => "is no zone: write +01:00, -03:30 or Z",
+        Taken::Port => "is no port: write a number from 0 to 65535, as 8080",
+        Taken::Address =>
+            "is no IPv4 address: write 127.0.0.1 for this machine alone, or 0.0.0.0 for all that reach it",
+    };
+    eprintln!(rt; "oscstage: {word} {words}").ok();
+}
+
+/// Reports that a page can't be served there.
+pub(crate) fn report_door(rt: &HostRuntime, paging: &Paging) {
+    let (address, port) = (paging.address, paging.port);
+    eprintln!(rt;
+        "oscstage: port {port} of {address} can't be had: another program may have it, or say another --port"
+    ).ok();
+}
+
+/// Reports where a page is served.
+pub(crate) fn report_page(rt: &HostRuntime, paging: &Paging) {
+    let (address, port) = (paging.address, paging.port);
+    eprintln!(rt;
+        "oscstage: http://{address}:{port}/ shows {file}, until Ctrl-C",
+        file = paging.file
+    )
+    .ok();
 }
 
 /// Reports that a word is no time.

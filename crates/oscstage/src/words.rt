@@ -8,6 +8,10 @@ use jiff_fmt::offset::Parser;
 use osc_links::Bounds;
 use osc_words::{Capacities, LiveCommand, live_command_of};
 use std::alloc::{AllocError, Global};
+use std::net::Ipv4Addr;
+
+/// The port of a page where none is said.
+const PAGE_PORT: u16 = 8080;
 
 /// What the words say.
 #[derive(Drop)]
@@ -17,12 +21,30 @@ pub(crate) enum Said {
     /// A script is to be written that carries on the recording in this file.
     Carry(String),
     Show(Showing),
-    /// This word is no zone.
-    NoZone(String),
+    Draw(Showing),
+    Page(Paging),
+    /// This word isn't what its option takes.
+    Wrong(Taken, String),
     Play(Playing),
     /// A moment is to be written as a time tag, or a time tag as a moment.
     Moment(String),
     Serve(Serving),
+}
+
+/// What an option takes.
+#[derive(Clone, Copy)]
+pub(crate) enum Taken {
+    Zone,
+    Port,
+    Address,
+}
+
+/// Which recording a page shows, and where it is served.
+#[derive(Drop)]
+pub(crate) struct Paging {
+    pub(crate) file: String,
+    pub(crate) address: Ipv4Addr,
+    pub(crate) port: u16,
 }
 
 /// In which zone times are.
@@ -118,6 +140,8 @@ pub(crate) fn read_words(alloc: Global, all: Vec<String>) -> Result<Said, AllocE
     };
     match command {
         "show" => showing_of(alloc, all),
+        "draw" => drawing_of(alloc, all),
+        "page" => paging_of(alloc, all),
         "play" => playing_of(alloc, all),
         "moment" => moment_word(alloc, &all),
         "carry" => Ok(match file_name(alloc, &all)? {
@@ -283,9 +307,34 @@ fn showing_of(alloc: Global, words: Vec<String>) -> Result<Said, AllocError> {
         return Ok(Said::Refused);
     }
     match no_zone {
-        Some(word) => Ok(Said::NoZone(word)),
+        Some(word) => Ok(Said::Wrong(Taken::Zone, word)),
         None => Ok(Said::Show(showing)),
     }
+}
+
+/// What is to be drawn, where the words are `draw [--utc | --zone ZONE] FILE`.
+fn drawing_of(alloc: Global, words: Vec<String>) -> Result<Said, AllocError> {
+    Ok(match showing_of(alloc, words)? {
+        Said::Show(showing) => drawn(showing),
+        Said::Wrong(taken, word) => Said::Wrong(taken, word),
+        _refused => Said::Refused,
+    })
+}
+
+/// What is shown is to be drawn, where that can be.
+fn drawn(showing: Showing) -> Said {
+    if is_drawn(&showing) {
+        Said::Draw(showing)
+    } else {
+        Said::Refused
+    }
+}
+
+/// Whether one recording is named, and no option but that of a zone.
+fn is_drawn(showing: &Showing) -> bool {
+    let is_part = showing.from.is_some() || showing.to.is_some();
+    let has_flag = showing.ticks || showing.quiet || showing.follow;
+    showing.files.len() == 1 && !is_part && !has_flag
 }
 
 /// Whether one recording is to be shown as a whole, if it is to be followed.
@@ -352,6 +401,81 @@ fn offset_in(text: &[u8]) -> Option<Offset> {
     match Parser::new().subsecond(false).parse(text) {
         Ok((parsed, [])) => parsed.to_offset().ok(),
         _ => None,
+    }
+}
+
+/// The words of `page` that were read so far.
+#[derive(Drop)]
+struct PageWords {
+    paging: Paging,
+    /// A word that isn't what its option takes.
+    wrong: Option<(Taken, String)>,
+    /// What the next word is, if an option takes it.
+    takes: Option<Taken>,
+    /// How many FILEs were named.
+    files: usize,
+    is_wrong: bool,
+}
+
+/// What is to be served, where the words are `page [--port N] [--address ADDRESS] FILE`.
+fn paging_of(alloc: Global, words: Vec<String>) -> Result<Said, AllocError> {
+    let mut read = PageWords {
+        paging: Paging {
+            file: String::new(alloc),
+            address: Ipv4Addr::LOCALHOST,
+            port: PAGE_PORT,
+        },
+        wrong: None,
+        takes: None,
+        files: 0,
+        is_wrong: false,
+    };
+    for word in words.into_iter().skip(1) {
+        take_page_word(&mut read, word);
+    }
+    let PageWords {
+        paging,
+        wrong,
+        takes,
+        files,
+        is_wrong,
+    } = read;
+    if is_wrong || takes.is_some() || files != 1 {
+        return Ok(Said::Refused);
+    }
+    match wrong {
+        Some((taken, word)) => Ok(Said::Wrong(taken, word)),
+        None => Ok(Said::Page(paging)),
+    }
+}
+
+fn take_page_word(read: &mut PageWords, word: String) {
+    match (read.takes.take(), word.as_str()) {
+        (Some(Taken::Port), _) => set_port(read, word),
+        (Some(_), _) => set_address(read, word),
+        (None, "--port") => read.takes = Some(Taken::Port),
+        (None, "--address") => read.takes = Some(Taken::Address),
+        (None, _) if is_option(&word) => read.is_wrong = true,
+        (None, _) => {
+            read.paging.file = word;
+            read.files = read.files.saturating_add(1);
+        }
+    }
+}
+
+/// Sets the port, or keeps the word where it is none.
+fn set_port(read: &mut PageWords, word: String) {
+    match word.parse::<u16>() {
+        Ok(port) => read.paging.port = port,
+        Err(_) => read.wrong = Some((Taken::Port, word)),
+    }
+}
+
+/// Sets the address, or keeps the word where it is none.
+fn set_address(read: &mut PageWords, word: String) {
+    match Ipv4Addr::parse_ascii(word.as_bytes()) {
+        Ok(address) => read.paging.address = address,
+        Err(_) => read.wrong = Some((Taken::Address, word)),
     }
 }
 

@@ -1,0 +1,114 @@
+//! Serves a page in the browser that shows a recording while it grows.
+use crate::report::{report_door, report_malformed, report_page, report_unread};
+use crate::words::Paging;
+use osc_board::Watcher;
+use osc_door::{TcpDoor, TcpVisitor};
+use osc_edge::{FileSource, Source, Taken};
+use osc_ends::status::{EDGE_FAILED, REFUSED, SOURCE_FAILED};
+use osc_hall::Hall;
+use osc_page::{PAGE, state_text};
+use osc_story::{Progress, TakeFault};
+use std::alloc::{AllocError, Global};
+use std::sync::Wait;
+use std::thread;
+use std::time::Duration;
+
+/// How long a round lasts, in milliseconds, and how many there are from one look at the recording
+/// to the next.
+const ROUND: u64 = 10;
+
+const ROUNDS: u32 = 10;
+
+/// How many bytes are read at once, and how often in a look.
+const PIECE: usize = 65_536;
+
+const PIECES: u32 = 64;
+
+/// What a look at the recording finds.
+#[derive(Clone, Copy)]
+enum Look {
+    /// It goes on.
+    GoesOn,
+    /// It can't be read.
+    Unread,
+    /// It is none of a server.
+    Malformed,
+}
+
+/// Serves the page until the program is stopped.
+pub(crate) fn serve_page<W: Wait>(
+    rt: &HostRuntime,
+    threads: &W,
+    paging: &Paging,
+) -> Result<u8, AllocError> {
+    let Ok(mut door) = TcpDoor::at(rt, paging.address, paging.port) else {
+        report_door(rt, paging);
+        return Ok(EDGE_FAILED);
+    };
+    let mut hall = Hall::open(rt.alloc())?;
+    let mut source = FileSource::at(rt, String::from_str(rt.alloc(), &paging.file)?);
+    let mut watcher = Watcher::open(rt.alloc());
+    let mut is_told = false;
+    for _ in threads.forever() {
+        match read_on(&mut source, &mut watcher, rt.alloc())? {
+            Look::GoesOn => {}
+            Look::Unread => {
+                report_unread(rt, &paging.file);
+                return Ok(SOURCE_FAILED);
+            }
+            Look::Malformed => {
+                report_malformed(rt, &paging.file);
+                return Ok(REFUSED);
+            }
+        }
+        if !is_told {
+            report_page(rt, paging);
+            is_told = true;
+        }
+        let state = state_of(rt.alloc(), &watcher)?;
+        play_rounds(rt, &mut hall, &mut door, &state);
+    }
+    unreachable!()
+}
+
+/// Reads what has come, and sees what of it is whole.
+fn read_on(
+    source: &mut FileSource,
+    watcher: &mut Watcher,
+    alloc: Global,
+) -> Result<Look, AllocError> {
+    let mut piece = vec![in alloc; 0; PIECE]?;
+    for _ in 0..PIECES {
+        let count = match source.read(&mut piece) {
+            Taken::Bytes(0) => break,
+            Taken::Bytes(count) => count.min(PIECE),
+            Taken::Failed => return Ok(Look::Unread),
+        };
+        match watcher.take(&piece[..count]) {
+            Ok(()) => {}
+            Err(TakeFault::NoMemory) => return Err(AllocError),
+            Err(TakeFault::TooLong) => return Ok(Look::Malformed),
+        }
+    }
+    match watcher.follow() {
+        Progress::NoHeader | Progress::CaughtUp => Ok(Look::GoesOn),
+        Progress::NoMemory => Err(AllocError),
+        Progress::Malformed | Progress::TooLong | Progress::Disagrees { .. } => Ok(Look::Malformed),
+    }
+}
+
+/// What a browser is told of the show. Before the header is whole that is nothing.
+fn state_of(alloc: Global, watcher: &Watcher) -> Result<Vec<u8>, AllocError> {
+    match watcher.board()? {
+        Some(board) => state_text(alloc, &board),
+        None => Ok(Vec::new(alloc)),
+    }
+}
+
+/// Hears and answers browsers for as long as it is to the next look.
+fn play_rounds(rt: &HostRuntime, hall: &mut Hall<TcpVisitor>, door: &mut TcpDoor, state: &[u8]) {
+    for _ in 0..ROUNDS {
+        hall.round(door, PAGE.as_bytes(), state);
+        thread::sleep(rt, Duration::from_millis(ROUND));
+    }
+}
