@@ -27,8 +27,10 @@ const PIECES: u32 = 64;
 /// What a look at the recording finds.
 #[derive(Clone, Copy)]
 enum Look {
-    /// It goes on.
+    /// Something has come.
     GoesOn,
+    /// Nothing has.
+    Stands,
     /// It can't be read.
     Unread,
     /// It is none of a server.
@@ -48,10 +50,13 @@ pub(crate) fn serve_page<W: Wait>(
     let mut hall = Hall::open(rt.alloc())?;
     let mut source = FileSource::at(rt, String::from_str(rt.alloc(), &paging.file)?);
     let mut watcher = Watcher::open(rt.alloc());
+    let mut piece = vec![in rt.alloc(); 0; PIECE]?;
+    let mut state = Vec::new(rt.alloc());
     let mut is_told = false;
     for _ in threads.forever() {
-        match read_on(&mut source, &mut watcher, rt.alloc())? {
-            Look::GoesOn => {}
+        match read_on(&mut source, &mut watcher, &mut piece)? {
+            Look::GoesOn => state = state_of(rt.alloc(), &watcher)?,
+            Look::Stands => {}
             Look::Unread => {
                 report_unread(rt, &paging.file);
                 return Ok(SOURCE_FAILED);
@@ -65,7 +70,6 @@ pub(crate) fn serve_page<W: Wait>(
             report_page(rt, paging);
             is_told = true;
         }
-        let state = state_of(rt.alloc(), &watcher)?;
         play_rounds(rt, &mut hall, &mut door, &state);
     }
     unreachable!()
@@ -75,23 +79,23 @@ pub(crate) fn serve_page<W: Wait>(
 fn read_on(
     source: &mut FileSource,
     watcher: &mut Watcher,
-    alloc: Global,
+    piece: &mut [u8],
 ) -> Result<Look, AllocError> {
-    let mut piece = vec![in alloc; 0; PIECE]?;
+    let mut found = Look::Stands;
     for _ in 0..PIECES {
-        let count = match source.read(&mut piece) {
+        let count = match source.read(piece) {
             Taken::Bytes(0) => break,
-            Taken::Bytes(count) => count.min(PIECE),
+            Taken::Bytes(count) => count.min(piece.len()),
             Taken::Failed => return Ok(Look::Unread),
         };
         match watcher.take(&piece[..count]) {
-            Ok(()) => {}
+            Ok(()) => found = Look::GoesOn,
             Err(TakeFault::NoMemory) => return Err(AllocError),
             Err(TakeFault::TooLong) => return Ok(Look::Malformed),
         }
     }
     match watcher.follow() {
-        Progress::NoHeader | Progress::CaughtUp => Ok(Look::GoesOn),
+        Progress::NoHeader | Progress::CaughtUp => Ok(found),
         Progress::NoMemory => Err(AllocError),
         Progress::Malformed | Progress::TooLong | Progress::Disagrees { .. } => Ok(Look::Malformed),
     }
