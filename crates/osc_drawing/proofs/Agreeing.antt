@@ -1,5 +1,5 @@
 -- Entries that all agree.
-use Rattle.std.proofs.Common.{◌≡◌, ℕ, List, [], ◌∷◌, refl, ap, ◌∙◌, Option, None}
+use Rattle.std.proofs.Common.{◌≡◌, List, [], ◌∷◌, refl, ap, ◌∙◌, Option, None}
 use Rattle.osc_record.specs.declared.event.Entry.{Entry as Read}
 use Rattle.osc_story.specs.declared.disagreement.Disagreement.{Disagreement}
 use Rattle.osc_story.specs.Standings.{Standing, seen, AgreesAll}

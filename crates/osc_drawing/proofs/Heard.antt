@@ -9,7 +9,7 @@ use Rattle.osc_packet.specs.Reading.{is_packet, units_read}
 use Rattle.osc_packet.specs.Units.{TimedUnit}
 use Rattle.osc_pattern.specs.Methods.{Method}
 use Rattle.osc_queue.specs.Timed.{Item}
-use Rattle.osc_model.specs.Events.{Event, enrol, submit, add, remove, tick, release, Answer, queued, units_full, pool_full, removed, released, Call, Invocation, Entry}
+use Rattle.osc_model.specs.Events.{Event, enrol, submit, add, remove, tick, release, Answer, queued, units_full, pool_full, removed, released, Call, Entry}
 use Rattle.osc_model.specs.Recordings.{FitsRow, row_of, IsRecordable}
 use Rattle.osc_model.specs.Step.{is_kept, invocations_of}
 use Rattle.osc_story.specs.Standings.{Standing, Handed, seen, calls_told, first_messages, called, all_called}
@@ -24,7 +24,7 @@ use Rattle.osc_drawing.specs.declared.mark.Owner.TheVariants as owner
 use Rattle.osc_drawing.specs.declared.mark.Stamp.{Stamp}
 use Rattle.osc_drawing.specs.Calls.{call_in, calls_in, shown_call}
 use Rattle.osc_drawing.specs.Carried.{nothing, carried_of}
-use Rattle.osc_drawing.specs.Endings.{waiting_draft, waiting_marks, standing_draft, standing_marks}
+use Rattle.osc_drawing.specs.Endings.{waiting_draft, waiting_marks, standing_marks}
 use Rattle.osc_drawing.specs.Gatherings.{Gathered, drafted, next_stamp, with_crosses, with_queued, all_queued, all_refused, with_units, with_packet, with_event, released_marks}
 use Rattle.osc_drawing.specs.Marks.{mark_of, meets, met_marks, pattern_marks, or_else, target_marks, all_targets, call_marks, is_heard, unheard_marks, arrival_of}
 use Rattle.osc_drawing.specs.Rows.{is_call}

@@ -20,8 +20,8 @@ use Rattle.osc_drawing.specs.declared.mark.Stamp.{Stamp}
 use Rattle.osc_drawing.specs.Marks.{mark_of, all_targets, call_marks, unheard_marks, arrival_of}
 use Rattle.osc_drawing.specs.Marks.{without}
 
--- The marks so far, when the units came that wait, when the methods came that are there, and how many
--- units were called, discarded or refused.
+-- The marks so far, when the units came that wait, when the methods came that are there, and how
+-- many units were called, discarded or refused.
 pub record Gathered : Type 0 where
   pub marks : List Mark
   pub units : List Arrival

@@ -119,7 +119,8 @@ never_note never =
 
 abbrev pub notes_of : List Mark → Option ℕ → List (List ℕ)
 notes_of marks cut =
-    cut_note cut ++ left_out_note (left_out (all_rows marks) (all_unheard marks)) ++ never_note (all_never marks)
+    cut_note cut ++ left_out_note (left_out (all_rows marks) (all_unheard marks))
+    ++ never_note (all_never marks)
 
 -- the day and the zone, and from when to when it goes
 pub record IsTitle (clock : WallClock) (first last : ℕ) (title : List ℕ) : Type 0 where

@@ -87,7 +87,8 @@ unheard_marks draft calls index (message ∷ messages) =
 
 -- when what has a number came, where that is kept
 abbrev pub arrival_of : ℕ → List Arrival → Option Stamp
-arrival_of number arrivals = option_map (λ arrival. arrival.at) (find (λ arrival. arrival.number == number) arrivals)
+arrival_of number arrivals =
+    option_map (λ arrival. arrival.at) (find (λ arrival. arrival.number == number) arrivals)
 
 abbrev pub without : ℕ → List Arrival → List Arrival
 without number arrivals = filter (λ arrival. not (arrival.number == number)) arrivals

@@ -37,8 +37,8 @@ moment_ahead clock (entry ∷ entries) =
     if is_moment entry.event then clock_at clock entry.event entry.answer
     else moment_ahead clock entries
 
--- The moment of the entries after one: the same, or that of the next tick or release after a tick or
--- a release.
+-- The moment of the entries after one: the same, or that of the next tick or release after a tick
+-- or a release.
 abbrev pub next_moment : ℕ → ℕ → Event → List Entry → ℕ
 next_moment clock moment event entries =
     if is_moment event then moment_ahead clock entries else moment

@@ -18,8 +18,8 @@ pub struct Heading {
     pub notes: Vec<Bytes>,
 }
 
-/// The words above the whole picture of a sketch, of a recording that is cut off at a place or isn't,
-/// by a clock on the wall. An `Err` means out of memory.
+/// The words above the whole picture of a sketch, of a recording that is cut off at a place or
+/// isn't, by a clock on the wall. An `Err` means out of memory.
 pub fn heading_of(
     alloc: Global,
     clock: WallClock,

@@ -1,5 +1,5 @@
-//! Reads a recording, and gathers what a picture of it shows: the rows of addresses with their calls,
-//! what waited, was discarded or refused, and what called nothing.
+//! Reads a recording, and gathers what a picture of it shows: the rows of addresses with their
+//! calls, what waited, was discarded or refused, and what called nothing.
 #![tactic(auto)]
 
 mod address;

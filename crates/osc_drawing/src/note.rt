@@ -10,7 +10,8 @@ use osc_atoms::Bytes;
 use osc_shown::number_words;
 use std::alloc::{AllocError, Global};
 
-/// Where the recording is cut off, how many addresses have no row, and the methods that weren't called.
+/// Where the recording is cut off, how many addresses have no row, and the methods that weren't
+/// called.
 pub(crate) fn notes_of(
     alloc: Global,
     marks: &[Mark],
@@ -142,7 +143,7 @@ fn add_after_comma(out: &mut Vec<u8>, address: &Bytes) -> Result<(), AllocError>
     out.extend_from_slice(address.as_slice())
 }
 
-/// Adds how many there are besides the four that are listed.
+/// Adds how many there are after the first four.
 fn add_others(out: &mut Vec<u8>, count: usize) -> Result<(), AllocError>
     ensures { OnOk result (out.new.items ≡ out.old.items ++ spec.others_words count) }
 {

@@ -5,7 +5,8 @@ ghost use Rattle.osc_drawing.specs.Readings.{HasReadAll};
 use osc_record::{Entry, Unread};
 use std::alloc::{AllocError, Global};
 
-/// Reads the entries of a recording that are left, up to where no whole entry begins, which is told.
+/// Reads the entries of a recording that are left, up to where no whole entry begins: that place is
+/// told.
 /// An `Err` means out of memory.
 pub fn entries_of<'a>(
     alloc: Global,

@@ -152,8 +152,8 @@ impl Sketch {
         self.end().saturating_sub(self.begin()) < 2
     }
 
-    /// From when to when the whole picture goes, for a clock on the wall that is so many milliseconds
-    /// ahead.
+    /// From when to when the whole picture goes, for a clock on the wall that is so many
+    /// milliseconds ahead.
     pub fn frame(&self, ahead: u64) -> Frame
         ensures { result ≡ picture.frame_of self.now ahead }
     {
@@ -175,8 +175,8 @@ impl Sketch {
         }
     }
 
-    /// The same from one moment to another, where they are given. Calls that stand in their order all
-    /// stay.
+    /// The same from one moment to another, where they are given. Calls that stand in their order
+    /// all stay.
     pub fn part(&self, ahead: u64, from: Option<u64>, to: Option<u64>) -> Frame
         ensures { result ≡ picture.part_of (picture.frame_of self.now ahead) from to }
     {

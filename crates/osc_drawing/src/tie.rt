@@ -9,8 +9,8 @@ use osc_atoms::Bytes;
 use osc_picture::Bundle;
 use std::alloc::{AllocError, Global};
 
-/// The rows of a unit so far: which it is, when, whether there is none, one or more, and the places of
-/// the highest and the lowest.
+/// The rows of a unit so far: which it is, when, whether there is none, one or more, and the places
+/// of the highest and the lowest.
 #[derive(Clone, Copy)]
 pub(crate) struct Tie {
     pub(crate) order: u64,

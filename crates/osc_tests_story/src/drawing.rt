@@ -1,5 +1,5 @@
-// The picture of a recording, against that of a reader in Python that shares no code with the crates,
-// but for the title, in which the zone stands after the date.
+// The picture of a recording, against that of a reader in Python that shares no code with the
+// crates, but for the title, in which the zone stands after the date.
 use crate::report::RECORDING;
 use jiff_core::Offset;
 use osc_drawing::{Sketch, entries_of, heading_of, picture_of};
