@@ -6,6 +6,7 @@
 #     bench/run.sh datagrams [..]           datagrams over loopback, or with --tcp a stream: datagrams.sh
 #     bench/run.sh watch                    a watcher beside lanes: watch.sh
 #     bench/run.sh library [..]             a message through the library for C, next to liblo: library.sh
+#     bench/run.sh patterns [COUNT]         a message by its pattern, next to liblo: patterns.sh
 #
 # It needs cc, liblo-dev, valgrind and time, and what bin/osc needs.
 set -eu
@@ -17,6 +18,10 @@ fi
 if [ "${1:-}" = library ]; then
     shift
     exec "$(dirname "$0")/library.sh" "$@"
+fi
+if [ "${1:-}" = patterns ]; then
+    shift
+    exec "$(dirname "$0")/patterns.sh" "$@"
 fi
 table=lengths
 if [ "${1:-}" = methods ]; then
