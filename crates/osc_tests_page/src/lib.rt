@@ -7,3 +7,5 @@ mod board;
 mod hall;
 #[cfg(test)]
 mod heads;
+#[cfg(test)]
+mod spy;

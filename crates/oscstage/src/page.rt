@@ -6,7 +6,7 @@ use osc_door::{TcpDoor, TcpVisitor};
 use osc_edge::{FileSource, Source, Taken};
 use osc_ends::status::{EDGE_FAILED, REFUSED, SOURCE_FAILED};
 use osc_hall::Hall;
-use osc_page::{PAGE, state_text};
+use osc_page::{NO_STATE, PAGE, state_text};
 use osc_story::{Progress, TakeFault};
 use std::alloc::{AllocError, Global};
 use std::sync::Wait;
@@ -101,11 +101,11 @@ fn read_on(
     }
 }
 
-/// What a browser is told of the show. Before the header is whole that is nothing.
+/// What a browser is told of the show.
 fn state_of(alloc: Global, watcher: &Watcher) -> Result<Vec<u8>, AllocError> {
     match watcher.board()? {
         Some(board) => state_text(alloc, &board),
-        None => Ok(Vec::new(alloc)),
+        None => Vec::from_slice(alloc, NO_STATE),
     }
 }
 
