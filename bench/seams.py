@@ -3,8 +3,10 @@
 
     python3 bench/seams.py [COUNT [RATE [BYTES]]]
 
-Sends COUNT datagrams (20,000), so many a second (1,000), to `oscstage serve --turn-over BYTES` (600,000); each tenth is a bundle for 0.3
-seconds later. Then it replays all recordings, and compares their calls with what was sent. It needs what bin/oscstage and bin/osc need.
+Sends COUNT datagrams (20,000), so many a second (1,000), to a hundred methods of `oscstage serve --turn-over BYTES` (600,000); each tenth
+is a bundle for a second later, so that a hundred wait. Then it replays all recordings, and compares their calls with what was sent. Of
+each seam it tells the latest of what came within a fifth of a second of it, which is how long nobody was served. It needs what
+bin/oscstage and bin/osc need.
 """
 import os
 import socket
@@ -17,8 +19,9 @@ import time
 
 TOP = os.path.join(os.path.dirname(os.path.abspath(__file__)), "..")
 PORT = 9300
-METHODS = 8
-AHEAD = 0.3
+METHODS = 100
+AHEAD = 1.0
+NEAR = 0.2
 SECONDS_TO_1970 = 2208988800
 
 
@@ -57,6 +60,15 @@ def send(count, rate):
     return wanted
 
 
+def watch(folder, parts, ends):
+    """When each recording but the first is there."""
+    while not ends.is_set():
+        for name in os.listdir(folder):
+            if name.startswith("show.rec.") and name not in parts:
+                parts[name] = time.time()
+        time.sleep(0.001)
+
+
 def calls(name):
     """The numbers that the recording's calls have."""
     with open(name) as recording:
@@ -74,16 +86,20 @@ def main():
         patch, file = f"{folder}/patch.osc", f"{folder}/show.rec"
         with open(patch, "w") as out:
             out.writelines(f"add /light/{k} 127.0.0.1 {receiver.getsockname()[1]}\n" for k in range(METHODS))
-        words = ["serve", "--port", str(PORT), "--units", "256", "--blocks", "1024", "--methods", "64", "--turn-over", str(size), "--quiet"]
+        words = ["serve", "--port", str(PORT), "--units", "256", "--blocks", "1024", "--methods", "128", "--nodes", "512", "--turn-over", str(size), "--quiet"]
         show = subprocess.Popen([f"{TOP}/bin/oscstage", *words, patch, file], stdin=subprocess.PIPE)
         time.sleep(2)
-        got = []
+        got, begun, ends = [], {}, threading.Event()
         thread = threading.Thread(target=receive, args=(receiver, got))
         thread.start()
+        watcher = threading.Thread(target=watch, args=(folder, begun, ends))
+        watcher.start()
         wanted = send(count, rate)
         time.sleep(AHEAD + 1)
         show.communicate(b"end\n")
         thread.join()
+        ends.set()
+        watcher.join()
         parts = sorted((name for name in os.listdir(folder) if name.startswith("show.rec")), key=lambda name: (len(name), name))
         recorded = [n for part in parts for n in calls(f"{folder}/{part}")]
     late = sorted(1000 * (when - wanted[n]) for n, when in got)
@@ -92,6 +108,8 @@ def main():
     print(f"sent {count}, sent on {len(got)}, of which different {len({n for n, _ in got})}")
     print(f"recorded calls {len(recorded)}, each once: {sorted(recorded) == list(range(count))}")
     print("messages in order:", [n for n in recorded if n % 10 != 9] == [n for n in range(count) if n % 10 != 9])
+    seams = sorted(max([0.0] + [1000 * (when - wanted[n]) for n, when in got if abs(when - seam) < NEAR]) for seam in begun.values())
+    print(f"seams, ms: {' '.join(f'{seam:.1f}' for seam in seams)}")
     print(f"late by ms: median {at(0.5):.2f}, 99th {at(0.99):.2f}, 99.9th {at(0.999):.2f}, most {late[-1]:.2f}")
 
 
