@@ -143,7 +143,7 @@ fn time_in<'a>(offset: Offset, least: u64, span: u64, word: &'a str) -> Result<u
         return Err(word);
     };
     let tag = ((moment + HALF) / UNIT) as u64;
-    if (tag >> 32) + span <= least >> 32 && !word.contains('T') {
+    if (tag >> 32).saturating_add(span) <= least >> 32 && !word.contains('T') {
         Ok(tag.saturating_add(DAY))
     } else {
         Ok(tag)
