@@ -29,5 +29,7 @@ pub mod Spelled
 pub mod Beginnings
 pub mod Onward
 pub mod Choices
+pub mod Chosen
+mod Gathered
 pub mod Advances
 mod Bounds

@@ -18,7 +18,7 @@ pub empty_part : (x : ℕ) (name : List ℕ) → match_part [] (x ∷ name) ≡ 
 unfolding read_part
 empty_part x name = refl
 
-first_plain : (byte : ℕ) (rest : List ℕ) → is_special byte ≡ false → is_slash byte ≡ false → first_item (byte ∷ rest) ≡ Some (plain byte, rest)
+pub first_plain : (byte : ℕ) (rest : List ℕ) → is_special byte ≡ false → is_slash byte ≡ false → first_item (byte ∷ rest) ≡ Some (plain byte, rest)
 first_plain byte rest special slash =
     go (byte == 63) (byte == 42) (byte == 91) (byte == 123) (is_slash byte) (Some (any, rest)) (Some (star, rest))
     (option_map (λ cut. (set cut.0, cut.1)) (cut_at is_list_end rest)) (option_map (λ cut. (choice cut.0, cut.1)) (cut_at is_choice_end rest)) special slash

@@ -105,7 +105,7 @@ searched_down text methods low high middle d up so above below e =
     }
 
 -- what is before a text is before it with a tail
-lower_longer : (address text tail : List ℕ) → lower address text ≡ true → lower address (text ++ tail) ≡ true
+pub lower_longer : (address text tail : List ℕ) → lower address text ≡ true → lower address (text ++ tail) ≡ true
 lower_longer [] [] tail e = absurd (cc)
 lower_longer [] (y ∷ text) tail e = refl
 lower_longer (x ∷ address) [] tail e = absurd (cc)

@@ -19,7 +19,7 @@ filter_none test [] all = refl
 filter_none test (x ∷ xs) all = rw (All-head (λ x. test x ≡ false) x xs all) (filter_none test xs (All-tail (λ x. test x ≡ false) x xs all))
 
 -- where at most one passes a test, those that pass are the first that does
-filter_one : {X : Type 0} (test : X → Bool) (xs : List X) → AllPairs (λ a b. test a ≡ true → test b ≡ false) xs → filter test xs ≡ option_to_list (find test xs)
+pub filter_one : {X : Type 0} (test : X → Bool) (xs : List X) → AllPairs (λ a b. test a ≡ true → test b ≡ false) xs → filter test xs ≡ option_to_list (find test xs)
 filter_one test [] alone = refl
 filter_one test (x ∷ xs) alone = go (test x) refl (filter_one test xs (λ i j d lt within. alone (suc i) (suc j) d (omega arith) (omega arith))) where
   go : (t : Bool) → test x ≡ t → filter test xs ≡ option_to_list (find test xs)
@@ -27,7 +27,7 @@ filter_one test (x ∷ xs) alone = go (test x) refl (filter_one test xs (λ i j 
   go true is more = ap (λ l. x ∷ l) (filter_none test xs (λ k d below. alone 0 (suc k) d (omega arith) (omega arith) is))
   go false is more = more
 
-filter_alike : {X : Type 0} (p q : X → Bool) (xs : List X) → All (λ x. p x ≡ q x) xs → filter p xs ≡ filter q xs
+pub filter_alike : {X : Type 0} (p q : X → Bool) (xs : List X) → All (λ x. p x ≡ q x) xs → filter p xs ≡ filter q xs
 filter_alike p q [] all = refl
 filter_alike p q (x ∷ xs) all =
     go (q x) (All-head (λ x. p x ≡ q x) x xs all) (filter_alike p q xs (All-tail (λ x. p x ≡ q x) x xs all)) where

@@ -7,3 +7,4 @@ pub mod Views
 pub mod Walking
 -- Inside the crate.
 pub mod Order
+pub mod Choosing

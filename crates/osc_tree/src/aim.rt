@@ -93,7 +93,7 @@ fn byte_behind(behind: &[u8]) -> u8
 }
 
 /// The texts of a choice, and what follows it.
-fn cut_choice(bytes: &[u8]) -> Option<(&[u8], &[u8])>
+pub(crate) fn cut_choice(bytes: &[u8]) -> Option<(&[u8], &[u8])>
     ensures { option_map (λ parts. (parts.0.now, parts.1.now)) result
         ≡ cut_at is_choice_end bytes.now }
 {
@@ -108,7 +108,7 @@ fn first_brace(bytes: &[u8]) -> Option<usize>
 }
 
 /// The first text of a choice, and those after it if there are any.
-fn first_text(texts: &[u8]) -> (&[u8], Option<&[u8]>)
+pub(crate) fn first_text(texts: &[u8]) -> (&[u8], Option<&[u8]>)
     ensures texts { MatchOption result.1
         (slice_split is_comma texts.now ≡ result.0.now ∷ [])
         (λ rest. slice_split is_comma texts.now

@@ -4,6 +4,7 @@
 
 mod admission;
 mod aim;
+mod choice;
 mod guesses;
 mod hits;
 pub mod laws;

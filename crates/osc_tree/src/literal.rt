@@ -9,7 +9,7 @@ pub(crate) fn first_special(pattern: &[u8]) -> Option<usize>
     pattern.iter().position(|byte| is_special(*byte))
 }
 
-fn is_special(byte: u8) -> bool
+pub(crate) fn is_special(byte: u8) -> bool
     ensures { result ≡ is_special byte }
 {
     byte == b'?' || byte == b'*' || byte == b'[' || byte == b'{'

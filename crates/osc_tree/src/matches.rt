@@ -2,7 +2,7 @@
 ghost use Rattle.osc_pattern.specs.declared.limits.TheConstants.{MAX_NAME, MAX_NAMES};
 ghost use Rattle.std.specs.Prelude.{◌≡◌, ◌≤◌, ◌<◌, ◌+◌, ◌*◌, ◌++◌, ◌∷◌, ◌==◌, ◌&&◌, [], not, nat_le};
 ghost use Rattle.std.specs.Prelude.{nat_lt, if◌then◌else◌, true, None, length, take, drop, filter};
-ghost use Rattle.std.specs.Prelude.{map, position, get_or, All, vec_len, vec_capacity, MatchBool, IfSome, false};
+ghost use Rattle.std.specs.Prelude.{map, position, get_or, All, vec_len, vec_capacity, MatchBool, IfSome, Some, false};
 ghost use Rattle.std.specs.List.{list_any, slice_split, position_or_len};
 ghost use Rattle.std.specs.List.Sorted.{IsPartitionedBy};
 ghost use Rattle.osc_pattern.specs.Items.{is_slash};
@@ -17,6 +17,7 @@ ghost use Rattle.osc_tree.specs.Walking.{most_steps, shared, agreeing, spent, kn
 ghost use Rattle.osc_tree.specs.Walking.{IsWalked, IsSorted, IsFront, IsOnward, AreParts};
 
 use crate::aim::find_aim;
+use crate::choice::{add_chosen, find_choice};
 use crate::guesses::Guesses;
 use crate::literal::first_special;
 use crate::lookup::{guessed_id, id_at};
@@ -64,7 +65,7 @@ pub(crate) fn find_ids<L: Ledger>(
     if add_guessed(methods, guesses, pattern, ids) {
         return;
     }
-    look_up(methods, places, pattern, ids, steps);
+    look_up(methods, places, guesses, pattern, ids, steps);
 }
 
 /// The same, where the method isn't where it is guessed to be.
@@ -72,6 +73,7 @@ pub(crate) fn find_ids<L: Ledger>(
 fn look_up<L: Ledger>(
     methods: &[Registered],
     places: &[u32],
+    guesses: &Guesses,
     pattern: &Pattern<'_>,
     ids: &mut Vec<u32>,
     steps: &mut Steps<L>,
@@ -89,6 +91,9 @@ fn look_up<L: Ledger>(
     let text = pattern.bytes();
     match first_special(text) {
         Some(end) => {
+            if add_choice(methods, places, guesses, pattern, end, ids) {
+                return;
+            }
             let parts = pattern.parts();
             if parts as usize > MAX_NAMES {
                 return;
@@ -99,6 +104,34 @@ fn look_up<L: Ledger>(
         }
         None => add_spelled(methods, places, pattern, ids),
     }
+}
+
+/// Adds the ids of the methods that a pattern matches which is plain but for one choice of plain texts, and answers whether
+/// it is. Each text makes one address.
+fn add_choice(
+    methods: &[Registered],
+    places: &[u32],
+    guesses: &Guesses,
+    pattern: &Pattern<'_>,
+    end: usize,
+    ids: &mut Vec<u32>,
+) -> bool
+    requires list { IsMethodList (methods_of methods.now) }
+    requires order { IsOrder methods.now places.now }
+    requires special { position is_special pattern.now ≡ Some end }
+    requires empty { ids.old.items ≡ [] }
+    requires room { length places.now ≤ vec_capacity ids.old }
+    ensures ids { MatchBool result
+        (ids.new.items ≡ matching_ids pattern.now (methods_of methods.now))
+        (ids.new.items ≡ []) }
+    ensures len { vec_len ids.new ≤ length places.now }
+    ensures capacity { vec_capacity ids.old ≤ vec_capacity ids.new }
+{
+    let Some(choice) = find_choice(pattern.bytes(), end) else {
+        return false;
+    };
+    add_chosen(methods, places, guesses, &choice, ids);
+    true
 }
 
 /// Adds the id of the method whose address the pattern spells, where it stands where it is guessed to, and answers

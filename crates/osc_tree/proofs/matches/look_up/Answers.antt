@@ -1,4 +1,4 @@
-use Rattle.std.proofs.Common.{◌≡◌, true, filter, map, take, drop, ◌-◌, ap, sym, subst, ◌∙◌, arith}
+use Rattle.std.proofs.Common.{◌≡◌, true, [], rules, filter, map, take, drop, ◌-◌, ap, sym, subst, ◌∙◌, arith}
 use Rattle.std.specs.List.{before_first}
 use Rattle.osc_pattern.specs.Methods.{Method}
 use Rattle.osc_pattern.specs.Patterns.{begins_with_slash, is_special, matches}
@@ -35,7 +35,8 @@ returns-else-parts-gt-MAX_NAMES-clause-bounded g c =
 
 pub returns-then-parts-gt-MAX_NAMES-clause-ids : goal.returns-then-parts-gt-MAX_NAMES-clause-ids
 returns-then-parts-gt-MAX_NAMES-clause-ids g c =
-    c.requires.empty ∙ sym (no_ids c.args.pattern.now (methods_of c.args.methods.now) c.requires.list (omega (arith, c.parts-parts.ensures.parts)))
+    let empty : c.add_choice.new.ids.items ≡ [] = search rules in
+    empty ∙ sym (no_ids c.args.pattern.now (methods_of c.args.methods.now) c.requires.list (omega (arith, c.parts-parts.ensures.parts)))
 
 pub walk-requires-clause-front : goal.walk-requires-clause-front
 walk-requires-clause-front g c =
