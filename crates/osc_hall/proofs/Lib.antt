@@ -1,1 +1,5 @@
+pub mod HeardTurns
+pub mod SeenAll
+pub mod SeenOnce
+pub mod ServedTurns
 pub mod ToldFronts

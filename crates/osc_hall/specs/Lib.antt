@@ -1,1 +1,4 @@
+pub mod Rounds
+pub mod Served
+pub mod Turns
 pub mod Visits

@@ -1,32 +1,46 @@
 // A visitor that is there.
-ghost use Rattle.std.specs.Prelude.{◌≡◌, ◌+◌, ◌≤◌, IsTrue, Some, None, option_map};
-ghost use Rattle.osc_door.specs.Visitors.{IsFresh};
+ghost use Rattle.std.specs.Prelude.{◌≡◌, None, true, nat_lt};
 ghost use Rattle.osc_hall.specs.declared.limits.TheConstants.{PATIENCE};
-ghost use Rattle.osc_hall.specs.Visits.{IsToldSoFar};
+ghost use Rattle.osc_hall.specs.Visits.{text_of};
+ghost use Rattle.osc_hall.specs.Turns.{just_come, longer, SeesSo, IsSeen};
+ghost use Rattle.osc_hall.specs.Turns.{Hears, IsHeard, Tells, IsTold};
 
 use crate::limits::{PATIENCE, PIECE};
 use crate::visit::Visit;
 use osc_door::{Said, Took, Visitor};
 use std::alloc::Global;
+use std::marker::Model;
 
 /// A visitor that is there, what was heard of it and what it has been told.
 #[derive(Drop)]
 pub(crate) struct Guest<V: Visitor> {
-    pub(crate) visitor: V,
-    pub(crate) visit: Visit,
+    visitor: V,
+    visit: Visit,
     /// For how many rounds it has been there.
-    pub(crate) rounds: u32,
-    ghost patience: { rounds ≤ PATIENCE },
-    ghost told: { IsToldSoFar (V.taken visitor) visit.told
-        (option_map (λ text. text.items) visit.answer) },
+    rounds: u32,
+}
+
+impl<V: Visitor> Model for Guest<V> {
+    ghost use Rattle.std.specs.Prelude.{option_map};
+    ghost use Rattle.osc_hall.specs.Turns.{Seen, seen_code};
+
+    ghost Value = { Seen V };
+
+    ghost coded = { seen_code V.code };
+
+    ghost view = { λ g. record {
+      visitor = g.visitor;
+      heard = g.visit.heard.items;
+      answer = option_map (λ text. text.items) g.visit.answer;
+      told = g.visit.told;
+      rounds = g.rounds;
+    } };
 }
 
 impl<V: Visitor> Guest<V> {
     /// A visitor that has just come.
     pub(crate) fn open(alloc: Global, visitor: V) -> Guest<V>
-        requires { IsFresh (V.taken visitor) }
-        ensures visitor { result.visitor ≡ visitor }
-        ensures rounds { result.rounds ≡ 0 }
+        ensures { result ≡ just_come visitor }
     {
         Guest {
             visitor,
@@ -37,22 +51,47 @@ impl<V: Visitor> Guest<V> {
 
     /// Hears or tells the visitor once. Answers whether it stays.
     pub(crate) fn stays(&mut self, alloc: Global, page: &[u8], state: &[u8]) -> bool
-        ensures { IsTrue result → self.new.rounds ≡ self.old.rounds + 1 }
+        ensures { SeesSo V.left V.taken page.now state.now (nat_lt self.old.rounds PATIENCE)
+            self.old self.new result }
     {
         if self.rounds >= PATIENCE {
             return false;
         }
+        self.visits(alloc, page, state)
+    }
+
+    /// Hears the visitor, if it has no answer yet, and tells it, if it has one. Answers whether it
+    /// stays.
+    fn visits(&mut self, alloc: Global, page: &[u8], state: &[u8]) -> bool
+        requires { nat_lt self.old.rounds PATIENCE ≡ true }
+        ensures { IsSeen V.left V.taken page.now state.now self.old self.new result }
+    {
+        self.stay_longer();
+        self.hears(alloc, page, state) && self.tells()
+    }
+
+    /// It stays for a round more.
+    fn stay_longer(&mut self)
+        requires { nat_lt self.old.rounds PATIENCE ≡ true }
+        ensures { self.new ≡ longer self.old }
+    {
         self.rounds += 1;
-        if self.visit.answer.is_none() && !self.hears(alloc, page, state) {
-            return false;
+    }
+
+    /// Hears the visitor once, where it has no answer yet. Answers whether it goes on.
+    fn hears(&mut self, alloc: Global, page: &[u8], state: &[u8]) -> bool
+        ensures { Hears V.left V.taken page.now state.now self.old.answer self.old self.new result }
+    {
+        if self.visit.answer.is_some() {
+            return true;
         }
-        self.visit.answer.is_none() || self.tells()
+        self.listens(alloc, page, state)
     }
 
     /// Hears the visitor once. Answers whether it goes on.
-    fn hears(&mut self, alloc: Global, page: &[u8], state: &[u8]) -> bool
-        requires { self.old.visit.answer ≡ None }
-        ensures { self.new.rounds ≡ self.old.rounds }
+    fn listens(&mut self, alloc: Global, page: &[u8], state: &[u8]) -> bool
+        requires { self.old.answer ≡ None }
+        ensures { IsHeard V.left V.taken page.now state.now self.old self.new result }
     {
         let mut piece = [0u8; PIECE];
         match self.visitor.read(&mut piece) {
@@ -62,9 +101,19 @@ impl<V: Visitor> Guest<V> {
         }
     }
 
-    /// Tells the visitor once. Answers whether it goes on.
+    /// Tells the visitor once, where it has an answer. Answers whether it goes on.
     fn tells(&mut self) -> bool
-        ensures { self.new.rounds ≡ self.old.rounds }
+        ensures { Tells V.left V.taken self.old.answer self.old self.new result }
+    {
+        if self.visit.answer.is_none() {
+            return true;
+        }
+        self.speaks()
+    }
+
+    /// Tells the visitor once. Answers whether it goes on.
+    fn speaks(&mut self) -> bool
+        ensures { IsTold V.left V.taken (text_of self.old.answer) self.old self.new result }
     {
         match self.visitor.write(self.visit.share()) {
             Took::Bytes(count) => {

@@ -4,6 +4,7 @@
 
 mod guest;
 mod hall;
+pub mod laws;
 mod limits;
 mod visit;
 

@@ -87,6 +87,7 @@ impl Visit {
         requires within { self.old.told + count
             ≤ length (text_of (option_map (λ text. text.items) self.old.answer)) }
         ensures told { self.new.told ≡ self.old.told + count }
+        ensures heard { self.new.heard ≡ self.old.heard }
         ensures answer { self.new.answer ≡ self.old.answer }
     {
         self.told += count;
