@@ -6,7 +6,7 @@ use Rattle.std.proofs.lemmas.Bool.Decides.{nat_tests}
 use Rattle.std.proofs.lemmas.Bool.{and_parts}
 use Rattle.std.proofs.lemmas.List.{length-map, map-set, get_or-map, set-get_or, drop_more}
 use Rattle.std.proofs.lemmas.Simd.{map-map}
-use Rattle.osc_method.specs.Heard.{after_call}
+use Rattle.osc_method.specs.Heard.{Fixed, after_call}
 use Rattle.osc_model.specs.Events.{Invocation}
 use Rattle.osc_model.specs.Heard.{Told, bytes_of, hear, hear_all, all_hear}
 use Rattle.osc_pattern.specs.Methods.{Method}
@@ -15,8 +15,8 @@ use Rattle.osc_core.specs.Calls.{invocation_by}
 use Rattle.osc_core.specs.Ids.{is_ascending}
 use Rattle.osc_core.proofs.Ascents.{behind, rising}
 
-pub heard_one : (told : Told) (invocation : Invocation) (keep : ℕ) (heard : Option (List ℕ)) → told.id ≡ invocation.call.id → keep ≡ told.keep
-    → heard ≡ after_call told.keep (bytes_of invocation) told.heard → record { id = told.id; keep = keep; heard = heard } ≡ hear told invocation
+pub heard_one : (told : Told) (invocation : Invocation) (keep : Fixed) (heard : Option (List ℕ)) → told.id ≡ invocation.call.id → keep ≡ told.keep
+    → heard ≡ after_call told.keep.most (bytes_of invocation) told.heard → record { id = told.id; keep = keep; heard = heard } ≡ hear told invocation
 heard_one told invocation keep heard same k h = let e : (invocation.call.id == told.id) ≡ true = grind (arith, nat_tests) in rw (e, k, h) refl
 
 hears_other : (told : Told) (invocation : Invocation) → told.id ≢ invocation.call.id → hear told invocation ≡ told

@@ -43,14 +43,14 @@ pub read_more : (texts : List (List ℕ)) (text : List ℕ) (entry : Entry) → 
     → history_in (texts ++ text ∷ []) ≡ history_in texts ++ entry ∷ []
 read_more texts text entry is = filter_map-append entry_in texts (text ∷ []) ∙ ap (λ (o : Option Entry). history_in texts ++ cons_option o []) is
 
-pub written_more : (entries : List Entry) (texts : List (List ℕ)) (entry : Entry) (mark : ℕ) → AreTexts entries texts
+pub written_more : (entries : List Entry) (texts : List (List ℕ)) (entry : Entry) (mark : List ℕ) → AreTexts entries texts
     → AreTexts (entries ++ entry ∷ []) (texts ++ text_with mark entry ∷ [])
 written_more [] [] entry mark are = ((mark, refl), tt)
 written_more [] (text ∷ texts) entry mark are = absurd are
 written_more (first ∷ entries) [] entry mark are = absurd are
 written_more (first ∷ entries) (text ∷ texts) entry mark are = (are.0, written_more entries texts entry mark are.1)
 
-pub carries_more : (texts : List (List ℕ)) (text : List ℕ) (id mark : ℕ) → CarriesMark texts id mark → CarriesMark (texts ++ text ∷ []) id mark
+pub carries_more : (texts : List (List ℕ)) (text : List ℕ) (id : ℕ) (mark : List ℕ) → CarriesMark texts id mark → CarriesMark (texts ++ text ∷ []) id mark
 carries_more texts text id mark (entry, is, read, there) = (
   entry,
   is,
@@ -67,12 +67,12 @@ marked_more texts text (told ∷ boxes) are = (carries_more texts text told.id (
 
 hear_mark : (told : Told) (invocation : Invocation) → mark_of (hear told invocation) ≡ mark_of told
 hear_mark told invocation = go (invocation.call.id == told.id) where
-  some : (heard : Option (List ℕ)) → is_some (after_call told.keep (bytes_of invocation) heard) ≡ is_some heard
+  some : (heard : Option (List ℕ)) → is_some (after_call told.keep.most (bytes_of invocation) heard) ≡ is_some heard
   some None = refl
   some (Some bytes) = refl
 
-  go : (t : Bool) → mark_of (cond t (record told { heard = after_call told.keep (bytes_of invocation) told.heard }) told) ≡ mark_of told
-  go true = ap (λ (t : Bool). cond t (told.keep + 1) 0) (some told.heard)
+  go : (t : Bool) → mark_of (cond t (record told { heard = after_call told.keep.most (bytes_of invocation) told.heard }) told) ≡ mark_of told
+  go true = ap (λ (t : Bool). cond t (told.keep.most + 1) 0 ∷ told.keep.name) (some told.heard)
   go false = refl
 
 hear_all_mark : (invocations : List Invocation) (told : Told) → mark_of (hear_all invocations told) ≡ mark_of told
@@ -80,7 +80,7 @@ hear_all_mark [] told = refl
 hear_all_mark (invocation ∷ invocations) told = hear_all_mark invocations (hear told invocation) ∙ hear_mark told invocation
 
 pub reset_mark : (told : Told) → mark_of (reset told) ≡ mark_of told
-reset_mark told = ap (λ (t : Bool). cond t (told.keep + 1) 0) (some told.heard) where
+reset_mark told = ap (λ (t : Bool). cond t (told.keep.most + 1) 0 ∷ told.keep.name) (some told.heard) where
   some : (heard : Option (List ℕ)) → is_some (option_map (λ (_ : List ℕ). let none : List ℕ = [] in none) heard) ≡ is_some heard
   some None = refl
   some (Some bytes) = refl
@@ -89,7 +89,7 @@ pub called_marked : (texts : List (List ℕ)) (invocations : List Invocation) (b
     → AreMarked texts (all_hear invocations boxes)
 called_marked texts invocations [] are = tt
 called_marked texts invocations (told ∷ boxes) are = (
-  subst (λ (m : ℕ). CarriesMark texts (hear_all invocations told).id m) (sym (hear_all_mark invocations told))
+  subst (λ (m : List ℕ). CarriesMark texts (hear_all invocations told).id m) (sym (hear_all_mark invocations told))
       (subst (λ (n : ℕ). CarriesMark texts n (mark_of told)) (sym (same_id invocations told)) are.0),
   called_marked texts invocations boxes are.1,
 )
@@ -123,7 +123,7 @@ last_of_all P [] x all = all.0
 last_of_all P (y ∷ xs) x all = last_of_all P xs x all.1
 
 -- the last entry of a legal history is read in its text
-pub last_read : TextLaws → (caps : Limits) (history : List Entry) (entry : Entry) (mark : ℕ) → Legal caps (history ++ entry ∷ [])
+pub last_read : TextLaws → (caps : Limits) (history : List Entry) (entry : Entry) (mark : List ℕ) → Legal caps (history ++ entry ∷ [])
     → entry_in (text_with mark entry) ≡ Some entry
 last_read laws caps history entry mark legal =
     let recordable = last_of_all (λ entry. IsRecordable entry.caller entry.event entry.answer) history entry (laws.all caps (history ++ entry ∷ []) legal) in
@@ -135,7 +135,7 @@ last_read laws caps history entry mark legal =
 
 -- Where a server stood for texts, its boxes have heard the event, and each has its mark then, it stands for one text more
 -- where the event adds an entry, and for the same texts where it adds none.
-stands_next : TextLaws → (performance : Performance) (caller : ℕ) (event : Event) (before boxes : List Told) (texts : List (List ℕ)) (mark : ℕ)
+stands_next : TextLaws → (performance : Performance) (caller : ℕ) (event : Event) (before boxes : List Told) (texts : List (List ℕ)) (mark : List ℕ)
     → StandsFor performance before texts
     → Legal performance.caps (onward performance caller event).history → HaveHeard (onward performance caller event) boxes
     → (adds_entry (stepped_in performance event).answer ≡ true → AreMarked (texts ++ text_with mark (entry_on performance caller event) ∷ []) boxes)
@@ -176,8 +176,8 @@ pub same_next : TextLaws → (performance : Performance) (caller : ℕ) (event :
     → Legal performance.caps (onward performance caller event).history → HaveHeard (onward performance caller event) boxes
     → StandsNext (StandsFor (onward performance caller event) boxes) (adds_entry (stepped_in performance event).answer) texts
 same_next laws performance caller event boxes texts stands legal heard =
-    stands_next laws performance caller event boxes boxes texts 0 stands legal heard
-    (λ is. marked_more texts (text_with 0 (entry_on performance caller event)) boxes stands.marked) (λ is. stands.marked)
+    stands_next laws performance caller event boxes boxes texts [] stands legal heard
+    (λ is. marked_more texts (text_with [] (entry_on performance caller event)) boxes stands.marked) (λ is. stands.marked)
 
 pub called_next : TextLaws
     → (performance : Performance) (caller : ℕ) (event : Event) (invocations : List Invocation) (boxes : List Told) (texts : List (List ℕ))
@@ -186,8 +186,8 @@ pub called_next : TextLaws
     → StandsNext (StandsFor (onward performance caller event) (all_hear invocations boxes)) (adds_entry (stepped_in performance event).answer) texts
 called_next laws performance caller event invocations boxes texts stands legal heard =
     let marked = called_marked texts invocations boxes stands.marked in
-    stands_next laws performance caller event boxes (all_hear invocations boxes) texts 0 stands legal heard
-    (λ is. marked_more texts (text_with 0 (entry_on performance caller event)) (all_hear invocations boxes) marked) (λ is. marked)
+    stands_next laws performance caller event boxes (all_hear invocations boxes) texts [] stands legal heard
+    (λ is. marked_more texts (text_with [] (entry_on performance caller event)) (all_hear invocations boxes) marked) (λ is. marked)
 
 pub fewer_next : TextLaws → (performance : Performance) (caller : ℕ) (event : Event) (id : ℕ) (boxes : List Told) (texts : List (List ℕ))
     → StandsFor performance boxes texts
@@ -195,8 +195,8 @@ pub fewer_next : TextLaws → (performance : Performance) (caller : ℕ) (event 
     → StandsNext (StandsFor (onward performance caller event) (without_id id boxes)) (adds_entry (stepped_in performance event).answer) texts
 fewer_next laws performance caller event id boxes texts stands legal heard =
     let marked = fewer_marked texts id boxes stands.marked in
-    stands_next laws performance caller event boxes (without_id id boxes) texts 0 stands legal heard
-    (λ is. marked_more texts (text_with 0 (entry_on performance caller event)) (without_id id boxes) marked) (λ is. marked)
+    stands_next laws performance caller event boxes (without_id id boxes) texts [] stands legal heard
+    (λ is. marked_more texts (text_with [] (entry_on performance caller event)) (without_id id boxes) marked) (λ is. marked)
 
 pub more_next : TextLaws → (performance : Performance) (caller : ℕ) (event : Event) (told : Told) (boxes : List Told) (texts : List (List ℕ))
     → StandsFor performance boxes texts
@@ -226,7 +226,7 @@ more_next laws performance caller event told boxes texts stands legal is heard =
           is,
           subst (λ (h : List Entry). Contains h entry) (sym (read_more texts text entry read))
               (Contains-append_right (history_in texts) (entry ∷ []) entry (0, omega arith, refl)),
-          subst (λ (m : ℕ). Contains (texts ++ text ∷ []) (text_with m entry)) (sym (reset_mark told))
+          subst (λ (m : List ℕ). Contains (texts ++ text ∷ []) (text_with m entry)) (sym (reset_mark told))
               (Contains-append_right texts (text ∷ []) text (0, omega arith, refl)),
         )
 
@@ -237,7 +237,7 @@ stood next onwards new boxes t texts is same stands =
     subst (λ (p : Performance). StandsNext (StandsFor p new) t texts) (sym is)
     (subst (λ (b : List Told). StandsNext (StandsFor onwards b) t texts) (sym same) stands)
 
--- The texts in which boxes that left have the mark 0.
+-- The texts in which boxes that left have no mark.
 
 own_written : (boxes : List Told) (entries : List Entry) → AreTexts entries (texts_of boxes entries)
 own_written boxes [] = tt
@@ -284,7 +284,7 @@ own_marked entries all (told ∷ boxes) again are marks = (one are.0 marks.0, ow
         entry,
         is,
         subst (λ (h : List Entry). Contains h entry) (sym again) held,
-        subst (λ (m : ℕ). Contains (texts_of all entries) (text_with m entry)) same
+        subst (λ (m : List ℕ). Contains (texts_of all entries) (text_with m entry)) same
             (sent (λ (e : Entry). text_with (mark_by all e.answer) e) entries entry held),
       )
 

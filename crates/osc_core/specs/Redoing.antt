@@ -2,6 +2,7 @@
 use Rattle.std.specs.Prelude.{◌≡◌, ℕ, List, [], ◌∷◌, ◌++◌, Option, Some, None}
 use Rattle.std.specs.Prelude.{MatchBool, IsSome, IfSome, IsSomeAnd}
 use Rattle.std.specs.List.{Contains}
+use Rattle.osc_method.specs.Heard.{Fixed}
 use Rattle.osc_model.specs.Events.{Event, add, remove, release, Answer, added}
 use Rattle.osc_model.specs.Events.{removed, is_added, is_removed, Entry, Invocation}
 use Rattle.osc_model.specs.Heard.{Told, reset, all_hear, without_id}
@@ -22,7 +23,7 @@ HandsIn (remove bytes) answer address method =
     MatchBool (is_removed answer) (address ≡ Some bytes) (address ≡ None) × (method ≡ None)
 HandsIn event answer address method = (address ≡ None) × (method ≡ None)
 
-module _ {M : Type 0} (keep : M → ℕ) (heard : M → Option (List ℕ)) where
+module _ {M : Type 0} (keep : M → Fixed) (heard : M → Option (List ℕ)) where
   -- a box under an id, and what it tells
   abbrev pub told_as : ℕ → M → Told
   told_as id method = record { id = id; keep = keep method; heard = heard method }

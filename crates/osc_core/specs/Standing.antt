@@ -10,17 +10,17 @@ use Rattle.osc_model.specs.Heard.{Told}
 use Rattle.osc_model.specs.History.{Legal, Performance, stepped_in, HaveHeard}
 use Rattle.osc_record.specs.Reading.{entry_in}
 
--- the mark of a box: one more than what it keeps, or 0 where it tells nothing
-abbrev pub mark_of : Told → ℕ
-mark_of told = if is_some told.heard then told.keep + 1 else 0
+-- the mark of a box: one more than what it keeps, or 0 where it tells nothing, and its name
+abbrev pub mark_of : Told → List ℕ
+mark_of told = (if is_some told.heard then told.keep.most + 1 else 0) ∷ told.keep.name
 
 -- what follows an entry's bytes: a mark, where a method was added
-abbrev pub mark_after : Answer → ℕ → List ℕ
-mark_after (added id) mark = mark ∷ []
+abbrev pub mark_after : Answer → List ℕ → List ℕ
+mark_after (added id) mark = mark
 mark_after _ mark = []
 
 -- an entry's text: its bytes, and a mark where a method was added
-abbrev pub text_with : ℕ → Entry → List ℕ
+abbrev pub text_with : List ℕ → Entry → List ℕ
 text_with mark entry =
     entry_text entry.caller entry.event entry.answer ++ mark_after entry.answer mark
 
@@ -28,7 +28,7 @@ text_with mark entry =
 abbrev pub AreTexts : List Entry → List (List ℕ) → Type 0
 AreTexts [] [] = Unit {0}
 AreTexts (entry ∷ entries) (text ∷ texts) =
-    ((mark : ℕ) × (text ≡ text_with mark entry)) × AreTexts entries texts
+    ((mark : List ℕ) × (text ≡ text_with mark entry)) × AreTexts entries texts
 AreTexts _ _ = ⊥
 
 -- so there are as many texts as entries
@@ -44,7 +44,7 @@ abbrev pub history_in : List (List ℕ) → List Entry
 history_in texts = filter_map entry_in texts
 
 -- the entry that added the method with the id has this mark
-abbrev pub CarriesMark : List (List ℕ) → ℕ → ℕ → Type 0
+abbrev pub CarriesMark : List (List ℕ) → ℕ → List ℕ → Type 0
 CarriesMark texts id mark = (entry : Entry) × (entry.answer ≡ added id)
     × Contains (history_in texts) entry × Contains texts (text_with mark entry)
 
@@ -78,15 +78,15 @@ one_length performance boxes texts others one two =
     ∙ sym (as_many performance.history others two.written)
 
 -- the mark of the box with the id
-abbrev pub mark_in : List Told → ℕ → ℕ
-mark_in [] id = 0
+abbrev pub mark_in : List Told → ℕ → List ℕ
+mark_in [] id = []
 mark_in (told ∷ boxes) id = if told.id == id then mark_of told else mark_in boxes id
 
--- the mark that an answer's text has, where boxes that left have 0
-abbrev pub mark_by : List Told → Answer → ℕ
+-- the mark that an answer's text has, where boxes that left have none
+abbrev pub mark_by : List Told → Answer → List ℕ
 mark_by boxes (added id) = mark_in boxes id
-mark_by boxes _ = 0
+mark_by boxes _ = []
 
--- the texts of a server's history, where boxes that left have the mark 0
+-- the texts of a server's history, where boxes that left have no mark
 abbrev pub texts_of : List Told → List Entry → List (List ℕ)
 texts_of boxes entries = map (λ entry. text_with (mark_by boxes entry.answer) entry) entries

@@ -1,5 +1,6 @@
 -- The result of a performance of lanes next to a display of its methods.
 use Rattle.std.specs.Prelude.{◌≡◌, ℕ, List, length, Option}
+use Rattle.osc_method.specs.Heard.{Fixed}
 use Rattle.osc_model.specs.Limits.{Limits}
 use Rattle.osc_model.specs.Events.{Entry, Room}
 use Rattle.osc_core.specs.Standing.{history_in}
@@ -18,7 +19,7 @@ pub record Lists (history : List Entry) (methods : Methods) : Type 0 where
 
 -- The parts were played on one new server, each as a lane next to the others, and the methods are
 -- those that stand after its one history.
-pub record Displays {M : Type 0} (keep : M → ℕ) (heard : M → Option (List ℕ)) (caps : Limits)
+pub record Displays {M : Type 0} (keep : M → Fixed) (heard : M → Option (List ℕ)) (caps : Limits)
     (parts : List (Part M)) (recording : List ℕ) (kept : List (ℕ × M))
     (accounts : List (Account M)) (unenrolled : Option Room) (methods : Methods) : Type 0 where
   pub performs : Performs keep heard caps parts recording kept accounts unenrolled

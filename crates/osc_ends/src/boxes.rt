@@ -14,8 +14,9 @@ const KEPT: u32 = 64;
 /// The boxes that a program hands to its top call. An `Err` means out of memory.
 pub fn traces(alloc: Global) -> Result<Vec<Trace>, AllocError>
     ensures count { IfOk result (λ traces. length traces.items ≡ BOXES) }
-    ensures keep { IfOk result
-        (λ traces. All (λ trace. ⟦<Trace as Method>⟧.keep trace ≡ KEPT) traces.items) }
+    ensures keep { IfOk result (λ traces. All
+        (λ trace. ⟦<Trace as Method>⟧.keep trace ≡ record { most = KEPT; name = [] })
+        traces.items) }
     ensures heard { IfOk result
         (λ traces. All (λ trace. ⟦<Trace as Method>⟧.heard trace ≡ Some []) traces.items) }
 {

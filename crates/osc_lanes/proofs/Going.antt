@@ -2,6 +2,7 @@
 use Rattle.std.proofs.Common.{◌≡◌, ℕ, List, [], ◌∷◌, Option, Some, None, is_some, true, false, refl, sym, ap, ◌∙◌, subst, append_assoc}
 use Rattle.std.specs.Option.{option_map}
 use Rattle.osc_atoms.specs.declared.room.Room.{Room as CodeRoom}
+use Rattle.osc_method.specs.Heard.{Fixed}
 use Rattle.osc_model.specs.Events.{Room}
 use Rattle.osc_record.specs.Shown.{room_of}
 use Rattle.osc_script.specs.declared.act.Act.{Act}
@@ -21,11 +22,11 @@ module _ {M : Type 0} where
   }
 
   -- where the act stopped
-  pub stop_told : {keep : M → ℕ} {heard : M → Option (List ℕ)} {holder : Holder} {number : ℕ} {act : Act} {boxes left : List M} {before now : Account M}
+  pub stop_told : {keep : M → Fixed} {heard : M → Option (List ℕ)} {holder : Holder} {number : ℕ} {act : Act} {boxes left : List M} {before now : Account M}
       {here there : List Seen} → (p : TellsAct keep heard holder number act boxes left before now here there) → p.first.stop ≡ now.stop
   stop_told p = ap (λ (a : Account M). a.stop) (sym p.told_is)
 
-  module _ (keep : M → ℕ) (heard : M → Option (List ℕ)) (holder : Holder) (all : List Line) (boxes : List M) (told : Account M) (here : List Seen) where
+  module _ (keep : M → Fixed) (heard : M → Option (List ℕ)) (holder : Holder) (all : List Line) (boxes : List M) (told : Account M) (here : List Seen) where
     -- Whatever comes of the rest of the lines comes of all lines, with what was told so far.
     abbrev pub GoesOn : List Line → List M → Account M → List Seen → Type 0
     GoesOn rest left so_far now =
@@ -77,7 +78,7 @@ module _ {M : Type 0} where
         }
 
   -- what another holder of the same number did
-  pub played_by : (keep : M → ℕ) (heard : M → Option (List ℕ)) (start holder : Holder) (number : ℕ) (act : Act) (boxes left : List M) (before now : Account M)
+  pub played_by : (keep : M → Fixed) (heard : M → Option (List ℕ)) (start holder : Holder) (number : ℕ) (act : Act) (boxes left : List M) (before now : Account M)
       (here there : List Seen) → holder ≡ start → TellsAct keep heard holder number act boxes left before now here there
       → TellsAct keep heard start number act boxes left before now here there
   played_by keep heard start holder number act boxes left before now here there same p =

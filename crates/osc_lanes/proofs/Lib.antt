@@ -1,5 +1,8 @@
+pub mod AddedAt
 pub mod Answering
 pub mod Going
+pub mod OneMark
+pub mod OwnBoxes
 pub mod Parting
 pub mod Performing
 pub mod Removals

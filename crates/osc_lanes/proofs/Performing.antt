@@ -8,6 +8,7 @@ use Rattle.std.proofs.lemmas.List.{length-map}
 use Rattle.std.proofs.lemmas.List.Concat.{flat_map-append}
 use Rattle.std.proofs.lemmas.List.Elements.{All-from_recursion, recursion_from_All}
 use Rattle.std.proofs.lemmas.List.Sorted.{IsPermutation-refl, IsPermutation-trans, IsPermutation-append_right}
+use Rattle.osc_method.specs.Heard.{Fixed}
 use Rattle.osc_model.specs.Limits.{Limits}
 use Rattle.osc_model.specs.Events.{Entry, Room}
 use Rattle.osc_model.specs.Heard.{Told}
@@ -79,7 +80,7 @@ not_at_work : (next callers number token : ℕ) → 1 ≤ number → number < ne
 not_at_work next callers number token from below (inl is) same = omega (arith, is, same, from)
 not_at_work next callers number token from below (inr at) same = omega (arith, at.0, same, below)
 
-module _ {M : Type 0} (keep : M → ℕ) (heard : M → Option (List ℕ)) where
+module _ {M : Type 0} (keep : M → Fixed) (heard : M → Option (List ℕ)) where
   -- what a lane plays as a work
   abbrev pub lane_plays : LaneWork M → LaneTold M → Holder → List Seen → List Seen → Type 0
   lane_plays work end holder here there = Plays keep heard holder work.part.lines.items work.part.boxes.items (told_of end) here there
@@ -267,7 +268,7 @@ below n number (inl is) = omega (arith, is)
 below n number (inr (from, to)) = omega (arith, to)
 
 -- where the past is none
-pub fresh_performs : {M : Type 0} (keep : M → ℕ) (heard : M → Option (List ℕ)) (caps : Limits) (past : List (List ℕ)) (parts : List (Part M))
+pub fresh_performs : {M : Type 0} (keep : M → Fixed) (heard : M → Option (List ℕ)) (caps : Limits) (past : List (List ℕ)) (parts : List (Part M))
     (bytes : List ℕ) (kept : List (ℕ × M)) (accounts : List (Account M)) (unenrolled : Option Room) → past ≡ []
     → (later : PerformsLater keep heard caps past parts bytes kept accounts unenrolled)
     → (performs : Performs keep heard caps parts bytes kept accounts unenrolled) × (performs.history ≡ later.history)

@@ -8,6 +8,7 @@ use Rattle.std.proofs.lemmas.List.Concat.{flat_map-append}
 use Rattle.osc_atoms.specs.declared.fault.Fault.{Fault}
 use Rattle.osc_atoms.specs.declared.limits.TheConstants.{MAX_PACKET}
 use Rattle.osc_packet.specs.Reading.{packet_fault}
+use Rattle.osc_method.specs.Heard.{Fixed}
 use Rattle.osc_model.specs.State.{State}
 use Rattle.osc_model.specs.Events.{Event, submit, add, remove, tick, release, Answer, released, nothing_due, record_full, adds_entry, Entry, Room, room_in}
 use Rattle.osc_model.specs.Step.{step}
@@ -98,7 +99,7 @@ module _ (holder : Holder) where
   releases_gone (suc count) here there (place, unit, hits, first, last) =
       kept_gone release (released unit hits) place there refl last ∙ releases_gone count here place first
 
-  module _ {M : Type 0} (keep : M → ℕ) (heard : M → Option (List ℕ)) where
+  module _ {M : Type 0} (keep : M → Fixed) (heard : M → Option (List ℕ)) where
     abbrev pub ids_told : Account M → List ℕ
     ids_told account = map (λ one. one.0) account.removed
 

@@ -8,6 +8,7 @@ use Rattle.std.proofs.lemmas.List.Sums.{sum_by-cons, sum_by_push}
 use Rattle.osc_atoms.specs.declared.fault.Fault.{Fault}
 use Rattle.osc_atoms.specs.declared.limits.TheConstants.{MAX_PACKET}
 use Rattle.osc_packet.specs.Reading.{packet_fault}
+use Rattle.osc_method.specs.Heard.{Fixed}
 use Rattle.osc_model.specs.Events.{Event, Answer, Entry, Room, adds_entry, add, remove, submit, tick, release, released, record_full, room_in}
 use Rattle.osc_model.specs.History.{stepped_in}
 use Rattle.osc_script.specs.declared.act.Act.{Act}
@@ -111,7 +112,7 @@ module _ (weight : Event → ℕ) where
 
   -- An act, and lines.
 
-  module _ (takes : Act → ℕ) (covers : Covers takes) {M : Type 0} (keep : M → ℕ) (heard : M → Option (List ℕ)) (holder : Holder) where
+  module _ (takes : Act → ℕ) (covers : Covers takes) {M : Type 0} (keep : M → Fixed) (heard : M → Option (List ℕ)) (holder : Holder) where
     -- an answered event, whose stop the account tells
     told_spends : (event : Event) (answer : Answer) (taken : ℕ) (account : Account M) (here there : List Seen) → weight event ≤ taken
         → Answered holder event answer here there → account.stop ≡ room_in answer → Spends holder taken here there account.stop

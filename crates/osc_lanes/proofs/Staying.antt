@@ -17,7 +17,7 @@ use Rattle.osc_model.specs.Heard.{Told, bytes_of, calls_bytes}
 use Rattle.osc_model.specs.History.{Legal, after, invocations, HasHeard}
 use Rattle.osc_model.proofs.Calls.{all_append}
 use Rattle.osc_model.proofs.Onward.{invoked_more}
-use Rattle.osc_method.specs.Heard.{last_of}
+use Rattle.osc_method.specs.Heard.{Fixed, last_of}
 use Rattle.osc_core.specs.Standing.{history_in, CarriesMark, text_with}
 use Rattle.osc_core.proofs.Texts.{read_more}
 use Rattle.osc_script.specs.declared.act.Act.{Act}
@@ -66,10 +66,10 @@ heard_still silent caps before later one told legal is heard =
     let none = recursion_from_All (λ invocation. invocation.call.id ≢ told.id) more (silent caps before later one told.id legal is) in
     let same : calls_bytes (invocations (opening caps) (before ++ one ∷ later)) told.id ≡ calls_bytes first told.id =
     ap (λ (l : List Invocation). calls_bytes l told.id) all ∙ quiet told.id first more none in
-    heard ∙ ap (λ (bytes : List ℕ). option_map (λ _. last_of told.keep bytes) told.heard) (sym same)
+    heard ∙ ap (λ (bytes : List ℕ). option_map (λ _. last_of told.keep.most bytes) told.heard) (sym same)
 
 -- a mark that was carried is carried on
-pub mark_still : (later there : List Seen) (id mark : ℕ) → StartsWith later there → CarriesMark (texts there) id mark → CarriesMark (texts later) id mark
+pub mark_still : (later there : List Seen) (id : ℕ) (mark : List ℕ) → StartsWith later there → CarriesMark (texts there) id mark → CarriesMark (texts later) id mark
 mark_still later there id mark starts (one, is, read, written) =
     let more = starts_texts later there starts in
     let history = history_starts (texts later) (texts there) more in (
@@ -79,7 +79,7 @@ mark_still later there id mark starts (one, is, read, written) =
       subst (λ (l : List (List ℕ)). Contains l (text_with mark one)) (sym more.1) (Contains-append_left (texts there) more.0 (text_with mark one) written),
     )
 
-module _ {M : Type 0} (keep : M → ℕ) (heard : M → Option (List ℕ)) where
+module _ {M : Type 0} (keep : M → Fixed) (heard : M → Option (List ℕ)) where
   -- a box that was removed by the last entry
   removed_still : StaySilent → (caps : Limits) (token : ℕ) (one : Entry) (found there later : List Seen) (box : ℕ × M) → EntersOne token one found there
       → one.answer ≡ removed box.0 → StartsWith later there → Legal caps (history_in (texts later)) → IsRemovedAt keep heard caps there box
@@ -115,7 +115,7 @@ only_id (record_full room) id rest is = absurd (cc)
 
 -- What is seen goes on.
 
-answered_starts : (holder : Holder) (event : Event) (answer : Answer) (here there : List Seen) → Answered holder event answer here there → StartsWith there here
+pub answered_starts : (holder : Holder) (event : Event) (answer : Answer) (here there : List Seen) → Answered holder event answer here there → StartsWith there here
 answered_starts holder event answer here there a = go (adds_entry answer) a.then_seen where
   go : (t : Bool)
       → MatchBool t (EntersOne holder.token (record { caller = holder.caller; event = event; answer = answer }) a.found there) (there ≡ a.found)
@@ -128,7 +128,7 @@ releases_start holder zero here there same = subst (λ (l : List Seen). StartsWi
 releases_start holder (suc count) here there (place, unit, hits, first, last) =
     starts_on there place here (answered_starts holder _ _ place there last) (releases_start holder count here place first)
 
-module _ {M : Type 0} (keep : M → ℕ) (heard : M → Option (List ℕ)) (holder : Holder) where
+module _ {M : Type 0} (keep : M → Fixed) (heard : M → Option (List ℕ)) (holder : Holder) where
   -- a legal history is seen then, or nothing more is seen and no box was removed
   abbrev SeesMore : List Seen → List Seen → List (ℕ × M) → Type 0
   SeesMore here there out = Legal holder.caps (history_in (texts there)) ⊎ ((there ≡ here) × (out ≡ []))

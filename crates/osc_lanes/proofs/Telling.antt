@@ -6,6 +6,7 @@ use Rattle.osc_atoms.specs.declared.fault.Fault.{Fault}
 use Rattle.osc_atoms.specs.declared.room.Room.{Room as CodeRoom}
 use Rattle.osc_atoms.specs.declared.limits.TheConstants.{MAX_PACKET}
 use Rattle.osc_packet.specs.Reading.{packet_fault}
+use Rattle.osc_method.specs.Heard.{Fixed}
 use Rattle.osc_model.specs.Events.{Answer, Room, room_in, add, remove, submit, tick, release}
 use Rattle.osc_model.specs.History.{invoked_in, HasHeard}
 use Rattle.osc_record.specs.Shown.{room_of}
@@ -47,7 +48,7 @@ module _ {M : Type 0} where
   ids_same (removing.RecordFull room) = refl
   ids_same removing.NotThere = refl
 
-  module _ (keep : M → ℕ) (heard : M → Option (List ℕ)) (holder : Holder) (number : ℕ) (boxes : List M) (fs : List (ℕ × Fault)) (rs : List (ℕ × M))
+  module _ (keep : M → Fixed) (heard : M → Option (List ℕ)) (holder : Holder) (number : ℕ) (boxes : List M) (fs : List (ℕ × Fault)) (rs : List (ℕ × M))
       (bs : List M) (was : Option Room)
       (here there : List Seen) where
     marked_by : (box : M) (given : Adding M) → OnAdded given (λ id. CarriesMark (texts there) id (mark_of (known_of keep heard id box)))

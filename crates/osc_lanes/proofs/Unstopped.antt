@@ -7,6 +7,7 @@ use Rattle.std.proofs.lemmas.List.Sums.{sum_by-cons, sum_by-append}
 use Rattle.std.proofs.lemmas.List.Elements.{All-from_recursion, recursion_from_All}
 use Rattle.osc_atoms.specs.declared.limits.TheConstants.{MAX_PACKET}
 use Rattle.osc_packet.specs.Reading.{is_packet, units_read}
+use Rattle.osc_method.specs.Heard.{Fixed}
 use Rattle.osc_model.specs.Limits.{Limits, header_size}
 use Rattle.osc_model.specs.Events.{Event, Room, enrol, submit, record_full}
 use Rattle.osc_model.specs.History.{stepped_in}
@@ -78,7 +79,7 @@ cost_counted most (line ∷ lines) =
       cost_counted most lines,
     )
 
-module _ {M : Type 0} (keep : M → ℕ) (heard : M → Option (List ℕ)) (caps : Limits) (history : List Seen) where
+module _ {M : Type 0} (keep : M → Fixed) (heard : M → Option (List ℕ)) (caps : Limits) (history : List Seen) where
   abbrev IsShare : ℕ → Part M → Account M → Type 0
   IsShare number part account = LaneOf keep heard (holder_at caps number) part.lines part.boxes account history
 
@@ -186,7 +187,7 @@ module _ {M : Type 0} (keep : M → ℕ) (heard : M → Option (List ℕ)) (caps
         omega (arith, full_in 0 history enrol room (starts_here history) (omega (arith, weighs more_methods)) full, weighs (event_cost 0))
 
 -- of a performance
-pub never_stops : {M : Type 0} (keep : M → ℕ) (heard : M → Option (List ℕ)) (caps : Limits) (parts : List (Part M)) (recording : List ℕ)
+pub never_stops : {M : Type 0} (keep : M → Fixed) (heard : M → Option (List ℕ)) (caps : Limits) (parts : List (Part M)) (recording : List ℕ)
     (kept : List (ℕ × M)) (accounts : List (Account M)) (unenrolled : Option Room) → Performs keep heard caps parts recording kept accounts unenrolled
     → enough_for parts ≤ caps.recording → (unenrolled ≡ None) × All (λ account. account.stop ≡ None) accounts
 never_stops keep heard caps parts recording kept accounts None performs enough = (

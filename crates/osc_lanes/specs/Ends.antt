@@ -1,6 +1,7 @@
 -- What a lane's end has to do with its plan.
 use Rattle.std.specs.Prelude.{◌≡◌, ℕ, List, [], Option}
 use Rattle.std.specs.Option.{option_map}
+use Rattle.osc_method.specs.Heard.{Fixed}
 use Rattle.osc_model.specs.Limits.{Limits}
 use Rattle.osc_record.specs.Shown.{room_of}
 use Rattle.osc_turn.specs.History.{own}
@@ -32,7 +33,7 @@ module _ {M : Type 0} where
 
   -- The plan's caller comes back with its token, which made none, and the lines were played between
   -- what it had seen and what it has seen then.
-  pub record IsEndOf (keep : M → ℕ) (heard : M → Option (List ℕ)) (caps : Limits)
+  pub record IsEndOf (keep : M → Fixed) (heard : M → Option (List ℕ)) (caps : Limits)
       (plan : LanePlan M) (end : LaneEnd M) : Type 0 where
     pub lane : end.lane ≡ plan.lane
     pub holder : holder_of caps end.caller ≡ holder_of caps plan.caller

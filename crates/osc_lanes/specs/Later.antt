@@ -3,6 +3,7 @@ use Rattle.std.specs.Prelude.{◌≡◌, ℕ, ◌<◌, IsTrue, List, [], ◌++�
 use Rattle.std.specs.Prelude.{map, All, Option, None, MatchOption}
 use Rattle.std.specs.List.{AllByRecursion}
 use Rattle.std.specs.List.Sorted.{IsPermutation}
+use Rattle.osc_method.specs.Heard.{Fixed}
 use Rattle.osc_model.specs.Limits.{Limits}
 use Rattle.osc_model.specs.Enrolled.{callers_in}
 use Rattle.osc_model.specs.Events.{Room}
@@ -39,7 +40,7 @@ module _ {M : Type 0} where
   -- The history is recorded. The ids that it adds are those of the boxes that are kept, those that
   -- were removed in the past, and those that lanes removed, each once; and the boxes that are kept
   -- or that lanes removed have heard the history, each with the mark of its id's entry.
-  pub record IsClosedLater (keep : M → ℕ) (heard : M → Option (List ℕ)) (caps : Limits)
+  pub record IsClosedLater (keep : M → Fixed) (heard : M → Option (List ℕ)) (caps : Limits)
       (past : List (List ℕ)) (history : List Seen) (recording : List ℕ) (kept : List (ℕ × M))
       (accounts : List (Account M)) : Type 0 where
     pub recorded : recording ≡ record_text caps (history_in (texts history))
@@ -56,7 +57,7 @@ module _ {M : Type 0} where
   -- then no lane was started, so that all entries are those of caller 0's token, and all boxes come
   -- back. There is one history, with which the server was closed, and each lane has its share of
   -- it.
-  pub record PerformsLater (keep : M → ℕ) (heard : M → Option (List ℕ)) (caps : Limits)
+  pub record PerformsLater (keep : M → Fixed) (heard : M → Option (List ℕ)) (caps : Limits)
       (past : List (List ℕ)) (parts : List (Part M)) (recording : List ℕ) (kept : List (ℕ × M))
       (accounts : List (Account M)) (unenrolled : Option Room) : Type 0 where
     pub history : List Seen
@@ -72,7 +73,7 @@ module _ {M : Type 0} where
         × (accounts ≡ map (λ part. ended part.boxes None) parts))
 
   -- the same on a new server
-  abbrev pub Performs : (M → ℕ) → (M → Option (List ℕ)) → Limits → List (Part M) → List ℕ
+  abbrev pub Performs : (M → Fixed) → (M → Option (List ℕ)) → Limits → List (Part M) → List ℕ
       → List (ℕ × M) → List (Account M) → Option Room → Type 0
   Performs keep heard caps parts recording kept accounts unenrolled =
       PerformsLater keep heard caps [] parts recording kept accounts unenrolled
@@ -81,7 +82,7 @@ module _ {M : Type 0} where
   -- of the one history.
   pub record PerformsBeside {X F : Type 0}
       (ends : X → X → F → Holder → List (List Seen) → View → View → Type 0)
-      (keep : M → ℕ) (heard : M → Option (List ℕ)) (caps : Limits) (past : List (List ℕ))
+      (keep : M → Fixed) (heard : M → Option (List ℕ)) (caps : Limits) (past : List (List ℕ))
       (parts : List (Part M)) (recording : List ℕ) (kept : List (ℕ × M))
       (accounts : List (Account M)) (unenrolled : Option Room) (before after : X)
       (end : F) : Type 0 where

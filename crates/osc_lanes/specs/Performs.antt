@@ -3,6 +3,7 @@ use Rattle.std.specs.Prelude.{ℕ, ◌≤◌, List}
 use Rattle.std.specs.Prelude.{length, map, Option}
 use Rattle.std.specs.List.{flat_map}
 use Rattle.std.specs.Option.{option_map}
+use Rattle.osc_method.specs.Heard.{Fixed}
 use Rattle.osc_model.specs.Limits.{Limits}
 use Rattle.osc_record.specs.Shown.{room_of}
 use Rattle.osc_core.specs.Telling.{told}
@@ -44,7 +45,7 @@ module _ {M : Type 0} where
 
   -- the k-th lane was played by caller k, after caller 0's entries, and nothing else was done
   -- under its token
-  abbrev pub AreShares : (M → ℕ) → (M → Option (List ℕ)) → Limits → List Seen → List (Part M)
+  abbrev pub AreShares : (M → Fixed) → (M → Option (List ℕ)) → Limits → List Seen → List (Part M)
       → List (Account M) → Type 0
   AreShares keep heard caps history parts accounts =
       Numbered

@@ -5,6 +5,7 @@ use Rattle.std.specs.List.{AllByRecursion}
 use Rattle.osc_atoms.specs.declared.fault.Fault.{Fault}
 use Rattle.osc_atoms.specs.declared.limits.TheConstants.{MAX_PACKET}
 use Rattle.osc_packet.specs.Reading.{packet_fault}
+use Rattle.osc_method.specs.Heard.{Fixed}
 use Rattle.osc_model.specs.Limits.{Limits}
 use Rattle.osc_model.specs.Events.{Event, Answer, Entry, Hit, Room, adds_entry, add, remove, submit}
 use Rattle.osc_model.specs.Events.{tick, release, added, released, nothing_due}
@@ -25,7 +26,7 @@ use Rattle.osc_live.specs.Seen.{performance_in}
 -- the token's entry stands after what was found
 pub record EntersOne (token : ℕ) (one : Entry) (found there : List Seen) : Type 0 where
   pub text : List ℕ
-  pub mark : ℕ
+  pub mark : List ℕ
   pub last : there ≡ found ++ entry token text ∷ []
   pub text_is : text ≡ text_with mark one
   pub read : entry_in text ≡ Some one
@@ -84,7 +85,7 @@ module _ {M : Type 0} where
   back_by box (added id) = []
   back_by box _ = box ∷ []
 
-  module _ (keep : M → ℕ) (heard : M → Option (List ℕ)) where
+  module _ (keep : M → Fixed) (heard : M → Option (List ℕ)) where
     -- what is known of a box under an id
     abbrev pub known_of : ℕ → M → Told
     known_of id box = record { id = id; keep = keep box; heard = heard box }

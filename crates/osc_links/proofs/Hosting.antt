@@ -7,6 +7,7 @@ use Rattle.std.specs.List.Sorted.{IsPermutation}
 use Rattle.std.proofs.lemmas.List.{length-map}
 use Rattle.std.proofs.lemmas.List.Elements.{All-from_recursion, recursion_from_All}
 use Rattle.std.proofs.lemmas.List.Sorted.{IsPermutation-refl}
+use Rattle.osc_method.specs.Heard.{Fixed}
 use Rattle.osc_model.specs.Limits.{Limits}
 use Rattle.osc_record.specs.Shown.{room_of}
 use Rattle.osc_core.specs.Standing.{history_in}
@@ -107,7 +108,7 @@ pub given_more : (history : List Seen) (first count : ℕ) → given_in gone his
 given_more history first count some one =
     given_joined history first count 1 (count + 1) refl ∙ (λ i. some i ++ (one i ++ []))
 
-module _ {M L : Type 0} (left : L → Option (List LinkTurn)) (faults : L → ℕ) (keep : M → ℕ) (heard : M → Option (List ℕ)) (caps : Limits)
+module _ {M L : Type 0} (left : L → Option (List LinkTurn)) (faults : L → ℕ) (keep : M → Fixed) (heard : M → Option (List ℕ)) (caps : Limits)
     (history : List Seen) where
   link_served : (bounds : Bounds) (number : ℕ) (link : L) (work : LinkWork L) (end : LinkEnd L) (there : List Seen) → link_at work ≡ bound_to bounds link
       → HasShare (link_plays keep heard left faults) (holder_at caps number) (own 0 history) history work end there
@@ -184,7 +185,7 @@ module _ {M L : Type 0} (left : L → Option (List LinkTurn)) (faults : L → �
         kept = ap (flat_map gone) onward.1 ∙ ticks_gone holder keep heard tokens clock end here ended.0 ended.1 ∙ ap (flat_map gone) under.fresh;
       }
 
-module _ {M L : Type 0} (left : L → Option (List LinkTurn)) (faults : L → ℕ) (keep : M → ℕ) (heard : M → Option (List ℕ)) (caps : Limits) (bounds : Bounds)
+module _ {M L : Type 0} (left : L → Option (List LinkTurn)) (faults : L → ℕ) (keep : M → Fixed) (heard : M → Option (List ℕ)) (caps : Limits) (bounds : Bounds)
     (part : Part M) (links : List L) (clock : ClockRead) (hosted : Hosted M L) (silent : StaySilent) (opened : List Seen)
     (plays : Plays keep heard (holder_at caps 0) part.lines part.boxes (told_of hosted.opening) [] opened) (history : List Seen) (callers : ℕ)
     (begins : StartsWith (own 0 history) opened) (life : IsLife caps [] (history_in (texts opened)) 1 callers history)

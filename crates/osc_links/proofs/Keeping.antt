@@ -1,6 +1,7 @@
 -- Links and the ticker remove no method.
 use Rattle.std.proofs.Common.{◌≡◌, ℕ, ◌+◌, List, [], ◌∷◌, ◌++◌, map, flat_map, Option, Some, None, sym, ap, ◌∙◌, append-nil}
 use Rattle.std.specs.Prelude.{MatchOption}
+use Rattle.osc_method.specs.Heard.{Fixed}
 use Rattle.osc_model.specs.Events.{Room}
 use Rattle.osc_record.specs.Shown.{room_of}
 use Rattle.osc_script.specs.declared.act.Act.TheVariants.{Send}
@@ -19,7 +20,7 @@ module _ (holder : Holder) where
   onward_gone : (here there : List Seen) → Onward holder.token here there → own_gone holder there ≡ own_gone holder here
   onward_gone here there on = ap (flat_map gone) on.1
 
-  module _ {M : Type 0} (keep : M → ℕ) (heard : M → Option (List ℕ)) where
+  module _ {M : Type 0} (keep : M → Fixed) (heard : M → Option (List ℕ)) where
     turns_gone : (bounds : Bounds) (taken quiets : ℕ) (turns : List LinkTurn) (over : Over) (account : Account M) (here there : List Seen)
         → PlaysTurns keep heard holder bounds taken quiets turns over account here there
         → own_gone holder there ≡ own_gone holder here ++ ids_told holder keep heard account

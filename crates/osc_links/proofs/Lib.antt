@@ -1,3 +1,4 @@
+pub mod Boxes
 pub mod Hosting
 pub mod Keeping
 pub mod Opening

@@ -4,6 +4,7 @@ use Rattle.std.specs.Prelude.{MatchOption}
 use Rattle.osc_atoms.specs.declared.fault.Fault.{Fault}
 use Rattle.osc_atoms.specs.declared.limits.TheConstants.{MAX_PACKET}
 use Rattle.osc_packet.specs.Reading.{packet_fault}
+use Rattle.osc_method.specs.Heard.{Fixed}
 use Rattle.osc_model.specs.Enrolled.{callers_in, enrols}
 use Rattle.osc_model.specs.Events.{Event, enrol, submit, add, remove, tick, release, Answer, released, adds_entry, Entry, Room, room_in}
 use Rattle.osc_model.specs.Events as events
@@ -116,7 +117,7 @@ module _ (holder : Holder) where
   counts_releases (suc count) here there (place, unit, hits, first, last) =
       counts_on here place there (counts_releases count here place first) (counts_event release (released unit hits) place there refl last)
 
-  module _ {M : Type 0} (keep : M → ℕ) (heard : M → Option (List ℕ)) where
+  module _ {M : Type 0} (keep : M → Fixed) (heard : M → Option (List ℕ)) where
     counts_act : (number : ℕ) (act : Act) (boxes left : List M) (account : Account M) (here there : List Seen)
         → PlaysAct keep heard holder number act boxes left account here there → Counts here there
     counts_act number (Add address) boxes left account here there (box, answer, first, a, marked, is) =
@@ -149,7 +150,7 @@ module _ (holder : Holder) where
               counts_on here place there (counts_act line.number line.act boxes left first here place one) (counts_same place there same)
 
 -- lines that caller 0 has played enrol none
-pub plays_enrol_none : {M : Type 0} (keep : M → ℕ) (heard : M → Option (List ℕ)) (caps : Limits) (lines : List Line) (boxes : List M) (account : Account M)
+pub plays_enrol_none : {M : Type 0} (keep : M → Fixed) (heard : M → Option (List ℕ)) (caps : Limits) (lines : List Line) (boxes : List M) (account : Account M)
     (here there : List Seen) → Plays keep heard (holder_at caps 0) lines boxes account here there → own 0 there ≡ there
     → (own 0 here ≡ here) × (callers_in (history_in (texts there)) ≡ callers_in (history_in (texts here)))
 plays_enrol_none keep heard caps lines boxes account here there plays alone =

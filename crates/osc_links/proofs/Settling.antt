@@ -2,6 +2,7 @@
 use Rattle.std.proofs.Common.{◌≡◌, ℕ, Bool, true, false, cond, List, [], ◌∷◌, ◌++◌, get_or, All, Option, Some, None, refl, sym, ap, subst}
 use Rattle.std.proofs.Common.{◌∙◌}
 use Rattle.std.specs.Prelude.{MatchOption}
+use Rattle.osc_method.specs.Heard.{Fixed}
 use Rattle.osc_model.specs.Events.{Answer, Room, release, nothing_due, record_full, room_in}
 use Rattle.osc_model.specs.History.{stepped_in}
 use Rattle.osc_turn.specs.declared.view.Entry.{Entry as Seen}
@@ -19,7 +20,7 @@ none_appended : {X : Type 0} (xs ys : List X) → xs ++ ys ≡ [] → ys ≡ []
 none_appended [] ys is = is
 none_appended (x ∷ xs) ys is = absurd (cc)
 
-module _ {M : Type 0} (keep : M → ℕ) (heard : M → Option (List ℕ)) (holder : Holder) where
+module _ {M : Type 0} (keep : M → Fixed) (heard : M → Option (List ℕ)) (holder : Holder) where
   -- a pump that ends with room leaves nothing that is due
   pump_settles : (here there : List Seen) → Plays keep heard holder (pump_line ∷ []) [] (ended [] None) here there → IsSettled holder.caps there
   pump_settles here there (left, first, place, (same, count, middle, answer, releases, a, ends, is), more) = go answer first.stop is refl a ends more where

@@ -7,6 +7,7 @@ use Rattle.osc_atoms.specs.declared.room.Room.{Room as CodeRoom}
 use Rattle.osc_edge.specs.declared.clock.Moment.TheVariants.{At}
 use Rattle.osc_edge.specs.Clock.{GivesMoment}
 use Rattle.osc_edge.specs.Faults.{Rose}
+use Rattle.osc_method.specs.Heard.{Fixed}
 use Rattle.osc_record.specs.Shown.{room_of}
 use Rattle.osc_script.specs.declared.act.Act.TheVariants.{Tick, Pump}
 use Rattle.osc_turn.specs.declared.view.Entry.{Entry as Seen}
@@ -29,7 +30,7 @@ onward_same token here = (starts_here here, refl)
 pub onward_on : (token : ℕ) (a b c : List Seen) → Onward token a b → Onward token b c → Onward token a c
 onward_on token a b c p q = (starts_on c b a q.0 p.0, q.1 ∙ p.1)
 
-module _ {M : Type 0} (keep : M → ℕ) (heard : M → Option (List ℕ)) (holder : Holder) where
+module _ {M : Type 0} (keep : M → Fixed) (heard : M → Option (List ℕ)) (holder : Holder) where
   -- a pump alone
   pub pumps : (stop : Option CodeRoom) (here there : List Seen)
       → TellsAct keep heard holder 0 Pump [] [] (ended [] None) (ended [] (option_map room_of stop)) here there

@@ -1,5 +1,6 @@
 -- The ticker's rounds, while links are served.
 use Rattle.std.proofs.Common.{◌≡◌, ℕ, zero, suc, List, Option, None, All, refl, sym, ap, subst, ◌∙◌}
+use Rattle.osc_method.specs.Heard.{Fixed}
 use Rattle.osc_model.specs.Limits.{Limits}
 use Rattle.osc_turn.specs.declared.view.Entry.{Entry as Seen}
 use Rattle.osc_turn.specs.declared.view.View.{View}
@@ -43,7 +44,7 @@ pub onward_told : (v w : View) → Learns v w → Onward (number_of w) v.seen w.
 onward_told v w learns =
     (learns.goes_on, subst (λ (n : ℕ). own n w.seen ≡ own n v.seen) (sym (ap number_of learns.same)) learns.own_same)
 
-module _ {M : Type 0} (keep : M → ℕ) (heard : M → Option (List ℕ)) (holder : Holder) where
+module _ {M : Type 0} (keep : M → Fixed) (heard : M → Option (List ℕ)) (holder : Holder) where
   -- no round was played
   pub none_ticked : (left : Option (List ℕ)) (faults : ℕ) (here : List Seen)
       → HasTicked keep heard holder (record { before = left; after = left; faults = faults; now = faults }) (round.Played None) here here

@@ -3,6 +3,7 @@ use Rattle.std.proofs.Common.{◌≡◌, ℕ, ◌+◌, List, [], ◌∷◌, ◌+
 use Rattle.std.specs.Option.{option_map}
 use Rattle.osc_atoms.specs.declared.fault.Fault.{Fault}
 use Rattle.osc_atoms.specs.declared.room.Room.{Room as CodeRoom}
+use Rattle.osc_method.specs.Heard.{Fixed}
 use Rattle.osc_model.specs.Events.{Room}
 use Rattle.osc_record.specs.Shown.{room_of}
 use Rattle.osc_script.specs.declared.act.Act.TheVariants.{Send}
@@ -30,7 +31,7 @@ left_on : (turn : LinkTurn) (turns : List LinkTurn) (left between after : Option
 left_on turn turns left between None one rest = one ∙ ap (option_map (λ (more : List LinkTurn). turn ∷ more)) rest
 left_on turn turns left between (Some after) one rest = one ∙ ap (option_map (λ (more : List LinkTurn). turn ∷ more)) rest
 
-module _ {M : Type 0} (keep : M → ℕ) (heard : M → Option (List ℕ)) (holder : Holder) where
+module _ {M : Type 0} (keep : M → Fixed) (heard : M → Option (List ℕ)) (holder : Holder) where
   -- a datagram that was sent, with this stop
   pub sent_so : (number : ℕ) (bytes : List ℕ) (so_far more : List (ℕ × Fault)) (told : Option Room) (stop other : Option CodeRoom) (now then : List Seen)
       → option_map room_of stop ≡ told → stop ≡ other
@@ -40,7 +41,7 @@ module _ {M : Type 0} (keep : M → ℕ) (heard : M → Option (List ℕ)) (hold
       (λ (s : Option Room). TellsAct keep heard holder number (Send bytes) [] [] (link_account so_far None) (link_account more s) now then)
       (sym reported ∙ ap (option_map room_of) is) p
 
-module _ {M : Type 0} (keep : M → ℕ) (heard : M → Option (List ℕ)) (holder : Holder) (bounds : Bounds) (told : List (ℕ × Fault)) (start : Option (List LinkTurn))
+module _ {M : Type 0} (keep : M → Fixed) (heard : M → Option (List ℕ)) (holder : Holder) (bounds : Bounds) (told : List (ℕ × Fault)) (start : Option (List LinkTurn))
     (here : List Seen) where
   -- Whatever comes of further turns comes of all turns, with what was told so far.
   abbrev pub TurnsGoOn : ℕ → ℕ → List (ℕ × Fault) → Option (List LinkTurn) → List Seen → Type 0
@@ -143,7 +144,7 @@ module _ {M : Type 0} (keep : M → ℕ) (heard : M → Option (List ℕ)) (hold
         turns_full taken quiets so_far more left after t.1 room now then goes within t.2 t.3
 
 -- what a link tells is what it told of its turns, where nothing was told before
-pub link_tells : {M : Type 0} (keep : M → ℕ) (heard : M → Option (List ℕ)) (holder : Holder) (bounds : Bounds) (told now : List (ℕ × Fault))
+pub link_tells : {M : Type 0} (keep : M → Fixed) (heard : M → Option (List ℕ)) (holder : Holder) (bounds : Bounds) (told now : List (ℕ × Fault))
     (left after : Option (List LinkTurn)) (over : Over) (here there : List Seen) → told ≡ []
     → (all : TakesAll keep heard holder bounds told now left after over here there)
     → PlaysTurns keep heard holder bounds 0 0 all.turns over (link_account now (stop_by over)) here there

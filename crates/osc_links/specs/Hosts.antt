@@ -2,6 +2,7 @@
 use Rattle.std.specs.Prelude.{◌≡◌, ℕ, ◌+◌, ◌<◌, false, List, [], ◌∷◌, ◌++◌, length, Option}
 use Rattle.std.specs.Prelude.{None, MatchOption}
 use Rattle.std.specs.Option.{option_map}
+use Rattle.osc_method.specs.Heard.{Fixed}
 use Rattle.osc_model.specs.Limits.{Limits}
 use Rattle.osc_model.specs.Events.{release, nothing_due}
 use Rattle.osc_model.specs.History.{stepped_in}
@@ -46,7 +47,7 @@ module _ {L : Type 0} where
     pub stop_is : told.stop ≡ None
 
 module _ {L : Type 0} (left : L → Option (List LinkTurn)) (faults : L → ℕ) where
-  module _ {M : Type 0} (keep : M → ℕ) (heard : M → Option (List ℕ)) (caps : Limits) where
+  module _ {M : Type 0} (keep : M → Fixed) (heard : M → Option (List ℕ)) (caps : Limits) where
     -- The share of a history of the link that caller `number` submits for: its turns were played
     -- from where its token came in, after caller 0's entries, to what the token has seen then; and
     -- the history has no other entry of it. Where the link tells, what it had left are these turns

@@ -3,6 +3,7 @@ use Rattle.std.specs.Prelude.{◌≡◌, ℕ, ◌+◌, ◌<◌, List, [], ◌∷
 use Rattle.std.specs.Prelude.{IfSome, MatchOption}
 use Rattle.osc_atoms.specs.declared.fault.Fault.{Fault}
 use Rattle.osc_edge.specs.Faults.{Rose}
+use Rattle.osc_method.specs.Heard.{Fixed}
 use Rattle.osc_model.specs.Events.{Room}
 use Rattle.osc_record.specs.Shown.{room_of}
 use Rattle.osc_script.specs.declared.act.Act.TheVariants.{Send}
@@ -48,7 +49,7 @@ module _ {M : Type 0} where
   abbrev pub link_account : List (ℕ × Fault) → Option Room → Account M
   link_account faults stop = record { faults = faults; removed = []; back = []; stop = stop }
 
-  module _ (keep : M → ℕ) (heard : M → Option (List ℕ)) where
+  module _ (keep : M → Fixed) (heard : M → Option (List ℕ)) where
     -- The turns that a link takes are played between two places, one after another, after so many
     -- datagrams and so many quiets in a row. A datagram is played as a line that sends it, under
     -- the datagram's number. The last turn is the one that reaches a bound, or whose submit finds

@@ -2,6 +2,7 @@
 use Rattle.std.specs.Prelude.{◌≡◌, ◌≢◌, ℕ, List, [], Option, None}
 use Rattle.osc_edge.specs.declared.clock.Moment.TheVariants.{At}
 use Rattle.osc_edge.specs.Clock.{GivesMoment}
+use Rattle.osc_method.specs.Heard.{Fixed}
 use Rattle.osc_turn.specs.declared.view.Entry.{Entry as Seen}
 use Rattle.osc_turn.specs.declared.view.View.{View}
 use Rattle.osc_turn.specs.History.{StartsWith}
@@ -13,7 +14,7 @@ use Rattle.osc_life.specs.Holders.{Holder, Onward}
 use Rattle.osc_links.specs.Ticks.{last_after, Reads, ClockRead, PlaysRound, PlaysRounds, EndsTicks}
 use Rattle.osc_links.specs.Ticks.{Ticks}
 
-module _ {M : Type 0} (keep : M → ℕ) (heard : M → Option (List ℕ)) where
+module _ {M : Type 0} (keep : M → Fixed) (heard : M → Option (List ℕ)) where
   -- one round was played, or the ticker has ended in it
   abbrev pub IsRound : Holder → Option ℕ → ClockRead → Round → List Seen → List Seen → Type 0
   IsRound holder last clock (Played after) here there =

@@ -4,6 +4,7 @@ use Rattle.std.specs.Prelude.{map, Option, Some, None}
 use Rattle.std.specs.List.{AllZip}
 use Rattle.std.specs.Option.{option_map, option_or}
 use Rattle.osc_atoms.specs.declared.fault.Fault.{Fault}
+use Rattle.osc_method.specs.Heard.{Fixed}
 use Rattle.osc_model.specs.Limits.{Limits}
 use Rattle.osc_model.specs.Events.{Room}
 use Rattle.osc_record.specs.Shown.{room_of}
@@ -97,7 +98,7 @@ module _ {L : Type 0} where
   -- The links were served at the same time, each under the caller in its place, and the ticker
   -- ticked under the last one. These callers come back with what their tokens know, which made
   -- none.
-  pub record Serves {M : Type 0} (keep : M → ℕ) (heard : M → Option (List ℕ))
+  pub record Serves {M : Type 0} (keep : M → Fixed) (heard : M → Option (List ℕ))
       (left : L → Option (List LinkTurn)) (faults : L → ℕ) (caps : Limits) (bounds : Bounds)
       (callers : List Caller) (links : List L) (clock : ClockRead) (end : ServeEnd L) : Type 0 where
     pub jobs : List (Job (LinkWork L))

@@ -2,6 +2,7 @@
 use Rattle.std.specs.Prelude.{◌≡◌, ℕ, List, [], ◌∷◌, ◌++◌, Option, Some, None, option_map, IfSome}
 use Rattle.osc_atoms.specs.declared.fault.Fault.{Fault}
 use Rattle.osc_edge.specs.Faults.{Rose}
+use Rattle.osc_method.specs.Heard.{Fixed}
 use Rattle.osc_record.specs.Shown.{room_of}
 use Rattle.osc_script.specs.declared.act.Act.TheVariants.{Send}
 use Rattle.osc_turn.specs.declared.view.Entry.{Entry as Seen}
@@ -14,7 +15,7 @@ use Rattle.osc_lanes.specs.Shares.{Account, then_told}
 use Rattle.osc_links.specs.Links.{LinkTurn, stop_by, link_account, PlaysTurns}
 use Rattle.osc_lanes.specs.Tells.{TellsAct}
 
-module _ {M : Type 0} (keep : M → ℕ) (heard : M → Option (List ℕ)) where
+module _ {M : Type 0} (keep : M → Fixed) (heard : M → Option (List ℕ)) where
   -- One turn was taken, with these faults told before and now, these turns left before and now,
   -- and these counts of faults of the link before and now.
   abbrev pub TakesOne : Holder → ℕ → List (ℕ × Fault) → List (ℕ × Fault) → Option (List LinkTurn)

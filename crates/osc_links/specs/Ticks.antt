@@ -4,6 +4,7 @@ use Rattle.std.specs.Prelude.{Some, None}
 use Rattle.osc_edge.specs.declared.clock.Moment.TheVariants.{At, Failed}
 use Rattle.osc_edge.specs.Clock.{GivesMoment}
 use Rattle.osc_edge.specs.Faults.{Rose}
+use Rattle.osc_method.specs.Heard.{Fixed}
 use Rattle.osc_model.specs.Events.{Room}
 use Rattle.osc_record.specs.Shown.{room_of}
 use Rattle.osc_script.specs.declared.act.Act.TheVariants.{Tick, Pump}
@@ -59,7 +60,7 @@ clock_read left faults before after =
       now = faults after;
     }
 
-module _ {M : Type 0} (keep : M → ℕ) (heard : M → Option (List ℕ)) where
+module _ {M : Type 0} (keep : M → Fixed) (heard : M → Option (List ℕ)) where
   -- one round is played between two places, up to the first event that finds no room
   abbrev pub PlaysRound : Holder → Option ℕ → ℕ → Option Room → List Seen → List Seen → Type 0
   PlaysRound holder last moment stop here there =

@@ -1,5 +1,6 @@
 -- A link as a work of a server's life, and the ticker as what goes on meanwhile.
 use Rattle.std.specs.Prelude.{ℕ, List, Option}
+use Rattle.osc_method.specs.Heard.{Fixed}
 use Rattle.osc_turn.specs.declared.view.Entry.{Entry as Seen}
 use Rattle.osc_turn.specs.declared.view.View.{View}
 use Rattle.osc_life.specs.Holders.{Holder}
@@ -10,7 +11,7 @@ use Rattle.osc_links.specs.Links.{LinkTurn, ServesLink}
 use Rattle.osc_links.specs.Rounds.{HasEnded}
 use Rattle.osc_links.specs.Ticks.{clock_read}
 
-module _ {M : Type 0} (keep : M → ℕ) (heard : M → Option (List ℕ)) where
+module _ {M : Type 0} (keep : M → Fixed) (heard : M → Option (List ℕ)) where
   -- what a link plays as a work
   abbrev pub link_plays : {L : Type 0} → (L → Option (List LinkTurn)) → (L → ℕ) → LinkWork L
       → LinkEnd L → Holder → List Seen → List Seen → Type 0

@@ -61,7 +61,7 @@ last_read before text history one is all =
       go (Some other) found same = found ∙ ap (λ (e : Entry). Some e) (last_is history other one same)
 
 last_written : (entries : List Entry) (texts : List (List ℕ)) (one : Entry) (text : List ℕ) → length texts ≡ length entries
-    → AreTexts (entries ++ one ∷ []) (texts ++ text ∷ []) → (mark : ℕ) × (text ≡ text_with mark one)
+    → AreTexts (entries ++ one ∷ []) (texts ++ text ∷ []) → (mark : List ℕ) × (text ≡ text_with mark one)
 last_written [] [] one text same are = are.0
 last_written [] (t ∷ texts) one text same are = absurd (omega (arith, same))
 last_written (e ∷ entries) [] one text same are = absurd (omega (arith, same))

@@ -7,6 +7,7 @@ use Rattle.std.specs.List.{AllByRecursion, Contains}
 use Rattle.std.proofs.lemmas.List.{map-append}
 use Rattle.std.proofs.lemmas.Simd.{map-map}
 use Rattle.std.proofs.lemmas.List.Elements.{Contains-append_left, Contains-append_right, Contains-append_cases}
+use Rattle.osc_method.specs.Heard.{Fixed}
 use Rattle.osc_laws.proofs.Members.{sent_from}
 use Rattle.osc_model.specs.Heard.{Told}
 use Rattle.osc_core.specs.Redoing.{told_as}
@@ -86,7 +87,7 @@ module _ {M : Type 0} where
       go (inl there) = Contains-append_left (Ids front) (Ids back) j there
       go (inr there) = Contains-append_right (Ids front) (Ids back) j (behind there)
 
-module _ {M : Type 0} (keep : M → ℕ) (heard : M → Option (List ℕ)) where
+module _ {M : Type 0} (keep : M → Fixed) (heard : M → Option (List ℕ)) where
   kept_marks : (whole : List M) (kept : List (ℕ × M)) → AllByRecursion (TellsMarkOf keep heard whole) (told keep heard kept)
       → AllByRecursion (HasMarkOf keep heard whole) kept
   kept_marks whole [] all = tt

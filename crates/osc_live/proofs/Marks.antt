@@ -3,6 +3,7 @@ use Rattle.std.proofs.Common.{◌≡◌, ℕ, zero, suc, List, [], ◌∷◌, �
 use Rattle.std.specs.List.{AllByRecursion, Contains}
 use Rattle.std.proofs.lemmas.List.{append-nil}
 use Rattle.std.proofs.lemmas.List.Elements.{filter_map-append, Contains-append_left}
+use Rattle.osc_method.specs.Heard.{Fixed}
 use Rattle.osc_model.specs.State.{State}
 use Rattle.osc_model.specs.Events.{Event, remove, removed, Entry, Invocation}
 use Rattle.osc_model.specs.Heard.{Told, reset}
@@ -26,16 +27,16 @@ last_marked texts [] told are = are.0
 last_marked texts (first ∷ boxes) told are = last_marked texts boxes told are.1
 
 -- the entry of an added method has the mark of its box
-pub added_tells : {M : Type 0} (keep : M → ℕ) (heard : M → Option (List ℕ)) (answer : Adding M) (method : M) (performance : Performance) (old new : List Told)
+pub added_tells : {M : Type 0} (keep : M → Fixed) (heard : M → Option (List ℕ)) (answer : Adding M) (method : M) (performance : Performance) (old new : List Told)
     (after : List (List ℕ)) → StandsFor performance new after
     → OnAdded answer (λ id. new ≡ old ++ reset (record { id = id; keep = keep method; heard = heard method }) ∷ [])
     → OnAdded answer (λ id. CarriesMark after id (mark_of (record { id = id; keep = keep method; heard = heard method })))
 added_tells keep heard (Added id) method performance old new after stands is =
     let told : Told = record { id = id; keep = keep method; heard = heard method } in
-    subst (λ (m : ℕ). CarriesMark after id m) (reset_mark told) (last_marked after old (reset told) (subst (AreMarked after) is stands.marked))
+    subst (λ (m : List ℕ). CarriesMark after id m) (reset_mark told) (last_marked after old (reset told) (subst (AreMarked after) is stands.marked))
 added_tells keep heard (Refused why address back) method performance old new after stands is = tt
 
-carries_on : (after before : List (List ℕ)) (id mark : ℕ) → StartsWith after before → CarriesMark before id mark → CarriesMark after id mark
+carries_on : (after before : List (List ℕ)) (id : ℕ) (mark : List ℕ) → StartsWith after before → CarriesMark before id mark → CarriesMark after id mark
 carries_on after before id mark (rest, is) (entry, adds, read, there) = (
   entry,
   adds,
@@ -65,7 +66,7 @@ clock_there caps new boxes after stands limits =
     ap (λ (p : Performance). (state_of p).clock) (λ i. record { caps = limits i; history = sym stands.read i })
 
 -- a box that is handed out has the mark of its id's entry, and has heard the history
-pub removed_tells : {M : Type 0} (keep : M → ℕ) (heard : M → Option (List ℕ)) (given : Removing M) (old new : Performance) (caller : ℕ) (address : List ℕ)
+pub removed_tells : {M : Type 0} (keep : M → Fixed) (heard : M → Option (List ℕ)) (given : Removing M) (old new : Performance) (caller : ℕ) (address : List ℕ)
     (boxes others : List Told) (before after : List (List ℕ))
     → ((performance : Performance) (caller : ℕ) (event : Event)
     → invoked_in (onward performance caller event) ≡ invoked_in performance ++ (stepped_in performance event).invocations)

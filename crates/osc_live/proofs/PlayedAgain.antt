@@ -10,7 +10,7 @@ use Rattle.std.proofs.lemmas.List.Elements.{filter_map-append, Contains-append_l
 use Rattle.osc_tree.proofs.Lists.{contains_later}
 use mathlib.Core.Logic.{dite}
 use native.Mathlib.Decide.{ℕ_discrete, dec_le}
-use Rattle.osc_method.specs.Heard.{after_call}
+use Rattle.osc_method.specs.Heard.{Fixed, after_call}
 use Rattle.osc_model.specs.Limits.{Limits}
 use Rattle.osc_model.specs.State.{State, opening}
 use Rattle.osc_model.specs.Events.{Event, enrol, submit, add, remove, tick, release, Answer, number, queued, added, removed, ticked, record_full, Entry}
@@ -49,7 +49,7 @@ handed release answer address given bank rest is takes = (is, takes.0)
 
 -- What comes of it.
 
-module _ {M : Type 0} (keep : M → ℕ) (heard : M → Option (List ℕ)) where
+module _ {M : Type 0} (keep : M → Fixed) (heard : M → Option (List ℕ)) where
   -- only a removed method's box comes out
   pub out_removed : (event : Event) (answer : Answer) (calls : List Invocation) (given : Option M) (old new : List Told) (method : M)
       → Redoes keep heard event answer calls given old new (Some method) → (id : ℕ) × (answer ≡ removed id)
@@ -196,19 +196,19 @@ added_more before entry = sum_by_push (λ (e : Entry). one_if (is_added e.answer
 -- Marks.
 
 mark_reset : (told : Told) → mark_of (reset told) ≡ mark_of told
-mark_reset told = ap (λ (t : Bool). cond t (told.keep + 1) 0) (go told.heard) where
+mark_reset told = ap (λ (t : Bool). cond t (told.keep.most + 1) 0 ∷ told.keep.name) (go told.heard) where
   go : (heard : Option (List ℕ)) → is_some (reset (record told { heard = heard })).heard ≡ is_some heard
   go None = refl
   go (Some bytes) = refl
 
 hear_mark : (told : Told) (invocation : Invocation) → mark_of (hear told invocation) ≡ mark_of told
 hear_mark told invocation = go (invocation.call.id == told.id) where
-  some : (heard : Option (List ℕ)) → is_some (after_call told.keep (bytes_of invocation) heard) ≡ is_some heard
+  some : (heard : Option (List ℕ)) → is_some (after_call told.keep.most (bytes_of invocation) heard) ≡ is_some heard
   some None = refl
   some (Some bytes) = refl
 
-  go : (t : Bool) → mark_of (cond t (record told { heard = after_call told.keep (bytes_of invocation) told.heard }) told) ≡ mark_of told
-  go true = ap (λ (t : Bool). cond t (told.keep + 1) 0) (some told.heard)
+  go : (t : Bool) → mark_of (cond t (record told { heard = after_call told.keep.most (bytes_of invocation) told.heard }) told) ≡ mark_of told
+  go true = ap (λ (t : Bool). cond t (told.keep.most + 1) 0 ∷ told.keep.name) (some told.heard)
   go false = refl
 
 hear_all_mark : (invocations : List Invocation) (told : Told) → mark_of (hear_all invocations told) ≡ mark_of told
@@ -236,7 +236,7 @@ cancelled : {X : Type 0} (o : Option X) (xs ys : List X) → option_to_list o ++
 cancelled None xs ys e = e
 cancelled (Some x) xs ys e = let rest : xs ≡ ys = cc in rest
 
-module _ {M : Type 0} (keep : M → ℕ) (heard : M → Option (List ℕ)) where
+module _ {M : Type 0} (keep : M → Fixed) (heard : M → Option (List ℕ)) where
   marks_hear : (bank : List M) (calls : List Invocation) (boxes : List Told) → AllByRecursion (TellsMarkOf keep heard bank) boxes
       → AllByRecursion (TellsMarkOf keep heard bank) (all_hear calls boxes)
   marks_hear bank calls [] all = tt
@@ -510,7 +510,7 @@ pub record Asks {M : Type 0} (entry : Entry) (performance : Performance) (addres
   pub address : (left : List (List ℕ)) × (addresses ≡ option_to_list (needed_by entry.event entry.answer) ++ left)
   pub method : takes_box entry.event entry.answer ≡ true → 0 < length rest
 
-pub asks : {M : Type 0} (keep : M → ℕ) (heard : M → Option (List ℕ)) (caps : Limits) (history : List Entry) (bank : List M) (entry : Entry)
+pub asks : {M : Type 0} (keep : M → Fixed) (heard : M → Option (List ℕ)) (caps : Limits) (history : List Entry) (bank : List M) (entry : Entry)
     (left : List Entry) (performance : Performance) (boxes : List Told) (addresses : List (List ℕ)) (rest : List M) (out : List (ℕ × M))
     → Legal caps history → added_in history ≤ length bank
     → IsRedone keep heard caps history bank (entry ∷ left) performance boxes addresses rest out → Asks entry performance addresses rest

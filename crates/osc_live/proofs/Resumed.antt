@@ -17,7 +17,7 @@ use Rattle.osc_model.specs.Events.{removed, Entry, Invocation}
 use Rattle.osc_model.specs.Step.{step}
 use Rattle.osc_model.proofs.Onward.{after_more, invoked_more, legal_split}
 use Rattle.osc_model.proofs.Silence.{loses}
-use Rattle.osc_method.specs.Heard.{last_of}
+use Rattle.osc_method.specs.Heard.{Fixed, last_of}
 use Rattle.osc_model.specs.Enrolled.{callers_in}
 use Rattle.osc_model.specs.Heard.{Told, bytes_of}
 use Rattle.osc_model.specs.History.{Legal, Performance, state_of, after, invocations, HasHeard}
@@ -113,9 +113,9 @@ still_heard calls more told none heard =
     let p : Invocation → Bool = λ call. call.call.id == told.id in
     let same : filter p (calls ++ more) ≡ filter p calls =
     filter-append p calls more ∙ (ap (λ (l : List Invocation). filter p calls ++ l) none ∙ append-nil (filter p calls)) in
-    heard ∙ ap (λ (l : List Invocation). option_map (λ _. last_of told.keep (flat_map bytes_of l)) told.heard) (sym same)
+    heard ∙ ap (λ (l : List Invocation). option_map (λ _. last_of told.keep.most (flat_map bytes_of l)) told.heard) (sym same)
 
-module _ {M : Type 0} (keep : M → ℕ) (heard : M → Option (List ℕ)) where
+module _ {M : Type 0} (keep : M → Fixed) (heard : M → Option (List ℕ)) where
   -- what is known once all entries are played again
   pub record IsWhole (limits : Limits) (history : List Entry) (bank : List M) (performance : Performance) (boxes : List Told) (rest : List M)
       (out : List (ℕ × M)) : Type 0 where
@@ -144,7 +144,7 @@ module _ {M : Type 0} (keep : M → ℕ) (heard : M → Option (List ℕ)) where
       let both : Some mark.0 ≡ Some method = sym mark.1 ∙ (ap (slice_get bank) from.2 ∙ there) in
       let same : mark.0 ≡ method = cc in
       subst (λ (n : ℕ). CarriesMark opened n (mark_of (told_as keep heard id method))) from.2
-      (subst (λ (n : ℕ). CarriesMark opened told.id n) (mark.2 ∙ ap (λ (m : M). mark_of (told_as keep heard id m)) same) carries)
+      (subst (λ (n : List ℕ). CarriesMark opened told.id n) (mark.2 ∙ ap (λ (m : M). mark_of (told_as keep heard id m)) same) carries)
 
   pub resumed : (caps limits : Limits) (room : ℕ) (history : List Entry) (bank : List M) (performance : Performance) (boxes : List Told)
       (addresses : List (List ℕ)) (rest left : List M) (out : List (ℕ × M)) (opened : List (List ℕ)) (callers : List (ℕ × View)) (count : ℕ)

@@ -16,7 +16,7 @@ use Rattle.osc_live.specs.Seen.{history_of, performance_in}
 -- the text of an entry comes after these
 pub record AddsText (one : Entry) (before after : List (List ℕ)) : Type 0 where
   pub text : List ℕ
-  pub mark : ℕ
+  pub mark : List ℕ
   pub last : after ≡ before ++ text ∷ []
   pub text_is : text ≡ text_with mark one
   pub read : entry_in text ≡ Some one
@@ -39,7 +39,7 @@ pub record EndsWith (caps : Limits) (caller : ℕ) (event : Event) (answer : Ans
     (v w : View) : Type 0 where
   pub before : List Seen
   pub text : List ℕ
-  pub mark : ℕ
+  pub mark : List ℕ
   pub last : w.seen ≡ before ++ entry (number_of v) text ∷ []
   pub text_is : text ≡ text_with mark (record { caller = caller; event = event; answer = answer })
   pub read : entry_in text ≡ Some (record { caller = caller; event = event; answer = answer })

@@ -3,6 +3,7 @@ use Rattle.std.specs.Prelude.{◌≡◌, ◌⊎◌, ℕ, ◌+◌, ◌<◌, ◌�
 use Rattle.std.specs.Prelude.{Some, None, is_some}
 use Rattle.std.specs.Prelude.{MatchBool, length, map, drop, slice_get}
 use Rattle.std.specs.List.{AllByRecursion, Contains}
+use Rattle.osc_method.specs.Heard.{Fixed}
 use Rattle.osc_model.specs.Limits.{Limits}
 use Rattle.osc_model.specs.Events.{Event, add, remove, release, Answer, added, removed, Entry}
 use Rattle.osc_model.specs.Events.{Invocation}
@@ -32,7 +33,7 @@ TakesEither id old new others more result =
     ((is_some result ≡ true) × TakesOut id old new result × (more ≡ others))
     ⊎ ((Contains (map (λ one. one.0) old) id → ⊥) × (new ≡ old) × TakesOut id others more result)
 
-module _ {M : Type 0} (keep : M → ℕ) (heard : M → Option (List ℕ)) where
+module _ {M : Type 0} (keep : M → Fixed) (heard : M → Option (List ℕ)) where
   -- a box leaves the bank, reset, to stand last among the boxes
   abbrev TakesBox : ℕ → List M → List M → List Told → List Told → Type 0
   TakesBox id bank rest old new = (method : M) × (bank ≡ method ∷ rest)

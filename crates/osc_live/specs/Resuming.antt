@@ -3,6 +3,7 @@ use Rattle.std.specs.Prelude.{◌≡◌, ℕ, zero, suc, ◌+◌, ◌≤◌, max
 use Rattle.std.specs.Prelude.{slice_get, count_by, if◌then◌else◌, Bool, false, Option, Some, None}
 use Rattle.std.specs.Prelude.{All}
 use Rattle.std.specs.List.{filter_map, Contains}
+use Rattle.osc_method.specs.Heard.{Fixed}
 use Rattle.osc_turn.specs.declared.view.View.{View}
 use Rattle.osc_turn.specs.Rule.{reopening}
 use Rattle.osc_turn.specs.Passes.{guest_of}
@@ -81,14 +82,14 @@ all_resumed caps opened zero = []
 all_resumed caps opened (suc count) =
     (0, first_resumed caps opened (suc count)) ∷ others_resumed caps opened 1 count
 
-module _ {M : Type 0} (keep : M → ℕ) (heard : M → Option (List ℕ)) where
+module _ {M : Type 0} (keep : M → Fixed) (heard : M → Option (List ℕ)) where
   -- a box has the mark of the one that stood in the place of its id
   abbrev pub HasMarkOf : List M → ℕ × M → Type 0
   HasMarkOf bank one = (method : M) × (slice_get bank one.0 ≡ Some method)
       × (mark_of (told_as keep heard one.0 one.1) ≡ mark_of (told_as keep heard one.0 method))
 
   -- the marks of boxes
-  abbrev pub marks : List M → List ℕ
+  abbrev pub marks : List M → List (List ℕ)
   marks boxes = map (λ method. mark_of (told_as keep heard 0 method)) boxes
 
   -- the boxes of removed methods have heard what the history says

@@ -1,5 +1,5 @@
 // A method that does nothing.
-ghost use Rattle.std.specs.Prelude.{None};
+ghost use Rattle.std.specs.Prelude.{None, []};
 
 use crate::{Call, Method};
 
@@ -8,7 +8,7 @@ use crate::{Call, Method};
 pub struct Mute;
 
 impl Method for Mute {
-    ghost keep = { λ _. 0 };
+    ghost keep = { λ _. record { most = 0; name = [] } };
 
     ghost heard = { λ _. None };
 

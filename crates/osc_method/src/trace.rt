@@ -23,7 +23,7 @@ impl Trace {
     pub fn open(alloc: Global, keep: u32) -> Result<Trace, AllocError>
         requires some { 0 < keep }
         requires few { keep ≤ 1048576 }
-        ensures keep { IfOk result (λ trace. ⟦<Trace as Method>⟧.keep trace ≡ keep) }
+        ensures keep { IfOk result (λ trace. ⟦<Trace as Method>⟧.keep trace ≡ record { most = keep; name = [] }) }
         ensures heard { IfOk result (λ trace. ⟦<Trace as Method>⟧.heard trace ≡ Some []) }
     {
         Ok(Trace {
@@ -43,7 +43,7 @@ fn head_of(unit: u64, index: u32, size: u32) -> [u8; 16]
 }
 
 impl Method for Trace {
-    ghost keep = { λ t. t.bytes.capacity };
+    ghost keep = { λ t. record { most = t.bytes.capacity; name = [] } };
 
     ghost heard = { λ t. Some t.bytes.items };
 

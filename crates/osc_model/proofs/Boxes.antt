@@ -77,8 +77,8 @@ none_called id (call ∷ calls) below =
 -- a box of an id that no call has yet has heard nothing
 fresh_heard_none : (calls : List Invocation) (told : Told) → AllByRecursion (λ call. call.call.id < told.id) calls → HasHeard calls (reset told)
 fresh_heard_none calls told below =
-    let nothing : heard_of calls told.id told.keep ≡ [] =
-    ap (λ (l : List Invocation). last_of told.keep (flat_map bytes_of l)) (none_called told.id calls below) ∙ drop_all (0 - told.keep) [] (omega arith) in
+    let nothing : heard_of calls told.id told.keep.most ≡ [] =
+    ap (λ (l : List Invocation). last_of told.keep.most (flat_map bytes_of l)) (none_called told.id calls below) ∙ drop_all (0 - told.keep.most) [] (omega arith) in
     go told.heard ∙ sym (ap (λ (l : List ℕ). option_map (λ _. l) (reset told).heard) nothing)
   where
     go : (heard : Option (List ℕ)) → option_map (λ (_ : List ℕ). let none : List ℕ = [] in none) heard
@@ -134,7 +134,7 @@ others_left performance caller id address boxes sound have is =
 
 -- a box that hears a call
 abbrev pub hearing : Told → Invocation → Told
-hearing box call = record box { heard = after_call box.keep (bytes_of call) box.heard }
+hearing box call = record box { heard = after_call box.keep.most (bytes_of call) box.heard }
 
 hear_id : (box : Told) (call : Invocation) → (hear box call).id ≡ box.id
 hear_id box call = go (call.call.id == box.id) where
@@ -155,8 +155,8 @@ reset_heard : (calls : List Invocation) (box : Told) → HasHeard calls (hear_al
 reset_heard calls box =
     subst (HasHeard calls) (sym (fresh_heard box calls)) (go box.heard)
   where
-    go : (heard : Option (List ℕ)) → option_map (λ _. heard_of calls box.id box.keep) heard
-        ≡ option_map (λ _. heard_of calls box.id box.keep) (option_map (λ _. heard_of calls box.id box.keep) heard)
+    go : (heard : Option (List ℕ)) → option_map (λ _. heard_of calls box.id box.keep.most) heard
+        ≡ option_map (λ _. heard_of calls box.id box.keep.most) (option_map (λ _. heard_of calls box.id box.keep.most) heard)
     go None = refl
     go (Some bytes) = refl
 

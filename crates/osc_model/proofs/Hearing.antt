@@ -52,8 +52,8 @@ telling told heard = record told { heard = heard }
 
 hear_within : (told : Told) (invocation : Invocation) → IsWithin told → IsWithin (hear told invocation)
 hear_within told invocation within = go (invocation.call.id == told.id) where
-  go : (t : Bool) → IsWithin (cond t (telling told (after_call told.keep (bytes_of invocation) told.heard)) told)
-  go true = more_within told.keep (bytes_of invocation) told.heard
+  go : (t : Bool) → IsWithin (cond t (telling told (after_call told.keep.most (bytes_of invocation) told.heard)) told)
+  go true = more_within told.keep.most (bytes_of invocation) told.heard
   go false = within
 
 pub all_within : (told : Told) (invocations : List Invocation) → IsWithin told → IsWithin (hear_all invocations told)
@@ -61,23 +61,23 @@ all_within told [] within = within
 all_within told (invocation ∷ invocations) within = all_within (hear told invocation) invocations (hear_within told invocation within)
 
 pub all_heard : (told : Told) (invocations : List Invocation) → IsWithin told
-    → hear_all invocations told ≡ telling told (after_call told.keep (calls_bytes invocations told.id) told.heard)
-all_heard told [] within = ap (telling told) (none_more told.keep told.heard within)
+    → hear_all invocations told ≡ telling told (after_call told.keep.most (calls_bytes invocations told.id) told.heard)
+all_heard told [] within = ap (telling told) (none_more told.keep.most told.heard within)
 all_heard told (invocation ∷ invocations) within =
     go (invocation.call.id == told.id)
-    (all_heard (telling told (after_call told.keep (bytes_of invocation) told.heard)) invocations (more_within told.keep (bytes_of invocation) told.heard))
+    (all_heard (telling told (after_call told.keep.most (bytes_of invocation) told.heard)) invocations (more_within told.keep.most (bytes_of invocation) told.heard))
     (all_heard told invocations within)
   where
     go : (t : Bool)
-        → hear_all invocations (telling told (after_call told.keep (bytes_of invocation) told.heard))
-        ≡ telling told (after_call told.keep (calls_bytes invocations told.id) (after_call told.keep (bytes_of invocation) told.heard))
-        → hear_all invocations told ≡ telling told (after_call told.keep (calls_bytes invocations told.id) told.heard)
-        → hear_all invocations (cond t (telling told (after_call told.keep (bytes_of invocation) told.heard)) told)
+        → hear_all invocations (telling told (after_call told.keep.most (bytes_of invocation) told.heard))
+        ≡ telling told (after_call told.keep.most (calls_bytes invocations told.id) (after_call told.keep.most (bytes_of invocation) told.heard))
+        → hear_all invocations told ≡ telling told (after_call told.keep.most (calls_bytes invocations told.id) told.heard)
+        → hear_all invocations (cond t (telling told (after_call told.keep.most (bytes_of invocation) told.heard)) told)
         ≡ telling told
-        (after_call told.keep
+        (after_call told.keep.most
         (flat_map bytes_of
         (cond t (invocation ∷ filter (λ other. other.call.id == told.id) invocations) (filter (λ other. other.call.id == told.id) invocations))) told.heard)
-    go true hears keeps = hears ∙ ap (telling told) (more_twice told.keep (bytes_of invocation) (calls_bytes invocations told.id) told.heard)
+    go true hears keeps = hears ∙ ap (telling told) (more_twice told.keep.most (bytes_of invocation) (calls_bytes invocations told.id) told.heard)
     go false hears keeps = keeps
 
 reset_within : (keep : ℕ) (heard : Option (List ℕ)) → IfSome (option_map (λ (_ : List ℕ). let none : List ℕ = [] in none) heard) (λ bytes. length bytes ≤ keep)
@@ -90,10 +90,10 @@ fresh_told keep calls None = refl
 fresh_told keep calls (Some bytes) = refl
 
 pub fresh_heard : (told : Told) (invocations : List Invocation)
-    → hear_all invocations (reset told) ≡ telling told (option_map (λ _. heard_of invocations told.id told.keep) told.heard)
+    → hear_all invocations (reset told) ≡ telling told (option_map (λ _. heard_of invocations told.id told.keep.most) told.heard)
 fresh_heard told invocations =
-    all_heard (reset told) invocations (reset_within told.keep told.heard)
-    ∙ ap (telling told) (fresh_told told.keep (calls_bytes invocations told.id) told.heard)
+    all_heard (reset told) invocations (reset_within told.keep.most told.heard)
+    ∙ ap (telling told) (fresh_told told.keep.most (calls_bytes invocations told.id) told.heard)
 
 pub heard_on : (told : Told) (first more : List Invocation) → hear_all (first ++ more) told ≡ hear_all more (hear_all first told)
 heard_on told [] more = refl

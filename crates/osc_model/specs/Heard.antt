@@ -4,14 +4,14 @@ use Rattle.std.specs.Prelude.{Option, IfSome}
 use Rattle.std.specs.Option.{option_map}
 use Rattle.std.specs.List.{flat_map}
 use Rattle.osc_method.specs.Calls.{call_text}
-use Rattle.osc_method.specs.Heard.{last_of, after_call}
+use Rattle.osc_method.specs.Heard.{Fixed, last_of, after_call}
 use Rattle.osc_model.specs.Events.{Invocation}
 
--- what is known of a boxed method: the id under which it is registered, how many bytes it keeps,
--- and the bytes that it tells, where it tells
+-- what is known of a boxed method: the id under which it is registered, what no call changes, and
+-- the bytes that it tells, where it tells
 pub record Told : Type 0 where
   pub id : ℕ
-  pub keep : ℕ
+  pub keep : Fixed
   pub heard : Option (List ℕ)
 
 -- the bytes of the call that an invocation makes
@@ -35,7 +35,7 @@ reset told = record told { heard = option_map (λ _. []) told.heard }
 abbrev pub hear : Told → Invocation → Told
 hear told invocation =
     if invocation.call.id == told.id
-    then record told { heard = after_call told.keep (bytes_of invocation) told.heard } else told
+    then record told { heard = after_call told.keep.most (bytes_of invocation) told.heard } else told
 
 -- a box hears invocations one after another
 abbrev pub hear_all : List Invocation → Told → Told
@@ -44,7 +44,7 @@ hear_all (invocation ∷ invocations) told = hear_all invocations (hear told inv
 
 -- what a box tells is no more than it keeps
 abbrev pub IsWithin : Told → Type 0
-IsWithin told = IfSome told.heard (λ bytes. length bytes ≤ told.keep)
+IsWithin told = IfSome told.heard (λ bytes. length bytes ≤ told.keep.most)
 
 -- each box hears the invocations of its id
 abbrev pub all_hear : List Invocation → List Told → List Told

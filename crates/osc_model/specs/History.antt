@@ -122,7 +122,7 @@ onward performance caller event =
 -- what a registered method has heard: the last bytes of the calls of its id, where it tells
 abbrev pub HasHeard : List Invocation → Told → Type 0
 HasHeard invocations told =
-    told.heard ≡ option_map (λ _. heard_of invocations told.id told.keep) told.heard
+    told.heard ≡ option_map (λ _. heard_of invocations told.id told.keep.most) told.heard
 
 -- there is a box for each registered method, in the order of adding, and each has heard its calls
 pub record HaveHeard (performance : Performance) (boxes : List Told) : Type 0 where

@@ -219,7 +219,7 @@ pub fn a_box_hears_its_calls()
         → hear_all invocations told
         ≡ record told {
           heard = option_map
-              (λ bytes. last_of told.keep (bytes ++ calls_bytes invocations told.id)) told.heard;
+              (λ bytes. last_of told.keep.most (bytes ++ calls_bytes invocations told.id)) told.heard;
         } }
     ensures within { (told : Told) (invocations : List Invocation) → IsWithin told
         → IsWithin (hear_all invocations told) }
@@ -227,7 +227,7 @@ pub fn a_box_hears_its_calls()
         → hear_all invocations (reset told)
         ≡ record told {
           heard = option_map
-              (λ _. heard_of invocations told.id told.keep) told.heard;
+              (λ _. heard_of invocations told.id told.keep.most) told.heard;
         } }
     ensures on { (told : Told) (first more : List Invocation)
         → hear_all (first ++ more) told ≡ hear_all more (hear_all first told) }

@@ -1,6 +1,7 @@
 use Rattle.std.proofs.Common.{◌≡◌, ◌≢◌, ◌⊎◌, inl, inr, ℕ, ◌<◌, ◌≤◌, List, [], length, Option, Some, None, IfSome, IsOkAnd, Result, Ok, Err}
 use Rattle.std.proofs.Common.{sym, ap, subst, ◌∙◌, arith}
 use Rattle.std.specs.Prelude.{IsSomeAnd, IsErrAnd}
+use Rattle.osc_method.specs.Heard.{Fixed}
 use Rattle.osc_model.specs.Limits.{Limits, max_recording}
 use Rattle.osc_score.specs.Scores.{Note}
 use Rattle.osc_score.specs.Scripted.{score_script}
@@ -113,7 +114,7 @@ notes_short Ends status score out three = record {
   lawful = λ _ short. absurd (short three);
 }
 
-module _ {M : Type 0} (keep : M → ℕ) (tells : M → Option (List ℕ)) (status : ℕ) (bank : List M) (heard : List (ℕ × M)) (left : List M) (out : SinkChange) where
+module _ {M : Type 0} (keep : M → Fixed) (tells : M → Option (List ℕ)) (status : ℕ) (bank : List M) (heard : List (ℕ × M)) (left : List M) (out : SinkChange) where
   -- how lines end
   abbrev pub EndsLinesHere : Report → Limits → List Line → Type 0
   EndsLinesHere report caps lines = EndsOver keep tells report caps status bank heard left out lines
@@ -149,7 +150,7 @@ run_refused Ends status decided input out same refuses read =
     (λ script one refused. record { refused = λ _. refused; lawful = λ lawful _. absurd (lawful one) })
     (λ script three. run_short Ends status script out three) read
 
-module _ {S O M : Type 0} (to_read : S → Option (List ℕ)) (source_faults : S → ℕ) (held : O → Option (List ℕ)) (sink_faults : O → ℕ) (keep : M → ℕ)
+module _ {S O M : Type 0} (to_read : S → Option (List ℕ)) (source_faults : S → ℕ) (held : O → Option (List ℕ)) (sink_faults : O → ℕ) (keep : M → Fixed)
     (tells : M → Option (List ℕ)) (source source_after : S) (out out_after : O) (bank : List M) (heard : List (ℕ × M)) (left : List M) (status : ℕ) where
   -- what becomes of the sink
   abbrev change : SinkChange

@@ -1,6 +1,7 @@
 -- How each command of `osc` ends, and what becomes of the boxes that it was handed.
 use Rattle.std.specs.Prelude.{◌≡◌, ◌≢◌, ℕ, ◌≤◌, IsTrue, List, [], map, length, Option}
 use Rattle.std.specs.Prelude.{IsOk, IsOkAnd}
+use Rattle.osc_method.specs.Heard.{Fixed}
 use Rattle.osc_core.specs.Ids.{is_ascending}
 use Rattle.osc_model.specs.Limits.{Limits, max_recording}
 use Rattle.osc_model.specs.Events.{Entry}
@@ -60,7 +61,7 @@ module _ {M : Type 0} where
   abbrev pub HandsAllBack : ℕ → List M → List (ℕ × M) → List M → Type 0
   HandsAllBack status bank heard left = status ≢ NO_MEMORY → (heard ≡ []) × (left ≡ bank)
 
-module _ {M : Type 0} (keep : M → ℕ) (tells : M → Option (List ℕ)) (status : ℕ) (bank : List M)
+module _ {M : Type 0} (keep : M → Fixed) (tells : M → Option (List ℕ)) (status : ℕ) (bank : List M)
     (heard : List (ℕ × M)) (left : List M) where
   -- the end of a command that reads an input, and what becomes of the boxes
   abbrev pub EndsReading : Reading → List ℕ → SinkChange → Type 0
@@ -74,7 +75,7 @@ module _ {M : Type 0} (keep : M → ℕ) (tells : M → Option (List ℕ)) (stat
       (EndsOver keep tells Text default_limits status bank heard left out) status input out
 
 module _ {S O M : Type 0} (to_read : S → Option (List ℕ)) (source_faults : S → ℕ)
-    (held : O → Option (List ℕ)) (sink_faults : O → ℕ) (keep : M → ℕ)
+    (held : O → Option (List ℕ)) (sink_faults : O → ℕ) (keep : M → Fixed)
     (tells : M → Option (List ℕ)) where
   -- the end of a command, and what becomes of the boxes
   abbrev pub EndsPlain : PlainCommand → ℕ → S → S → O → O → List M → List (ℕ × M) → List M → Type 0

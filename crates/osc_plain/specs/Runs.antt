@@ -1,4 +1,5 @@
 -- How a run of a script's lines ends, and what it writes.
+use Rattle.osc_method.specs.Heard.{Fixed}
 use Rattle.osc_ends.specs.declared.status.TheConstants.{BANK_SHORT, DONE, NO_MEMORY, RECORDING_FULL}
 use Rattle.osc_ends.specs.declared.status.TheConstants.{REFUSED, SINK_FAILED}
 use Rattle.std.specs.Prelude.{◌≡◌, ◌≢◌, ◌⊎◌, ℕ, ◌≤◌, ◌<◌, List, ◌++◌, length, Option, None}
@@ -75,7 +76,7 @@ pub record EndsLines (report : Report) (caps : Limits) (status have : ℕ) (line
       × GainsUnless out (bank_short_text (count_adds lines) have)
 
 -- The end of a run of lines over a bank, where each box is accounted for if something was played.
-abbrev pub EndsOver : {M : Type 0} → (M → ℕ) → (M → Option (List ℕ)) → Report → Limits → ℕ
+abbrev pub EndsOver : {M : Type 0} → (M → Fixed) → (M → Option (List ℕ)) → Report → Limits → ℕ
     → List M → List (ℕ × M) → List M → SinkChange → List Line → Type 0
 EndsOver keep tells report caps status bank heard left out lines =
     EndsLines report caps status (length bank) lines out

@@ -7,6 +7,7 @@ use Rattle.std.proofs.lemmas.Bool.Decides.{nat_tests}
 use Rattle.std.proofs.lemmas.Bool.{and_from}
 use Rattle.std.proofs.lemmas.List.{map-append}
 use Rattle.std.proofs.lemmas.List.Sorted.{IsPermutation-map, IsPermutation-sym, IsPermutation-trans, Contains-permutation, sum_by-IsPermutation}
+use Rattle.osc_method.specs.Heard.{Fixed}
 use Rattle.osc_model.specs.Limits.{Limits}
 use Rattle.osc_model.specs.Events.{Answer, Entry}
 use Rattle.osc_model.specs.Heard.{Told}
@@ -56,7 +57,7 @@ rising_ids {P} tell number numbered (one ∷ ones) rising =
     (subst (λ (n : ℕ). AllByRecursion (λ other. n < other.id) (map tell ones)) (numbered one) rising.0) in
     and_from (list_all (nat_lt (number one)) (map number ones)) (is_ascending (map number ones)) below (rising_ids tell number numbered ones rising.1)
 
-module _ {M : Type 0} (keep : M → ℕ) (heard : M → Option (List ℕ)) where
+module _ {M : Type 0} (keep : M → Fixed) (heard : M → Option (List ℕ)) where
   -- what is told of a box under its id
   abbrev tell : ℕ × M → Told
   tell one = record { id = one.0; keep = keep one.1; heard = heard one.1 }

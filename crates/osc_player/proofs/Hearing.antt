@@ -17,7 +17,7 @@ use Rattle.osc_player.proofs.Rising.{all_weaker, count, times, one_if}
 -- what is known of boxes that hear calls
 pub record HearsCalls : Type 0 where
   pub fresh : (told : Told) (calls : List Invocation)
-      → hear_all calls (reset told) ≡ record told { heard = option_map (λ _. heard_of calls told.id told.keep) told.heard }
+      → hear_all calls (reset told) ≡ record told { heard = option_map (λ _. heard_of calls told.id told.keep.most) told.heard }
   pub on : (told : Told) (first more : List Invocation) → hear_all (first ++ more) told ≡ hear_all more (hear_all first told)
 
 -- a box under an id
@@ -52,8 +52,8 @@ waiting_push (first ∷ answers) answer (one ∷ bank) box more is = waiting_pus
 pub fresh_box : (id : ℕ) (calls : List Invocation) (box : Meaning) → AllByRecursion (λ call. call.call.id < id) calls
     → box_heard calls (added id) box ≡ reset (told_at id box) ∷ []
 fresh_box id calls box below =
-    let nothing : heard_of calls id box.keep ≡ [] = ap (λ (l : List Invocation). last_of box.keep (flat_map bytes_of l)) (none_called id calls below)
-    ∙ drop_all (0 - box.keep) [] (omega arith) in
+    let nothing : heard_of calls id box.keep.most ≡ [] = ap (λ (l : List Invocation). last_of box.keep.most (flat_map bytes_of l)) (none_called id calls below)
+    ∙ drop_all (0 - box.keep.most) [] (omega arith) in
     ap (λ (l : List ℕ). let told : Told = record { id = id; keep = box.keep; heard = option_map (λ _. l) box.heard } in told ∷ []) nothing
 
 -- More calls.

@@ -2,6 +2,7 @@
 -- which are left.
 use Rattle.std.specs.Prelude.{◌≡◌, ℕ, ◌≤◌, List, [], ◌∷◌, ◌++◌, map, length, Option}
 use Rattle.std.specs.Option.{option_map}
+use Rattle.osc_method.specs.Heard.{Fixed}
 use Rattle.osc_model.specs.Limits.{Limits}
 use Rattle.osc_model.specs.State.{opening}
 use Rattle.osc_model.specs.Events.{Event, add, Answer, added, Entry, Invocation}
@@ -13,13 +14,13 @@ use Rattle.osc_script.specs.declared.line.Line.{Line}
 use Rattle.osc_script.specs.Adds.{count_adds}
 use Rattle.osc_player.specs.Plain.{plain}
 
--- how many bytes a box keeps, and those that it tells, where it tells
+-- what no call of a box changes, and the bytes that it tells, where it tells
 pub record Meaning : Type 0 where
-  pub keep : ℕ
+  pub keep : Fixed
   pub heard : Option (List ℕ)
 
--- what a box keeps and tells
-abbrev pub meaning : {M : Type 0} → (M → ℕ) → (M → Option (List ℕ)) → M → Meaning
+-- what no call of a box changes, and what it tells
+abbrev pub meaning : {M : Type 0} → (M → Fixed) → (M → Option (List ℕ)) → M → Meaning
 meaning keep tells box = record { keep = keep box; heard = tells box }
 
 abbrev pub answer_to_add : Event → Answer → List Answer
@@ -38,7 +39,7 @@ box_heard calls (added id) box =
     record {
       id = id;
       keep = box.keep;
-      heard = option_map (λ _. heard_of calls id box.keep) box.heard;
+      heard = option_map (λ _. heard_of calls id box.keep.most) box.heard;
     } ∷ []
 box_heard calls _ box = []
 
@@ -69,7 +70,7 @@ heard_after caps history bank =
 -- The result of a bank: there was a box for each add of the lines; their history is a legal one, and
 -- keeps the four laws; the boxes that were added have heard what it says; and the others are left,
 -- as they were.
-pub record IsAccounted {M : Type 0} (keep : M → ℕ) (tells : M → Option (List ℕ)) (caps : Limits)
+pub record IsAccounted {M : Type 0} (keep : M → Fixed) (tells : M → Option (List ℕ)) (caps : Limits)
     (lines : List Line) (bank : List M) (heard : List (ℕ × M)) (left : List M) : Type 0 where
   pub enough : count_adds lines ≤ length bank
   pub legal : Legal caps (plain caps lines).history

@@ -3,6 +3,7 @@ use Rattle.std.specs.Prelude.{◌≡◌, ℕ, ◌+◌, ◌≤◌, IsTrue, List, 
 use Rattle.std.specs.Option.{option_map}
 use Rattle.std.specs.Vec.Iter.{into_iter_items}
 use Rattle.osc_atoms.specs.declared.room.Room.{Room}
+use Rattle.osc_method.specs.Heard.{Fixed}
 use Rattle.osc_method.specs.declared.method.Method.{Ghosts}
 use Rattle.osc_model.specs.History.{Performance, state_of, invoked_in}
 use Rattle.osc_record.specs.Shown.{room_of}
@@ -16,7 +17,7 @@ use Rattle.osc_script.specs.Adds.{adds_of}
 use Rattle.osc_player.specs.Plain.{LineFault, entries_of, stop_of, plain_from, printed_faults}
 use Rattle.osc_player.specs.Tally.{IsAt, IsOver, IsAtUnless, played_on}
 
-module _ {M : Type 0} {G : Ghosts M} (keep : M → ℕ) (heard : M → Option (List ℕ)) where
+module _ {M : Type 0} {G : Ghosts M} (keep : M → Fixed) (heard : M → Option (List ℕ)) where
   -- each box of the bank is where the history says, with what it says
   abbrev pub HasTallied : List M → Player M G → Type 0
   HasTallied bank player =
@@ -61,7 +62,7 @@ module _ {M : Type 0} {G : Ghosts M} (keep : M → ℕ) (heard : M → Option (L
 
 -- The boxes of a bank after a performance: those that were added by ascending ids, with what they
 -- heard, and the others.
-pub record AreParted {M : Type 0} (keep : M → ℕ) (tells : M → Option (List ℕ))
+pub record AreParted {M : Type 0} (keep : M → Fixed) (tells : M → Option (List ℕ))
     (performance : Performance) (bank : List M) (heard : List (ℕ × M))
     (left : List M) : Type 0 where
   pub boxes : told keep tells heard

@@ -29,7 +29,7 @@ pub struct Relay<O: Outlet> {
     ghost within: { start ≤ vec_len space },
     ghost written: { take start space.items ≡ string address },
     ghost relayed: { All (λ outlet. ∥ HasRelayed address (length space.items)
-        (⟦<Trace as Method>⟧.keep trace) (⟦<Trace as Method>⟧.heard trace)
+        (⟦<Trace as Method>⟧.keep trace).most (⟦<Trace as Method>⟧.heard trace)
         (O.sent outlet) (O.losses outlet) ∥₁) outlets.items },
 }
 
@@ -66,7 +66,8 @@ impl<O: Outlet> Relay<O> {
         requires few { keep ≤ 1048576 }
         ensures address { IfOk result (λ relay. relay.address ≡ address) }
         ensures room { IfOk result (λ relay. room_of relay ≡ room) }
-        ensures keep { IfOk result (λ relay. ⟦<Relay<O> as Method>⟧.keep relay ≡ keep) }
+        ensures keep { IfOk result (λ relay. ⟦<Relay<O> as Method>⟧.keep relay
+            ≡ record { most = keep; name = address }) }
         ensures heard { IfOk result (λ relay. ⟦<Relay<O> as Method>⟧.heard relay ≡ Some []) }
         ensures outlets { IfOk result
             (λ relay. AllZip (IsReset O.sent O.losses) outlets.items relay.outlets.items) }
@@ -94,7 +95,7 @@ impl<O: Outlet> Relay<O> {
     pub fn outlets(&self) -> &[O]
         ensures outlets { result.now ≡ self.now.outlets.items }
         ensures relayed { All (λ outlet. ∥ HasRelayed self.now.address (room_of self.now)
-            (⟦<Relay<O> as Method>⟧.keep self.now) (⟦<Relay<O> as Method>⟧.heard self.now)
+            (⟦<Relay<O> as Method>⟧.keep self.now).most (⟦<Relay<O> as Method>⟧.heard self.now)
             (O.sent outlet) (O.losses outlet) ∥₁) result.now }
     {
         &self.outlets
@@ -148,7 +149,7 @@ impl<O: Outlet> Method for Relay<O> {
     ghost use Rattle.osc_relay.specs.Outlets.{Takes};
     ghost use Rattle.osc_relay.specs.Relays.{room_of, datagram_of};
 
-    ghost keep = { λ r. ⟦<Trace as Method>⟧.keep r.trace };
+    ghost keep = { λ r. record { most = (⟦<Trace as Method>⟧.keep r.trace).most; name = r.address } };
 
     ghost heard = { λ r. ⟦<Trace as Method>⟧.heard r.trace };
 
@@ -162,7 +163,7 @@ impl<O: Outlet> Method for Relay<O> {
         ensures keep { ⟦<Trace as Method>⟧.keep self.new.trace
             ≡ ⟦<Trace as Method>⟧.keep self.old.trace }
         ensures heard { ⟦<Trace as Method>⟧.heard self.new.trace
-            ≡ after_call (⟦<Trace as Method>⟧.keep self.old.trace) (call_bytes call.now)
+            ≡ after_call (⟦<Trace as Method>⟧.keep self.old.trace).most (call_bytes call.now)
             (⟦<Trace as Method>⟧.heard self.old.trace) }
         ensures sends { AllZip (Takes O.sent O.losses (datagram_of self.old call.now.message))
             self.old.outlets.items self.new.outlets.items }

@@ -5,6 +5,7 @@ use Rattle.std.specs.Prelude.{MatchOption}
 use Rattle.osc_atoms.specs.declared.fault.Fault.{Fault}
 use Rattle.osc_atoms.specs.declared.limits.TheConstants.{MAX_PACKET}
 use Rattle.osc_packet.specs.Reading.{packet_fault}
+use Rattle.osc_method.specs.Heard.{Fixed}
 use Rattle.osc_model.specs.Events.{Answer, Room, submit, room_in}
 use Rattle.osc_turn.specs.declared.view.Entry.{Entry as Seen}
 use Rattle.osc_life.specs.Holders.{Holder}
@@ -16,7 +17,20 @@ use Rattle.osc_lanes.specs.Performs.{IsWhole}
 use Rattle.osc_lanes.specs.Shares.{Account, Answered, Plays, PlaysAct, ended, then_told}
 use Rattle.osc_relay.specs.declared.outlet.Outlet.{Ghosts}
 use Rattle.osc_relay.specs.declared.relay.Relay.{Relay}
-use Rattle.osc_stage.specs.Stages.{add_line, adds_of, carried_on, is_other, is_removal, RemoveNone}
+use Rattle.osc_stage.specs.Lines.{added_in}
+use Rattle.osc_stage.specs.Stages.{add_line, adds_of, carried_on, is_other, is_removal, AddsAtOwn, RemoveNone}
+
+-- lines that add nothing add at no address
+others_add_none : (lines : List Line) → added_in (filter is_other lines) ≡ []
+others_add_none [] = refl
+others_add_none (line ∷ lines) = go line.act (others_add_none lines) where
+  go : (act : Act) → added_in (filter is_other lines) ≡ []
+      → added_in (cond (not (is_add act)) (record line { act = act } ∷ filter is_other lines) (filter is_other lines)) ≡ []
+  go (Add address) rest = rest
+  go (Remove address) rest = rest
+  go (Send bytes) rest = rest
+  go (Tick moment) rest = rest
+  go Pump rest = rest
 
 -- lines that add nothing
 others_counted : (lines : List Line) → count_adds (filter is_other lines) ≡ 0
@@ -45,7 +59,16 @@ module _ {O : Type 0} {G : Ghosts O} where
   carried_whole relays lines =
       omega (arith, adds_counted relays, counted_append (map add_line relays) (filter is_other lines), others_counted lines)
 
-  module _ (keep : Relay O G → ℕ) (heard : Relay O G → Option (List ℕ)) (holder : Holder) where
+  -- each relay is added at its own address
+  pub adds_own : (relays : List (Relay O G)) → AddsAtOwn (adds_of relays)
+  adds_own [] = refl
+  adds_own (relay ∷ relays) = ap (λ (l : List (List ℕ)). relay.address ∷ l) (adds_own relays)
+
+  pub carried_own : (relays : List (Relay O G)) (lines : List Line) → AddsAtOwn (carried_on relays lines)
+  carried_own [] lines = others_add_none lines
+  carried_own (relay ∷ relays) lines = ap (λ (l : List (List ℕ)). relay.address ∷ l) (carried_own relays lines)
+
+  module _ (keep : Relay O G → Fixed) (heard : Relay O G → Option (List ℕ)) (holder : Holder) where
     sent_none : (fault : Option Fault) (number : ℕ) (bytes : List ℕ) (first : Account (Relay O G)) (here there : List Seen)
         → MatchOption fault
         ((answer : Answer) × Answered holder (submit bytes) answer here there × (first ≡ ended [] (room_in answer)))

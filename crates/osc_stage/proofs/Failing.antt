@@ -4,6 +4,7 @@ use Rattle.std.proofs.Common.{if◌then◌else◌, refl, sym, ap, subst, ◌∙�
 use Rattle.std.specs.Prelude.{MatchOption}
 use Rattle.osc_edge.specs.Faults.{Rose}
 use Rattle.osc_atoms.specs.declared.room.Room.{Room as CodeRoom}
+use Rattle.osc_method.specs.Heard.{Fixed}
 use Rattle.osc_model.specs.Limits.{Limits}
 use Rattle.osc_record.specs.Shown.{room_of}
 use Rattle.osc_turn.specs.declared.view.Entry.{Entry as Seen}
@@ -40,7 +41,7 @@ over_risen End left before now cause is = absurd (cc)
 over_risen Failed left before now cause is = cause
 over_risen (OverFull room) left before now cause is = absurd (cc)
 
-module _ {M : Type 0} (keep : M → ℕ) (heard : M → Option (List ℕ)) where
+module _ {M : Type 0} (keep : M → Fixed) (heard : M → Option (List ℕ)) where
   ticks_still : (player : Holder) (last : Option ℕ) (tokens : List (List Seen)) (before : Option (List ℕ)) (clock : ClockRead) (end : TickerEnd)
       (here there : List Seen) → EndsTicks keep heard player last tokens before clock end here there → is_clock_failed end ≡ false → clock.now ≡ clock.faults
   ticks_still player last tokens before clock TickerDone here there ends is = ends.0
@@ -54,7 +55,7 @@ module _ {M : Type 0} (keep : M → ℕ) (heard : M → Option (List ℕ)) where
   ticks_risen player last tokens before clock TickerFailed here there ends is = ends.0
   ticks_risen player last tokens before clock (TickerFull room) here there ends is = absurd (cc)
 
-module _ {M L : Type 0} (left : L → Option (List LinkTurn)) (faults : L → ℕ) (keep : M → ℕ) (heard : M → Option (List ℕ)) (caps : Limits) (bounds : Bounds) where
+module _ {M L : Type 0} (left : L → Option (List LinkTurn)) (faults : L → ℕ) (keep : M → Fixed) (heard : M → Option (List ℕ)) (caps : Limits) (bounds : Bounds) where
   module _ (history : List Seen) where
     abbrev Served : ℕ → List L → List (LinkEnd L) → List (List Seen) → Type 0
     Served number links ends tokens = AreServed left faults keep heard caps bounds history number links ends tokens

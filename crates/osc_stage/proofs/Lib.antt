@@ -2,4 +2,5 @@ mod Adding
 mod Ending
 mod Failing
 mod Hosting
+mod Placed
 mod Sending

@@ -105,18 +105,18 @@ heard_all address room keep (Some told) bytes sent losses is has =
     subst (λ (h : Option (List ℕ)). ∥ HasRelayed address room keep h sent losses ∥₁) is has
 
 pub sends_all : Each → All → (made : List Invocation) (told : Told) (address : List ℕ) (room : ℕ) (sent : Option (List (List ℕ))) (losses : ℕ)
-    → AllByRecursion IsCallShort made → HasHeard made told → length (calls_bytes made told.id) < told.keep
-    → ∥ HasRelayed address room told.keep told.heard sent losses ∥₁ → HasSent made told.id address room sent losses
+    → AllByRecursion IsCallShort made → HasHeard made told → length (calls_bytes made told.id) < told.keep.most
+    → ∥ HasRelayed address room told.keep.most told.heard sent losses ∥₁ → HasSent made told.id address room sent losses
 sends_all each all made told address room sent losses short hears few has =
     let mine = filter (λ (i : Invocation). i.call.id == told.id) made in
     let calls = calls_to made told.id in
     let bytes : calls_bytes made told.id ≡ calls_text calls = bytes_are mine in
-    let heard : ∥ HasRelayed address room told.keep (Some (last_of told.keep (calls_text calls))) sent losses ∥₁ =
-    subst (λ (l : List ℕ). ∥ HasRelayed address room told.keep (Some (last_of told.keep l)) sent losses ∥₁) bytes
-    (heard_all address room told.keep told.heard (last_of told.keep (calls_bytes made told.id)) sent losses hears has) in
+    let heard : ∥ HasRelayed address room told.keep.most (Some (last_of told.keep.most (calls_text calls))) sent losses ∥₁ =
+    subst (λ (l : List ℕ). ∥ HasRelayed address room told.keep.most (Some (last_of told.keep.most l)) sent losses ∥₁) bytes
+    (heard_all address room told.keep.most told.heard (last_of told.keep.most (calls_bytes made told.id)) sent losses hears has) in
     let relays : ∥ Relays address room (messages_to made told.id) sent losses ∥₁ =
     subst (λ (l : List (List ℕ)). ∥ Relays address room l sent losses ∥₁) (messages_are mine)
-    (each address room told.keep calls sent losses (short_calls made told.id short) (omega (arith, few, ap length bytes)) heard) in
+    (each address room told.keep.most calls sent losses (short_calls made told.id short) (omega (arith, few, ap length bytes)) heard) in
     record {
       relays = relays;
       all = λ none. all address room (messages_to made told.id) sent

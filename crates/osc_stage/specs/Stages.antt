@@ -3,11 +3,12 @@ use Rattle.std.specs.Prelude.{◌≡◌, ◌⊎◌, ℕ, ◌<◌, Bool, true, fa
 use Rattle.std.specs.Prelude.{filter, All, Option}
 use Rattle.std.specs.List.{AllByRecursion}
 use Rattle.std.specs.Option.{option_or}
-use Rattle.osc_model.specs.Limits.{Limits}
+use Rattle.osc_pattern.specs.Methods.{Method}
+use Rattle.osc_method.specs.Heard.{Fixed}
 use Rattle.osc_model.specs.State.{opening}
 use Rattle.osc_model.specs.Events.{Entry, Invocation}
 use Rattle.osc_model.specs.Heard.{calls_bytes}
-use Rattle.osc_model.specs.History.{Legal, HaveHeard, invocations}
+use Rattle.osc_model.specs.History.{Legal, HaveHeard, after, invocations}
 use Rattle.osc_model.specs.Recordings.{record_text}
 use Rattle.osc_laws.specs.Laws.{KeepsTheLaws}
 use Rattle.osc_core.specs.Telling.{told}
@@ -30,6 +31,7 @@ use Rattle.osc_stage.specs.declared.ended.Ended.TheVariants.{SinkFailed}
 use Rattle.osc_stage.specs.declared.stage.Stage.{Stage}
 use Rattle.osc_stage.specs.declared.stage.Staged.{Staged}
 use Rattle.osc_stage.specs.Ends.{ended_by, HasWritten}
+use Rattle.osc_stage.specs.Lines.{added_in}
 use Rattle.osc_stage.specs.Sent.{HasSent}
 
 -- the line that adds a method at an address
@@ -67,6 +69,14 @@ module _ {O : Type 0} {G : Ghosts O} where
   carried_on relays lines =
       record { lines = map add_line relays ++ filter is_other lines; boxes = relays }
 
+  -- each line that adds a method does so at the own address of the relay in its place
+  abbrev pub AddsAtOwn : Part (Relay O G) → Type 0
+  AddsAtOwn part = added_in part.lines ≡ map (λ relay. relay.address) part.boxes
+
+  -- a relay under an id, as a method at the relay's own address
+  abbrev pub method_of : ℕ × Relay O G → Method
+  method_of one = record { id = one.0; address = one.1.address }
+
   -- what the opening left: the boxes that weren't added and that were removed, and its faults
   pub record IsOpened {L : Type 0} (staged : Staged O L G) (opening : LaneTold (Relay O G))
       : Type 0 where
@@ -74,7 +84,7 @@ module _ {O : Type 0} {G : Ghosts O} where
     pub removed_are : staged.removed.items ≡ opening.removed.items
     pub opening_faults_are : staged.opening_faults.items ≡ opening.faults.items
 
-  module _ (keep : Relay O G → ℕ) (heard : Relay O G → Option (List ℕ)) where
+  module _ (keep : Relay O G → Fixed) (heard : Relay O G → Option (List ℕ)) where
     -- The opening was played by caller 0 on one new server, and the links were served. The relays
     -- that are registered at the end come back with their ids; those that weren't added come back
     -- too, and those that the opening removed.
@@ -95,21 +105,25 @@ module _ {O : Type 0} {G : Ghosts O} where
       -- Where the calls of a relay's id have fewer bytes than the relay keeps, each of its outlets
       -- has sent them.
       abbrev pub HaveSent : List Invocation → ℕ × Relay O G → Type 0
-      HaveSent invocations one = length (calls_bytes invocations one.0) < keep one.1
+      HaveSent invocations one = length (calls_bytes invocations one.0) < (keep one.1).most
           → All (λ outlet. HasSent invocations one.0 one.1.address (room_of one.1) (sent outlet)
           (losses outlet)) one.1.outlets.items
 
       -- There is one history, which is legal and keeps the four laws. Each method that is
-      -- registered at its end has its relay, which has heard its calls, and sent them. The sink
-      -- has gained the recording of this history, or a front of it where it failed.
-      pub record RecordsStage {L : Type 0} (caps : Limits) (staged : Staged O L G)
+      -- registered at its end has its relay, which has heard its calls, and sent them. Where the
+      -- opening adds each relay at its own address, the relays are these methods, each at its own
+      -- address. The sink has gained the recording of this history, or a front of it where it
+      -- failed.
+      pub record RecordsStage {L : Type 0} (stage : Stage O L G) (staged : Staged O L G)
           (rec : SinkChange) : Type 0 where
         pub history : List Entry
-        pub legal : Legal caps history
-        pub laws : KeepsTheLaws caps history
-        pub have_heard : HaveHeard (record { caps = caps; history = history })
+        pub legal : Legal stage.caps history
+        pub laws : KeepsTheLaws stage.caps history
+        pub have_heard : HaveHeard (record { caps = stage.caps; history = history })
             (told keep heard staged.relays.items)
-        pub have_sent : AllByRecursion (HaveSent (invocations (opening caps) history))
+        pub have_sent : AllByRecursion (HaveSent (invocations (opening stage.caps) history))
             staged.relays.items
-        pub recording : staged.recording.items ≡ record_text caps history
-        pub written : HasWritten staged.ended rec (record_text caps history)
+        pub standing : AddsAtOwn (part_of stage.opening)
+            → map method_of staged.relays.items ≡ (after (opening stage.caps) history).methods
+        pub recording : staged.recording.items ≡ record_text stage.caps history
+        pub written : HasWritten staged.ended rec (record_text stage.caps history)

@@ -19,8 +19,8 @@ pub fn what_was_sent_is_what_the_history_called()
     ensures { (caps : Limits) (history : List Entry) (told : Told) (address : List ℕ) (room : ℕ)
         (sent : Option (List (List ℕ))) (losses : ℕ)
         → Legal caps history → HasHeard (invocations (opening caps) history) told
-        → length (calls_bytes (invocations (opening caps) history) told.id) < told.keep
-        → ∥ HasRelayed address room told.keep told.heard sent losses ∥₁
+        → length (calls_bytes (invocations (opening caps) history) told.id) < told.keep.most
+        → ∥ HasRelayed address room told.keep.most told.heard sent losses ∥₁
         → HasSent (invocations (opening caps) history) told.id address room sent losses }
 {
     invocations_are_of_registered_methods();

@@ -18,6 +18,7 @@ pub fn adds_of<O: Outlet>(
 ) -> Result<LanePart<Relay<O>>, AllocError>
     ensures adds { IfOk result (λ part. part_of part ≡ stages.adds_of relays.items) }
     ensures whole { IfOk result (λ part. IsWhole (part_of part)) }
+    ensures own { IfOk result (λ part. stages.AddsAtOwn (part_of part)) }
 {
     let lines = add_lines(alloc, &relays)?;
     Ok(LanePart {
@@ -37,6 +38,7 @@ pub fn carried_on<O: Outlet>(
     ensures carried { IfOk result
         (λ part. part_of part ≡ stages.carried_on relays.items lines.items) }
     ensures whole { IfOk result (λ part. IsWhole (part_of part)) }
+    ensures own { IfOk result (λ part. stages.AddsAtOwn (part_of part)) }
 {
     let LanePart {
         lines: mut all,

@@ -17,6 +17,8 @@ use osc_growing::{Growth, write_rest};
 use osc_lanes::Gate;
 use osc_links::{HostPart, Hosted, run_links};
 use osc_method::Method;
+use osc_model::laws::a_legal_history_is_recordable;
+use osc_record::laws::a_written_entry_is_read_again;
 use osc_relay::{Outlet, Relay};
 use std::alloc::{AllocError, Global};
 use std::sync::Wait;
@@ -50,9 +52,9 @@ pub fn stage_top<
     requires count { 0 < stage.links.bounds.count }
     requires idle { 0 < stage.links.bounds.idle }
 
-    // One history: its laws, its recording, and what each relay has heard and sent of it.
+    // One history: its laws, its recording, where each relay stands, and what it has heard and sent.
     ensures one_history { IfOk result (λ staged. RecordsStage ⟦<Relay<O> as Method>⟧.keep
-        ⟦<Relay<O> as Method>⟧.heard O.sent O.losses stage.caps staged
+        ⟦<Relay<O> as Method>⟧.heard O.sent O.losses stage staged
         (sink_change R.held R.faults rec.old rec.new)) }
 
     // The same history by its callers: the opening, each link's datagrams, and the ticker's rounds.
@@ -66,6 +68,8 @@ pub fn stage_top<
         (sink_change R.held R.faults rec.old rec.new)) }
 {
     what_was_sent_is_what_the_history_called();
+    a_legal_history_is_recordable();
+    a_written_entry_is_read_again();
     let host = HostPart {
         caps: stage.caps,
         opening: stage.opening,

@@ -1,5 +1,5 @@
 // Calls that don't wait, while another caller's add is in its box's reset.
-ghost use Rattle.std.specs.Prelude.{◌≡◌, None};
+ghost use Rattle.std.specs.Prelude.{◌≡◌, [], None};
 ghost use Rattle.osc_live.specs.Tokens.{IsOurs};
 
 use crate::live_threads::{Flag, MESSAGE, Meanwhile, await_flag, flag, try_meanwhile};
@@ -23,7 +23,7 @@ pub(crate) struct Slow {
 }
 
 impl Method for Slow {
-    ghost keep = { λ _. 0 };
+    ghost keep = { λ _. record { most = 0; name = [] } };
 
     ghost heard = { λ _. None };
 

@@ -1,5 +1,5 @@
 // Two threads that call one server.
-ghost use Rattle.std.specs.Prelude.{◌≡◌, None};
+ghost use Rattle.std.specs.Prelude.{◌≡◌, [], None};
 ghost use Rattle.osc_live.specs.Tokens.{IsOurs};
 
 use crate::tokens::{enrolled, open};
@@ -36,7 +36,7 @@ struct Gate {
 }
 
 impl Method for Gate {
-    ghost keep = { λ _. 0 };
+    ghost keep = { λ _. record { most = 0; name = [] } };
 
     ghost heard = { λ _. None };
 

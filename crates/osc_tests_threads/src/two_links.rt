@@ -1,5 +1,5 @@
 // Two links that are served on one server, with a ticker next to them.
-ghost use Rattle.std.specs.Prelude.{◌<◌, None};
+ghost use Rattle.std.specs.Prelude.{◌<◌, [], None};
 
 use crate::callers::enrolled;
 use crate::hold::{Flag, Hold, HoldSecond};
@@ -27,7 +27,7 @@ struct Signal {
 }
 
 impl Method for Signal {
-    ghost keep = { λ _. 0 };
+    ghost keep = { λ _. record { most = 0; name = [] } };
 
     ghost heard = { λ _. None };
 

@@ -10,7 +10,7 @@ use Rattle.std.proofs.lemmas.Bool.{and_parts}
 use Rattle.std.proofs.lemmas.List.{append-nil, drop-drop, length-drop, length-map, map-append}
 use Rattle.std.proofs.lemmas.List.Elements.{All-contains_itself, Contains-append_left, Contains-append_right, filter-append, filter_map-append, recursion_from_All}
 use Rattle.std.proofs.lemmas.List.Sorted.{IsPermutation-map, IsPermutation-trans, Contains-permutation}
-use Rattle.osc_method.specs.Heard.{last_of}
+use Rattle.osc_method.specs.Heard.{Fixed, last_of}
 use Rattle.osc_model.specs.Limits.{Limits}
 use Rattle.osc_model.specs.State.{State, opening}
 use Rattle.osc_model.specs.Events.{Answer, Entry, Invocation, Room, removed}
@@ -150,10 +150,10 @@ module _ (law : RemovedLaw) (caps : Limits) (before since : List Entry) (legal :
       let same : filter p (invocations (opening caps) (before ++ since)) ≡ filter p first =
       ap (filter p) (invoked_more (opening caps) before since) ∙ filter-append p first more
       ∙ ap (λ (l : List Invocation). filter p first ++ l) (none_called told.id more (silent_after told.id held)) ∙ append-nil (filter p first) in
-      heard ∙ ap (λ (l : List Invocation). option_map (λ _. last_of told.keep (flat_map bytes_of l)) told.heard) (sym same)
+      heard ∙ ap (λ (l : List Invocation). option_map (λ _. last_of told.keep.most (flat_map bytes_of l)) told.heard) (sym same)
 
 -- A mark that texts carry is carried by more of them.
-carried_on : (past more : List (List ℕ)) (id mark : ℕ) → CarriesMark past id mark → CarriesMark (past ++ more) id mark
+carried_on : (past more : List (List ℕ)) (id : ℕ) (mark : List ℕ) → CarriesMark past id mark → CarriesMark (past ++ more) id mark
 carried_on past more id mark (one, adds, read, written) = (
   one,
   adds,
@@ -184,7 +184,7 @@ parts_counted {M} lines bank parts dealt =
       parts_length 0 (lane_count lines) lines bank,
     )
 
-module _ {M : Type 0} (keep : M → ℕ) (heard : M → Option (List ℕ)) where
+module _ {M : Type 0} (keep : M → Fixed) (heard : M → Option (List ℕ)) where
   -- The boxes of a server that was closed, and those that were removed in the past.
   module _ (caps : Limits) (before : List Entry) (bank : List M) (past : List (List ℕ)) (history since : List Seen) (recording : List ℕ)
       (kept gone added : List (ℕ × M)) (accounts : List (Account M)) (past_is : history_in past ≡ before) (goes_on : history ≡ entries_of past ++ since)

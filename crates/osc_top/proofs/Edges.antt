@@ -8,6 +8,7 @@ use Rattle.std.proofs.lemmas.List.Concat.{flat_map-append}
 use Rattle.osc_edge.specs.Faults.{Rose}
 use Rattle.osc_atoms.specs.declared.fault.Fault.{Fault}
 use Rattle.osc_atoms.specs.declared.room.Room.{Room as CodeRoom}
+use Rattle.osc_method.specs.Heard.{Fixed}
 use Rattle.osc_model.specs.Events.{Entry, Room}
 use Rattle.osc_model.specs.History.{Legal}
 use Rattle.osc_model.specs.Limits.{Limits}
@@ -74,7 +75,7 @@ over_risen End left before now cause is = absurd (cc)
 over_risen Failed left before now cause is = cause
 over_risen (OverFull room) left before now cause is = absurd (cc)
 
-module _ {M : Type 0} (keep : M → ℕ) (heard : M → Option (List ℕ)) where
+module _ {M : Type 0} (keep : M → Fixed) (heard : M → Option (List ℕ)) where
   ticks_still : (player : Holder) (last : Option ℕ) (tokens : List (List Seen)) (before : Option (List ℕ)) (clock : ClockRead) (end : TickerEnd)
       (here there : List Seen) → EndsTicks keep heard player last tokens before clock end here there → is_clock_failed end ≡ false → clock.now ≡ clock.faults
   ticks_still player last tokens before clock TickerDone here there ends is = ends.0
@@ -102,7 +103,7 @@ none_failed (Some link) clock_failed stop is = absurd (cc)
 none_failed None true stop is = absurd (cc)
 none_failed None false stop is = (refl, refl)
 
-module _ {M L : Type 0} (left : L → Option (List LinkTurn)) (faults : L → ℕ) (keep : M → ℕ) (heard : M → Option (List ℕ)) (caps : Limits) (bounds : Bounds) where
+module _ {M L : Type 0} (left : L → Option (List LinkTurn)) (faults : L → ℕ) (keep : M → Fixed) (heard : M → Option (List ℕ)) (caps : Limits) (bounds : Bounds) where
   module _ (history : List Seen) where
     abbrev Served : ℕ → List L → List (LinkEnd L) → List (List Seen) → Type 0
     Served number links ends tokens = AreServed left faults keep heard caps bounds history number links ends tokens
@@ -205,7 +206,7 @@ faults_joined (account ∷ accounts) =
 -- The same of a program's end, and its history.
 
 -- boxes that have heard all of a history
-one_of : {M : Type 0} (keep : M → ℕ) (heard : M → Option (List ℕ)) (caps : Limits) (history : List Seen) (boxes : List (ℕ × M))
+one_of : {M : Type 0} (keep : M → Fixed) (heard : M → Option (List ℕ)) (caps : Limits) (history : List Seen) (boxes : List (ℕ × M))
     → Legal caps (history_in (texts history)) → KeepsTheLaws caps (history_in (texts history)) → HaveHeardAll keep heard caps history boxes
     → IsOneHistory keep heard caps (history_in (texts history)) boxes
 one_of keep heard caps history boxes legal laws all = record { legal = legal; laws = laws; ids = all.ids; have_heard = all.have_heard }
@@ -218,7 +219,7 @@ risen_by faults links links_after clock None true stop seven link_risen clock_ri
 risen_by faults links links_after clock None false None seven link_risen clock_risen = absurd (omega (arith, seven))
 risen_by faults links links_after clock None false (Some room) seven link_risen clock_risen = absurd (omega (arith, seven))
 
-module _ {M L : Type 0} (keep : M → ℕ) (heard : M → Option (List ℕ)) (left : L → Option (List LinkTurn)) (faults : L → ℕ) (status : ℕ) (bank : List M)
+module _ {M L : Type 0} (keep : M → Fixed) (heard : M → Option (List ℕ)) (left : L → Option (List LinkTurn)) (faults : L → ℕ) (status : ℕ) (bank : List M)
     (added : List (ℕ × M)) (rest : List M) (links links_after : List L) (clock : ClockRead) (rec out : SinkChange) where
   abbrev EndsSo : LiveCommand → List ℕ → Type 0
   EndsSo command script = EndsCommand keep heard left faults command status script bank added rest links links_after clock rec out

@@ -1,6 +1,7 @@
 -- The box of a line that adds a method, and the one that is kept under its id, have one mark.
 use Rattle.std.proofs.Common.{◌≡◌, ℕ, zero, suc, ◌+◌, ◌<◌, ◌≤◌, Bool, true, false, List, [], ◌∷◌, Option, Some, None, inl, inr, refl, ap, subst, sym, ◌∙◌, arith}
 use Rattle.std.specs.List.{AllByRecursion, Contains, cons_option}
+use Rattle.osc_method.specs.Heard.{Fixed}
 use Rattle.osc_model.specs.Limits.{Limits, AreInRange}
 use Rattle.osc_model.specs.State.{State, opening}
 use Rattle.osc_model.specs.Events.{Answer, Entry, added, removed}
@@ -21,13 +22,13 @@ use Rattle.osc_life.specs.Lives.{added_ids}
 use Rattle.osc_life.specs.Holders.{Holder}
 use Rattle.osc_lanes.specs.Shares.{Account, IsMarkedBy, PlaysAct, known_of}
 use Rattle.osc_script.specs.declared.act.Act.TheVariants.{Add}
+use Rattle.osc_lanes.proofs.OneMark.{one_mark, read_again}
 use Rattle.osc_lanes.proofs.Staying.{mark_still}
 use Rattle.osc_script.specs.declared.line.Line.{Line}
 use Rattle.osc_ends.specs.declared.outcome.Outcome.{Outcome}
 use Rattle.osc_top.specs.Lanes.{PlaysLanes}
 use Rattle.osc_top.specs.Resumed.{PlaysResumed}
 use Rattle.osc_top.proofs.Continued.{history_since, removed_so}
-use Rattle.osc_top.proofs.OldMarks.{one_mark, read_again}
 use Rattle.osc_top.proofs.Staged.{told_each}
 
 -- a method that leaves has an id that was given
@@ -69,7 +70,7 @@ removed_below stays state (entry ∷ entries) legal sound id held =
           omega (arith, below)
       go (Some other) is (suc k, within, at) rest = omega (arith, rest (k, omega (arith, within), at), given)
 
-module _ {M : Type 0} (keep : M → ℕ) (heard : M → Option (List ℕ)) where
+module _ {M : Type 0} (keep : M → Fixed) (heard : M → Option (List ℕ)) where
   -- the box has the mark of a line's box, where it has the line's id
   abbrev pub HasMarkOfLine : ℕ → M → ℕ × M → Type 0
   HasMarkOfLine id box one = one.0 ≡ id → mark_of (known_of keep heard id one.1) ≡ mark_of (known_of keep heard id box)

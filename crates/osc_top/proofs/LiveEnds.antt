@@ -3,6 +3,7 @@ use Rattle.std.proofs.Common.{◌≡◌, ◌≢◌, ◌⊎◌, inl, inr, ⊎_eli
 use Rattle.std.proofs.Common.{None, IfSome, IsOkAnd, IsErrAnd, Result, Ok, Err, refl, sym, ap, subst, ◌∙◌, arith}
 use Rattle.std.specs.Option.{option_or}
 use Rattle.osc_edge.specs.Faults.{Rose}
+use Rattle.osc_method.specs.Heard.{Fixed}
 use Rattle.osc_model.specs.Events.{Room}
 use Rattle.osc_model.specs.Limits.{Limits}
 use Rattle.osc_links.specs.declared.served.Bounds.{Bounds}
@@ -267,7 +268,7 @@ pub not_failed : (status : ℕ) (outcome : Outcome) (stop : Option Room) → sta
 not_failed status outcome None is so seven = absurd (omega (arith, is, ap status_of so, seven))
 not_failed status outcome (Some room) is so seven = absurd (omega (arith, is, ap status_of so, seven))
 
-module _ {M L : Type 0} (keep : M → ℕ) (heard : M → Option (List ℕ)) (left : L → Option (List LinkTurn)) (faults : L → ℕ) (status : ℕ) (bank : List M)
+module _ {M L : Type 0} (keep : M → Fixed) (heard : M → Option (List ℕ)) (left : L → Option (List LinkTurn)) (faults : L → ℕ) (status : ℕ) (bank : List M)
     (added : List (ℕ × M)) (rest : List M) (links links_after : List L) (clock : ClockRead) (rec out : SinkChange) where
   abbrev EndsSo : LiveCommand → List ℕ → Type 0
   EndsSo command script = EndsCommand keep heard left faults command status script bank added rest links links_after clock rec out
@@ -342,7 +343,7 @@ staged_so P Q caps recording said outcome so staged = record {
   played = so (recorded_text caps staged.history said outcome) staged.played;
 }
 
-module _ {M L : Type 0} (keep : M → ℕ) (heard : M → Option (List ℕ)) (left : L → Option (List LinkTurn)) (faults : L → ℕ) (command : LiveCommand)
+module _ {M L : Type 0} (keep : M → Fixed) (heard : M → Option (List ℕ)) (left : L → Option (List LinkTurn)) (faults : L → ℕ) (command : LiveCommand)
     (limits : Limits) (status : ℕ) (script : List ℕ) (bank : List M) (added played : List (ℕ × M)) (rest kept : List M) (links links_after : List L)
     (clock : ClockRead) (rec out : SinkChange) (lines : List Line) (recording said : List ℕ) (outcome : Outcome)
     (is : script_of (mode_of command) script ≡ Ok lines) (added_so : added ≡ played) (rest_so : rest ≡ kept) (enough : count_adds lines ≤ length bank) where

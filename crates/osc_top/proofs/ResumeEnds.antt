@@ -3,6 +3,7 @@ use Rattle.std.proofs.Common.{◌≡◌, ◌≢◌, ◌⊎◌, inl, inr, ⊎_eli
 use Rattle.std.proofs.Common.{None, IfSome, IsOkAnd, Result, Ok, Err, refl, sym, ap, subst, ◌∙◌, arith}
 use Rattle.std.specs.Option.{option_or}
 use Rattle.std.proofs.lemmas.List.Sums.{count_by-le-length}
+use Rattle.osc_method.specs.Heard.{Fixed}
 use Rattle.osc_model.specs.Enrolled.{callers_in}
 use Rattle.osc_model.specs.Events.{Entry, Room, is_added}
 use Rattle.osc_model.specs.History.{IsCounted, IsSound, Legal, after}
@@ -379,7 +380,7 @@ module _ (plays : Limits → List Entry → List Line → List ℕ → List ℕ 
     go (inr (inr (inr (inr (inl eight))))) = (omega arith, λ seven. omega (arith, seven, eight))
     go (inr (inr (inr (inr (inr nine))))) = (omega arith, λ seven. omega (arith, seven, nine))
 
-module _ {M : Type 0} (keep : M → ℕ) (heard : M → Option (List ℕ)) where
+module _ {M : Type 0} (keep : M → Fixed) (heard : M → Option (List ℕ)) where
   -- lanes end done or full
   pub resumed_stops : (caps : Limits) (before : List Entry) (bank : List M) (added : List (ℕ × M)) (left : List M) (lines : List Line)
       (recording text : List ℕ) (outcome : Outcome) → PlaysResumed keep heard caps before bank added left lines recording text outcome

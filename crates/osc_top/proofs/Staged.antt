@@ -10,6 +10,7 @@ use Rattle.std.proofs.lemmas.List.{append-nil, length-take-le, map-append}
 use Rattle.std.proofs.lemmas.List.Elements.{All-from_recursion, recursion_from_All, All-head, All-tail}
 use Rattle.std.proofs.lemmas.List.Sorted.{IsPermutation-map, IsPermutation-trans, IsPermutation-sym, All-permutation, Contains-permutation}
 use Rattle.std.proofs.lemmas.List.Sorted.{sum_by-IsPermutation}
+use Rattle.osc_method.specs.Heard.{Fixed}
 use Rattle.osc_record.specs.Shown.{room_of}
 use Rattle.osc_core.specs.Ids.{is_ascending}
 use Rattle.osc_core.specs.Standing.{history_in, CarriesMark, mark_of}
@@ -49,7 +50,7 @@ use Rattle.osc_player.proofs.Rising.{all_weaker, ascending_told, same_rising, ti
 
 -- a box of which nothing but its id is known
 abbrev named : ℕ → Told
-named id = record { id = id; keep = 0; heard = None }
+named id = record { id = id; keep = record { most = 0; name = [] }; heard = None }
 
 above_named : (id : ℕ) (ids : List ℕ) → list_all (nat_lt id) ids ≡ true → AllByRecursion (λ other. id < other.id) (map named ids)
 above_named id [] above = tt
@@ -114,7 +115,7 @@ module _ {M : Type 0} where
   pub each_moved : (P : ℕ × M → Type 0) (xs ys : List (ℕ × M)) → IsPermutation xs ys → AllByRecursion P xs → AllByRecursion P ys
   each_moved P xs ys moved each = recursion_from_All P ys (All-permutation P xs ys moved (All-from_recursion P xs each))
 
-  module _ (keep : M → ℕ) (heard : M → Option (List ℕ)) where
+  module _ (keep : M → Fixed) (heard : M → Option (List ℕ)) where
     pub told_each : (P : Told → Type 0) (xs : List (ℕ × M)) → AllByRecursion P (told keep heard xs) → AllByRecursion (λ one. P (known_of keep heard one.0 one.1)) xs
     told_each P [] each = tt
     told_each P (x ∷ xs) each = (each.0, told_each P xs each.1)

@@ -5,6 +5,7 @@ use Rattle.std.specs.Option.{option_or}
 use Rattle.std.proofs.lemmas.Bool.Decides.{nat_tests}
 use Rattle.std.proofs.lemmas.List.Elements.{All-head, All-tail}
 use Rattle.std.proofs.lemmas.List.Sums.{sum_by-append, sum_by-cons}
+use Rattle.osc_method.specs.Heard.{Fixed}
 use Rattle.osc_model.specs.Events.{Room}
 use Rattle.osc_model.specs.Limits.{Limits, header_size, release_head_size}
 use Rattle.osc_script.specs.declared.line.Line.{Line}
@@ -111,7 +112,7 @@ module _ {M : Type 0} where
       ap (λ (stop : Option Room). option_or stop (first_stop accounts)) (All-head (λ (a : Account M). a.stop ≡ None) account accounts none)
       ∙ none_first accounts (All-tail (λ (a : Account M). a.stop ≡ None) account accounts none)
 
-  pub none_stopped : (keep : M → ℕ) (heard : M → Option (List ℕ))
+  pub none_stopped : (keep : M → Fixed) (heard : M → Option (List ℕ))
       → ((caps : Limits) (parts : List (Part M)) (recording : List ℕ) (kept : List (ℕ × M)) (accounts : List (Account M)) (unenrolled : Option Room)
       → Performs keep heard caps parts recording kept accounts unenrolled → enough_for parts ≤ caps.recording
       → (unenrolled ≡ None) × All (λ account. account.stop ≡ None) accounts)

@@ -1,5 +1,6 @@
 -- How each command of many threads ends.
 use Rattle.std.specs.Prelude.{◌≡◌, ◌⊎◌, ℕ, Bool, List, length, Option}
+use Rattle.osc_method.specs.Heard.{Fixed}
 use Rattle.osc_links.specs.Links.{LinkTurn}
 use Rattle.osc_links.specs.Ticks.{ClockRead}
 use Rattle.osc_script.specs.declared.line.Line.{Line}
@@ -18,7 +19,7 @@ use Rattle.osc_ends.specs.Sinks.{SinkChange}
 
 -- the result of playing lines: lanes are played, or links are served, on the server that the words
 -- say, of which these boxes, links and inputs were handed in, and this came back
-abbrev pub plays_of : {M L : Type 0} → (M → ℕ) → (M → Option (List ℕ))
+abbrev pub plays_of : {M L : Type 0} → (M → Fixed) → (M → Option (List ℕ))
     → (L → Option (List LinkTurn)) → (L → ℕ) → LiveCommand → List M → List (ℕ × M) → List M
     → List L → List L → ClockRead → List Line → List ℕ → List ℕ → Outcome → Type 0
 plays_of keep heard left faults (live.Lanes caps watch) bank boxes_heard boxes_left links
@@ -31,7 +32,7 @@ plays_of keep heard left faults (live.Serve transport port ports count idle caps
     bank links clock boxes_heard boxes_left links_after lines recording text outcome
 
 -- how a command ends, by its status and its script
-abbrev pub EndsCommand : {M L : Type 0} → (M → ℕ) → (M → Option (List ℕ))
+abbrev pub EndsCommand : {M L : Type 0} → (M → Fixed) → (M → Option (List ℕ))
     → (L → Option (List LinkTurn)) → (L → ℕ) → LiveCommand → ℕ → List ℕ → List M → List (ℕ × M)
     → List M → List L → List L → ClockRead → SinkChange → SinkChange → Type 0
 EndsCommand keep heard left faults command status script bank boxes_heard boxes_left links

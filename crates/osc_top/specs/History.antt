@@ -1,6 +1,7 @@
 -- The one history of a server: its laws, its boxes, its recording and its text.
 use Rattle.std.specs.Prelude.{◌≡◌, ℕ, List, ◌++◌, map, Option}
 use Rattle.std.specs.List.{AllByRecursion}
+use Rattle.osc_method.specs.Heard.{Fixed}
 use Rattle.osc_model.specs.Limits.{Limits}
 use Rattle.osc_model.specs.State.{opening}
 use Rattle.osc_model.specs.Events.{Entry}
@@ -12,7 +13,7 @@ use Rattle.osc_lanes.specs.Shares.{known_of}
 use Rattle.osc_replay.specs.Printed.{printed}
 use Rattle.osc_ends.specs.Sinks.{SinkChange, Gains}
 
-module _ {M : Type 0} (keep : M → ℕ) (heard : M → Option (List ℕ)) where
+module _ {M : Type 0} (keep : M → Fixed) (heard : M → Option (List ℕ)) where
   -- A history of a server with these limits is legal and keeps the four laws. These boxes are those
   -- of the methods that it adds, by their ids, ascending, and they have heard all of it.
   pub record IsOneHistory (caps : Limits) (history : List Entry) (boxes : List (ℕ × M))

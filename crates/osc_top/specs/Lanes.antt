@@ -3,6 +3,7 @@ use Rattle.std.specs.Prelude.{◌≡◌, ℕ, Bool, zero, suc, ◌+◌, ◌==◌
 use Rattle.std.specs.Prelude.{map, filter, drop, Option, None, if◌then◌else◌}
 use Rattle.std.specs.List.{AllByRecursion, flat_map}
 use Rattle.std.specs.Option.{option_or}
+use Rattle.osc_method.specs.Heard.{Fixed}
 use Rattle.osc_model.specs.Limits.{Limits}
 use Rattle.osc_model.specs.Events.{Room}
 use Rattle.osc_model.specs.History.{HasHeard, invoked_in}
@@ -68,7 +69,7 @@ module _ {M : Type 0} where
 
   -- These boxes are those of the methods that a history adds, by their ids, ascending. They have
   -- heard the history, each with the mark of its id's entry.
-  pub record HaveHeardAll (keep : M → ℕ) (heard : M → Option (List ℕ)) (caps : Limits)
+  pub record HaveHeardAll (keep : M → Fixed) (heard : M → Option (List ℕ)) (caps : Limits)
       (history : List Seen) (boxes : List (ℕ × M)) : Type 0 where
     pub ids : map (λ one. one.0) boxes ≡ added_ids (history_in (texts history))
     pub have_heard : AllByRecursion
@@ -81,7 +82,7 @@ module _ {M : Type 0} where
   -- is that of the history, then the faults of the lanes, where they are watched the methods that
   -- stand after the history, and last the line on the stop, where there is one: of the enrolment
   -- for which there was no room, or of the least lane.
-  pub record PlaysLanes (keep : M → ℕ) (heard : M → Option (List ℕ)) (caps : Limits)
+  pub record PlaysLanes (keep : M → Fixed) (heard : M → Option (List ℕ)) (caps : Limits)
       (watched : Bool) (bank : List M) (boxes_heard : List (ℕ × M)) (boxes_left : List M)
       (lines : List Line) (recording text : List ℕ) (outcome : Outcome) : Type 0 where
     pub kept : List (ℕ × M)

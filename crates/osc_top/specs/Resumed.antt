@@ -2,6 +2,7 @@
 use Rattle.std.specs.Prelude.{◌≡◌, ℕ, ◌+◌, List, ◌++◌, map, drop, slice_get, Option, Some}
 use Rattle.std.specs.List.{AllByRecursion, Contains, flat_map}
 use Rattle.std.specs.Option.{option_or}
+use Rattle.osc_method.specs.Heard.{Fixed}
 use Rattle.osc_model.specs.Limits.{Limits}
 use Rattle.osc_model.specs.State.{opening}
 use Rattle.osc_model.specs.Events.{Entry, Room}
@@ -35,7 +36,7 @@ boxes_for before lines = added_in before + count_adds lines
 abbrev pub callers_for : List Entry → List Line → ℕ
 callers_for before lines = callers_in before + lane_count lines
 
-module _ {M : Type 0} (keep : M → ℕ) (heard : M → Option (List ℕ)) where
+module _ {M : Type 0} (keep : M → Fixed) (heard : M → Option (List ℕ)) where
   -- These boxes are those of the methods that a history adds, by their ids, ascending, and they
   -- have heard it. Where the past had removed the id, its box has the mark of the bank's box in
   -- that place; where not, that of its id's entry.

@@ -3,6 +3,7 @@ use Rattle.std.specs.Prelude.{◌≡◌, ℕ, Bool, true, false, List, ◌++◌,
 use Rattle.std.specs.List.{flat_map}
 use Rattle.std.specs.Option.{option_map, option_or}
 use Rattle.osc_atoms.specs.declared.fault.Fault.{Fault}
+use Rattle.osc_method.specs.Heard.{Fixed}
 use Rattle.osc_model.specs.Limits.{Limits}
 use Rattle.osc_model.specs.Events.{Room}
 use Rattle.osc_record.specs.Shown.{room_of}
@@ -43,7 +44,7 @@ module _ {M : Type 0} {L : Type 0} where
   -- were added have heard its one history; the others come back, those of adds that were refused
   -- and then those that no line took. The text is that of the history, then the faults of the
   -- links, and last the line on what went wrong, where something did.
-  pub record PlaysLinks (keep : M → ℕ) (heard : M → Option (List ℕ))
+  pub record PlaysLinks (keep : M → Fixed) (heard : M → Option (List ℕ))
       (left : L → Option (List LinkTurn)) (faults : L → ℕ) (caps : Limits) (bounds : Bounds)
       (bank : List M) (links : List L) (clock : ClockRead) (boxes_heard : List (ℕ × M))
       (boxes_left : List M) (links_after : List L) (lines : List Line) (recording text : List ℕ)

@@ -1,5 +1,6 @@
 -- Inside the crate: the results of a script and of a bank, before it is written.
 use Rattle.std.specs.Prelude.{◌≡◌, ℕ, Bool, List, Option}
+use Rattle.osc_method.specs.Heard.{Fixed}
 use Rattle.osc_model.specs.Events.{Entry, Room}
 use Rattle.osc_core.specs.Standing.{history_in}
 use Rattle.osc_turn.specs.History.{texts}
@@ -21,7 +22,7 @@ pub record IsStaged (plays : List ℕ → List ℕ → Outcome → Type 0) (caps
   pub played : plays recording (recorded_text caps history said outcome) outcome
 
 -- Parts were played, and this is what is printed of the methods that stand after their history.
-pub record PerformsWatched {M : Type 0} (keep : M → ℕ) (heard : M → Option (List ℕ))
+pub record PerformsWatched {M : Type 0} (keep : M → Fixed) (heard : M → Option (List ℕ))
     (caps : Limits) (watched : Bool) (parts : List (Part M)) (recording : List ℕ)
     (kept : List (ℕ × M)) (accounts : List (Account M)) (unenrolled : Option Room)
     (list : List ℕ) : Type 0 where

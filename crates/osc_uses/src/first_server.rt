@@ -55,7 +55,7 @@ impl Fader {
 }
 
 impl Method for Fader {
-    ghost keep = { λ _. 4 };
+    ghost keep = { λ _. record { most = 4; name = [] } };
 
     ghost heard = { λ fader. Some (if fader.sent then fader.last else []) };
 

@@ -2,6 +2,7 @@ use Rattle.std.proofs.Common.{◌≡◌, ℕ, List, [], ◌∷◌, length, map, 
 use Rattle.std.specs.List.{AllByRecursion}
 use Rattle.std.proofs.lemmas.List.{length-map}
 use Rattle.std.proofs.lemmas.List.Elements.{All-from_recursion, All-map, recursion_from_All}
+use Rattle.osc_method.specs.Heard.{Fixed}
 use Rattle.osc_model.specs.Limits.{Limits}
 use Rattle.osc_model.specs.Events.{Room}
 use Rattle.osc_record.specs.Shown.{room_of}
@@ -53,7 +54,7 @@ live_on-requires-clause-ready g c _ _ = ready c.in_ok-works.works.items c.args.p
 next_is : (past : List (List ℕ)) (v : View) (others : List Caller) → IsLeft past v others → v.made ≡ old_callers past
 next_is past v others left = left.made_is ∙ sym left.old.counted
 
-beside : {M : Type 0} {X F : Type 0} (ends : X → X → F → Holder → List (List Seen) → View → View → Type 0) (keep : M → ℕ) (heard : M → Option (List ℕ))
+beside : {M : Type 0} {X F : Type 0} (ends : X → X → F → Holder → List (List Seen) → View → View → Type 0) (keep : M → Fixed) (heard : M → Option (List ℕ))
     (caps : Limits) (past : List (List ℕ)) (parts : List (Part M)) (recording : List ℕ) (kept : List (ℕ × M)) (accounts : List (Account M))
     (unenrolled : Option Room) (before after : X) (end : F) (history : List Seen) (start last : View) (tokens : List (List Seen))
     → ends before after end (holder_at caps 0) tokens start last → last.seen ≡ history

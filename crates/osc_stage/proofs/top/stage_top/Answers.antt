@@ -1,3 +1,4 @@
+use Rattle.std.proofs.Common.{refl}
 use Rattle.osc_ends.specs.Sinks.{sink_change}
 use Rattle.osc_links.specs.Ticks.{clock_read}
 use Rattle.osc_stage.proofs.Hosting.{staged_so, history_so, cause_so, written_on}
@@ -18,6 +19,11 @@ returns-clause-one_history g c =
     history_so _ _ g.L.Link.left g.L.Link.faults c.args.stage clock c.in_ok-hosted.hosted c.in_ok-hosted.ensures.hosts g.O.Outlet.sent g.O.Outlet.losses
     rec_change (λ relay. relay.relayed) (λ caps history told address room sent losses legal hears few has.
     c.what_was_sent_is_what_the_history_called.ensures caps history told address room sent losses legal hears few has)
+    (record {
+      all = c.a_legal_history_is_recordable.ensures.all;
+      within = c.a_legal_history_is_recordable.ensures.within;
+      again = c.a_written_entry_is_read_again.ensures;
+    }) (λ relay. refl)
     c.settle.result done.recording done.relays (written_on c.settle.result _ c.args.rec.now _ done.written c.in_ok-hosted.ensures.grown)
 
 pub returns-clause-cause : goal.returns-clause-cause

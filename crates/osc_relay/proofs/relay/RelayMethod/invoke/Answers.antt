@@ -4,6 +4,7 @@ use Rattle.std.specs.Option.{option_map}
 use Rattle.std.specs.Vec.{with_items}
 use Rattle.std.proofs.lemmas.List.{with_items_is}
 use Rattle.osc_atoms.specs.Atoms.{string}
+use Rattle.osc_method.specs.Heard.{Fixed}
 use Rattle.osc_relay.specs.Outlets.{Takes}
 use Rattle.osc_relay.specs.Relayed.{relayed, within}
 use Rattle.osc_relay.specs.Sent.{Called, HasRelayed}
@@ -38,5 +39,5 @@ invariant_of-self g c =
           (each_relayed_more g.O.Outlet.sent g.O.Outlet.losses old.address (length old.space.items)
           (length (with_items old.space c.put_after-end.new.space).items) old.trace.bytes.capacity c.invoke.new.self.bytes.capacity call
           (Some old.trace.bytes.items) (Some c.invoke.new.self.bytes.items) datagram old.outlets.items c.send_each.new.outlets
-          c.after_pattern.ensures.short rooms c.invoke.ensures.keep c.invoke.ensures.heard fitting takes old.relayed);
+          c.after_pattern.ensures.short rooms (ap (λ (k : Fixed). k.most) c.invoke.ensures.keep) c.invoke.ensures.heard fitting takes old.relayed);
     }
