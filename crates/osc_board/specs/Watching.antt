@@ -10,20 +10,38 @@ use Rattle.osc_story.specs.declared.follower.Progress.{Progress}
 use Rattle.osc_story.specs.declared.follower.Progress.TheVariants as progress
 use Rattle.osc_story.specs.declared.follower.TakeFault.{TakeFault}
 use Rattle.osc_story.specs.declared.follower.TakeFault.TheVariants as take
+use Rattle.osc_board.specs.Boards.{past_after}
+use Rattle.osc_board.specs.Pasts.{Past, no_past}
 use Rattle.osc_board.specs.Sights.{Sight, opened, sight_after, AgreesAll}
 use Rattle.osc_story.specs.Following.{IsTooLong}
 use Rattle.osc_story.specs.Seen.{CanBe, text_of, HasNoEntry, BeginsUnlike}
 
 -- The bytes that are kept: the header, and those that came after the last entry that was seen; how
--- many bytes the entries have that were seen; and what is seen, once the header is whole.
+-- many bytes the entries have that were seen; what is seen, once the header is whole; and what the
+-- recordings before have shown.
 pub record Watching : Type 0 where
   pub bytes : List ℕ
   pub passed : ℕ
   pub sight : Option Sight
+  pub past : Past
 
 -- nothing has come
 abbrev pub unbegun : Watching
-unbegun = record { bytes = []; passed = 0; sight = None }
+unbegun = record { bytes = []; passed = 0; sight = None; past = no_past }
+
+-- what has been shown, with what is seen
+abbrev pub past_with : Past → Option Sight → Past
+past_with past None = past
+past_with past (Some sight) = past_after past sight
+
+-- nothing has come of the recording after this one
+abbrev pub gone_on : Watching → Watching
+gone_on watcher = record {
+  bytes = [];
+  passed = 0;
+  sight = None;
+  past = past_with watcher.past watcher.sight;
+}
 
 -- The bytes that came are a header, these entries, and a rest. The entries agree and were seen, and
 -- the header and the rest are kept.

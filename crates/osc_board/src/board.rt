@@ -4,6 +4,7 @@ ghost use Rattle.osc_board.specs.declared.board.TheConstants.{MOST_WAITS};
 ghost use Rattle.osc_board.specs.Boards as spec;
 
 use crate::last::{Last, last_of};
+use crate::past::row_at;
 use osc_atoms::Bytes;
 use osc_page::{Counts, Row, Wait};
 use osc_story::{KeptMessage, Registered, Totals, Waiting};
@@ -12,44 +13,82 @@ use std::alloc::{AllocError, Global};
 /// How many units that wait are shown at most.
 pub const MOST_WAITS: usize = 100;
 
-/// The methods, each with its last call, if it was called.
+/// The methods, each with its last call, if it was called, also in the recordings before.
 pub(crate) fn rows_of(
     alloc: Global,
     methods: &[Registered],
     lasts: &[Last],
+    past: &[Row],
 ) -> Result<Vec<Row>, AllocError>
-    ensures { IfOk result (λ rows. rows.items ≡ map (spec.row_of lasts.now) methods.now) }
+    ensures { IfOk result
+        (λ rows. rows.items ≡ map (spec.row_of past.now lasts.now) methods.now) }
 {
     let mut rows = Vec::new(alloc);
     for method in methods {
-        rows.push(row_of(alloc, method, lasts)?)?;
+        rows.push(row_of(alloc, method, lasts, past)?)?;
     }
     Ok(rows)
 }
 
-fn row_of(alloc: Global, method: &Registered, lasts: &[Last]) -> Result<Row, AllocError>
-    ensures { IfOk result (λ row. row ≡ spec.row_of lasts.now method.now) }
+fn row_of(
+    alloc: Global,
+    method: &Registered,
+    lasts: &[Last],
+    past: &[Row],
+) -> Result<Row, AllocError>
+    ensures { IfOk result (λ row. row ≡ spec.row_of past.now lasts.now method.now) }
 {
-    match last_of(lasts, method.id()) {
-        Some(last) => called_row(alloc, method, last),
-        None => silent_row(alloc, method),
+    let old = row_at(past, method.address());
+    match (last_of(lasts, method.id()), old) {
+        (Some(last), old) => called_row(alloc, method, last, calls_of(old)),
+        (None, Some(old)) => past_row(alloc, method, old),
+        (None, None) => silent_row(alloc, method),
     }
 }
 
-fn called_row(alloc: Global, method: &Registered, last: &Last) -> Result<Row, AllocError>
-    ensures { IfOk result (λ row. row ≡ spec.row_with method.now (Some last.now)) }
+/// How often a method was called in the recordings before.
+fn calls_of(old: Option<&Row>) -> u64
+    ensures { result ≡ spec.calls_of (option_map (λ row. row.now) old.entry) }
+{
+    match old {
+        Some(old) => old.calls,
+        None => 0,
+    }
+}
+
+/// The row of a method that was called, after so many calls before.
+fn called_row(
+    alloc: Global,
+    method: &Registered,
+    last: &Last,
+    before: u64,
+) -> Result<Row, AllocError>
+    ensures { IfOk result (λ row. row ≡ spec.called_row method.now last.now before) }
 {
     Ok(Row {
         id: method.id(),
         address: Bytes::copied(alloc, method.address())?,
-        calls: last.count,
+        calls: before.saturating_add(last.count),
         at: last.at,
         words: Bytes::copied(alloc, last.words.as_slice())?,
     })
 }
 
+/// The row of a method that was called in the recordings before alone.
+fn past_row(alloc: Global, method: &Registered, old: &Row) -> Result<Row, AllocError>
+    ensures { IfOk result (λ row. row ≡ spec.past_row method.now old.now) }
+{
+    Ok(Row {
+        id: method.id(),
+        address: Bytes::copied(alloc, method.address())?,
+        calls: old.calls,
+        at: old.at,
+        words: Bytes::copied(alloc, old.words.as_slice())?,
+    })
+}
+
 fn silent_row(alloc: Global, method: &Registered) -> Result<Row, AllocError>
-    ensures { IfOk result (λ row. row ≡ spec.row_with method.now None) }
+    ensures { IfOk result (λ row. row ≡ spec.silent_row method.now) }
 {
     Ok(Row {
         id: method.id(),

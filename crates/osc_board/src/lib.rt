@@ -7,11 +7,13 @@ mod last;
 pub mod laws;
 mod look;
 mod note;
+mod past;
 mod reader;
 mod sight;
 mod watcher;
 mod words;
 
 pub use board::MOST_WAITS;
+pub use past::Past;
 pub use sight::Sight;
 pub use watcher::Watcher;

@@ -3,8 +3,9 @@
 use crate::board::{counts_of, rows_of, waits_of};
 use crate::last::{Last, note_all};
 use crate::note::notes_of;
+use crate::past::Past;
 use osc_model::Late;
-use osc_page::Board;
+use osc_page::{Board, Row};
 use osc_record::{Answer, Entry};
 use osc_story::{SeeFault, Story};
 use std::alloc::{AllocError, Global};
@@ -39,7 +40,7 @@ impl Sight {
     ghost use Rattle.std.specs.Prelude.{◌≡◌, OnOk, OnErr, IfOk, IfErr};
     ghost use Rattle.osc_record.specs.Left.{placed_of};
     ghost use Rattle.osc_story.specs.Seen.{IsFaultOf};
-    ghost use Rattle.osc_board.specs.Boards.{board_of};
+    ghost use Rattle.osc_board.specs.Boards.{board_after, past_after, rows_after};
     ghost use Rattle.osc_board.specs.Sights.{opened, Follows};
 
     /// Nothing is seen yet. Takes no memory.
@@ -80,13 +81,30 @@ impl Sight {
         Ok(())
     }
 
-    /// What is shown.
-    pub fn board(&self) -> Result<Board, AllocError>
-        ensures { IfOk result (λ board. board ≡ board_of self.now) }
+    /// What is shown, after the recordings before.
+    pub fn board(&self, past: &Past) -> Result<Board, AllocError>
+        ensures { IfOk result (λ board. board ≡ board_after past.now self.now) }
     {
-        let methods = rows_of(self.alloc, self.story.methods(), &self.lasts)?;
+        let methods = self.rows(past)?;
         let waits = waits_of(self.alloc, self.story.waiting())?;
-        let counts = counts_of(self.story.totals(), self.story.waiting());
+        let totals = past.totals.with(self.story.totals());
+        let counts = counts_of(totals, self.story.waiting());
         Ok(Board::new(self.story.clock(), counts, methods, waits))
+    }
+
+    /// What has been shown then.
+    pub(crate) fn past(&self, past: &Past) -> Result<Past, AllocError>
+        ensures { IfOk result (λ now. now ≡ past_after past.now self.now) }
+    {
+        Ok(Past {
+            rows: self.rows(past)?,
+            totals: past.totals.with(self.story.totals()),
+        })
+    }
+
+    fn rows(&self, past: &Past) -> Result<Vec<Row>, AllocError>
+        ensures { IfOk result (λ rows. rows.items ≡ rows_after past.now.rows self.now) }
+    {
+        rows_of(self.alloc, self.story.methods(), &self.lasts, &past.rows)
     }
 }

@@ -3,6 +3,7 @@ ghost use Rattle.std.specs.Prelude.{◌≡◌, ◌≤◌, ◌++◌, length, take
 ghost use Rattle.osc_story.specs.Looks as spec;
 
 use crate::look::{Look, look_at};
+use crate::past::Past;
 use crate::sight::Sight;
 use osc_page::Board;
 use osc_record::{HEADER_SIZE, MAX_RECORDING, laws as records};
@@ -19,6 +20,7 @@ pub struct Watcher {
     /// How many bytes the entries have that were seen.
     passed: u32,
     sight: Option<Sight>,
+    past: Past,
 }
 
 impl Drop for Watcher {
@@ -28,6 +30,7 @@ impl Drop for Watcher {
             bytes: _,
             passed: _,
             sight: _,
+            past: _,
         } = self;
     }
 }
@@ -39,7 +42,12 @@ impl Model for Watcher {
 
     ghost Value = { Watching };
 
-    ghost view = { λ f. record { bytes = f.bytes.items; passed = f.passed; sight = f.sight } };
+    ghost view = { λ f. record {
+      bytes = f.bytes.items;
+      passed = f.passed;
+      sight = f.sight;
+      past = f.past;
+    } };
 
     ghost invariant = { λ f. f.passed + length f.bytes.items ≤ max_recording };
 }
@@ -48,12 +56,12 @@ impl Watcher {
     ghost use Rattle.std.specs.Prelude.{◌≡◌, ◌+◌, ◌≤◌, ◌++◌, List, ℕ, length, OnOk, OnErr, IfOk};
     ghost use Rattle.std.specs.Prelude.{IfErr};
     ghost use Rattle.std.specs.Option.{option_map};
-    ghost use Rattle.osc_board.specs.Boards.{board_of};
+    ghost use Rattle.osc_board.specs.Boards.{board_after};
     ghost use Rattle.osc_model.specs.Limits.{header_size, max_recording};
     ghost use Rattle.osc_story.specs.Looks.{place_of, progress_of};
     ghost use Rattle.osc_board.specs.Looks.{from_place};
     ghost use Rattle.osc_board.specs.Watching.{HasCome, IsTakeFault, Progresses};
-    ghost use Rattle.osc_board.specs.Watching.{unbegun};
+    ghost use Rattle.osc_board.specs.Watching.{unbegun, gone_on};
 
     /// Nothing has come yet. Takes no memory.
     pub fn open(alloc: Global) -> Watcher
@@ -64,17 +72,35 @@ impl Watcher {
             bytes: Vec::new(alloc),
             passed: 0,
             sight: None,
+            past: Past::none(alloc),
         }
     }
 
     /// What is shown of the entries that were seen, once the header is whole.
     pub fn board(&self) -> Result<Option<Board>, AllocError>
-        ensures { IfOk result (λ board. board ≡ option_map board_of self.now.sight) }
+        ensures { IfOk result
+            (λ board. board ≡ option_map (board_after self.now.past) self.now.sight) }
     {
         match &self.sight {
-            Some(sight) => Ok(Some(sight.board()?)),
+            Some(sight) => Ok(Some(sight.board(&self.past)?)),
             None => Ok(None),
         }
+    }
+
+    /// Goes on with the recording after this one, which begins with what carries its server on: the
+    /// next piece is its first. Methods keep their last calls, by their addresses. An `Err` means
+    /// out of memory.
+    pub fn go_on(&mut self) -> Result<(), AllocError>
+        ensures ok { OnOk result (self.new ≡ gone_on self.old) }
+        ensures err { OnErr result (self.new ≡ self.old) }
+    {
+        if let Some(sight) = &self.sight {
+            self.past = sight.past(&self.past)?;
+        }
+        self.sight = None;
+        self.bytes.clear();
+        self.passed = 0;
+        Ok(())
     }
 
     /// Takes the next piece, and sees nothing of it yet.

@@ -10,6 +10,7 @@ use Rattle.osc_atoms.specs.declared.limits.TheConstants.{MAX_PACKET}
 use Rattle.osc_packet.specs.Reading.{packet_fault}
 use Rattle.osc_queue.specs.Timed.{due_of}
 use Rattle.osc_tree.specs.Adding.{Refusal, add_refusal}
+use Rattle.osc_method.specs.Heard.{Fixed}
 use Rattle.osc_model.specs.Limits.{Limits}
 use Rattle.osc_model.specs.State.{State, Queued, registry}
 use Rattle.osc_model.specs.Events.{submit, add, Answer, added, adds_entry, is_added, Entry, Room, room_in}
@@ -32,7 +33,7 @@ use Rattle.osc_lanes.specs.Shares.{Answered, Account, back_by, then_told, ended,
 use Rattle.osc_links.proofs.Opening.{counts_plays}
 use Rattle.osc_carry.specs.Carried.{packet_of, ticks_to, queue_acts, carried_acts}
 use Rattle.osc_alike.specs.Alike.{address_of}
-use Rattle.osc_chain_laws.specs.Openings.{acts_of}
+use Rattle.osc_stage.specs.Lines.{acts_of}
 use Rattle.osc_chain_laws.proofs.Alone.{state_at, state_on, event_alone, act_alone}
 
 -- an add that finds room adds an entry, and is accepted or refused
@@ -88,7 +89,7 @@ accepts entries faults None later none accepted =
     let both = all_split (λ (entry : Entry). IsRefusal entry.answer → ⊥) entries later.history accepted in
     record { stop_is = refl; first = both.0; goes_on = none; more = both.1 }
 
-module _ (caps : Limits) {M : Type 0} (keep : M → ℕ) (heard : M → Option (List ℕ)) where
+module _ (caps : Limits) {M : Type 0} (keep : M → Fixed) (heard : M → Option (List ℕ)) where
   abbrev holder : Holder
   holder = holder_at caps 0
 

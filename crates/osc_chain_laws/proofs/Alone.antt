@@ -6,6 +6,7 @@ use Rattle.std.proofs.lemmas.List.{map-append}
 use Rattle.osc_atoms.specs.declared.fault.Fault.{Fault}
 use Rattle.osc_atoms.specs.declared.limits.TheConstants.{MAX_PACKET}
 use Rattle.osc_packet.specs.Reading.{packet_fault}
+use Rattle.osc_method.specs.Heard.{Fixed}
 use Rattle.osc_model.specs.Limits.{Limits}
 use Rattle.osc_model.specs.State.{State, opening}
 use Rattle.osc_model.specs.Events.{Event, submit, add, remove, tick, release, Answer, released, nothing_due, record_full, adds_entry, Entry, Room, room_in, Hit}
@@ -206,7 +207,7 @@ module _ (caps : Limits) where
       faults = ap (λ (a : Account M). a.faults) is ∙ append-nil first.faults ∙ faults;
     }
 
-    module _ (keep : M → ℕ) (heard : M → Option (List ℕ)) where
+    module _ (keep : M → Fixed) (heard : M → Option (List ℕ)) where
       starts_act : (number : ℕ) (act : Act) (boxes left : List M) (first : Account M) (here there : List Seen)
           → PlaysAct keep heard holder number act boxes left first here there → StartsWith there here
       starts_act number (Add address) boxes left first here there (box, answer, same, a, marked, is) = starts_event (add address) answer here there a

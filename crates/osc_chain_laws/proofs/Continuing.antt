@@ -1,5 +1,6 @@
 -- A stage whose opening carries another one on.
 use Rattle.std.proofs.Common.{◌≡◌, ℕ, List, [], ◌++◌, map, length, drop, Option, sym, ap, subst, ◌∙◌}
+use Rattle.osc_method.specs.Heard.{Fixed}
 use Rattle.osc_model.specs.Limits.{Limits}
 use Rattle.osc_model.specs.State.{State, opening}
 use Rattle.osc_model.specs.Events.{Entry}
@@ -22,14 +23,15 @@ use Rattle.osc_relay.specs.declared.relay.Relay.{Relay}
 use Rattle.osc_stage.specs.declared.stage.Stage.{Stage}
 use Rattle.osc_stage.specs.declared.stage.Staged.{Staged}
 use Rattle.osc_stage.specs.Stages.{carried_on, IsStaged}
-use Rattle.osc_chain_laws.specs.Openings.{acts_of, StandAt, told_faults, IsPlain, BeginsWith}
+use Rattle.osc_stage.specs.Lines.{acts_of}
+use Rattle.osc_chain_laws.specs.Openings.{StandAt, told_faults, IsPlain, BeginsWith}
 use Rattle.osc_chain_laws.specs.Continuations.{IsRecorded, Continues}
 use Rattle.osc_chain_laws.proofs.Lines.{opening_acts, acts_are}
 use Rattle.osc_chain_laws.proofs.Added.{carried_counted, none_left}
 use Rattle.osc_chain_laws.proofs.Opened.{hosted_plain, hosted_begins, hosted_back}
 use Rattle.osc_chain_laws.proofs.Same.{IsSame, same_lines, none_same}
 
-module _ {O L : Type 0} {G : Ghosts O} (keep : Relay O G → ℕ) (heard : Relay O G → Option (List ℕ)) (left : L → Option (List LinkTurn)) (faults : L → ℕ)
+module _ {O L : Type 0} {G : Ghosts O} (keep : Relay O G → Fixed) (heard : Relay O G → Option (List ℕ)) (left : L → Option (List LinkTurn)) (faults : L → ℕ)
     (stage : Stage O L G) (clock : ClockRead) (staged : Staged O L G) (is : IsStaged keep heard left faults stage clock staged) where
   -- the one history of a stage
   abbrev pub history_of : List Entry

@@ -17,7 +17,8 @@ use Rattle.osc_alike.specs.Alike.{address_of}
 use Rattle.osc_relay.specs.declared.outlet.Outlet.{Ghosts}
 use Rattle.osc_relay.specs.declared.relay.Relay.{Relay}
 use Rattle.osc_stage.specs.Stages.{add_line, is_other, carried_on}
-use Rattle.osc_chain_laws.specs.Openings.{acts_of, StandAt, added_by, added_in}
+use Rattle.osc_stage.specs.Lines.{acts_of, added_by, added_in}
+use Rattle.osc_chain_laws.specs.Openings.{StandAt}
 
 -- whether an act adds no method
 abbrev is_no_add : Act → Bool

@@ -1,6 +1,7 @@
 -- What a server has played first, before its callers came in.
 use Rattle.std.proofs.Common.{◌≡◌, ℕ, Bool, true, false, cond, eqb, List, [], ◌∷◌, ◌++◌, drop, Option, None, refl, ap, ◌∙◌, append_assoc}
 use Rattle.std.proofs.lemmas.List.Elements.{filter_map-append}
+use Rattle.osc_method.specs.Heard.{Fixed}
 use Rattle.osc_model.specs.Limits.{Limits}
 use Rattle.osc_model.specs.Events.{Entry}
 use Rattle.osc_record.specs.Reading.{entry_in}
@@ -39,7 +40,7 @@ own_twice number (one ∷ history) = go (eqb one.number number) refl (own_twice 
 read_on : (first more : List Seen) → history_in (texts (first ++ more)) ≡ history_in (texts first) ++ history_in (texts more)
 read_on first more = ap history_in (texts_append first more) ∙ filter_map-append entry_in (texts first) (texts more)
 
-module _ {M : Type 0} (keep : M → ℕ) (heard : M → Option (List ℕ)) where
+module _ {M : Type 0} (keep : M → Fixed) (heard : M → Option (List ℕ)) where
   pub plays_plain : (caps : Limits) (lines : List Line) (boxes : List M) (told : Account M) (opened : List Seen)
       → Plays keep heard (holder_at caps 0) lines boxes told [] opened → own 0 opened ≡ opened → IsPlain caps lines told (history_in (texts opened))
   plays_plain caps lines boxes told opened plays alone =

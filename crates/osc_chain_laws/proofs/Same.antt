@@ -11,7 +11,7 @@ use Rattle.osc_script.specs.declared.act.Act.{Act}
 use Rattle.osc_script.specs.declared.act.Act.TheVariants.{Add, Remove, Send, Tick, Pump}
 use Rattle.osc_script.specs.declared.line.Line.{Line}
 use Rattle.osc_player.specs.Plain.{entries_of, stop_of, fault_at, act_faults, LineFault, Played, followed, plain_from}
-use Rattle.osc_chain_laws.specs.Openings.{acts_of}
+use Rattle.osc_stage.specs.Lines.{acts_of}
 
 abbrev pub faults_in : List LineFault → List Fault
 faults_in faults = map (λ fault. fault.fault) faults

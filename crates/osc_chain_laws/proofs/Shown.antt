@@ -1,5 +1,6 @@
 -- The stages of a show have recorded a chain.
 use Rattle.std.proofs.Common.{◌≡◌, ℕ, ◌≤◌, List, [], ◌∷◌, ◌++◌, Option, sym, subst₂, ◌∙◌}
+use Rattle.osc_method.specs.Heard.{Fixed}
 use Rattle.osc_model.specs.Limits.{Limits}
 use Rattle.osc_model.specs.State.{opening}
 use Rattle.osc_model.specs.Events.{Entry}
@@ -50,7 +51,7 @@ module _ {O L : Type 0} {G : Ghosts O} where
         );
       }
 
-  module _ (keep : Relay O G → ℕ) (heard : Relay O G → Option (List ℕ)) (left : L → Option (List LinkTurn)) (faults : L → ℕ) (known : OfRecordings)
+  module _ (keep : Relay O G → Fixed) (heard : Relay O G → Option (List ℕ)) (left : L → Option (List LinkTurn)) (faults : L → ℕ) (known : OfRecordings)
       (carry : AreCarriedOn) where
     -- the next stage goes on from the history that the last one has recorded
     next_continues : (caps : Limits) (old : List Entry) (last next : Scene O L G) → IsRecorded caps old last.staged.recording.items

@@ -1,12 +1,9 @@
 -- What is played first on a stage, and what that makes of its history.
-use Rattle.std.specs.Prelude.{◌≡◌, ℕ, List, ◌++◌, map, Option, Some, None}
-use Rattle.std.specs.List.{filter_map}
+use Rattle.std.specs.Prelude.{◌≡◌, ℕ, List, ◌++◌, map}
 use Rattle.osc_atoms.specs.declared.fault.Fault.{Fault}
 use Rattle.osc_model.specs.Limits.{Limits}
 use Rattle.osc_model.specs.State.{State}
 use Rattle.osc_model.specs.Events.{Entry}
-use Rattle.osc_script.specs.declared.act.Act.{Act}
-use Rattle.osc_script.specs.declared.act.Act.TheVariants.{Add}
 use Rattle.osc_script.specs.declared.line.Line.{Line}
 use Rattle.osc_player.specs.Plain.{LineFault, plain}
 use Rattle.osc_alike.specs.Alike.{address_of}
@@ -14,18 +11,6 @@ use Rattle.osc_life.specs.Crews.{enrolments}
 use Rattle.osc_lanes.specs.Shares.{Account}
 use Rattle.osc_relay.specs.declared.outlet.Outlet.{Ghosts}
 use Rattle.osc_relay.specs.declared.relay.Relay.{Relay}
-
--- what lines do
-abbrev pub acts_of : List Line → List Act
-acts_of lines = map (λ line. line.act) lines
-
--- the address at which an act adds a method, and those of lines, in order
-abbrev pub added_by : Act → Option (List ℕ)
-added_by (Add address) = Some address
-added_by _ = None
-
-abbrev pub added_in : List Line → List (List ℕ)
-added_in lines = filter_map added_by (acts_of lines)
 
 -- there are as many relays as methods of a server, at their addresses, in their order
 abbrev pub StandAt : {O : Type 0} {G : Ghosts O} → List (Relay O G) → State → Type 0

@@ -1,6 +1,7 @@
 -- A show that turns over while it plays: one stage after another, each with its recording.
 use Rattle.std.specs.Prelude.{◌≡◌, ℕ, ◌≤◌, List, [], ◌∷◌, Option}
 use Rattle.osc_atoms.specs.Atoms.{AreBytes}
+use Rattle.osc_method.specs.Heard.{Fixed}
 use Rattle.osc_model.specs.Limits.{Limits}
 use Rattle.osc_model.specs.State.{opening}
 use Rattle.osc_model.specs.Events.{Entry}
@@ -66,7 +67,7 @@ module _ {O L : Type 0} {G : Ghosts O} where
     pub chained : AreChained first.stage.caps history reels
     pub as_one : PlaysAsOne first.stage.caps history reels
 
-  module _ (keep : Relay O G → ℕ) (heard : Relay O G → Option (List ℕ))
+  module _ (keep : Relay O G → Fixed) (heard : Relay O G → Option (List ℕ))
       (left : L → Option (List LinkTurn)) (faults : L → ℕ) where
     -- each stage was played, and carries the one before it on
     abbrev pub IsShow : Scene O L G → List (Scene O L G) → Type 0

@@ -29,9 +29,10 @@ ghost use Rattle.osc_relay.specs.declared.relay.Relay.{Relay};
 ghost use Rattle.osc_ends.specs.Sinks.{SinkChange};
 ghost use Rattle.osc_stage.specs.declared.stage.Stage.{Stage};
 ghost use Rattle.osc_stage.specs.declared.stage.Staged.{Staged};
-ghost use Rattle.osc_stage.specs.Stages.{carried_on, IsStaged, RecordsStage};
+ghost use Rattle.osc_stage.specs.Stages.{carried_on, AddsAtOwn, IsStaged, RecordsStage};
 ghost use Rattle.osc_chain_laws.specs.Continuations.{Continues};
-ghost use Rattle.osc_chain_laws.specs.Openings.{acts_of, added_in, StandAt, IsPlain, BeginsWith};
+ghost use Rattle.osc_stage.specs.Lines.{acts_of, added_in};
+ghost use Rattle.osc_chain_laws.specs.Openings.{StandAt, IsPlain, BeginsWith};
 ghost use Rattle.osc_chain_laws.specs.Reels.{Reel, AreChained, PlaysAsOne, later_events, taken_by};
 ghost use Rattle.osc_chain_laws.specs.Shows.{Scene, IsCarriedScript, TurnsOver, IsShow, IsChain};
 
@@ -160,6 +161,31 @@ pub fn a_carried_script_turns_over<O: Outlet, L: Link>()
     the_limits_are_room_enough();
 }
 
+/// So does one whose relays are those that the stage before it hands back, where that one's opening
+/// added each at its own address: nothing has to be tested.
+pub fn a_stage_turns_over<O: Outlet, L: Link>()
+    ensures { (last next : Scene O L ⟦<O as Outlet>⟧) (rec : SinkChange) (script : List ℕ)
+        (lines : List Line)
+        → IsStaged ⟦<Relay<O> as Method>⟧.keep ⟦<Relay<O> as Method>⟧.heard L.left L.faults
+        last.stage last.clock last.staged
+        → RecordsStage ⟦<Relay<O> as Method>⟧.keep ⟦<Relay<O> as Method>⟧.heard O.sent O.losses
+        last.stage last.staged rec
+        → AddsAtOwn (part_of last.stage.opening)
+        → AreBytes last.staged.recording.items
+        → IsCarriedScript last.staged.recording.items script → script_of Plain script ≡ Ok lines
+        → part_of next.stage.opening
+        ≡ carried_on (map (λ one. one.1) last.staged.relays.items) lines
+        → next.stage.caps ≡ with_room last.stage.caps next.stage.caps.recording
+        → 108 + 299 * last.stage.caps.methods + 119 * last.stage.caps.units
+        + 64 * last.stage.caps.blocks ≤ next.stage.caps.recording
+        → TurnsOver last next }
+{
+    a_legal_history_is_recordable();
+    texts_differ();
+    a_carried_script_leads_there();
+    the_limits_are_room_enough();
+}
+
 /// A stage has one history: that which its callers have made is that which its relays have heard and
 /// sent.
 pub fn a_stage_has_one_history<O: Outlet, L: Link>()
@@ -168,7 +194,7 @@ pub fn a_stage_has_one_history<O: Outlet, L: Link>()
         → (is : IsStaged ⟦<Relay<O> as Method>⟧.keep ⟦<Relay<O> as Method>⟧.heard L.left L.faults
         stage clock staged)
         → (records : RecordsStage ⟦<Relay<O> as Method>⟧.keep ⟦<Relay<O> as Method>⟧.heard O.sent
-        O.losses stage.caps staged rec)
+        O.losses stage staged rec)
         → history_in (texts is.hosts.history) ≡ records.history }
 {
     a_legal_history_is_recordable();

@@ -21,6 +21,11 @@ impl Changeover {
         }
     }
 
+    /// Whether the show goes on in a new recording at any size.
+    pub fn is_on(&self) -> bool {
+        self.size < u64::MAX
+    }
+
     /// A new recording begins, of which nothing is written.
     pub fn begin(&self) {
         self.written.store(0, Ordering::SeqCst);

@@ -87,17 +87,23 @@ impl<'a> HeardLink<'a> {
         ensures faults { self.new.faults ≡ self.old.faults }
         ensures quiets { self.new.quiets ≡ self.old.quiets }
     {
-        let pace = self.pace.wait().max(1);
-        let wait = if self.changeover.is_near() {
-            pace.min(SHORT_WAIT)
-        } else {
-            pace
-        };
+        let wait = wait_for(self.pace, self.changeover);
         if wait != self.wait {
             socket.set_read_timeout(Some(Duration::from_millis(u64::from(wait))))?;
             self.wait = wait;
         }
         Ok(())
+    }
+}
+
+/// How many milliseconds a call waits: as the pace says, but not for long where the recording is
+/// soon changed over.
+pub(crate) fn wait_for(pace: &Pace, changeover: &Changeover) -> u32 {
+    let wait = pace.wait().max(1);
+    if changeover.is_near() {
+        wait.min(SHORT_WAIT)
+    } else {
+        wait
     }
 }
 
@@ -109,8 +115,8 @@ fn of_four(sender: SocketAddr) -> Option<SocketAddrV4> {
     }
 }
 
-/// Whether the error says that no datagram came in time.
-fn is_quiet(error: &io::Error) -> bool {
+/// Whether the error says that nothing came in time.
+pub(crate) fn is_quiet(error: &io::Error) -> bool {
     matches!(
         error.kind(),
         ErrorKind::WouldBlock | ErrorKind::TimedOut | ErrorKind::Interrupted

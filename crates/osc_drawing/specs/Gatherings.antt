@@ -31,6 +31,10 @@ pub record Gathered : Type 0 where
 abbrev pub nothing_gathered : Gathered
 nothing_gathered = record { marks = []; units = []; methods = []; count = 0 }
 
+-- nothing waits, and no method is there
+abbrev pub reopened : Gathered → Gathered
+reopened gathered = record gathered { units = []; methods = [] }
+
 -- what is before the next call in order
 abbrev pub stamp_of : Gathered → ℕ → Stamp
 stamp_of gathered moment = record { moment = moment; order = gathered.count - 1 }

@@ -17,7 +17,7 @@ use Rattle.osc_drawing.specs.declared.mark.Owner.{Owner}
 use Rattle.osc_drawing.specs.declared.mark.Owner.TheVariants as owner
 use Rattle.osc_drawing.specs.Pictures.{is_in_order}
 use Rattle.osc_drawing.specs.Rows.{all_rows, all_unheard, entered, is_among}
-use Rattle.osc_drawing.specs.Sketches.{Sketched}
+use Rattle.osc_drawing.specs.Sketches.{Sketched, totals_of}
 
 -- how many messages wait, and so many more
 abbrev pub more_waiting : ℕ → List (Item Handed) → ℕ
@@ -33,11 +33,11 @@ abbrev pub sums_in : Sketched → Sums
 sums_in sketch = record {
   first = first_of sketch;
   last = sketch.standing.clock;
-  messages = sketch.standing.totals.messages;
-  calls = sketch.standing.totals.calls;
-  unheard = sketch.standing.totals.unheard;
-  discarded = sketch.standing.totals.discarded;
-  refused = sketch.standing.totals.refused;
+  messages = (totals_of sketch).messages;
+  calls = (totals_of sketch).calls;
+  unheard = (totals_of sketch).unheard;
+  discarded = (totals_of sketch).discarded;
+  refused = (totals_of sketch).refused;
   waiting = more_waiting 0 sketch.standing.waiting;
 }
 

@@ -9,12 +9,14 @@ use Rattle.osc_record.specs.Left.{placed_of}
 use Rattle.osc_story.specs.declared.disagreement.Disagreement.{Disagreement}
 use Rattle.osc_story.specs.declared.disagreement.SeeFault.{SeeFault}
 use Rattle.osc_story.specs.declared.disagreement.SeeFault.TheVariants as see
+use Rattle.osc_story.specs.declared.totals.Totals.{Totals}
 use Rattle.osc_story.specs.Standings.{Standing, opened, seen, disagreement}
+use Rattle.osc_story.specs.Totals.{none as nothing_told, both}
 use Rattle.osc_drawing.specs.declared.sketch.DrawFault.{DrawFault}
 use Rattle.osc_drawing.specs.declared.sketch.DrawFault.TheVariants as fault
 use Rattle.osc_drawing.specs.declared.mark.Stamp.{Stamp}
 use Rattle.osc_drawing.specs.Endings.{with_end}
-use Rattle.osc_drawing.specs.Gatherings.{Gathered, nothing_gathered, with_event}
+use Rattle.osc_drawing.specs.Gatherings.{Gathered, nothing_gathered, reopened as emptied, with_event}
 
 -- whether an event is a tick or a release
 abbrev pub is_moment : Event → Bool
@@ -43,14 +45,21 @@ abbrev pub next_moment : ℕ → ℕ → Event → List Entry → ℕ
 next_moment clock moment event entries =
     if is_moment event then moment_ahead clock entries else moment
 
--- what stands, what is gathered, and the first moment after a tick
+-- what stands, what is gathered, the first moment after a tick, and how much the recordings before
+-- told
 pub record Sketched : Type 0 where
   pub standing : Standing
   pub gathered : Gathered
   pub first : Option ℕ
+  pub before : Totals
 
 abbrev pub begun : Late → Sketched
-begun late = record { standing = opened late; gathered = nothing_gathered; first = None }
+begun late = record {
+  standing = opened late;
+  gathered = nothing_gathered;
+  first = None;
+  before = nothing_told;
+}
 
 abbrev pub first_moment : Option ℕ → ℕ → Option ℕ
 first_moment None moment = if moment == 1 then None else Some moment
@@ -58,7 +67,7 @@ first_moment (Some first) moment = Some first
 
 -- with an entry at a moment
 abbrev pub with_entry : Sketched → ℕ → Entry → Sketched
-with_entry sketch moment entry = record {
+with_entry sketch moment entry = record sketch {
   standing = seen sketch.standing entry;
   gathered = with_event sketch.standing moment entry.event entry.answer sketch.gathered;
   first = first_moment sketch.first moment;
@@ -89,6 +98,22 @@ with_all sketch entries =
 -- the sketch of all entries of a recording
 abbrev pub sketch_of : Late → List Entry → Sketched
 sketch_of late entries = finished (with_all (begun late) entries)
+
+-- how much was told, by all recordings
+abbrev pub totals_of : Sketched → Totals
+totals_of sketch = both sketch.before sketch.standing.totals
+
+-- nothing stands, as on a new server
+abbrev pub reopened : Sketched → Late → Sketched
+reopened sketch late = record sketch {
+  standing = opened late;
+  gathered = emptied sketch.gathered;
+  before = totals_of sketch;
+}
+
+-- with all entries of the recording after those of a sketch
+abbrev pub gone_on : Sketched → Late → List Entry → Sketched
+gone_on sketch late entries = finished (with_all (reopened sketch late) entries)
 
 -- what entries that were read tell
 abbrev pub entry_of : Read → Entry

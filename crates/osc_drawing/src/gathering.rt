@@ -84,8 +84,16 @@ impl Gathering {
         self.count
     }
 
-    fn alloc(&self) -> Global {
+    pub(crate) fn alloc(&self) -> Global {
         self.alloc
+    }
+
+    /// Nothing waits, and no method is there.
+    pub(crate) fn reopen(&mut self)
+        ensures { self.new ≡ spec.reopened self.old }
+    {
+        self.units.clear();
+        self.methods.clear();
     }
 
     /// What is before the next call in order.

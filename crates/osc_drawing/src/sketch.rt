@@ -10,7 +10,7 @@ use crate::view::millis_of;
 use osc_model::Late;
 use osc_picture::Frame;
 use osc_record::{Answer, Entry, Event};
-use osc_story::{Disagreement, SeeFault, Story};
+use osc_story::{Disagreement, SeeFault, Story, Totals};
 use std::alloc::{AllocError, Global};
 use std::marker::Model;
 
@@ -27,6 +27,8 @@ pub struct Sketch {
     story: Story,
     gathering: Gathering,
     first: Option<u64>,
+    /// How much the recordings before told.
+    before: Totals,
 }
 
 impl Drop for Sketch {
@@ -35,6 +37,7 @@ impl Drop for Sketch {
             story: _,
             gathering: _,
             first: _,
+            before: _,
         } = self;
     }
 }
@@ -44,7 +47,12 @@ impl Model for Sketch {
 
     ghost Value = { Sketched };
 
-    ghost view = { λ s. record { standing = s.story; gathered = s.gathering; first = s.first } };
+    ghost view = { λ s. record {
+      standing = s.story;
+      gathered = s.gathering;
+      first = s.first;
+      before = s.before;
+    } };
 }
 
 impl Sketch {
@@ -61,6 +69,7 @@ impl Sketch {
             story: Story::open(alloc, late),
             gathering: Gathering::new(alloc),
             first: None,
+            before: Totals::none(),
         }
     }
 
@@ -77,6 +86,39 @@ impl Sketch {
             Ok(()) => Ok(sketch),
             Err(_) => Err(DrawFault::NoMemory),
         }
+    }
+
+    /// Goes on with all entries of the recording after these: one that begins with what carries their
+    /// server on. What waits, and which methods are there, is marked at the end of each. After an
+    /// `Err` it isn't to be drawn.
+    pub fn go_on(&mut self, late: Late, entries: &[Entry<'_>]) -> Result<(), DrawFault>
+        ensures agree { OnOk result (spec.first_fault (opened late) entries.now ≡ None) }
+        ensures ok { OnOk result (self.new ≡ spec.gone_on self.old late (spec.told entries.now)) }
+        ensures why { IfErr result
+            (λ fault. spec.IsFault fault (spec.first_fault (opened late) entries.now)) }
+    {
+        self.reopen(late);
+        self.take_all(entries)?;
+        match self.finish() {
+            Ok(()) => Ok(()),
+            Err(_) => Err(DrawFault::NoMemory),
+        }
+    }
+
+    /// Nothing stands, as on a new server.
+    fn reopen(&mut self, late: Late)
+        ensures { self.new ≡ spec.reopened self.old late }
+    {
+        self.before = self.totals();
+        self.gathering.reopen();
+        self.story = Story::open(self.gathering.alloc(), late);
+    }
+
+    /// How much was told, by all recordings.
+    pub fn totals(&self) -> Totals
+        ensures { result ≡ spec.totals_of self.now }
+    {
+        self.before.with(self.story.totals())
     }
 
     /// Takes entries. After an `Err` nothing more is to be taken.

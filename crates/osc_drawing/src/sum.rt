@@ -26,7 +26,7 @@ pub(crate) fn sums_of(
 fn sums_in(sketch: &Sketch) -> Sums
     ensures { result ≡ spec.sums_in sketch.now }
 {
-    let totals = sketch.story().totals();
+    let totals = sketch.totals();
     Sums {
         first: first_of(sketch),
         last: sketch.story().clock(),

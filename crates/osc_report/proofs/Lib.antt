@@ -3,3 +3,4 @@ mod Stretching
 mod Showing
 mod Joining
 mod Telling
+mod Selecting

@@ -1,35 +1,38 @@
 -- What is shown after all entries.
-use Rattle.std.specs.Prelude.{◌≡◌, ℕ, nat_le, List, [], ◌∷◌, ◌++◌, length, unwrap_or}
+use Rattle.std.specs.Prelude.{◌≡◌, ℕ, nat_le, Bool, if◌then◌else◌, List, [], ◌∷◌}
+use Rattle.std.specs.Prelude.{◌++◌, length, unwrap_or}
 use Rattle.osc_queue.specs.Timed.{Item, due_of}
-use Rattle.osc_shown.specs.declared.look.Look.{Look}
 use Rattle.osc_shown.specs.declared.summary.Sums.{Sums}
 use Rattle.osc_shown.specs.Columns.{painted}
-use Rattle.osc_shown.specs.Summaries.{totals_words}
+use Rattle.osc_shown.specs.Summaries.{totals_words, whole_totals_words}
 use Rattle.osc_story.specs.Standings.{Standing, Handed}
 use Rattle.osc_story.specs.Totals.{more}
+use Rattle.osc_report.specs.declared.options.Options.{Options}
 use Rattle.osc_report.specs.declared.span.Span.{Span}
+use Rattle.osc_report.specs.Choices.{is_part}
 use Rattle.osc_report.specs.Moments.{shown_moment}
 use Rattle.osc_report.specs.Pages.{IsPage}
 use Rattle.osc_report.specs.Units.{waits, AddsToldLines}
 
--- the lines of a unit that waits were added, where the clock stands at a moment
-abbrev pub AddsQueued : Look → ℕ → Item Handed → List ℕ → List ℕ → Type 0
-AddsQueued look clock item before after =
-    AddsToldLines look (shown_moment clock) (waits (due_of item) (nat_le (due_of item) clock)) 0
+-- the lines of a unit that waits were added that are shown, where the clock stands at a moment
+abbrev pub AddsQueued : Options → ℕ → Item Handed → List ℕ → List ℕ → Type 0
+AddsQueued options clock item before after =
+    AddsToldLines options (shown_moment clock) (waits (due_of item) (nat_le (due_of item) clock)) 0
     item.2.unit.messages before after
 
 -- those of all units that wait
-abbrev pub AddsWaiting : Look → ℕ → List (Item Handed) → List ℕ → List ℕ → Type 0
-AddsWaiting look clock [] before after = after ≡ before
-AddsWaiting look clock (item ∷ items) before after =
-    (mid : List ℕ) × AddsQueued look clock item before mid × AddsWaiting look clock items mid after
+abbrev pub AddsWaiting : Options → ℕ → List (Item Handed) → List ℕ → List ℕ → Type 0
+AddsWaiting options clock [] before after = after ≡ before
+AddsWaiting options clock (item ∷ items) before after =
+    (mid : List ℕ) × AddsQueued options clock item before mid
+    × AddsWaiting options clock items mid after
 
 -- how many messages wait, and so many more; a count stays at the greatest number of 64 bits
 abbrev pub more_waiting : ℕ → List (Item Handed) → ℕ
 more_waiting count [] = count
 more_waiting count (item ∷ items) = more_waiting (more count (length item.2.unit.messages)) items
 
--- how much was told, from the first moment that was shown to where the clock stands
+-- how much was told, from the first moment that has a line to where the clock stands
 abbrev pub sums_of : Standing → Span → Sums
 sums_of standing span = record {
   first = unwrap_or span.first standing.clock;
@@ -42,11 +45,18 @@ sums_of standing span = record {
   waiting = more_waiting 0 standing.waiting;
 }
 
--- the lines of what waits, as those of one moment, and the line of how much was told
-pub record IsEnd (look : Look) (standing : Standing) (span : Span) (text : List ℕ) : Type 0 where
+-- the words of how much was told
+abbrev pub ending_words : Bool → Sums → List ℕ
+ending_words is_part sums = if is_part then whole_totals_words sums else totals_words sums
+
+-- The lines of what waits that are shown, as those of one moment, and the line of how much was told,
+-- which says that it is of the whole recording where lines may be left out.
+pub record IsEnd (options : Options) (standing : Standing) (span : Span) (text : List ℕ)
+    : Type 0 where
   pub lines : List ℕ
   pub page : List ℕ
   pub after : Span
-  pub wait : AddsWaiting look standing.clock standing.waiting [] lines
-  pub shown : IsPage look span (shown_moment standing.clock) lines page after
-  pub whole : text ≡ page ++ painted look.colours 126 (totals_words (sums_of standing span)) []
+  pub wait : AddsWaiting options standing.clock standing.waiting [] lines
+  pub shown : IsPage options span (shown_moment standing.clock) lines page after
+  pub whole : text ≡ page ++ painted options.look.colours 126
+      (ending_words (is_part options) (sums_of standing span)) []

@@ -1,4 +1,7 @@
 -- What public contracts cite.
+pub mod Windows
+pub mod Selections
+pub mod Choices
 pub mod Moments
 pub mod Notes
 pub mod Units

@@ -1,6 +1,6 @@
 -- The lines of methods that come and go, of ticks, and of callers.
 use Rattle.std.specs.Prelude.{ℕ, if◌then◌else◌, List, [], ◌++◌, codes, Option, Some, None}
-use Rattle.std.specs.Prelude.{unwrap_or}
+use Rattle.std.specs.Prelude.{unwrap_or, is_none}
 use Rattle.std.specs.Fmt.{decimal}
 use Rattle.osc_pattern.specs.Methods.{Method}
 use Rattle.osc_tree.specs.Adding.{Refusal, taken, under_method, is_container, methods_full}
@@ -14,6 +14,7 @@ use Rattle.osc_shown.specs.Numbers.{thousands}
 use Rattle.osc_shown.specs.Times.{time_text}
 use Rattle.osc_shown.specs.Told.{note_text}
 use Rattle.osc_report.specs.declared.options.Options.{Options}
+use Rattle.osc_report.specs.Choices.{is_named}
 
 -- the front of a line
 abbrev pub head : Options → Option ℕ → ℕ → ℕ → Head
@@ -24,9 +25,20 @@ head options moment mark join =
 abbrev pub note : Options → Option ℕ → ℕ → List ℕ → List ℕ → List ℕ
 note options moment mark words tail = note_text (head options moment mark 32) words tail
 
--- a line that stands only where ticks are shown
+-- the line of an address, unless it is left out
+abbrev pub named_note : Options → Option ℕ → ℕ → List ℕ → List ℕ → List ℕ
+named_note options moment mark address tail =
+    if is_named options.only address then note options moment mark address tail else []
+
+-- a line that has no address, unless it is left out
+abbrev pub unnamed_note : Options → Option ℕ → ℕ → List ℕ → List ℕ → List ℕ
+unnamed_note options moment mark words tail =
+    if is_none options.only then note options moment mark words tail else []
+
+-- one that stands only where ticks are shown
 abbrev pub tick_note : Options → Option ℕ → List ℕ → List ℕ
-tick_note options moment words = if options.ticks then note options moment 46 words [] else []
+tick_note options moment words =
+    if options.ticks then unnamed_note options moment 46 words [] else []
 
 -- a new caller
 abbrev pub enrol_text : Options → Option ℕ → Answer → List ℕ
@@ -59,16 +71,18 @@ why_not methods _ = None
 
 -- an address to which a method was to be added, while these are there
 abbrev pub add_text : Options → Option ℕ → List Method → List ℕ → Answer → List ℕ
-add_text options moment methods address (added id) = note options moment 43 address []
+add_text options moment methods address (added id) =
+    named_note options moment 43 address []
 add_text options moment methods address (refused why) =
-    note options moment 33 address (refused_words methods why)
+    named_note options moment 33 address (refused_words methods why)
 add_text options moment methods address _ = []
 
 -- an address whose method was to be removed
 abbrev pub remove_text : Options → Option ℕ → List ℕ → Answer → List ℕ
-remove_text options moment address (removed id) = note options moment 45 address []
+remove_text options moment address (removed id) =
+    named_note options moment 45 address []
 remove_text options moment address not_there =
-    note options moment 33 address (codes "not removed, no method is there")
+    named_note options moment 33 address (codes "not removed, no method is there")
 remove_text options moment address _ = []
 
 -- to when a clock went back
@@ -78,7 +92,8 @@ back_words clock now = codes "the clock went back to " ++ time_text clock now
 -- a tick that isn't after the clock
 abbrev pub clock_back_text : Options → Option ℕ → ℕ → List ℕ
 clock_back_text options moment now =
-    note options moment 33 (back_words options.look.clock now) (codes "it stays where it was")
+    unnamed_note options moment 33 (back_words options.look.clock now)
+    (codes "it stays where it was")
 
 -- a tick
 abbrev pub tick_text : Options → Option ℕ → ℕ → Answer → List ℕ

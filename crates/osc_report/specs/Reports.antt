@@ -1,5 +1,6 @@
 -- What is shown of entries, one after another.
-use Rattle.std.specs.Prelude.{◌≡◌, ℕ, List, [], ◌∷◌, ◌++◌, None}
+use Rattle.std.specs.Prelude.{◌≡◌, ℕ, ◌==◌, true, false, if◌then◌else◌, List, []}
+use Rattle.std.specs.Prelude.{◌∷◌, ◌++◌, length, Option, None, is_some}
 use Rattle.osc_model.specs.declared.late.Late.{Late}
 use Rattle.osc_model.specs.Events.{Entry}
 use Rattle.osc_record.specs.Reading.{Placed}
@@ -14,13 +15,14 @@ use Rattle.osc_report.specs.declared.reporter.ShowFault.{ShowFault}
 use Rattle.osc_report.specs.declared.reporter.ShowFault.TheVariants as fault
 use Rattle.osc_report.specs.declared.span.Span.{Span}
 use Rattle.osc_report.specs.declared.stretch.Shown.{Shown}
+use Rattle.osc_report.specs.Choices.{unfiltered}
 use Rattle.osc_report.specs.Endings.{IsEnd}
 use Rattle.osc_report.specs.Entries.{AreEntryLines}
 use Rattle.osc_report.specs.Moments.{moment_of, shown_moment}
 use Rattle.osc_report.specs.Pages.{no_span, IsPage}
 use Rattle.osc_report.specs.Stretches.{told, HasRead}
 
--- what is shown and how, what stands, and from when to when lines were shown
+-- what is shown and how, what stands, and when the first line was, and the last that was shown
 pub record Reporting : Type 0 where
   pub options : Options
   pub standing : Standing
@@ -30,12 +32,28 @@ pub record Reporting : Type 0 where
 abbrev pub begun : Options → Late → Reporting
 begun options late = record { options = options; standing = opened late; span = no_span }
 
--- The lines of an entry at a moment, after the line of a day where they are the first of it, and from
--- when to when lines were shown then.
+-- the moment of lines, if there are any and something has ticked
+abbrev pub first_of : List ℕ → ℕ → Option ℕ
+first_of lines moment = if length lines == 0 then None else shown_moment moment
+
+-- The moment of the first line that has a time, whatever addresses lines have: that of an entry,
+-- unless it is known already.
+pub record IsFirst (options : Options) (standing : Standing) (known : Option ℕ) (moment : ℕ)
+    (entry : Entry) (first : Option ℕ) : Type 0 where
+  pub old : is_some known ≡ true → first ≡ known
+  pub new : is_some known ≡ false
+      → (all : List ℕ) × AreEntryLines (unfiltered options) standing moment entry all
+      × (first ≡ first_of all moment)
+
+-- The lines of an entry at a moment, after the line of a day where they are the first of it that is
+-- shown; and when the first line was, and the last that was shown, then.
 abbrev pub IsEntryShown : Options → Standing → Span → ℕ → Entry → List ℕ → Span → Type 0
 IsEntryShown options standing span moment entry text after =
-    (lines : List ℕ) × AreEntryLines options standing moment entry lines
-    × IsPage options.look span (shown_moment moment) lines text after
+    (first : Option ℕ) × (lines : List ℕ)
+    × IsFirst options standing span.first moment entry first
+    × AreEntryLines options standing moment entry lines
+    × IsPage options (record { first = first; last = span.last }) (shown_moment moment) lines text
+    after
 
 -- the same, where the entry agrees with what stands
 abbrev pub IsPageOf : Reporting → ℕ → Entry → List ℕ → Span → Type 0
@@ -43,8 +61,8 @@ IsPageOf old moment entry text after =
     disagreement old.standing entry ≡ None
     → IsEntryShown old.options old.standing old.span moment entry text after
 
--- All that is shown of entries was added: that of each, at its moment, one after another; from when
--- to when lines were shown before them, and then.
+-- All that is shown of entries was added: that of each, at its moment, one after another; when the
+-- first line was, and the last that was shown, before them and then.
 abbrev pub AddsShown : Options → Standing → Span → List Entry → List ℕ → List ℕ → Span → Type 0
 AddsShown options standing span [] before after now = (after ≡ before) × (now ≡ span)
 AddsShown options standing span (entry ∷ rest) before after now =
@@ -62,7 +80,7 @@ pub record ShowsEntry (old : Reporting) (moment : ℕ) (entry : Entry) (before a
   pub standing : new.standing ≡ seen old.standing entry
   pub text : after ≡ before ++ one
 
--- an entry agrees and is seen, and lines were shown in such a span then
+-- an entry agrees and is seen, and lines have such a span then
 pub record Takes (old : Reporting) (entry : Entry) (span : Span) (new : Reporting) : Type 0 where
   pub follows : Follows old.standing entry new.standing
   pub options : new.options ≡ old.options
@@ -120,5 +138,5 @@ FailsFor old left (fault.Disagrees at why) before after new =
 -- what stands after all entries was added
 abbrev pub AddsEnd : Reporting → List ℕ → List ℕ → Type 0
 AddsEnd reporting before after =
-    (text : List ℕ) × IsEnd reporting.options.look reporting.standing reporting.span text
+    (text : List ℕ) × IsEnd reporting.options reporting.standing reporting.span text
     × (after ≡ before ++ text)

@@ -1,14 +1,19 @@
 -- The lines of a unit's messages, when it is called, and when it waits at the end.
-use Rattle.std.specs.Prelude.{◌≡◌, ℕ, ◌+◌, ◌==◌, Bool, if◌then◌else◌, List, [], ◌∷◌, length}
-use Rattle.std.specs.Prelude.{Option}
+use Rattle.std.specs.Prelude.{◌≡◌, ℕ, ◌+◌, ◌==◌, Bool, true, false, if◌then◌else◌, List, []}
+use Rattle.std.specs.Prelude.{◌∷◌, length, Option}
 use Rattle.std.specs.List.{flat_map}
 use Rattle.osc_message.specs.Arguments.{unknown_of}
+use Rattle.osc_message.specs.Reading.{pattern_of}
 use Rattle.osc_model.specs.Events.{Call}
+use Rattle.osc_shown.specs.declared.head.Head.{Head}
 use Rattle.osc_shown.specs.declared.look.Look.{Look}
 use Rattle.osc_shown.specs.Called.{called_by, late_part, IsQueuedTail}
 use Rattle.osc_shown.specs.Lines.{join_of}
 use Rattle.osc_shown.specs.Tails.{called_mark, joined}
 use Rattle.osc_shown.specs.Told.{AddsTold}
+use Rattle.osc_report.specs.declared.options.Options.{Options}
+use Rattle.osc_report.specs.Choices.{is_named, is_call_named}
+use Rattle.osc_report.specs.Notes.{head}
 
 -- What is told of a unit's messages: that they make calls, and for which time tag they came late, if
 -- they did; or that they aren't called yet, and are due from a moment on, which has come or hasn't.
@@ -42,20 +47,31 @@ IsTell look moment (calls made late) index message mark tail =
 IsTell look moment (waits due is_due) index message mark tail =
     (mark ≡ 126) × IsQueuedTail look.clock moment due is_due tail
 
--- its line was added, with a join
-pub record AddsToldLine (look : Look) (moment : Option ℕ) (tell : Tell) (index join : ℕ)
+-- the line of a message was added, if it is shown
+abbrev pub AddsChosen : Bool → Head → List ℕ → List ℕ → List ℕ → List ℕ → Type 0
+AddsChosen false head message tail before after = after ≡ before
+AddsChosen true head message tail before after = AddsTold head message tail before after
+
+-- the line of a message is shown: by the addresses that it called, else by its pattern
+abbrev pub is_told : Option (List ℕ) → Tell → ℕ → List ℕ → Bool
+is_told only (calls made late) index message = is_call_named only message (places_in index made)
+is_told only (waits due is_due) index message = is_named only (pattern_of message)
+
+-- it was added, with a join, if it is shown
+pub record AddsToldLine (options : Options) (moment : Option ℕ) (tell : Tell) (index join : ℕ)
     (message before after : List ℕ) : Type 0 where
   pub mark : ℕ
   pub tail : List ℕ
-  pub told : IsTell look moment tell index message mark tail
-  pub text : AddsTold (record { look = look; moment = moment; mark = mark; join = join }) message
-      tail before after
+  pub told : IsTell options.look moment tell index message mark tail
+  pub text : AddsChosen (is_told options.only tell index message)
+      (head options moment mark join) message tail before after
 
 -- the lines of the messages from an index on were added
-abbrev pub AddsToldLines : Look → Option ℕ → Tell → ℕ → List (List ℕ) → List ℕ → List ℕ → Type 0
-AddsToldLines look moment tell index [] before after = after ≡ before
-AddsToldLines look moment tell index (message ∷ messages) before after =
+abbrev pub AddsToldLines : Options → Option ℕ → Tell → ℕ → List (List ℕ) → List ℕ → List ℕ
+    → Type 0
+AddsToldLines options moment tell index [] before after = after ≡ before
+AddsToldLines options moment tell index (message ∷ messages) before after =
     (mid : List ℕ)
-    × AddsToldLine look moment tell index (join_of (index == 0) (length messages == 0)) message
+    × AddsToldLine options moment tell index (join_of (index == 0) (length messages == 0)) message
     before mid
-    × AddsToldLines look moment tell (index + 1) messages mid after
+    × AddsToldLines options moment tell (index + 1) messages mid after

@@ -1,5 +1,6 @@
 // The lines after those of all entries.
-ghost use Rattle.std.specs.Prelude.{◌≡◌, OnOk, IfOk};
+ghost use Rattle.std.specs.Prelude.{◌≡◌, ◌++◌, [], OnOk, IfOk};
+ghost use Rattle.osc_shown.specs.Columns.{painted};
 ghost use Rattle.osc_report.specs.Endings as spec;
 ghost use Rattle.osc_report.specs.Endings.{AddsQueued, AddsWaiting, IsEnd};
 
@@ -7,53 +8,72 @@ use crate::page::page_of;
 use crate::stretch::shown_moment;
 use crate::told::{Told, add_all_told};
 use crate::{Options, Span};
-use osc_shown::{Look, Sums, totals_line};
+use osc_shown::{Look, Sums, totals_line, whole_totals_line};
 use osc_story::{Story, Waiting};
 use std::alloc::{AllocError, Global};
 
-/// The lines of each message that waits, and of how much was told.
+/// The lines of each message that waits and is shown, and of how much was told.
 pub(crate) fn end_lines(
     alloc: Global,
-    options: Options,
+    options: &Options,
     story: &Story,
     span: Span,
 ) -> Result<Vec<u8>, AllocError>
-    ensures { IfOk result (λ text. IsEnd options.look story.now span text.items) }
+    ensures { IfOk result (λ text. IsEnd options.now story.now span text.items) }
 {
-    let look = options.look;
     let mut lines = Vec::new(alloc);
-    add_waiting(&mut lines, look, story.clock(), story.waiting())?;
+    add_waiting(&mut lines, options, story.clock(), story.waiting())?;
     let moment = shown_moment(story.clock());
-    let (mut page, _) = page_of(alloc, look, span, moment, &lines)?;
-    totals_line(&mut page, look, sums_of(story, span))?;
+    let (mut page, _) = page_of(alloc, options, span, moment, &lines)?;
+    add_totals(
+        &mut page,
+        options.look,
+        options.is_part(),
+        sums_of(story, span),
+    )?;
     Ok(page)
+}
+
+fn add_totals(out: &mut Vec<u8>, look: Look, is_part: bool, sums: Sums) -> Result<(), AllocError>
+    ensures { OnOk result (out.new.items
+        ≡ out.old.items ++ painted look.colours 126 (spec.ending_words is_part sums) []) }
+{
+    if is_part {
+        return whole_totals_line(out, look, sums);
+    }
+    totals_line(out, look, sums)
 }
 
 /// Adds the lines of the units that wait, where the clock stands at a moment.
 fn add_waiting(
     out: &mut Vec<u8>,
-    look: Look,
+    options: &Options,
     clock: u64,
     units: &[Waiting],
 ) -> Result<(), AllocError>
-    ensures { OnOk result (AddsWaiting look clock units.now out.old.items out.new.items) }
+    ensures { OnOk result (AddsWaiting options.now clock units.now out.old.items out.new.items) }
 {
     let mut rest = units;
     while let Some((unit, others)) = rest.split_first() {
-        add_queued(out, look, clock, unit)?;
+        add_queued(out, options, clock, unit)?;
         rest = others;
     }
     Ok(())
 }
 
-fn add_queued(out: &mut Vec<u8>, look: Look, clock: u64, unit: &Waiting) -> Result<(), AllocError>
-    ensures { OnOk result (AddsQueued look clock unit.now out.old.items out.new.items) }
+fn add_queued(
+    out: &mut Vec<u8>,
+    options: &Options,
+    clock: u64,
+    unit: &Waiting,
+) -> Result<(), AllocError>
+    ensures { OnOk result (AddsQueued options.now clock unit.now out.old.items out.new.items) }
 {
     let told = Told::Queued {
         due: unit.due(),
         is_due: unit.due() <= clock,
     };
-    add_all_told(out, look, shown_moment(clock), told, unit.messages())
+    add_all_told(out, options, shown_moment(clock), told, unit.messages())
 }
 
 fn sums_of(story: &Story, span: Span) -> Sums

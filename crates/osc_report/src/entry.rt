@@ -17,13 +17,13 @@ use std::alloc::{AllocError, Global};
 /// The lines of an entry, before it is seen, if it agrees.
 pub(crate) fn entry_lines(
     alloc: Global,
-    options: Options,
+    options: &Options,
     moment: u64,
     story: &Story,
     entry: &Entry<'_>,
 ) -> Result<Vec<u8>, AllocError>
     ensures { IfOk result (λ lines. disagreement story.now (placed_of entry.now).entry ≡ None
-        → AreEntryLines options story.now moment (placed_of entry.now).entry lines.items) }
+        → AreEntryLines options.now story.now moment (placed_of entry.now).entry lines.items) }
 {
     let mut lines = Vec::new(alloc);
     add_event(
@@ -39,14 +39,14 @@ pub(crate) fn entry_lines(
 
 fn add_event(
     out: &mut Vec<u8>,
-    options: Options,
+    options: &Options,
     moment: u64,
     story: &Story,
     event: Event<'_>,
     answer: Answer<'_>,
 ) -> Result<(), AllocError>
     ensures { OnOk result (fault_of story.now (event_of event.entry) (answer_of answer.entry) ≡ None
-        → AddsEvent options story.now moment (event_of event.entry) (answer_of answer.entry)
+        → AddsEvent options.now story.now moment (event_of event.entry) (answer_of answer.entry)
         out.old.items out.new.items) }
 {
     let at = shown_moment(moment);

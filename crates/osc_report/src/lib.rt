@@ -4,12 +4,14 @@
 
 mod ending;
 mod entry;
+mod fate;
 pub mod laws;
 mod note;
 mod options;
 mod page;
 mod release;
 mod reporter;
+mod selector;
 mod span;
 mod stretch;
 mod submit;
@@ -17,5 +19,6 @@ mod told;
 
 pub use options::Options;
 pub use reporter::{Reporter, ShowFault};
+pub use selector::Selector;
 pub use span::Span;
 pub use stretch::Shown;

@@ -14,14 +14,14 @@ use std::alloc::{AllocError, Global};
 /// Adds a line of words with a tail.
 fn add_note(
     out: &mut Vec<u8>,
-    options: Options,
+    options: &Options,
     moment: Option<u64>,
     mark: u8,
     words: &[u8],
     tail: &[u8],
 ) -> Result<(), AllocError>
     ensures { OnOk result (out.new.items
-        ≡ out.old.items ++ spec.note options moment mark words.now tail.now) }
+        ≡ out.old.items ++ spec.note options.now moment mark words.now tail.now) }
 {
     let head = Head {
         look: options.look,
@@ -32,31 +32,67 @@ fn add_note(
     note_line(out, head, words, tail)
 }
 
+/// Adds the line of an address, unless it is left out.
+fn add_named(
+    out: &mut Vec<u8>,
+    options: &Options,
+    moment: Option<u64>,
+    mark: u8,
+    address: &[u8],
+    tail: &[u8],
+) -> Result<(), AllocError>
+    ensures { OnOk result (out.new.items
+        ≡ out.old.items ++ spec.named_note options.now moment mark address.now tail.now) }
+{
+    if !options.has_named(address) {
+        return Ok(());
+    }
+    add_note(out, options, moment, mark, address, tail)
+}
+
+/// Adds a line that has no address, unless it is left out.
+pub(crate) fn add_unnamed(
+    out: &mut Vec<u8>,
+    options: &Options,
+    moment: Option<u64>,
+    mark: u8,
+    words: &[u8],
+    tail: &[u8],
+) -> Result<(), AllocError>
+    ensures { OnOk result (out.new.items
+        ≡ out.old.items ++ spec.unnamed_note options.now moment mark words.now tail.now) }
+{
+    if !options.has_unnamed() {
+        return Ok(());
+    }
+    add_note(out, options, moment, mark, words, tail)
+}
+
 /// Adds a line that stands only where ticks are shown.
 fn add_tick_note(
     out: &mut Vec<u8>,
-    options: Options,
+    options: &Options,
     moment: Option<u64>,
     words: &[u8],
 ) -> Result<(), AllocError>
     ensures { OnOk result (out.new.items
-        ≡ out.old.items ++ spec.tick_note options moment words.now) }
+        ≡ out.old.items ++ spec.tick_note options.now moment words.now) }
 {
     if !options.ticks {
         return Ok(());
     }
-    add_note(out, options, moment, b'.', words, b"")
+    add_unnamed(out, options, moment, b'.', words, b"")
 }
 
 /// Adds the line of a new caller.
 pub(crate) fn add_enrol(
     out: &mut Vec<u8>,
-    options: Options,
+    options: &Options,
     moment: Option<u64>,
     answer: Answer<'_>,
 ) -> Result<(), AllocError>
     ensures { OnOk result (out.new.items
-        ≡ out.old.items ++ spec.enrol_text options moment (answer_of answer.entry)) }
+        ≡ out.old.items ++ spec.enrol_text options.now moment (answer_of answer.entry)) }
 {
     match answer {
         Answer::Number(number) => add_caller(out, options, moment, number),
@@ -67,12 +103,12 @@ pub(crate) fn add_enrol(
 
 fn add_caller(
     out: &mut Vec<u8>,
-    options: Options,
+    options: &Options,
     moment: Option<u64>,
     number: u32,
 ) -> Result<(), AllocError>
     ensures { OnOk result (out.new.items
-        ≡ out.old.items ++ spec.tick_note options moment (codes "caller " ++ decimal number)) }
+        ≡ out.old.items ++ spec.tick_note options.now moment (codes "caller " ++ decimal number)) }
 {
     let alloc: Global = *out.allocator();
     let words = caller_words(alloc, number)?;
@@ -88,21 +124,21 @@ fn caller_words(alloc: Global, number: u32) -> Result<String, AllocError>
 /// Adds the line of an address to which a method was to be added.
 pub(crate) fn add_add(
     out: &mut Vec<u8>,
-    options: Options,
+    options: &Options,
     moment: Option<u64>,
     methods: &[Registered],
     address: &[u8],
     answer: Answer<'_>,
 ) -> Result<(), AllocError>
     ensures { OnOk result (out.new.items ≡ out.old.items
-        ++ spec.add_text options moment methods.now address.now (answer_of answer.entry)) }
+        ++ spec.add_text options.now moment methods.now address.now (answer_of answer.entry)) }
 {
     if let Answer::Added(_) = answer {
-        return add_note(out, options, moment, b'+', address, b"");
+        return add_named(out, options, moment, b'+', address, b"");
     }
     let alloc: Global = *out.allocator();
     match why_not(alloc, methods, answer)? {
-        Some(why) => add_note(out, options, moment, b'!', address, &why),
+        Some(why) => add_named(out, options, moment, b'!', address, &why),
         None => Ok(()),
     }
 }
@@ -147,38 +183,51 @@ fn full_words(alloc: Global, limit: u32) -> Result<Vec<u8>, AllocError>
 /// Adds the line of an address whose method was to be removed.
 pub(crate) fn add_remove(
     out: &mut Vec<u8>,
-    options: Options,
+    options: &Options,
     moment: Option<u64>,
     address: &[u8],
     answer: Answer<'_>,
 ) -> Result<(), AllocError>
     ensures { OnOk result (out.new.items ≡ out.old.items
-        ++ spec.remove_text options moment address.now (answer_of answer.entry)) }
+        ++ spec.remove_text options.now moment address.now (answer_of answer.entry)) }
 {
     match answer {
-        Answer::Removed(_) => add_note(out, options, moment, b'-', address, b""),
-        Answer::NotThere => add_note(
-            out,
-            options,
-            moment,
-            b'!',
-            address,
-            b"not removed, no method is there",
-        ),
+        Answer::Removed(_) => add_named(out, options, moment, b'-', address, b""),
+        Answer::NotThere => add_not_there(out, options, moment, address),
         _ => Ok(()),
     }
+}
+
+fn add_not_there(
+    out: &mut Vec<u8>,
+    options: &Options,
+    moment: Option<u64>,
+    address: &[u8],
+) -> Result<(), AllocError>
+    ensures { OnOk result (out.new.items ≡ out.old.items
+        ++ spec.named_note options.now moment 33 address.now
+        (codes "not removed, no method is there")) }
+{
+    add_named(
+        out,
+        options,
+        moment,
+        b'!',
+        address,
+        b"not removed, no method is there",
+    )
 }
 
 /// Adds the line of a tick.
 pub(crate) fn add_tick(
     out: &mut Vec<u8>,
-    options: Options,
+    options: &Options,
     moment: Option<u64>,
     now: u64,
     answer: Answer<'_>,
 ) -> Result<(), AllocError>
     ensures { OnOk result (out.new.items ≡ out.old.items
-        ++ spec.tick_text options moment now (answer_of answer.entry)) }
+        ++ spec.tick_text options.now moment now (answer_of answer.entry)) }
 {
     match answer {
         Answer::Ticked => add_tick_note(out, options, moment, b"tick"),
@@ -189,17 +238,17 @@ pub(crate) fn add_tick(
 
 fn add_clock_back(
     out: &mut Vec<u8>,
-    options: Options,
+    options: &Options,
     moment: Option<u64>,
     now: u64,
 ) -> Result<(), AllocError>
     ensures { OnOk result (out.new.items
-        ≡ out.old.items ++ spec.clock_back_text options moment now) }
+        ≡ out.old.items ++ spec.clock_back_text options.now moment now) }
 {
     let alloc: Global = *out.allocator();
     let words = back_words(alloc, options.look.clock, now)?;
     let tail = b"it stays where it was";
-    add_note(out, options, moment, b'!', &words, tail)
+    add_unnamed(out, options, moment, b'!', &words, tail)
 }
 
 fn back_words(alloc: Global, clock: WallClock, now: u64) -> Result<Vec<u8>, AllocError>

@@ -1,50 +1,67 @@
 // Lines of one moment, after the line of the day where it is another one.
 ghost use Rattle.std.specs.Prelude.{◌≡◌, [], IfOk, OnOk};
-ghost use Rattle.osc_report.specs.Pages.{begins_day, IsPage, IsPageAt, AddsDated};
+ghost use Rattle.osc_report.specs.Pages.{begins_day, IsPage, IsPageAt, IsDatedPage, AddsDated};
 
-use crate::Span;
+use crate::{Options, Span};
 use osc_shown::{Look, WallClock, day_line, day_number};
 use std::alloc::{AllocError, Global};
 
-/// The lines, after the line of a day where they are the first of it; and from when to when lines
-/// were shown then.
+/// The lines, after the line of a day where they are the first of it that is shown, unless none of
+/// their moment are; and when the last line was shown then.
 pub(crate) fn page_of(
     alloc: Global,
-    look: Look,
+    options: &Options,
     span: Span,
     moment: Option<u64>,
     lines: &[u8],
 ) -> Result<(Vec<u8>, Span), AllocError>
-    ensures { IfOk result (λ page. IsPage look span moment lines.now page.0.items page.1) }
+    ensures { IfOk result
+        (λ page. IsPage options.now span moment lines.now page.0.items page.1) }
 {
     let mut page = Vec::new(alloc);
     if lines.is_empty() {
         return Ok((page, span));
     }
-    let after = add_page(&mut page, look, span, moment, lines)?;
+    let after = add_page(&mut page, options, span, moment, lines)?;
     Ok((page, after))
 }
 
 fn add_page(
     page: &mut Vec<u8>,
-    look: Look,
+    options: &Options,
     span: Span,
     moment: Option<u64>,
     lines: &[u8],
 ) -> Result<Span, AllocError>
     requires { page.old.items ≡ [] }
-    ensures { IfOk result (λ after. IsPageAt look span moment lines.now page.new.items after) }
+    ensures { IfOk result
+        (λ after. IsPageAt options.now span moment lines.now page.new.items after) }
 {
     match moment {
-        Some(moment) => {
-            add_dated(page, look, span.last, moment, lines)?;
-            Ok(span.with(moment))
-        }
+        Some(moment) => add_within(page, options, span, moment, lines),
         None => {
             page.extend_from_slice(lines)?;
             Ok(span)
         }
     }
+}
+
+fn add_within(
+    page: &mut Vec<u8>,
+    options: &Options,
+    span: Span,
+    moment: u64,
+    lines: &[u8],
+) -> Result<Span, AllocError>
+    requires { page.old.items ≡ [] }
+    ensures { IfOk result
+        (λ after. IsDatedPage options.now span moment lines.now page.new.items after) }
+{
+    if !options.has(moment) {
+        return Ok(span);
+    }
+    add_dated(page, options.look, span.last, moment, lines)?;
+    Ok(span.with(moment))
 }
 
 fn add_dated(

@@ -5,21 +5,22 @@ ghost use Rattle.osc_story.specs.Standings.{calls_told};
 ghost use Rattle.osc_report.specs.Entries.{late_tag, empty_text, AddsRelease, AddsReleased};
 
 use crate::Options;
+use crate::note::add_unnamed;
 use crate::told::{Told, add_all_told};
 use osc_record::Answer;
-use osc_shown::{Head, late_tail, note_line};
+use osc_shown::late_tail;
 use osc_story::{Call, Calls, Story, Waiting};
 use std::alloc::{AllocError, Global};
 
 /// Adds the lines of the first unit that waits, where an answer says that it was released.
 pub(crate) fn add_release(
     out: &mut Vec<u8>,
-    options: Options,
+    options: &Options,
     moment: Option<u64>,
     story: &Story,
     answer: Answer<'_>,
 ) -> Result<(), AllocError>
-    ensures { OnOk result (AddsRelease options moment story.now.waiting
+    ensures { OnOk result (AddsRelease options.now moment story.now.waiting
         (calls_told story.now (answer_of answer.entry)) (answer_of answer.entry) out.old.items
         out.new.items) }
 {
@@ -47,12 +48,12 @@ fn collected<'a>(alloc: Global, left: Calls<'a>) -> Result<Vec<Call<'a>>, AllocE
 
 fn add_released(
     out: &mut Vec<u8>,
-    options: Options,
+    options: &Options,
     moment: Option<u64>,
     unit: &Waiting,
     calls: &[Call<'_>],
 ) -> Result<(), AllocError>
-    ensures { OnOk result (AddsReleased options moment unit.now calls.now out.old.items
+    ensures { OnOk result (AddsReleased options.now moment unit.now calls.now out.old.items
         out.new.items) }
 {
     let late = late_tag(unit);
@@ -60,7 +61,7 @@ fn add_released(
         return add_empty(out, options, moment, late);
     }
     let told = Told::Called { calls, late };
-    add_all_told(out, options.look, moment, told, unit.messages())
+    add_all_told(out, options, moment, told, unit.messages())
 }
 
 /// The time tag of a unit, where it came late for it.
@@ -74,23 +75,17 @@ fn late_tag(unit: &Waiting) -> Option<u64>
     }
 }
 
-/// Adds the line of a unit that has no message.
+/// Adds the line of a unit that has no message, if it is shown.
 fn add_empty(
     out: &mut Vec<u8>,
-    options: Options,
+    options: &Options,
     moment: Option<u64>,
     late: Option<u64>,
 ) -> Result<(), AllocError>
     ensures { OnOk result (out.new.items ≡ out.old.items ++
-        empty_text options moment late) }
+        empty_text options.now moment late) }
 {
     let alloc: Global = *out.allocator();
     let tail = late_tail(alloc, moment, late)?;
-    let head = Head {
-        look: options.look,
-        moment,
-        mark: b' ',
-        join: b' ',
-    };
-    note_line(out, head, b"(no message)", &tail)
+    add_unnamed(out, options, moment, b' ', b"(no message)", &tail)
 }

@@ -50,11 +50,12 @@ impl Model for Reporter {
 }
 
 impl Reporter {
-    ghost use Rattle.std.specs.Prelude.{◌≡◌, OnOk, OnErr, IfOk, IfErr};
+    ghost use Rattle.std.specs.Prelude.{◌≡◌, OnOk, OnErr, IfOk, IfErr, None};
     ghost use Rattle.osc_record.specs.Left.{placed_of};
     ghost use Rattle.osc_story.specs.Seen.{IsFaultOf};
     ghost use Rattle.osc_report.specs.Reports.{begun, Takes, ShowsEntry, ShowsEntries, ShowsStretch};
-    ghost use Rattle.osc_report.specs.Reports.{IsPageOf, FailsAt, FailsFor, AddsEnd};
+    ghost use Rattle.osc_story.specs.Standings.{disagreement};
+    ghost use Rattle.osc_report.specs.Reports.{IsFirst, IsPageOf, FailsAt, FailsFor, AddsEnd};
     ghost use Rattle.osc_report.specs.Stretches.{placed, told};
 
     /// Nothing is shown yet. Takes no memory.
@@ -76,7 +77,7 @@ impl Reporter {
         &self.story
     }
 
-    /// From when to when lines were shown.
+    /// When the first line was that has a time, and the last that was shown.
     pub fn span(&self) -> Span
         ensures { result ≡ self.now.span }
     {
@@ -106,7 +107,7 @@ impl Reporter {
         ensures ok { OnOk result (AddsEnd self.now text.old.items text.new.items) }
         ensures err { OnErr result (text.new.items ≡ text.old.items) }
     {
-        let lines = end_lines(self.alloc, self.options, &self.story, self.span)?;
+        let lines = end_lines(self.alloc, &self.options, &self.story, self.span)?;
         text.extend_from_slice(&lines)
     }
 
@@ -171,20 +172,49 @@ impl Reporter {
         Ok(())
     }
 
-    /// The lines of an entry, if it agrees, after the line of a day where they are the first of it.
+    /// The lines of an entry, if it agrees, after the line of a day where they are the first of it
+    /// that is shown.
     fn page_for(&self, moment: u64, entry: &Entry<'_>) -> Result<(Vec<u8>, Span), AllocError>
         ensures { IfOk result (λ page. IsPageOf self.now moment
             (placed_of entry.now).entry page.0.items page.1) }
     {
-        let lines = entry_lines(self.alloc, self.options, moment, &self.story, entry)?;
+        let span = Span {
+            first: self.first_for(moment, entry)?,
+            last: self.span.last,
+        };
+        let lines = entry_lines(self.alloc, &self.options, moment, &self.story, entry)?;
         page_of(
             self.alloc,
-            self.options.look,
-            self.span,
+            &self.options,
+            span,
             shown_moment(moment),
             &lines,
         )
     }
+
+    /// The moment of the first line that has a time, with those of an entry, if it agrees.
+    fn first_for(&self, moment: u64, entry: &Entry<'_>) -> Result<Option<u64>, AllocError>
+        ensures { IfOk result (λ first. disagreement self.now.standing (placed_of entry.now).entry
+            ≡ None → IsFirst self.now.options self.now.standing self.now.span.first moment
+            (placed_of entry.now).entry first) }
+    {
+        if self.span.first.is_some() {
+            return Ok(self.span.first);
+        }
+        let options = self.options.unfiltered();
+        let lines = entry_lines(self.alloc, &options, moment, &self.story, entry)?;
+        Ok(first_of(&lines, moment))
+    }
+}
+
+/// The moment of lines, if there are any and something has ticked.
+fn first_of(lines: &[u8], moment: u64) -> Option<u64>
+    ensures { result ≡ spec.first_of lines.now moment }
+{
+    if lines.is_empty() {
+        return None;
+    }
+    shown_moment(moment)
 }
 
 /// A fault at the place of its entry.

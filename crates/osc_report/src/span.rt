@@ -1,6 +1,6 @@
-// From when to when lines were shown.
+// From when to when there are lines.
 
-/// The moments of the first and of the last line that were shown so far, of those that have a time.
+/// The moment of the first line that has a time, shown or left out, and that of the last that was shown.
 #[derive(Clone, Copy, Debug, PartialEq, Eq)]
 pub struct Span {
     pub first: Option<u64>,
@@ -20,12 +20,12 @@ impl Span {
         }
     }
 
-    /// With lines at a moment.
+    /// With lines shown at a moment.
     pub(crate) fn with(self, moment: u64) -> Span
         ensures { result ≡ spec.shown_at self moment }
     {
         Span {
-            first: Some(self.first.unwrap_or(moment)),
+            first: self.first,
             last: Some(moment),
         }
     }

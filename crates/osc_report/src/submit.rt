@@ -7,48 +7,49 @@ ghost use Rattle.osc_report.specs.Entries.{answered, queued_fate, AddsSaid, Adds
 ghost use Rattle.osc_report.specs.Moments.{shown_moment};
 
 use crate::Options;
+use crate::fate::add_fate;
 use crate::stretch::shown_moment;
 use osc_model::keeps;
 use osc_packet::{MAX_PACKET, Packet, Unit, Units};
 use osc_record::Answer;
-use osc_shown::{Answered, Arrival, Look, unit_lines};
+use osc_shown::Answered;
 use osc_story::Story;
 use std::alloc::AllocError;
 
 /// Adds the lines of the units of a packet that say something.
 pub(crate) fn add_submit(
     out: &mut Vec<u8>,
-    options: Options,
+    options: &Options,
     moment: u64,
     story: &Story,
     packet: &[u8],
     answer: Answer<'_>,
 ) -> Result<(), AllocError>
     ensures { OnOk result (is_packet MAX_PACKET packet.now ≡ true
-        → AddsSubmit options.look story.now moment (answer_of answer.entry)
+        → AddsSubmit options.now story.now moment (answer_of answer.entry)
         (units_read packet.now) out.old.items out.new.items) }
 {
     match Packet::check(packet, MAX_PACKET) {
-        Ok(packet) => add_units(out, options.look, moment, story, packet.units(), answer),
+        Ok(packet) => add_units(out, options, moment, story, packet.units(), answer),
         Err(_) => Ok(()),
     }
 }
 
 fn add_units(
     out: &mut Vec<u8>,
-    look: Look,
+    options: &Options,
     moment: u64,
     story: &Story,
     units: Units<'_>,
     answer: Answer<'_>,
 ) -> Result<(), AllocError>
-    ensures { OnOk result (AddsSubmit look story.now moment (answer_of answer.entry)
+    ensures { OnOk result (AddsSubmit options.now story.now moment (answer_of answer.entry)
         units.entry out.old.items out.new.items) }
 {
     for unit in units {
-        add_unit(
+        add_said(
             out,
-            look,
+            options,
             moment,
             answered(story, moment, answer, &unit),
             &unit,
@@ -58,22 +59,18 @@ fn add_units(
 }
 
 /// Adds the lines of a unit, where something is said of it.
-fn add_unit(
+fn add_said(
     out: &mut Vec<u8>,
-    look: Look,
+    options: &Options,
     moment: u64,
     answered: Option<Answered>,
     unit: &Unit<'_>,
 ) -> Result<(), AllocError>
-    ensures { OnOk result (AddsSaid look (shown_moment moment) answered unit.now
+    ensures { OnOk result (AddsSaid options.now (shown_moment moment) answered unit.now
         out.old.items out.new.items) }
 {
-    let arrival = Arrival {
-        moment: shown_moment(moment),
-        sender: None,
-    };
     match answered {
-        Some(answer) => unit_lines(out, look, arrival, answer, unit, &[]),
+        Some(answer) => add_fate(out, options, shown_moment(moment), answer, unit),
         None => Ok(()),
     }
 }

@@ -1,9 +1,13 @@
 // The lines of a unit's messages, when it is called, and when it waits at the end.
 ghost use Rattle.std.specs.Prelude.{◌≡◌, ◌++◌, OnOk, IfOk};
+ghost use Rattle.std.specs.List.{list_any};
+ghost use Rattle.osc_report.specs.Choices.{is_call_named, selects_call};
+ghost use Rattle.osc_report.specs.Selections.{selects};
 ghost use Rattle.osc_report.specs.Units as spec;
 ghost use Rattle.osc_report.specs.Told.{told_in};
-ghost use Rattle.osc_report.specs.Units.{AddsToldLine, AddsToldLines, IsTell};
+ghost use Rattle.osc_report.specs.Units.{AddsChosen, AddsToldLine, AddsToldLines, IsTell};
 
+use crate::{Options, Selector};
 use osc_message::Message;
 use osc_shown::{Head, Look, Place, called_mark, called_tail, join_of, message_line, queued_tail};
 use osc_story::{Call, KeptMessage};
@@ -24,49 +28,126 @@ pub(crate) enum Told<'a> {
     },
 }
 
-/// Adds a line for each message.
+/// Adds a line for each message that is shown.
 pub(crate) fn add_all_told(
     out: &mut Vec<u8>,
-    look: Look,
+    options: &Options,
     moment: Option<u64>,
     told: Told<'_>,
     messages: &[KeptMessage],
 ) -> Result<(), AllocError>
-    ensures { OnOk result (AddsToldLines look moment (told_in told.entry) 0 messages.now
+    ensures { OnOk result (AddsToldLines options.now moment (told_in told.entry) 0 messages.now
         out.old.items out.new.items) }
 {
     let mut index = 0;
     let mut rest = messages;
     while let Some((message, others)) = rest.split_first() {
         let join = join_of(index == 0, others.is_empty());
-        add_told(out, look, moment, told, &message.message(), (index, join))?;
+        add_told(
+            out,
+            options,
+            moment,
+            told,
+            &message.message(),
+            (index, join),
+        )?;
         index += 1;
         rest = others;
     }
     Ok(())
 }
 
-/// Adds the line of the message at this index, with this join.
+/// Adds the line of the message at this index, with this join, if it is shown.
 fn add_told(
     out: &mut Vec<u8>,
-    look: Look,
+    options: &Options,
     moment: Option<u64>,
     told: Told<'_>,
     message: &Message<'_>,
     place: (usize, u8),
 ) -> Result<(), AllocError>
-    ensures { OnOk result (AddsToldLine look moment (told_in told.entry) place.0 place.1
+    ensures { OnOk result (AddsToldLine options.now moment (told_in told.entry) place.0 place.1
         message.now out.old.items out.new.items) }
 {
     let alloc: Global = *out.allocator();
-    let (mark, tail) = tell(alloc, look, moment, told, message, place.0)?;
+    let (mark, tail) = tell(alloc, options.look, moment, told, message, place.0)?;
     let head = Head {
-        look,
+        look: options.look,
         moment,
         mark,
         join: place.1,
     };
-    message_line(out, head, message, &tail)
+    let is_shown = is_told(alloc, options, told, message, place.0)?;
+    add_chosen(out, is_shown, head, message, &tail)
+}
+
+/// Adds the line of a message, if it is shown.
+pub(crate) fn add_chosen(
+    out: &mut Vec<u8>,
+    is_shown: bool,
+    head: Head,
+    message: &Message<'_>,
+    tail: &[u8],
+) -> Result<(), AllocError>
+    ensures { OnOk result (AddsChosen is_shown head message.now tail.now out.old.items
+        out.new.items) }
+{
+    if is_shown {
+        return message_line(out, head, message, tail);
+    }
+    Ok(())
+}
+
+/// Whether the line of the message at this index is shown.
+fn is_told(
+    alloc: Global,
+    options: &Options,
+    told: Told<'_>,
+    message: &Message<'_>,
+    index: usize,
+) -> Result<bool, AllocError>
+    ensures { IfOk result
+        (λ told_ok. told_ok ≡ spec.is_told options.now.only (told_in told.entry) index message.now) }
+{
+    match told {
+        Told::Called { calls, .. } => is_call_named(alloc, options, calls, message, index),
+        Told::Queued { .. } => Ok(options.has_named(message.pattern().bytes())),
+    }
+}
+
+fn is_call_named(
+    alloc: Global,
+    options: &Options,
+    calls: &[Call<'_>],
+    message: &Message<'_>,
+    index: usize,
+) -> Result<bool, AllocError>
+    ensures { IfOk result (λ named. named
+        ≡ is_call_named options.now.only message.now (spec.places_in index calls.now)) }
+{
+    match &options.only {
+        Some(selector) => {
+            let places = places_of(alloc, calls, index)?;
+            Ok(selects_call(selector, message, &places))
+        }
+        None => Ok(true),
+    }
+}
+
+/// Whether a message called an address that is selected, or has such a pattern where it called none.
+fn selects_call(selector: &Selector, message: &Message<'_>, places: &[Place<'_>]) -> bool
+    ensures { result ≡ selects_call selector.now message.now places.now }
+{
+    if places.is_empty() {
+        return selector.selects(message.pattern().bytes());
+    }
+    selects_any(selector, places)
+}
+
+fn selects_any(selector: &Selector, places: &[Place<'_>]) -> bool
+    ensures { result ≡ list_any (selects selector.now) places.now }
+{
+    places.iter().any(|place| selector.selects(place.bytes()))
 }
 
 /// The mark and the tail of the message at this index.

@@ -63,17 +63,24 @@ after_semicolon words = if length words == 0 then [] else codes "; " ++ words
 
 -- how long a recording lasted
 abbrev pub span_words : Sums → List ℕ
-span_words sums =
-    codes "-- " ++ lasting (millis_of sums.last - millis_of sums.first) ++ codes ": "
+span_words sums = lasting (millis_of sums.last - millis_of sums.first) ++ codes ": "
 
 -- how many messages were called, and how many calls they made
 abbrev pub made_words : Sums → List ℕ
 made_words sums =
     counted sums.messages (codes " message") ++ codes ", " ++ counted sums.calls (codes " call")
 
--- the same, and what else there was
+-- all of these, and what else there was
+abbrev pub sums_words : Sums → List ℕ
+sums_words sums = span_words sums ++ made_words sums ++ after_semicolon (others sums)
+
+-- what stands after the lines of a recording
 abbrev pub totals_words : Sums → List ℕ
-totals_words sums = span_words sums ++ made_words sums ++ after_semicolon (others sums)
+totals_words sums = codes "-- " ++ sums_words sums
+
+-- the same, where not all of its lines were shown
+abbrev pub whole_totals_words : Sums → List ℕ
+whole_totals_words sums = codes "-- of the whole recording, " ++ sums_words sums
 
 -- what stands after them where it ends within the entry that begins at a byte
 abbrev pub cut_words : ℕ → List ℕ

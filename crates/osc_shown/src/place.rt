@@ -26,7 +26,8 @@ impl<'a> Place<'a> {
         Place { address }
     }
 
-    pub(crate) fn bytes(&self) -> &'a [u8]
+    /// The address.
+    pub fn bytes(&self) -> &'a [u8]
         ensures { result.now ≡ self.now }
     {
         self.address

@@ -89,16 +89,35 @@ pub fn totals_line(text: &mut Vec<u8>, look: Look, sums: Sums) -> Result<(), All
 {
     let alloc: Global = *text.allocator();
     let mut words = Vec::new(alloc);
-    add_span(&mut words, sums)?;
-    add_made(&mut words, sums)?;
-    add_others(&mut words, sums)?;
+    add(&mut words, b"-- ")?;
+    add_totals(&mut words, sums)?;
     remark(text, look, b'~', &words)
+}
+
+/// Adds the same line where not all lines of the recording were shown. An `Err` means out of memory.
+pub fn whole_totals_line(text: &mut Vec<u8>, look: Look, sums: Sums) -> Result<(), AllocError>
+    ensures ok { OnOk result (text.new.items
+        ≡ text.old.items ++ painted look.colours 126 (spec.whole_totals_words sums) []) }
+    ensures err { OnErr result (text.new.items ≡ text.old.items) }
+{
+    let alloc: Global = *text.allocator();
+    let mut words = Vec::new(alloc);
+    add(&mut words, b"-- of the whole recording, ")?;
+    add_totals(&mut words, sums)?;
+    remark(text, look, b'~', &words)
+}
+
+fn add_totals(out: &mut Vec<u8>, sums: Sums) -> Result<(), AllocError>
+    ensures { OnOk result (out.new.items ≡ out.old.items ++ spec.sums_words sums) }
+{
+    add_span(out, sums)?;
+    add_made(out, sums)?;
+    add_others(out, sums)
 }
 
 fn add_span(out: &mut Vec<u8>, sums: Sums) -> Result<(), AllocError>
     ensures { OnOk result (out.new.items ≡ out.old.items ++ spec.span_words sums) }
 {
-    add(out, b"-- ")?;
     add_lasting(
         out,
         millis_of(sums.last).saturating_sub(millis_of(sums.first)),

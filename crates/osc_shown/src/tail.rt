@@ -15,6 +15,21 @@ use osc_message::Message;
 use std::alloc::{AllocError, Global};
 use std::net::SocketAddrV4;
 
+/// The tail of a message of a unit with this tag that isn't called yet, or never. An `Err` means out
+/// of memory.
+pub fn answer_tail(
+    alloc: Global,
+    arrival: Arrival,
+    answer: Answered,
+    tag: u64,
+) -> Result<Vec<u8>, AllocError>
+    ensures { IfOk result (λ tail. tail.items ≡ tail_of arrival answer tag []) }
+{
+    let mut tail = Vec::new(alloc);
+    add_tail(&mut tail, arrival, answer, tag, b"")?;
+    Ok(tail)
+}
+
 /// Adds what happened to a message of a unit with this tag, which goes `there` where it is called,
 /// and who has sent it.
 pub(crate) fn add_tail(

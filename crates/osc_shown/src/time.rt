@@ -88,7 +88,7 @@ fn shown_millis(clock: WallClock, moment: u64) -> u64
 
 #[tactic(auto, unfolding(crate::specs::Times::millis_of))]
 /// The milliseconds since the start of 1900, to the nearest.
-pub(crate) fn millis_of(moment: u64) -> u64
+pub fn millis_of(moment: u64) -> u64
     ensures value { result ≡ millis_of moment }
     ensures small { result < 2 ^ 43 }
 {

@@ -17,6 +17,17 @@ none = record { entries = 0; messages = 0; calls = 0; unheard = 0; discarded = 0
 abbrev pub more : ℕ → ℕ → ℕ
 more count number = min (count + number) (2 ^ 64 - 1)
 
+-- what one told and what another told
+abbrev pub both : Totals → Totals → Totals
+both one other = record {
+  entries = more one.entries other.entries;
+  messages = more one.messages other.messages;
+  calls = more one.calls other.calls;
+  unheard = more one.unheard other.unheard;
+  discarded = more one.discarded other.discarded;
+  refused = more one.refused other.refused;
+}
+
 -- the messages of those units that aren't kept
 abbrev pub more_discarded : Late → ℕ → ℕ → List TimedUnit → ℕ
 more_discarded late clock count [] = count

@@ -32,7 +32,8 @@ impl Totals {
     ghost use Rattle.osc_record.specs.Shown.{answer_of};
     ghost use Rattle.osc_story.specs.Totals as spec;
 
-    pub(crate) fn none() -> Totals
+    /// Nothing was told.
+    pub fn none() -> Totals
         ensures { result ≡ spec.none }
     {
         Totals {
@@ -42,6 +43,20 @@ impl Totals {
             unheard: 0,
             discarded: 0,
             refused: 0,
+        }
+    }
+
+    /// With what other entries told.
+    pub fn with(self, other: Totals) -> Totals
+        ensures { result ≡ spec.both self other }
+    {
+        Totals {
+            entries: self.entries.saturating_add(other.entries),
+            messages: self.messages.saturating_add(other.messages),
+            calls: self.calls.saturating_add(other.calls),
+            unheard: self.unheard.saturating_add(other.unheard),
+            discarded: self.discarded.saturating_add(other.discarded),
+            refused: self.refused.saturating_add(other.refused),
         }
     }
 

@@ -49,3 +49,32 @@ fn a_cut_at_any_byte_makes_no_difference(rt: HostRuntime) -> Result<(), Fail> {
     }
     Ok(())
 }
+
+/// How the state begins once the same entries came once more, as those of the recording after it:
+/// each count is twice what it was, but what waits is that of the last.
+const TWICE: &[u8] =
+    b"{\"clock\":2000,\"counts\":{\"entries\":12,\"messages\":2,\"calls\":2,\"unheard\":0,\"discard\
+      ed\":0,\"refused\":0,\"waiting\":1},\"methods\":[{\"id\":0,\"address\":\"/a\",\"calls\":2,\"at\":\
+      2000,\"words\":\" s:g\\\"o f:3f000000\"},{\"id\":1,\"address\":\"/b\",\"calls\":0,";
+
+/// How it stands once the methods of the next one are there, of which none is called yet.
+const ADDED: &[u8] =
+    b"\"address\":\"/a\",\"calls\":1,\"at\":2000,\"words\":\" s:g\\\"o f:3f000000\"}";
+
+#[test]
+fn a_show_goes_on_in_the_next_recording(rt: HostRuntime) -> Result<(), Fail> {
+    let mut watcher = Watcher::open(rt.alloc());
+    take(&rt, &mut watcher, &RECORDING);
+    watcher.go_on()?;
+    assert!(rt; watcher.board()?.is_none());
+    // The header, and the add of `/a`.
+    take(&rt, &mut watcher, &RECORDING[..104]);
+    let board = watcher.board()?.ok_or("no header")?;
+    let text = state_text(rt.alloc(), &board)?;
+    assert!(rt; text.windows(ADDED.len()).any(|part| part == ADDED));
+    take(&rt, &mut watcher, &RECORDING[104..]);
+    let board = watcher.board()?.ok_or("no header")?;
+    let text = state_text(rt.alloc(), &board)?;
+    assert!(rt; text.starts_with(TWICE));
+    Ok(())
+}

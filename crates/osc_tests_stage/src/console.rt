@@ -295,9 +295,8 @@ fn nobody_who_reads_holds_no_link(rt: HostRuntime) -> Result<(), Fail> {
 
 #[test]
 fn a_show_that_is_changed_over_or_ended_ends_its_links(rt: HostRuntime) -> Result<(), Fail> {
-    let shutdown = Shutdown::new();
-    let changeover = Changeover::at(8);
-    let mut link = ShutdownLink::new(Faders::new(10), &shutdown, &changeover);
+    let (shutdown, changeover, slot) = (Shutdown::new(), Changeover::at(8), Slot::new());
+    let mut link = ShutdownLink::open(rt.alloc(), Faders::new(10), &shutdown, &changeover, &slot)?;
     assert_eq!(rt; give(rt.alloc(), &mut link)?, Datagram::Got(FADER.len()));
     let memory = MemorySink::open(rt.alloc(), Vec::new(rt.alloc()));
     let mut sink = MeteredSink::new(memory, &changeover);
@@ -308,6 +307,24 @@ fn a_show_that_is_changed_over_or_ended_ends_its_links(rt: HostRuntime) -> Resul
     shutdown.ask();
     assert!(rt; shutdown.is_asked());
     assert_eq!(rt; give(rt.alloc(), &mut link)?, Datagram::End);
+    Ok(())
+}
+
+#[test]
+fn a_datagram_without_room_comes_once_more(rt: HostRuntime) -> Result<(), Fail> {
+    let (shutdown, changeover, rounds) = (Shutdown::new(), Changeover::at(8), Rounds::new());
+    let slots = [Slot::new()];
+    let gate = ConsoleGate::new(&rounds, &slots);
+    let link = Faders::new(1);
+    let mut link = ShutdownLink::open(rt.alloc(), link, &shutdown, &changeover, &slots[0])?;
+    let mut space = vec![in rt.alloc(); 0; MAX_DATAGRAM]?;
+    assert_eq!(rt; link.next(&mut space), Datagram::Got(FADER.len()));
+    let answer = Submitted::RecordFull(Room::new(1, 0));
+    gate.answered(0, 1, &Submission { answer, clock: 1 });
+    space.fill(0);
+    assert_eq!(rt; link.next(&mut space), Datagram::Got(FADER.len()));
+    assert!(rt; space.starts_with(FADER));
+    assert_eq!(rt; link.next(&mut space), Datagram::End);
     Ok(())
 }
 

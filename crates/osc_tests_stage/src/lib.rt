@@ -12,4 +12,6 @@ mod relays_by_udp;
 #[cfg(test)]
 mod shown;
 #[cfg(test)]
+mod shows;
+#[cfg(test)]
 mod stages;

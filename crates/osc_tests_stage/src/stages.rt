@@ -19,16 +19,17 @@ use std::test::Fail;
 use std::thread::Threads;
 
 /// The message `/light/*` with the argument 7, in a bundle for the moment 100.
-const LATER: &[u8] = b"#bundle\0\0\0\0\0\0\0\0\x64\0\0\0\x14/light/*\0\0\0\0,i\0\0\0\0\0\x07";
+pub(crate) const LATER: &[u8] =
+    b"#bundle\0\0\0\0\0\0\0\0\x64\0\0\0\x14/light/*\0\0\0\0,i\0\0\0\0\0\x07";
 
 /// What a light is to be sent of it.
-const FIRST: &[u8] = b"/light/1\0\0\0\0,i\0\0\0\0\0\x07";
+pub(crate) const FIRST: &[u8] = b"/light/1\0\0\0\0,i\0\0\0\0\0\x07";
 
 /// What the other is to be sent of it.
-const SECOND: &[u8] = b"/light/2\0\0\0\0,i\0\0\0\0\0\x07";
+pub(crate) const SECOND: &[u8] = b"/light/2\0\0\0\0,i\0\0\0\0\0\x07";
 
 /// 1 once a datagram was answered.
-type Answered = Arc<AtomicU64, Global>;
+pub(crate) type Answered = Arc<AtomicU64, Global>;
 
 /// A gate that tells when a datagram was answered.
 #[derive(Drop)]
@@ -46,8 +47,8 @@ impl Gate for AnsweredGate {
 
 /// A clock that stands at 5 until a datagram was answered, and then at 200.
 #[derive(Drop)]
-struct AnsweredClock {
-    answered: Answered,
+pub(crate) struct AnsweredClock {
+    pub(crate) answered: Answered,
 }
 
 impl Clock for AnsweredClock {
@@ -72,7 +73,7 @@ impl Clock for AnsweredClock {
 
 /// A stage of a relay at each of two addresses, and of a link that has one datagram, and fails at
 /// these calls.
-fn stage_of(
+pub(crate) fn stage_of(
     alloc: Global,
     addresses: [&[u8]; 2],
     datagram: &[u8],
@@ -112,7 +113,7 @@ fn one_outlet(alloc: Global) -> Result<Vec<MemoryOutlet>, AllocError> {
 }
 
 /// The id of a relay in the list, and the only datagram that it has sent.
-fn sent(relays: &[(u32, Relay<MemoryOutlet>)], place: usize) -> Option<(u32, &[u8])> {
+pub(crate) fn sent(relays: &[(u32, Relay<MemoryOutlet>)], place: usize) -> Option<(u32, &[u8])> {
     let (id, relay) = relays.get(place)?;
     match relay.outlets().first()?.sent() {
         [datagram] => Some((*id, datagram.as_slice())),

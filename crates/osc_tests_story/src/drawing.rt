@@ -123,3 +123,24 @@ fn a_recording_is_drawn(rt: HostRuntime) -> Result<(), Fail> {
     assert!(rt; text.ends_with(DRAWN));
     Ok(())
 }
+
+#[test]
+fn a_picture_goes_on_with_the_next_recording(rt: HostRuntime) -> Result<(), Fail> {
+    let alloc = rt.alloc();
+    let Ok(mut unread) = Unread::open(&RECORDING) else {
+        panic!(rt; "no header");
+    };
+    let late = unread.caps().late();
+    let (entries, _) = entries_of(alloc, &mut unread)?;
+    let Ok(mut sketch) = Sketch::of(alloc, late, &entries) else {
+        panic!(rt; "no sketch");
+    };
+    let (once, first) = (sketch.totals(), sketch.first());
+    assert!(rt; sketch.go_on(late, &entries).is_ok());
+    let twice = sketch.totals();
+    assert_eq!(rt; twice, once.with(once));
+    assert_eq!(rt; Some(twice.calls), once.calls.checked_add(once.calls));
+    assert_eq!(rt; sketch.first(), first);
+    assert_eq!(rt; sketch.story().totals(), once);
+    Ok(())
+}

@@ -9,4 +9,6 @@ mod drawing;
 #[cfg(test)]
 mod report;
 #[cfg(test)]
+mod runs;
+#[cfg(test)]
 mod story;

@@ -1,8 +1,9 @@
 // The lines of a recording. It was written out by its format, and the expected lines are those of a
 // reader of recordings in Python that shares no code with the crates.
 use jiff_core::Offset;
+use osc_pattern::Pattern;
 use osc_record::Unread;
-use osc_report::{Options, Reporter, Shown};
+use osc_report::{Options, Reporter, Selector, Shown};
 use osc_shown::{Look, WallClock};
 use std::alloc::Global;
 use std::process::Abort;
@@ -171,15 +172,93 @@ const LINES: [(bool, bool, &[u8]); 3] = [
     ),
 ];
 
+/// From when to when lines are shown, the pattern that selects them, if any, and the lines. The second
+/// last moment is a unit of a time tag before the one that is shown as 20:00:44.500, too.
+const PARTS: [(Option<u64>, Option<u64>, &[u8], &[u8]); 5] = [
+    (
+        None,
+        None,
+        b"/light/front",
+        b"-- Sunday 2026-11-29, UTC\n\
+19:59:50.000 +  /light/front\n\
+19:59:50.000 !  /light/front                    not added, there is a method already\n\
+19:59:52.000 ~  /light/* 0 and 2 more           for 20:00:00.000, in 8.000 s\n\
+20:00:00.000  { /light/* 0                      -> /light/back, /light/front\n\
+20:00:00.000  | /light/front 1.0\n\
+20:01:20.000  { /light/front 0.2\n\
+20:01:50.000 ~  /light/front 0.3 and 1 more     for 2026-11-30 00:10:00.000, in 14890.000 s\n\
+-- Monday 2026-11-30, UTC\n\
+00:00:10.000    /light/front 0.4\n\
+00:00:20.000 ~{ /light/front 0.3                still waits, for 00:10:00.000\n\
+-- of the whole recording, 4 h 0 min 30.000 s: 8 messages, 5 calls; 4 called no method, 2 discarded, 2 refused, 3 waiting\n",
+    ),
+    (
+        Some(0xeeb7_02c0_0000_0000),
+        Some(0xeeb7_0310_0000_0000),
+        b"/light/*",
+        b"-- Sunday 2026-11-29, UTC\n\
+20:00:00.000  { /light/* 0                      -> /light/back, /light/front\n\
+20:00:00.000  | /light/front 1.0\n\
+20:00:44.500 !{ /light/* 0.5                    discarded, late by 4.376 s\n\
+20:01:20.000 -  /light/back\n\
+20:01:20.000  { /light/front 0.2\n\
+20:01:20.000 ?} /light/back 0.0                 no method\n\
+-- of the whole recording, 4 h 0 min 30.000 s: 8 messages, 5 calls; 4 called no method, 2 discarded, 2 refused, 3 waiting\n",
+    ),
+    (
+        None,
+        None,
+        b"/{cue,keys}/*",
+        b"-- Sunday 2026-11-29, UTC\n\
+19:59:50.000 +  /keys/chord\n\
+19:59:52.000 ~  /light/* 0 and 2 more           for 20:00:00.000, in 8.000 s\n\
+20:00:00.000 ?} /cue/name \"act one\"             no method\n\
+20:00:44.500 !} /cue/name \"lightning\"           discarded, late by 4.376 s\n\
+20:01:50.000 ~  /light/front 0.3 and 1 more     for 2026-11-30 00:10:00.000, in 14890.000 s\n\
+-- Monday 2026-11-30, UTC\n\
+00:00:20.000 ~  /keys/chord 2                   not called yet\n\
+00:00:20.000 ~} /keys/chord 1                   still waits, for 00:10:00.000\n\
+-- of the whole recording, 4 h 0 min 30.000 s: 8 messages, 5 calls; 4 called no method, 2 discarded, 2 refused, 3 waiting\n",
+    ),
+    (
+        Some(0xeeb7_02c5_4f5c_28f6),
+        Some(0xeeb7_02ec_8000_0000),
+        b"",
+        b"-- Sunday 2026-11-29, UTC\n\
+20:00:05.310 ?  /fader/7 0.25                   no method\n\
+20:00:11.005 !  /drums/hit \"hat\" 70             refused, the queue is full\n\
+20:00:11.005 !  /drums/hit \"hat\" 71             refused, no room for its messages\n\
+20:00:44.500 !{ /light/* 0.5                    discarded, late by 4.376 s\n\
+20:00:44.500 !} /cue/name \"lightning\"           discarded, late by 4.376 s\n\
+20:00:44.500 ?  /video/clip ,A                  unknown type A, so it calls nothing\n\
+-- of the whole recording, 4 h 0 min 30.000 s: 8 messages, 5 calls; 4 called no method, 2 discarded, 2 refused, 3 waiting\n",
+    ),
+    (
+        Some(0xeeb7_02f0_0000_0000),
+        None,
+        b"/cue/none",
+        b"-- of the whole recording, 4 h 0 min 30.000 s: 8 messages, 5 calls; 4 called no method, 2 discarded, 2 refused, 3 waiting\n",
+    ),
+];
+
 /// How lines look in UTC.
-fn options(ticks: bool, quiet: bool) -> Options {
-    Options {
-        look: Look {
-            clock: WallClock::at(Offset::UTC),
-            colours: false,
-            quiet,
-        },
-        ticks,
+fn look(quiet: bool) -> Look {
+    Look {
+        clock: WallClock::at(Offset::UTC),
+        colours: false,
+        quiet,
+    }
+}
+
+/// The pattern that selects lines, if there is one.
+fn selector<A: Abort>(rt: &A, alloc: Global, pattern: &[u8]) -> Option<Selector> {
+    if pattern.is_empty() {
+        return None;
+    }
+    assert!(rt; pattern.len() <= 16);
+    match Pattern::check(pattern) {
+        Ok(pattern) => Selector::of(alloc, &pattern).ok(),
+        Err(_) => None,
     }
 }
 
@@ -198,16 +277,36 @@ fn shown<A: Abort>(rt: &A, reporter: &mut Reporter, unread: &mut Unread<'_>, tex
     panic!(rt; "no end");
 }
 
+/// Whether these are the lines of the recording.
+fn are_lines<A: Abort>(rt: &A, alloc: Global, options: Options, want: &[u8]) -> bool {
+    let Ok(mut unread) = Unread::open(&RECORDING) else {
+        panic!(rt; "no header");
+    };
+    let mut reporter = Reporter::open(alloc, options, unread.caps().late());
+    let mut text = Vec::new(alloc);
+    shown(rt, &mut reporter, &mut unread, &mut text);
+    text.as_slice() == want
+}
+
 #[test]
 fn all_lines_are_shown(rt: HostRuntime) {
     for (ticks, quiet, want) in LINES {
-        let Ok(mut unread) = Unread::open(&RECORDING) else {
-            panic!(rt; "no header");
-        };
+        let options = Options::all(look(quiet), ticks);
+        assert!(rt; are_lines(&rt, rt.alloc(), options, want));
+    }
+}
+
+#[test]
+fn lines_are_left_out_by_moment_and_address(rt: HostRuntime) {
+    for (from, to, pattern, want) in PARTS {
         let alloc: Global = rt.alloc();
-        let mut reporter = Reporter::open(alloc, options(ticks, quiet), unread.caps().late());
-        let mut text = Vec::new(alloc);
-        shown(&rt, &mut reporter, &mut unread, &mut text);
-        assert!(rt; text.as_slice() == want);
+        let options = Options {
+            look: look(false),
+            ticks: false,
+            from,
+            to,
+            only: selector(&rt, alloc, pattern),
+        };
+        assert!(rt; are_lines(&rt, alloc, options, want));
     }
 }

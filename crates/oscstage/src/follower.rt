@@ -3,9 +3,9 @@ ghost use Rattle.std.specs.Prelude.{◌≤◌, length, IfOk};
 ghost use Rattle.osc_model.specs.Limits.{max_recording};
 
 use crate::recording::{Page, look_for, show_all};
-use crate::report::{report_malformed, report_unread};
+use crate::report::{report_malformed, report_part, report_unread};
+use crate::tape::Tape;
 use crate::words::Showing;
-use osc_edge::{FileSource, Source, Taken};
 use osc_ends::status::{DONE, REFUSED, SOURCE_FAILED, USAGE};
 use osc_record::{Answer, Entry, Event, HEADER_SIZE, Late, MAX_RECORDING, Unread};
 use osc_report::{Options, Reporter};
@@ -22,62 +22,67 @@ const PIECE: usize = 65_536;
 
 const PIECES: u32 = 32_768;
 
-/// Shows a recording while it grows, until the program is stopped. A line stands once its moment is
-/// known, at the next tick or release.
+/// Shows a recording while it grows, and those in which the show goes on, until the program is stopped.
+/// A line stands once its moment is known, at the next tick or release.
 pub(crate) fn follow<W: Wait>(
     rt: &HostRuntime,
     threads: &W,
     showing: &Showing,
 ) -> Result<u8, AllocError> {
-    let alloc = rt.alloc();
-    let [file] = showing.files.as_slice() else {
+    let Some(mut tape) = Tape::open(rt, &showing.files)? else {
         return Ok(USAGE);
     };
-    let mut source = FileSource::at(rt, String::from_str(alloc, file)?);
     let mut page = Page::open(rt);
     // The header, and the bytes that came after the last entry that was shown.
-    let mut bytes = Vec::new(alloc);
+    let mut bytes = Vec::new(rt.alloc());
     let mut reporter = None;
     for _ in threads.forever() {
-        if !read_more(&mut source, &mut bytes)? {
-            report_unread(rt, file);
+        if !read_more(&mut tape, &mut bytes)? {
+            report_unread(rt, tape.file());
             return Ok(SOURCE_FAILED);
         }
-        if !show_more(rt, showing, &mut page, &mut bytes, &mut reporter)? {
-            report_malformed(rt, file);
+        let is_over = tape.turn(rt, &showing.files)?;
+        if !show_more(rt, showing, &mut page, &mut bytes, &mut reporter, is_over)? {
+            report_malformed(rt, tape.file());
             return Ok(REFUSED);
         }
         page.write();
         if page.status() != DONE {
             return Ok(page.status());
         }
+        if is_over {
+            report_part(rt, tape.file());
+            bytes.clear();
+            reporter = None;
+        }
         thread::sleep(rt, Duration::from_millis(LOOK));
     }
     unreachable!()
 }
 
-/// Reads what has come, and answers whether the source gives it.
-fn read_more(source: &mut FileSource, bytes: &mut Vec<u8>) -> Result<bool, AllocError> {
+/// Reads what has come, and answers whether the file gives it.
+fn read_more(tape: &mut Tape, bytes: &mut Vec<u8>) -> Result<bool, AllocError> {
     let alloc: Global = *bytes.allocator();
     let mut piece = vec![in alloc; 0; PIECE]?;
     for _ in 0..PIECES {
-        match source.read(&mut piece) {
-            Taken::Bytes(0) => return Ok(true),
-            Taken::Bytes(count) => bytes.extend_from_slice(&piece[..count.min(PIECE)])?,
-            Taken::Failed => return Ok(false),
+        match tape.read(&mut piece) {
+            Ok(0) => return Ok(true),
+            Ok(count) => bytes.extend_from_slice(&piece[..count.min(piece.len())])?,
+            Err(()) => return Ok(false),
         }
     }
     Ok(true)
 }
 
-/// Shows the entries up to and with the last tick or release, and keeps the bytes after them.
-/// Answers whether they are those of a server.
+/// Shows the entries up to and with the last tick or release, or all where the recording is over, and
+/// keeps the bytes after them. Answers whether they are those of a server.
 fn show_more(
     rt: &HostRuntime,
     showing: &Showing,
     page: &mut Page,
     bytes: &mut Vec<u8>,
     slot: &mut Option<Reporter>,
+    is_over: bool,
 ) -> Result<bool, AllocError> {
     let header = HEADER_SIZE as usize;
     if bytes.len() < header {
@@ -93,8 +98,9 @@ fn show_more(
         Some(reporter) => reporter,
         None => reporter_of(rt, showing, ticks),
     };
-    let end = ticks.end.max(header).min(bytes.len());
-    let are_shown = show_all(page, &mut reporter, &bytes[..end], &mut None)?;
+    let end = if is_over { bytes.len() } else { ticks.end };
+    let end = end.max(header).min(bytes.len());
+    let are_shown = show_all(page, &mut reporter, &bytes[..end])?;
     bytes.drain(header..end);
     *slot = Some(reporter);
     Ok(are_shown)
@@ -102,10 +108,7 @@ fn show_more(
 
 /// A reporter that has shown nothing.
 fn reporter_of(rt: &HostRuntime, showing: &Showing, ticks: Ticks) -> Reporter {
-    let options = Options {
-        look: look_for(rt, showing, ticks.first),
-        ticks: showing.ticks,
-    };
+    let options = Options::all(look_for(rt, showing, ticks.first), showing.ticks);
     Reporter::open(rt.alloc(), options, ticks.late)
 }
 

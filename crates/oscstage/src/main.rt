@@ -7,7 +7,6 @@ ghost use Rattle.std.specs.Prelude.{◌≡◌, length, IfOk};
 mod bank;
 mod bundle;
 mod carry;
-mod chain;
 mod cues;
 mod draw;
 mod follower;
@@ -21,9 +20,11 @@ mod patch;
 mod playback;
 mod prompt;
 mod recording;
+mod reel;
 mod report;
 mod score;
 mod show;
+mod tape;
 mod view;
 mod window;
 mod words;
@@ -31,7 +32,7 @@ mod words;
 use crate::bank::open_bank;
 use crate::carry::{read_carried, write_script};
 use crate::cues::play_cues;
-use crate::draw::draw_recording;
+use crate::draw::draw_recordings;
 use crate::follower::follow;
 use crate::links::Links;
 use crate::moment::print_moment;
@@ -74,7 +75,7 @@ fn run<W: Threads + Wait + Sync>(rt: &HostRuntime, threads: &W) -> Result<u8, Al
         Said::Moment(word) => print_moment(rt, &word),
         Said::Show(showing) if showing.follow => follow(rt, threads, &showing),
         Said::Show(showing) => show_recordings(rt, &showing),
-        Said::Draw(showing) => draw_recording(rt, &showing),
+        Said::Draw(showing) => draw_recordings(rt, &showing),
         Said::Page(paging) => serve_page(rt, threads, &paging),
         Said::Wrong(taken, word) => {
             report_wrong(rt, taken, &word);

@@ -1,10 +1,10 @@
 //! Serves a page in the browser that shows a recording while it grows.
 use crate::report::{report_door, report_malformed, report_page, report_unread};
+use crate::tape::Tape;
 use crate::words::Paging;
 use osc_board::Watcher;
 use osc_door::{TcpDoor, TcpVisitor};
-use osc_edge::{FileSource, Source, Taken};
-use osc_ends::status::{EDGE_FAILED, REFUSED, SOURCE_FAILED};
+use osc_ends::status::{EDGE_FAILED, REFUSED, SOURCE_FAILED, USAGE};
 use osc_hall::Hall;
 use osc_page::{NO_STATE, PAGE, state_text};
 use osc_story::{Progress, TakeFault};
@@ -47,22 +47,24 @@ pub(crate) fn serve_page<W: Wait>(
         report_door(rt, paging);
         return Ok(EDGE_FAILED);
     };
-    let mut hall = Hall::open(rt.alloc())?;
-    let mut source = FileSource::at(rt, String::from_str(rt.alloc(), &paging.file)?);
+    let Some(mut tape) = Tape::open(rt, &paging.files)? else {
+        return Ok(USAGE);
+    };
     let mut watcher = Watcher::open(rt.alloc());
+    let mut hall = Hall::open(rt.alloc())?;
     let mut piece = vec![in rt.alloc(); 0; PIECE]?;
     let mut state = Vec::new(rt.alloc());
     let mut is_told = false;
     for _ in threads.forever() {
-        match read_on(&mut source, &mut watcher, &mut piece)? {
+        match read_on(&mut tape, &mut watcher, &mut piece)? {
             Look::GoesOn => state = state_of(rt.alloc(), &watcher)?,
-            Look::Stands => {}
+            Look::Stands => turn(rt, &mut tape, &mut watcher, &paging.files)?,
             Look::Unread => {
-                report_unread(rt, &paging.file);
+                report_unread(rt, tape.file());
                 return Ok(SOURCE_FAILED);
             }
             Look::Malformed => {
-                report_malformed(rt, &paging.file);
+                report_malformed(rt, tape.file());
                 return Ok(REFUSED);
             }
         }
@@ -76,19 +78,15 @@ pub(crate) fn serve_page<W: Wait>(
 }
 
 /// Reads what has come, and sees what of it is whole.
-fn read_on(
-    source: &mut FileSource,
-    watcher: &mut Watcher,
-    piece: &mut [u8],
-) -> Result<Look, AllocError> {
+fn read_on(tape: &mut Tape, watcher: &mut Watcher, piece: &mut [u8]) -> Result<Look, AllocError> {
     let mut found = Look::Stands;
     for _ in 0..PIECES {
-        let count = match source.read(piece) {
-            Taken::Bytes(0) => break,
-            Taken::Bytes(count) => count.min(piece.len()),
-            Taken::Failed => return Ok(Look::Unread),
+        let count = match tape.read(piece) {
+            Ok(0) => break,
+            Ok(count) => count,
+            Err(()) => return Ok(Look::Unread),
         };
-        match watcher.take(&piece[..count]) {
+        match watcher.take(&piece[..count.min(piece.len())]) {
             Ok(()) => found = Look::GoesOn,
             Err(TakeFault::NoMemory) => return Err(AllocError),
             Err(TakeFault::TooLong) => return Ok(Look::Malformed),
@@ -99,6 +97,19 @@ fn read_on(
         Progress::NoMemory => Err(AllocError),
         Progress::Malformed | Progress::TooLong | Progress::Disagrees { .. } => Ok(Look::Malformed),
     }
+}
+
+/// Goes on with the next recording, if it is there.
+fn turn(
+    rt: &HostRuntime,
+    tape: &mut Tape,
+    watcher: &mut Watcher,
+    files: &[String],
+) -> Result<(), AllocError> {
+    if tape.turn(rt, files)? {
+        watcher.go_on()?;
+    }
+    Ok(())
 }
 
 /// What a browser is told of the show.

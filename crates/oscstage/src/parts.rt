@@ -1,6 +1,6 @@
 //! The recordings of a show: the files, and at which size one gives way to the next.
 use crate::words::Serving;
-use osc_words::{Capacities, Transport};
+use osc_words::Capacities;
 use std::alloc::{AllocError, Global};
 use std::fs;
 
@@ -26,15 +26,14 @@ pub(crate) fn least_size(caps: Capacities) -> u64 {
 }
 
 /// The size at which the show goes on in another recording: as it is said, or nine tenths of the
-/// room, if that is enough. Over TCP a link waits for bytes, so a show goes on there only where it
-/// is said.
+/// room, if that is enough.
 pub(crate) fn size_of(serving: &Serving) -> u64 {
     let room = u64::from(serving.caps.recording);
     let most = room - room / 10;
-    match (serving.size, serving.links.transport) {
-        (Some(size), _) => u64::from(size),
-        (None, Transport::Udp) if most >= least_size(serving.caps) => most,
-        _ => NEVER,
+    match serving.size {
+        Some(size) => u64::from(size),
+        None if most >= least_size(serving.caps) => most,
+        None => NEVER,
     }
 }
 
@@ -66,6 +65,17 @@ pub(crate) fn next_part(rt: &HostRuntime, file: &str, part: u32) -> Result<u32, 
         }
     }
     Ok(u32::MAX)
+}
+
+/// The name of the recording in which a show goes on after the one of this name.
+pub(crate) fn file_after(alloc: Global, file: &str) -> Result<String, AllocError> {
+    match file.rsplit_once('.') {
+        Some((first, part)) if !first.is_empty() => match part.parse::<u32>() {
+            Ok(part) if 2 <= part && part < u32::MAX => part_name(alloc, first, part + 1),
+            _ => part_name(alloc, file, 2),
+        },
+        _ => part_name(alloc, file, 2),
+    }
 }
 
 /// Whether there is a file of this name that holds bytes.

@@ -278,7 +278,7 @@ fn print_end(rt: &HostRuntime, look: Look, recording: &[u8]) -> Result<(), Alloc
     let Ok(mut unread) = Unread::open(recording) else {
         return Ok(());
     };
-    let options = Options { look, ticks: false };
+    let options = Options::all(look, false);
     let mut reporter = Reporter::open(rt.alloc(), options, Late::Deliver);
     let mut text = Vec::new(rt.alloc());
     // Each stretch but the last has a byte.

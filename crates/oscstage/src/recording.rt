@@ -4,7 +4,7 @@ ghost use Rattle.osc_model.specs.Limits.{max_recording};
 
 use crate::carry::read_recording;
 use crate::follower::moment_of;
-use crate::report::{report_malformed, report_time, report_unlike};
+use crate::report::{report_malformed, report_pattern, report_time, report_unlike};
 use crate::view::{look_at, zone_offset};
 use crate::window::Window;
 use crate::words::{Showing, Zone};
@@ -12,9 +12,10 @@ use jiff_core::Offset;
 use osc_edge::StdSink;
 use osc_ends::status::{DONE, REFUSED, USAGE};
 use osc_ends::write_text;
+use osc_pattern::{MAX_PATTERN, Pattern};
 use osc_record::{Entry, Late, Unread};
 use osc_replay::{ReplayFault, check};
-use osc_report::{Options, Reporter, ShowFault, Shown};
+use osc_report::{Options, Reporter, Selector, ShowFault, Shown};
 use osc_shown::{Look, cut_line, opening_line};
 use std::alloc::{AllocError, Global};
 
@@ -35,8 +36,7 @@ pub(crate) enum Judged {
 #[derive(Clone, Copy)]
 struct View {
     look: Look,
-    /// From when to when, where that is said.
-    window: Option<Window>,
+    window: Window,
 }
 
 /// Shows the recordings one after another, each as far as it is whole, up to one that is refused.
@@ -128,26 +128,60 @@ fn show_bytes(
     let Some(facts) = facts_of(recording) else {
         return Ok(REFUSED);
     };
-    let Some(View { look, mut window }) = view_for(rt, showing, facts.first, *view) else {
+    let Some(shown_by) = view_for(rt, showing, facts.first, *view) else {
         return Ok(USAGE);
     };
+    *view = Some(shown_by);
+    let Some(options) = options_for(rt, showing, shown_by)? else {
+        return Ok(USAGE);
+    };
+    let look = shown_by.look;
     let mut page = Page::open(rt);
     let size = recording.len() as u64;
     let discards = facts.late == Late::Discard;
     opening_line(&mut page.text, look, size, facts.entries, discards)?;
-    let options = Options {
-        look,
-        ticks: showing.ticks,
-    };
     let mut reporter = Reporter::open(rt.alloc(), options, facts.late);
-    if !show_part(&mut page, &mut reporter, recording, &mut window)? {
+    if !show_all(&mut page, &mut reporter, recording)? {
         return Ok(REFUSED);
     }
-    *view = Some(View { look, window });
+    reporter.end(&mut page.text)?;
     if let Some(at) = cut {
         cut_line(&mut page.text, look, at as u64)?;
     }
     Ok(page.close())
+}
+
+/// Which lines are shown. There is no answer where a word is no pattern, which is reported.
+fn options_for(
+    rt: &HostRuntime,
+    showing: &Showing,
+    view: View,
+) -> Result<Option<Options>, AllocError> {
+    let only = match &showing.only {
+        Some(word) => match pattern_in(word.as_bytes()) {
+            Some(pattern) => Some(Selector::of(rt.alloc(), &pattern)?),
+            None => {
+                report_pattern(rt, word);
+                return Ok(None);
+            }
+        },
+        None => None,
+    };
+    Ok(Some(Options {
+        look: view.look,
+        ticks: showing.ticks,
+        from: view.window.from,
+        to: view.window.to,
+        only,
+    }))
+}
+
+/// The pattern that a word is, if it is one.
+fn pattern_in(word: &[u8]) -> Option<Pattern<'_>> {
+    if word.len() > MAX_PATTERN {
+        return None;
+    }
+    Pattern::check(word).ok()
 }
 
 /// The view of the recordings before, or else by the first moment of this one. There is none where
@@ -162,48 +196,21 @@ fn view_for(
         return view;
     }
     let look = look_for(rt, showing, first);
-    let window = window_for(rt, showing, look, first)?;
+    let window = window_for(rt, showing, first)?;
     Some(View { look, window })
 }
 
-/// Adds the lines of all whole entries that are in the window, if there is one, and those after
-/// them. Answers whether the reporter took all of them.
-fn show_part(
-    page: &mut Page,
-    reporter: &mut Reporter,
-    recording: &[u8],
-    window: &mut Option<Window>,
-) -> Result<bool, AllocError>
-    requires { length recording.now ≤ max_recording }
-{
-    if !show_all(page, reporter, recording, window)? {
-        return Ok(false);
-    }
-    let mut ending = Vec::new(page.alloc());
-    reporter.end(&mut ending)?;
-    match window {
-        Some(window) => window.add_ending(&mut page.text, &ending, reporter.story().clock())?,
-        None => page.text.extend_from_slice(&ending)?,
-    }
-    Ok(true)
-}
-
-/// From when to when recordings are shown, if that is said; or nothing, where a word is no time,
-/// which is reported.
-fn window_for(
+/// From when to when recordings are shown, or nothing where a word is no time, which is reported.
+pub(crate) fn window_for(
     rt: &HostRuntime,
     showing: &Showing,
-    look: Look,
     first: Option<u64>,
-) -> Option<Option<Window>> {
-    if showing.from.is_none() && showing.to.is_none() {
-        return Some(None);
-    }
+) -> Option<Window> {
     let offset = offset_for(rt, showing, first);
     let from = showing.from.as_ref().map(|word| word.as_str());
     let to = showing.to.as_ref().map(|word| word.as_str());
-    match Window::of(look, offset, first.unwrap_or(0), from, to) {
-        Ok(window) => Some(Some(window)),
+    match Window::of(offset, first.unwrap_or(0), from, to) {
+        Ok(window) => Some(window),
         Err(word) => {
             report_time(rt, word);
             None
@@ -287,7 +294,6 @@ pub(crate) fn show_all(
     page: &mut Page,
     reporter: &mut Reporter,
     recording: &[u8],
-    window: &mut Option<Window>,
 ) -> Result<bool, AllocError>
     requires { length recording.now ≤ max_recording }
 {
@@ -296,12 +302,7 @@ pub(crate) fn show_all(
     };
     // Each stretch but the last has a byte.
     for _ in 0..=recording.len() {
-        let place = page.text.len();
-        let shown = reporter.show(&mut page.text, &mut unread);
-        if let Some(window) = window {
-            window.cut(&mut page.text, place, reporter.story().clock())?;
-        }
-        match shown {
+        match reporter.show(&mut page.text, &mut unread) {
             Ok(Shown::Stretch) => page.turn(),
             Ok(_) => return Ok(true),
             Err(ShowFault::NoMemory) => return Err(AllocError),

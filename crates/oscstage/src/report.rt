@@ -4,6 +4,7 @@ use crate::parts::{NEVER, size_of};
 use crate::words::{Paging, Serving, Taken};
 use jiff_core::Offset;
 use osc_carry::CarryFault;
+use osc_chain::SeamFault;
 use osc_cues::WrongLine;
 use osc_patch::PatchError;
 use osc_pattern::Address;
@@ -19,8 +20,8 @@ const MESSAGE_SIZE: u32 = 172;
 const HOUR_SIZE: u32 = 172_800;
 
 const USAGE: &str = "usage: oscstage serve [OPTIONS] PATCH FILE, play [OPTIONS] PATCH [FILE], \
-    show [OPTIONS] FILE.., draw [OPTIONS] FILE, \
-    page [OPTIONS] FILE, carry FILE, or moment WORD; oscstage --help tells more";
+    show [OPTIONS] FILE.., draw [OPTIONS] FILE.., \
+    page [OPTIONS] FILE.., carry FILE, or moment WORD; oscstage --help tells more";
 
 const HELP: &str = "oscstage serve [OPTIONS] PATCH FILE
 
@@ -60,22 +61,25 @@ can be named, in their order.
 
   --from TIME, --to TIME
                     only what was from or to then, as 20:15 or 20:15:30.5
+  --only PATTERN    only lines with an address that PATTERN matches, as '/light/*'
   --zone ZONE       times of a zone, as +01:00, and not of this machine's
   --utc             times of UTC
   --ticks           lines for the clock's ticks and for new callers, too
   --quiet           show refusals alone
   --follow          show what comes while FILE grows, until Ctrl-C
 
-oscstage draw [OPTIONS] FILE > PICTURE.svg
+oscstage draw [OPTIONS] FILE.. > PICTURE.svg
 
-Writes a picture of the recording in FILE as SVG, which a browser shows: a row
-for each address, its calls and levels by their times, and what waited, was
-discarded or called no method. It takes --zone ZONE and --utc as show does.
+Writes a picture of the recording in FILE, or of a show in several, as SVG, which
+a browser shows: a row for each address, its calls and levels by their times, and
+what waited, was discarded or called no method. It takes --from, --to, --zone and
+--utc as show does.
 
-oscstage page [OPTIONS] FILE
+oscstage page [OPTIONS] FILE..
 
-Serves a page to browsers that shows the recording in FILE while it grows: each
-method with its last call, what waits, and the totals. It runs until Ctrl-C.
+Serves a page to browsers that shows the recording in FILE while it grows, and
+those in which the show goes on: each method with its last call, what waits, and
+the totals. It runs until Ctrl-C.
 
   --port N          the page's port, 8080 where nothing is said
   --address A       this machine's address to serve it at; 0.0.0.0 is for all
@@ -237,17 +241,34 @@ pub(crate) fn report_door(rt: &HostRuntime, paging: &Paging) {
 /// Reports where a page is served.
 pub(crate) fn report_page(rt: &HostRuntime, paging: &Paging) {
     let (address, port) = (paging.address, paging.port);
-    eprintln!(rt;
-        "oscstage: http://{address}:{port}/ shows {file}, until Ctrl-C",
-        file = paging.file
-    )
-    .ok();
+    let file = match paging.files.last() {
+        Some(file) => file.as_str(),
+        None => "nothing",
+    };
+    eprintln!(rt; "oscstage: http://{address}:{port}/ shows {file}, until Ctrl-C").ok();
+}
+
+/// Reports why a show doesn't go on in another recording.
+pub(crate) fn report_seam(rt: &HostRuntime, fault: SeamFault) {
+    let why = match fault {
+        SeamFault::NoRoom => "what waits may have no room there: say --recording with more bytes",
+        SeamFault::TooLong => "what waits is more than can be carried on: say less --blocks",
+        SeamFault::Unlike => "what was recorded can't be read",
+    };
+    eprintln!(rt; "oscstage: the show doesn't go on in another recording: {why}").ok();
 }
 
 /// Reports that a word is no time.
 pub(crate) fn report_time(rt: &HostRuntime, word: &str) {
     eprintln!(rt;
         "oscstage: {word} is no time: write 20:00, 20:00:05.5 or 2026-11-29T20:00:00"
+    ).ok();
+}
+
+/// Reports that a word is no pattern of addresses.
+pub(crate) fn report_pattern(rt: &HostRuntime, word: &str) {
+    eprintln!(rt;
+        "oscstage: {word} is no pattern: write /light/front or /light/*, with each [ and {{ closed"
     ).ok();
 }
 

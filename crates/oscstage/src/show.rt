@@ -1,28 +1,30 @@
 //! Serves links, and prints meanwhile what comes in.
 ghost use Rattle.std.specs.Prelude.{◌≡◌, ◌≤◌, length, IfOk, IsSomeAnd};
 ghost use Rattle.osc_links.specs.declared.limits.TheConstants.{MAX_LINKS};
-ghost use Rattle.oscstage.specs.Shows.{CanPlay};
+ghost use Rattle.osc_chain.specs.Shows.{CanPlay};
 
 use crate::bank::Bank;
 use crate::carry::agenda_of;
-use crate::chain::{Finish, Reel, Show, play_show};
 use crate::input::watch_input;
 use crate::losses::{LossReport, report_losses};
 use crate::parts::size_of;
-use crate::report::{ShowEnd, report_end, report_start, report_unprinted};
+use crate::reel::Reel;
+use crate::report::{ShowEnd, report_end, report_seam, report_start, report_unprinted};
 use crate::view::{look_of, print_day};
 use crate::words::Serving;
+use osc_chain::play_show;
 use osc_console::{
-    Agenda, Calendar, Changeover, Chore, HeardLink, Pace, Printer, RingSink, Rounds, Sender,
-    ShownLink, Shutdown, ShutdownLink, Slot, View, WaitingClock, Watch, print_while,
+    Agenda, Calendar, Changeover, Chore, ConsoleGate, HeardLink, Pace, PacedLink, Peer, Printer,
+    RingSink, Rounds, Sender, ShownLink, Shutdown, ShutdownLink, Slot, View, WaitingClock, Watch,
+    print_while,
 };
-use osc_edge::{Link, StdSink, TcpSource, system_moment};
+use osc_edge::{Link, StdSink, system_moment};
 use osc_ends::limits_for;
 use osc_ends::status::{DONE, EDGE_FAILED, RECORDING_FULL, SINK_FAILED};
 use osc_links::LinksPart;
+use osc_relay::UdpOutlet;
 use osc_script::Line;
-use osc_stage::{Ended, carried_on};
-use osc_stream::{BufferedSource, StreamLink};
+use osc_stage::{Ended, Stage, Staged, carried_on};
 use osc_words::Transport;
 use rtrb::{Consumer, RingBuffer};
 use std::alloc::{AllocError, Global};
@@ -49,6 +51,7 @@ pub(crate) struct Shared {
     printer: Printer,
     pub(crate) slots: Vec<Slot>,
     paces: Vec<Pace>,
+    peers: Vec<Peer>,
     pub(crate) changeover: Changeover,
 }
 
@@ -57,9 +60,11 @@ impl Shared {
     fn open(alloc: Global, serving: &Serving, links: usize) -> Result<Shared, AllocError> {
         let mut slots = Vec::with_capacity(alloc, links)?;
         let mut paces = Vec::with_capacity(alloc, links)?;
+        let mut peers = Vec::with_capacity(alloc, links)?;
         for _ in 0..links {
             slots.push(Slot::new())?;
             paces.push(pace_of(serving))?;
+            peers.push(Peer::new())?;
         }
         Ok(Shared {
             shutdown: Arc::new(alloc, Shutdown::new())?,
@@ -68,6 +73,7 @@ impl Shared {
             printer: Printer::new(),
             slots,
             paces,
+            peers,
             changeover: Changeover::at(size_of(serving)),
         })
     }
@@ -123,13 +129,25 @@ fn datagram_links<'a>(
     ensures { IfOk result (λ links. length links.items ≤ length ports.now) }
 {
     let mut links = Vec::with_capacity(rt.alloc(), ports.len())?;
-    let mut paces = shared.paces.iter();
+    let mut desks = shared.paces.iter().zip(&shared.slots);
     for port in ports {
-        let Some(pace) = paces.next() else { break };
+        let Some((pace, slot)) = desks.next() else {
+            break;
+        };
         let link = HeardLink::at(rt, *port, pace, &shared.changeover);
-        links.push(ShutdownLink::new(link, &shared.shutdown, &shared.changeover))?;
+        links.push(ending_link(rt, shared, link, slot)?)?;
     }
     Ok(links)
+}
+
+/// The link, which ends when the show does.
+fn ending_link<'a, L: Link + Drop>(
+    rt: &HostRuntime,
+    shared: &'a Shared,
+    link: L,
+    slot: &'a Slot,
+) -> Result<ShutdownLink<'a, L>, AllocError> {
+    ShutdownLink::open(rt.alloc(), link, &shared.shutdown, &shared.changeover, slot)
 }
 
 /// A link over TCP for each port.
@@ -137,14 +155,17 @@ fn stream_links<'a>(
     rt: &HostRuntime,
     shared: &'a Shared,
     ports: &[u16],
-) -> Result<Vec<ShutdownLink<'a, StreamLink<BufferedSource<TcpSource>>>>, AllocError>
+) -> Result<Vec<ShutdownLink<'a, PacedLink<'a>>>, AllocError>
     ensures { IfOk result (λ links. length links.items ≤ length ports.now) }
 {
     let mut links = Vec::with_capacity(rt.alloc(), ports.len())?;
+    let mut desks = shared.paces.iter().zip(&shared.peers).zip(&shared.slots);
     for port in ports {
-        let source = BufferedSource::open(rt.alloc(), TcpSource::at(rt, *port))?;
-        let link = StreamLink::open(rt.alloc(), source)?;
-        links.push(ShutdownLink::new(link, &shared.shutdown, &shared.changeover))?;
+        let Some(((pace, peer), slot)) = desks.next() else {
+            break;
+        };
+        let link = PacedLink::open(rt, *port, pace, &shared.changeover, peer)?;
+        links.push(ending_link(rt, shared, link, slot)?)?;
     }
     Ok(links)
 }
@@ -177,46 +198,60 @@ fn play_links<W: Threads + Wait + Sync, L: Link + Sender + Send + Drop>(
     let mut rings = Vec::with_capacity(alloc, links.len())?;
     let mut from = show_links(rt, threads, shared, view, links, &mut rings)?;
     expect_units(&mut from, agenda_of(alloc, &carried)?);
-    let show = Show {
-        caps: limits_for(CALLERS, serving.caps),
+    let caps = limits_for(CALLERS, serving.caps);
+    let stage = Stage {
+        caps,
         opening: carried_on(alloc, relays, carried)?,
         links: LinksPart {
             from,
             bounds: serving.links.bounds,
         },
-        reel: Reel {
-            file: String::from_str(alloc, &serving.names.file)?,
-            part: 1,
-            refused: 0,
-        },
     };
+    let file = String::from_str(alloc, &serving.names.file)?;
+    let mut reel = Reel::new(rt, shared, caps, file);
     let mut report = LossReport::new(rt, &destinations);
-    let end = play_printed(rt, threads, shared, show, &mut rings, &mut report)?;
+    let (ended, size) = play_printed(
+        rt,
+        threads,
+        shared,
+        stage,
+        &mut reel,
+        &mut rings,
+        &mut report,
+    )?;
     report_losses(rt, &destinations);
+    let end = ShowEnd {
+        ended,
+        file: reel.name()?,
+        size,
+        refused: reel.refused(),
+    };
     report_end(rt, serving, &end);
-    Ok(status_of(end.ended))
+    Ok(status_of(ended))
 }
 
-/// Plays the show, and prints meanwhile what comes out of the rings.
+/// Plays the show, and prints meanwhile what comes out of the rings. Answers how it ended, and how many
+/// bytes its last recording has.
 fn play_printed<W: Threads + Wait + Sync, L: Link + Finish + Send + Drop, D: Chore + Send>(
     rt: &HostRuntime,
     threads: &W,
     shared: &Shared,
-    show: Show<L>,
+    stage: Stage<UdpOutlet, L>,
+    reel: &mut Reel<'_>,
     rings: &mut [Consumer<u8, Global>],
     report: &mut D,
-) -> Result<ShowEnd, AllocError>
-    requires { CanPlay show }
+) -> Result<(Ended, usize), AllocError>
+    requires { CanPlay stage }
 {
     let mut out = StdSink::open(rt);
-    let mut given = Some(show);
+    let mut given = Some(stage);
     let (is_whole, end) = join_mut(
         threads,
         &mut || print_while(threads, &shared.printer, rings, &mut out, report),
-        &mut || -> Result<ShowEnd, AllocError>
-            requires { IsSomeAnd given (λ show. CanPlay show) }
+        &mut || -> Result<(Ended, usize), AllocError>
+            requires { IsSomeAnd given (λ stage. CanPlay stage) }
         {
-            let end = play_show(rt, threads, shared, given.take().unwrap());
+            let end = play_stages(rt, threads, shared, given.take().unwrap(), reel);
             shared.printer.end();
             end
         },
@@ -225,6 +260,47 @@ fn play_printed<W: Threads + Wait + Sync, L: Link + Finish + Send + Drop, D: Cho
         report_unprinted(rt);
     }
     end
+}
+
+/// Plays the show, in one recording after another, and then shows what was left to be shown.
+fn play_stages<'a, W: Threads + Wait + Sync, L: Link + Finish + Send + Drop>(
+    rt: &HostRuntime,
+    threads: &'a W,
+    shared: &'a Shared,
+    stage: Stage<UdpOutlet, L>,
+    reel: &mut Reel<'_>,
+) -> Result<(Ended, usize), AllocError>
+    requires { CanPlay stage }
+{
+    let mut clock = WaitingClock::open(rt, threads, &shared.rounds, &shared.changeover);
+    let gate = ConsoleGate::new(&shared.rounds, &shared.slots);
+    let osc_chain::ShowEnd { staged, fault } = play_show(
+        threads,
+        rt.alloc(),
+        stage,
+        &mut clock,
+        reel,
+        &gate,
+    )?;
+    if let Some(fault) = fault {
+        report_seam(rt, fault);
+    }
+    let Staged {
+        ended,
+        mut links,
+        recording,
+        ..
+    } = staged;
+    for link in &mut links {
+        link.finish();
+    }
+    Ok((ended, recording.len()))
+}
+
+/// What may have something left to show.
+trait Finish {
+    /// Shows it.
+    fn finish(&mut self);
 }
 
 type StageLink<'a, L, W> = ShownLink<'a, L, WaitingClock<'a, W>, RingSink<'a>, W>;

@@ -2,8 +2,6 @@
 use crate::cues::setting_at_offset;
 use jiff_core::Offset;
 use osc_cues::read_moment;
-use osc_shown::{Look, day_line, day_number};
-use std::alloc::{AllocError, Global};
 
 /// A day, in a time tag's units.
 const DAY: u64 = 86_400 << 32;
@@ -13,16 +11,11 @@ const HALF: u128 = 500_000_000;
 
 const UNIT: u128 = 1_000_000_000;
 
-/// What the last line says first where it isn't of what was shown alone.
-const OF_ALL: &[u8] = b"of the whole recording, ";
-
-/// From when to when lines are shown, both included, and the day of the last that was.
+/// From when to when lines are shown, both included, as far as that is said.
 #[derive(Clone, Copy)]
 pub(crate) struct Window {
-    look: Look,
-    from: u64,
-    to: u64,
-    day: Option<u64>,
+    pub(crate) from: Option<u64>,
+    pub(crate) to: Option<u64>,
 }
 
 impl Window {
@@ -30,99 +23,22 @@ impl Window {
     /// first such second that isn't before the recording's first, or where it names no second the
     /// first such minute; the end isn't before the start. The `Err` says which word is no time.
     pub(crate) fn of<'a>(
-        look: Look,
         offset: Offset,
         first: u64,
         from: Option<&'a str>,
         to: Option<&'a str>,
     ) -> Result<Window, &'a str> {
         let from = match from {
-            Some(word) => time_in(offset, first, span_of(word), word)?,
-            None => 0,
+            Some(word) => Some(time_in(offset, first, span_of(word), word)?),
+            None => None,
         };
+        let least = from.unwrap_or(first).max(first);
         let to = match to {
-            Some(word) => time_in(offset, from.max(first), 1, word)?,
-            None => u64::MAX,
+            Some(word) => Some(time_in(offset, least, 1, word)?),
+            None => None,
         };
-        Ok(Window {
-            look,
-            from,
-            to,
-            day: None,
-        })
+        Ok(Window { from, to })
     }
-
-    /// Whether lines of this moment are shown.
-    pub(crate) fn has(&self, moment: u64) -> bool {
-        self.from <= moment && moment <= self.to
-    }
-
-    /// Leaves the lines that begin at this place out of the text, unless they are shown. Before the
-    /// first of a day stands the line of the day.
-    pub(crate) fn cut(
-        &mut self,
-        text: &mut Vec<u8>,
-        place: usize,
-        moment: u64,
-    ) -> Result<(), AllocError> {
-        if !self.has(moment) || text.len() <= place {
-            text.truncate(place);
-            return Ok(());
-        }
-        let day = day_number(self.look.clock, moment);
-        if self.day != Some(day) {
-            self.day = Some(day);
-            put_day(text, place, self.look, moment)?;
-        }
-        Ok(())
-    }
-
-    /// Adds the lines after those of all entries, of which the last is of the whole recording.
-    pub(crate) fn add_ending(
-        &self,
-        text: &mut Vec<u8>,
-        ending: &[u8],
-        moment: u64,
-    ) -> Result<(), AllocError> {
-        let start = last_line(ending).min(ending.len());
-        if self.has(moment) {
-            text.extend_from_slice(&ending[..start])?;
-        }
-        let totals = &ending[start..];
-        let words = match totals
-            .windows(3)
-            .position(|three| three == b"-- ".as_slice())
-        {
-            Some(place) => place + 3,
-            None => 0,
-        };
-        text.extend_from_slice(&totals[..words])?;
-        text.extend_from_slice(OF_ALL)?;
-        text.extend_from_slice(&totals[words..])
-    }
-}
-
-/// Where the last line begins.
-fn last_line(text: &[u8]) -> usize {
-    let before = text.len().saturating_sub(1);
-    match text[..before].iter().rposition(|byte| *byte == b'\n') {
-        Some(place) => place + 1,
-        None => 0,
-    }
-}
-
-/// Puts the line of the day at the place, unless it stands there.
-fn put_day(text: &mut Vec<u8>, place: usize, look: Look, moment: u64) -> Result<(), AllocError> {
-    let alloc: Global = *text.allocator();
-    let mut line = Vec::new(alloc);
-    day_line(&mut line, look, moment)?;
-    let place = place.min(text.len());
-    if text[place..].starts_with(&line) {
-        return Ok(());
-    }
-    line.extend_from_slice(&text[place..])?;
-    text.truncate(place);
-    text.extend_from_slice(&line)
 }
 
 /// How many seconds a time of day names: a minute, or a second of it.

@@ -42,7 +42,8 @@ pub(crate) enum Taken {
 /// Which recording a page shows, and where it is served.
 #[derive(Drop)]
 pub(crate) struct Paging {
-    pub(crate) file: String,
+    /// In their order, each but the first with what carries the one before it on.
+    pub(crate) files: Vec<String>,
     pub(crate) address: Ipv4Addr,
     pub(crate) port: u16,
 }
@@ -71,6 +72,8 @@ pub(crate) struct Showing {
     /// From when to when it is shown, where that is said.
     pub(crate) from: Option<String>,
     pub(crate) to: Option<String>,
+    /// The pattern that selects lines, where one is said.
+    pub(crate) only: Option<String>,
 }
 
 /// What is done with the cues of a sheet.
@@ -289,6 +292,7 @@ fn showing_of(alloc: Global, words: Vec<String>) -> Result<Said, AllocError> {
             follow: false,
             from: None,
             to: None,
+            only: None,
         },
         no_zone: None,
         takes: ShowTakes::Option,
@@ -312,7 +316,8 @@ fn showing_of(alloc: Global, words: Vec<String>) -> Result<Said, AllocError> {
     }
 }
 
-/// What is to be drawn, where the words are `draw [--utc | --zone ZONE] FILE`.
+/// What is to be drawn, where the words are
+/// `draw [--utc | --zone ZONE] [--from TIME] [--to TIME] FILE..`.
 fn drawing_of(alloc: Global, words: Vec<String>) -> Result<Said, AllocError> {
     Ok(match showing_of(alloc, words)? {
         Said::Show(showing) => drawn(showing),
@@ -330,16 +335,14 @@ fn drawn(showing: Showing) -> Said {
     }
 }
 
-/// Whether one recording is named, and no option but that of a zone.
+/// Whether no option is said but those of a zone and of times.
 fn is_drawn(showing: &Showing) -> bool {
-    let is_part = showing.from.is_some() || showing.to.is_some();
-    let has_flag = showing.ticks || showing.quiet || showing.follow;
-    showing.files.len() == 1 && !is_part && !has_flag
+    !showing.ticks && !showing.quiet && !showing.follow && showing.only.is_none()
 }
 
 /// Whether one recording is to be shown as a whole, if it is to be followed.
 fn can_follow(showing: &Showing) -> bool {
-    let is_part = showing.from.is_some() || showing.to.is_some();
+    let is_part = showing.from.is_some() || showing.to.is_some() || showing.only.is_some();
     !showing.follow || (!is_part && showing.files.len() == 1)
 }
 
@@ -360,6 +363,7 @@ enum ShowTakes {
     Option,
     From,
     To,
+    Only,
     Zone,
     /// Another FILE.
     More,
@@ -371,6 +375,7 @@ fn take_show_word(read: &mut ShowWords, word: String) -> Result<(), AllocError> 
     match (takes, word.as_str()) {
         (ShowTakes::From, _) => read.showing.from = Some(word),
         (ShowTakes::To, _) => read.showing.to = Some(word),
+        (ShowTakes::Only, _) => read.showing.only = Some(word),
         (ShowTakes::Zone, _) => set_zone(read, word),
         (ShowTakes::Option, "--utc") => read.showing.zone = Zone::At(Offset::UTC),
         (ShowTakes::Option, "--ticks") => read.showing.ticks = true,
@@ -378,6 +383,7 @@ fn take_show_word(read: &mut ShowWords, word: String) -> Result<(), AllocError> 
         (ShowTakes::Option, "--follow") => read.showing.follow = true,
         (ShowTakes::Option, "--from") => read.takes = ShowTakes::From,
         (ShowTakes::Option, "--to") => read.takes = ShowTakes::To,
+        (ShowTakes::Option, "--only") => read.takes = ShowTakes::Only,
         (ShowTakes::Option, "--zone") => read.takes = ShowTakes::Zone,
         _ if is_option(&word) => read.is_wrong = true,
         _ => {
@@ -412,35 +418,31 @@ struct PageWords {
     wrong: Option<(Taken, String)>,
     /// What the next word is, if an option takes it.
     takes: Option<Taken>,
-    /// How many FILEs were named.
-    files: usize,
     is_wrong: bool,
 }
 
-/// What is to be served, where the words are `page [--port N] [--address ADDRESS] FILE`.
+/// What is to be served, where the words are `page [--port N] [--address ADDRESS] FILE..`.
 fn paging_of(alloc: Global, words: Vec<String>) -> Result<Said, AllocError> {
     let mut read = PageWords {
         paging: Paging {
-            file: String::new(alloc),
+            files: Vec::new(alloc),
             address: Ipv4Addr::LOCALHOST,
             port: PAGE_PORT,
         },
         wrong: None,
         takes: None,
-        files: 0,
         is_wrong: false,
     };
     for word in words.into_iter().skip(1) {
-        take_page_word(&mut read, word);
+        take_page_word(&mut read, word)?;
     }
     let PageWords {
         paging,
         wrong,
         takes,
-        files,
         is_wrong,
     } = read;
-    if is_wrong || takes.is_some() || files != 1 {
+    if is_wrong || takes.is_some() || paging.files.is_empty() {
         return Ok(Said::Refused);
     }
     match wrong {
@@ -449,18 +451,16 @@ fn paging_of(alloc: Global, words: Vec<String>) -> Result<Said, AllocError> {
     }
 }
 
-fn take_page_word(read: &mut PageWords, word: String) {
+fn take_page_word(read: &mut PageWords, word: String) -> Result<(), AllocError> {
     match (read.takes.take(), word.as_str()) {
         (Some(Taken::Port), _) => set_port(read, word),
         (Some(_), _) => set_address(read, word),
         (None, "--port") => read.takes = Some(Taken::Port),
         (None, "--address") => read.takes = Some(Taken::Address),
         (None, _) if is_option(&word) => read.is_wrong = true,
-        (None, _) => {
-            read.paging.file = word;
-            read.files = read.files.saturating_add(1);
-        }
+        (None, _) => read.paging.files.push(word)?,
     }
+    Ok(())
 }
 
 /// Sets the port, or keeps the word where it is none.

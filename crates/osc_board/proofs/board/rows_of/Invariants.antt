@@ -3,4 +3,4 @@ use Rattle.osc_board.specs.Boards.{row_of}
 use Rattle.osc_board.proofs.board.rows_of.Given as goal
 
 abbrev pub invariant-loop-method : goal.invariant-loop-method
-invariant-loop-method l = l.rows.items ≡ map (row_of l.lasts) (take l.method-index l.methods)
+invariant-loop-method l = l.rows.items ≡ map (row_of l.past l.lasts) (take l.method-index l.methods)

@@ -9,7 +9,7 @@ pub returns-in-Malformed : goal.returns-in-Malformed
 returns-in-Malformed c = λ came has. (
   malformed (record { header = c.sizes.ensures.header; entry = c.sizes.ensures.entry; differ = c.headers_differ.ensures }) came c.args.self.now has
       (subst (λ (l : List ℕ). HasNoHeader l 0) (c.deref.ensures.value ∙ ap (λ (f : Watching). f.bytes) c.self.view_is) c.in-Malformed.ensures.0),
-  ap (λ (s : Option Sight). record { bytes = c.self.inside.bytes.items; passed = c.self.inside.passed; sight = s }) c.in-Malformed.ensures.1
+  ap (λ (s : Option Sight). record { bytes = c.self.inside.bytes.items; passed = c.self.inside.passed; sight = s; past = c.self.inside.past }) c.in-Malformed.ensures.1
       ∙ c.self.view_is,
 )
 
@@ -22,7 +22,7 @@ returns-in-TooLong c = λ came has.
       too_long (record { header = c.sizes.ensures.header; entry = c.sizes.ensures.entry; differ = c.headers_differ.ensures }) came c.args.self.now has
           (past_same c.deref.result.now c.args.self.now.bytes (c.self.inside.passed + c.len-2.result) (c.args.self.now.passed + length c.args.self.now.bytes)
           bytes all c.in-TooLong.ensures.0),
-      ap (λ (s : Option Sight). record { bytes = c.self.inside.bytes.items; passed = c.self.inside.passed; sight = s }) c.in-TooLong.ensures.1
+      ap (λ (s : Option Sight). record { bytes = c.self.inside.bytes.items; passed = c.self.inside.passed; sight = s; past = c.self.inside.past }) c.in-TooLong.ensures.1
           ∙ c.self.view_is,
     )
 
@@ -33,7 +33,7 @@ returns-in-Saw c = λ came has.
     omega (arith, c.len-2.ensures, ap (λ (f : Watching). f.passed) c.self.view_is, ap (λ (f : Watching). length f.bytes) c.self.view_is)
     in
     let stood : c.self.inside.sight ≡ c.args.self.now.sight = ap (λ (f : Watching). f.sight) c.self.view_is in
-    let mid : Watching = record { bytes = c.self.inside.bytes.items; passed = c.self.inside.passed; sight = c.look_at.new.sight } in
+    let mid : Watching = record { bytes = c.self.inside.bytes.items; passed = c.self.inside.passed; sight = c.look_at.new.sight; past = c.self.inside.past } in
     progressed (record { header = c.sizes.ensures.header; entry = c.sizes.ensures.entry; differ = c.headers_differ.ensures }) came c.args.self.now mid
     c.keep_after.new.self c.in-Saw.stop c.keep_after.result c.look_at.new.sight has
     (saw_same c.deref.result.now c.args.self.now.bytes (c.self.inside.passed + c.len-2.result) (c.args.self.now.passed + length c.args.self.now.bytes)

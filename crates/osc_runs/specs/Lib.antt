@@ -1,0 +1,3 @@
+pub mod Gathering
+pub mod Listed
+pub mod Telling
