@@ -55,7 +55,7 @@ size_drop (suc k) [] = omega arith
 size_drop (suc k) (name ∷ names) = let more = size_drop k names in omega arith
 
 -- names that are cut off with the slash behind them stand there whatever follows
-cut_front : (names : List ℕ) (bytes k : ℕ) → bytes ≤ length names → slice_split is_slash (drop bytes names) ≡ drop k (slice_split is_slash names)
+pub cut_front : (names : List ℕ) (bytes k : ℕ) → bytes ≤ length names → slice_split is_slash (drop bytes names) ≡ drop k (slice_split is_slash names)
     → (rest : List ℕ) → slice_split is_slash (take bytes names ++ rest) ≡ take k (slice_split is_slash names) ++ slice_split is_slash rest
 cut_front names zero zero le e rest = refl
 cut_front names zero (suc k) le e rest = go (split-cons names) where
@@ -92,7 +92,7 @@ match_at (part ∷ parts) (other ∷ front) name more e =
     match_at parts front name more (and_parts (match_part part other) (match_parts parts (front ++ name ∷ more)) e).1
 
 -- a text that begins with another is that and more
-begun_rest : (text front : List ℕ) → starts_with nat_eq text front ≡ true → (rest : List ℕ) × (text ≡ front ++ rest)
+pub begun_rest : (text front : List ℕ) → starts_with nat_eq text front ≡ true → (rest : List ℕ) × (text ≡ front ++ rest)
 begun_rest text [] e = (text, refl)
 begun_rest [] (y ∷ front) e = absurd (cc)
 begun_rest (x ∷ text) (y ∷ front) e =
@@ -158,19 +158,19 @@ passed_node : (pattern names tail : List ℕ) (matching bytes : ℕ) → IsPassi
     → parts_of ((47 ∷ take bytes names) ++ rest) ≡ take matching (slice_split is_slash names) ++ slice_split is_slash rest
 passed_node pattern names tail matching bytes passing rest = cut_front names bytes matching passing.bound passing.cut rest
 
-passed_long : (pattern names tail : List ℕ) (matching bytes : ℕ) → IsPassing pattern names tail matching bytes
+pub passed_long : (pattern names tail : List ℕ) (matching bytes : ℕ) → IsPassing pattern names tail matching bytes
     → length (take matching (slice_split is_slash names)) ≡ matching
 passed_long pattern names tail matching bytes passing =
     let some = passing.some in
     length-take-le matching (slice_split is_slash names) (omega (arith, agreeing_names (parts_of pattern) (slice_split is_slash names)))
 
-record Node (names x : List ℕ) (matching bytes : ℕ) : Type 0 where
-  rest : List ℕ
-  is : x ≡ (47 ∷ take bytes names) ++ rest
-  parts : parts_of x ≡ take matching (slice_split is_slash names) ++ slice_split is_slash rest
-  behind : lower rest (drop bytes names) ≡ false
+pub record Node (names x : List ℕ) (matching bytes : ℕ) : Type 0 where
+  pub rest : List ℕ
+  pub is : x ≡ (47 ∷ take bytes names) ++ rest
+  pub parts : parts_of x ≡ take matching (slice_split is_slash names) ++ slice_split is_slash rest
+  pub behind : lower rest (drop bytes names) ≡ false
 
-passed_begins : (pattern : List ℕ) (methods : List Method) (at end matching bytes : ℕ) (names tail : List ℕ) (d : Method) → IsSorted methods
+pub passed_begins : (pattern : List ℕ) (methods : List Method) (at end matching bytes : ℕ) (names tail : List ℕ) (d : Method) → IsSorted methods
     → at < length methods → (get_or methods at d).address ≡ 47 ∷ names → IsPassing pattern names tail matching bytes
     → IsSearched (aimed bytes names tail) methods end end → (k : ℕ) → at < k → k < end → Node names (get_or methods k d).address matching bytes
 passed_begins pattern methods at end matching bytes names tail d sorted within own passing searched k less lt =
@@ -191,7 +191,7 @@ passed_begins pattern methods at end matching bytes names tail d sorted within o
     }
 
 -- what the next has in common with the one before it is known to match
-known_passed : (pattern : List ℕ) (methods : List Method) (at end matching bytes : ℕ) (names tail : List ℕ) (d : Method) → IsSorted methods
+pub known_passed : (pattern : List ℕ) (methods : List Method) (at end matching bytes : ℕ) (names tail : List ℕ) (d : Method) → IsSorted methods
     → at < length methods → (get_or methods at d).address ≡ 47 ∷ names → IsPassing pattern names tail matching bytes → suc at ≤ end
     → IsSearched (aimed bytes names tail) methods end end → (other : Method) → end < length methods
     → known_at methods end other ≤ agreeing (parts_of pattern) (parts_of (get_or methods end other).address)
@@ -363,7 +363,7 @@ plain_name (b ∷ part) (x ∷ name) special slash e =
 abbrev pub ArePlain : List (List ℕ) → Type 0
 ArePlain parts = All (λ part. list_any is_special part ≡ false) parts
 
-plain_rest : (wild : ℕ) (parts names : List (List ℕ)) → ArePlain (drop wild parts) → All (λ part. list_any is_slash part ≡ false) (drop wild parts)
+pub plain_rest : (wild : ℕ) (parts names : List (List ℕ)) → ArePlain (drop wild parts) → All (λ part. list_any is_slash part ≡ false) (drop wild parts)
     → match_parts parts names ≡ true → drop wild names ≡ drop wild parts
 plain_rest zero [] [] plain slash e = refl
 plain_rest zero [] (name ∷ names) plain slash e = absurd (cc)
@@ -484,7 +484,7 @@ pub past_passing : (pattern names : List ℕ) (wild bytes matching : ℕ) → by
 past_passing pattern names wild bytes matching bound cut less is parts = record { bound = bound; cut = cut; some = omega arith; one = refl }
 
 -- what is tried stands before what is behind its names
-past_ahead : (names : List ℕ) (bytes : ℕ) → All (λ byte. byte < 127) names → lower (47 ∷ names) (aimed bytes names (127 ∷ [])) ≡ true
+pub past_ahead : (names : List ℕ) (bytes : ℕ) → All (λ byte. byte < 127) names → lower (47 ∷ names) (aimed bytes names (127 ∷ [])) ≡ true
 past_ahead names bytes low =
     ap (λ l. lower l (aimed bytes names (127 ∷ []))) (ap (λ l. 47 ∷ l) (sym (take-append-drop bytes names)))
     ∙ lower_prefix (47 ∷ take bytes names) (drop bytes names) (127 ∷ [])

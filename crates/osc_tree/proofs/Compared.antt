@@ -56,3 +56,9 @@ rest_here a text tail i past =
 pub none_here : (a text tail : List ℕ) (i : ℕ) → length text ≤ i → length tail ≡ 0 → lower (drop i a) (drop i text ++ tail) ≡ false
 none_here a text [] i past none = rest_here a text [] i past ∙ lower_none (take (length a - i) (drop i a))
 none_here a text (x ∷ tail) i past none = absurd (omega arith)
+
+pub either : (n m : ℕ) (b : Bool) → (n < m → b ≡ true) → (m ≤ n → b ≡ false) → nat_lt n m ≡ b
+either n m b less none = go (nat_lt n m) refl where
+  go : (t : Bool) → nat_lt n m ≡ t → nat_lt n m ≡ b
+  go true e = e ∙ sym (less (let h : nat_lt n m ≡ true = e in grind (arith, nat_tests)))
+  go false e = e ∙ sym (none (let h : nat_lt n m ≡ false = e in grind (arith, nat_tests)))

@@ -32,4 +32,6 @@ pub mod Choices
 pub mod Chosen
 mod Gathered
 pub mod Advances
+pub mod Taken
+pub mod Overs
 mod Bounds

@@ -125,3 +125,15 @@ searched_longer text tail methods at so =
       before = λ k d lt. lower_longer (get_or methods k d).address text tail (so.before k d lt);
       behind = λ k d ge lt. absurd (omega arith);
     }
+
+-- the same, where there may be none in the middle
+pub searched_to : (text : List ℕ) (methods : List Method) (low high middle : ℕ) (d : Method) → IsAscending methods → IsSearched text methods low high
+    → low ≤ middle → middle ≤ high → (middle < high → is_before text (get_or methods middle d) ≡ false) → IsSearched text methods low middle
+searched_to text methods low high middle d up so above le e = go (nat_lt middle high) refl where
+  go : (t : Bool) → nat_lt middle high ≡ t → IsSearched text methods low middle
+  go true f =
+      let less : middle < high = (let h : nat_lt middle high ≡ true = f in grind (arith, nat_tests)) in
+      searched_down text methods low high middle d up so above less (e less)
+  go false f =
+      let same : high ≡ middle = (let h : nat_lt middle high ≡ false = f in grind (arith, nat_tests)) in
+      subst (λ (n : ℕ). IsSearched text methods low n) same so

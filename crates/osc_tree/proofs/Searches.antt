@@ -16,7 +16,7 @@ use Rattle.osc_tree.proofs.Places.{any_default}
 use Rattle.osc_tree.proofs.Ranges.{lower, lower_order, lower_more, begun_not_before, begun_no_more, ascend_far}
 
 -- two texts neither of which is before the other
-level : (a b : List ℕ) → lower a b ≡ false → lower b a ≡ false → a ≡ b
+pub level : (a b : List ℕ) → lower a b ≡ false → lower b a ≡ false → a ≡ b
 level [] [] e f = refl
 level [] (y ∷ b) e f = absurd (cc)
 level (x ∷ a) [] e f = absurd (cc)

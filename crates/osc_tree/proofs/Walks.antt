@@ -32,7 +32,7 @@ use Rattle.osc_tree.proofs.Ranges.{ascend_far}
 pub walked_none : (pattern : List ℕ) (methods : List Method) → IsWalked pattern methods 0 []
 walked_none pattern methods = record { bound = omega arith; found = refl; known = λ d lt. omega arith }
 
-kept_push : {X : Type 0} (test : X → Bool) (xs : List X) (x : X) → test x ≡ true → filter test (xs ++ x ∷ []) ≡ filter test xs ++ x ∷ []
+pub kept_push : {X : Type 0} (test : X → Bool) (xs : List X) (x : X) → test x ≡ true → filter test (xs ++ x ∷ []) ≡ filter test xs ++ x ∷ []
 kept_push test xs x e = filter-append test xs (x ∷ []) ∙ ap (λ (t : Bool). filter test xs ++ cond t (x ∷ []) []) e
 
 left_push : {X : Type 0} (test : X → Bool) (xs : List X) (x : X) → test x ≡ false → filter test (xs ++ x ∷ []) ≡ filter test xs

@@ -16,7 +16,8 @@ spelled front back text = front ++ (text ++ back)
 
 -- whether one of the texts makes the address
 abbrev pub is_chosen : List ℕ → List ℕ → List (List ℕ) → List ℕ → Bool
-is_chosen front back texts address = list_any (λ text. bytes_eq address (spelled front back text)) texts
+is_chosen front back texts address =
+    list_any (λ text. bytes_eq address (spelled front back text)) texts
 
 -- a text with what follows it is before the next, and so on
 abbrev pub IsChain : List ℕ → List ℕ → List (List ℕ) → Type 0

@@ -8,3 +8,4 @@ pub mod Walking
 -- Inside the crate.
 pub mod Order
 pub mod Choosing
+pub mod Trials

@@ -136,7 +136,8 @@ pub record IsAim (part rest text : List ℕ) : Type 0 where
 -- what begins with a text, and isn't before what is left of an address, isn't before another text either; the byte is above
 -- all that stands after the first text
 abbrev pub IsReached : List ℕ → ℕ → List ℕ → List ℕ → Type 0
-IsReached rest end text aim = (other : List ℕ) → is_ahead other text ≡ false → is_ahead other (text ++ end ∷ []) ≡ true
+IsReached rest end text aim =
+    (other : List ℕ) → is_ahead other text ≡ false → is_ahead other (text ++ end ∷ []) ≡ true
     → is_ahead other rest ≡ false → is_ahead other aim ≡ false
 
 -- the names after the first that parts match, and where the walk goes on after them

@@ -14,7 +14,11 @@ ghost use Rattle.osc_tree.specs.Matching.{matching_ids};
 ghost use Rattle.osc_tree.specs.Order.{IsOrder};
 ghost use Rattle.osc_tree.specs.Views.{method_at, methods_of, methods_at};
 ghost use Rattle.osc_tree.specs.Walking.{most_steps, shared, agreeing, spent, known_at};
-ghost use Rattle.osc_tree.specs.Walking.{IsWalked, IsSorted, IsFront, IsOnward, AreParts};
+ghost use Rattle.osc_tree.specs.Walking.{IsWalked, IsSorted, IsFront, IsOnward, AreParts, is_ahead};
+ghost use Rattle.osc_tree.specs.Trials.{IsSet, IsTried, IsBelow, spelled_at};
+ghost use Rattle.std.specs.Str.{bytes_eq};
+ghost use Rattle.std.specs.Prelude.{ℕ, List, suc};
+ghost use Rattle.osc_pattern.specs.Methods.{Method};
 
 use crate::aim::find_aim;
 use crate::choice::{add_chosen, find_choice};
@@ -27,7 +31,7 @@ use crate::names::{
 use crate::parts::{find_parts, read_parts, ready_parts};
 use crate::prefix::beginning_with;
 use crate::registered::Registered;
-use crate::search::count_before_near;
+use crate::search::{count_before_near, is_rest_before};
 use osc_pattern::laws::{an_address_is_a_pattern, plain_pattern, tests_are_exact};
 use osc_pattern::{MAX_NAMES, Part, Pattern, Steps};
 use std::sync::ledger::Ledger;
@@ -38,6 +42,20 @@ use std::sync::ledger::Ledger;
 struct Outline {
     parts: u32,
     front: Front,
+}
+
+/// What a walk doesn't change: the methods and the places that it goes along, the names that all of these begin with, the parts of
+/// the pattern, and the plain ones after the last that has a special byte.
+#[derive(Clone, Copy)]
+struct Walk<'a> {
+    methods: &'a [Registered],
+    places: &'a [u32],
+    front: Front,
+    pattern: &'a Pattern<'a>,
+    parts: u32,
+    found: &'a [Part<'a>; MAX_NAMES],
+    wild: u32,
+    plain: Option<&'a [u8]>,
 }
 
 /// Fills the list with the ids of the methods that the pattern matches, in ascending order of the address. A pattern
@@ -100,7 +118,7 @@ fn look_up<L: Ledger>(
             }
             let near = beginning_with(methods, places, &text[..end]);
             let front = whole_names(&text[1..end]);
-            walk(methods, near, pattern, Outline { parts, front }, ids, steps);
+            walk_near(methods, near, pattern, Outline { parts, front }, ids, steps);
         }
         None => add_spelled(methods, places, pattern, ids),
     }
@@ -182,7 +200,7 @@ fn add_spelled(methods: &[Registered], places: &[u32], pattern: &Pattern<'_>, id
 const SHORT_PATTERN: usize = 256;
 
 /// Adds the ids of those of the methods at these places that the pattern matches.
-fn walk<L: Ledger>(
+fn walk_near<L: Ledger>(
     methods: &[Registered],
     near: &[u32],
     pattern: &Pattern<'_>,
@@ -213,7 +231,18 @@ fn walk<L: Ledger>(
         walk_read(methods, near, pattern, outline, ids, steps);
     } else {
         let found = find_parts(pattern, outline.parts);
-        walk_found(methods, near, pattern, outline, &found, ids, steps);
+        let wild = count_wild(pattern, outline.parts);
+        let walk = Walk {
+            methods,
+            places: near,
+            front: outline.front,
+            pattern,
+            parts: outline.parts,
+            found: &found,
+            wild,
+            plain: plain_from(pattern, wild),
+        };
+        walk_found(&walk, ids, steps);
     }
 }
 
@@ -246,50 +275,51 @@ fn walk_read<L: Ledger>(
 {
     let read = read_parts(pattern, outline.parts);
     let found = ready_parts(pattern, outline.parts, &read);
-    walk_found(methods, near, pattern, outline, &found, ids, steps);
+    let wild = count_wild(pattern, outline.parts);
+    let walk = Walk {
+        methods,
+        places: near,
+        front: outline.front,
+        pattern,
+        parts: outline.parts,
+        found: &found,
+        wild,
+        plain: plain_from(pattern, wild),
+    };
+    walk_found(&walk, ids, steps);
 }
 
 /// The same, for the parts that were found.
-fn walk_found<L: Ledger>(
-    methods: &[Registered],
-    near: &[u32],
-    pattern: &Pattern<'_>,
-    outline: Outline,
-    found: &[Part<'_>; MAX_NAMES],
-    ids: &mut Vec<u32>,
-    steps: &mut Steps<L>,
-)
-    requires parts { outline.parts ≡ length (parts_of pattern.now) }
-    requires few { outline.parts ≤ MAX_NAMES }
-    requires found { AreParts found.now pattern.now }
-    requires within { All (λ place. place < length methods.now) near.now }
-    requires sorted { IsSorted (methods_at methods.now near.now) }
-    requires front { IsFront outline.front.names outline.front.bytes
-        (methods_at methods.now near.now) }
+fn walk_found<L: Ledger>(walk: &Walk<'_>, ids: &mut Vec<u32>, steps: &mut Steps<L>)
+    requires set { IsSet walk.now }
     requires empty { ids.old.items ≡ [] }
-    requires room { length near.now ≤ vec_capacity ids.old }
+    requires room { length walk.now.places.now ≤ vec_capacity ids.old }
     ensures ids { ids.new.items ≡ map (λ method. method.id)
-        (filter (λ method. matches pattern.now method.address) (methods_at methods.now near.now)) }
-    ensures len { vec_len ids.new ≤ length near.now }
+        (filter (λ method. matches walk.now.pattern.now method.address)
+        (methods_at walk.now.methods.now walk.now.places.now)) }
+    ensures len { vec_len ids.new ≤ length walk.now.places.now }
     ensures capacity { vec_capacity ids.old ≤ vec_capacity ids.new }
     ensures counted { steps.old ≤ steps.new }
-    ensures bounded { steps.new
-        ≤ steps.old + most_steps pattern.now (methods_at methods.now near.now) }
+    ensures bounded { steps.new ≤ steps.old + most_steps walk.now.pattern.now
+        (methods_at walk.now.methods.now walk.now.places.now) }
 {
-    let wild = count_wild(pattern, outline.parts);
     let mut at = 0;
-    let mut pace = Pace {
-        idle: 0,
-        past: 0,
-        onward: 0,
-    };
-    while at < near.len() {
-        let (next, after) = visit(
-            methods, near, at, pattern, outline, found, wild, pace, ids, steps,
-        );
+    let mut pace = Pace::new();
+    while at < walk.places.len() {
+        let (next, after) = visit(walk, at, pace, ids, steps);
         at = next;
         pace = after;
     }
+}
+
+/// The parts of the pattern after so many, with a slash between two.
+fn plain_from<'a>(pattern: &Pattern<'a>, wild: u32) -> Option<&'a [u8]>
+    ensures { IfSome result
+        (λ plain. slice_split is_slash plain.now ≡ drop wild (parts_of pattern.now)) }
+{
+    let names = &pattern.bytes()[1..];
+    let at = names_at(names, wild as usize)?;
+    Some(&names[at..])
 }
 
 /// How many parts there are up to the last that has a special byte.
@@ -331,22 +361,43 @@ fn find_past(names: &[u8], wild: u32, parts: u32) -> Option<usize>
     names_at(names, wild as usize)
 }
 
+/// Where a walk goes on by a search: how many bytes of the names stay before the one that doesn't match, how many of that one, and a
+/// text after them. An aim is a text that stands in the pattern.
+#[derive(Clone, Copy)]
+struct Way<'a> {
+    bytes: usize,
+    kept: usize,
+    tail: &'a [u8],
+    is_aim: bool,
+}
+
 /// How a walk went so far: how many methods were tried in vain since it last went on by a search, and how many it
-/// passed over then.
+/// passed over when it last went past a hit, to a text, and over a node.
 #[derive(Clone, Copy)]
 struct Pace {
     idle: u32,
     past: usize,
     onward: usize,
+    over: usize,
 }
 
 impl Pace {
+    fn new() -> Pace {
+        Pace {
+            idle: 0,
+            past: 0,
+            onward: 0,
+            over: 0,
+        }
+    }
+
     /// After a method that matches, and a search past so many.
     fn passed(self, count: usize) -> Pace {
         Pace {
             idle: 0,
             past: count,
             onward: self.onward,
+            over: self.over,
         }
     }
 
@@ -356,6 +407,25 @@ impl Pace {
             idle: 0,
             past: self.past,
             onward: count,
+            over: self.over,
+        }
+    }
+
+    /// How many are guessed to be passed over, to an aim or over a node.
+    fn guess(self, is_aim: bool) -> usize {
+        if is_aim { self.onward } else { self.over }
+    }
+
+    /// The same, to an aim or over a node.
+    fn went(self, is_aim: bool, count: usize) -> Pace {
+        if is_aim {
+            return self.went_on(count);
+        }
+        Pace {
+            idle: self.idle.saturating_add(1),
+            past: self.past,
+            onward: self.onward,
+            over: count,
         }
     }
 
@@ -365,6 +435,7 @@ impl Pace {
             idle: self.idle.saturating_add(1),
             past: self.past,
             onward: self.onward,
+            over: self.over,
         }
     }
 }
@@ -374,74 +445,328 @@ fn looks(idle: u32) -> bool {
     idle & idle.saturating_sub(1) == 0
 }
 
+/// A method that was tried: its address and its names, how many of these match, whether they are all names and all parts,
+/// and whether no more than one name stands after them.
+#[derive(Clone, Copy)]
+struct Tried<'a> {
+    address: &'a [u8],
+    names: &'a [u8],
+    matching: u32,
+    is_whole: bool,
+    is_last: bool,
+}
+
 /// Tries the method at this place, and tells where to go on: after all methods below the first node whose part doesn't
 /// match. What the method has in common with the one before it isn't matched again.
 #[inline(always)]
 fn visit<L: Ledger>(
-    methods: &[Registered],
-    places: &[u32],
+    walk: &Walk<'_>,
     at: usize,
-    pattern: &Pattern<'_>,
-    outline: Outline,
-    found: &[Part<'_>; MAX_NAMES],
-    wild: u32,
     pace: Pace,
     ids: &mut Vec<u32>,
     steps: &mut Steps<L>,
 ) -> (usize, Pace)
-    requires parts { outline.parts ≡ length (parts_of pattern.now) }
-    requires few { outline.parts ≤ MAX_NAMES }
-    requires found { AreParts found.now pattern.now }
-    requires within { All (λ place. place < length methods.now) places.now }
-    requires sorted { IsSorted (methods_at methods.now places.now) }
-    requires front { IsFront outline.front.names outline.front.bytes
-        (methods_at methods.now places.now) }
-    requires plain { All (λ part. list_any is_special part ≡ false)
-        (drop wild (parts_of pattern.now)) }
-    requires at { at < length places.now }
-    requires walked { IsWalked pattern.now (methods_at methods.now places.now) at ids.old.items }
-    requires room { length places.now ≤ vec_capacity ids.old }
+    requires set { IsSet walk.now }
+    requires at { at < length walk.now.places.now }
+    requires walked { IsWalked walk.now.pattern.now
+        (methods_at walk.now.methods.now walk.now.places.now) at ids.old.items }
+    requires room { length walk.now.places.now ≤ vec_capacity ids.old }
     ensures on { at < result.0 }
-    ensures walked { IsWalked pattern.now (methods_at methods.now places.now) result.0 ids.new.items }
+    ensures walked { IsWalked walk.now.pattern.now
+        (methods_at walk.now.methods.now walk.now.places.now) result.0 ids.new.items }
     ensures capacity { vec_capacity ids.old ≤ vec_capacity ids.new }
     ensures counted { steps.old ≤ steps.new }
-    ensures bounded { steps.new + most_steps pattern.now
-        (take at (methods_at methods.now places.now))
-        ≤ steps.old + most_steps pattern.now (take result.0 (methods_at methods.now places.now)) }
+    ensures bounded { steps.new + most_steps walk.now.pattern.now
+        (take at (methods_at walk.now.methods.now walk.now.places.now))
+        ≤ steps.old + most_steps walk.now.pattern.now
+        (take result.0 (methods_at walk.now.methods.now walk.now.places.now)) }
 {
+    let (methods, places) = (walk.methods, walk.places);
     let method = &methods[places[at] as usize];
     let names = names_of(&method.address);
-    let known = known_at(methods, places, at, names, outline.front);
-    let (matching, whole, last) = count_matching(
-        pattern,
-        outline.parts,
-        found,
+    let known = known_at(methods, places, at, names, walk.front);
+    let (matching, is_whole, is_last) = count_matching(
+        walk.pattern,
+        walk.parts,
+        walk.found,
         known,
         names,
         steps,
     );
-    if whole {
-        add_id(method.id, ids);
-        if let Some(bytes) = find_past(names, wild, outline.parts) {
-            let text = &method.address.bytes()[..1 + bytes];
-            let next = count_before_near(methods, places, at + 1, pace.past, text, b"\x7f");
-            return (next, pace.passed(next.saturating_sub(at + 1)));
+    let tried = Tried {
+        address: method.address.bytes(),
+        names,
+        matching,
+        is_whole,
+        is_last,
+    };
+    go_on(walk, at, &tried, method.id, pace, ids)
+}
+
+/// Adds the id of the method that was tried, if it matches, and where only plain parts are left, that of the method that
+/// they make with its names. Tells where to go on.
+#[inline(always)]
+fn go_on(
+    walk: &Walk<'_>,
+    at: usize,
+    tried: &Tried<'_>,
+    id: u32,
+    pace: Pace,
+    ids: &mut Vec<u32>,
+) -> (usize, Pace)
+    requires set { IsSet walk.now }
+    requires tried { IsTried walk.now.pattern.now
+        (methods_at walk.now.methods.now walk.now.places.now) at tried.now.address.now
+        tried.now.names.now tried.now.matching }
+    requires id { (d : Method)
+        → id ≡ (get_or (methods_at walk.now.methods.now walk.now.places.now) at d).id }
+    requires whole { tried.now.is_whole ≡ (tried.now.matching == walk.now.parts
+        && tried.now.matching == length (slice_split is_slash tried.now.names.now)) }
+    requires last { tried.now.is_last ≡ true
+        → length (slice_split is_slash tried.now.names.now) ≤ tried.now.matching + 1 }
+    requires more { tried.now.is_last ≡ true → tried.now.is_whole ≡ false
+        → tried.now.matching < walk.now.parts }
+    requires walked { IsWalked walk.now.pattern.now
+        (methods_at walk.now.methods.now walk.now.places.now) at ids.old.items }
+    requires room { length walk.now.places.now ≤ vec_capacity ids.old }
+    ensures on { at < result.0 }
+    ensures walked { IsWalked walk.now.pattern.now
+        (methods_at walk.now.methods.now walk.now.places.now) result.0 ids.new.items }
+    ensures capacity { vec_capacity ids.old ≤ vec_capacity ids.new }
+{
+    if tried.is_whole {
+        add_id(id, ids);
+        return pass_hit(walk, at, tried, pace);
+    }
+    match find_below(walk, tried) {
+        Some((bytes, plain)) => {
+            let text = &tried.address[..1 + bytes];
+            take_below(walk, at, text, plain, pace, ids)
         }
+        None => pass_miss(walk, at, tried, pace),
+    }
+}
+
+/// Where to go on after a method that matches.
+fn pass_hit(walk: &Walk<'_>, at: usize, tried: &Tried<'_>, pace: Pace) -> (usize, Pace)
+    requires set { IsSet walk.now }
+    requires tried { IsTried walk.now.pattern.now
+        (methods_at walk.now.methods.now walk.now.places.now) at tried.now.address.now
+        tried.now.names.now tried.now.matching }
+    requires parts { tried.now.matching ≡ walk.now.parts }
+    requires names { tried.now.matching ≡ length (slice_split is_slash tried.now.names.now) }
+    ensures on { at < result.0 }
+    ensures walked { (ids : List ℕ)
+        → IsWalked walk.now.pattern.now
+        (methods_at walk.now.methods.now walk.now.places.now) (suc at) ids
+        → IsWalked walk.now.pattern.now
+        (methods_at walk.now.methods.now walk.now.places.now) result.0 ids }
+{
+    let Some(bytes) = find_past(tried.names, walk.wild, walk.parts) else {
         return (at + 1, pace);
+    };
+    let text = &tried.address[..1 + bytes];
+    let next = count_before_near(walk.methods, walk.places, at + 1, pace.past, text, b"\x7f");
+    (next, pace.passed(next.saturating_sub(at + 1)))
+}
+
+/// How many bytes the names take up to the last part that isn't plain, and the plain parts, where those names match and the
+/// method is before the one address that they make.
+fn find_below<'a>(walk: &Walk<'a>, tried: &Tried<'_>) -> Option<(usize, &'a [u8])>
+    requires rest { IfSome walk.now.plain
+        (λ plain. slice_split is_slash plain.now
+        ≡ drop walk.now.wild (parts_of walk.now.pattern.now)) }
+    ensures some { IfSome result (λ below. walk.now.wild ≤ tried.now.matching) }
+    ensures bound { IfSome result (λ below. below.0 ≤ length tried.now.names.now) }
+    ensures cut { IfSome result (λ below. slice_split is_slash (drop below.0 tried.now.names.now)
+        ≡ drop walk.now.wild (slice_split is_slash tried.now.names.now)) }
+    ensures rest { IfSome result (λ below. slice_split is_slash below.1.now
+        ≡ drop walk.now.wild (parts_of walk.now.pattern.now)) }
+    ensures before { IfSome result
+        (λ below. is_ahead (drop below.0 tried.now.names.now) below.1.now ≡ true) }
+{
+    let plain = walk.plain?;
+    if tried.matching < walk.wild {
+        return None;
     }
-    if looks(pace.idle)
-        && let Some((bytes, kept, tail)) = find_onward(pattern, outline.parts, matching, names)
-    {
-        let text = &method.address.bytes()[..1 + bytes + kept];
-        let next = count_before_near(methods, places, at + 1, pace.onward, text, tail);
-        return (next, pace.went_on(next.saturating_sub(at + 1)));
+    let bytes = names_before(tried.names, walk.wild, plain)?;
+    Some((bytes, plain))
+}
+
+/// How many bytes so many names take, where what follows them is before the text.
+#[inline(never)]
+fn names_before(names: &[u8], count: u32, text: &[u8]) -> Option<usize>
+    ensures bound { IfSome result (λ at. at ≤ length names.now) }
+    ensures cut { IfSome result (λ at. slice_split is_slash (drop at names.now)
+        ≡ drop count (slice_split is_slash names.now)) }
+    ensures before { IfSome result (λ at. is_ahead (drop at names.now) text.now ≡ true) }
+{
+    let bytes = names_at(names, count as usize)?;
+    if !is_rest_before(&names[bytes..], text) {
+        return None;
     }
-    if last {
+    Some(bytes)
+}
+
+/// Adds the id of the method whose address is the text and the plain parts, if there is one, and passes over all that begin with the
+/// text.
+fn take_below(
+    walk: &Walk<'_>,
+    at: usize,
+    text: &[u8],
+    plain: &[u8],
+    pace: Pace,
+    ids: &mut Vec<u32>,
+) -> (usize, Pace)
+    requires set { IsSet walk.now }
+    requires below { IsBelow walk.now.pattern.now
+        (methods_at walk.now.methods.now walk.now.places.now) at walk.now.wild text.now plain.now }
+    requires walked { IsWalked walk.now.pattern.now
+        (methods_at walk.now.methods.now walk.now.places.now) at ids.old.items }
+    requires room { length walk.now.places.now ≤ vec_capacity ids.old }
+    ensures on { at < result.0 }
+    ensures walked { IsWalked walk.now.pattern.now
+        (methods_at walk.now.methods.now walk.now.places.now) result.0 ids.new.items }
+    ensures capacity { vec_capacity ids.old ≤ vec_capacity ids.new }
+{
+    let next = count_before_near(walk.methods, walk.places, at + 1, pace.onward, text, plain);
+    add_spelled_at(walk, next, text, plain, ids);
+    let end = count_before_near(walk.methods, walk.places, at + 1, pace.past, text, b"\x7f");
+    let after = pace.went_on(next.saturating_sub(at + 1));
+    (end, after.passed(end.saturating_sub(at + 1)))
+}
+
+/// Adds the id of the method at the place, if its address is the text and the plain parts.
+fn add_spelled_at(walk: &Walk<'_>, place: usize, text: &[u8], plain: &[u8], ids: &mut Vec<u32>)
+    requires within { All (λ place. place < length walk.now.methods.now) walk.now.places.now }
+    requires room { vec_len ids.old < vec_capacity ids.old }
+    ensures ids { ids.new.items ≡ ids.old.items
+        ++ spelled_at (methods_at walk.now.methods.now walk.now.places.now) place
+        (text.now ++ plain.now) }
+    ensures capacity { vec_capacity ids.old ≤ vec_capacity ids.new }
+{
+    if place >= walk.places.len() {
+        return;
+    }
+    let method = &walk.methods[walk.places[place] as usize];
+    if is_spelled(method.address.bytes(), text, plain) {
+        add_id(method.id, ids);
+    }
+}
+
+/// Whether the address is the text and the plain parts.
+fn is_spelled(address: &[u8], text: &[u8], plain: &[u8]) -> bool
+    ensures { result ≡ bytes_eq address.now (text.now ++ plain.now) }
+{
+    address.starts_with(text) && &address[text.len()..] == plain
+}
+
+/// Where to go on after a method that doesn't match.
+fn pass_miss(walk: &Walk<'_>, at: usize, tried: &Tried<'_>, pace: Pace) -> (usize, Pace)
+    requires set { IsSet walk.now }
+    requires tried { IsTried walk.now.pattern.now
+        (methods_at walk.now.methods.now walk.now.places.now) at tried.now.address.now
+        tried.now.names.now tried.now.matching }
+    requires whole { (tried.now.matching == walk.now.parts
+        && tried.now.matching == length (slice_split is_slash tried.now.names.now)) ≡ false }
+    requires last { tried.now.is_last ≡ true
+        → length (slice_split is_slash tried.now.names.now) ≤ tried.now.matching + 1 }
+    requires more { tried.now.is_last ≡ true → tried.now.matching < walk.now.parts }
+    ensures on { at < result.0 }
+    ensures walked { (ids : List ℕ)
+        → IsWalked walk.now.pattern.now
+        (methods_at walk.now.methods.now walk.now.places.now) at ids
+        → IsWalked walk.now.pattern.now
+        (methods_at walk.now.methods.now walk.now.places.now) result.0 ids }
+{
+    if let Some(way) = find_way(walk, tried, pace.idle) {
+        let text = &tried.address[..1 + way.bytes + way.kept];
+        let guess = pace.guess(way.is_aim);
+        let next = count_before_near(walk.methods, walk.places, at + 1, guess, text, way.tail);
+        return (next, pace.went(way.is_aim, next.saturating_sub(at + 1)));
+    }
+    if tried.is_last {
         return (at + 1, pace.waited());
     }
-    let least = least_shared(matching, outline.parts) as usize;
-    let more = count_sharing(methods, &places[at + 1..], names, least);
+    let least = least_shared(tried.matching, walk.parts) as usize;
+    let more = count_sharing(walk.methods, &walk.places[at + 1..], tried.names, least);
     (at + 1 + more, pace.waited())
+}
+
+/// Where to go on by a search: at what an aim says, if one is looked for and found, else after all that begin with the
+/// name that doesn't match, if more follow it.
+fn find_way<'a>(walk: &Walk<'a>, tried: &Tried<'_>, idle: u32) -> Option<Way<'a>>
+    requires parts { walk.now.parts ≡ length (parts_of walk.now.pattern.now) }
+    requires low { All (λ byte. byte < 127) tried.now.names.now }
+    requires count { tried.now.matching
+        ≡ agreeing (parts_of walk.now.pattern.now) (slice_split is_slash tried.now.names.now) }
+    ensures kept { IfSome result (λ way. way.bytes + way.kept ≤ length tried.now.names.now) }
+    ensures on { IfSome result (λ way. IsOnward walk.now.pattern.now tried.now.names.now
+        tried.now.matching way.bytes
+        (take way.kept (drop way.bytes tried.now.names.now) ++ way.tail.now)) }
+{
+    if looks(idle)
+        && let Some((bytes, kept, tail)) = find_onward(
+            walk.pattern,
+            walk.parts,
+            tried.matching,
+            tried.names,
+        )
+    {
+        return Some(Way {
+            bytes,
+            kept,
+            tail,
+            is_aim: true,
+        });
+    }
+    if tried.is_last {
+        return None;
+    }
+    let (bytes, kept) = find_over(walk.pattern, walk.parts, tried.matching, tried.names)?;
+    Some(Way {
+        bytes,
+        kept,
+        tail: b"0",
+        is_aim: false,
+    })
+}
+
+/// What follows the names of a node that doesn't match: how many bytes stand before its last name, and how many that has.
+fn find_over(
+    pattern: &Pattern<'_>,
+    parts: u32,
+    matching: u32,
+    names: &[u8],
+) -> Option<(usize, usize)>
+    requires parts { parts ≡ length (parts_of pattern.now) }
+    requires low { All (λ byte. byte < 127) names.now }
+    requires count { matching ≡ agreeing (parts_of pattern.now) (slice_split is_slash names.now) }
+    ensures kept { IfSome result (λ on. on.0 + on.1 ≤ length names.now) }
+    ensures on { IfSome result (λ on. IsOnward pattern.now names.now matching on.0
+        (take on.1 (drop on.0 names.now) ++ 48 ∷ [])) }
+{
+    if matching >= parts {
+        return None;
+    }
+    let at = names_at(names, matching as usize)?;
+    let (name, more) = first_name(&names[at..]);
+    if more.is_none() {
+        return None;
+    }
+    Some((at, name.len()))
+}
+
+/// How many names are shared by all methods that are passed over with one whose parts match so far.
+fn least_shared(matching: u32, parts: u32) -> u32
+    requires { matching ≤ parts }
+    ensures { result ≡ if nat_lt matching parts then matching + 1 else matching }
+{
+    if matching < parts {
+        matching + 1
+    } else {
+        matching
+    }
 }
 
 /// The names that the method at this place has in common with the one before it, if any is. All begin with the front.
@@ -558,18 +883,6 @@ fn find_onward<'a>(
     let at = names_at(names, matching as usize)?;
     let (kept, tail) = find_aim(pattern.part(matching), &names[at..])?;
     Some((at, kept, tail))
-}
-
-/// How many names are shared by all methods that are passed over with one whose parts match so far.
-fn least_shared(matching: u32, parts: u32) -> u32
-    requires { matching ≤ parts }
-    ensures { result ≡ if nat_lt matching parts then matching + 1 else matching }
-{
-    if matching < parts {
-        matching + 1
-    } else {
-        matching
-    }
 }
 
 /// How many methods have at least so many names in common with an address, before the first that hasn't. Where

@@ -1,5 +1,5 @@
 // Where a text stands in the order of the methods' addresses.
-ghost use Rattle.std.specs.Prelude.{◌≡◌, ◌≤◌, ◌<◌, ◌++◌, length, take, true, All};
+ghost use Rattle.std.specs.Prelude.{◌≡◌, ◌≤◌, ◌<◌, ◌++◌, length, take, true, All, get_or};
 ghost use Rattle.std.specs.Ordering.{is_lt, nat_cmp};
 ghost use Rattle.std.specs.Cmp.Lexicographic.{slice_cmp};
 ghost use Rattle.osc_tree.specs.Matching.{IsAscending};
@@ -144,13 +144,15 @@ pub(crate) fn count_before_near(
         result result }
     ensures bound { result ≤ length places.now }
 {
-    if guess == 0 || guess >= places.len() - from {
+    if guess > places.len() - from {
         return count_before_after(methods, places, from, text, tail);
     }
     let next = from + guess;
-    let found = compare(methods, places[next], text, tail, 0);
-    if found.is_before {
+    if is_before_at(methods, places, next, text, tail) {
         return count_before_after(methods, places, next + 1, text, tail);
+    }
+    if guess == 0 {
+        return next;
     }
     let below = compare(methods, places[next - 1], text, tail, 0);
     if below.is_before {
@@ -165,6 +167,17 @@ pub(crate) fn count_before_near(
         begun: below.begun,
     };
     count_between(methods, places, low, high, text, tail)
+}
+
+/// Whether a method stands at the place, and is before the text.
+fn is_before_at(methods: &[Registered], places: &[u32], at: usize, text: &[u8], tail: &[u8]) -> bool
+    requires { All (λ place. place < length methods.now) places.now }
+    ensures yes { result ≡ true → at < length places.now }
+    ensures before { at < length places.now
+        → result ≡ is_before (text.now ++ tail.now)
+        (method_at methods.now (get_or places.now at 0)) }
+{
+    at < places.len() && compare(methods, places[at], text, tail, 0).is_before
 }
 
 /// The same, where all below one place are known to be, and none from another on. It halves what is between the two,
@@ -236,11 +249,14 @@ fn compare(methods: &[Registered], place: u32, text: &[u8], tail: &[u8], known: 
 }
 
 /// Whether what is left of an address is before a text. Its first byte mostly tells.
-fn is_rest_before(rest: &[u8], text: &[u8]) -> bool
+pub(crate) fn is_rest_before(rest: &[u8], text: &[u8]) -> bool
     ensures { result ≡ is_lt (slice_cmp nat_cmp rest.now text.now) }
 {
-    if !rest.is_empty() && !text.is_empty() && rest[0] != text[0] {
-        return rest[0] < text[0];
+    let end = rest.len().min(text.len());
+    for at in 0..end {
+        if rest[at] != text[at] {
+            return rest[at] < text[at];
+        }
     }
-    rest.cmp(text).is_lt()
+    end < text.len()
 }

@@ -10,8 +10,8 @@ use Rattle.osc_tree.proofs.Apart.{near_sorted, near_steps}
 use Rattle.osc_tree.proofs.Literals.{front_found}
 use Rattle.osc_tree.proofs.matches.look_up.Goals as goal
 
-pub walk-requires-clause-sorted : goal.walk-requires-clause-sorted
-walk-requires-clause-sorted g c =
+pub walk_near-requires-clause-sorted : goal.walk_near-requires-clause-sorted
+walk_near-requires-clause-sorted g c =
     near_sorted (take c.in-Some.end c.bytes-text.result.now) c.args.methods.now c.args.places.now c.beginning_with-near.result.now c.requires.list
     c.requires.order c.beginning_with-near.ensures.those
 
@@ -23,7 +23,7 @@ returns-else-parts-gt-MAX_NAMES-clause-ids g c =
     let front : text ≡ before_first is_special pattern =
     front_found c.bytes-text.result.now c.in-Some.end (sym c.first_special.ensures ∙ c.in-Some.is)
     ∙ ap (before_first is_special) c.bytes-text.ensures.value in
-    c.walk.ensures.ids
+    c.walk_near.ensures.ids
     ∙ ap (λ l. map (λ (method : Method). method.id) (filter (λ method. matches pattern method.address) l)) c.beginning_with-near.ensures.those
     ∙ ap (map (λ (method : Method). method.id)) (found_is pattern text c.args.methods.now c.args.places.now c.requires.list c.requires.order slash front)
 
@@ -31,15 +31,15 @@ pub returns-else-parts-gt-MAX_NAMES-clause-bounded : goal.returns-else-parts-gt-
 returns-else-parts-gt-MAX_NAMES-clause-bounded g c =
     let most = near_steps c.args.pattern.now (take c.in-Some.end c.bytes-text.result.now) c.args.methods.now c.args.places.now
     c.beginning_with-near.result.now c.requires.order c.beginning_with-near.ensures.those in
-    omega (arith, c.walk.ensures.bounded)
+    omega (arith, c.walk_near.ensures.bounded)
 
 pub returns-then-parts-gt-MAX_NAMES-clause-ids : goal.returns-then-parts-gt-MAX_NAMES-clause-ids
 returns-then-parts-gt-MAX_NAMES-clause-ids g c =
     let empty : c.add_choice.new.ids.items ≡ [] = search rules in
     empty ∙ sym (no_ids c.args.pattern.now (methods_of c.args.methods.now) c.requires.list (omega (arith, c.parts-parts.ensures.parts)))
 
-pub walk-requires-clause-front : goal.walk-requires-clause-front
-walk-requires-clause-front g c =
+pub walk_near-requires-clause-front : goal.walk_near-requires-clause-front
+walk_near-requires-clause-front g c =
     let text = c.bytes-text.result.now in
     let cut = front_cut text c.in-Some.end c.bytes-text.ensures.lawful.slash (sym c.first_special.ensures ∙ c.in-Some.is) in
     near_front (take c.in-Some.end text) (take (c.in-Some.end - 1) (drop 1 text)) c.whole_names-front.result.names c.whole_names-front.result.bytes

@@ -10,22 +10,25 @@ use Rattle.osc_tree.proofs.matches.walk_found.Goals as goal
 
 pub returns-clause-ids : goal.returns-clause-ids
 returns-clause-ids g c =
-    let near = methods_at c.args.methods.now c.args.near.now in
+    let walk = c.args.walk.now in
+    let near = methods_at walk.methods.now walk.places.now in
     let all : take c.loop-at.at near ≡ near =
-    take_all c.loop-at.at near (omega (arith, methods_at-length c.args.methods.now c.args.near.now, c.loop-at-test.false)) in
+    take_all c.loop-at.at near (omega (arith, methods_at-length walk.methods.now walk.places.now, c.loop-at-test.false)) in
     c.loop-at.invariant.walked.found
-    ∙ ap (λ l. map (λ (method : Method). method.id) (filter (λ method. matches c.args.pattern.now method.address) l)) all
+    ∙ ap (λ l. map (λ (method : Method). method.id) (filter (λ method. matches walk.pattern.now method.address) l)) all
 
 pub returns-clause-len : goal.returns-clause-len
 returns-clause-len g c =
-    let near = methods_at c.args.methods.now c.args.near.now in
-    let few = walked_few c.args.pattern.now near c.loop-at.at c.loop-at.ids.items c.loop-at.invariant.walked in
+    let walk = c.args.walk.now in
+    let near = methods_at walk.methods.now walk.places.now in
+    let few = walked_few walk.pattern.now near c.loop-at.at c.loop-at.ids.items c.loop-at.invariant.walked in
     let bound = c.loop-at.invariant.walked.bound in
-    omega (arith, methods_at-length c.args.methods.now c.args.near.now)
+    omega (arith, methods_at-length walk.methods.now walk.places.now)
 
 pub returns-clause-bounded : goal.returns-clause-bounded
 returns-clause-bounded g c =
-    let near = methods_at c.args.methods.now c.args.near.now in
+    let walk = c.args.walk.now in
+    let near = methods_at walk.methods.now walk.places.now in
     let all : take c.loop-at.at near ≡ near =
-    take_all c.loop-at.at near (omega (arith, methods_at-length c.args.methods.now c.args.near.now, c.loop-at-test.false)) in
-    omega (arith, c.loop-at.invariant.bounded, ap (most_steps c.args.pattern.now) all)
+    take_all c.loop-at.at near (omega (arith, methods_at-length walk.methods.now walk.places.now, c.loop-at-test.false)) in
+    omega (arith, c.loop-at.invariant.bounded, ap (most_steps walk.pattern.now) all)

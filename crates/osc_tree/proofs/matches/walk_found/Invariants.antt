@@ -5,11 +5,11 @@ use Rattle.osc_tree.proofs.matches.walk_found.Given as goal
 
 abbrev pub invariant-loop-at : goal.invariant-loop-at
 invariant-loop-at g l = record {
-  walked : IsWalked l.pattern (methods_at l.methods l.near) l.at l.ids.items;
+  walked : IsWalked l.walk.pattern.now (methods_at l.walk.methods.now l.walk.places.now) l.at l.ids.items;
   capacity : vec_capacity l.initial.ids ≤ vec_capacity l.ids;
   counted : l.initial.steps ≤ l.steps;
-  bounded : l.steps ≤ l.initial.steps + most_steps l.pattern (take l.at (methods_at l.methods l.near));
+  bounded : l.steps ≤ l.initial.steps + most_steps l.walk.pattern.now (take l.at (methods_at l.walk.methods.now l.walk.places.now));
 }
 
 abbrev pub decreases-loop-at : goal.decreases-loop-at
-decreases-loop-at g l = length l.near - l.at
+decreases-loop-at g l = length l.walk.places.now - l.at
