@@ -9,6 +9,7 @@ mod Reaches
 mod Moves
 mod Onward
 mod ReadOnce
+mod Repeats
 pub mod PatternLaws
 mod BarePatterns
 mod AddressLaws

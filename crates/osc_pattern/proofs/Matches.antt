@@ -11,7 +11,7 @@ use Rattle.osc_pattern.specs.declared.item.Item.TheVariants.{Any, Set, Plain}
 use Rattle.osc_pattern.specs.Views.{item_of}
 use Rattle.osc_pattern.proofs.Readings.{read_part-item, read_part-nil, read_part-stuck}
 
-never : (xs : List (List ℕ)) → list_any (λ name. false) xs ≡ false
+pub never : (xs : List (List ℕ)) → list_any (λ name. false) xs ≡ false
 never [] = refl
 never (x ∷ xs) = never xs
 

@@ -14,7 +14,7 @@ use Rattle.std.proofs.lemmas.Bool.Decides.{nat_tests}
 use Rattle.osc_pattern.specs.Items.{Item, star, plain, choice, is_comma, is_choice_end}
 use Rattle.osc_pattern.specs.Cuts.{rests, has_byte, after_byte, after_text, any_rest}
 use Rattle.osc_pattern.specs.Reading.{match_part}
-use Rattle.osc_pattern.specs.Views.{idle_bytes, begins_empty}
+use Rattle.osc_pattern.specs.Views.{idle_bytes, begins_empty, texts_left}
 use Rattle.std.specs.Prelude.{option_map}
 use Rattle.std.specs.List.{slice_split, onto_first}
 use Rattle.std.proofs.lemmas.List.Splits.{slice_split_none, slice_split-cons_yes, slice_split-cons_no, length-slice_split}
@@ -291,12 +291,6 @@ choice_texts test places name text texts more cut =
     ∙ list_any-append test (after_text rest text) (flat_map (after_text rest) more)) places 0 name
     ∙ any_rest-or (λ rest. list_any test (after_text rest text)) (λ rest. list_any test (flat_map (after_text rest) more)) places 0 name
 
--- what is left of a choice: the rest of the text that was begun, from the places that it has come to, and the other texts
-abbrev pub texts_left : (List ℕ → Bool) → (ℕ → Bool) → (ℕ → Bool) → List (List ℕ) → List ℕ → Bool
-texts_left test places all [] name = false
-texts_left test places all (text ∷ texts) name =
-    any_rest (λ rest. list_any test (after_text rest text)) places 0 name || any_rest (λ rest. list_any test (flat_map (after_text rest) texts)) all 0 name
-
 some_text : (xs : List ℕ) → 1 ≤ length (slice_split is_comma xs)
 some_text xs = omega (arith, length-slice_split is_comma xs)
 
@@ -343,7 +337,7 @@ byte_left test old new all byte (text ∷ more) name some none moves =
     ∙ sym (any_rest-same (λ rest. list_any test (after_text rest (byte ∷ text)))
     (λ rest. list_any (λ left. list_any test (after_text left text)) (after_byte (plain byte) rest)) (λ rest. text_byte test byte text rest) old 0 name))
 
-no_comma : (byte : ℕ) → (byte ≡ 44 → ⊥) → (byte == 44) ≡ false
+pub no_comma : (byte : ℕ) → (byte ≡ 44 → ⊥) → (byte == 44) ≡ false
 no_comma byte differs = go (byte == 44) refl where
   go : (t : Bool) → (byte == 44) ≡ t → t ≡ false
   go true e = absurd (differs (grind (arith, nat_tests, e)))

@@ -7,6 +7,7 @@ pub mod Patterns
 pub mod Bare
 pub mod Addresses
 pub mod Methods
+pub mod Repeats
 pub mod ReadyParts
 -- Inside the crate.
 pub mod Views

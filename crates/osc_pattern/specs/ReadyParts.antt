@@ -1,18 +1,19 @@
 -- Parts whose lists are read once for all names: what their items match, and that they stand for a
 -- part.
-use Rattle.std.specs.Prelude.{◌≡◌, ℕ, ◌+◌, ◌≤◌, ◌/◌, ◌%◌, Bool, true, false, ◌==◌, not}
+use Rattle.std.specs.Prelude.{◌≡◌, ℕ, ◌+◌, ◌*◌, ◌≤◌, ◌/◌, ◌%◌, Bool, true, false, ◌==◌, not}
 use Rattle.std.specs.Prelude.{if◌then◌else◌, List, [], ◌∷◌, length, take, get_or}
 use Rattle.std.specs.Int.{bit_at}
 use Rattle.std.specs.List.{list_any}
 use Rattle.osc_pattern.specs.declared.bytes.ByteSet.{ByteSet}
 use Rattle.osc_pattern.specs.declared.limits.TheConstants.{MOST_READY}
 use Rattle.osc_pattern.specs.declared.ready.Ready.{Ready}
-use Rattle.osc_pattern.specs.declared.ready.Ready.TheVariants.{Set, Other}
+use Rattle.osc_pattern.specs.declared.ready.Ready.TheVariants.{Set, Many, Other}
 use Rattle.osc_pattern.specs.declared.ready.ReadyPart.{ReadyPart}
 use Rattle.osc_pattern.specs.declared.ready.Part.{Part}
 use Rattle.osc_pattern.specs.Items.{item_text}
 use Rattle.osc_pattern.specs.Cuts.{after_item}
 use Rattle.osc_pattern.specs.Reading.{match_part}
+use Rattle.osc_pattern.specs.Repeats.{after_times}
 use Rattle.osc_pattern.specs.Views.{item_of}
 
 -- whether the byte is one of the set
@@ -32,6 +33,7 @@ after_one test (byte ∷ name) = if test byte then name ∷ [] else []
 -- what is left of a name after a text of an item that was made ready
 abbrev pub after_ready : Ready → List ℕ → List (List ℕ)
 after_ready (Set set) name = after_one (is_as set.bytes set.within) name
+after_ready (Many many) name = after_times many.times many.unit.now name
 after_ready (Other item) name = after_item (item_of item) name
 
 -- whether the items match a name, and the text after them
@@ -42,6 +44,7 @@ match_ready (item ∷ items) rest name = list_any (match_ready items rest) (afte
 -- how many bytes of a part an item takes at least
 abbrev pub ready_size : Ready → ℕ
 ready_size (Set set) = 1
+ready_size (Many many) = many.times * length many.unit.now
 ready_size (Other item) = length (item_text (item_of item))
 
 abbrev pub all_ready_size : List Ready → ℕ

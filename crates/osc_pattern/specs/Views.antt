@@ -5,7 +5,8 @@ use Rattle.std.specs.Int.{bit_at}
 use Rattle.osc_pattern.specs.declared.item.Item.{Item as Borrowed}
 use Rattle.osc_pattern.specs.declared.item.Item.TheVariants.{Any, Star, Set, Choice, Plain}
 use Rattle.osc_pattern.specs.declared.places.Places.{Places}
-use Rattle.osc_pattern.specs.Cuts.{any_rest}
+use Rattle.std.specs.List.{list_any, flat_map}
+use Rattle.osc_pattern.specs.Cuts.{any_rest, after_text}
 use Rattle.osc_pattern.specs.Items.{Item, any, star, set, choice, plain}
 
 abbrev pub item_of : Borrowed → Item
@@ -48,6 +49,14 @@ reached_from begun places at (suc more) = reached_from (begun || places at) plac
 -- whether what is left of the name passes the test at one of the places
 abbrev pub passes : (List ℕ → Bool) → Places → List ℕ → Bool
 passes test places name = any_rest test (is_place_of places) 0 name
+
+-- what is left of a choice: the rest of the text that was begun, from the places that it has come
+-- to, and the other texts
+abbrev pub texts_left : (List ℕ → Bool) → (ℕ → Bool) → (ℕ → Bool) → List (List ℕ) → List ℕ → Bool
+texts_left test places all [] name = false
+texts_left test places all (text ∷ texts) name =
+    any_rest (λ rest. list_any test (after_text rest text)) places 0 name
+    || any_rest (λ rest. list_any test (flat_map (after_text rest) texts)) all 0 name
 
 -- for each byte, the places that stand right before it are marked
 abbrev pub AreMarks : List ℕ → List ℕ → Type 0

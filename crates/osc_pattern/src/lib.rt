@@ -9,6 +9,7 @@ mod faults;
 mod item;
 pub mod laws;
 mod limits;
+mod many;
 mod marks;
 mod matcher;
 mod pattern;

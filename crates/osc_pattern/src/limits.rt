@@ -16,4 +16,4 @@ pub const MAX_PLACES: usize = 64;
 pub const MAX_NAMES: usize = 16;
 
 /// The most items of a part that are made ready. What follows them is read anew for each name.
-pub(crate) const MOST_READY: usize = 128;
+pub(crate) const MOST_READY: usize = 144;

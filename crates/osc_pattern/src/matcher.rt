@@ -1,18 +1,20 @@
 //! The matcher: one item of a part after another, and the places of the name that they reach.
 ghost use Rattle.osc_pattern.specs.declared.limits.TheConstants.{MAX_NAME};
-ghost use Rattle.std.specs.Prelude.{◌≡◌, ◌≤◌, ◌<◌, ◌+◌, ◌*◌, ℕ, Bool, false, List, ◌∷◌, length};
-ghost use Rattle.std.specs.Prelude.{IsTrue};
+ghost use Rattle.std.specs.Prelude.{◌≡◌, ◌≤◌, ◌<◌, ◌+◌, ◌*◌, ◌||◌, ℕ, Bool, false, List, ◌∷◌, length};
+ghost use Rattle.std.specs.Prelude.{IsTrue, IfSome, MatchOption, Some, None};
 ghost use Rattle.std.specs.List.{flat_map, list_any, slice_split};
-ghost use Rattle.osc_pattern.specs.Items.{is_comma, item_text, any, set, plain};
+ghost use Rattle.osc_pattern.specs.Items.{is_comma, item_text, any, set, choice, plain, Item as Spelled};
 ghost use Rattle.osc_pattern.specs.Cuts.{rests, after_text, after_byte, after_item};
-ghost use Rattle.osc_pattern.specs.Reading.{match_part};
+ghost use Rattle.osc_pattern.specs.Reading.{first_item, match_part};
 ghost use Rattle.osc_pattern.specs.Views.{item_of, passes, is_choice, idle_bytes, begins_empty};
-ghost use Rattle.osc_pattern.specs.Views.{AreMarks};
+ghost use Rattle.osc_pattern.specs.Views.{AreMarks, is_place_of, texts_left};
+ghost use Rattle.osc_pattern.specs.Repeats.{after_part, after_times};
 ghost use Rattle.osc_pattern.specs.ReadyParts.{match_ready, all_ready_size, ready_size};
 ghost use Rattle.osc_pattern.specs.ReadyParts.{after_ready, after_one, is_as};
 
 use crate::bytes::{ByteSet, ReadSet};
 use crate::item::{Item, first_item, has_byte};
+use crate::many::Many;
 use crate::marks::marks_of;
 use crate::places::Places;
 use crate::ready::{Part, Ready};
@@ -90,14 +92,120 @@ fn match_choices<L: Ledger>(part: &[u8], from: &Places, name: &[u8], steps: &mut
     let marks = marks_of(name);
     let mut reached = from.again();
     let mut part = part;
-    while let Some((item, others)) = first_item(part) {
+    loop {
         if reached.is_empty() {
             return false;
         }
-        reached = places_after_any(item, &reached, &marks, name, steps);
-        part = behind(item, others);
+        let Some((next, others)) = after_first(part, &reached, &marks, name, steps) else {
+            return part.is_empty() && reached.has(name.len());
+        };
+        reached = next;
+        part = others;
     }
-    part.is_empty() && reached.has(name.len())
+}
+
+/// The places that stand after a text of the part's first item from one of these, and what follows the item, without what
+/// adds nothing there.
+#[inline(always)]
+fn after_first<'a, L: Ledger>(
+    part: &'a [u8],
+    reached: &Places,
+    marks: &[u64; 256],
+    name: &[u8],
+    steps: &mut Steps<L>,
+) -> Option<(Places, &'a [u8])>
+    requires short { length name.now ≤ MAX_NAME }
+    requires marks { AreMarks marks.now name.now }
+    ensures value { MatchOption result (first_item part.now ≡ None)
+        (λ found. passes (match_part found.1.now) found.0 name.now
+        ≡ passes (match_part part.now) reached.now name.now) }
+    ensures counted { steps.old ≤ steps.new }
+    ensures bounded { steps.new ≤ steps.old + (length name.now + 1) * length part.now }
+    ensures size { IfSome result (λ found. steps.new + (length name.now + 1) * length found.1.now
+        ≤ steps.old + (length name.now + 1) * length part.now) }
+    ensures shorter { IfSome result (λ found. length found.1.now < length part.now) }
+{
+    let [first, others @ ..] = part else {
+        return None;
+    };
+    if *first == b'*' {
+        return Some((after_star(reached, steps), without_idle(others)));
+    }
+    let (next, left) = after_next(part, reached, marks, name, steps)?;
+    Some((next, without_empty(left)))
+}
+
+/// The places that stand after a text of the part's first item from one of these, and what follows the item. A choice's end
+/// is found on the way.
+#[inline(always)]
+fn after_next<'a, L: Ledger>(
+    part: &'a [u8],
+    reached: &Places,
+    marks: &[u64; 256],
+    name: &[u8],
+    steps: &mut Steps<L>,
+) -> Option<(Places, &'a [u8])>
+    requires short { length name.now ≤ MAX_NAME }
+    requires marks { AreMarks marks.now name.now }
+    ensures value { MatchOption result (first_item part.now ≡ None)
+        (λ found. (item : Spelled) × (first_item part.now ≡ Some (item, found.1.now))
+        × ((test : List ℕ → Bool) → passes test found.0 name.now
+        ≡ passes (λ rest. list_any test (after_item item rest)) reached.now name.now)) }
+    ensures counted { steps.old ≤ steps.new }
+    ensures bounded { steps.new ≤ steps.old + (length name.now + 1) * length part.now }
+    ensures size { IfSome result (λ found. steps.new + (length name.now + 1) * length found.1.now
+        ≤ steps.old + (length name.now + 1) * length part.now) }
+    ensures shorter { IfSome result (λ found. length found.1.now < length part.now) }
+{
+    let [first, texts @ ..] = part else {
+        return None;
+    };
+    if *first == b'{' {
+        return after_texts(texts, reached, marks, steps);
+    }
+    if *first == b'*' {
+        return Some((after_star(reached, steps), texts));
+    }
+    let (item, others) = first_item(part)?;
+    let next = places_after_any(item, reached, marks, name, steps);
+    Some((next, others))
+}
+
+/// The places that stand after one of the texts of a choice, and what follows its end. The text begins after its brace.
+#[inline(always)]
+fn after_texts<'a, L: Ledger>(
+    texts: &'a [u8],
+    reached: &Places,
+    marks: &[u64; 256],
+    steps: &mut Steps<L>,
+) -> Option<(Places, &'a [u8])>
+    ensures value { MatchOption result (first_item (123 ∷ texts.now) ≡ None)
+        (λ found. (own : List ℕ)
+        × (first_item (123 ∷ texts.now) ≡ Some (choice own, found.1.now))
+        × ((name : List ℕ) (test : List ℕ → Bool) → length name ≤ MAX_NAME
+        → AreMarks marks.now name → passes test found.0 name
+        ≡ passes (λ rest. list_any test (after_item (choice own) rest)) reached.now name)) }
+    ensures counted { steps.old ≤ steps.new }
+    ensures bounded { steps.new ≤ steps.old + length texts.now }
+    ensures size { IfSome result
+        (λ found. steps.new + length found.1.now ≤ steps.old + length texts.now) }
+    ensures shorter { IfSome result (λ found. length found.1.now < length texts.now) }
+{
+    let mut next = Places::none();
+    let mut places = reached.again();
+    let mut rest = texts;
+    loop {
+        let [byte, others @ ..] = rest else {
+            return None;
+        };
+        if *byte == b'}' {
+            steps.tick();
+            next.join(&places);
+            return Some((next, others));
+        }
+        try_byte(*byte, reached, marks, &mut places, &mut next, steps);
+        rest = others;
+    }
 }
 
 /// Whether a part whose items were made ready matches a name.
@@ -237,8 +345,68 @@ fn places_after_ready<L: Ledger>(
 {
     match item {
         Ready::Set(set) => after_one(&set.bytes, set.within, reached, name, steps),
+        Ready::Many(many) => after_many(many, reached, marks, name, steps),
         Ready::Other(item) => places_after_any(*item, reached, marks, name, steps),
     }
+}
+
+/// The places that stand after so many repeats of the items from one of these. Where one of them leaves the places as they
+/// were, the others do.
+#[inline(never)]
+fn after_many<L: Ledger>(
+    many: &Many<'_>,
+    from: &Places,
+    marks: &[u64; 256],
+    name: &[u8],
+    steps: &mut Steps<L>,
+) -> Places
+    requires short { length name.now ≤ MAX_NAME }
+    requires marks { AreMarks marks.now name.now }
+    ensures value { (test : List ℕ → Bool) → passes test result name.now
+        ≡ passes (λ rest. list_any test (after_times many.now.times many.now.unit.now rest))
+        from.now name.now }
+    ensures counted { steps.old ≤ steps.new }
+    ensures bounded { steps.new
+        ≤ steps.old + (length name.now + 1) * (many.now.times * length many.now.unit.now) }
+{
+    let mut reached = from.again();
+    let mut left = many.times;
+    while left > 0 {
+        let next = places_after_all(many.unit, &reached, marks, name, steps);
+        if next.is_same(&reached) {
+            return next;
+        }
+        reached = next;
+        left -= 1;
+    }
+    reached
+}
+
+/// The places that stand after the items of a text from one of these.
+fn places_after_all<L: Ledger>(
+    items: &[u8],
+    from: &Places,
+    marks: &[u64; 256],
+    name: &[u8],
+    steps: &mut Steps<L>,
+) -> Places
+    requires short { length name.now ≤ MAX_NAME }
+    requires marks { AreMarks marks.now name.now }
+    ensures value { (test : List ℕ → Bool) → passes test result name.now
+        ≡ passes (λ rest. list_any test (after_part items.now rest)) from.now name.now }
+    ensures counted { steps.old ≤ steps.new }
+    ensures bounded { steps.new ≤ steps.old + (length name.now + 1) * length items.now }
+{
+    let mut reached = from.again();
+    let mut items = items;
+    while let Some((next, others)) = after_next(items, &reached, marks, name, steps) {
+        reached = next;
+        items = others;
+    }
+    if items.is_empty() {
+        return reached;
+    }
+    Places::none()
 }
 
 /// The places that stand one byte after one of these, where the byte is in the set, or where it isn't.
@@ -424,19 +592,76 @@ fn after_choice<L: Ledger>(
 {
     let mut next = Places::none();
     let mut places = reached.again();
-    let mut texts = texts;
-    loop {
-        steps.tick();
-        let [byte, others @ ..] = texts else {
-            next.join(&places);
-            return next;
-        };
-        if *byte == b',' {
-            next.join(&places);
-            places = reached.again();
-        } else {
-            places = places.behind(marks[*byte as usize]);
-        }
+    let mut texts = try_eights(texts, reached, marks, &mut places, &mut next, steps);
+    while let [byte, others @ ..] = texts {
+        try_byte(*byte, reached, marks, &mut places, &mut next, steps);
         texts = others;
+    }
+    steps.tick();
+    next.join(&places);
+    next
+}
+
+/// Takes the places on by the bytes of a choice, eight at a time, and answers the bytes that are left, fewer than eight.
+fn try_eights<'a, L: Ledger>(
+    texts: &'a [u8],
+    reached: &Places,
+    marks: &[u64; 256],
+    places: &mut Places,
+    next: &mut Places,
+    steps: &mut Steps<L>,
+) -> &'a [u8]
+    ensures value { (name : List ℕ) (test : List ℕ → Bool) → length name ≤ MAX_NAME
+        → AreMarks marks.now name
+        → (passes test next.new name
+        || texts_left test (is_place_of places.new) (is_place_of reached.now)
+        (slice_split is_comma result.now) name)
+        ≡ (passes test next.old name
+        || texts_left test (is_place_of places.old) (is_place_of reached.now)
+        (slice_split is_comma texts.now) name) }
+    ensures counted { steps.old ≤ steps.new }
+    ensures bounded { steps.new + length result.now ≤ steps.old + length texts.now }
+{
+    let mut texts = texts;
+    while let [a, b, c, d, e, f, g, h, others @ ..] = texts {
+        try_byte(*a, reached, marks, places, next, steps);
+        try_byte(*b, reached, marks, places, next, steps);
+        try_byte(*c, reached, marks, places, next, steps);
+        try_byte(*d, reached, marks, places, next, steps);
+        try_byte(*e, reached, marks, places, next, steps);
+        try_byte(*f, reached, marks, places, next, steps);
+        try_byte(*g, reached, marks, places, next, steps);
+        try_byte(*h, reached, marks, places, next, steps);
+        texts = others;
+    }
+    texts
+}
+
+/// Takes the places on by one byte of a choice. A comma ends a text.
+#[inline(always)]
+fn try_byte<L: Ledger>(
+    byte: u8,
+    reached: &Places,
+    marks: &[u64; 256],
+    places: &mut Places,
+    next: &mut Places,
+    steps: &mut Steps<L>,
+)
+    ensures value { (name others : List ℕ) (test : List ℕ → Bool) → length name ≤ MAX_NAME
+        → AreMarks marks.now name
+        → (passes test next.new name
+        || texts_left test (is_place_of places.new) (is_place_of reached.now)
+        (slice_split is_comma others) name)
+        ≡ (passes test next.old name
+        || texts_left test (is_place_of places.old) (is_place_of reached.now)
+        (slice_split is_comma (byte ∷ others)) name) }
+    ensures counted { steps.new ≡ steps.old + 1 }
+{
+    steps.tick();
+    if byte == b',' {
+        next.join(places);
+        *places = reached.again();
+    } else {
+        *places = places.behind(marks[byte as usize]);
     }
 }

@@ -1,6 +1,6 @@
 //! Sets of places of a name.
 ghost use Rattle.osc_pattern.specs.declared.limits.TheConstants.{MAX_NAME, MAX_PLACES};
-ghost use Rattle.std.specs.Prelude.{◌≡◌, ◌<◌, ◌+◌, ◌||◌, ◌&&◌, ◌==◌, ℕ, false, IsTrue};
+ghost use Rattle.std.specs.Prelude.{◌≡◌, ◌<◌, ◌+◌, ◌||◌, ◌&&◌, ◌==◌, ℕ, true, false, IsTrue};
 ghost use Rattle.std.specs.Int.{bit_at};
 ghost use Rattle.osc_pattern.specs.Views.{is_place_of, reached_from};
 
@@ -40,6 +40,13 @@ impl Places {
         ensures { IsTrue result → (place : ℕ) → is_place_of self.now place ≡ false }
     {
         self.bits == 0
+    }
+
+    /// Whether both have the same places.
+    pub(crate) fn is_same(&self, other: &Places) -> bool
+        ensures { result ≡ true → self.now ≡ other.now }
+    {
+        self.bits == other.bits
     }
 
     /// The same places.

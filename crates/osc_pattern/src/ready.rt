@@ -1,20 +1,27 @@
 //! Parts whose lists are read once for all names.
 ghost use Rattle.osc_pattern.specs.declared.limits.TheConstants.{MOST_READY};
 ghost use Rattle.std.specs.Prelude.{◌≡◌, ◌≤◌, ◌+◌, ℕ, List, [], length, take, true};
+ghost use Rattle.std.specs.Prelude.{Bool, IfSome};
+ghost use Rattle.std.specs.List.{list_any};
+ghost use Rattle.osc_pattern.specs.Reading.{match_part};
 ghost use Rattle.osc_pattern.specs.Items.{item_text};
+ghost use Rattle.std.specs.Prelude.{◌*◌};
 ghost use Rattle.osc_pattern.specs.Cuts.{after_item};
+ghost use Rattle.osc_pattern.specs.Repeats.{after_times};
 ghost use Rattle.osc_pattern.specs.Views.{item_of};
 ghost use Rattle.osc_pattern.specs.ReadyParts.{after_ready, match_ready, ready_size, IsReadOf, StandsFor};
 
 use crate::bytes::ReadSet;
 use crate::item::{Item, first_item};
 use crate::limits::MOST_READY;
+use crate::many::{Many, first_many, first_run, without_repeats};
 use crate::matcher::{behind, without_empty};
 
 /// An item whose list, if it is one, has been read.
 #[derive(Clone, Copy)]
 pub(crate) enum Ready<'a> {
     Set(ReadSet),
+    Many(Many<'a>),
     Other(Item<'a>),
 }
 
@@ -53,12 +60,12 @@ impl<'a> ReadyPart<'a> {
         let mut count = 0;
         let mut rest = without_empty(part);
         while count < MOST_READY {
-            let Some((item, others)) = first_item(rest) else {
+            let Some((item, others)) = first_ready(rest, count < MOST_ALONE) else {
                 break;
             };
-            items[count] = ready_item(item);
+            items[count] = item;
             count += 1;
-            rest = behind(item, others);
+            rest = others;
         }
         ReadyPart { items, count, rest }
     }
@@ -102,14 +109,50 @@ impl<'a> Part<'a> {
     }
 }
 
-/// The item, with its list read.
+/// Choices and stars after so many items are made ready all together, so that there is room for the lists after them.
+const MOST_ALONE: usize = 16;
+
+/// What the part begins with, made ready, and what follows it without what adds nothing there.
+fn first_ready(part: &[u8], alone: bool) -> Option<(Ready<'_>, &[u8])>
+    ensures same { IfSome result (λ found. (name : List ℕ)
+        → list_any (match_part found.1.now) (after_ready found.0 name) ≡ match_part part.now name) }
+    ensures size { IfSome result
+        (λ found. ready_size found.0 + length found.1.now ≤ length part.now) }
+{
+    if let Some((many, others)) = first_together(part, alone) {
+        return Some((Ready::Many(many), others));
+    }
+    match first_item(part) {
+        Some((item, others)) => Some((ready_item(item), behind(item, others))),
+        None => None,
+    }
+}
+
+/// What repeats, or all choices and stars that the part begins with.
+fn first_together(part: &[u8], alone: bool) -> Option<(Many<'_>, &[u8])>
+    ensures same { IfSome result (λ found. (name : List ℕ)
+        → list_any (match_part found.1.now) (after_times found.0.times found.0.unit.now name)
+        ≡ match_part part.now name) }
+    ensures size { IfSome result
+        (λ found. found.0.times * length found.0.unit.now + length found.1.now
+        ≤ length part.now) }
+{
+    if alone {
+        return first_many(part);
+    }
+    first_run(part)
+}
+
+/// The item, with its list read, or its choice without what stands twice.
 fn ready_item(item: Item<'_>) -> Ready<'_>
-    ensures same { (name : List ℕ)
-        → after_ready result name ≡ after_item (item_of item.entry) name }
+    ensures same { (name : List ℕ) (test : List ℕ → Bool)
+        → list_any test (after_ready result name)
+        ≡ list_any test (after_item (item_of item.entry) name) }
     ensures size { ready_size result ≤ length (item_text (item_of item.entry)) }
 {
     match item {
         Item::Set(list) => Ready::Set(ReadSet::uncounted(list)),
-        Item::Any | Item::Star | Item::Choice(_) | Item::Plain(_) => Ready::Other(item),
+        Item::Choice(texts) => Ready::Other(Item::Choice(without_repeats(texts))),
+        Item::Any | Item::Star | Item::Plain(_) => Ready::Other(item),
     }
 }

@@ -146,7 +146,7 @@ fn finds<L: Ledger, R: Abort>(
     requires limit { tree.now.method_limit ≤ hits.old.limit }
     ensures limit { hits.new.limit ≡ hits.old.limit }
 {
-    if pattern.len() > 100 {
+    if pattern.len() > 400 {
         return Err(Fail::new("a pattern"));
     }
     let pattern = Pattern::check(pattern).ok().ok_or("a pattern")?;
@@ -156,13 +156,26 @@ fn finds<L: Ledger, R: Abort>(
 }
 
 /// Patterns, and the ids of the methods that they match.
-const FOUND: [(&[u8], &[u32]); 6] = [
+const FOUND: [(&[u8], &[u32]); 9] = [
     (b"/*/x", &[1, 0]),
     (b"/a*/x", &[1, 0]),
     (b"/a/?", &[0]),
     (b"/a/x", &[0]),
     (b"/b", &[]),
     (b"/?", &[2]),
+    // Patterns of over 256 bytes are read once for all names.
+    (
+        b"/{a,}{a,}{a,}{a,}{a,}{a,}{a,}{a,}{a,}{a,}{a,}{a,}{a,}{a,}{a,}{a,}{a,}{a,}{a,}{a,}{a,}{a,}{a,}{a,}{a,}{a,}{a,}{a,}{a,}{a,}{a,}{a,}{a,}{a,}{a,}{a,}{a,}{a,}{a,}{a,}{a,}{a,}{a,}{a,}{a,}{a,}{a,}{a,}{a,}{a,}{a,}{a,}{a,}{a,}{a,}{a,}{a,}{a,}{a,}{a,}{a,}{a,}{a,}{a,}{a,}{a,}/x",
+        &[0],
+    ),
+    (
+        b"/{,a}{,-}{,b}{,a}{,-}{,b}{,a}{,-}{,b}{,a}{,-}{,b}{,a}{,-}{,b}{,a}{,-}{,b}{,a}{,-}{,b}{,a}{,-}{,b}{,a}{,-}{,b}{,a}{,-}{,b}{,a}{,-}{,b}{,a}{,-}{,b}{,a}{,-}{,b}{,a}{,-}{,b}{,a}{,-}{,b}{,a}{,-}{,b}{,a}{,-}{,b}{,a}{,-}{,b}{,a}{,-}{,b}{,a}{,-}{,b}{,a}{,-}{,b}{,a}{,-}{,b}/x",
+        &[1, 0],
+    ),
+    (
+        b"/{a,a,a,a,a,a,a,a,a,a,a,a,a,a,a,a,a,a,a,a,a,a,a,a,a,a,a,a,a,a,a,a,a,a,a,a,a,a,a,a,a,a,a,a,a,a,a,a,a,a,a,a,a,a,a,a,a,a,a,a,a,a,a,a,a,a,a,a,a,a,a,a,a,a,a,a,a,a,a,a,a,a,a,a,a,a,a,a,a,a,a,a,a,a,a,a,a,a,a,a,a,a,a,a,a,a,a,a,a,a,a,a,a,a,a,a,a,a,a,a,a,a,a,a,a,a,a,a,a,a,a}-b/x",
+        &[1],
+    ),
 ];
 
 fn match_all<L: Ledger, R: Abort>(rt: &R, alloc: Global, blank: Blank) -> Result<(), Fail>
@@ -187,4 +200,44 @@ fn match_all<L: Ledger, R: Abort>(rt: &R, alloc: Global, blank: Blank) -> Result
 #[test]
 fn the_matching_methods_stand_in_the_order_of_their_bytes(rt: HostRuntime) -> Result<(), Fail> {
     match_all::<Brand, HostRuntime>(&rt, rt.alloc(), Blank::new(1))
+}
+
+/// Methods of several nodes, some with the same name below another, and one two nodes deep.
+const NODES: [&[u8]; 7] = [
+    b"/a/m", b"/a/x", b"/b/k/x", b"/b/x", b"/c/a", b"/cc/x", b"/cc0/x",
+];
+
+/// Patterns with plain parts after a part that isn't, and one with a node that doesn't match before others.
+const FOUND_BELOW: [(&[u8], &[u32]); 8] = [
+    (b"/*/x", &[1, 3, 5, 6]),
+    (b"/?/x", &[1, 3]),
+    (b"/[ac]*/x", &[1, 5, 6]),
+    (b"/*/k/x", &[2]),
+    (b"/*0/x", &[6]),
+    (b"/*/y", &[]),
+    (b"/[!a]/?", &[3, 4]),
+    (b"/?/*", &[0, 1, 3, 4]),
+];
+
+fn match_below<L: Ledger, R: Abort>(rt: &R, alloc: Global, blank: Blank) -> Result<(), Fail>
+    requires name { blank.name ≡ L.name }
+    requires parts { blank.parts ≡ L.parts }
+    requires some { 0 < blank.parts }
+{
+    let mut steps: Steps<L> = Steps::new(blank);
+    let mut tree = Tree::open(alloc, 7, 13)?;
+    let mut next = 0;
+    for text in NODES {
+        play(alloc, &mut tree, &mut next, Event::Add(text))?;
+    }
+    let mut hits = Hits::open(alloc, 7)?;
+    for (pattern, ids) in FOUND_BELOW {
+        finds(rt, &tree, pattern, ids, &mut hits, &mut steps)?;
+    }
+    Ok(())
+}
+
+#[test]
+fn plain_parts_after_names_that_match_make_one_address(rt: HostRuntime) -> Result<(), Fail> {
+    match_below::<Brand, HostRuntime>(&rt, rt.alloc(), Blank::new(1))
 }

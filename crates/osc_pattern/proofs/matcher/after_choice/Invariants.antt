@@ -2,8 +2,7 @@ use Rattle.std.proofs.Common.{◌≡◌, ◌≤◌, ◌+◌, ◌||◌, ℕ, Bool
 use Rattle.std.specs.List.{flat_map, list_any, slice_split}
 use Rattle.osc_pattern.specs.Items.{is_comma}
 use Rattle.osc_pattern.specs.Cuts.{after_text}
-use Rattle.osc_pattern.specs.Views.{is_place_of, passes, AreMarks}
-use Rattle.osc_pattern.proofs.Moves.{texts_left}
+use Rattle.osc_pattern.specs.Views.{is_place_of, passes, AreMarks, texts_left}
 use Rattle.osc_pattern.proofs.matcher.after_choice.Given as goal
 
 abbrev pub invariant-loop-texts : goal.invariant-loop-texts
@@ -11,7 +10,7 @@ invariant-loop-texts g l =
     ((name : List ℕ) (test : List ℕ → Bool) → length name ≤ 63 → AreMarks l.marks name
     → (passes test l.next name || texts_left test (is_place_of l.places) (is_place_of l.reached) (slice_split is_comma l.texts) name)
     ≡ passes (λ rest. list_any test (flat_map (after_text rest) (slice_split is_comma l.fn.texts))) l.reached name)
-    × (l.initial.steps ≤ l.steps) × (l.steps + length l.texts ≤ l.initial.steps + length l.fn.texts)
+    × (l.initial.steps ≤ l.steps) × (l.steps + length l.texts ≤ l.initial.steps + length l.initial.texts)
 
 abbrev pub decreases-loop-texts : goal.decreases-loop-texts
 decreases-loop-texts g l = length l.texts

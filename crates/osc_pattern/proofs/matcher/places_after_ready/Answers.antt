@@ -13,3 +13,8 @@ pub returns-in-Other-clause-value : goal.returns-in-Other-clause-value
 returns-in-Other-clause-value g c = λ test.
     c.places_after_any.ensures.value test
     ∙ ap (λ i. passes (λ rest. list_any test (after_ready i rest)) c.args.reached.now c.args.name.now) (sym c.in-Other.is)
+
+pub returns-in-Many-clause-value : goal.returns-in-Many-clause-value
+returns-in-Many-clause-value g c = λ test.
+    c.after_many.ensures.value test
+    ∙ ap (λ i. passes (λ rest. list_any test (after_ready i rest)) c.args.reached.now c.args.name.now) (sym c.in-Many.is)

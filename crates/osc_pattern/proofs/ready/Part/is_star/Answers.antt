@@ -1,4 +1,4 @@
-use Rattle.std.proofs.Common.{◌≡◌, length, arith, rules, sym, ◌∙◌}
+use Rattle.std.proofs.Common.{◌≡◌, length, rules}
 use Rattle.osc_pattern.proofs.ReadOnce.{star_ready}
 use Rattle.osc_pattern.proofs.ready.Part.is_star.Goals as goal
 

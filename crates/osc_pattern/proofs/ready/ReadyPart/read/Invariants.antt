@@ -3,7 +3,7 @@ use Rattle.osc_pattern.specs.ReadyParts.{IsReady}
 use Rattle.osc_pattern.proofs.ready.ReadyPart.read.Given as goal
 
 abbrev pub invariant-loop-count : goal.invariant-loop-count
-invariant-loop-count l = (length l.items ≡ 128) × (l.count ≤ 128) × IsReady (take l.count l.items) l.rest l.part
+invariant-loop-count l = (length l.items ≡ 144) × (l.count ≤ 144) × IsReady (take l.count l.items) l.rest l.part
 
 abbrev pub decreases-loop-count : goal.decreases-loop-count
-decreases-loop-count l = 128 - l.count
+decreases-loop-count l = 144 - l.count
