@@ -7,6 +7,7 @@ pub mod Meeting
 pub mod Pumping
 pub mod PlayedAgain
 pub mod Roomier
+pub mod Unreading
 pub mod Resumed
 pub mod Backs
 pub mod Copies

@@ -2,7 +2,7 @@
 use Rattle.std.proofs.Common.{◌≢◌, ◌⊎◌, inl, inr, ne_eqb, ◌≡◌, ℕ, zero, suc, ◌+◌, ◌<◌, ◌≤◌, ◌==◌, Bool, true, false, not, cond, List, [], ◌∷◌, ◌++◌, length}
 use Rattle.std.proofs.Common.{map, drop, filter, Option, Some, None}
 use Rattle.std.proofs.Common.{append_assoc, refl, sym, ap, subst, ◌∙◌, arith, is_some}
-use Rattle.std.specs.Prelude.{slice_get, option_to_list}
+use Rattle.std.specs.Prelude.{slice_get}
 use Rattle.std.proofs.lemmas.List.Sums.{sum_by-cons, sum_by-append, sum_by_push}
 use Rattle.std.specs.List.{AllByRecursion, Contains, cons_option}
 use Rattle.std.proofs.lemmas.List.{map-append, append-nil, length-drop}
@@ -26,7 +26,7 @@ use Rattle.osc_model.proofs.Stepping.{step_so, decided_so}
 use Rattle.osc_tree.proofs.Lists.{all_filter}
 use Rattle.osc_core.specs.Redoing.{Redoes, HandsIn, with_entry, told_as}
 use Rattle.osc_core.specs.Standing.{mark_of}
-use Rattle.osc_live.specs.Resuming.{needed_by, takes_box, added_in, removed_id, addresses_in, HasMarkOf}
+use Rattle.osc_live.specs.Resuming.{needed_by, takes_box, added_in, removed_id, HasMarkOf}
 use Rattle.osc_live.specs.Redone.{Takes, Moves, TellsMarkOf, HeardTill, IsRedone}
 
 -- What is handed in.
@@ -232,10 +232,6 @@ get_dropped zero (y ∷ xs) rest x e = (let here : y ≡ x = cc in ap Some here,
 get_dropped (suc k) [] rest x e = absurd (cc)
 get_dropped (suc k) (y ∷ xs) rest x e = get_dropped k xs rest x e
 
-cancelled : {X : Type 0} (o : Option X) (xs ys : List X) → option_to_list o ++ xs ≡ cons_option o ys → xs ≡ ys
-cancelled None xs ys e = e
-cancelled (Some x) xs ys e = let rest : xs ≡ ys = cc in rest
-
 module _ {M : Type 0} (keep : M → Fixed) (heard : M → Option (List ℕ)) where
   marks_hear : (bank : List M) (calls : List Invocation) (boxes : List Told) → AllByRecursion (TellsMarkOf keep heard bank) boxes
       → AllByRecursion (TellsMarkOf keep heard bank) (all_hear calls boxes)
@@ -312,14 +308,13 @@ module _ {M : Type 0} (keep : M → Fixed) (heard : M → Option (List ℕ)) whe
       (subst (AllByRecursion (TellsMarkOf keep heard bank)) (sym hears) (marks_hear bank calls boxes marks)) outs kept same
 
   -- no entry is played yet
-  pub redone_none : (caps : Limits) (history : List Entry) (bank : List M) (performance : Performance) (boxes : List Told) (addresses : List (List ℕ))
-      (out : List (ℕ × M)) → performance.caps ≡ caps → performance.history ≡ [] → boxes ≡ [] → out ≡ [] → addresses ≡ addresses_in history
-      → IsRedone keep heard caps history bank history performance boxes addresses bank out
-  redone_none caps history bank performance boxes addresses out limits none bare nothing are = record {
+  pub redone_none : (caps : Limits) (history : List Entry) (bank : List M) (performance : Performance) (boxes : List Told)
+      (out : List (ℕ × M)) → performance.caps ≡ caps → performance.history ≡ [] → boxes ≡ [] → out ≡ []
+      → IsRedone keep heard caps history bank history performance boxes bank out
+  redone_none caps history bank performance boxes out limits none bare nothing = record {
     before = [];
     all = refl;
     played = λ i. record { caps = limits i; history = none i };
-    addresses_are = are;
     rest_is = refl;
     marks = subst (AllByRecursion (TellsMarkOf keep heard bank)) (sym bare) tt;
     covers = λ id below. absurd (let none : added_in [] ≡ 0 = refl in omega arith);
@@ -330,10 +325,10 @@ module _ {M : Type 0} (keep : M → Fixed) (heard : M → Option (List ℕ)) whe
 
   -- what the next entry is on the server that played those before it
   pub next_is : (caps : Limits) (history : List Entry) (bank : List M) (entry : Entry) (left : List Entry) (performance : Performance) (boxes : List Told)
-      (addresses : List (List ℕ)) (rest : List M) (out : List (ℕ × M)) → Legal caps history
-      → (is : IsRedone keep heard caps history bank (entry ∷ left) performance boxes addresses rest out)
+      (rest : List M) (out : List (ℕ × M)) → Legal caps history
+      → (is : IsRedone keep heard caps history bank (entry ∷ left) performance boxes rest out)
       → LegalFrom (after (opening performance.caps) performance.history) (entry ∷ left) × (added_in is.before + added_in (entry ∷ left) ≡ added_in history)
-  next_is caps history bank entry left performance boxes addresses rest out legal is = (
+  next_is caps history bank entry left performance boxes rest out legal is = (
     subst (λ (p : Performance). LegalFrom (after (opening p.caps) p.history) (entry ∷ left)) (sym is.played)
         (legal_split (opening caps) is.before (entry ∷ left) (subst (LegalFrom (opening caps)) is.all legal.1)).1,
     sym (ap added_in is.all ∙ sum_by-append (λ (e : Entry). one_if (is_added e.answer)) is.before (entry ∷ left)),
@@ -452,13 +447,12 @@ module _ {M : Type 0} (keep : M → Fixed) (heard : M → Option (List ℕ)) whe
 
   -- one entry more is played again
   pub redone_more : (caps : Limits) (history : List Entry) (bank : List M) (entry : Entry) (left : List Entry) (performance next : Performance)
-      (calls : List Invocation) (boxes new : List Told) (addresses fewer : List (List ℕ)) (rest less : List M) (out more : List (ℕ × M)) → Legal caps history
+      (calls : List Invocation) (boxes new : List Told) (rest less : List M) (out more : List (ℕ × M)) → Legal caps history
       → HaveHeard performance boxes
-      → IsRedone keep heard caps history bank (entry ∷ left) performance boxes addresses rest out → next ≡ with_entry performance entry
-      → addresses ≡ option_to_list (needed_by entry.event entry.answer) ++ fewer
+      → IsRedone keep heard caps history bank (entry ∷ left) performance boxes rest out → next ≡ with_entry performance entry
       → Moves keep heard entry.event entry.answer calls rest less boxes new out more
-      → IsRedone keep heard caps history bank left next new fewer less more
-  redone_more caps history bank entry left performance next calls boxes new addresses fewer rest less out more legal have is on split moves =
+      → IsRedone keep heard caps history bank left next new less more
+  redone_more caps history bank entry left performance next calls boxes new rest less out more legal have is on moves =
       let parts = legal_split (opening caps) is.before (entry ∷ left) (subst (LegalFrom (opening caps)) is.all legal.1) in
       let state = after (opening caps) is.before in
       let gave = given state entry.event in
@@ -474,7 +468,6 @@ module _ {M : Type 0} (keep : M → Fixed) (heard : M → Option (List ℕ)) whe
         before = is.before ++ entry ∷ [];
         all = is.all ∙ sym (append_assoc is.before (entry ∷ []) left);
         played = on ∙ ap (λ (p : Performance). with_entry p entry) is.played;
-        addresses_are = cancelled (needed_by entry.event entry.answer) fewer (addresses_in left) (sym split ∙ is.addresses_are);
         rest_is = moved.rest ∙ ap (λ (n : ℕ). drop n bank)
             (let e : k + one_if (takes_box entry.event entry.answer) ≡ added_in (is.before ++ entry ∷ []) =
             omega (arith, added_more is.before entry, one_or takes) in e);
@@ -498,24 +491,19 @@ module _ {M : Type 0} (keep : M → Fixed) (heard : M → Option (List ℕ)) whe
             (all_older caps is.before entry out is.out_heard);
       }
 
-listed : {X : Type 0} (o : Option X) (xs ys : List X) → xs ≡ cons_option o ys → xs ≡ option_to_list o ++ ys
-listed None xs ys e = e
-listed (Some x) xs ys e = e
-
 -- what the next entry asks for is there
-pub record Asks {M : Type 0} (entry : Entry) (performance : Performance) (addresses : List (List ℕ)) (rest : List M) : Type 0 where
+pub record Asks {M : Type 0} (entry : Entry) (performance : Performance) (rest : List M) : Type 0 where
   pub caller : entry.caller < (state_of performance).callers
   pub lawful : IsLawful entry.event
   pub answer : entry.answer ≡ (stepped_in performance entry.event).answer
-  pub address : (left : List (List ℕ)) × (addresses ≡ option_to_list (needed_by entry.event entry.answer) ++ left)
   pub method : takes_box entry.event entry.answer ≡ true → 0 < length rest
 
 pub asks : {M : Type 0} (keep : M → Fixed) (heard : M → Option (List ℕ)) (caps : Limits) (history : List Entry) (bank : List M) (entry : Entry)
-    (left : List Entry) (performance : Performance) (boxes : List Told) (addresses : List (List ℕ)) (rest : List M) (out : List (ℕ × M))
+    (left : List Entry) (performance : Performance) (boxes : List Told) (rest : List M) (out : List (ℕ × M))
     → Legal caps history → added_in history ≤ length bank
-    → IsRedone keep heard caps history bank (entry ∷ left) performance boxes addresses rest out → Asks entry performance addresses rest
-asks keep heard caps history bank entry left performance boxes addresses rest out legal enough is =
-    let next = next_is keep heard caps history bank entry left performance boxes addresses rest out legal is in
+    → IsRedone keep heard caps history bank (entry ∷ left) performance boxes rest out → Asks entry performance rest
+asks keep heard caps history bank entry left performance boxes rest out legal enough is =
+    let next = next_is keep heard caps history bank entry left performance boxes rest out legal is in
     let state = state_of performance in
     let takes : is_added entry.answer ≡ takes_box entry.event entry.answer =
     subst (λ (a : Answer). is_added a ≡ takes_box entry.event a) (sym next.0.3) (given state entry.event).takes in
@@ -523,7 +511,6 @@ asks keep heard caps history bank entry left performance boxes addresses rest ou
       caller = next.0.0;
       lawful = next.0.1;
       answer = next.0.3;
-      address = (addresses_in left, listed (needed_by entry.event entry.answer) addresses (addresses_in left) is.addresses_are);
       method = λ some. omega (
         arith,
         next.1,

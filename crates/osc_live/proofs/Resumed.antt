@@ -1,9 +1,10 @@
 -- What a server is that goes on from a recording.
 use Rattle.std.proofs.Common.{◌≡◌, ℕ, zero, suc, ◌+◌, ◌≢◌, ◌<◌, ◌≤◌, ◌==◌, Bool, true, cond, All, ne_eqb, List, [], ◌∷◌, ◌++◌, length, map, drop, Option, Some}
 use Rattle.std.proofs.Common.{refl, sym, ap, subst, ◌∙◌, arith}
-use Rattle.std.proofs.lemmas.List.{append-nil, map-append}
+use Rattle.std.proofs.lemmas.List.{append-nil, map-append, length-drop}
+use Rattle.std.proofs.lemmas.List.Sums.{sum_by-append}
 use Rattle.std.proofs.lemmas.List.Elements.{All-from_recursion, recursion_from_All, filter-append}
-use Rattle.std.specs.Prelude.{slice_get, Result, Ok, Err, IfOk, OnOk, IsOkAnd}
+use Rattle.std.specs.Prelude.{slice_get, Result, Ok, Err, IfOk, OnOk}
 use Rattle.std.specs.List.{AllByRecursion, Contains, list_all, insert, flat_map, filter}
 use Rattle.std.specs.Option.{option_map}
 use Rattle.osc_laws.proofs.Members.{sent_from}
@@ -13,7 +14,7 @@ use Rattle.osc_turn.specs.History.{entries_of, texts, own}
 use Rattle.osc_turn.specs.Passes.{view}
 use Rattle.osc_model.specs.Limits.{Limits}
 use Rattle.osc_model.specs.State.{State, opening}
-use Rattle.osc_model.specs.Events.{removed, Entry, Invocation}
+use Rattle.osc_model.specs.Events.{removed, Entry, Invocation, is_added}
 use Rattle.osc_model.specs.Step.{step}
 use Rattle.osc_model.proofs.Onward.{after_more, invoked_more, legal_split}
 use Rattle.osc_model.proofs.Silence.{loses}
@@ -24,7 +25,7 @@ use Rattle.osc_model.specs.History.{Legal, Performance, state_of, after, invocat
 use Rattle.osc_core.specs.Redoing.{told_as}
 use Rattle.osc_core.specs.Standing.{mark_of, AreTexts, history_in, CarriesMark, StandsFor}
 use Rattle.osc_live.specs.Resuming.{added_in, removed_in, roomier, first_resumed, other_resumed, others_resumed, all_resumed, HasMarkOf, HaveHeardAll, Resumes}
-use Rattle.osc_live.specs.Redone.{TellsMarkOf, HeardTill, IsRedone}
+use Rattle.osc_live.specs.Redone.{TellsMarkOf, HeardTill, IsRedone, IsOut}
 use Rattle.osc_live.specs.declared.caller.Caller.{Caller}
 use Rattle.osc_live.specs.Seen.{history_of, names, names_own}
 use Rattle.osc_live.specs.Closing.{known}
@@ -38,12 +39,6 @@ ok_there {A} {E} P r x is held = subst (λ (z : Result A E). IfOk z P) is held
 
 pub on_ok : {A E P : Type 0} (r : Result A E) (x : A) → r ≡ Ok x → OnOk r P → P
 on_ok {A} {E} {P} r x is held = subst (λ (z : Result A E). OnOk z P) is held
-
-pub both_ok : {A E : Type 0} (P : A → Type 0) (r : Result A E) (x : A) → r ≡ Ok x → IsOkAnd r P → P x
-both_ok {A} {E} P r x is held = subst (λ (z : Result A E). IsOkAnd z P) is held
-
-pub none_wrong : {A E : Type 0} (P : A → Type 0) (r : Result A E) (e : E) → r ≡ Err e → IsOkAnd r P → ⊥
-none_wrong {A} {E} P r e is held = subst (λ (z : Result A E). IsOkAnd z P) is held
 
 -- Tokens, one after another.
 
@@ -119,19 +114,18 @@ module _ {M : Type 0} (keep : M → Fixed) (heard : M → Option (List ℕ)) whe
   -- what is known once all entries are played again
   pub record IsWhole (limits : Limits) (history : List Entry) (bank : List M) (performance : Performance) (boxes : List Told) (rest : List M)
       (out : List (ℕ × M)) : Type 0 where
-    pub addresses : List (List ℕ)
-    pub redone : IsRedone keep heard limits history bank [] performance boxes addresses rest out
+    pub redone : IsRedone keep heard limits history bank [] performance boxes rest out
 
-  history_is : (limits : Limits) (history : List Entry) (bank : List M) (performance : Performance) (boxes : List Told) (addresses : List (List ℕ))
-      (rest : List M) (out : List (ℕ × M)) (is : IsRedone keep heard limits history bank [] performance boxes addresses rest out) → is.before ≡ history
-  history_is limits history bank performance boxes addresses rest out is = sym (is.all ∙ append-nil is.before)
+  history_is : (limits : Limits) (history : List Entry) (bank : List M) (performance : Performance) (boxes : List Told)
+      (rest : List M) (out : List (ℕ × M)) (is : IsRedone keep heard limits history bank [] performance boxes rest out) → is.before ≡ history
+  history_is limits history bank performance boxes rest out is = sym (is.all ∙ append-nil is.before)
 
-  pub performance_is : (limits : Limits) (history : List Entry) (bank : List M) (performance : Performance) (boxes : List Told) (addresses : List (List ℕ))
-      (rest : List M) (out : List (ℕ × M)) → IsRedone keep heard limits history bank [] performance boxes addresses rest out
+  pub performance_is : (limits : Limits) (history : List Entry) (bank : List M) (performance : Performance) (boxes : List Told)
+      (rest : List M) (out : List (ℕ × M)) → IsRedone keep heard limits history bank [] performance boxes rest out
       → performance ≡ record { caps = limits; history = history }
-  performance_is limits history bank performance boxes addresses rest out is =
+  performance_is limits history bank performance boxes rest out is =
       is.played ∙ ap (λ (h : List Entry). let p : Performance = record { caps = limits; history = h } in p)
-      (history_is limits history bank performance boxes addresses rest out is)
+      (history_is limits history bank performance boxes rest out is)
 
   marked_so : (bank : List M) (boxes : List Told) (opened : List (List ℕ)) → AllByRecursion (TellsMarkOf keep heard bank) boxes
       → AllByRecursion (λ told. CarriesMark opened told.id (mark_of told)) boxes → (id : ℕ) (method : M) → slice_get bank id ≡ Some method
@@ -147,13 +141,13 @@ module _ {M : Type 0} (keep : M → Fixed) (heard : M → Option (List ℕ)) whe
       (subst (λ (n : List ℕ). CarriesMark opened told.id n) (mark.2 ∙ ap (λ (m : M). mark_of (told_as keep heard id m)) same) carries)
 
   pub resumed : (caps limits : Limits) (room : ℕ) (history : List Entry) (bank : List M) (performance : Performance) (boxes : List Told)
-      (addresses : List (List ℕ)) (rest left : List M) (out : List (ℕ × M)) (opened : List (List ℕ)) (callers : List (ℕ × View)) (count : ℕ)
-      → limits ≡ roomier caps room → Legal limits history → IsRedone keep heard limits history bank [] performance boxes addresses rest out
+      (rest left : List M) (out : List (ℕ × M)) (opened : List (List ℕ)) (callers : List (ℕ × View)) (count : ℕ)
+      → limits ≡ roomier caps room → Legal limits history → IsRedone keep heard limits history bank [] performance boxes rest out
       → StandsFor performance boxes opened → callers ≡ all_resumed limits opened count → count ≡ callers_in history → left ≡ rest
       → Resumes keep heard caps history room bank limits opened callers out left
-  resumed caps limits room history bank performance boxes addresses rest left out opened callers count limited legal is stands tokens counted lefts =
-      let whole = performance_is limits history bank performance boxes addresses rest out is in
-      let same = history_is limits history bank performance boxes addresses rest out is in
+  resumed caps limits room history bank performance boxes rest left out opened callers count limited legal is stands tokens counted lefts =
+      let whole = performance_is limits history bank performance boxes rest out is in
+      let same = history_is limits history bank performance boxes rest out is in
       record {
         limits_are = limited;
         legal = legal;
@@ -194,10 +188,34 @@ module _ {M : Type 0} (keep : M → Fixed) (heard : M → Option (List ℕ)) whe
   all_whole law caps history legal (one ∷ out) all = (heard_whole law caps history legal one all.0, all_whole law caps history legal out all.1)
 
   pub heard_all : RemovedLaw → (limits : Limits) (history : List Entry) (bank : List M) (performance : Performance) (boxes : List Told)
-      (addresses : List (List ℕ)) (rest : List M) (out : List (ℕ × M)) → Legal limits history
-      → IsRedone keep heard limits history bank [] performance boxes addresses rest out → HaveHeardAll keep heard limits history out
-  heard_all law limits history bank performance boxes addresses rest out legal is =
+      (rest : List M) (out : List (ℕ × M)) → Legal limits history
+      → IsRedone keep heard limits history bank [] performance boxes rest out → HaveHeardAll keep heard limits history out
+  heard_all law limits history bank performance boxes rest out legal is =
       All-from_recursion (λ one. HasHeard (invocations (opening limits) history) (told_as keep heard one.0 one.1)) out
       (all_whole law limits history legal out
       (subst (λ (h : List Entry). AllByRecursion (HeardTill keep heard limits h) out)
-      (history_is limits history bank performance boxes addresses rest out is) is.out_heard))
+      (history_is limits history bank performance boxes rest out is) is.out_heard))
+
+-- Boxes where entries up to some are played again.
+
+pub fewer_added : (history before left : List Entry) → history ≡ before ++ left → added_in before ≤ added_in history
+fewer_added history before left is = omega (arith, ap added_in is, sum_by-append (λ (e : Entry). cond (is_added e.answer) 1 0) before left)
+
+pub is_out : {M : Type 0} (keep : M → Fixed) (heard : M → Option (List ℕ)) (caps : Limits) (history : List Entry) (bank : List M) (left : List Entry)
+    (performance : Performance) (boxes : List Told) (rest : List M) (out : List (ℕ × M)) (taken room : ℕ) → added_in history ≤ length bank
+    → IsRedone keep heard caps history bank left performance boxes rest out → taken + length rest ≡ length bank → length bank ≤ room
+    → IsOut keep heard bank boxes out rest taken room
+is_out keep heard caps history bank left performance boxes rest out taken room enough is counted fits =
+    let added = added_in is.before in
+    let long : length rest ≡ length (drop added bank) = ap length is.rest_is in
+    let all : added_in history ≡ added + added_in left =
+    ap added_in is.all ∙ sum_by-append (λ (e : Entry). cond (is_added e.answer) 1 0) is.before left in
+    let same : taken ≡ added = omega (arith, counted, long, enough, all, length-drop added bank) in
+    record {
+      counted = sym counted;
+      rest_is = is.rest_is ∙ ap (λ (n : ℕ). drop n bank) (sym same);
+      room_is = fits;
+      covers = λ id below. is.covers id (omega (arith, below, same));
+      marks = is.marks;
+      out_marks = is.out_marks;
+    }

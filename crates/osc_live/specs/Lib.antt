@@ -11,4 +11,5 @@ pub mod Seen
 pub mod Tokens
 -- Inside the crate.
 pub mod Asked
+pub mod Left
 pub mod Redone

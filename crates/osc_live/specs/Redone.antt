@@ -1,4 +1,4 @@
--- Inside the crate: what is left of addresses and boxes where entries are played again.
+-- Inside the crate: what is left of boxes where entries are played again.
 use Rattle.std.specs.Prelude.{◌≡◌, ◌⊎◌, ℕ, ◌+◌, ◌<◌, ◌≤◌, Bool, true, List, [], ◌∷◌, ◌++◌, Option}
 use Rattle.std.specs.Prelude.{Some, None, is_some}
 use Rattle.std.specs.Prelude.{MatchBool, length, map, drop, slice_get}
@@ -12,7 +12,7 @@ use Rattle.osc_model.specs.State.{opening}
 use Rattle.osc_model.specs.History.{Performance, HasHeard, invocations}
 use Rattle.osc_core.specs.Redoing.{told_as}
 use Rattle.osc_core.specs.Standing.{mark_of}
-use Rattle.osc_live.specs.Resuming.{added_in, removed_in, addresses_in, HasMarkOf, marks}
+use Rattle.osc_live.specs.Resuming.{added_in, removed_in, HasMarkOf, marks}
 
 -- a box is taken from the bank, or none
 abbrev pub Takes : {M : Type 0} → Bool → Option M → List M → List M → Type 0
@@ -76,12 +76,11 @@ module _ {M : Type 0} (keep : M → Fixed) (heard : M → Option (List ℕ)) whe
 
   -- entries up to some that are left are played again
   pub record IsRedone (caps : Limits) (history : List Entry) (bank : List M) (left : List Entry)
-      (performance : Performance) (boxes : List Told) (addresses : List (List ℕ)) (rest : List M)
+      (performance : Performance) (boxes : List Told) (rest : List M)
       (out : List (ℕ × M)) : Type 0 where
     pub before : List Entry
     pub all : history ≡ before ++ left
     pub played : performance ≡ record { caps = caps; history = before }
-    pub addresses_are : addresses ≡ addresses_in left
     pub rest_is : rest ≡ drop (added_in before) bank
     pub marks : AllByRecursion (TellsMarkOf bank) boxes
     pub covers : (id : ℕ) → id < added_in before

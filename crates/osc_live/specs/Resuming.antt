@@ -45,10 +45,6 @@ abbrev pub takes_box : Event → Answer → Bool
 takes_box (add bytes) answer = is_added answer
 takes_box event answer = false
 
--- the addresses that a history's entries need, in order
-abbrev pub addresses_in : List Entry → List (List ℕ)
-addresses_in history = filter_map (λ entry. needed_by entry.event entry.answer) history
-
 -- the bytes are a recording of a history that adds no more methods than there are boxes
 abbrev pub CanResume : List ℕ → ℕ → Type 0
 CanResume bytes boxes =

@@ -23,6 +23,7 @@ mod refusal;
 mod release;
 mod remove;
 mod resume;
+mod rows;
 mod submission;
 mod submit;
 mod submits;

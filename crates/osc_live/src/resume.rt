@@ -1,6 +1,7 @@
 //! How a server goes on from a recording.
 ghost use Rattle.std.specs.Prelude.{◌≡◌, ◌≤◌, ◌<◌, ◌+◌, ◌++◌, [], List, All};
-ghost use Rattle.std.specs.Prelude.{length, option_to_list, option_map, IfOk, IfErr, IsTrue, ℕ};
+ghost use Rattle.std.specs.Prelude.{length, option_to_list, option_map, IfOk, IfErr, OnOk, OnErr};
+ghost use Rattle.std.specs.Prelude.{IsTrue, ℕ};
 ghost use Rattle.std.specs.Prelude.{vec_len, vec_capacity};
 ghost use Rattle.std.specs.VecDeque.{deque_capacity};
 ghost use Rattle.osc_turn.specs.Passes.{view};
@@ -11,7 +12,7 @@ ghost use Rattle.osc_model.specs.Events.{Entry as Recorded};
 ghost use Rattle.osc_model.specs.Enrolled.{callers_in};
 ghost use Rattle.osc_model.specs.Recordings.{header_text};
 ghost use Rattle.osc_model.specs.History.{IsLawful, Legal, state_of, stepped_in};
-ghost use Rattle.osc_record.specs.Left.{placed_of, entries_left};
+ghost use Rattle.osc_record.specs.Left.{placed_of};
 ghost use Rattle.osc_record.specs.Reading.{unplaced};
 ghost use Rattle.osc_record.specs.Shown.{event_of, answer_of};
 ghost use Rattle.osc_core.specs.Redoing.{with_entry};
@@ -21,13 +22,14 @@ ghost use Rattle.osc_live.specs.Seen.{IsTokenOf, past_of};
 ghost use Rattle.osc_live.specs.Tokens.{IsOurs};
 ghost use Rattle.osc_live.specs.Closing.{known};
 ghost use Rattle.osc_live.specs.Resuming.{Records, CanResume, Resumes, roomier, needed_by};
-ghost use Rattle.osc_live.specs.Resuming.{takes_box, added_in, addresses_in, all_resumed};
+ghost use Rattle.osc_live.specs.Resuming.{takes_box, added_in, all_resumed};
 ghost use Rattle.osc_live.specs.Resuming.{HaveHeardAll, marks};
 ghost use Rattle.osc_live.specs.Redone.{Takes, Moves, IsRedone, IsOut};
 ghost use Rattle.osc_live.specs.Redone.{TakesOut, TakesEither};
 
 use crate::caller::Caller;
 use crate::live::Live;
+use crate::rows::Rows;
 use osc_core::Core;
 use osc_method::Method;
 use osc_model::laws::{
@@ -35,8 +37,7 @@ use osc_model::laws::{
     callers_are_counted,
 };
 use osc_pattern::Address;
-use osc_record::laws::texts_differ;
-use osc_record::{Answer, Caps, Entries, Entry, Event, Reader};
+use osc_record::{Answer, Caps, Entry, Event};
 use osc_turn::{Pass, Turn};
 use std::alloc::{AllocError, Global};
 use std::collections::VecDeque;
@@ -83,30 +84,24 @@ impl<M: Method> Live<M> {
         a_legal_history_is_recordable();
         a_server_stays_sound();
         a_method_is_called_while_it_is_registered();
-        texts_differ();
-        let Ok(reader) = Reader::check(recording) else {
-            unreachable!()
-        };
-        let caps = with_room(reader.caps(), room);
-        let mut stage = match set_stage(alloc, &reader, caps) {
+        let (caps, rows) = Rows::open(recording);
+        let caps = with_room(caps, room);
+        let mut stage = match set_stage(alloc, caps) {
             Ok(stage) => stage,
             Err(none) => return Err((none, bank)),
         };
         let whole = bank.len();
         let mut bank = VecDeque::from_vec(bank);
-        redo_all(
-            &mut stage.core,
-            reader.entries(),
-            &mut stage.addresses,
-            &mut bank,
-            &mut stage.removed,
-        );
+        let redone = redo_all(alloc, &mut stage.core, rows, &mut bank, &mut stage.removed);
         let Stage {
             core,
             removed,
             callers,
-            ..
         } = stage;
+        if let Err(none) = redone {
+            let taken = (whole - bank.len()) as u32;
+            return Err((none, put_back(core, removed, bank, taken)));
+        }
         let count = core.callers();
         match Turn::reopen(alloc, core) {
             Ok((turn, pass)) => {
@@ -160,12 +155,10 @@ impl<M: Method> Live<M> {
     }
 }
 
-/// What is taken of memory before any box is moved.
+/// What an empty server needs, before any box is moved.
 #[derive(Drop)]
 struct Stage<M: Method> {
     core: Core<M>,
-    /// The addresses that the entries need, in order.
-    addresses: VecDeque<Address>,
     removed: Vec<(u32, M)>,
     callers: Vec<Caller>,
 }
@@ -195,49 +188,20 @@ fn with_room(caps: Caps, room: u32) -> Caps
     }
 }
 
-fn set_stage<M: Method>(
-    alloc: Global,
-    reader: &Reader<'_>,
-    caps: Caps,
-) -> Result<Stage<M>, AllocError>
+fn set_stage<M: Method>(alloc: Global, caps: Caps) -> Result<Stage<M>, AllocError>
     ensures core { IfOk result
         (λ stage. (stage.core.performance ≡ record { caps = caps; history = [] })
         × (told M.keep M.heard stage.core.boxes.items ≡ [])) }
-    ensures addresses { IfOk result
-        (λ stage. stage.addresses.items ≡ addresses_in (unplaced reader.now.entries)) }
-    ensures removed { IfOk result (λ stage. (stage.removed.items ≡ [])
-        × (length stage.addresses.items ≤ vec_capacity stage.removed)) }
+    ensures removed { IfOk result (λ stage. stage.removed.items ≡ []) }
     ensures callers { IfOk result (λ stage. (stage.callers.items ≡ [])
         × (caps.callers ≤ vec_capacity stage.callers)) }
 {
-    let addresses = read_addresses(alloc, reader.entries())?;
-    let removed = Vec::with_capacity(alloc, addresses.len())?;
     let callers = Vec::with_capacity(alloc, caps.callers() as usize)?;
     Ok(Stage {
         core: Core::open(alloc, caps)?,
-        addresses: VecDeque::from_vec(addresses),
-        removed,
+        removed: Vec::new(alloc),
         callers,
     })
-}
-
-/// The addresses that entries need, in order.
-fn read_addresses(alloc: Global, entries: Entries<'_>) -> Result<Vec<Address>, AllocError>
-    ensures { IfOk result
-        (λ addresses. addresses.items ≡ addresses_in (unplaced (entries_left entries.entry))) }
-{
-    let mut addresses = Vec::new(alloc);
-    for entry in entries {
-        if let Some(bytes) = address_needed(&entry) {
-            let Ok(address) = Address::read(alloc, bytes) else {
-                return Err(AllocError);
-            };
-            if addresses.push(address).is_err() {
-                return Err(AllocError);
-            }
-        }
-    }
-    Ok(addresses)
 }
 
 /// The address that is handed in again with an entry.
@@ -262,19 +226,17 @@ fn box_needed(entry: &Entry<'_>) -> bool
     }
 }
 
-/// The address that an entry needs, which is the first of those that are left.
-fn take_address(entry: &Entry<'_>, addresses: &mut VecDeque<Address>) -> Option<Address>
-    requires { (rest : List (List ℕ)) × (addresses.old.items
-        ≡ option_to_list (needed_by (event_of entry.now.event) (answer_of entry.now.answer))
-        ++ rest) }
-    ensures address { result ≡ needed_by (event_of entry.now.event) (answer_of entry.now.answer) }
-    ensures rest { addresses.old.items
-        ≡ option_to_list (needed_by (event_of entry.now.event) (answer_of entry.now.answer))
-        ++ addresses.new.items }
+/// The address that is handed in again with an entry, in memory of its own.
+fn copy_address(alloc: Global, entry: &Entry<'_>) -> Result<Option<Address>, AllocError>
+    ensures { IfOk result (λ address. address
+        ≡ needed_by (event_of entry.now.event) (answer_of entry.now.answer)) }
 {
     match address_needed(entry) {
-        Some(_) => addresses.pop_front(),
-        None => None,
+        Some(bytes) => match Address::read(alloc, bytes) {
+            Ok(address) => Ok(Some(address)),
+            Err(_) => Err(AllocError),
+        },
+        None => Ok(None),
     }
 }
 
@@ -292,71 +254,72 @@ fn take_box<M: Method>(entry: &Entry<'_>, bank: &mut VecDeque<M>) -> Option<M>
     None
 }
 
-/// Plays an entry again, with the address and the box that it needs.
+/// Plays an entry again, with the address and the box that it needs. An `Err` means out of memory, and that nothing was
+/// played.
 fn redo_one<M: Method>(
+    alloc: Global,
     core: &mut Core<M>,
     entry: &Entry<'_>,
-    addresses: &mut VecDeque<Address>,
     bank: &mut VecDeque<M>,
     removed: &mut Vec<(u32, M)>,
-)
+) -> Result<(), AllocError>
     requires caller { entry.now.caller < (state_of core.old.performance).callers }
     requires lawful { IsLawful (event_of entry.now.event) }
     requires answer { answer_of entry.now.answer
         ≡ (stepped_in core.old.performance (event_of entry.now.event)).answer }
-    requires address { (rest : List (List ℕ)) × (addresses.old.items
-        ≡ option_to_list (needed_by (event_of entry.now.event) (answer_of entry.now.answer))
-        ++ rest) }
     requires method { IsTrue (takes_box (event_of entry.now.event) (answer_of entry.now.answer))
         → 0 < length bank.old.items }
-    requires room { length addresses.old.items + vec_len removed.old ≤ vec_capacity removed.old }
-    ensures performance { core.new.performance
-        ≡ with_entry core.old.performance (placed_of entry.now).entry }
-    ensures addresses { addresses.old.items
-        ≡ option_to_list (needed_by (event_of entry.now.event) (answer_of entry.now.answer))
-        ++ addresses.new.items }
-    ensures moves { Moves M.keep M.heard (event_of entry.now.event) (answer_of entry.now.answer)
+    ensures performance { OnOk result
+        (core.new.performance ≡ with_entry core.old.performance (placed_of entry.now).entry) }
+    ensures moves { OnOk result
+        (Moves M.keep M.heard (event_of entry.now.event) (answer_of entry.now.answer)
         (stepped_in core.old.performance (event_of entry.now.event)).invocations bank.old.items
         bank.new.items (told M.keep M.heard core.old.boxes.items)
-        (told M.keep M.heard core.new.boxes.items) removed.old.items removed.new.items }
-    ensures room { length addresses.new.items + vec_len removed.new ≤ vec_capacity removed.new }
+        (told M.keep M.heard core.new.boxes.items) removed.old.items removed.new.items) }
+    ensures still { OnErr result ((core.new ≡ core.old) × (bank.new.items ≡ bank.old.items)
+        × (removed.new.items ≡ removed.old.items)) }
     ensures capacity { deque_capacity bank.new ≡ deque_capacity bank.old }
 {
-    let address = take_address(entry, addresses);
+    let address = copy_address(alloc, entry)?;
+    removed.reserve(1)?;
     let method = take_box(entry, bank);
     let out = core.redo(entry, address, method);
     let Some(method) = out else {
-        return;
+        return Ok(());
     };
     let Answer::Removed(id) = entry.answer else {
         unreachable!()
     };
     removed.push_reserved((id, method));
+    Ok(())
 }
 
-/// Plays the entries of a history again, on a server that has played none.
+/// Plays the entries of a history again, on a server that has played none. An `Err` means out of memory: the first of
+/// them were played, and some are left.
 fn redo_all<M: Method>(
+    alloc: Global,
     core: &mut Core<M>,
-    entries: Entries<'_>,
-    addresses: &mut VecDeque<Address>,
+    rows: Rows<'_>,
     bank: &mut VecDeque<M>,
     removed: &mut Vec<(u32, M)>,
-)
-    requires legal { Legal core.old.performance.caps (unplaced (entries_left entries)) }
+) -> Result<(), AllocError>
+    requires legal { Legal core.old.performance.caps (unplaced rows) }
     requires empty { (core.old.performance.history ≡ [])
         × (told M.keep M.heard core.old.boxes.items ≡ []) × (removed.old.items ≡ []) }
-    requires addresses { addresses.old.items ≡ addresses_in (unplaced (entries_left entries)) }
-    requires bank { added_in (unplaced (entries_left entries)) ≤ length bank.old.items }
-    requires room { length addresses.old.items ≤ vec_capacity removed.old }
-    ensures redone { IsRedone M.keep M.heard core.old.performance.caps
-        (unplaced (entries_left entries.entry)) bank.old.items [] core.new.performance
-        (told M.keep M.heard core.new.boxes.items) addresses.new.items bank.new.items
-        removed.new.items }
+    requires bank { added_in (unplaced rows) ≤ length bank.old.items }
+    ensures redone { OnOk result (IsRedone M.keep M.heard core.old.performance.caps
+        (unplaced rows.entry) bank.old.items [] core.new.performance
+        (told M.keep M.heard core.new.boxes.items) bank.new.items removed.new.items) }
+    ensures stopped { OnErr result ((left : List Recorded)
+        × IsRedone M.keep M.heard core.old.performance.caps (unplaced rows.entry)
+        bank.old.items left core.new.performance (told M.keep M.heard core.new.boxes.items)
+        bank.new.items removed.new.items) }
     ensures capacity { deque_capacity bank.new ≡ deque_capacity bank.old }
 {
-    for entry in entries {
-        redo_one(core, &entry, addresses, bank, removed);
+    for entry in rows {
+        redo_one(alloc, core, &entry, bank, removed)?;
     }
+    Ok(())
 }
 
 /// All boxes, in the order of the bank: so many of them were taken from it.

@@ -1,8 +1,9 @@
 -- Entries whose answers are kept, and computed.
-use Rattle.std.proofs.Common.{◌≡◌, ◌≢◌, ℕ, ◌<◌, ◌≤◌, true, List, [], ◌++◌, length, Ok, Err, Result, OnOk, refl, sym, ap, subst, ◌∙◌, arith, lt-ltb}
+use Rattle.std.proofs.Common.{◌≡◌, ◌≢◌, ℕ, ◌<◌, ◌≤◌, Bool, true, List, [], ◌++◌, length, Ok, Err, Result, OnOk, refl, sym, ap, subst, ◌∙◌, arith, lt-ltb}
 use Rattle.std.proofs.lemmas.Bool.{cond-true}
 use Rattle.std.specs.Prelude.{IfErr}
-use Rattle.osc_print.specs.Entries.{event_line}
+use Rattle.std.specs.List.{flat_map}
+use Rattle.osc_print.specs.Entries.{event_line, invocation_text}
 use Rattle.osc_model.specs.State.{State}
 use Rattle.osc_model.specs.Events.{Event, release, Answer, released, Entry, adds_entry}
 use Rattle.osc_model.specs.Recordings.{IsRecordable, entry_text, hits_in}
@@ -20,6 +21,7 @@ use Rattle.osc_replay.specs.declared.outcome.Outcome.{Outcome}
 use Rattle.osc_replay.specs.declared.outcome.Outcome.TheVariants.{Answered, Released, Nothing}
 use Rattle.osc_replay.specs.declared.row.Row.{Row}
 use Rattle.osc_replay.specs.Events.{event_in}
+use Rattle.osc_replay.specs.Calls.{line_where}
 use Rattle.osc_replay.specs.Disagreeing.{computed_text}
 use Rattle.osc_replay.proofs.Formed.{Recordable, row_lawful}
 use Rattle.osc_replay.specs.Playing.{IsReached, ComesTo, Differs, Enters, EntersRelease, Goes}
@@ -101,13 +103,15 @@ played_answered state new row calls outcome answer reached is comes =
 
 pub played_released : (state new : State) (row : Row) (calls : Calls) (outcome : Outcome) (unit : ℕ) (hits lines : List ℕ) → IsReached state
     → outcome ≡ Released unit → ComesTo outcome calls row.entry.caller state (event_in row.event) new
-    → hits ≡ calls.hits.items → lines ≡ calls.lines → Played state new (placed_of row.entry).entry (released unit (hits_in hits)) lines
+    → hits ≡ calls.hits.items → lines ≡ flat_map invocation_text (step state release).invocations
+    → Played state new (placed_of row.entry).entry (released unit (hits_in hits)) lines
 played_released state new row calls outcome unit hits lines reached is comes hits_are lines_are =
     let came : (row.entry.caller < state.callers) × (event_in row.event ≡ release)
     × EntersRelease unit calls state new = subst (λ (o : Outcome). ComesTo o calls row.entry.caller state (event_in row.event) new) is comes in
     let event = event_of row.entry.event in
-    let enters : Enters (released unit (hits_in calls.hits.items)) calls.lines state event new =
-    subst (λ (e : Event). Enters (released unit (hits_in calls.hits.items)) calls.lines state e new) (sym came.1 ∙ row.same) came.2.1 in
+    let printed = flat_map invocation_text (step state release).invocations in
+    let enters : Enters (released unit (hits_in calls.hits.items)) printed state event new =
+    subst (λ (e : Event). Enters (released unit (hits_in calls.hits.items)) printed state e new) (sym came.1 ∙ row.same) came.2.1 in
     record {
       reached = reached;
       lawful = row_lawful row;
@@ -115,6 +119,14 @@ played_released state new row calls outcome unit hits lines reached is comes hit
       enters = subst (λ (l : List ℕ). Enters (released unit (hits_in l)) lines state event new) (sym hits_are)
           (subst (λ (l : List ℕ). Enters (released unit (hits_in calls.hits.items)) l state event new) (sym lines_are) enters);
     }
+
+-- where the calls are printed, their lines are those of the invocations
+pub lines_printed : (state new : State) (calls : Calls) (outcome : Outcome) (unit caller : ℕ) (event : Event) → calls.prints ≡ true → outcome ≡ Released unit
+    → ComesTo outcome calls caller state event new → calls.lines ≡ flat_map invocation_text (step state release).invocations
+lines_printed state new calls outcome unit caller event prints is comes =
+    let came : (caller < state.callers) × (event ≡ release) × EntersRelease unit calls state new =
+    subst (λ (o : Outcome). ComesTo o calls caller state event new) is comes in
+    came.2.2 ∙ ap (λ (b : Bool). flat_map (line_where b) (step state release).invocations) prints
 
 -- where nothing is computed, the entry differs
 pub nothing_differs : (state new : State) (row : Row) (calls : Calls) (outcome : Outcome) (own given : List ℕ) (number : ℕ)

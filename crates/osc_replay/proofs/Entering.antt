@@ -18,7 +18,7 @@ use Rattle.osc_tree.specs.Adding.{Refusal, add_refusal}
 use Rattle.osc_record.specs.declared.event.Answer.{Answer as Given}
 use Rattle.osc_record.specs.Shown.{answer_of, HasWholeHits}
 use Rattle.osc_record.proofs.Lawful.{hits_again}
-use Rattle.osc_replay.specs.Calls.{hits_bytes, call_lines}
+use Rattle.osc_replay.specs.Calls.{hits_bytes, line_where, call_lines}
 use Rattle.osc_replay.specs.Playing.{Decides, Enters}
 
 -- the state of a server with these parts
@@ -83,13 +83,15 @@ pub release_full : (state : State) (unit : Queued) (others : List Queued) (hits 
 release_full state unit others hits first due is full = full_adds_none state release (omega (arith, release_size state unit others hits first due is))
 
 -- a release for whose entry there is room
-pub release_enters : (state after : State) (unit : Queued) (others : List Queued) (hits lines : List ℕ) → state.queue ≡ unit ∷ others
+pub release_enters : (state after : State) (unit : Queued) (others : List Queued) (hits lines : List ℕ) (prints : Bool) → state.queue ≡ unit ∷ others
     → due_of unit ≤ state.clock
-    → hits ≡ hits_bytes (calls_of_unit state.methods unit) → lines ≡ call_lines (unit_of unit) (calls_of_unit state.methods unit)
+    → hits ≡ hits_bytes (calls_of_unit state.methods unit) → lines ≡ call_lines prints (unit_of unit) (calls_of_unit state.methods unit)
     → (adds_entry (step state release).answer ≡ true → (u : ℕ) (hs : List Hit) → (step state release).answer ≡ released u hs → AllByRecursion IsHit hs)
     → 44 + length hits ≤ free_bytes state → after ≡ record state { queue = others; recorded = state.recorded + (44 + length hits) }
-    → (length hits % 8 ≡ 0) × Enters (released (unit_of unit) (hits_in hits)) lines state release after
-release_enters state after unit others hits lines first due hits_are lines_are fit room ends =
+    → (length hits % 8 ≡ 0)
+    × Enters (released (unit_of unit) (hits_in hits)) (flat_map invocation_text (step state release).invocations) state release after
+    × (lines ≡ flat_map (line_where prints) (step state release).invocations)
+release_enters state after unit others hits lines prints first due hits_are lines_are fit room ends =
     let calls : List Call = calls_of_unit state.methods unit in
     let is = first_released state unit others first due in
     let size = release_size state unit others hits first due hits_are in
@@ -105,7 +107,8 @@ release_enters state after unit others hits lines first due hits_are lines_are f
         state_is = ends ∙ ap (λ (n : ℕ). record state { queue = others; recorded = state.recorded + n }) (sym size)
             ∙ sym (ap (λ (s : Stepped). s.state) stepped
             ∙ ap (λ (s : Stepped). record s.state { recorded = state.recorded + entry_size release (decided state release).answer }) is);
-        lines_are = lines_are
-            ∙ sym (ap (λ (s : Stepped). flat_map invocation_text s.invocations) stepped ∙ ap (λ (s : Stepped). flat_map invocation_text s.invocations) is);
+        lines_are = refl;
       },
+      lines_are
+          ∙ sym (ap (λ (s : Stepped). flat_map (line_where prints) s.invocations) stepped ∙ ap (λ (s : Stepped). flat_map (line_where prints) s.invocations) is),
     )

@@ -19,6 +19,7 @@ use Rattle.osc_replay.specs.declared.fault.ReplayFault.{ReplayFault}
 use Rattle.osc_replay.specs.declared.fault.ReplayFault.TheVariants.{Malformed, Disagrees, NoMemory}
 use Rattle.osc_replay.specs.declared.outcome.Outcome.{Outcome}
 use Rattle.osc_replay.specs.declared.outcome.Outcome.TheVariants.{Answered, Released, Nothing}
+use Rattle.osc_replay.specs.Calls.{line_where}
 use Rattle.osc_replay.specs.Disagreeing.{computed_text}
 
 -- the hits have room for the ids of all methods, and the blocks of the queued units are counted
@@ -46,11 +47,13 @@ pub record Enters (answer : Answer) (lines : List ℕ) (old : State) (event : Ev
   pub state_is : new ≡ (step old event).state
   pub lines_are : lines ≡ flat_map invocation_text (step old event).invocations
 
--- the entry of a release of a unit, whose calls these are
+-- the entry of a release of a unit, whose calls these are, with their lines where they are printed
 abbrev pub EntersRelease : ℕ → Calls → State → State → Type 0
 EntersRelease unit calls old new =
     (length calls.hits.items % 8 ≡ 0)
-    × Enters (released unit (hits_in calls.hits.items)) calls.lines old release new
+    × Enters (released unit (hits_in calls.hits.items))
+    (flat_map invocation_text (step old release).invocations) old release new
+    × (calls.lines ≡ flat_map (line_where calls.prints) (step old release).invocations)
 
 -- the result of an event that isn't a release where its caller is enrolled
 abbrev pub Does : Outcome → State → Event → State → Type 0

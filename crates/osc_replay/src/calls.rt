@@ -13,30 +13,48 @@ use osc_print::{Text, call_line};
 use osc_tree::{Hits, Tree};
 use std::alloc::{AllocError, Global};
 
-/// The hits of calls as a recording has them, and the lines of the calls.
+/// The hits of calls as a recording has them, and the lines of the calls where they are printed.
 #[derive(Drop)]
 pub(crate) struct Calls {
     pub(crate) hits: Vec<u8>,
     pub(crate) lines: Text,
+    /// Whether the calls are printed. Else there are no lines.
+    prints: bool,
 }
 
 impl Calls {
-    ghost use Rattle.std.specs.Prelude.{◌≡◌, []};
+    ghost use Rattle.std.specs.Prelude.{◌≡◌, [], true, false};
 
-    /// None. Takes no memory.
-    pub(crate) fn none(alloc: Global) -> Calls
+    /// None so far, each of which will be printed. Takes no memory.
+    pub(crate) fn printed(alloc: Global) -> Calls
         ensures hits { result.hits.items ≡ [] }
         ensures lines { result.lines ≡ [] }
+        ensures prints { result.prints ≡ true }
     {
         Calls {
             hits: Vec::new(alloc),
             lines: Text::open(alloc),
+            prints: true,
+        }
+    }
+
+    /// None so far, none of which will be printed. Takes no memory.
+    pub(crate) fn unprinted(alloc: Global) -> Calls
+        ensures hits { result.hits.items ≡ [] }
+        ensures lines { result.lines ≡ [] }
+        ensures prints { result.prints ≡ false }
+    {
+        Calls {
+            hits: Vec::new(alloc),
+            lines: Text::open(alloc),
+            prints: false,
         }
     }
 
     fn clear(&mut self)
         ensures hits { self.new.hits.items ≡ [] }
         ensures lines { self.new.lines ≡ [] }
+        ensures prints { self.new.prints ≡ self.old.prints }
     {
         self.hits.clear();
         self.lines.clear();
@@ -55,7 +73,9 @@ pub(crate) fn find_calls(
     ensures hits { OnOk result
         (calls.new.hits.items ≡ hits_bytes (calls_from tree.now.methods 0 unit.now.messages)) }
     ensures lines { OnOk result
-        (calls.new.lines ≡ call_lines number (calls_from tree.now.methods 0 unit.now.messages)) }
+        (calls.new.lines ≡ call_lines calls.old.prints number
+        (calls_from tree.now.methods 0 unit.now.messages)) }
+    ensures prints { calls.new.prints ≡ calls.old.prints }
     ensures limit { hits.new.limit ≡ hits.old.limit }
 {
     calls.clear();
@@ -82,7 +102,8 @@ fn push_calls(
         ++ hits_bytes (calls_of tree.now.methods index message.entry)) }
     ensures lines { OnOk result
         (calls.new.lines ≡ calls.old.lines
-        ++ call_lines unit (calls_of tree.now.methods index message.entry)) }
+        ++ call_lines calls.old.prints unit (calls_of tree.now.methods index message.entry)) }
+    ensures prints { calls.new.prints ≡ calls.old.prints }
     ensures limit { hits.new.limit ≡ hits.old.limit }
 {
     if message.unknown().is_some() {
@@ -105,8 +126,9 @@ fn push_hits(tree: &Tree, ids: &[u32], call: &Call<'_>, calls: &mut Calls) -> Re
         ++ hits_bytes (map (call_by tree.now.methods call.now.index call.now.message) ids.now)) }
     ensures lines { OnOk result
         (calls.new.lines ≡ calls.old.lines
-        ++ call_lines call.now.unit
+        ++ call_lines calls.old.prints call.now.unit
         (map (call_by tree.now.methods call.now.index call.now.message) ids.now)) }
+    ensures prints { calls.new.prints ≡ calls.old.prints }
 {
     for id in ids {
         push_hit(tree, *id, call, calls)?;
@@ -122,13 +144,17 @@ fn push_hit(tree: &Tree, id: u32, call: &Call<'_>, calls: &mut Calls) -> Result<
         ++ hits_bytes (call_by tree.now.methods call.now.index call.now.message id ∷ [])) }
     ensures lines { OnOk result
         (calls.new.lines ≡ calls.old.lines
-        ++ call_lines call.now.unit
+        ++ call_lines calls.old.prints call.now.unit
         (call_by tree.now.methods call.now.index call.now.message id ∷ [])) }
+    ensures prints { calls.new.prints ≡ calls.old.prints }
 {
     let Some(address) = tree.address_of(id) else {
         unreachable!();
     };
     put_word(&mut calls.hits, call.index)?;
     put_word(&mut calls.hits, id)?;
-    call_line(&mut calls.lines, call, id, address)
+    if calls.prints {
+        return call_line(&mut calls.lines, call, id, address);
+    }
+    Ok(())
 }

@@ -1,6 +1,6 @@
 //! Recordings, checked and not printed.
 ghost use Rattle.std.specs.Prelude.{◌≡◌, ◌≤◌, ◌<◌, ◌+◌, ◌^◌, if◌then◌else◌, [], List, length, IfOk};
-ghost use Rattle.std.specs.Prelude.{IfErr, OnOk};
+ghost use Rattle.std.specs.Prelude.{IfErr, OnOk, false};
 ghost use Rattle.osc_model.specs.Limits.{Limits, max_recording};
 ghost use Rattle.osc_model.specs.Events.{Entry as Recorded};
 ghost use Rattle.osc_model.specs.Recordings.{IsRecordable, entry_text};
@@ -55,7 +55,7 @@ pub fn check(alloc: Global, recording: &[u8]) -> Result<Checked, ReplayFault>
     let mut unread = Unread::open(recording)?;
     let caps = unread.caps();
     let mut server = Server::open(alloc, caps)?;
-    let mut calls = Calls::none(alloc);
+    let mut calls = Calls::unprinted(alloc);
     let mut entries = 0;
     let mut adds = 0;
     while let Some(row) = next_row(&mut unread)? {
@@ -88,7 +88,7 @@ fn one_more(count: u32, more: bool) -> u32
     count
 }
 
-/// Plays the entry with a number.
+/// Plays the entry with a number, and makes no line of it.
 fn check_row<'a>(
     alloc: Global,
     server: &mut Server<'a>,
@@ -102,9 +102,11 @@ fn check_row<'a>(
     requires small { length
         (entry_text row.entry.caller (event_of row.entry.event) (answer_of row.entry.answer))
         ≤ max_recording }
+    requires unprinted { calls.old.prints ≡ false }
     ensures ok { OnOk result
         (Goes (placed_of row.entry.entry).entry server.old server.new []
         (lines_of server.old (placed_of row.entry.entry).entry)) }
+    ensures unprinted { calls.new.prints ≡ false }
     ensures differs { IfErr result
         (λ fault. Differs fault number
         (entry_text row.entry.entry.caller (event_of row.entry.entry.event)

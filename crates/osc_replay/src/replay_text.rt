@@ -1,6 +1,6 @@
 // Recordings, replayed entry by entry.
 ghost use Rattle.std.specs.Prelude.{◌≡◌, ◌≢◌, ◌+◌, ◌≤◌, ◌<◌, ◌^◌, ◌%◌, ◌++◌, ℕ, List, length, IfOk};
-ghost use Rattle.std.specs.Prelude.{IfErr, OnOk};
+ghost use Rattle.std.specs.Prelude.{IfErr, OnOk, true};
 ghost use Rattle.osc_print.specs.Entries.{event_line};
 ghost use Rattle.osc_model.specs.Limits.{Limits, max_recording};
 ghost use Rattle.osc_model.specs.Events.{Entry as Recorded};
@@ -43,7 +43,7 @@ pub fn replay(alloc: Global, recording: &[u8]) -> Result<Text, ReplayFault>
     osc_model::laws::a_legal_history_is_recordable();
     let mut unread = Unread::open(recording)?;
     let mut server = Server::open(alloc, unread.caps())?;
-    let mut calls = Calls::none(alloc);
+    let mut calls = Calls::printed(alloc);
     let mut text = Text::open(alloc);
     let mut number = 0;
     while let Some(row) = next_row(&mut unread)? {
@@ -73,8 +73,10 @@ fn replay_row<'a>(
     requires small { length
         (entry_text row.entry.caller (event_of row.entry.event) (answer_of row.entry.answer))
         ≤ max_recording }
+    requires printed { calls.old.prints ≡ true }
     ensures ok { OnOk result
         (Goes (placed_of row.entry.entry).entry server.old server.new text.old text.new) }
+    ensures printed { calls.new.prints ≡ true }
     ensures differs { IfErr result
         (λ fault. Differs fault number
         (entry_text row.entry.entry.caller (event_of row.entry.entry.event)

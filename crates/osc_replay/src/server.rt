@@ -124,8 +124,9 @@ impl<'a> Server<'a> {
     ) -> Result<Outcome, AllocError>
         requires lawful { IsLawful (event_in event) }
         requires reached { IsReached self.old }
-        ensures { IfOk result
+        ensures comes { IfOk result
             (λ outcome. ComesTo outcome calls.new caller self.old (event_in event.entry) self.new) }
+        ensures prints { calls.new.prints ≡ calls.old.prints }
     {
         if caller >= self.callers {
             return Ok(Outcome::Nothing);
@@ -258,7 +259,8 @@ impl<'a> Server<'a> {
     /// Takes the first unit, if it is due and there is room for the entry, and tells its calls.
     fn release(&mut self, calls: &mut Calls) -> Result<Outcome, AllocError>
         requires { IsReached self.old }
-        ensures { IfOk result (λ outcome. Releases outcome calls.new self.old self.new) }
+        ensures releases { IfOk result (λ outcome. Releases outcome calls.new self.old self.new) }
+        ensures prints { calls.new.prints ≡ calls.old.prints }
     {
         osc_model::laws::a_legal_history_is_recordable();
         osc_model::laws::a_server_stays_sound();

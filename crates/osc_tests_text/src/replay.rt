@@ -180,6 +180,43 @@ fn the_first_entry_that_disagrees_is_told(rt: HostRuntime) -> Result<(), AllocEr
     Ok(())
 }
 
+/// A check refuses what a replay refuses, by the same name and at the same place.
+#[test]
+fn a_check_tells_the_same_places(rt: HostRuntime) -> Result<(), AllocError> {
+    for (first, second, place) in PLACES {
+        let bytes = recording(rt.alloc(), 212, first, second, b"")?;
+        assert!(rt; bytes.len() <= 212);
+        match check(rt.alloc(), &bytes) {
+            Err(ReplayFault::Malformed { at }) => assert_eq!(rt; at, place),
+            _ => panic!(rt; "accepted"),
+        }
+    }
+    Ok(())
+}
+
+#[test]
+fn a_check_tells_the_same_disagreements(rt: HostRuntime) -> Result<(), AllocError> {
+    for (limit, first, second, third, number, own, given) in DISAGREES {
+        let bytes = recording(rt.alloc(), limit, first, second, third)?;
+        assert!(rt; bytes.len() <= 212);
+        match check(rt.alloc(), &bytes) {
+            Err(
+                ReplayFault::Disagrees {
+                    entry,
+                    kept,
+                    computed,
+                },
+            ) => {
+                assert_eq!(rt; entry, number);
+                assert_eq!(rt; kept.as_slice(), own);
+                assert_eq!(rt; computed.as_slice(), given);
+            }
+            _ => panic!(rt; "accepted"),
+        }
+    }
+    Ok(())
+}
+
 #[test]
 fn a_recording_is_dumped_as_it_stands(rt: HostRuntime) -> Result<(), AllocError> {
     // The recording of the one line `tick 83aa7e8000000000`.

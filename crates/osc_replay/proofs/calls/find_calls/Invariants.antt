@@ -10,7 +10,8 @@ invariant-loop-message l = record {
   finite : (goal.iterator-loop-message).is_finite l.message-iterator;
   few : l.index + length l.message-iterator ≤ 16377;
   hits : l.calls.hits.items ++ hits_bytes (calls_from l.tree.methods l.index l.message-iterator) ≡ hits_bytes (calls_from l.tree.methods 0 l.unit.messages);
-  lines : l.calls.lines ++ call_lines l.number (calls_from l.tree.methods l.index l.message-iterator)
-      ≡ call_lines l.number (calls_from l.tree.methods 0 l.unit.messages);
+  lines : l.calls.lines ++ call_lines l.fn.calls.prints l.number (calls_from l.tree.methods l.index l.message-iterator)
+      ≡ call_lines l.fn.calls.prints l.number (calls_from l.tree.methods 0 l.unit.messages);
+  prints : l.calls.prints ≡ l.fn.calls.prints;
   limit : l.hits.limit ≡ l.initial.hits.limit;
 }

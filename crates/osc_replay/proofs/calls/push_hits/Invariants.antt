@@ -6,5 +6,7 @@ use Rattle.osc_replay.proofs.calls.push_hits.Given as goal
 abbrev pub invariant-loop-id : goal.invariant-loop-id
 invariant-loop-id l = record {
   hits : l.calls.hits.items ≡ l.fn.calls.hits.items ++ hits_bytes (map (call_by l.tree.methods l.call.index l.call.message) (take l.id-index l.ids));
-  lines : l.calls.lines ≡ l.fn.calls.lines ++ call_lines l.call.unit (map (call_by l.tree.methods l.call.index l.call.message) (take l.id-index l.ids));
+  lines : l.calls.lines ≡ l.fn.calls.lines
+      ++ call_lines l.fn.calls.prints l.call.unit (map (call_by l.tree.methods l.call.index l.call.message) (take l.id-index l.ids));
+  prints : l.calls.prints ≡ l.fn.calls.prints;
 }

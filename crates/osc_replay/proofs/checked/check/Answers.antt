@@ -25,7 +25,7 @@ pub loop-calls-init : goal.loop-calls-init
 loop-calls-init c =
     let unread = c.in_ok-unread.unread in
     let opened : c.in_ok-server.server ≡ opening unread.caps = c.in_ok-server.ensures ∙ ap opening c.caps-caps.ensures in
-    record { checked = rw opened (checked_none c.args.recording.now unread c.in_ok-unread.ensures.ok); caps = c.caps-caps.ensures }
+    record { checked = rw opened (checked_none c.args.recording.now unread c.in_ok-unread.ensures.ok); caps = c.caps-caps.ensures; unprinted = search rules }
 
 pub returns-in_err-row-clause-malformed : goal.returns-in_err-row-clause-malformed
 returns-in_err-row-clause-malformed c =
@@ -120,6 +120,7 @@ loop-calls-preserved c =
           (placed_of row.entry) c.loop-calls.server c.check_row.new.server c.loop-calls.entries c.loop-calls.adds c.loop-calls.invariant.checked
           reads (row_lawful row) c.in_default-check_row.ensures.ok);
       caps = search rules;
+      unprinted = c.check_row.ensures.unprinted;
     }
 
 pub returns-clause-ok : goal.returns-clause-ok

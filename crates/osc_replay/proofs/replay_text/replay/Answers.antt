@@ -21,7 +21,7 @@ pub loop-text-init : goal.loop-text-init
 loop-text-init c =
     let unread = c.in_ok-unread.unread in
     let opened : c.in_ok-server.server ≡ opening unread.caps = c.in_ok-server.ensures ∙ ap opening c.caps.ensures in
-    record { played = rw (opened, c.open-text.ensures) (played_none c.args.recording.now unread c.in_ok-unread.ensures.ok) }
+    record { played = rw (opened, c.open-text.ensures) (played_none c.args.recording.now unread c.in_ok-unread.ensures.ok); printed = c.printed-calls.ensures.prints }
 
 pub returns-in_err-row-clause-malformed : goal.returns-in_err-row-clause-malformed
 returns-in_err-row-clause-malformed c =
@@ -101,6 +101,7 @@ loop-text-preserved c =
           (placed_of row.entry) c.loop-text.server c.replay_row.new.server c.loop-text.text c.replay_row.new.text c.loop-text.number
           c.loop-text.invariant.played
           reads (row_lawful row) c.in_default-replay_row.ensures.ok;
+      printed = c.replay_row.ensures.printed;
     }
 
 pub returns-clause-complete : goal.returns-clause-complete
