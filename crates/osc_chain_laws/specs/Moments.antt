@@ -29,7 +29,8 @@ moments state (entry ∷ entries) =
 abbrev pub event_moments : State → List Event → List Moment
 event_moments state [] = []
 event_moments state (event ∷ events) =
-    calls_at state.clock (step state event).invocations ++ event_moments (step state event).state events
+    calls_at state.clock (step state event).invocations
+    ++ event_moments (step state event).state events
 
 -- the same of events on a server whose recording has no end
 abbrev pub ideal_moments : State → List Event → List Moment

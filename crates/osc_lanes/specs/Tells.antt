@@ -10,7 +10,8 @@ use Rattle.osc_lanes.specs.Shares.{Account, then_told, PlaysAct, Plays}
 module _ {M : Type 0} where
   -- An act was played between two places of the history: what is told then is what was told before,
   -- and what is told of the act.
-  pub record TellsAct (keep : M → Fixed) (heard : M → Option (List ℕ)) (holder : Holder) (number : ℕ)
+  pub record TellsAct (keep : M → Fixed) (heard : M → Option (List ℕ)) (holder : Holder)
+      (number : ℕ)
       (act : Act) (boxes left : List M) (before now : Account M)
       (here there : List Seen) : Type 0 where
     pub first : Account M

@@ -23,7 +23,8 @@ impl Trace {
     pub fn open(alloc: Global, keep: u32) -> Result<Trace, AllocError>
         requires some { 0 < keep }
         requires few { keep ≤ 1048576 }
-        ensures keep { IfOk result (λ trace. ⟦<Trace as Method>⟧.keep trace ≡ record { most = keep; name = [] }) }
+        ensures keep { IfOk result
+            (λ trace. ⟦<Trace as Method>⟧.keep trace ≡ record { most = keep; name = [] }) }
         ensures heard { IfOk result (λ trace. ⟦<Trace as Method>⟧.heard trace ≡ Some []) }
     {
         Ok(Trace {

@@ -35,7 +35,8 @@ reset told = record told { heard = option_map (λ _. []) told.heard }
 abbrev pub hear : Told → Invocation → Told
 hear told invocation =
     if invocation.call.id == told.id
-    then record told { heard = after_call told.keep.most (bytes_of invocation) told.heard } else told
+    then record told { heard = after_call told.keep.most (bytes_of invocation) told.heard }
+    else told
 
 -- a box hears invocations one after another
 abbrev pub hear_all : List Invocation → Told → Told

@@ -201,4 +201,5 @@ entry_size (submit packet) answer = 52 + (length packet + blob_end (length packe
 entry_size (add address) answer = 40 + length (string address)
 entry_size (remove address) answer = 36 + length (string address)
 entry_size (tick moment) answer = 48
-entry_size release answer = release_head_size + 8 * length (option_map_or (λ r. r.1) (releasing answer) [])
+entry_size release answer =
+    release_head_size + 8 * length (option_map_or (λ r. r.1) (releasing answer) [])

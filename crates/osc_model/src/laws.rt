@@ -219,7 +219,8 @@ pub fn a_box_hears_its_calls()
         → hear_all invocations told
         ≡ record told {
           heard = option_map
-              (λ bytes. last_of told.keep.most (bytes ++ calls_bytes invocations told.id)) told.heard;
+              (λ bytes. last_of told.keep.most (bytes ++ calls_bytes invocations told.id))
+              told.heard;
         } }
     ensures within { (told : Told) (invocations : List Invocation) → IsWithin told
         → IsWithin (hear_all invocations told) }

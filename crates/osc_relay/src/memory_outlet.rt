@@ -55,7 +55,8 @@ impl MemoryOutlet {
 
     /// Keeps a copy. An `Err` means out of memory, and nothing is kept then.
     fn keep(&mut self, datagram: &[u8]) -> Result<(), AllocError>
-        ensures kept { OnOk result (self.new.sent.items ≡ self.old.sent.items ++ datagram.now ∷ []) }
+        ensures kept { OnOk result
+            (self.new.sent.items ≡ self.old.sent.items ++ datagram.now ∷ []) }
         ensures same { OnErr result (self.new.sent.items ≡ self.old.sent.items) }
         ensures lost { self.new.lost ≡ self.old.lost }
         ensures calls { outlet_calls self.new ≡ outlet_calls self.old }

@@ -149,7 +149,10 @@ impl<O: Outlet> Method for Relay<O> {
     ghost use Rattle.osc_relay.specs.Outlets.{Takes};
     ghost use Rattle.osc_relay.specs.Relays.{room_of, datagram_of};
 
-    ghost keep = { λ r. record { most = (⟦<Trace as Method>⟧.keep r.trace).most; name = r.address } };
+    ghost keep = { λ r. record {
+      most = (⟦<Trace as Method>⟧.keep r.trace).most;
+      name = r.address;
+    } };
 
     ghost heard = { λ r. ⟦<Trace as Method>⟧.heard r.trace };
 

@@ -44,7 +44,8 @@ impl<S: Kept> Turn<S> {
         ensures room { OnOk result.1 ((view pass).made < MAX_PASSES) }
         ensures made { OnOk result.1 (view result.0 ≡ one_more (view pass)) }
         ensures full { IfErr result.1
-            (λ refusal. ((view pass).made ≡ MAX_PASSES) × (refusal ≡ GuestRefusal.Full MAX_PASSES)) }
+            (λ refusal. ((view pass).made ≡ MAX_PASSES)
+            × (refusal ≡ GuestRefusal.Full MAX_PASSES)) }
         ensures none_made { OnErr result.1 (view result.0 ≡ view pass) }
     {
         let mut seat = pass.into_seat::<S>();

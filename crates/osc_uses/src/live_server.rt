@@ -305,7 +305,8 @@ pub(crate) fn tick_and_pump<M: Method, W: Wait>(
     requires ours { IsOurs live.now caller }
     ensures ours { IsOurs live.now result.caller }
     ensures number { result.caller.number ≡ caller.number }
-    ensures calls { Ticks live.now.caps caller.number moment (ticking_of result.ticked) result.pumped
+    ensures calls { Ticks live.now.caps caller.number moment (ticking_of result.ticked)
+        result.pumped
         (view caller.pass) (view result.caller.pass) }
 {
     let (caller, ticked) = live.tick(rt, caller, moment);
