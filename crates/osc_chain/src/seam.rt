@@ -9,7 +9,7 @@ pub enum SeamFault {
     NoRoom,
     /// The script of what is carried on is longer than a script may be.
     TooLong,
-    /// It isn't what a stage hands back: the bytes are no recording of a server.
+    /// The bytes aren't the recording of a server: they aren't what a stage hands back.
     Unlike,
 }
 

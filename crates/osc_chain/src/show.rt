@@ -1,17 +1,17 @@
 // A show on one stage after another.
-ghost use Rattle.std.specs.Prelude.{◌≡◌, ◌≤◌, ◌<◌, ◌+◌, length, IfOk};
+ghost use Rattle.std.specs.Prelude.{◌≡◌, ◌≤◌, ◌<◌, ◌+◌, length, IfOk, IfSome};
 ghost use Rattle.osc_lanes.specs.Performs.{part_of, IsWhole};
 ghost use Rattle.osc_links.specs.declared.limits.TheConstants.{MAX_LINKS};
-ghost use Rattle.osc_chain.specs.Shows.{CanPlay, GoesOnFrom, PlaysPart, PlaysShow};
+ghost use Rattle.osc_chain.specs.Shows.{CanPlay, GoesOnFrom, IsShowFault, PlaysPart, PlaysShow};
 
 use crate::Reels;
 use crate::part::{Part, ShowEnd};
-use crate::seam::{Seam, SeamFault};
+use crate::seam::Seam;
 use crate::turnover::turn_over;
 use osc_chain_laws::laws::a_show_is_a_chain;
 use osc_edge::{Clock, Link};
 use osc_lanes::Gate;
-use osc_links::{Bounds, MAX_LINKS};
+use osc_links::Bounds;
 use osc_method::Method;
 use osc_record::Caps;
 use osc_relay::{Outlet, Relay};
@@ -21,8 +21,9 @@ use std::sync::Wait;
 use std::thread::Threads;
 
 /// Plays a show: a stage, and as long as `reels` says so another one, which carries the one before
-/// it on in a recording of its own, with the same relays and links. An `Err` means out of memory, and
-/// the relays and the links are gone then.
+/// it on in a recording of its own, with the same relays and links. The end has a fault where `reels`
+/// wanted to go on and the show couldn't. An `Err` means out of memory, and the relays and the links
+/// are gone then.
 pub fn play_show<
     O: Outlet + Send,
     L: Link + Send + Drop,
@@ -45,6 +46,8 @@ pub fn play_show<
     requires idle { 0 < stage.links.bounds.idle }
     ensures show { IfOk result (λ end. PlaysShow ⟦<Relay<O> as Method>⟧.keep
         ⟦<Relay<O> as Method>⟧.heard L.left L.faults O.sent O.losses stage end.staged) }
+    ensures fault { IfOk result (λ end. IfSome end.fault
+        (λ fault. IsShowFault stage.caps end.staged.recording.items fault)) }
 {
     a_show_is_a_chain::<O, L>();
     let mut left = Some(stage);
@@ -97,18 +100,13 @@ fn next_part<O: Outlet, L: Link + Drop>(
     bounds: Bounds,
     staged: Staged<O, L>,
 ) -> Result<Part<O, L>, AllocError>
+    requires callers { length staged.links.items + 2 ≤ caps.callers }
+    requires few { length staged.links.items ≤ MAX_LINKS }
     requires count { 0 < bounds.count }
     requires idle { 0 < bounds.idle }
     ensures { IfOk result (λ part. GoesOnFrom ⟦<Relay<O> as Method>⟧.keep
-        ⟦<Relay<O> as Method>⟧.heard L.left L.faults O.sent O.losses caps staged part) }
+        ⟦<Relay<O> as Method>⟧.heard L.left L.faults O.sent O.losses caps bounds staged part) }
 {
-    let many = staged.links.len();
-    if many > MAX_LINKS as usize || many + 2 > caps.callers() as usize {
-        return Ok(Part::Over(ShowEnd {
-            staged,
-            fault: Some(SeamFault::Unlike),
-        }));
-    }
     match turn_over(alloc, caps, bounds, staged)? {
         Seam::GoesOn(next) => Ok(Part::GoesOn(next)),
         Seam::Ends(staged, fault) => Ok(Part::Over(ShowEnd {

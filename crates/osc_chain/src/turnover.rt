@@ -1,6 +1,7 @@
 // From a stage to the next one.
-ghost use Rattle.std.specs.Prelude.{◌≡◌, map, Ok, IfOk, IfErr};
+ghost use Rattle.std.specs.Prelude.{◌≡◌, List, map, Ok, IfOk};
 ghost use Rattle.osc_lanes.specs.Performs.{part_of, IsWhole};
+ghost use Rattle.osc_script.specs.declared.line.Line.{Line};
 ghost use Rattle.osc_script.specs.declared.mode.Mode.TheVariants.{Plain};
 ghost use Rattle.osc_script.specs.Scripts.{script_of};
 ghost use Rattle.osc_stage.specs.Stages.{carried_on, AddsAtOwn};
@@ -14,6 +15,7 @@ use osc_chain_laws::laws::a_stage_turns_over;
 use osc_edge::Link;
 use osc_links::{Bounds, LinksPart};
 use osc_method::Method;
+use osc_model::laws::a_legal_history_is_recordable;
 use osc_record::{Caps, MAX_RECORDING};
 use osc_relay::{Outlet, Relay};
 use osc_script::{Line, Mode, Script, ScriptRefusal};
@@ -29,8 +31,8 @@ pub fn turn_over<O: Outlet, L: Link + Drop>(
     bounds: Bounds,
     staged: Staged<O, L>,
 ) -> Result<Seam<O, L>, AllocError>
-    ensures turns { IfOk result (λ seam. Turns ⟦<Relay<O> as Method>⟧.keep ⟦<Relay<O> as Method>⟧.heard
-        L.left L.faults O.sent O.losses caps bounds staged seam) }
+    ensures turns { IfOk result (λ seam. Turns ⟦<Relay<O> as Method>⟧.keep
+        ⟦<Relay<O> as Method>⟧.heard L.left L.faults O.sent O.losses caps bounds staged seam) }
 {
     a_stage_turns_over::<O, L>();
     if !has_room(caps) {
@@ -50,27 +52,27 @@ fn carried_lines(
 ) -> Result<Result<Vec<Line>, SeamFault>, AllocError>
     ensures { IfOk result (λ read. Reads (λ lines. lines.items) recording.now read) }
 {
+    a_legal_history_is_recordable();
     if recording.len() > MAX_RECORDING as usize {
         return Ok(Err(SeamFault::Unlike));
     }
     match carry(alloc, recording) {
-        Ok(script) => lines_of(alloc, &script),
+        Ok(script) => Ok(Ok(lines_of(alloc, &script)?)),
         Err(CarryFault::NoMemory) => Err(AllocError),
         Err(CarryFault::TooLong) => Ok(Err(SeamFault::TooLong)),
         Err(_) => Ok(Err(SeamFault::Unlike)),
     }
 }
 
-/// The lines of a script, unless it is refused.
-fn lines_of(alloc: Global, script: &[u8]) -> Result<Result<Vec<Line>, SeamFault>, AllocError>
-    ensures lines { IfOk result
-        (λ read. IfOk read (λ lines. script_of Plain script.now ≡ Ok lines.items)) }
-    ensures fault { IfOk result (λ read. IfErr read (λ fault. fault ≡ SeamFault.Unlike)) }
+/// The lines of a script that has no fault.
+fn lines_of(alloc: Global, script: &[u8]) -> Result<Vec<Line>, AllocError>
+    requires { (lines : List Line) × (script_of Plain script.now ≡ Ok lines) }
+    ensures { IfOk result (λ lines. script_of Plain script.now ≡ Ok lines.items) }
 {
     match Script::read(alloc, script, Mode::Plain) {
-        Ok(script) => Ok(Ok(script.into_lines())),
+        Ok(script) => Ok(script.into_lines()),
         Err(ScriptRefusal::NoMemory) => Err(AllocError),
-        Err(_) => Ok(Err(SeamFault::Unlike)),
+        Err(ScriptRefusal::Fault(_)) => unreachable!(),
     }
 }
 

@@ -9,7 +9,7 @@ use native.Mathlib.Decide.{dec_le}
 use Rattle.osc_atoms.specs.declared.room.Room.{Room as CodeRoom}
 use Rattle.osc_method.specs.Heard.{Fixed}
 use Rattle.osc_model.specs.Limits.{Limits}
-use Rattle.osc_model.specs.Events.{Entry, added, number, Room}
+use Rattle.osc_model.specs.Events.{Entry, Room}
 use Rattle.osc_model.proofs.Calls.{all_append}
 use Rattle.osc_record.specs.Reading.{entry_in}
 use Rattle.osc_record.specs.Shown.{room_of}

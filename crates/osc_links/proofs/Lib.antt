@@ -1,6 +1,7 @@
 pub mod Boxes
 pub mod Hosting
 pub mod Keeping
+pub mod LinkFaults
 pub mod Opening
 pub mod Settling
 pub mod Tickings

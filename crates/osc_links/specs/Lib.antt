@@ -1,5 +1,6 @@
 -- What public contracts cite.
 pub mod Hosts
+pub mod Faults
 pub mod Links
 pub mod Serves
 pub mod Ticks

@@ -6,7 +6,8 @@ use Rattle.osc_ends.specs.Sinks.{SinkChange, GainsAll}
 use Rattle.osc_links.specs.Ticks.{ClockRead}
 use Rattle.osc_stage.specs.declared.ended.Ended.{Ended}
 use Rattle.osc_stage.specs.declared.ended.Ended.TheVariants.{Done, RecordFull, LinkFailed, ClockFailed, SinkFailed}
-use Rattle.osc_stage.specs.Ends.{ended_by, HasWritten, HasLinkRisen, AreSteady, HasCause}
+use Rattle.osc_links.specs.Faults.{HasLinkRisen}
+use Rattle.osc_stage.specs.Ends.{ended_by, HasWritten, AreSteady, HasCause}
 
 -- all is written, unless the sink failed
 pub all_written : (ended : Ended) (rec : SinkChange) (recording : List ℕ) → ended ≢ SinkFailed → GainsAll rec recording → HasWritten ended rec recording

@@ -35,7 +35,7 @@ use Rattle.osc_stage.specs.Stages.{end_of, method_of, HaveSent, RecordsStage, Is
 use Rattle.osc_stage.proofs.Ending.{ended_cause}
 use Rattle.osc_stage.proofs.Adding.{none_removed}
 use Rattle.osc_stage.proofs.Placed.{placed_methods}
-use Rattle.osc_stage.proofs.Failing.{links_steady, clock_steady, hosts_link_risen, hosts_clock_risen}
+use Rattle.osc_links.proofs.LinkFaults.{links_steady, clock_steady, hosts_link_risen, hosts_clock_risen}
 
 -- what was written in the end, from where it began
 pub written_on : {X E R : Type 0} (result : Result X E) (written : R → X → Type 0) (start : R) (grown : R → Type 0)

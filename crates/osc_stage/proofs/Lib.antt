@@ -1,6 +1,5 @@
 mod Adding
 mod Ending
-mod Failing
 mod Hosting
 mod Placed
 mod Sending

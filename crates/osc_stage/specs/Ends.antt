@@ -1,9 +1,10 @@
 -- How a stage ends, and why.
-use Rattle.std.specs.Prelude.{◌≡◌, ℕ, Bool, true, false, List, map, take, slice_get, IsSomeAnd}
+use Rattle.std.specs.Prelude.{◌≡◌, ℕ, Bool, true, false, List, map, take}
 use Rattle.std.specs.Prelude.{Option, Some, None}
 use Rattle.osc_atoms.specs.declared.room.Room.{Room}
 use Rattle.osc_edge.specs.Faults.{Rose}
 use Rattle.osc_ends.specs.Sinks.{SinkChange, Fails, IsSteady, GainsAll, GainsPart}
+use Rattle.osc_links.specs.Faults.{HasLinkRisen}
 use Rattle.osc_links.specs.Ticks.{ClockRead}
 use Rattle.osc_stage.specs.declared.ended.Ended.{Ended}
 use Rattle.osc_stage.specs.declared.ended.Ended.TheVariants.{Done, RecordFull, LinkFailed}
@@ -22,12 +23,6 @@ HasWritten SinkFailed rec recording = GainsPart rec recording
 HasWritten _ rec recording = GainsAll rec recording
 
 module _ {L : Type 0} (faults : L → ℕ) where
-  -- the count of faults rose of the link in this place
-  abbrev pub HasLinkRisen : ℕ → List L → List L → Type 0
-  HasLinkRisen link links links_after =
-      IsSomeAnd (slice_get links link) (λ before. IsSomeAnd (slice_get links_after link)
-      (λ after. Rose (faults before) (faults after)))
-
   -- no link's count of faults rose
   abbrev pub AreSteady : List L → List L → Type 0
   AreSteady links links_after = map faults links_after ≡ map faults links
@@ -40,8 +35,8 @@ module _ {L : Type 0} (faults : L → ℕ) where
   HasCause (RecordFull room) links links_after clock rec =
       AreSteady links links_after × (clock.now ≡ clock.faults) × IsSteady rec
   HasCause (LinkFailed link) links links_after clock rec =
-      HasLinkRisen link links links_after × AreSteady (take link links) (take link links_after)
-      × IsSteady rec
+      HasLinkRisen faults link links links_after
+      × AreSteady (take link links) (take link links_after) × IsSteady rec
   HasCause ClockFailed links links_after clock rec =
       AreSteady links links_after × Rose clock.faults clock.now × IsSteady rec
   HasCause SinkFailed links links_after clock rec = Fails rec

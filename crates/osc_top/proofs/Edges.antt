@@ -1,38 +1,24 @@
 -- From how a program ends to what became of its links and its clock.
-use Rattle.std.proofs.Common.{◌≡◌, ◌≢◌, ◌⊎◌, inl, inr, ℕ, suc, ◌+◌, ◌<◌, Bool, true, false, List, [], ◌∷◌, ◌++◌, map, length, Option, Some, None}
-use Rattle.std.proofs.Common.{if◌then◌else◌, refl, sym, ap, subst, ◌∙◌, append_assoc, arith}
-use Rattle.std.specs.Prelude.{IfSome, MatchOption}
+use Rattle.std.proofs.Common.{◌≡◌, ◌≢◌, inl, inr, ℕ, ◌+◌, Bool, true, false, List, [], ◌∷◌, ◌++◌, map, length, Option, Some, None}
+use Rattle.std.proofs.Common.{refl, sym, ap, subst, ◌∙◌, append_assoc, arith}
+use Rattle.std.specs.Prelude.{IfSome}
 use Rattle.std.specs.List.{flat_map}
 use Rattle.std.specs.Option.{option_map, option_or}
 use Rattle.std.proofs.lemmas.List.Concat.{flat_map-append}
 use Rattle.osc_edge.specs.Faults.{Rose}
 use Rattle.osc_atoms.specs.declared.fault.Fault.{Fault}
-use Rattle.osc_atoms.specs.declared.room.Room.{Room as CodeRoom}
 use Rattle.osc_method.specs.Heard.{Fixed}
-use Rattle.osc_model.specs.Events.{Entry, Room}
+use Rattle.osc_model.specs.Events.{Room}
 use Rattle.osc_model.specs.History.{Legal}
 use Rattle.osc_model.specs.Limits.{Limits}
-use Rattle.osc_model.specs.Recordings.{record_text}
 use Rattle.osc_laws.specs.Laws.{KeepsTheLaws}
 use Rattle.osc_record.specs.Shown.{room_of}
 use Rattle.osc_core.specs.Standing.{history_in}
 use Rattle.osc_turn.specs.declared.view.Entry.{Entry as Seen}
-use Rattle.osc_turn.specs.History.{own, texts}
-use Rattle.osc_links.specs.declared.run.Hosted.{Hosted}
-use Rattle.osc_links.specs.declared.link_work.LinkEnd.{LinkEnd}
-use Rattle.osc_links.specs.declared.link_work.Over.{Over}
-use Rattle.osc_links.specs.declared.link_work.Over.TheVariants.{Count, Idle, End, Failed, Full as OverFull}
+use Rattle.osc_turn.specs.History.{texts}
 use Rattle.osc_links.specs.declared.served.Bounds.{Bounds}
-use Rattle.osc_links.specs.declared.served.TickerEnd.{TickerEnd}
-use Rattle.osc_links.specs.declared.served.TickerEnd.TheVariants.{Done as TickerDone, ClockFailed as TickerFailed, Full as TickerFull}
-use Rattle.osc_links.specs.Hosts.{AreServed, IsUnserved, ServesAll, Hosts}
-use Rattle.osc_links.specs.Links.{LinkTurn, HasEndCause}
-use Rattle.osc_life.specs.Holders.{holder_at}
-use Rattle.osc_life.specs.Lives.{HasNoRoomToEnrol}
-use Rattle.osc_lanes.specs.Performs.{Part}
-use Rattle.osc_links.specs.Serves.{failed_from, has_failed, is_clock_failed, link_in}
-use Rattle.osc_life.specs.Holders.{Holder}
-use Rattle.osc_links.specs.Ticks.{ClockRead, EndsTicks}
+use Rattle.osc_links.specs.Links.{LinkTurn}
+use Rattle.osc_links.specs.Ticks.{ClockRead}
 use Rattle.osc_lanes.specs.Shares.{Account}
 use Rattle.osc_print.specs.Lines.{fault_text}
 use Rattle.osc_replay.specs.Printed.{printed}
@@ -43,7 +29,9 @@ use Rattle.osc_words.specs.declared.command.LiveCommand.TheVariants as live
 use Rattle.osc_ends.specs.declared.outcome.Outcome.{Outcome}
 use Rattle.osc_ends.specs.declared.outcome.Outcome.TheVariants.{Done, Full, LinkFailed, ClockFailed}
 use Rattle.osc_top.specs.Commands.{capacities_of, mode_of}
-use Rattle.osc_top.specs.Edges.{HasLinkRisen, HasRisen, TellsEdge}
+use Rattle.osc_links.specs.Faults.{HasLinkRisen}
+use Rattle.osc_links.proofs.LinkFaults.{links_steady, clock_steady, hosts_link_risen, hosts_clock_risen}
+use Rattle.osc_top.specs.Edges.{HasRisen, TellsEdge}
 use Rattle.osc_top.specs.EndsCommand.{EndsCommand, plays_of}
 use Rattle.osc_top.specs.History.{IsOneHistory, RecordsHistory}
 use Rattle.osc_top.specs.Lanes.{HaveHeardAll, first_stop, lane_faults}
@@ -59,36 +47,6 @@ use Rattle.osc_ends.specs.Inputs.{OfInput}
 use Rattle.osc_ends.proofs.Inputs.{any_bytes}
 use Rattle.osc_top.proofs.LiveEnds.{ends_short_of_memory, not_failed, written_of}
 
--- What a count of faults does, by how a link or the ticker ended.
-
-over_still : (over : Over) (left : Option (List LinkTurn)) (before now : ℕ) → HasEndCause over left before now → has_failed over ≡ false → now ≡ before
-over_still Count left before now cause is = cause
-over_still Idle left before now cause is = cause
-over_still End left before now cause is = cause.1
-over_still Failed left before now cause is = absurd (cc)
-over_still (OverFull room) left before now cause is = cause
-
-over_risen : (over : Over) (left : Option (List LinkTurn)) (before now : ℕ) → HasEndCause over left before now → has_failed over ≡ true → Rose before now
-over_risen Count left before now cause is = absurd (cc)
-over_risen Idle left before now cause is = absurd (cc)
-over_risen End left before now cause is = absurd (cc)
-over_risen Failed left before now cause is = cause
-over_risen (OverFull room) left before now cause is = absurd (cc)
-
-module _ {M : Type 0} (keep : M → Fixed) (heard : M → Option (List ℕ)) where
-  ticks_still : (player : Holder) (last : Option ℕ) (tokens : List (List Seen)) (before : Option (List ℕ)) (clock : ClockRead) (end : TickerEnd)
-      (here there : List Seen) → EndsTicks keep heard player last tokens before clock end here there → is_clock_failed end ≡ false → clock.now ≡ clock.faults
-  ticks_still player last tokens before clock TickerDone here there ends is = ends.0
-  ticks_still player last tokens before clock TickerFailed here there ends is = absurd (cc)
-  ticks_still player last tokens before clock (TickerFull room) here there ends is = ends.0
-
-  ticks_risen : (player : Holder) (last : Option ℕ) (tokens : List (List Seen)) (before : Option (List ℕ)) (clock : ClockRead) (end : TickerEnd)
-      (here there : List Seen) → EndsTicks keep heard player last tokens before clock end here there → is_clock_failed end ≡ true
-      → Rose clock.faults clock.now
-  ticks_risen player last tokens before clock TickerDone here there ends is = absurd (cc)
-  ticks_risen player last tokens before clock TickerFailed here there ends is = ends.0
-  ticks_risen player last tokens before clock (TickerFull room) here there ends is = absurd (cc)
-
 -- An outcome by what failed.
 
 done_so : (outcome : Outcome) → status_of outcome ≡ 0 → outcome ≡ Done
@@ -102,95 +60,6 @@ none_failed : (failed : Option ℕ) (clock_failed : Bool) (stop : Option Room) �
 none_failed (Some link) clock_failed stop is = absurd (cc)
 none_failed None true stop is = absurd (cc)
 none_failed None false stop is = (refl, refl)
-
-module _ {M L : Type 0} (left : L → Option (List LinkTurn)) (faults : L → ℕ) (keep : M → Fixed) (heard : M → Option (List ℕ)) (caps : Limits) (bounds : Bounds) where
-  module _ (history : List Seen) where
-    abbrev Served : ℕ → List L → List (LinkEnd L) → List (List Seen) → Type 0
-    Served number links ends tokens = AreServed left faults keep heard caps bounds history number links ends tokens
-
-    -- no link failed
-    links_still : (number first : ℕ) (links : List L) (ends : List (LinkEnd L)) (tokens : List (List Seen)) → Served number links ends tokens
-        → failed_from first ends ≡ None → map faults (map link_in ends) ≡ map faults links
-    links_still number first [] [] [] shares none = refl
-    links_still number first [] [] (there ∷ tokens) shares none = absurd shares
-    links_still number first [] (end ∷ ends) tokens shares none = absurd shares
-    links_still number first (link ∷ links) [] tokens shares none = absurd shares
-    links_still number first (link ∷ links) (end ∷ ends) [] shares none = absurd shares
-    links_still number first (link ∷ links) (end ∷ ends) (there ∷ tokens) shares none =
-        go (has_failed end.over) refl none (links_still (number + 1) (first + 1) links ends tokens shares.1) where
-          go : (test : Bool) → has_failed end.over ≡ test → (if test then Some first else failed_from (first + 1) ends) ≡ None
-              → (failed_from (first + 1) ends ≡ None → map faults (map link_in ends) ≡ map faults links)
-              → faults end.from ∷ map faults (map link_in ends) ≡ faults link ∷ map faults links
-          go true is none rest = absurd (cc)
-          go false is none rest =
-              ap (λ (n : ℕ). n ∷ map faults (map link_in ends)) (over_still end.over (left end.from) (faults link) (faults end.from) shares.0.cause is)
-              ∙ ap (λ (l : List ℕ). faults link ∷ l) (rest none)
-
-    -- the place of the link that is told, among those from this one on
-    abbrev RisenFrom : ℕ → ℕ → List L → List (LinkEnd L) → Type 0
-    RisenFrom first link links ends = (place : ℕ) × (link ≡ first + place) × HasLinkRisen faults place links (map link_in ends)
-
-    link_risen : (number first link : ℕ) (links : List L) (ends : List (LinkEnd L)) (tokens : List (List Seen)) → Served number links ends tokens
-        → failed_from first ends ≡ Some link → RisenFrom first link links ends
-    link_risen number first link [] [] tokens shares is = absurd (cc)
-    link_risen number first link [] (end ∷ ends) tokens shares is = absurd shares
-    link_risen number first link (one ∷ links) [] tokens shares is = absurd shares
-    link_risen number first link (one ∷ links) (end ∷ ends) [] shares is = absurd shares
-    link_risen number first link (one ∷ links) (end ∷ ends) (there ∷ tokens) shares is =
-        go (has_failed end.over) refl is (link_risen (number + 1) (first + 1) link links ends tokens shares.1) where
-          same : Some first ≡ Some link → link ≡ first + 0
-          same told = let equal : first ≡ link = cc in omega (arith, equal)
-
-          go : (test : Bool) → has_failed end.over ≡ test → (if test then Some first else failed_from (first + 1) ends) ≡ Some link
-              → (failed_from (first + 1) ends ≡ Some link → RisenFrom (first + 1) link links ends) → RisenFrom first link (one ∷ links) (end ∷ ends)
-          go true failed told rest = (0, same told, over_risen end.over (left end.from) (faults one) (faults end.from) shares.0.cause failed)
-          go false failed told rest = let later = rest told in (suc later.0, omega (arith, later.1), later.2)
-
-  module _ (part : Part M) (links : List L) (clock : ClockRead) (hosted : Hosted M L)
-      (hosts : Hosts left faults keep heard caps bounds part links clock hosted) where
-    abbrev Serving : Type 0
-    Serving = ServesAll left faults keep heard caps bounds hosts.history links clock hosted.links
-
-    served_or_not : Serving ⊎ IsUnserved links clock hosted.links
-    served_or_not = go hosted.opening.stop hosted.unenrolled hosts.shares where
-      go : (stop unenrolled : Option CodeRoom)
-          → MatchOption stop
-          (MatchOption unenrolled ((hosts.callers ≡ length links + 1) × Serving)
-          (λ room. (hosts.callers < length links + 1) × HasNoRoomToEnrol caps hosts.history (room_of room) × IsUnserved links clock hosted.links))
-          (λ room. (hosts.callers ≡ 0) × (hosted.unenrolled ≡ None) × (own 0 hosts.history ≡ hosts.history) × IsUnserved links clock hosted.links)
-          → Serving ⊎ IsUnserved links clock hosted.links
-      go None None shares = inl shares.1
-      go None (Some room) shares = inr shares.2
-      go (Some room) unenrolled shares = inr shares.3
-
-    pub hosts_still : hosted.links.failed ≡ None → hosted.links.clock_failed ≡ false
-        → (map faults hosted.links.links.items ≡ map faults links) × (clock.now ≡ clock.faults)
-    hosts_still none sound = go served_or_not where
-      go : Serving ⊎ IsUnserved links clock hosted.links → (map faults hosted.links.links.items ≡ map faults links) × (clock.now ≡ clock.faults)
-      go (inr unserved) = (ap (map faults) unserved.links_are, unserved.clock_is.1)
-      go (inl serves) = (
-        ap (map faults) serves.tells.links_are ∙ links_still hosts.history 1 0 links serves.ends serves.tokens serves.shares (sym serves.tells.failed_is ∙ none),
-        ticks_still keep heard (holder_at caps (length links + 1)) serves.ticks.3.last serves.tokens serves.ticks.3.between clock serves.ticker_end
-            serves.ticks.3.place serves.ticks.1 serves.ticks.3.ends (sym serves.tells.clock_failed_is ∙ sound),
-      )
-
-    pub hosts_link_risen : (link : ℕ) → hosted.links.failed ≡ Some link → HasLinkRisen faults link links hosted.links.links.items
-    hosts_link_risen link is = go served_or_not where
-      go : Serving ⊎ IsUnserved links clock hosted.links → HasLinkRisen faults link links hosted.links.links.items
-      go (inr unserved) = let none : None ≡ Some link = sym unserved.failed_is ∙ is in absurd (cc)
-      go (inl serves) =
-          let risen = link_risen hosts.history 1 0 link links serves.ends serves.tokens serves.shares (sym serves.tells.failed_is ∙ is) in
-          let same : risen.0 ≡ link = omega (arith, risen.1) in
-          subst (λ (l : List L). HasLinkRisen faults link links l) (sym serves.tells.links_are)
-          (subst (λ (n : ℕ). HasLinkRisen faults n links (map link_in serves.ends)) same risen.2)
-
-    pub hosts_clock_risen : hosted.links.clock_failed ≡ true → Rose clock.faults clock.now
-    hosts_clock_risen is = go served_or_not where
-      go : Serving ⊎ IsUnserved links clock hosted.links → Rose clock.faults clock.now
-      go (inr unserved) = let none : false ≡ true = sym unserved.clock_failed_is ∙ is in absurd (cc)
-      go (inl serves) =
-          ticks_risen keep heard (holder_at caps (length links + 1)) serves.ticks.3.last serves.tokens serves.ticks.3.between clock
-          serves.ticker_end serves.ticks.3.place serves.ticks.1 serves.ticks.3.ends (sym serves.tells.clock_failed_is ∙ is)
 
 -- The faults of lanes, joined.
 
@@ -251,9 +120,11 @@ module _ {M L : Type 0} (keep : M → Fixed) (heard : M → Option (List ℕ)) (
 
     played_still : status_of outcome ≡ 0 → AreStill
     played_still zero_is =
-        let none = none_failed plays.hosted.links.failed plays.hosted.links.clock_failed stop (sym plays.outcome_is ∙ done_so outcome zero_is) in
-        let still = hosts_still left faults keep heard limits bounds (adds_part lines bank) links clock plays.hosted plays.hosts none.0 none.1 in
-        (ap (map faults) plays.links_are ∙ still.0, still.1)
+        let none = none_failed plays.hosted.links.failed plays.hosted.links.clock_failed stop (sym plays.outcome_is ∙ done_so outcome zero_is) in (
+          ap (map faults) plays.links_are
+              ∙ links_steady left faults keep heard limits bounds (adds_part lines bank) links clock plays.hosted plays.hosts none.0,
+          clock_steady left faults keep heard limits bounds (adds_part lines bank) links clock plays.hosted plays.hosts none.1,
+        )
 
     played_risen : status_of outcome ≡ 7 → HasRisen faults outcome links links_after clock
     played_risen seven =
@@ -261,7 +132,7 @@ module _ {M L : Type 0} (keep : M → Fixed) (heard : M → Option (List ℕ)) (
         subst (λ (o : Outcome). HasRisen faults o links links_after clock) (sym plays.outcome_is)
         (subst (λ (l : List L). HasRisen faults (served told.failed told.clock_failed stop) links l clock) (sym plays.links_are)
         (risen_by faults links told.links.items clock told.failed told.clock_failed stop (sym (ap status_of plays.outcome_is) ∙ seven)
-        (hosts_link_risen left faults keep heard limits bounds (adds_part lines bank) links clock plays.hosted plays.hosts)
+        (λ link is. (hosts_link_risen left faults keep heard limits bounds (adds_part lines bank) links clock plays.hosted plays.hosts link is).0)
         (hosts_clock_risen left faults keep heard limits bounds (adds_part lines bank) links clock plays.hosted plays.hosts)))
 
   pub live_still : (command : LiveCommand) (script : List ℕ) → EndsSo command script

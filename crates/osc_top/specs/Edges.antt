@@ -1,6 +1,7 @@
 -- What failed of links and a clock, and what is told of it.
-use Rattle.std.specs.Prelude.{ℕ, List, ◌++◌, slice_get, IsSomeAnd}
+use Rattle.std.specs.Prelude.{ℕ, List, ◌++◌}
 use Rattle.osc_edge.specs.Faults.{Rose}
+use Rattle.osc_links.specs.Faults.{HasLinkRisen}
 use Rattle.osc_links.specs.Ticks.{ClockRead}
 use Rattle.osc_ends.specs.declared.outcome.Outcome.{Outcome}
 use Rattle.osc_ends.specs.declared.outcome.Outcome.TheVariants.{LinkFailed, ClockFailed}
@@ -8,15 +9,9 @@ use Rattle.osc_ends.specs.Printing.{last_text}
 use Rattle.osc_ends.specs.Sinks.{SinkChange, Gains}
 
 module _ {L : Type 0} (faults : L → ℕ) where
-  -- the count of faults rose of the link in this place
-  abbrev pub HasLinkRisen : ℕ → List L → List L → Type 0
-  HasLinkRisen link links links_after =
-      IsSomeAnd (slice_get links link) (λ before. IsSomeAnd (slice_get links_after link)
-      (λ after. Rose (faults before) (faults after)))
-
   -- the outcome is a failure, and the count of faults rose of what it names
   abbrev pub HasRisen : Outcome → List L → List L → ClockRead → Type 0
-  HasRisen (LinkFailed link) links links_after clock = HasLinkRisen link links links_after
+  HasRisen (LinkFailed link) links links_after clock = HasLinkRisen faults link links links_after
   HasRisen ClockFailed links links_after clock = Rose clock.faults clock.now
   HasRisen _ links links_after clock = ⊥
 

@@ -1,7 +1,8 @@
--- What failed of links and a clock, by what is told of them.
+-- What failed of links and a clock, by what is reported of them, and that all links come back.
 use Rattle.std.proofs.Common.{◌≡◌, ◌⊎◌, inl, inr, ℕ, suc, ◌+◌, ◌<◌, Bool, true, false, List, [], ◌∷◌, map, length, take, Option, Some, None}
 use Rattle.std.proofs.Common.{if◌then◌else◌, refl, sym, ap, subst, ◌∙◌, arith}
 use Rattle.std.specs.Prelude.{MatchOption}
+use Rattle.std.proofs.lemmas.List.{length-map}
 use Rattle.osc_edge.specs.Faults.{Rose}
 use Rattle.osc_atoms.specs.declared.room.Room.{Room as CodeRoom}
 use Rattle.osc_method.specs.Heard.{Fixed}
@@ -23,7 +24,7 @@ use Rattle.osc_life.specs.Lives.{HasNoRoomToEnrol}
 use Rattle.osc_lanes.specs.Performs.{Part}
 use Rattle.osc_links.specs.Serves.{failed_from, has_failed, is_clock_failed, link_in}
 use Rattle.osc_links.specs.Ticks.{ClockRead, EndsTicks}
-use Rattle.osc_stage.specs.Ends.{HasLinkRisen}
+use Rattle.osc_links.specs.Faults.{HasLinkRisen}
 
 -- What a count of faults does, by how a link or the ticker ended.
 
@@ -59,6 +60,16 @@ module _ {M L : Type 0} (left : L → Option (List LinkTurn)) (faults : L → �
   module _ (history : List Seen) where
     abbrev Served : ℕ → List L → List (LinkEnd L) → List (List Seen) → Type 0
     Served number links ends tokens = AreServed left faults keep heard caps bounds history number links ends tokens
+
+    -- each link has an end
+    ends_many : (number : ℕ) (links : List L) (ends : List (LinkEnd L)) (tokens : List (List Seen)) → Served number links ends tokens
+        → length ends ≡ length links
+    ends_many number [] [] [] served = refl
+    ends_many number [] [] (there ∷ tokens) served = absurd served
+    ends_many number [] (end ∷ ends) tokens served = absurd served
+    ends_many number (link ∷ links) [] tokens served = absurd served
+    ends_many number (link ∷ links) (end ∷ ends) [] served = absurd served
+    ends_many number (link ∷ links) (end ∷ ends) (there ∷ tokens) served = ap suc (ends_many (number + 1) links ends tokens served.1)
 
     -- no link failed
     links_still : (number first : ℕ) (links : List L) (ends : List (LinkEnd L)) (tokens : List (List Seen)) → Served number links ends tokens
@@ -131,6 +142,14 @@ module _ {M L : Type 0} (left : L → Option (List LinkTurn)) (faults : L → �
       go None None shares = inl shares.1
       go None (Some room) shares = inr shares.2
       go (Some room) unenrolled shares = inr shares.3
+
+    -- as many links come back as were served
+    pub links_back : length hosted.links.links.items ≡ length links
+    links_back = go served_or_not where
+      go : Serving ⊎ IsUnserved links clock hosted.links → length hosted.links.links.items ≡ length links
+      go (inr unserved) = ap length unserved.links_are
+      go (inl serves) =
+          ap length serves.tells.links_are ∙ length-map serves.ends link_in ∙ ends_many hosts.history 1 links serves.ends serves.tokens serves.shares
 
     pub links_steady : hosted.links.failed ≡ None → map faults hosted.links.links.items ≡ map faults links
     links_steady none = go served_or_not where
