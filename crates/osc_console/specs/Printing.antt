@@ -42,7 +42,8 @@ module _ {A P : Type 0} where
       (mid : List (Consumer ℕ A P)) × TakenFrom pieces before mid × TakesAt piece mid after
 
   -- pieces came out of the rings, and if all of them were taken, the sink has gained them
-  pub record Prints (before after : List (Consumer ℕ A P)) (sink : SinkChange) (taken : Bool) : Type 0
+  pub record Prints (before after : List (Consumer ℕ A P)) (sink : SinkChange) (taken : Bool)
+      : Type 0
     where
       pub pieces : List Piece
       pub came : TakenFrom pieces before after

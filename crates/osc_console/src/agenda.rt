@@ -179,7 +179,8 @@ fn first_later(waiters: &[Awaited], tag: u64) -> Option<usize>
 /// The place before the first unit that is due later.
 #[tactic(auto, using(crate::proofs::Entering::places))]
 fn place_of(waiters: &Vec<Awaited>, tag: u64) -> usize
-    ensures place { result ≡ position_or_len (λ other. nat_lt tag other.unit.tag) waiters.now.items }
+    ensures place { result
+        ≡ position_or_len (λ other. nat_lt tag other.unit.tag) waiters.now.items }
     ensures bound { result ≤ length waiters.now.items }
 {
     match first_later(waiters, tag) {

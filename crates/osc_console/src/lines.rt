@@ -52,7 +52,7 @@ impl Drop for Lines<'_> {
 impl<'a> Lines<'a> {
     ghost use Rattle.std.specs.Prelude.{◌≡◌, ◌↔◌, [], IsTrue, OnOk, None};
     ghost use Rattle.osc_ends.specs.Sinks.{sink_change};
-    ghost use Rattle.osc_console.specs.Showing.{MakesLines, Shows, PutsTogether};
+    ghost use Rattle.osc_console.specs.Showing.{AddsCame, after_came, MakesLines, Shows, PutsTogether};
     ghost use Rattle.osc_console.specs.Agenda.{first_tag};
 
     /// Nothing was shown yet. Takes no memory.
@@ -122,17 +122,31 @@ impl<'a> Lines<'a> {
             self.old.view.routes.now came.entry round self.old.agenda.waiters.items
             self.new.agenda.waiters.items self.new.text.items) }
     {
+        self.make_came(came)?;
+        self.agenda.called_lines(&mut self.text, self.view, round)
+    }
+
+    /// Makes the lines of what came.
+    fn make_came(&mut self, came: Option<Came<'_>>) -> Result<(), AllocError>
+        ensures view { self.new.view ≡ self.old.view }
+        ensures unshown { self.new.unshown ≡ self.old.unshown }
+        ensures lines { OnOk result (AddsCame self.old.view.look self.old.view.late
+            self.old.view.routes.now came.entry self.new.text.items) }
+        ensures waiters { OnOk result (self.new.agenda.waiters.items ≡ after_came
+            self.old.view.look self.old.view.late self.old.view.routes.now came.entry
+            self.old.agenda.waiters.items) }
+    {
         self.text.clear();
-        if let Some(came) = came {
-            self.agenda.datagram_lines(
+        match came {
+            Some(came) => self.agenda.datagram_lines(
                 &mut self.text,
                 self.view,
                 came.arrival,
                 came.datagram,
                 came.submission,
-            )?;
+            ),
+            None => Ok(()),
         }
-        self.agenda.called_lines(&mut self.text, self.view, round)
     }
 
     /// Puts before the lines how many datagrams weren't shown, and the day, where it is another one.

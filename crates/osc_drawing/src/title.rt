@@ -25,6 +25,9 @@ pub(crate) fn plain_look(clock: WallClock) -> Look
 {
     Look {
         clock,
+        since: None,
+        caller: None,
+        whole: false,
         colours: false,
         quiet: false,
     }

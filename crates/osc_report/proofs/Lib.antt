@@ -1,3 +1,4 @@
+mod Appended
 mod Clocks
 mod Stretching
 mod Showing

@@ -1,5 +1,5 @@
 -- Entries that are shown at one moment are shown at theirs.
-use Rattle.std.proofs.Common.{◌≡◌, ℕ, zero, suc, ◌+◌, ◌<◌, Bool, true, false, List, [], ◌∷◌, ◌++◌, length, take, drop, get_or, None, refl, sym, ap, subst, ◌∙◌, arith}
+use Rattle.std.proofs.Common.{◌≡◌, ℕ, zero, suc, ◌+◌, ◌<◌, Bool, true, false, List, [], ◌∷◌, ◌++◌, length, take, drop, get_or, Option, Some, None, refl, sym, ap, subst, ◌∙◌, arith}
 use Rattle.std.proofs.Math.Seq.{take-suc}
 use Rattle.std.proofs.lemmas.List.{map-append}
 use Rattle.osc_model.specs.Limits.{Limits}
@@ -8,31 +8,114 @@ use Rattle.osc_record.specs.declared.event.Entry.{Entry as Read}
 use Rattle.osc_record.specs.Left.{placed_of}
 use Rattle.osc_record.specs.Reading.{Placed}
 use Rattle.osc_record.specs.Unread.{Remaining}
+use Rattle.osc_story.specs.declared.disagreement.Disagreement.{Disagreement}
 use Rattle.osc_story.specs.declared.disagreement.SeeFault.{SeeFault}
+use Rattle.osc_story.specs.declared.disagreement.SeeFault.TheVariants as see
 use Rattle.osc_story.specs.Seen.{IsFaultOf}
 use Rattle.osc_report.specs.declared.reporter.ShowFault.{ShowFault}
 use Rattle.osc_report.specs.declared.reporter.ShowFault.TheVariants as fault
-use Rattle.osc_story.specs.Standings.{Standing, seen, seen_all, disagreement, AgreesAll}
+use Rattle.osc_story.specs.Standings.{Standing, seen, seen_all, disagreement, AgreesAll, Follows}
 use Rattle.osc_report.specs.declared.options.Options.{Options}
 use Rattle.osc_report.specs.declared.span.Span.{Span}
 use Rattle.osc_report.specs.declared.stretch.Shown.{Shown}
 use Rattle.osc_report.specs.declared.stretch.Shown.TheVariants.{Stretch, All, NotWhole}
-use Rattle.osc_report.specs.Moments.{ends_stretch, moment_of}
-use Rattle.osc_report.specs.Stretches.{GoesOn, IsStretch, EndsSo, HasRead, clock_after, placed, told}
-use Rattle.osc_report.specs.Reports.{Reporting, IsEntryShown, AddsShown, Takes, IsPageOf, ShowsEntry, ShowsEntries, ShowsStretch, FailsAt, FailsFor, fault_at}
+use Rattle.osc_report.specs.Moments.{moment_of, shown_moment}
+use Rattle.osc_report.specs.Stretches.{GoesOn, EndsSo, HasRead, clock_after, placed, told}
+use Rattle.osc_report.specs.Reports.{Reporting, IsFirst, IsEntryShown, IsEntryTold, AddsShown, ShowsEntry, ShowsEntries, ShowsStretch, FailsAt, FailsIn, FailsFor, fault_at}
+use Rattle.osc_report.specs.declared.front.Front.{Front}
+use Rattle.osc_report.specs.declared.moved_line.MovedLine.{MovedLine}
+use Rattle.osc_report.specs.declared.news.News.{News}
+use Rattle.osc_report.specs.declared.news.RunNews.{RunNews}
+use Rattle.osc_report.specs.Entries.{AreEntryLines}
+use Rattle.osc_report.specs.Fronts.{front_at, front_by}
+use Rattle.osc_report.specs.Kept.{IsMovedLine, IsNews, IsRunNews, plain_of, Tells, TellsMoved, TellsNews, with_first}
+use Rattle.osc_report.specs.Runs.{Progress, TellsEntry, TellsOther}
+use Rattle.osc_report.specs.Steps.{Moved, IsStep, moved}
+use Rattle.osc_runs.specs.Gathering.{Run}
+use Rattle.std.specs.Option.{option_map}
 use Rattle.osc_report.proofs.Clocks.{moment_on, moment_all, moment_stretch}
 
--- an entry is shown that was taken after its page was added
-pub entry_shown : (old : Reporting) (moment : ℕ) (entry : Entry) (page copied before after : List ℕ) (span : Span) (new : Reporting)
-    → IsPageOf old moment entry page span → copied ≡ page → after ≡ before ++ copied → Takes old entry span new → ShowsEntry old moment entry before after new
-entry_shown old moment entry page copied before after span new paged same adds takes = record {
-  agrees = takes.follows.agrees;
-  one = page;
-  shown = subst (λ (s : Span). IsEntryShown old.options old.standing old.span moment entry page s) (sym takes.span_is) (paged takes.follows.agrees);
-  options = takes.options;
-  standing = takes.follows.becomes;
-  text = adds ∙ ap (λ (l : List ℕ). before ++ l) same;
+-- the line of what may be told with others
+step_shown : (options : Options) (front : Front) (one : Option Moved) (news : RunNews) (kept : Option MovedLine) → news.front ≡ front
+    → IsMovedLine front.look.whole one kept → IsStep options front news.all.items one (option_map (plain_of options news) kept)
+step_shown options front None news kept same is = ap (option_map (plain_of options news)) is
+step_shown options front (Some one) news None same is = absurd is
+step_shown options front (Some one) news (Some kept) same is = (
+  kept.words.items,
+  is.2,
+  ap (λ (f : Front). record {
+    look = (front_by options f kept.caller).look;
+    moment = f.moment;
+    address = kept.address.items;
+    words = kept.words.items;
+    line = news.all.items;
+  }) same
+      ∙ ap (λ (n : ℕ). record {
+        look = (front_by options front n).look;
+        moment = front.moment;
+        address = kept.address.items;
+        words = kept.words.items;
+        line = news.all.items;
+      }) is.0
+      ∙ ap (λ (a : List ℕ). record {
+        look = (front_by options front one.caller).look;
+        moment = front.moment;
+        address = a;
+        words = kept.words.items;
+        line = news.all.items;
+      }) is.1,
+)
+
+tells_kept : (options : Options) (old : Progress) (moment : ℕ) (lines : List ℕ) (news : RunNews) (kept : Option MovedLine) (text : List ℕ) (span : Span)
+    (run : Run) → news.front.moment ≡ moment → TellsMoved options old lines news kept text span run
+    → TellsEntry options old (shown_moment moment) lines news.all.items (option_map (plain_of options news) kept) text span run
+tells_kept options old moment lines news (Some kept) text span run same tells = tells
+tells_kept options old moment lines news None text span run same tells =
+    subst (λ (n : ℕ). TellsOther options old (shown_moment n) lines news.all.items text span run) same tells
+
+-- what is told by the news of an entry is what is shown at it
+told_so : (runs : Bool) (options : Options) (standing : Standing) (old : Progress) (moment : ℕ) (entry : Entry) (first : Option ℕ) (lines : List ℕ)
+    (news : Option RunNews) (text : List ℕ) (new : Progress) → IsFirst options standing old.span.first moment entry first
+    → AreEntryLines options (front_at options first moment) standing entry lines
+    → IsRunNews runs options (front_at options first moment) standing entry news
+    → TellsNews options (with_first old first) moment lines news text new.span new.run → IsEntryTold runs options standing old moment entry text new
+told_so false options standing old moment entry first lines None text new first_is lines_are is tells =
+    ((first, lines, first_is, lines_are, tells.0), tells.1)
+told_so false options standing old moment entry first lines (Some news) text new first_is lines_are is tells = absurd (cc)
+told_so true options standing old moment entry first lines None text new first_is lines_are is tells = absurd is
+told_so true options standing old moment entry first lines (Some news) text new first_is lines_are is tells = record {
+  first = first;
+  lines = lines;
+  all = news.all.items;
+  step = option_map (plain_of options news) news.moved;
+  first_is = first_is;
+  lines_are = lines_are;
+  all_are = is.1;
+  step_is = step_shown options (front_at options first moment) (moved standing moment entry.answer) news news.moved is.0 is.2;
+  tells = tells_kept options (with_first old first) moment lines news news.moved text new.span new.run (ap (λ (f : Front). f.moment) is.0) tells;
 }
+
+-- an entry is shown that agrees, was seen, and then told
+pub entry_shown : (old seen_so new : Reporting) (moment : ℕ) (entry : Entry) (news : News) (before after : List ℕ)
+    → (disagreement old.standing entry ≡ None → IsNews old.options old.standing old.progress.span.first moment entry news)
+    → Follows old.standing entry seen_so.standing → seen_so.options ≡ old.options → seen_so.progress ≡ old.progress
+    → Tells seen_so moment news before after new → ShowsEntry old moment entry before after new
+entry_shown old seen_so new moment entry news before after is follows options_are progress_is tells =
+    let so = is follows.agrees in
+    record {
+      agrees = follows.agrees;
+      one = tells.text;
+      shown =
+          told_so old.options.runs old.options old.standing old.progress moment entry news.first news.lines.items news.run tells.text new.progress
+          so.first_is so.lines_are so.run_is
+          (subst (λ (p : Progress). TellsNews old.options (with_first p news.first) moment news.lines.items news.run tells.text new.progress.span
+          new.progress.run) progress_is
+          (subst (λ (o : Options). TellsNews o (with_first seen_so.progress news.first) moment news.lines.items news.run tells.text new.progress.span
+          new.progress.run) options_are tells.tells));
+      options = tells.options ∙ options_are;
+      standing = tells.standing ∙ follows.becomes;
+      text = tells.added;
+    }
 
 -- each of them has this moment
 abbrev Steady : ℕ → Standing → List Entry → Type 0
@@ -68,16 +151,16 @@ steady (NotWhole place) caps at standing entries rest moment (on, place_is, noth
 
 -- they are shown at their moments
 adds_shown : (old : Reporting) (moment : ℕ) (entries : List Entry) (before after : List ℕ) (new : Reporting) → Steady moment old.standing entries
-    → ShowsEntries old moment entries before after new → AddsShown old.options old.standing old.span entries before after new.span
-adds_shown old moment [] before after new same (is, stays) = (is, ap (λ (r : Reporting). r.span) stays)
+    → ShowsEntries old moment entries before after new → AddsShown old.options old.standing old.progress entries before after new.progress
+adds_shown old moment [] before after new same (is, stays) = (is, ap (λ (r : Reporting). r.progress) stays)
 adds_shown old moment (entry ∷ entries) before after new same (mid, between, one, others) =
     let then = adds_shown between moment entries mid after new (subst (λ (s : Standing). Steady moment s entries) (sym one.standing) same.1) others in (
       one.one,
-      between.span,
-      subst (λ (n : ℕ). IsEntryShown old.options old.standing old.span n entry one.one between.span) (sym same.0) one.shown,
-      subst (λ (o : Options). AddsShown o (seen old.standing entry) between.span entries (before ++ one.one) after new.span) one.options
-          (subst (λ (s : Standing). AddsShown between.options s between.span entries (before ++ one.one) after new.span) one.standing
-          (subst (λ (l : List ℕ). AddsShown between.options between.standing between.span entries l after new.span) one.text then)),
+      between.progress,
+      subst (λ (n : ℕ). IsEntryShown old.options old.standing old.progress n entry one.one between.progress) (sym same.0) one.shown,
+      subst (λ (o : Options). AddsShown o (seen old.standing entry) between.progress entries (before ++ one.one) after new.progress) one.options
+          (subst (λ (s : Standing). AddsShown between.options s between.progress entries (before ++ one.one) after new.progress) one.standing
+          (subst (λ (l : List ℕ). AddsShown between.options between.standing between.progress entries l after new.progress) one.text then)),
     )
 
 -- all of them agree
@@ -150,24 +233,28 @@ next_shown old moment entries i entry before mid after was new less is so one =
 
 -- or it can't be
 pub fails : (old : Reporting) (moment : ℕ) (entries : List Read) (i : ℕ) (entry : Read) (before mid after : List ℕ) (was new : Reporting) (why : SeeFault)
-    (cause : ShowFault) → i < length entries → entry ≡ get_or entries i entry → ShowsEntries old moment (told (placed (take i entries))) before mid was
-    → IsFaultOf why was.standing (placed_of entry).entry → (new ≡ was) × (after ≡ mid) → cause ≡ fault_at entry.at why
-    → FailsAt old moment (placed entries) cause before after new
-fails old moment entries i entry before mid after was new why cause less is so caused stays cause_is = record {
-  front = placed (take i entries);
-  one = placed_of entry;
-  more = placed (drop (suc i) entries);
-  are = ap placed (split_at entries i entry less is) ∙ map-append placed_of (take i entries) (entry ∷ drop (suc i) entries);
-  shown = subst (λ (r : Reporting). ShowsEntries old moment (told (placed (take i entries))) before after r) (sym stays.0)
-      (subst (λ (l : List ℕ). ShowsEntries old moment (told (placed (take i entries))) before l was) (sym stays.1) so);
-  why = why;
-  cause_is = cause_is;
-  caused = subst (λ (r : Reporting). IsFaultOf why r.standing (placed_of entry).entry) (sym stays.0) caused;
-}
+    → i < length entries → entry ≡ get_or entries i entry → ShowsEntries old moment (told (placed (take i entries))) before mid was
+    → IsFaultOf why was.standing (placed_of entry).entry
+    → ((one : Disagreement) → why ≡ see.Disagrees one → (new ≡ was) × (after ≡ mid))
+    → FailsIn old moment (placed entries) (fault_at entry.at why) before after new
+fails old moment entries i entry before mid after was new see.NoMemory less is so caused stays = tt
+fails old moment entries i entry before mid after was new (see.Disagrees one) less is so caused stays =
+    let same = stays one refl in
+    record {
+      front = placed (take i entries);
+      one = placed_of entry;
+      more = placed (drop (suc i) entries);
+      are = ap placed (split_at entries i entry less is) ∙ map-append placed_of (take i entries) (entry ∷ drop (suc i) entries);
+      shown = subst (λ (r : Reporting). ShowsEntries old moment (told (placed (take i entries))) before after r) (sym same.0)
+          (subst (λ (l : List ℕ). ShowsEntries old moment (told (placed (take i entries))) before l was) (sym same.1) so);
+      why = see.Disagrees one;
+      cause_is = refl;
+      caused = subst (λ (r : Reporting). IsFaultOf (see.Disagrees one) r.standing (placed_of entry).entry) (sym same.0) caused;
+    }
 
 pub fails_for : (old : Reporting) (left now : Remaining) (shown : Shown) (entries : List Placed) (clock : ℕ) (cause : ShowFault) (before after : List ℕ)
     (new : Reporting) → HasRead left (told entries) shown now → clock ≡ clock_after old.standing.clock (told entries)
-    → FailsAt old clock entries cause before after new → FailsFor old left cause before after new
+    → FailsIn old clock entries cause before after new → FailsFor old left cause before after new
 fails_for old left now shown entries clock fault.NoMemory before after new read clock_is fails = tt
 fails_for old left now shown entries clock (fault.Disagrees at why) before after new read clock_is fails = record {
   entries = entries;

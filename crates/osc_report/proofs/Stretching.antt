@@ -1,9 +1,7 @@
 -- Entries that are read one after another.
-use Rattle.std.proofs.Common.{◌≡◌, ℕ, ◌+◌, Bool, true, false, List, [], ◌∷◌, ◌++◌, length, length-append, refl, sym, ap, subst, ◌∙◌, append_assoc, append-nil, arith, Some, None}
+use Rattle.std.proofs.Common.{◌≡◌, ℕ, ◌+◌, false, List, [], ◌∷◌, ◌++◌, length, length-append, refl, sym, ap, subst, ◌∙◌, append_assoc, append-nil, arith, Some, None}
 use Rattle.std.proofs.lemmas.List.{map-append}
-use Rattle.std.specs.Prelude.{map}
 use Rattle.std.specs.List.{AllByRecursion}
-use Rattle.osc_model.specs.Limits.{Limits}
 use Rattle.osc_model.specs.Events.{Entry}
 use Rattle.osc_record.specs.Reading.{Placed}
 use Rattle.osc_record.specs.Unread.{Remaining, Reads}
@@ -12,7 +10,7 @@ use Rattle.osc_story.proofs.Onward.{can_append, text_append}
 use Rattle.osc_report.specs.declared.stretch.Shown.{Shown}
 use Rattle.osc_report.specs.declared.stretch.Shown.TheVariants.{Stretch, All, NotWhole}
 use Rattle.osc_report.specs.Moments.{ends_stretch}
-use Rattle.osc_report.specs.Stretches.{GoesOn, IsStretch, EndsSo, HasRead, told, clock_at, clock_after, ReadsOne, ReadsNone, ReadsNext}
+use Rattle.osc_report.specs.Stretches.{GoesOn, EndsSo, HasRead, told, clock_at, clock_after, ReadsNone, ReadsNext}
 use Rattle.osc_report.proofs.Clocks.{clock_on}
 
 -- these entries were read, and the clock stands there after them

@@ -1,5 +1,5 @@
 -- Which lines are shown.
-use Rattle.std.specs.Prelude.{ℕ, Bool, true, ◌&&◌, ◌||◌, List, [], ◌∷◌}
+use Rattle.std.specs.Prelude.{ℕ, Bool, true, false, ◌&&◌, ◌||◌, List, [], ◌∷◌}
 use Rattle.std.specs.Prelude.{Option, Some, None, is_some}
 use Rattle.std.specs.List.{list_any}
 use Rattle.osc_message.specs.Reading.{pattern_of}
@@ -10,8 +10,16 @@ use Rattle.osc_report.specs.Windows.{is_from, is_to}
 
 -- all lines that look so
 abbrev pub all_lines : Look → Bool → Options
-all_lines look ticks =
-    record { look = look; ticks = ticks; from = None; to = None; only = None }
+all_lines look ticks = record {
+  look = look;
+  relative = false;
+  callers = false;
+  ticks = ticks;
+  from = None;
+  to = None;
+  only = None;
+  runs = false;
+}
 
 -- the same whatever addresses lines have
 abbrev pub unfiltered : Options → Options

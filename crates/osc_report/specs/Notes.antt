@@ -13,38 +13,40 @@ use Rattle.osc_shown.specs.declared.wall_clock.WallClock.{WallClock}
 use Rattle.osc_shown.specs.Numbers.{thousands}
 use Rattle.osc_shown.specs.Times.{time_text}
 use Rattle.osc_shown.specs.Told.{note_text}
+use Rattle.osc_report.specs.declared.front.Front.{Front}
 use Rattle.osc_report.specs.declared.options.Options.{Options}
 use Rattle.osc_report.specs.Choices.{is_named}
+use Rattle.osc_report.specs.Moments.{shown_moment}
 
--- the front of a line
-abbrev pub head : Options → Option ℕ → ℕ → ℕ → Head
-head options moment mark join =
-    record { look = options.look; moment = moment; mark = mark; join = join }
+-- what stands before the words of a line
+abbrev pub head : Front → ℕ → ℕ → Head
+head front mark join =
+    record { look = front.look; moment = shown_moment front.moment; mark = mark; join = join }
 
 -- a line of words with a tail, unless it is left out
-abbrev pub note : Options → Option ℕ → ℕ → List ℕ → List ℕ → List ℕ
-note options moment mark words tail = note_text (head options moment mark 32) words tail
+abbrev pub note : Front → ℕ → List ℕ → List ℕ → List ℕ
+note front mark words tail = note_text (head front mark 32) words tail
 
 -- the line of an address, unless it is left out
-abbrev pub named_note : Options → Option ℕ → ℕ → List ℕ → List ℕ → List ℕ
-named_note options moment mark address tail =
-    if is_named options.only address then note options moment mark address tail else []
+abbrev pub named_note : Options → Front → ℕ → List ℕ → List ℕ → List ℕ
+named_note options front mark address tail =
+    if is_named options.only address then note front mark address tail else []
 
 -- a line that has no address, unless it is left out
-abbrev pub unnamed_note : Options → Option ℕ → ℕ → List ℕ → List ℕ → List ℕ
-unnamed_note options moment mark words tail =
-    if is_none options.only then note options moment mark words tail else []
+abbrev pub unnamed_note : Options → Front → ℕ → List ℕ → List ℕ → List ℕ
+unnamed_note options front mark words tail =
+    if is_none options.only then note front mark words tail else []
 
 -- one that stands only where ticks are shown
-abbrev pub tick_note : Options → Option ℕ → List ℕ → List ℕ
-tick_note options moment words =
-    if options.ticks then unnamed_note options moment 46 words [] else []
+abbrev pub tick_note : Options → Front → List ℕ → List ℕ
+tick_note options front words =
+    if options.ticks then unnamed_note options front 46 words [] else []
 
 -- a new caller
-abbrev pub enrol_text : Options → Option ℕ → Answer → List ℕ
-enrol_text options moment (number n) = tick_note options moment (codes "caller " ++ decimal n)
-enrol_text options moment callers_full = tick_note options moment (codes "no more callers")
-enrol_text options moment _ = []
+abbrev pub enrol_text : Options → Front → Answer → List ℕ
+enrol_text options front (number n) = tick_note options front (codes "caller " ++ decimal n)
+enrol_text options front callers_full = tick_note options front (codes "no more callers")
+enrol_text options front _ = []
 
 -- above an address there is the method with an id
 abbrev pub under_words : List Method → ℕ → List ℕ
@@ -70,33 +72,33 @@ why_not methods (refused why) = Some (refused_words methods why)
 why_not methods _ = None
 
 -- an address to which a method was to be added, while these are there
-abbrev pub add_text : Options → Option ℕ → List Method → List ℕ → Answer → List ℕ
-add_text options moment methods address (added id) =
-    named_note options moment 43 address []
-add_text options moment methods address (refused why) =
-    named_note options moment 33 address (refused_words methods why)
-add_text options moment methods address _ = []
+abbrev pub add_text : Options → Front → List Method → List ℕ → Answer → List ℕ
+add_text options front methods address (added id) =
+    named_note options front 43 address []
+add_text options front methods address (refused why) =
+    named_note options front 33 address (refused_words methods why)
+add_text options front methods address _ = []
 
 -- an address whose method was to be removed
-abbrev pub remove_text : Options → Option ℕ → List ℕ → Answer → List ℕ
-remove_text options moment address (removed id) =
-    named_note options moment 45 address []
-remove_text options moment address not_there =
-    named_note options moment 33 address (codes "not removed, no method is there")
-remove_text options moment address _ = []
+abbrev pub remove_text : Options → Front → List ℕ → Answer → List ℕ
+remove_text options front address (removed id) =
+    named_note options front 45 address []
+remove_text options front address not_there =
+    named_note options front 33 address (codes "not removed, no method is there")
+remove_text options front address _ = []
 
 -- to when a clock went back
 abbrev pub back_words : WallClock → ℕ → List ℕ
 back_words clock now = codes "the clock went back to " ++ time_text clock now
 
 -- a tick that isn't after the clock
-abbrev pub clock_back_text : Options → Option ℕ → ℕ → List ℕ
-clock_back_text options moment now =
-    unnamed_note options moment 33 (back_words options.look.clock now)
+abbrev pub clock_back_text : Options → Front → ℕ → List ℕ
+clock_back_text options front now =
+    unnamed_note options front 33 (back_words front.look.clock now)
     (codes "it stays where it was")
 
 -- a tick
-abbrev pub tick_text : Options → Option ℕ → ℕ → Answer → List ℕ
-tick_text options moment now ticked = tick_note options moment (codes "tick")
-tick_text options moment now (clock_back kept) = clock_back_text options moment now
-tick_text options moment now _ = []
+abbrev pub tick_text : Options → Front → ℕ → Answer → List ℕ
+tick_text options front now ticked = tick_note options front (codes "tick")
+tick_text options front now (clock_back kept) = clock_back_text options front now
+tick_text options front now _ = []

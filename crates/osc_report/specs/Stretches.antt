@@ -4,7 +4,7 @@ use Rattle.std.specs.Prelude.{◌≡◌, ℕ, ◌+◌, true, false, Bool, List, 
 use Rattle.std.specs.Prelude.{Option, Some, None}
 use Rattle.std.specs.List.{AllByRecursion}
 use Rattle.osc_model.specs.Limits.{Limits}
-use Rattle.osc_model.specs.Events.{Event, enrol, submit, add, remove, tick, release}
+use Rattle.osc_model.specs.Events.{Event, tick}
 use Rattle.osc_model.specs.Events.{Answer, ticked, Entry}
 use Rattle.osc_record.specs.declared.event.Entry.{Entry as Read}
 use Rattle.osc_record.specs.Left.{placed_of}

@@ -6,13 +6,14 @@ use Rattle.osc_message.specs.Arguments.{unknown_of}
 use Rattle.osc_message.specs.Reading.{pattern_of}
 use Rattle.osc_model.specs.Events.{Call}
 use Rattle.osc_shown.specs.declared.head.Head.{Head}
-use Rattle.osc_shown.specs.declared.look.Look.{Look}
 use Rattle.osc_shown.specs.Called.{called_by, late_part, IsQueuedTail}
 use Rattle.osc_shown.specs.Lines.{join_of}
 use Rattle.osc_shown.specs.Tails.{called_mark, joined}
 use Rattle.osc_shown.specs.Told.{AddsTold}
+use Rattle.osc_report.specs.declared.front.Front.{Front}
 use Rattle.osc_report.specs.declared.options.Options.{Options}
 use Rattle.osc_report.specs.Choices.{is_named, is_call_named}
+use Rattle.osc_report.specs.Moments.{shown_moment}
 use Rattle.osc_report.specs.Notes.{head}
 
 -- What is told of a unit's messages: that they make calls, and for which time tag they came late, if
@@ -35,17 +36,18 @@ mark_of_called made index message =
     called_mark (unknown_of message) (length (places_in index made))
 
 -- its tail
-abbrev pub tail_of_called : Option ℕ → Option ℕ → List Call → ℕ → List ℕ → List ℕ
-tail_of_called moment late made index message =
-    joined (called_by (unknown_of message) message (places_in index made)) (late_part moment late)
+abbrev pub tail_of_called : Front → Option ℕ → List Call → ℕ → List ℕ → List ℕ
+tail_of_called front late made index message =
+    joined (called_by front.look.whole (unknown_of message) message (places_in index made))
+    (late_part (shown_moment front.moment) late)
 
 -- the mark and the tail of the message at an index
-abbrev pub IsTell : Look → Option ℕ → Tell → ℕ → List ℕ → ℕ → List ℕ → Type 0
-IsTell look moment (calls made late) index message mark tail =
+abbrev pub IsTell : Front → Tell → ℕ → List ℕ → ℕ → List ℕ → Type 0
+IsTell front (calls made late) index message mark tail =
     (mark ≡ mark_of_called made index message)
-    × (tail ≡ tail_of_called moment late made index message)
-IsTell look moment (waits due is_due) index message mark tail =
-    (mark ≡ 126) × IsQueuedTail look.clock moment due is_due tail
+    × (tail ≡ tail_of_called front late made index message)
+IsTell front (waits due is_due) index message mark tail =
+    (mark ≡ 126) × IsQueuedTail front.look.clock (shown_moment front.moment) due is_due tail
 
 -- the line of a message was added, if it is shown
 abbrev pub AddsChosen : Bool → Head → List ℕ → List ℕ → List ℕ → List ℕ → Type 0
@@ -58,20 +60,19 @@ is_told only (calls made late) index message = is_call_named only message (place
 is_told only (waits due is_due) index message = is_named only (pattern_of message)
 
 -- it was added, with a join, if it is shown
-pub record AddsToldLine (options : Options) (moment : Option ℕ) (tell : Tell) (index join : ℕ)
+pub record AddsToldLine (options : Options) (front : Front) (tell : Tell) (index join : ℕ)
     (message before after : List ℕ) : Type 0 where
   pub mark : ℕ
   pub tail : List ℕ
-  pub told : IsTell options.look moment tell index message mark tail
+  pub told : IsTell front tell index message mark tail
   pub text : AddsChosen (is_told options.only tell index message)
-      (head options moment mark join) message tail before after
+      (head front mark join) message tail before after
 
 -- the lines of the messages from an index on were added
-abbrev pub AddsToldLines : Options → Option ℕ → Tell → ℕ → List (List ℕ) → List ℕ → List ℕ
-    → Type 0
-AddsToldLines options moment tell index [] before after = after ≡ before
-AddsToldLines options moment tell index (message ∷ messages) before after =
+abbrev pub AddsToldLines : Options → Front → Tell → ℕ → List (List ℕ) → List ℕ → List ℕ → Type 0
+AddsToldLines options front tell index [] before after = after ≡ before
+AddsToldLines options front tell index (message ∷ messages) before after =
     (mid : List ℕ)
-    × AddsToldLine options moment tell index (join_of (index == 0) (length messages == 0)) message
+    × AddsToldLine options front tell index (join_of (index == 0) (length messages == 0)) message
     before mid
-    × AddsToldLines options moment tell (index + 1) messages mid after
+    × AddsToldLines options front tell (index + 1) messages mid after

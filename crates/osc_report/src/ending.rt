@@ -4,6 +4,7 @@ ghost use Rattle.osc_shown.specs.Columns.{painted};
 ghost use Rattle.osc_report.specs.Endings as spec;
 ghost use Rattle.osc_report.specs.Endings.{AddsQueued, AddsWaiting, IsEnd};
 
+use crate::front::Front;
 use crate::page::page_of;
 use crate::stretch::shown_moment;
 use crate::told::{Told, add_all_told};
@@ -22,7 +23,8 @@ pub(crate) fn end_lines(
     ensures { IfOk result (λ text. IsEnd options.now story.now span text.items) }
 {
     let mut lines = Vec::new(alloc);
-    add_waiting(&mut lines, options, story.clock(), story.waiting())?;
+    let front = options.front_at(span.first, story.clock());
+    add_waiting(&mut lines, options, front, story.waiting())?;
     let moment = shown_moment(story.clock());
     let (mut page, _) = page_of(alloc, options, span, moment, &lines)?;
     add_totals(
@@ -44,18 +46,18 @@ fn add_totals(out: &mut Vec<u8>, look: Look, is_part: bool, sums: Sums) -> Resul
     totals_line(out, look, sums)
 }
 
-/// Adds the lines of the units that wait, where the clock stands at a moment.
+/// Adds the lines of the units that wait, where the clock stands at their moment.
 fn add_waiting(
     out: &mut Vec<u8>,
     options: &Options,
-    clock: u64,
+    front: Front,
     units: &[Waiting],
 ) -> Result<(), AllocError>
-    ensures { OnOk result (AddsWaiting options.now clock units.now out.old.items out.new.items) }
+    ensures { OnOk result (AddsWaiting options.now front units.now out.old.items out.new.items) }
 {
     let mut rest = units;
     while let Some((unit, others)) = rest.split_first() {
-        add_queued(out, options, clock, unit)?;
+        add_queued(out, options, front, unit)?;
         rest = others;
     }
     Ok(())
@@ -64,16 +66,17 @@ fn add_waiting(
 fn add_queued(
     out: &mut Vec<u8>,
     options: &Options,
-    clock: u64,
+    front: Front,
     unit: &Waiting,
 ) -> Result<(), AllocError>
-    ensures { OnOk result (AddsQueued options.now clock unit.now out.old.items out.new.items) }
+    ensures { OnOk result (AddsQueued options.now front unit.now out.old.items out.new.items) }
 {
     let told = Told::Queued {
         due: unit.due(),
-        is_due: unit.due() <= clock,
+        is_due: unit.due() <= front.moment,
     };
-    add_all_told(out, options, shown_moment(clock), told, unit.messages())
+    let front = options.front_by(front, unit.caller());
+    add_all_told(out, options, front, told, unit.messages())
 }
 
 fn sums_of(story: &Story, span: Span) -> Sums

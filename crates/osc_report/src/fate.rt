@@ -10,31 +10,33 @@ ghost use Rattle.osc_report.specs.Selections.{selects};
 ghost use Rattle.osc_report.specs.Units.{AddsChosen};
 ghost use Rattle.osc_shown.specs.Tails.{waits};
 
+use crate::front::Front;
+use crate::stretch::shown_moment;
 use crate::told::add_chosen;
 use crate::{Options, Selector};
 use osc_message::Message;
 use osc_packet::{Unit, UnitMessages};
-use osc_shown::{Answered, Arrival, Head, Look, answer_tail, join_of, unit_lines};
+use osc_shown::{Answered, Arrival, Head, answer_tail, join_of, unit_lines};
 use std::alloc::{AllocError, Global};
 
 /// Adds the lines of a unit that are shown.
 pub(crate) fn add_fate(
     out: &mut Vec<u8>,
     options: &Options,
-    moment: Option<u64>,
+    front: Front,
     answer: Answered,
     unit: &Unit<'_>,
 ) -> Result<(), AllocError>
-    ensures { OnOk result (AddsFate options.now moment answer unit.now out.old.items
+    ensures { OnOk result (AddsFate options.now front answer unit.now out.old.items
         out.new.items) }
 {
     if is_one_line(answer, unit) {
         let is_shown = is_any_named(options, unit);
-        return add_one_line(out, is_shown, options.look, moment, answer, unit);
+        return add_one_line(out, is_shown, front, answer, unit);
     }
     let alloc: Global = *out.allocator();
-    let tail = answer_tail(alloc, arrival_at(moment), answer, unit.tag())?;
-    add_refused(out, options, moment, &tail, unit)
+    let tail = answer_tail(alloc, arrival_at(front.moment), answer, unit.tag())?;
+    add_refused(out, options, front, &tail, unit)
 }
 
 /// Whether a unit is one line: it waits, or has no message.
@@ -54,11 +56,11 @@ fn waits(answer: Answered) -> bool
 }
 
 /// When a packet came; its sender isn't known.
-fn arrival_at(moment: Option<u64>) -> Arrival
+fn arrival_at(moment: u64) -> Arrival
     ensures { result ≡ spec.arrival_at moment }
 {
     Arrival {
-        moment,
+        moment: shown_moment(moment),
         sender: None,
     }
 }
@@ -67,16 +69,16 @@ fn arrival_at(moment: Option<u64>) -> Arrival
 fn add_one_line(
     out: &mut Vec<u8>,
     is_shown: bool,
-    look: Look,
-    moment: Option<u64>,
+    front: Front,
     answer: Answered,
     unit: &Unit<'_>,
 ) -> Result<(), AllocError>
-    ensures { OnOk result (AddsOneLine is_shown look moment answer unit.now out.old.items
+    ensures { OnOk result (AddsOneLine is_shown front answer unit.now out.old.items
         out.new.items) }
 {
     if is_shown {
-        return unit_lines(out, look, arrival_at(moment), answer, unit, &[]);
+        let arrival = arrival_at(front.moment);
+        return unit_lines(out, front.look, arrival, answer, unit, &[]);
     }
     Ok(())
 }
@@ -108,11 +110,11 @@ fn selects_any(selector: &Selector, messages: UnitMessages<'_>) -> bool
 fn add_refused(
     out: &mut Vec<u8>,
     options: &Options,
-    moment: Option<u64>,
+    front: Front,
     tail: &[u8],
     unit: &Unit<'_>,
 ) -> Result<(), AllocError>
-    ensures { OnOk result (AddsRefused options.now moment tail.now true unit.now.messages
+    ensures { OnOk result (AddsRefused options.now front tail.now true unit.now.messages
         out.old.items out.new.items) }
 {
     let mut left = unit.count();
@@ -120,7 +122,7 @@ fn add_refused(
     for message in unit.messages() {
         left = left.saturating_sub(1);
         let join = join_of(first, left == 0);
-        add_refused_line(out, options, moment, join, &message, tail)?;
+        add_refused_line(out, options, front, join, &message, tail)?;
         first = false;
     }
     Ok(())
@@ -130,17 +132,17 @@ fn add_refused(
 fn add_refused_line(
     out: &mut Vec<u8>,
     options: &Options,
-    moment: Option<u64>,
+    front: Front,
     join: u8,
     message: &Message<'_>,
     tail: &[u8],
 ) -> Result<(), AllocError>
     ensures { OnOk result (AddsChosen (choices.is_named options.now.only (pattern_of message.now))
-        (notes.head options.now moment 33 join) message.now tail.now out.old.items out.new.items) }
+        (notes.head front 33 join) message.now tail.now out.old.items out.new.items) }
 {
     let head = Head {
-        look: options.look,
-        moment,
+        look: front.look,
+        moment: shown_moment(front.moment),
         mark: b'!',
         join,
     };

@@ -6,6 +6,8 @@ ghost use Rattle.osc_record.specs.Shown.{answer_of};
 ghost use Rattle.osc_report.specs.Notes as spec;
 
 use crate::Options;
+use crate::front::Front;
+use crate::stretch::shown_moment;
 use osc_record::Answer;
 use osc_shown::{Head, WallClock, note_line, number_words, time_words};
 use osc_story::{Registered, address_of};
@@ -14,18 +16,17 @@ use std::alloc::{AllocError, Global};
 /// Adds a line of words with a tail.
 fn add_note(
     out: &mut Vec<u8>,
-    options: &Options,
-    moment: Option<u64>,
+    front: Front,
     mark: u8,
     words: &[u8],
     tail: &[u8],
 ) -> Result<(), AllocError>
     ensures { OnOk result (out.new.items
-        ≡ out.old.items ++ spec.note options.now moment mark words.now tail.now) }
+        ≡ out.old.items ++ spec.note front mark words.now tail.now) }
 {
     let head = Head {
-        look: options.look,
-        moment,
+        look: front.look,
+        moment: shown_moment(front.moment),
         mark,
         join: b' ',
     };
@@ -36,67 +37,67 @@ fn add_note(
 fn add_named(
     out: &mut Vec<u8>,
     options: &Options,
-    moment: Option<u64>,
+    front: Front,
     mark: u8,
     address: &[u8],
     tail: &[u8],
 ) -> Result<(), AllocError>
     ensures { OnOk result (out.new.items
-        ≡ out.old.items ++ spec.named_note options.now moment mark address.now tail.now) }
+        ≡ out.old.items ++ spec.named_note options.now front mark address.now tail.now) }
 {
     if !options.has_named(address) {
         return Ok(());
     }
-    add_note(out, options, moment, mark, address, tail)
+    add_note(out, front, mark, address, tail)
 }
 
 /// Adds a line that has no address, unless it is left out.
 pub(crate) fn add_unnamed(
     out: &mut Vec<u8>,
     options: &Options,
-    moment: Option<u64>,
+    front: Front,
     mark: u8,
     words: &[u8],
     tail: &[u8],
 ) -> Result<(), AllocError>
     ensures { OnOk result (out.new.items
-        ≡ out.old.items ++ spec.unnamed_note options.now moment mark words.now tail.now) }
+        ≡ out.old.items ++ spec.unnamed_note options.now front mark words.now tail.now) }
 {
     if !options.has_unnamed() {
         return Ok(());
     }
-    add_note(out, options, moment, mark, words, tail)
+    add_note(out, front, mark, words, tail)
 }
 
 /// Adds a line that stands only where ticks are shown.
 fn add_tick_note(
     out: &mut Vec<u8>,
     options: &Options,
-    moment: Option<u64>,
+    front: Front,
     words: &[u8],
 ) -> Result<(), AllocError>
     ensures { OnOk result (out.new.items
-        ≡ out.old.items ++ spec.tick_note options.now moment words.now) }
+        ≡ out.old.items ++ spec.tick_note options.now front words.now) }
 {
     if !options.ticks {
         return Ok(());
     }
-    add_unnamed(out, options, moment, b'.', words, b"")
+    add_unnamed(out, options, front, b'.', words, b"")
 }
 
 /// Adds the line of a new caller.
 pub(crate) fn add_enrol(
     out: &mut Vec<u8>,
     options: &Options,
-    moment: Option<u64>,
+    front: Front,
     answer: Answer<'_>,
 ) -> Result<(), AllocError>
     ensures { OnOk result (out.new.items
-        ≡ out.old.items ++ spec.enrol_text options.now moment (answer_of answer.entry)) }
+        ≡ out.old.items ++ spec.enrol_text options.now front (answer_of answer.entry)) }
 {
     match answer {
-        Answer::Number(number) => add_caller(out, options, moment, number),
-        Answer::CallersFull => add_tick_note(out, options, moment, b"no more callers"),
+        Answer::Number(number) => add_caller(out, options, front, number),
+        Answer::CallersFull => add_tick_note(out, options, front, b"no more callers"),
         _ => Ok(()),
     }
 }
@@ -104,15 +105,15 @@ pub(crate) fn add_enrol(
 fn add_caller(
     out: &mut Vec<u8>,
     options: &Options,
-    moment: Option<u64>,
+    front: Front,
     number: u32,
 ) -> Result<(), AllocError>
     ensures { OnOk result (out.new.items
-        ≡ out.old.items ++ spec.tick_note options.now moment (codes "caller " ++ decimal number)) }
+        ≡ out.old.items ++ spec.tick_note options.now front (codes "caller " ++ decimal number)) }
 {
     let alloc: Global = *out.allocator();
     let words = caller_words(alloc, number)?;
-    add_tick_note(out, options, moment, words.as_bytes())
+    add_tick_note(out, options, front, words.as_bytes())
 }
 
 fn caller_words(alloc: Global, number: u32) -> Result<String, AllocError>
@@ -125,20 +126,20 @@ fn caller_words(alloc: Global, number: u32) -> Result<String, AllocError>
 pub(crate) fn add_add(
     out: &mut Vec<u8>,
     options: &Options,
-    moment: Option<u64>,
+    front: Front,
     methods: &[Registered],
     address: &[u8],
     answer: Answer<'_>,
 ) -> Result<(), AllocError>
     ensures { OnOk result (out.new.items ≡ out.old.items
-        ++ spec.add_text options.now moment methods.now address.now (answer_of answer.entry)) }
+        ++ spec.add_text options.now front methods.now address.now (answer_of answer.entry)) }
 {
     if let Answer::Added(_) = answer {
-        return add_named(out, options, moment, b'+', address, b"");
+        return add_named(out, options, front, b'+', address, b"");
     }
     let alloc: Global = *out.allocator();
     match why_not(alloc, methods, answer)? {
-        Some(why) => add_named(out, options, moment, b'!', address, &why),
+        Some(why) => add_named(out, options, front, b'!', address, &why),
         None => Ok(()),
     }
 }
@@ -184,16 +185,16 @@ fn full_words(alloc: Global, limit: u32) -> Result<Vec<u8>, AllocError>
 pub(crate) fn add_remove(
     out: &mut Vec<u8>,
     options: &Options,
-    moment: Option<u64>,
+    front: Front,
     address: &[u8],
     answer: Answer<'_>,
 ) -> Result<(), AllocError>
     ensures { OnOk result (out.new.items ≡ out.old.items
-        ++ spec.remove_text options.now moment address.now (answer_of answer.entry)) }
+        ++ spec.remove_text options.now front address.now (answer_of answer.entry)) }
 {
     match answer {
-        Answer::Removed(_) => add_named(out, options, moment, b'-', address, b""),
-        Answer::NotThere => add_not_there(out, options, moment, address),
+        Answer::Removed(_) => add_named(out, options, front, b'-', address, b""),
+        Answer::NotThere => add_not_there(out, options, front, address),
         _ => Ok(()),
     }
 }
@@ -201,17 +202,17 @@ pub(crate) fn add_remove(
 fn add_not_there(
     out: &mut Vec<u8>,
     options: &Options,
-    moment: Option<u64>,
+    front: Front,
     address: &[u8],
 ) -> Result<(), AllocError>
     ensures { OnOk result (out.new.items ≡ out.old.items
-        ++ spec.named_note options.now moment 33 address.now
+        ++ spec.named_note options.now front 33 address.now
         (codes "not removed, no method is there")) }
 {
     add_named(
         out,
         options,
-        moment,
+        front,
         b'!',
         address,
         b"not removed, no method is there",
@@ -222,16 +223,16 @@ fn add_not_there(
 pub(crate) fn add_tick(
     out: &mut Vec<u8>,
     options: &Options,
-    moment: Option<u64>,
+    front: Front,
     now: u64,
     answer: Answer<'_>,
 ) -> Result<(), AllocError>
     ensures { OnOk result (out.new.items ≡ out.old.items
-        ++ spec.tick_text options.now moment now (answer_of answer.entry)) }
+        ++ spec.tick_text options.now front now (answer_of answer.entry)) }
 {
     match answer {
-        Answer::Ticked => add_tick_note(out, options, moment, b"tick"),
-        Answer::ClockBack(_) => add_clock_back(out, options, moment, now),
+        Answer::Ticked => add_tick_note(out, options, front, b"tick"),
+        Answer::ClockBack(_) => add_clock_back(out, options, front, now),
         _ => Ok(()),
     }
 }
@@ -239,16 +240,16 @@ pub(crate) fn add_tick(
 fn add_clock_back(
     out: &mut Vec<u8>,
     options: &Options,
-    moment: Option<u64>,
+    front: Front,
     now: u64,
 ) -> Result<(), AllocError>
     ensures { OnOk result (out.new.items
-        ≡ out.old.items ++ spec.clock_back_text options.now moment now) }
+        ≡ out.old.items ++ spec.clock_back_text options.now front now) }
 {
     let alloc: Global = *out.allocator();
-    let words = back_words(alloc, options.look.clock, now)?;
+    let words = back_words(alloc, front.look.clock, now)?;
     let tail = b"it stays where it was";
-    add_unnamed(out, options, moment, b'!', &words, tail)
+    add_unnamed(out, options, front, b'!', &words, tail)
 }
 
 fn back_words(alloc: Global, clock: WallClock, now: u64) -> Result<Vec<u8>, AllocError>

@@ -1,14 +1,19 @@
 // Shows a recording, stretch by stretch.
-ghost use Rattle.std.specs.Prelude.{◌≡◌, ◌++◌, OnOk, OnErr};
+ghost use Rattle.std.specs.Prelude.{◌≡◌};
 ghost use Rattle.osc_report.specs.Reports as spec;
 
 use crate::ending::end_lines;
 use crate::entry::entry_lines;
+use crate::front::Front;
+use crate::news::{News, RunNews};
 use crate::page::page_of;
+use crate::run::{rows_page, run_page};
+use crate::step::moved_line;
 use crate::stretch::{Shown, read_stretch, shown_moment};
 use crate::{Options, Span};
 use osc_model::Late;
 use osc_record::{Entry, Unread};
+use osc_runs::Runs;
 use osc_story::{Disagreement, SeeFault, Story};
 use std::alloc::{AllocError, Global};
 use std::marker::Model;
@@ -28,6 +33,7 @@ pub struct Reporter {
     options: Options,
     story: Story,
     span: Span,
+    run: Runs,
 }
 
 impl Drop for Reporter {
@@ -37,6 +43,7 @@ impl Drop for Reporter {
             options: _,
             story: _,
             span: _,
+            run: _,
         } = self;
     }
 }
@@ -46,16 +53,23 @@ impl Model for Reporter {
 
     ghost Value = { Reporting };
 
-    ghost view = { λ r. record { options = r.options; standing = r.story; span = r.span } };
+    ghost view = { λ r. record {
+      options = r.options;
+      standing = r.story;
+      progress = record { span = r.span; run = r.run };
+    } };
 }
 
 impl Reporter {
-    ghost use Rattle.std.specs.Prelude.{◌≡◌, OnOk, OnErr, IfOk, IfErr, None};
+    ghost use Rattle.std.specs.Prelude.{◌≡◌, OnOk, OnErr, IfOk, IfErr, Err, None};
     ghost use Rattle.osc_record.specs.Left.{placed_of};
     ghost use Rattle.osc_story.specs.Seen.{IsFaultOf};
-    ghost use Rattle.osc_report.specs.Reports.{begun, Takes, ShowsEntry, ShowsEntries, ShowsStretch};
+    ghost use Rattle.osc_report.specs.Kept.{IsNews, IsRunNews, Tells};
+    ghost use Rattle.osc_report.specs.Reports.{begun, ShowsEntry, ShowsEntries, ShowsStretch};
     ghost use Rattle.osc_story.specs.Standings.{disagreement};
-    ghost use Rattle.osc_report.specs.Reports.{IsFirst, IsPageOf, FailsAt, FailsFor, AddsEnd};
+    ghost use Rattle.osc_report.specs.Reports.{IsFirst, FailsIn, FailsFor, AddsEnd};
+    ghost use Rattle.osc_story.specs.declared.disagreement.Disagreement.{Disagreement};
+    ghost use Rattle.osc_story.specs.declared.disagreement.SeeFault.TheVariants as see;
     ghost use Rattle.osc_report.specs.Stretches.{placed, told};
 
     /// Nothing is shown yet. Takes no memory.
@@ -67,6 +81,7 @@ impl Reporter {
             options,
             story: Story::open(alloc, late),
             span: Span::none(),
+            run: Runs::open(alloc),
         }
     }
 
@@ -79,7 +94,7 @@ impl Reporter {
 
     /// When the first line was that has a time, and the last that was shown.
     pub fn span(&self) -> Span
-        ensures { result ≡ self.now.span }
+        ensures { result ≡ self.now.progress.span }
     {
         self.span
     }
@@ -101,14 +116,16 @@ impl Reporter {
         }
     }
 
-    /// Adds the lines after those of all entries: of each message that still waits, and of how much
-    /// was told. An `Err` means out of memory.
+    /// Adds what is told of lines that were gathered, and then the lines after those of all entries:
+    /// of each message that still waits, and of how much was told. An `Err` means out of memory.
     pub fn end(&self, text: &mut Vec<u8>) -> Result<(), AllocError>
         ensures ok { OnOk result (AddsEnd self.now text.old.items text.new.items) }
         ensures err { OnErr result (text.new.items ≡ text.old.items) }
     {
-        let lines = end_lines(self.alloc, &self.options, &self.story, self.span)?;
-        text.extend_from_slice(&lines)
+        let (mut told, span) = rows_page(self.alloc, &self.options, self.span, self.run.rows())?;
+        let lines = end_lines(self.alloc, &self.options, &self.story, span)?;
+        told.extend_from_slice(&lines)?;
+        text.extend_from_slice(&told)
     }
 
     /// Shows entries, all at one moment.
@@ -120,7 +137,7 @@ impl Reporter {
     ) -> Result<(), ShowFault>
         ensures ok { OnOk result (ShowsEntries self.old moment (told (placed entries.now))
             text.old.items text.new.items self.new) }
-        ensures why { IfErr result (λ fault. FailsAt self.old moment (placed entries.now) fault
+        ensures why { IfErr result (λ fault. FailsIn self.old moment (placed entries.now) fault
             text.old.items text.new.items self.new) }
     {
         for entry in entries {
@@ -131,7 +148,7 @@ impl Reporter {
         Ok(())
     }
 
-    /// Shows an entry. Whatever keeps it from that, nothing changes.
+    /// Shows an entry. Where it disagrees, nothing changes.
     fn show_entry(
         &mut self,
         text: &mut Vec<u8>,
@@ -142,67 +159,84 @@ impl Reporter {
             text.old.items text.new.items self.new) }
         ensures why { IfErr result
             (λ fault. IsFaultOf fault self.old.standing (placed_of entry.now).entry) }
-        ensures err { OnErr result ((self.new ≡ self.old) × (text.new.items ≡ text.old.items)) }
+        ensures stays { (why : Disagreement) → result ≡ Err (see.Disagrees why)
+            → (self.new ≡ self.old) × (text.new.items ≡ text.old.items) }
     {
-        let Ok((page, span)) = self.page_for(moment, entry) else {
+        let Ok(news) = self.news_of(moment, entry) else {
             return Err(SeeFault::NoMemory);
         };
-        let start = text.len();
-        let Ok(()) = append(text, &page) else {
-            return Err(SeeFault::NoMemory);
-        };
-        match self.take(entry, span) {
+        self.story.see(entry)?;
+        match self.tell(text, moment, &news) {
             Ok(()) => Ok(()),
-            Err(fault) => {
-                text.truncate(start);
-                Err(fault)
-            }
+            Err(_) => Err(SeeFault::NoMemory),
         }
     }
 
-    /// Sees an entry whose lines are shown, in such a span with those before.
-    fn take(&mut self, entry: &Entry<'_>, span: Span) -> Result<(), SeeFault>
-        ensures ok { OnOk result (Takes self.old (placed_of entry.now).entry span self.new) }
-        ensures why { IfErr result
-            (λ fault. IsFaultOf fault self.old.standing (placed_of entry.now).entry) }
-        ensures err { OnErr result (self.new ≡ self.old) }
+    /// What is shown of an entry, if it agrees.
+    fn news_of(&self, moment: u64, entry: &Entry<'_>) -> Result<News, AllocError>
+        ensures { IfOk result (λ news. disagreement self.now.standing (placed_of entry.now).entry
+            ≡ None → IsNews self.now.options self.now.standing self.now.progress.span.first moment
+            (placed_of entry.now).entry news) }
     {
-        self.story.see(entry)?;
-        self.span = span;
-        Ok(())
+        let first = self.first_for(moment, entry)?;
+        let front = self.options.front_at(first, moment);
+        let lines = entry_lines(self.alloc, &self.options, front, &self.story, entry)?;
+        let run = self.run_news_of(front, entry)?;
+        Ok(News { first, lines, run })
     }
 
-    /// The lines of an entry, if it agrees, after the line of a day where they are the first of it
-    /// that is shown.
-    fn page_for(&self, moment: u64, entry: &Entry<'_>) -> Result<(Vec<u8>, Span), AllocError>
-        ensures { IfOk result (λ page. IsPageOf self.now moment
-            (placed_of entry.now).entry page.0.items page.1) }
+    /// What of an entry matters to runs, where lines are told as such.
+    fn run_news_of(&self, front: Front, entry: &Entry<'_>) -> Result<Option<RunNews>, AllocError>
+        ensures { IfOk result (λ run. disagreement self.now.standing (placed_of entry.now).entry
+            ≡ None → IsRunNews self.now.options.runs self.now.options front self.now.standing
+            (placed_of entry.now).entry run) }
+    {
+        if !self.options.runs {
+            return Ok(None);
+        }
+        let options = self.options.unfiltered();
+        let all = entry_lines(self.alloc, &options, front, &self.story, entry)?;
+        let moved = moved_line(self.alloc, front, &self.story, entry.answer)?;
+        Ok(Some(RunNews { all, front, moved }))
+    }
+
+    /// Adds what is told at an entry.
+    fn tell(&mut self, text: &mut Vec<u8>, moment: u64, news: &News) -> Result<(), AllocError>
+        ensures { OnOk result (Tells self.old moment news.now text.old.items text.new.items
+            self.new) }
     {
         let span = Span {
-            first: self.first_for(moment, entry)?,
+            first: news.first,
             last: self.span.last,
         };
-        let lines = entry_lines(self.alloc, &self.options, moment, &self.story, entry)?;
-        page_of(
-            self.alloc,
-            &self.options,
-            span,
-            shown_moment(moment),
-            &lines,
-        )
+        let at = shown_moment(moment);
+        let (page, after) = match &news.run {
+            None => page_of(self.alloc, &self.options, span, at, &news.lines)?,
+            Some(run) => run_page(
+                self.alloc,
+                &self.options,
+                span,
+                &mut self.run,
+                &news.lines,
+                run,
+            )?,
+        };
+        self.span = after;
+        text.extend_from_slice(&page)
     }
 
     /// The moment of the first line that has a time, with those of an entry, if it agrees.
     fn first_for(&self, moment: u64, entry: &Entry<'_>) -> Result<Option<u64>, AllocError>
         ensures { IfOk result (λ first. disagreement self.now.standing (placed_of entry.now).entry
-            ≡ None → IsFirst self.now.options self.now.standing self.now.span.first moment
+            ≡ None → IsFirst self.now.options self.now.standing self.now.progress.span.first moment
             (placed_of entry.now).entry first) }
     {
         if self.span.first.is_some() {
             return Ok(self.span.first);
         }
         let options = self.options.unfiltered();
-        let lines = entry_lines(self.alloc, &options, moment, &self.story, entry)?;
+        let front = self.options.front_at(None, moment);
+        let lines = entry_lines(self.alloc, &options, front, &self.story, entry)?;
         Ok(first_of(&lines, moment))
     }
 }
@@ -225,11 +259,4 @@ fn fault_at(at: u32, fault: SeeFault) -> ShowFault
         SeeFault::NoMemory => ShowFault::NoMemory,
         SeeFault::Disagrees(why) => ShowFault::Disagrees { at, why },
     }
-}
-
-fn append(text: &mut Vec<u8>, page: &[u8]) -> Result<(), AllocError>
-    ensures ok { OnOk result (text.new.items ≡ text.old.items ++ page.now) }
-    ensures err { OnErr result (text.new.items ≡ text.old.items) }
-{
-    text.extend_from_slice(page)
 }

@@ -4,11 +4,10 @@ ghost use Rattle.osc_atoms.specs.declared.limits.TheConstants.{MAX_PACKET};
 ghost use Rattle.osc_packet.specs.Reading.{is_packet, units_read};
 ghost use Rattle.osc_record.specs.Shown.{answer_of};
 ghost use Rattle.osc_report.specs.Entries.{answered, queued_fate, AddsSaid, AddsSubmit};
-ghost use Rattle.osc_report.specs.Moments.{shown_moment};
 
 use crate::Options;
 use crate::fate::add_fate;
-use crate::stretch::shown_moment;
+use crate::front::Front;
 use osc_model::keeps;
 use osc_packet::{MAX_PACKET, Packet, Unit, Units};
 use osc_record::Answer;
@@ -20,17 +19,17 @@ use std::alloc::AllocError;
 pub(crate) fn add_submit(
     out: &mut Vec<u8>,
     options: &Options,
-    moment: u64,
+    front: Front,
     story: &Story,
     packet: &[u8],
     answer: Answer<'_>,
 ) -> Result<(), AllocError>
     ensures { OnOk result (is_packet MAX_PACKET packet.now ≡ true
-        → AddsSubmit options.now story.now moment (answer_of answer.entry)
+        → AddsSubmit options.now front story.now (answer_of answer.entry)
         (units_read packet.now) out.old.items out.new.items) }
 {
     match Packet::check(packet, MAX_PACKET) {
-        Ok(packet) => add_units(out, options, moment, story, packet.units(), answer),
+        Ok(packet) => add_units(out, options, front, story, packet.units(), answer),
         Err(_) => Ok(()),
     }
 }
@@ -38,20 +37,20 @@ pub(crate) fn add_submit(
 fn add_units(
     out: &mut Vec<u8>,
     options: &Options,
-    moment: u64,
+    front: Front,
     story: &Story,
     units: Units<'_>,
     answer: Answer<'_>,
 ) -> Result<(), AllocError>
-    ensures { OnOk result (AddsSubmit options.now story.now moment (answer_of answer.entry)
+    ensures { OnOk result (AddsSubmit options.now front story.now (answer_of answer.entry)
         units.entry out.old.items out.new.items) }
 {
     for unit in units {
         add_said(
             out,
             options,
-            moment,
-            answered(story, moment, answer, &unit),
+            front,
+            answered(story, front.moment, answer, &unit),
             &unit,
         )?;
     }
@@ -62,15 +61,15 @@ fn add_units(
 fn add_said(
     out: &mut Vec<u8>,
     options: &Options,
-    moment: u64,
+    front: Front,
     answered: Option<Answered>,
     unit: &Unit<'_>,
 ) -> Result<(), AllocError>
-    ensures { OnOk result (AddsSaid options.now (shown_moment moment) answered unit.now
-        out.old.items out.new.items) }
+    ensures { OnOk result (AddsSaid options.now front answered unit.now out.old.items
+        out.new.items) }
 {
     match answered {
-        Some(answer) => add_fate(out, options, shown_moment(moment), answer, unit),
+        Some(answer) => add_fate(out, options, front, answer, unit),
         None => Ok(()),
     }
 }

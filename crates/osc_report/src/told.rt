@@ -1,15 +1,19 @@
 // The lines of a unit's messages, when it is called, and when it waits at the end.
 ghost use Rattle.std.specs.Prelude.{◌≡◌, ◌++◌, OnOk, IfOk};
 ghost use Rattle.std.specs.List.{list_any};
+ghost use Rattle.osc_shown.specs.Called.{IsQueuedTail};
 ghost use Rattle.osc_report.specs.Choices.{is_call_named, selects_call};
+ghost use Rattle.osc_report.specs.Moments.{shown_moment};
 ghost use Rattle.osc_report.specs.Selections.{selects};
 ghost use Rattle.osc_report.specs.Units as spec;
 ghost use Rattle.osc_report.specs.Told.{told_in};
 ghost use Rattle.osc_report.specs.Units.{AddsChosen, AddsToldLine, AddsToldLines, IsTell};
 
+use crate::front::Front;
+use crate::stretch::shown_moment;
 use crate::{Options, Selector};
 use osc_message::Message;
-use osc_shown::{Head, Look, Place, called_mark, called_tail, join_of, message_line, queued_tail};
+use osc_shown::{Head, Place, called_mark, called_tail, join_of, message_line, queued_tail};
 use osc_story::{Call, KeptMessage};
 use std::alloc::{AllocError, Global};
 
@@ -32,25 +36,18 @@ pub(crate) enum Told<'a> {
 pub(crate) fn add_all_told(
     out: &mut Vec<u8>,
     options: &Options,
-    moment: Option<u64>,
+    front: Front,
     told: Told<'_>,
     messages: &[KeptMessage],
 ) -> Result<(), AllocError>
-    ensures { OnOk result (AddsToldLines options.now moment (told_in told.entry) 0 messages.now
+    ensures { OnOk result (AddsToldLines options.now front (told_in told.entry) 0 messages.now
         out.old.items out.new.items) }
 {
     let mut index = 0;
     let mut rest = messages;
     while let Some((message, others)) = rest.split_first() {
         let join = join_of(index == 0, others.is_empty());
-        add_told(
-            out,
-            options,
-            moment,
-            told,
-            &message.message(),
-            (index, join),
-        )?;
+        add_told(out, options, front, told, &message.message(), (index, join))?;
         index += 1;
         rest = others;
     }
@@ -61,19 +58,19 @@ pub(crate) fn add_all_told(
 fn add_told(
     out: &mut Vec<u8>,
     options: &Options,
-    moment: Option<u64>,
+    front: Front,
     told: Told<'_>,
     message: &Message<'_>,
     place: (usize, u8),
 ) -> Result<(), AllocError>
-    ensures { OnOk result (AddsToldLine options.now moment (told_in told.entry) place.0 place.1
+    ensures { OnOk result (AddsToldLine options.now front (told_in told.entry) place.0 place.1
         message.now out.old.items out.new.items) }
 {
     let alloc: Global = *out.allocator();
-    let (mark, tail) = tell(alloc, options.look, moment, told, message, place.0)?;
+    let (mark, tail) = tell(alloc, front, told, message, place.0)?;
     let head = Head {
-        look: options.look,
-        moment,
+        look: front.look,
+        moment: shown_moment(front.moment),
         mark,
         join: place.1,
     };
@@ -107,7 +104,8 @@ fn is_told(
     index: usize,
 ) -> Result<bool, AllocError>
     ensures { IfOk result
-        (λ told_ok. told_ok ≡ spec.is_told options.now.only (told_in told.entry) index message.now) }
+        (λ is_told. is_told
+        ≡ spec.is_told options.now.only (told_in told.entry) index message.now) }
 {
     match told {
         Told::Called { calls, .. } => is_call_named(alloc, options, calls, message, index),
@@ -153,26 +151,31 @@ fn selects_any(selector: &Selector, places: &[Place<'_>]) -> bool
 /// The mark and the tail of the message at this index.
 fn tell(
     alloc: Global,
-    look: Look,
-    moment: Option<u64>,
+    front: Front,
     told: Told<'_>,
     message: &Message<'_>,
     index: usize,
 ) -> Result<(u8, Vec<u8>), AllocError>
-    ensures { IfOk result (λ tell. IsTell look moment (told_in told.entry) index message.now
+    ensures { IfOk result (λ tell. IsTell front (told_in told.entry) index message.now
         tell.0 tell.1.items) }
 {
     match told {
-        Told::Called { calls, late } => tell_called(alloc, moment, calls, late, message, index),
-        Told::Queued { due, is_due } => {
-            Ok((b'~', queued_tail(alloc, look.clock, moment, due, is_due)?))
-        }
+        Told::Called { calls, late } => tell_called(alloc, front, calls, late, message, index),
+        Told::Queued { due, is_due } => Ok((b'~', tell_queued(alloc, front, due, is_due)?)),
     }
+}
+
+fn tell_queued(alloc: Global, front: Front, due: u64, is_due: bool) -> Result<Vec<u8>, AllocError>
+    ensures { IfOk result (λ tail. IsQueuedTail front.look.clock (shown_moment front.moment) due
+        is_due tail.items) }
+{
+    let moment = shown_moment(front.moment);
+    queued_tail(alloc, front.look.clock, moment, due, is_due)
 }
 
 fn tell_called(
     alloc: Global,
-    moment: Option<u64>,
+    front: Front,
     calls: &[Call<'_>],
     late: Option<u64>,
     message: &Message<'_>,
@@ -181,11 +184,12 @@ fn tell_called(
     ensures mark { IfOk result
         (λ tell. tell.0 ≡ spec.mark_of_called calls.now index message.now) }
     ensures tail { IfOk result
-        (λ tell. tell.1.items ≡ spec.tail_of_called moment late calls.now index message.now) }
+        (λ tell. tell.1.items ≡ spec.tail_of_called front late calls.now index message.now) }
 {
     let places = places_of(alloc, calls, index)?;
     let mark = called_mark(message, places.len());
-    let tail = called_tail(alloc, moment, late, message, &places)?;
+    let moment = shown_moment(front.moment);
+    let tail = called_tail(alloc, front.look, moment, late, message, &places)?;
     Ok((mark, tail))
 }
 

@@ -4,6 +4,7 @@ use Rattle.std.specs.Prelude.{if◌then◌else◌}
 use Rattle.std.specs.List.{flat_map}
 use Rattle.std.specs.Str.{bytes_eq}
 use Rattle.std.proofs.lemmas.Bool.Decides.{nat_tests}
+use Rattle.std.proofs.lemmas.List.{append-nil}
 use Rattle.std.proofs.lemmas.Slice.Eq.{bytes_eq-Decides}
 use Rattle.osc_shown.specs.declared.look.Look.{Look}
 use Rattle.osc_shown.specs.Numbers.{thousands}
@@ -129,29 +130,29 @@ several look address since first last count till =
     note_text (head_at look since) (address ++ codes " " ++ first ++ codes " .. " ++ last)
     (thousands count ++ codes " in " ++ span_text since till)
 
-several_row : (t : Bool) (look : Look) (row : Gathered) → nat_lt 2 row.count ≡ t → t ≡ true
-    → row_text look row ≡ several look row.address row.since row.first row.last row.count row.till
-several_row true look row is on = rw is refl
-several_row false look row is on = absurd (cc)
+several_row : (t : Bool) (row : Gathered) → nat_lt 2 row.count ≡ t → t ≡ true
+    → row_text row ≡ several row.look row.address row.since row.first row.last row.count row.till
+several_row true row is on = rw is refl
+several_row false row is on = absurd (cc)
 
-many : (look : Look) (more : List Plain) (row : Gathered) (z : Plain) (count : ℕ) → row.till ≡ z.moment → row.last ≡ z.words
+many : (more : List Plain) (row : Gathered) (z : Plain) (count : ℕ) → row.till ≡ z.moment → row.last ≡ z.words
     → 2 + 1 ≤ row.count → count ≡ length more + row.count
-    → several look row.address row.since row.first (last_of z more).words count (last_of z more).moment ≡ row_text look (all_again row more)
-many look [] row z count till last enough total =
+    → several row.look row.address row.since row.first (last_of z more).words count (last_of z more).moment ≡ row_text (all_again row more)
+many [] row z count till last enough total =
     let same : count ≡ row.count = omega (arith, total) in
     let more : nat_lt 2 row.count ≡ true = grind (arith, nat_tests, enough) in
-    ap (λ (n : ℕ). several look row.address row.since row.first z.words n z.moment) same
-    ∙ ap (λ (w : List ℕ). several look row.address row.since row.first w row.count z.moment) (sym last)
-    ∙ ap (λ (m : ℕ). several look row.address row.since row.first row.last row.count m) (sym till)
-    ∙ sym (several_row true look row more refl)
-many look (next ∷ more) row z count till last enough total =
-    many look more (again row next) next count refl refl (omega (arith, enough)) (omega (arith, total))
+    ap (λ (n : ℕ). several row.look row.address row.since row.first z.words n z.moment) same
+    ∙ ap (λ (w : List ℕ). several row.look row.address row.since row.first w row.count z.moment) (sym last)
+    ∙ ap (λ (m : ℕ). several row.look row.address row.since row.first row.last row.count m) (sym till)
+    ∙ sym (several_row true row more refl)
+many (next ∷ more) row z count till last enough total =
+    many more (again row next) next count refl refl (omega (arith, enough)) (omega (arith, total))
 
-told_row : (look : Look) (plain : Plain) (plains : List Plain) → told look (plain ∷ plains) ≡ row_text look (all_again (gathered_of plain) plains)
-told_row look plain [] = refl
-told_row look plain (two ∷ []) = refl
-told_row look plain (two ∷ three ∷ more) =
-    many look more (again (again (gathered_of plain) two) three) three (length more + 3) refl refl (omega arith) refl
+told_row : (plain : Plain) (plains : List Plain) → told (plain ∷ plains) ≡ row_text (all_again (gathered_of plain) plains)
+told_row plain [] = sym (append-nil plain.line)
+told_row plain (two ∷ []) = refl
+told_row plain (two ∷ three ∷ more) =
+    many more (again (again (gathered_of plain) two) three) three (length more + 3) refl refl (omega arith) refl
 
 fewer_by : (b : Bool) (a : List ℕ) (plain : Plain) (plains : List Plain) → length (others a plains) ≤ length plains
     → length (if b then others a plains else plain ∷ others a plains) ≤ length (plain ∷ plains)
@@ -172,25 +173,25 @@ first_other : (t : Bool) (a : List ℕ) (plain : Plain) (plains : List Plain) �
 first_other true a plain plains is off = absurd (cc)
 first_other false a plain plains is off = rw is refl
 
-listed : (n : ℕ) (look : Look) (plains : List Plain) → length plains ≤ n → rows_text look (enter_all [] plains) ≡ run_text look plains
-listed n look [] within = refl
-listed zero look (plain ∷ plains) within = absurd (omega (arith, within))
-listed (suc n) look (plain ∷ plains) within =
-    let mine : row_text look (all_again (gathered_of plain) (of_address plain.address plains))
-    ≡ told look (of_address plain.address (plain ∷ plains)) =
-    sym (told_row look plain (of_address plain.address plains))
-    ∙ ap (λ l. told look l) (sym (first_own true plain.address plain plains ((bytes_eq-Decides plain.address plain.address).1 refl) refl)) in
-    let rest : rows_text look (enter_all [] (others plain.address plains))
-    ≡ flat_map (λ b. told look (of_address b (plain ∷ plains))) (without plain.address (addresses plains)) =
-    listed n look (others plain.address plains) (omega (arith, within, fewer plain.address plains))
-    ∙ ap (λ l. flat_map (λ b. told look (of_address b (others plain.address plains))) l) (rest_addresses plain.address plains)
-    ∙ alike (λ b. told look (of_address b (others plain.address plains))) (λ b. told look (of_address b (plain ∷ plains)))
+listed : (n : ℕ) (plains : List Plain) → length plains ≤ n → rows_text (enter_all [] plains) ≡ run_text plains
+listed n [] within = refl
+listed zero (plain ∷ plains) within = absurd (omega (arith, within))
+listed (suc n) (plain ∷ plains) within =
+    let mine : row_text (all_again (gathered_of plain) (of_address plain.address plains))
+    ≡ told (of_address plain.address (plain ∷ plains)) =
+    sym (told_row plain (of_address plain.address plains))
+    ∙ ap (λ l. told l) (sym (first_own true plain.address plain plains ((bytes_eq-Decides plain.address plain.address).1 refl) refl)) in
+    let rest : rows_text (enter_all [] (others plain.address plains))
+    ≡ flat_map (λ b. told (of_address b (plain ∷ plains))) (without plain.address (addresses plains)) =
+    listed n (others plain.address plains) (omega (arith, within, fewer plain.address plains))
+    ∙ ap (λ l. flat_map (λ b. told (of_address b (others plain.address plains))) l) (rest_addresses plain.address plains)
+    ∙ alike (λ b. told (of_address b (others plain.address plains))) (λ b. told (of_address b (plain ∷ plains)))
     plain.address (addresses plains)
-    (λ b differ. ap (λ l. told look l) (own_lines plain.address b plains differ
+    (λ b differ. ap (λ l. told l) (own_lines plain.address b plains differ
     ∙ sym (first_other false b plain plains (flip plain.address b differ) refl))) in
-    ap (λ l. rows_text look l) (apart plains (gathered_of plain) [])
-    ∙ ap (λ (l : List ℕ). l ++ rows_text look (enter_all [] (others plain.address plains))) mine
-    ∙ ap (λ (l : List ℕ). told look (of_address plain.address (plain ∷ plains)) ++ l) rest
+    ap (λ l. rows_text l) (apart plains (gathered_of plain) [])
+    ∙ ap (λ (l : List ℕ). l ++ rows_text (enter_all [] (others plain.address plains))) mine
+    ∙ ap (λ (l : List ℕ). told (of_address plain.address (plain ∷ plains)) ++ l) rest
 
-pub told_whole : (look : Look) (plains : List Plain) → rows_text look (gather_all none plains).rows ≡ run_text look plains
-told_whole look plains = ap (λ l. rows_text look l) (gathers none plains) ∙ listed (length plains) look plains (omega arith)
+pub told_whole : (plains : List Plain) → rows_text (gather_all none plains).rows ≡ run_text plains
+told_whole plains = ap (λ l. rows_text l) (gathers none plains) ∙ listed (length plains) plains (omega arith)

@@ -2,54 +2,63 @@
 use Rattle.std.specs.Prelude.{ℕ, ◌+◌, ◌-◌, ◌==◌, Bool, true, nat_le, if◌then◌else◌}
 use Rattle.std.specs.Prelude.{List, [], ◌∷◌, ◌++◌, Option, Some, None}
 use Rattle.std.specs.Str.{bytes_eq}
+use Rattle.osc_shown.specs.declared.look.Look.{Look}
 use Rattle.osc_shown.specs.Times.{millis_of}
 use Rattle.osc_runs.specs.declared.limits.TheConstants.{GAP}
 
--- A line that may be told with others: its moment, a time tag; the address that was called; the
--- words of the one argument; and the line as it stands by itself.
+-- A line that may be told with others: how it looks; its moment, a time tag; the address that was
+-- called; the words of the one argument; and the line as it stands by itself.
 pub record Plain : Type 0 where
+  pub look : Look
   pub moment : ℕ
   pub address : List ℕ
   pub words : List ℕ
   pub line : List ℕ
 
--- What is kept of the lines of an address: the moment and the words of the first and of the last,
--- how many there are, and the first two lines.
+-- What is kept of the lines of an address: how the first looks, the moment and the words of the
+-- first and of the last, how many there are, and the first two lines. The second is empty where there
+-- is one alone.
 pub record Gathered : Type 0 where
+  pub look : Look
   pub address : List ℕ
   pub since : ℕ
   pub first : List ℕ
   pub till : ℕ
   pub last : List ℕ
   pub count : ℕ
-  pub lines : List ℕ
+  pub line : List ℕ
+  pub second : List ℕ
 
 -- one line
 abbrev pub gathered_of : Plain → Gathered
 gathered_of plain = record {
+  look = plain.look;
   address = plain.address;
   since = plain.moment;
   first = plain.words;
   till = plain.moment;
   last = plain.words;
   count = 1;
-  lines = plain.line;
+  line = plain.line;
+  second = [];
 }
 
--- the first two lines, once one more has come
-abbrev pub kept_lines : ℕ → List ℕ → List ℕ → List ℕ
-kept_lines count lines line = if count == 1 then lines ++ line else lines
+-- the second line, once one more has come
+abbrev pub kept_second : ℕ → List ℕ → List ℕ → List ℕ
+kept_second count second line = if count == 1 then line else second
 
 -- one line more of the address
 abbrev pub again : Gathered → Plain → Gathered
 again row plain = record {
+  look = row.look;
   address = row.address;
   since = row.since;
   first = row.first;
   till = plain.moment;
   last = plain.words;
   count = row.count + 1;
-  lines = kept_lines row.count row.lines plain.line;
+  line = row.line;
+  second = kept_second row.count row.second plain.line;
 }
 
 abbrev pub is_of : List ℕ → Gathered → Bool

@@ -2,7 +2,6 @@
 use Rattle.std.specs.Prelude.{ℕ, ◌+◌, if◌then◌else◌, List, [], ◌∷◌, ◌++◌, length, codes}
 use Rattle.std.specs.List.{flat_map}
 use Rattle.std.specs.Str.{bytes_eq}
-use Rattle.osc_shown.specs.declared.look.Look.{Look}
 use Rattle.osc_shown.specs.Numbers.{thousands}
 use Rattle.osc_shown.specs.Times.{span_text}
 use Rattle.osc_shown.specs.Told.{note_text}
@@ -34,17 +33,16 @@ last_of plain (next ∷ more) = last_of next more
 
 -- What is told of the lines of one address: the lines themselves, or where there are more than two
 -- one line of the first and the last argument, how many, and how long from the first to the last.
-abbrev pub told : Look → List Plain → List ℕ
-told look [] = []
-told look (one ∷ []) = one.line
-told look (one ∷ two ∷ []) = one.line ++ two.line
-told look (one ∷ two ∷ three ∷ more) =
-    note_text (head_at look one.moment)
+abbrev pub told : List Plain → List ℕ
+told [] = []
+told (one ∷ []) = one.line
+told (one ∷ two ∷ []) = one.line ++ two.line
+told (one ∷ two ∷ three ∷ more) =
+    note_text (head_at one.look one.moment)
     (one.address ++ codes " " ++ one.words ++ codes " .. " ++ (last_of three more).words)
     (thousands (length more + 3) ++ codes " in "
     ++ span_text one.moment (last_of three more).moment)
 
 -- what is told of a run: its addresses one after another
-abbrev pub run_text : Look → List Plain → List ℕ
-run_text look plains =
-    flat_map (λ address. told look (of_address address plains)) (addresses plains)
+abbrev pub run_text : List Plain → List ℕ
+run_text plains = flat_map (λ address. told (of_address address plains)) (addresses plains)

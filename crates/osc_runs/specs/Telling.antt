@@ -1,5 +1,5 @@
 -- What is told of a run.
-use Rattle.std.specs.Prelude.{ℕ, nat_lt, if◌then◌else◌, List, ◌++◌, codes}
+use Rattle.std.specs.Prelude.{ℕ, Bool, nat_lt, if◌then◌else◌, List, ◌++◌, codes}
 use Rattle.std.specs.Prelude.{Some}
 use Rattle.std.specs.List.{flat_map}
 use Rattle.osc_shown.specs.declared.head.Head.{Head}
@@ -21,12 +21,17 @@ row_words row = row.address ++ codes " " ++ row.first ++ codes " .. " ++ row.las
 abbrev pub row_tail : Gathered → List ℕ
 row_tail row = thousands row.count ++ codes " in " ++ span_text row.since row.till
 
+-- the lines of an address are told as one
+abbrev pub is_many : Gathered → Bool
+is_many row = nat_lt 2 row.count
+
 -- one line for an address with more than two, else the lines themselves
-abbrev pub row_text : Look → Gathered → List ℕ
-row_text look row =
-    if nat_lt 2 row.count then note_text (head_at look row.since) (row_words row) (row_tail row)
-    else row.lines
+abbrev pub row_text : Gathered → List ℕ
+row_text row =
+    if is_many row
+    then note_text (head_at row.look row.since) (row_words row) (row_tail row)
+    else row.line ++ row.second
 
 -- the addresses one after another, in the order in which they came first
-abbrev pub rows_text : Look → List Gathered → List ℕ
-rows_text look rows = flat_map (row_text look) rows
+abbrev pub rows_text : List Gathered → List ℕ
+rows_text rows = flat_map row_text rows

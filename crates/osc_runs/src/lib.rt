@@ -9,5 +9,6 @@ mod span;
 mod step;
 
 pub use limits::GAP;
+pub use row::Row;
 pub use runs::{Runs, TakeFault};
 pub use step::Step;

@@ -7,7 +7,6 @@ use crate::Step;
 use crate::limits::GAP;
 use crate::row::Row;
 use crate::span::millis_of;
-use osc_shown::Look;
 use std::alloc::{AllocError, Global};
 use std::marker::Model;
 
@@ -91,21 +90,42 @@ impl Runs {
 
     /// Adds what is told of the lines that were taken, and lets them go. An `Err` means out of
     /// memory.
-    pub fn flush(&mut self, text: &mut Vec<u8>, look: Look) -> Result<(), AllocError>
-        ensures ok { OnOk result (text.new.items ≡ text.old.items ++ rows_text look self.old.rows) }
+    pub fn flush(&mut self, text: &mut Vec<u8>) -> Result<(), AllocError>
+        ensures ok { OnOk result (text.new.items ≡ text.old.items ++ rows_text self.old.rows) }
         ensures none { OnOk result (self.new ≡ none) }
         ensures err { OnErr result ((self.new ≡ self.old) × (text.new.items ≡ text.old.items)) }
     {
         let mut told = Vec::new(self.alloc);
-        add_rows(&mut told, look, &self.rows)?;
+        add_rows(&mut told, &self.rows)?;
         text.extend_from_slice(&told)?;
-        self.rows.clear();
-        self.latest = None;
+        self.clear();
         Ok(())
     }
 
-    /// Takes a line that goes on with those before.
-    fn gather(&mut self, step: &Step<'_>) -> Result<(), AllocError>
+    /// Lets go what was taken.
+    pub fn clear(&mut self)
+        ensures { self.new ≡ none }
+    {
+        self.rows.clear();
+        self.latest = None;
+    }
+
+    /// What was taken, by addresses, in the order in which they came first.
+    pub fn rows(&self) -> &[Row]
+        ensures { result.now ≡ self.now.rows }
+    {
+        &self.rows
+    }
+
+    /// When the line was called that came last, as a time tag.
+    pub fn latest(&self) -> Option<u64>
+        ensures { result ≡ self.now.latest }
+    {
+        self.latest
+    }
+
+    /// Takes a line, whenever it comes. An `Err` means out of memory.
+    pub fn gather(&mut self, step: &Step<'_>) -> Result<(), AllocError>
         ensures ok { OnOk result (self.new ≡ gather self.old step.now) }
         ensures err { OnErr result (self.new ≡ self.old) }
     {
@@ -153,12 +173,12 @@ fn add_row(rows: &mut Vec<Row>, alloc: Global, step: &Step<'_>) -> Result<(), Al
 }
 
 /// Adds what is told of each.
-fn add_rows(out: &mut Vec<u8>, look: Look, rows: &[Row]) -> Result<(), AllocError>
-    ensures { OnOk result (out.new.items ≡ out.old.items ++ rows_text look rows.now) }
+fn add_rows(out: &mut Vec<u8>, rows: &[Row]) -> Result<(), AllocError>
+    ensures { OnOk result (out.new.items ≡ out.old.items ++ rows_text rows.now) }
 {
     let mut rest = rows;
     while let Some((row, others)) = rest.split_first() {
-        row.add_text(out, look)?;
+        row.add_text(out)?;
         rest = others;
     }
     Ok(())

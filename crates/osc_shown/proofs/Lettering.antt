@@ -3,9 +3,9 @@ use Rattle.std.proofs.Common.{◌≡◌, ◌+◌, ℕ, zero, suc, Bool, true, fa
 use Rattle.std.proofs.Common.{append_assoc, arith, inl, inr}
 use Rattle.std.proofs.lemmas.Bool.{cases_Bool}
 use Rattle.std.proofs.lemmas.Str.{IsUtf8-from_is_utf8, is_utf8-from_IsUtf8}
-use Rattle.osc_shown.specs.Texts.{quoted, quoted_text, quoted_bytes}
+use Rattle.osc_shown.specs.Texts.{quoted, quoted_text, quoted_bytes, all_shown, shown_char, shown_byte}
 use Rattle.std.proofs.lemmas.Bool.Decides.{nat_tests}
-use Rattle.std.specs.Prelude.{if◌then◌else◌, IsUtf8}
+use Rattle.std.specs.Prelude.{if◌then◌else◌, IsUtf8, chars}
 use Rattle.std.specs.Str.{is_utf8}
 use Rattle.std.specs.List.{flat_map}
 use Rattle.std.proofs.lemmas.List.{append-nil, length-append}
@@ -72,4 +72,23 @@ pub as_bytes : (bytes : List ℕ) → (IsUtf8 bytes → ⊥) → quoted_bytes by
 as_bytes bytes isnt = elim (cases_Bool (is_utf8 bytes)) [
   | inl is ↦ absurd (isnt (IsUtf8-from_is_utf8 bytes is))
   | inr is ↦ sym (ap (λ (b : Bool). if b then quoted_text bytes else quoted_bytes bytes) is)
+]
+
+-- one more is shown after all
+pub all_on : (f : ℕ → List ℕ) (done : List ℕ) (letter : ℕ) → flat_map f (done ++ letter ∷ []) ≡ flat_map f done ++ f letter
+all_on f [] letter = append-nil (f letter)
+all_on f (first ∷ done) letter =
+    ap (λ (l : List ℕ). f first ++ l) (all_on f done letter) ∙ sym (append_assoc (f first) (flat_map f done) (f letter))
+
+-- a text that is UTF-8 is shown by its characters
+pub all_as_text : (bytes text : List ℕ) → text ≡ bytes → IsUtf8 bytes → flat_map shown_char (chars text) ≡ all_shown bytes
+all_as_text bytes text same is =
+    ap (λ (l : List ℕ). flat_map shown_char (chars l)) same
+    ∙ sym (ap (λ (b : Bool). if b then flat_map shown_char (chars bytes) else flat_map shown_byte bytes) (is_utf8-from_IsUtf8 bytes is))
+
+-- any other by its bytes
+pub all_as_bytes : (bytes : List ℕ) → (IsUtf8 bytes → ⊥) → flat_map shown_byte bytes ≡ all_shown bytes
+all_as_bytes bytes isnt = elim (cases_Bool (is_utf8 bytes)) [
+  | inl is ↦ absurd (isnt (IsUtf8-from_is_utf8 bytes is))
+  | inr is ↦ sym (ap (λ (b : Bool). if b then flat_map shown_char (chars bytes) else flat_map shown_byte bytes) is)
 ]

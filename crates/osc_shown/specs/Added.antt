@@ -12,9 +12,9 @@ use Rattle.osc_shown.specs.Texts.{most_shown, shown_char}
 abbrev pub report_in : Report → Reported
 report_in u = report_of u.look u.arrival u.answer u.routes.now u.tag
 
-abbrev pub AddsText : List ℕ → List ℕ → List ℕ → Type 0
-AddsText message before after =
-    (words : List ℕ) × IsMessageText message words × (after ≡ before ++ words)
+abbrev pub AddsText : Bool → List ℕ → List ℕ → List ℕ → Type 0
+AddsText whole message before after =
+    (words : List ℕ) × IsMessageText whole message words × (after ≡ before ++ words)
 
 abbrev pub AddsMarkedLine : Reported → ℕ → ℕ → List ℕ → List ℕ → List ℕ → Type 0
 AddsMarkedLine report mark join message before after =
@@ -32,9 +32,9 @@ abbrev pub AddsEach : Reported → List (List ℕ) → List ℕ → List ℕ →
 AddsEach report messages before after =
     (lines : List ℕ) × AreEach report messages lines × (after ≡ before ++ lines)
 
-abbrev pub AddsUnitText : List (List ℕ) → List ℕ → List ℕ → Type 0
-AddsUnitText messages before after =
-    (words : List ℕ) × IsUnitText messages words × (after ≡ before ++ words)
+abbrev pub AddsUnitText : Bool → List (List ℕ) → List ℕ → List ℕ → Type 0
+AddsUnitText whole messages before after =
+    (words : List ℕ) × IsUnitText whole messages words × (after ≡ before ++ words)
 
 abbrev pub AddsWaitingLine : Look → Arrival → TimedUnit → List ℕ → List ℕ → Type 0
 AddsWaitingLine look arrival unit before after =

@@ -11,7 +11,7 @@ use Rattle.osc_atoms.specs.Atoms.{word, tag}
 use Rattle.osc_message.specs.Messages.{Argument, integer, float, text, content, long, time, double}
 use Rattle.osc_message.specs.Messages.{symbol, character, rgba, midi, true_, false_, nil, infinitum}
 use Rattle.osc_message.specs.Messages.{array_start, array_end}
-use Rattle.osc_shown.specs.Texts.{quoted}
+use Rattle.osc_shown.specs.Texts.{text_word}
 
 -- the bits are those of a number, and not of an infinity
 abbrev pub is_finite : Format → ℕ → Bool
@@ -51,49 +51,55 @@ blob_text bytes =
     if nat_le (length bytes) 8 then codes "b:" ++ encode_lower bytes
     else codes "b:" ++ encode_lower (take 8 bytes) ++ codes ".." ++ decimal (length bytes)
 
+-- a blob, whole or with its first bytes alone
+abbrev pub blob_word : Bool → List ℕ → List ℕ
+blob_word true bytes = codes "b:" ++ encode_lower bytes
+blob_word false bytes = blob_text bytes
+
 -- a character from `!` to `~` as it is, any other by its bytes
 abbrev pub character_text : ℕ → List ℕ
 character_text number =
     if nat_le 33 number && nat_le number 126 then codes "c:" ++ number ∷ []
     else codes "c:" ++ encode_lower (word number)
 
--- the word of an argument
-abbrev pub IsWord : Argument → List ℕ → Type 0
-IsWord (integer number) said = said ≡ signed_decimal number
-IsWord (long number) said = said ≡ codes "h:" ++ signed_decimal number
-IsWord (float bits) said = IsFloat bits said
-IsWord (double bits) said = IsDouble bits said
-IsWord (text bytes) said = said ≡ quoted bytes
-IsWord (symbol bytes) said = said ≡ codes "S:" ++ quoted bytes
-IsWord (content bytes) said = said ≡ blob_text bytes
-IsWord (character number) said = said ≡ character_text number
-IsWord (rgba number) said = said ≡ codes "r:" ++ encode_lower (word number)
-IsWord (midi number) said = said ≡ codes "m:" ++ encode_lower (word number)
-IsWord (time number) said = said ≡ codes "t:" ++ encode_lower (tag number)
-IsWord true_ said = said ≡ codes "true"
-IsWord false_ said = said ≡ codes "false"
-IsWord nil said = said ≡ codes "nil"
-IsWord infinitum said = said ≡ codes "infinitum"
-IsWord array_start said = said ≡ codes "["
-IsWord array_end said = said ≡ codes "]"
+-- the word of an argument, whole or cut where it is long
+abbrev pub IsWord : Bool → Argument → List ℕ → Type 0
+IsWord whole (integer number) said = said ≡ signed_decimal number
+IsWord whole (long number) said = said ≡ codes "h:" ++ signed_decimal number
+IsWord whole (float bits) said = IsFloat bits said
+IsWord whole (double bits) said = IsDouble bits said
+IsWord whole (text bytes) said = said ≡ text_word whole bytes
+IsWord whole (symbol bytes) said = said ≡ codes "S:" ++ text_word whole bytes
+IsWord whole (content bytes) said = said ≡ blob_word whole bytes
+IsWord whole (character number) said = said ≡ character_text number
+IsWord whole (rgba number) said = said ≡ codes "r:" ++ encode_lower (word number)
+IsWord whole (midi number) said = said ≡ codes "m:" ++ encode_lower (word number)
+IsWord whole (time number) said = said ≡ codes "t:" ++ encode_lower (tag number)
+IsWord whole true_ said = said ≡ codes "true"
+IsWord whole false_ said = said ≡ codes "false"
+IsWord whole nil said = said ≡ codes "nil"
+IsWord whole infinitum said = said ≡ codes "infinitum"
+IsWord whole array_start said = said ≡ codes "["
+IsWord whole array_end said = said ≡ codes "]"
 
 -- the word of an argument was added
-abbrev pub AddsWord : Argument → List ℕ → List ℕ → Type 0
-AddsWord argument before after = (said : List ℕ) × IsWord argument said × (after ≡ before ++ said)
+abbrev pub AddsWord : Bool → Argument → List ℕ → List ℕ → Type 0
+AddsWord whole argument before after =
+    (said : List ℕ) × IsWord whole argument said × (after ≡ before ++ said)
 
 -- a space and the word of an argument were added
-abbrev pub AddsSpaced : Argument → List ℕ → List ℕ → Type 0
-AddsSpaced argument before after =
-    (said : List ℕ) × IsWord argument said × (after ≡ before ++ 32 ∷ said)
+abbrev pub AddsSpaced : Bool → Argument → List ℕ → List ℕ → Type 0
+AddsSpaced whole argument before after =
+    (said : List ℕ) × IsWord whole argument said × (after ≡ before ++ 32 ∷ said)
 
 -- the words of arguments, one after another, a space before each
-abbrev pub AreWords : List Argument → List ℕ → Type 0
-AreWords [] said = said ≡ []
-AreWords (argument ∷ arguments) said =
-    (one : List ℕ) × (others : List ℕ) × IsWord argument one × AreWords arguments others
-    × (said ≡ (32 ∷ one) ++ others)
+abbrev pub AreWords : Bool → List Argument → List ℕ → Type 0
+AreWords whole [] said = said ≡ []
+AreWords whole (argument ∷ arguments) said =
+    (one : List ℕ) × (others : List ℕ) × IsWord whole argument one
+    × AreWords whole arguments others × (said ≡ (32 ∷ one) ++ others)
 
 -- these words were added
-abbrev pub AddsWords : List Argument → List ℕ → List ℕ → Type 0
-AddsWords arguments before after =
-    (said : List ℕ) × AreWords arguments said × (after ≡ before ++ said)
+abbrev pub AddsWords : Bool → List Argument → List ℕ → List ℕ → Type 0
+AddsWords whole arguments before after =
+    (said : List ℕ) × AreWords whole arguments said × (after ≡ before ++ said)

@@ -12,21 +12,25 @@ use Rattle.osc_shown.specs.Times.{IsDated}
 abbrev pub after_comma : List ℕ → List ℕ
 after_comma address = codes ", " ++ address
 
--- the first four addresses, and how many more there are
-abbrev pub listing : List ℕ → List (List ℕ) → List ℕ
-listing first more =
-    codes "-> " ++ first ++ flat_map after_comma (take 3 more) ++ unlisted (length more)
+-- the addresses after the first: all, or three, and how many more there are
+abbrev pub others_listed : Bool → List (List ℕ) → List ℕ
+others_listed true more = flat_map after_comma more
+others_listed false more = flat_map after_comma (take 3 more) ++ unlisted (length more)
+
+-- the addresses, whole or the first four
+abbrev pub listing : Bool → List ℕ → List (List ℕ) → List ℕ
+listing whole first more = codes "-> " ++ first ++ others_listed whole more
 
 -- the methods that a pattern called: nothing is said where that is its own address alone
-abbrev pub called : List ℕ → List (List ℕ) → List ℕ
-called pattern [] = codes "no method"
-called pattern (first ∷ more) =
-    if length more == 0 && bytes_eq first pattern then [] else listing first more
+abbrev pub called : Bool → List ℕ → List (List ℕ) → List ℕ
+called whole pattern [] = codes "no method"
+called whole pattern (first ∷ more) =
+    if length more == 0 && bytes_eq first pattern then [] else listing whole first more
 
 -- the same of a message, which calls nothing where it has an unknown tag
-abbrev pub called_by : Option ℕ → List ℕ → List (List ℕ) → List ℕ
-called_by None message places = called (pattern_of message) places
-called_by (Some tag) message places = unknown_words tag
+abbrev pub called_by : Bool → Option ℕ → List ℕ → List (List ℕ) → List ℕ
+called_by whole None message places = called whole (pattern_of message) places
+called_by whole (Some tag) message places = unknown_words tag
 
 -- how late it came, where it came late for a time tag
 abbrev pub late_part : Option ℕ → Option ℕ → List ℕ

@@ -12,3 +12,4 @@ pub mod Refusals
 pub mod Told
 pub mod Called
 pub mod Summaries
+pub mod Examples

@@ -31,13 +31,14 @@ abbrev pub tags_text : Option (List ℕ) → List ℕ
 tags_text None = []
 tags_text (Some tags) = codes " ," ++ flat_map shown_byte tags
 
--- The words of a message: its pattern, and a word for each argument, or its tags where one is
--- unknown.
-pub record IsMessageText (message words : List ℕ) : Type 0 where
+-- The words of a message: its pattern, and a word for each argument, whole or cut where it is long,
+-- or its tags where one is unknown.
+pub record IsMessageText (whole : Bool) (message words : List ℕ) : Type 0 where
   pub said : List ℕ
-  pub known : is_some (unknown_of message) ≡ false → AreWords (message_arguments message) said
+  pub known : is_some (unknown_of message) ≡ false
+      → AreWords whole (message_arguments message) said
   pub unknown : is_some (unknown_of message) ≡ true → said ≡ tags_text (tags_of message)
-  pub whole : words ≡ pattern_of message ++ said
+  pub text : words ≡ pattern_of message ++ said
 
 -- how the messages of a unit are joined, by whether a message is the first and whether it is the
 -- last: `{`, `|` .., `}`, and a space where there is one alone
@@ -54,12 +55,12 @@ mark_in report message = mark_of report.answer (due_mark message report.routes)
 -- its tail
 abbrev pub tail_in : Reported → List ℕ → List ℕ
 tail_in report message =
-    tail_of report.arrival report.answer report.tag (goes message report.routes)
+    tail_of report.arrival report.answer report.tag (goes report.look.whole message report.routes)
 
 -- the line of a message under a mark
 abbrev pub IsMarkedLine : Reported → ℕ → ℕ → List ℕ → List ℕ → Type 0
 IsMarkedLine report mark join message line =
-    (words : List ℕ) × IsMessageText message words
+    (words : List ℕ) × IsMessageText report.look.whole message words
     × (line ≡ line_text report.look report.arrival.moment mark join words (tail_in report message))
 
 -- the line of a message, or nothing where it is left out
@@ -81,10 +82,11 @@ abbrev pub more_text : ℕ → List ℕ
 more_text count = if count == 0 then [] else codes " and " ++ thousands count ++ codes " more"
 
 -- what a unit that waits is shown as: its first message
-abbrev pub IsUnitText : List (List ℕ) → List ℕ → Type 0
-IsUnitText [] words = words ≡ codes "(no message)"
-IsUnitText (message ∷ messages) words =
-    (said : List ℕ) × IsMessageText message said × (words ≡ said ++ more_text (length messages))
+abbrev pub IsUnitText : Bool → List (List ℕ) → List ℕ → Type 0
+IsUnitText whole [] words = words ≡ codes "(no message)"
+IsUnitText whole (message ∷ messages) words =
+    (said : List ℕ) × IsMessageText whole message said
+    × (words ≡ said ++ more_text (length messages))
 
 -- the tail of a unit that waits: for when, how long from then on, and who has sent it
 abbrev pub IsWaitingTail : Look → Arrival → ℕ → List ℕ → Type 0
@@ -98,7 +100,7 @@ pub record IsWaitingLine (look : Look) (arrival : Arrival) (unit : TimedUnit) (l
     : Type 0 where
   pub words : List ℕ
   pub tail : List ℕ
-  pub said : IsUnitText unit.messages words
+  pub said : IsUnitText look.whole unit.messages words
   pub waits : IsWaitingTail look arrival unit.tag tail
   pub text : line ≡ line_text look arrival.moment 126 32 words tail
 

@@ -1,5 +1,5 @@
 -- Where a message goes.
-use Rattle.std.specs.Prelude.{ℕ, zero, suc, ◌-◌, ◌==◌, Bool, ◌&&◌, nat_lt}
+use Rattle.std.specs.Prelude.{ℕ, zero, suc, ◌-◌, ◌==◌, Bool, true, false, ◌&&◌, nat_lt}
 use Rattle.std.specs.Prelude.{if◌then◌else◌, List, [], ◌∷◌, ◌++◌, length, filter, codes, bytes_eq}
 use Rattle.osc_pattern.specs.Patterns.{matches}
 use Rattle.osc_shown.specs.declared.route.Route.{Route}
@@ -34,7 +34,7 @@ listed (suc most) [] = []
 listed (suc most) (hit ∷ more) =
     hit.address ++ run_end hit more ++ before_next (nat_lt 0 most) more ++ listed most more
 
--- how many addresses are listed
+-- how many addresses are listed, where not all are
 abbrev pub most_listed : ℕ
 most_listed = 4
 
@@ -50,9 +50,14 @@ arrow to = if length to == 0 then [] else codes "-> " ++ to
 abbrev pub is_own : List ℕ → Route → List Route → Bool
 is_own pattern hit more = length more == 0 && bytes_eq hit.address pattern
 
+-- the addresses, which are one and so many more: all, or the first four and how many more there are
+abbrev pub hits_listed : Bool → List Route → ℕ → List ℕ
+hits_listed true found more = listed (length found) found
+hits_listed false found more = listed most_listed found ++ unlisted more
+
 -- Where a pattern goes: the addresses that it matches, or, of its own one alone, where that sends.
-abbrev pub going : List ℕ → List Route → List ℕ
-going pattern [] = codes "no method"
-going pattern (hit ∷ more) =
+abbrev pub going : Bool → List ℕ → List Route → List ℕ
+going whole pattern [] = codes "no method"
+going whole pattern (hit ∷ more) =
     if is_own pattern hit more then arrow hit.to.items
-    else codes "-> " ++ listed most_listed (hit ∷ more) ++ unlisted (length more)
+    else codes "-> " ++ hits_listed whole (hit ∷ more) (length more)

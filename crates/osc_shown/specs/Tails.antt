@@ -42,13 +42,14 @@ wait_words (Some moment) tag = codes ", in " ++ span_text moment tag
 abbrev pub unknown_words : ℕ → List ℕ
 unknown_words tag = codes "unknown type " ++ shown_byte tag ++ codes ", so it calls nothing"
 
--- where a message goes
-abbrev pub goes_by : Option ℕ → List ℕ → List Route → List ℕ
-goes_by None message routes = going (pattern_of message) (hits (pattern_of message) routes)
-goes_by (Some tag) message routes = unknown_words tag
+-- where a message goes, in a list that is whole or has the first addresses alone
+abbrev pub goes_by : Bool → Option ℕ → List ℕ → List Route → List ℕ
+goes_by whole None message routes =
+    going whole (pattern_of message) (hits (pattern_of message) routes)
+goes_by whole (Some tag) message routes = unknown_words tag
 
-abbrev pub goes : List ℕ → List Route → List ℕ
-goes message routes = goes_by (unknown_of message) message routes
+abbrev pub goes : Bool → List ℕ → List Route → List ℕ
+goes whole message routes = goes_by whole (unknown_of message) message routes
 
 -- the mark of a message that is called: `?` where it calls no method
 abbrev pub called_mark : Option ℕ → ℕ → ℕ

@@ -59,3 +59,13 @@ quoted_bytes bytes =
 -- a text between quotes: its first characters, and after it how many bytes it has, if it has more
 abbrev pub quoted : List ℕ → List ℕ
 quoted bytes = if is_utf8 bytes then quoted_text bytes else quoted_bytes bytes
+
+-- all characters of a text, or all bytes of one that isn't UTF-8
+abbrev pub all_shown : List ℕ → List ℕ
+all_shown bytes =
+    if is_utf8 bytes then flat_map shown_char (chars bytes) else flat_map shown_byte bytes
+
+-- a text between quotes, whole or with its first characters alone
+abbrev pub text_word : Bool → List ℕ → List ℕ
+text_word true bytes = codes "\"" ++ all_shown bytes ++ codes "\""
+text_word false bytes = quoted bytes

@@ -36,10 +36,9 @@ day_time millis = clock_text (millis / 1000) ++ codes "." ++ three millis
 abbrev pub time_text : WallClock → ℕ → List ℕ
 time_text clock moment = day_time (shown_millis clock moment)
 
--- the same, or dashes where there is no moment
-abbrev pub when_text : WallClock → Option ℕ → List ℕ
-when_text clock None = codes "--:--:--.---"
-when_text clock (Some moment) = time_text clock moment
+-- milliseconds as seconds, as `1.120`
+abbrev pub bare_seconds : ℕ → List ℕ
+bare_seconds millis = decimal (millis / 1000) ++ codes "." ++ three millis
 
 -- milliseconds as seconds, as `1.120 s`
 abbrev pub seconds_text : ℕ → List ℕ

@@ -16,7 +16,8 @@ note_text head words tail =
 -- the line of a message
 abbrev pub IsHeaded : Head → List ℕ → List ℕ → List ℕ → Type 0
 IsHeaded head message tail line =
-    (words : List ℕ) × IsMessageText message words × (line ≡ headed head words tail)
+    (words : List ℕ) × IsMessageText head.look.whole message words
+    × (line ≡ headed head words tail)
 
 -- the same, or nothing where it is left out
 pub record IsTold (head : Head) (message tail line : List ℕ) : Type 0 where

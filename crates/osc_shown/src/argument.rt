@@ -1,34 +1,47 @@
 // Arguments, in the words of a sheet of cues.
-ghost use Rattle.std.specs.Prelude.{◌≡◌, ◌++◌, OnOk, codes};
+ghost use Rattle.std.specs.Prelude.{◌≡◌, ◌++◌, OnOk, IfOk, codes};
 ghost use lib.Ieee.{binary32, binary64, nan_bits};
 ghost use Rattle.std.specs.Fmt.{signed_decimal};
 ghost use Rattle.hex.specs.Hex.{encode_lower};
 ghost use Rattle.osc_message.specs.Shown.{shown};
-ghost use Rattle.osc_shown.specs.Arguments.{AddsWord, AddsFloat, AddsDouble, is_finite};
-ghost use Rattle.osc_shown.specs.Arguments.{blob_text, character_text};
-ghost use Rattle.osc_shown.specs.Texts.{quoted};
+ghost use Rattle.osc_shown.specs.Arguments.{IsWord, AddsWord, AddsFloat, AddsDouble, is_finite};
+ghost use Rattle.osc_shown.specs.Arguments.{blob_text, blob_word, character_text};
+ghost use Rattle.osc_shown.specs.Texts.{text_word};
 
 use crate::bytes::{add, add_byte, add_hex, front};
 use crate::number::{add_decimal, add_signed};
-use crate::quoted::add_quoted;
+use crate::quoted::add_text_word;
 use osc_message::Arg;
-use std::alloc::AllocError;
+use std::alloc::{AllocError, Global};
 
-/// How many bytes of a blob are shown.
+/// How many bytes of a blob are shown that isn't shown whole.
 const MOST_BYTES: usize = 8;
 
-/// Adds the word of an argument.
-pub(crate) fn add_argument(out: &mut Vec<u8>, argument: Arg<'_>) -> Result<(), AllocError>
-    ensures { OnOk result (AddsWord (shown argument.entry) out.old.items out.new.items) }
+/// The word of an argument, whole or cut where it is long. An `Err` means out of memory.
+pub fn argument_words(alloc: Global, whole: bool, argument: Arg<'_>) -> Result<Vec<u8>, AllocError>
+    ensures { IfOk result (λ words. IsWord whole (shown argument.entry) words.items) }
+{
+    let mut words = Vec::new(alloc);
+    add_argument(&mut words, whole, argument)?;
+    Ok(words)
+}
+
+/// Adds the word of an argument, whole or cut where it is long.
+pub(crate) fn add_argument(
+    out: &mut Vec<u8>,
+    whole: bool,
+    argument: Arg<'_>,
+) -> Result<(), AllocError>
+    ensures { OnOk result (AddsWord whole (shown argument.entry) out.old.items out.new.items) }
 {
     match argument {
         Arg::Int(number) => add_signed(out, i64::from(number)),
         Arg::Long(number) => add_long(out, number),
         Arg::Float(bits) => add_float(out, bits),
         Arg::Double(bits) => add_double(out, bits),
-        Arg::Str(text) => add_quoted(out, text),
-        Arg::Symbol(text) => add_symbol(out, text),
-        Arg::Blob(bytes) => add_blob(out, bytes),
+        Arg::Str(text) => add_text_word(out, whole, text),
+        Arg::Symbol(text) => add_symbol(out, whole, text),
+        Arg::Blob(bytes) => add_blob_word(out, whole, bytes),
         Arg::Char(number) => add_character(out, number),
         Arg::Rgba(number) => add_tagged(out, b"r:", &number.to_be_bytes()),
         Arg::Midi(number) => add_tagged(out, b"m:", &number.to_be_bytes()),
@@ -50,11 +63,12 @@ fn add_long(out: &mut Vec<u8>, number: i64) -> Result<(), AllocError>
     add_signed(out, number)
 }
 
-fn add_symbol(out: &mut Vec<u8>, text: &[u8]) -> Result<(), AllocError>
-    ensures { OnOk result (out.new.items ≡ out.old.items ++ (codes "S:" ++ quoted text.now)) }
+fn add_symbol(out: &mut Vec<u8>, whole: bool, text: &[u8]) -> Result<(), AllocError>
+    ensures { OnOk result (out.new.items
+        ≡ out.old.items ++ (codes "S:" ++ text_word whole text.now)) }
 {
     add(out, b"S:")?;
-    add_quoted(out, text)
+    add_text_word(out, whole, text)
 }
 
 /// Adds a tag, a colon and two digits for each byte.
@@ -127,6 +141,16 @@ fn is_nan_double(bits: u64) -> bool
     ensures { result ≡ nan_bits binary64 bits }
 {
     bits % 0x8000_0000_0000_0000 / 0x10_0000_0000_0000 == 2047 && bits % 0x10_0000_0000_0000 != 0
+}
+
+/// Adds a blob, whole or cut where it is long.
+fn add_blob_word(out: &mut Vec<u8>, whole: bool, bytes: &[u8]) -> Result<(), AllocError>
+    ensures { OnOk result (out.new.items ≡ out.old.items ++ blob_word whole bytes.now) }
+{
+    if whole {
+        return add_tagged(out, b"b:", bytes);
+    }
+    add_blob(out, bytes)
 }
 
 /// Adds a blob, or its first bytes and how many it has.

@@ -2,16 +2,16 @@
 ghost use Rattle.std.specs.Prelude.{◌≡◌, ◌++◌, OnOk, IfOk, take};
 ghost use Rattle.std.specs.List.{flat_map};
 ghost use Rattle.osc_message.specs.Arguments.{unknown_of};
-ghost use Rattle.osc_shown.specs.Called.{called, called_by, after_comma, listing};
+ghost use Rattle.osc_shown.specs.Called.{called, called_by, after_comma, listing, others_listed};
 ghost use Rattle.osc_shown.specs.Called.{late_part, IsQueuedTail};
 ghost use Rattle.osc_shown.specs.Tails.{called_mark, joined, late_words};
 
-use crate::WallClock;
 use crate::bytes::add;
 use crate::day::add_dated;
 use crate::destination::{MOST_LISTED, add_unlisted};
 use crate::place::Place;
 use crate::tail::{add_comma, add_late, add_unknown, called_mark as mark_of};
+use crate::{Look, WallClock};
 use osc_message::Message;
 use std::alloc::{AllocError, Global};
 
@@ -26,17 +26,18 @@ pub fn called_mark(message: &Message<'_>, count: usize) -> u8
 /// time tag, if it did. An `Err` means out of memory.
 pub fn called_tail(
     alloc: Global,
+    look: Look,
     moment: Option<u64>,
     late: Option<u64>,
     message: &Message<'_>,
     places: &[Place<'_>],
 ) -> Result<Vec<u8>, AllocError>
     ensures { IfOk result (λ tail. tail.items
-        ≡ joined (called_by (unknown_of message.now) message.now places.now)
+        ≡ joined (called_by look.whole (unknown_of message.now) message.now places.now)
         (late_part moment late)) }
 {
     let mut tail = Vec::new(alloc);
-    add_called_by(&mut tail, message.unknown(), message, places)?;
+    add_called_by(&mut tail, look.whole, message.unknown(), message, places)?;
     add_late_part(&mut tail, moment, late)?;
     Ok(tail)
 }
@@ -56,35 +57,56 @@ pub fn late_tail(
 
 fn add_called_by(
     out: &mut Vec<u8>,
+    whole: bool,
     unknown: Option<u8>,
     message: &Message<'_>,
     places: &[Place<'_>],
 ) -> Result<(), AllocError>
     ensures { OnOk result (out.new.items
-        ≡ out.old.items ++ called_by unknown message.now places.now) }
+        ≡ out.old.items ++ called_by whole unknown message.now places.now) }
 {
     match unknown {
         Some(tag) => add_unknown(out, tag),
-        None => add_called(out, message.pattern().bytes(), places),
+        None => add_called(out, whole, message.pattern().bytes(), places),
     }
 }
 
-fn add_called(out: &mut Vec<u8>, pattern: &[u8], places: &[Place<'_>]) -> Result<(), AllocError>
-    ensures { OnOk result (out.new.items ≡ out.old.items ++ called pattern.now places.now) }
+fn add_called(
+    out: &mut Vec<u8>,
+    whole: bool,
+    pattern: &[u8],
+    places: &[Place<'_>],
+) -> Result<(), AllocError>
+    ensures { OnOk result (out.new.items ≡ out.old.items ++ called whole pattern.now places.now) }
 {
     match places.split_first() {
         None => add(out, b"no method"),
         Some((first, more)) if more.is_empty() && first.bytes() == pattern => Ok(()),
-        Some((first, more)) => add_listing(out, first.bytes(), more),
+        Some((first, more)) => add_listing(out, whole, first.bytes(), more),
     }
 }
 
-/// Adds an arrow, the first places, and how many more there are.
-fn add_listing(out: &mut Vec<u8>, first: &[u8], more: &[Place<'_>]) -> Result<(), AllocError>
-    ensures { OnOk result (out.new.items ≡ out.old.items ++ listing first.now more.now) }
+/// Adds an arrow and the places: all, or the first four and how many more there are.
+fn add_listing(
+    out: &mut Vec<u8>,
+    whole: bool,
+    first: &[u8],
+    more: &[Place<'_>],
+) -> Result<(), AllocError>
+    ensures { OnOk result (out.new.items ≡ out.old.items ++ listing whole first.now more.now) }
 {
     add(out, b"-> ")?;
     add(out, first)?;
+    add_others_listed(out, whole, more)
+}
+
+/// Adds the places after the first.
+fn add_others_listed(out: &mut Vec<u8>, whole: bool, more: &[Place<'_>]) -> Result<(), AllocError>
+    ensures { OnOk result (out.new.items ≡ out.old.items ++ others_listed whole more.now) }
+{
+    if whole {
+        return add_others(out, more);
+    }
     add_others(out, front_places(more))?;
     add_unlisted(out, more.len())
 }

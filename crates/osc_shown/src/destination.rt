@@ -3,7 +3,7 @@ ghost use Rattle.std.specs.Prelude.{◌≡◌, ◌∷◌, ◌++◌, [], List, On
 ghost use Rattle.std.specs.Prelude.{bytes_eq, length};
 ghost use Rattle.osc_shown.specs.declared.route.Route.{Route};
 ghost use Rattle.osc_shown.specs.Places.{hits, to_words, unless_same, run_end, before_next, listed};
-ghost use Rattle.osc_shown.specs.Places.{most_listed, unlisted, arrow, going};
+ghost use Rattle.osc_shown.specs.Places.{unlisted, arrow, going, hits_listed};
 
 use crate::bytes::{add, add_byte};
 use crate::number::add_thousands;
@@ -11,21 +11,22 @@ use crate::route::{Route, reaches};
 use osc_pattern::Pattern;
 use std::alloc::AllocError;
 
-/// How many addresses are listed.
+/// How many addresses are listed, where not all are.
 pub(crate) const MOST_LISTED: usize = 4;
 
 /// Adds where a pattern goes: the addresses that it matches and where they send, or that it matches
-/// none.
+/// none. The list is whole, or has the first four.
 pub(crate) fn add_going(
     out: &mut Vec<u8>,
+    whole: bool,
     pattern: &Pattern<'_>,
     routes: &[Route],
 ) -> Result<(), AllocError>
     ensures { OnOk result (out.new.items
-        ≡ out.old.items ++ going pattern.now (hits pattern.now routes.now)) }
+        ≡ out.old.items ++ going whole pattern.now (hits pattern.now routes.now)) }
 {
     match split_hit(pattern, routes) {
-        Some((hit, after)) => add_found(out, pattern, routes, hit, after),
+        Some((hit, after)) => add_found(out, whole, pattern, routes, hit, after),
         None => add(out, b"no method"),
     }
 }
@@ -33,6 +34,7 @@ pub(crate) fn add_going(
 /// The same where it matches the address of a route, and others of those after it.
 fn add_found(
     out: &mut Vec<u8>,
+    whole: bool,
     pattern: &Pattern<'_>,
     routes: &[Route],
     hit: &Route,
@@ -40,14 +42,32 @@ fn add_found(
 ) -> Result<(), AllocError>
     requires { hits pattern.now routes.now ≡ hit.now ∷ hits pattern.now after.now }
     ensures { OnOk result (out.new.items
-        ≡ out.old.items ++ going pattern.now (hit.now ∷ hits pattern.now after.now)) }
+        ≡ out.old.items ++ going whole pattern.now (hit.now ∷ hits pattern.now after.now)) }
 {
     let more = count_hits(pattern, after);
     if more == 0 && is_address(hit, pattern) {
         return add_arrow(out, &hit.to);
     }
     add(out, b"-> ")?;
-    add_listed(out, pattern, routes)?;
+    add_hits(out, whole, pattern, routes, more)
+}
+
+/// Adds the addresses of the hits, which are one and so many more: all, or the first four and how
+/// many more there are.
+fn add_hits(
+    out: &mut Vec<u8>,
+    whole: bool,
+    pattern: &Pattern<'_>,
+    routes: &[Route],
+    more: usize,
+) -> Result<(), AllocError>
+    ensures { OnOk result (out.new.items
+        ≡ out.old.items ++ hits_listed whole (hits pattern.now routes.now) more) }
+{
+    if whole {
+        return add_listed(out, pattern, routes, count_hits(pattern, routes));
+    }
+    add_listed(out, pattern, routes, MOST_LISTED)?;
     add_unlisted(out, more)
 }
 
@@ -69,19 +89,24 @@ fn add_arrow(out: &mut Vec<u8>, to: &[u8]) -> Result<(), AllocError>
     add(out, to)
 }
 
-/// Adds the addresses that the pattern matches, at most four, and where they send.
-fn add_listed(out: &mut Vec<u8>, pattern: &Pattern<'_>, routes: &[Route]) -> Result<(), AllocError>
+/// Adds the addresses that the pattern matches, at most so many, and where they send.
+fn add_listed(
+    out: &mut Vec<u8>,
+    pattern: &Pattern<'_>,
+    routes: &[Route],
+    most: usize,
+) -> Result<(), AllocError>
     ensures { OnOk result (out.new.items
-        ≡ out.old.items ++ listed most_listed (hits pattern.now routes.now)) }
+        ≡ out.old.items ++ listed most (hits pattern.now routes.now)) }
 {
     let mut rest = routes;
-    let mut most = MOST_LISTED;
-    while most > 0 {
+    let mut left = most;
+    while left > 0 {
         let Some((hit, after)) = split_hit(pattern, rest) else {
             return Ok(());
         };
-        most -= 1;
-        add_hit(out, pattern, hit, after, most > 0)?;
+        left -= 1;
+        add_hit(out, pattern, hit, after, left > 0)?;
         rest = after;
     }
     Ok(())

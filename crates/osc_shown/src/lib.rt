@@ -27,6 +27,7 @@ mod wait;
 mod wall_clock;
 
 pub use answered::Answered;
+pub use argument::argument_words;
 pub use arrival::Arrival;
 pub use called::{called_mark, called_tail, late_tail, queued_tail};
 pub use day::day_line;

@@ -51,14 +51,8 @@ pub(crate) fn add_headed(
 {
     let alloc: Global = *out.allocator();
     let mut front = Vec::new(alloc);
-    add_head(
-        &mut front,
-        head.look.clock,
-        head.moment,
-        head.mark,
-        head.join,
-    )?;
-    add_message(&mut front, message)?;
+    add_head(&mut front, head.look, head.moment, head.mark, head.join)?;
+    add_message(&mut front, head.look.whole, message)?;
     add_line(out, head.look.colours, head.mark, &front, tail)
 }
 
@@ -89,13 +83,7 @@ fn add_note(out: &mut Vec<u8>, head: Head, words: &[u8], tail: &[u8]) -> Result<
 {
     let alloc: Global = *out.allocator();
     let mut front = Vec::new(alloc);
-    add_head(
-        &mut front,
-        head.look.clock,
-        head.moment,
-        head.mark,
-        head.join,
-    )?;
+    add_head(&mut front, head.look, head.moment, head.mark, head.join)?;
     add(&mut front, words)?;
     add_line(out, head.look.colours, head.mark, &front, tail)
 }

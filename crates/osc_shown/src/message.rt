@@ -14,15 +14,20 @@ use crate::quoted::add_all_shown;
 use osc_message::{Arg, Message};
 use std::alloc::AllocError;
 
-/// Adds the pattern, and a word for each argument, or the tags where one is unknown.
-pub(crate) fn add_message(out: &mut Vec<u8>, message: &Message<'_>) -> Result<(), AllocError>
-    ensures { OnOk result (AddsText message.now out.old.items out.new.items) }
+/// Adds the pattern, and a word for each argument, whole or cut where it is long, or the tags where
+/// one is unknown.
+pub(crate) fn add_message(
+    out: &mut Vec<u8>,
+    whole: bool,
+    message: &Message<'_>,
+) -> Result<(), AllocError>
+    ensures { OnOk result (AddsText whole message.now out.old.items out.new.items) }
 {
     add(out, message.pattern().bytes())?;
     if message.unknown().is_some() {
         return add_tags(out, message.tags());
     }
-    add_arguments(out, message)
+    add_arguments(out, whole, message)
 }
 
 /// Adds the tags.
@@ -45,18 +50,19 @@ fn add_known_tags(out: &mut Vec<u8>, tags: &[u8]) -> Result<(), AllocError>
 }
 
 /// Adds a space and a word for each argument.
-fn add_arguments(out: &mut Vec<u8>, message: &Message<'_>) -> Result<(), AllocError>
-    ensures { OnOk result (AddsWords (message_arguments message.now) out.old.items out.new.items) }
+fn add_arguments(out: &mut Vec<u8>, whole: bool, message: &Message<'_>) -> Result<(), AllocError>
+    ensures { OnOk result (AddsWords whole (message_arguments message.now) out.old.items
+        out.new.items) }
 {
     for argument in message.args() {
-        add_spaced(out, argument)?;
+        add_spaced(out, whole, argument)?;
     }
     Ok(())
 }
 
-fn add_spaced(out: &mut Vec<u8>, argument: Arg<'_>) -> Result<(), AllocError>
-    ensures { OnOk result (AddsSpaced (shown argument.entry) out.old.items out.new.items) }
+fn add_spaced(out: &mut Vec<u8>, whole: bool, argument: Arg<'_>) -> Result<(), AllocError>
+    ensures { OnOk result (AddsSpaced whole (shown argument.entry) out.old.items out.new.items) }
 {
     add_byte(out, b' ')?;
-    add_argument(out, argument)
+    add_argument(out, whole, argument)
 }

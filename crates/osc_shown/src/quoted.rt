@@ -4,17 +4,49 @@ ghost use Rattle.std.specs.List.{flat_map};
 ghost use Rattle.osc_shown.specs.Texts.{quoted, quoted_text, quoted_bytes, shown_byte, shown_char};
 ghost use Rattle.osc_shown.specs.Texts.{escaped, escaped_byte, is_marked, is_printed, most_shown};
 ghost use Rattle.osc_shown.specs.Added.{counted_char};
-ghost use Rattle.osc_shown.specs.Texts.{rest_text};
+ghost use Rattle.osc_shown.specs.Texts.{rest_text, all_shown, text_word};
 
 use crate::bytes::{add, add_byte, add_hex, front};
 use crate::number::add_decimal;
 use std::alloc::AllocError;
 
-/// How many characters of a text are shown.
+/// How many characters of a text are shown that isn't shown whole.
 const MOST_SHOWN: usize = 40;
 
+/// Adds the text between quotes, whole or cut where it is long.
+pub(crate) fn add_text_word(out: &mut Vec<u8>, whole: bool, bytes: &[u8]) -> Result<(), AllocError>
+    ensures { OnOk result (out.new.items ≡ out.old.items ++ text_word whole bytes.now) }
+{
+    if !whole {
+        return add_quoted(out, bytes);
+    }
+    add(out, b"\"")?;
+    add_all(out, bytes)?;
+    add(out, b"\"")
+}
+
+/// Adds all characters of a text, or all bytes of one that isn't UTF-8.
+fn add_all(out: &mut Vec<u8>, bytes: &[u8]) -> Result<(), AllocError>
+    ensures { OnOk result (out.new.items ≡ out.old.items ++ all_shown bytes.now) }
+{
+    match std::str::from_utf8(bytes) {
+        Ok(text) => add_all_chars(out, text),
+        Err(_) => add_all_shown(out, bytes),
+    }
+}
+
+fn add_all_chars(out: &mut Vec<u8>, text: &str) -> Result<(), AllocError>
+    ensures { OnOk result (out.new.items
+        ≡ out.old.items ++ flat_map shown_char (chars text.now)) }
+{
+    for letter in text.chars() {
+        add_char(out, letter)?;
+    }
+    Ok(())
+}
+
 /// Adds the text between quotes, or its first 40 characters and how many bytes it has.
-pub(crate) fn add_quoted(out: &mut Vec<u8>, bytes: &[u8]) -> Result<(), AllocError>
+fn add_quoted(out: &mut Vec<u8>, bytes: &[u8]) -> Result<(), AllocError>
     ensures { OnOk result (out.new.items ≡ out.old.items ++ quoted bytes.now) }
 {
     match std::str::from_utf8(bytes) {

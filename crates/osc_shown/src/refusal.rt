@@ -31,7 +31,7 @@ pub fn refusal_line(
 {
     let alloc: Global = *text.allocator();
     let mut front = Vec::new(alloc);
-    add_head(&mut front, look.clock, arrival.moment, b'!', b' ')?;
+    add_head(&mut front, look, arrival.moment, b'!', b' ')?;
     add_datagram(&mut front, datagram)?;
     let mut tail = Vec::new(alloc);
     add_refusal(&mut tail, fault)?;

@@ -163,26 +163,28 @@ fn sender_text(alloc: Global, sender: SocketAddrV4) -> Result<String, AllocError
 /// Adds where a message goes; with an unknown tag it calls no method.
 pub(crate) fn add_goes(
     out: &mut Vec<u8>,
+    whole: bool,
     message: &Message<'_>,
     routes: &[Route],
 ) -> Result<(), AllocError>
-    ensures { OnOk result (out.new.items ≡ out.old.items ++ goes message.now routes.now) }
+    ensures { OnOk result (out.new.items ≡ out.old.items ++ goes whole message.now routes.now) }
 {
-    add_goes_by(out, message.unknown(), message, routes)
+    add_goes_by(out, whole, message.unknown(), message, routes)
 }
 
 fn add_goes_by(
     out: &mut Vec<u8>,
+    whole: bool,
     unknown: Option<u8>,
     message: &Message<'_>,
     routes: &[Route],
 ) -> Result<(), AllocError>
     ensures { OnOk result (out.new.items
-        ≡ out.old.items ++ goes_by unknown message.now routes.now) }
+        ≡ out.old.items ++ goes_by whole unknown message.now routes.now) }
 {
     match unknown {
         Some(tag) => add_unknown(out, tag),
-        None => add_going(out, &message.pattern(), routes),
+        None => add_going(out, whole, &message.pattern(), routes),
     }
 }
 

@@ -1,27 +1,13 @@
 // Moments, as a wall clock shows them.
 ghost use Rattle.std.specs.Prelude.{◌≡◌, ◌<◌, ◌^◌, ◌++◌, OnOk, IfOk};
 ghost use Rattle.osc_shown.specs.Times.{millis_of, shown_millis, day_of, clock_text};
-ghost use Rattle.osc_shown.specs.Times.{time_text, when_text, span_text, seconds_text};
+ghost use Rattle.osc_shown.specs.Times.{time_text, span_text, seconds_text, bare_seconds};
 ghost use Rattle.osc_shown.specs.Times.{is_other_day};
 
 use crate::WallClock;
 use crate::bytes::add;
 use crate::number::{add_decimal, add_three, add_two};
 use std::alloc::{AllocError, Global};
-
-/// Adds the time of day, or dashes where there is no moment.
-pub(crate) fn add_when(
-    out: &mut Vec<u8>,
-    clock: WallClock,
-    moment: Option<u64>,
-) -> Result<(), AllocError>
-    ensures { OnOk result (out.new.items ≡ out.old.items ++ when_text clock moment) }
-{
-    match moment {
-        Some(moment) => add_time(out, clock, moment),
-        None => add(out, b"--:--:--.---"),
-    }
-}
 
 /// Adds the time of day, as `20:15:03.300`.
 pub(crate) fn add_time(out: &mut Vec<u8>, clock: WallClock, moment: u64) -> Result<(), AllocError>
@@ -58,6 +44,15 @@ pub(crate) fn add_seconds(out: &mut Vec<u8>, millis: u64) -> Result<(), AllocErr
     add(out, b".")?;
     add_three(out, millis)?;
     add(out, b" s")
+}
+
+/// Adds milliseconds as seconds, as `1.120`.
+pub(crate) fn add_bare_seconds(out: &mut Vec<u8>, millis: u64) -> Result<(), AllocError>
+    ensures { OnOk result (out.new.items ≡ out.old.items ++ bare_seconds millis) }
+{
+    add_decimal(out, millis / 1000)?;
+    add(out, b".")?;
+    add_three(out, millis)
 }
 
 /// Whether a moment falls on another day than the one from which it is seen.

@@ -90,13 +90,7 @@ fn add_empty(out: &mut Vec<u8>, report: Report<'_>) -> Result<(), AllocError>
     }
     let alloc: Global = *out.allocator();
     let mut front = Vec::new(alloc);
-    add_head(
-        &mut front,
-        report.look.clock,
-        report.arrival.moment,
-        mark,
-        b' ',
-    )?;
+    add_head(&mut front, report.look, report.arrival.moment, mark, b' ')?;
     add(&mut front, b"(no message)")?;
     let mut tail = Vec::new(alloc);
     add_tail(&mut tail, report.arrival, report.answer, report.tag, b"")?;
@@ -159,7 +153,7 @@ fn add_marked_line(
 {
     let alloc: Global = *out.allocator();
     let mut there = Vec::new(alloc);
-    add_goes(&mut there, message, report.routes)?;
+    add_goes(&mut there, report.look.whole, message, report.routes)?;
     let mut tail = Vec::new(alloc);
     add_tail(&mut tail, report.arrival, report.answer, report.tag, &there)?;
     let head = Head {

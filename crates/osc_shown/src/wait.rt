@@ -39,21 +39,21 @@ fn add_waiting_line(
 {
     let alloc: Global = *out.allocator();
     let mut front = Vec::new(alloc);
-    add_head(&mut front, look.clock, arrival.moment, b'~', b' ')?;
-    add_unit_text(&mut front, unit)?;
+    add_head(&mut front, look, arrival.moment, b'~', b' ')?;
+    add_unit_text(&mut front, look.whole, unit)?;
     let mut tail = Vec::new(alloc);
     add_waiting_tail(&mut tail, look, arrival, unit.tag())?;
     add_line(out, look.colours, b'~', &front, &tail)
 }
 
 /// Adds the first message, and how many more there are.
-fn add_unit_text(out: &mut Vec<u8>, unit: &Unit<'_>) -> Result<(), AllocError>
-    ensures { OnOk result (AddsUnitText unit.now.messages out.old.items out.new.items) }
+fn add_unit_text(out: &mut Vec<u8>, whole: bool, unit: &Unit<'_>) -> Result<(), AllocError>
+    ensures { OnOk result (AddsUnitText whole unit.now.messages out.old.items out.new.items) }
 {
     let count = unit.count();
     match unit.messages().next() {
         Some(message) => {
-            add_message(out, &message)?;
+            add_message(out, whole, &message)?;
             add_more(out, count - 1)
         }
         None => add(out, b"(no message)"),

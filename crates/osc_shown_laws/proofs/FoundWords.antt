@@ -233,7 +233,7 @@ character_placed number = go (nat_le 33 number && nat_le number 126) refl where
 named : (argument : Argument) (first : ℕ) (rest : List ℕ) (said : List ℕ) → said ≡ first ∷ rest → IsPlaced argument (first ∷ rest) → IsPlaced argument said
 named argument first rest said is found = subst (IsPlaced argument) (sym is) found
 
-pub word_placed : (argument : Argument) (said : List ℕ) → Fits argument → IsOfBytes argument → IsWord argument said → IsPlaced argument said
+pub word_placed : (argument : Argument) (said : List ℕ) → Fits argument → IsOfBytes argument → IsWord false argument said → IsPlaced argument said
 word_placed (integer number) said fits bytes is =
     subst (IsPlaced (integer number)) (sym is)
     (number_placed (integer number) (signed_decimal number) (signed_some number (wider number fits)) (signed_pass number (wider number fits)) refl refl)

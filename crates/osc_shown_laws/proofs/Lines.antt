@@ -19,7 +19,7 @@ use Rattle.osc_shown_laws.proofs.Words.{read_again, word_again}
 use Rattle.osc_shown_laws.proofs.FoundWords.{IsPlaced, word_placed}
 
 -- the word of a whole argument is read as it
-pub whole_again : (argument : Argument) (said : List ℕ) → Fits argument → IsOfBytes argument → is_whole argument ≡ true → IsWord argument said
+pub whole_again : (argument : Argument) (said : List ℕ) → Fits argument → IsOfBytes argument → is_whole argument ≡ true → IsWord false argument said
     → argument_read said ≡ Ok argument
 whole_again argument said fits bytes whole is = word_again argument said fits bytes is ∙ cond-true _ _ _ whole
 
@@ -50,7 +50,7 @@ AreBrackets line (argument ∷ arguments) [] = ⊥
 -- the words at these places are those of the arguments
 abbrev pub HaveWords : List ℕ → List Argument → List Span → Type 0
 HaveWords line [] [] = Unit {0}
-HaveWords line (argument ∷ arguments) (one ∷ spans) = IsWord argument (word_at line one) × HaveWords line arguments spans
+HaveWords line (argument ∷ arguments) (one ∷ spans) = IsWord false argument (word_at line one) × HaveWords line arguments spans
 HaveWords line [] (one ∷ spans) = ⊥
 HaveWords line (argument ∷ arguments) [] = ⊥
 
@@ -157,7 +157,7 @@ bracket_is line one argument first is placed = (
   ap (λ (l : List ℕ). bytes_eq l (codes "]")) is ∙ placed.closes,
 )
 
-pub follow : (arguments : List Argument) (said : List ℕ) → AllFit arguments → AreOfBytes arguments → AreWords arguments said
+pub follow : (arguments : List Argument) (said : List ℕ) → AllFit arguments → AreOfBytes arguments → AreWords false arguments said
     → (line before : List ℕ) (place begun opened : ℕ) (spans : List Span) → line ≡ before ++ said → place ≡ length before
     → Follow line arguments said place begun opened spans
 follow [] said fit bytes are line before place begun opened spans line_is place_is =
@@ -189,6 +189,6 @@ follow (argument ∷ arguments) said fit bytes are line before place begun opene
           ∙ ap (λ (s : Scan). finished_at s (length line)) (found.is others)
           ∙ rest.found
           ∙ ap (λ (l : List Span). Ok l) (append_assoc shown (span (place + 1) next ∷ []) rest.more);
-      words = (subst (IsWord argument) (sym here) are.2, rest.words);
+      words = (subst (IsWord false argument) (sym here) are.2, rest.words);
       brackets = (bracket.0, bracket.1, rest.brackets);
     }

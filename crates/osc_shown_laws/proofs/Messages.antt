@@ -26,15 +26,15 @@ IsReadAs message pattern tags arguments =
 -- the words of such a message
 pub record HasWords (pattern words : List ℕ) (arguments : List Argument) : Type 0 where
   pub said : List ℕ
-  pub are : AreWords arguments said
+  pub are : AreWords false arguments said
   pub whole : words ≡ pattern ++ said
 
 pub has_words : (message pattern words : List ℕ) (tags : Option (List ℕ)) (arguments : List Argument)
-    → IsReadAs message pattern tags arguments → IsMessageText message words → HasWords pattern words arguments
+    → IsReadAs message pattern tags arguments → IsMessageText false message words → HasWords pattern words arguments
 has_words message pattern words tags arguments read is = record {
   said = is.said;
-  are = subst (λ (l : List Argument). AreWords l is.said) read.2 (is.known (ap is_some read.3));
-  whole = is.whole ∙ ap (λ (l : List ℕ). l ++ is.said) read.0;
+  are = subst (λ (l : List Argument). AreWords false l is.said) read.2 (is.known (ap is_some read.3));
+  whole = is.text ∙ ap (λ (l : List ℕ). l ++ is.said) read.0;
 }
 
 pub words_after : (methods : List (List ℕ)) (front pattern words : List ℕ) (arguments : List Argument) → EndsBetween front → AllFit arguments
@@ -64,7 +64,7 @@ message_is methods front words pattern arguments between fit bytes whole even ad
 pub known_again : {pattern : List ℕ} {arguments : List Argument}
     → IsReadAs (message_text (known pattern arguments)) pattern (Some (map tag_of arguments)) arguments
     → (methods : List (List ℕ)) (front words : List ℕ) → EndsBetween front → IsLawful (known pattern arguments) → AreOfBytes arguments
-    → are_whole arguments ≡ true → address_read methods pattern ≡ Ok pattern → IsMessageText (message_text (known pattern arguments)) words
+    → are_whole arguments ≡ true → address_read methods pattern ≡ Ok pattern → IsMessageText false (message_text (known pattern arguments)) words
     → said_after methods front words ≡ Ok (message_text (known pattern arguments))
 known_again {pattern} {arguments} read methods front words between lawful bytes whole address is =
     message_is methods front words pattern arguments between lawful.1 bytes whole lawful.2 address
@@ -73,7 +73,7 @@ known_again {pattern} {arguments} read methods front words between lawful bytes 
 pub known_cut : {pattern : List ℕ} {arguments : List Argument}
     → IsReadAs (message_text (known pattern arguments)) pattern (Some (map tag_of arguments)) arguments
     → (methods : List (List ℕ)) (front words : List ℕ) → EndsBetween front → IsLawful (known pattern arguments) → AreOfBytes arguments
-    → are_whole arguments ≡ false → address_read methods pattern ≡ Ok pattern → IsMessageText (message_text (known pattern arguments)) words
+    → are_whole arguments ≡ false → address_read methods pattern ≡ Ok pattern → IsMessageText false (message_text (known pattern arguments)) words
     → is_ok (said_after methods front words) ≡ false
 known_cut {pattern} {arguments} read methods front words between lawful bytes cut address is =
     let has = has_words (message_text (known pattern arguments)) pattern words (Some (map tag_of arguments)) arguments read is in
@@ -86,20 +86,20 @@ none_even = balanced [] [] [] refl refl
 
 pub bare_again : {pattern : List ℕ} → IsReadAs (message_text (bare pattern)) pattern None []
     → (methods : List (List ℕ)) (front words : List ℕ) → EndsBetween front → address_read methods pattern ≡ Ok pattern
-    → IsMessageText (message_text (bare pattern)) words → said_after methods front words ≡ Ok (message_text (known pattern []))
+    → IsMessageText false (message_text (bare pattern)) words → said_after methods front words ≡ Ok (message_text (known pattern []))
 bare_again {pattern} read methods front words between address is =
     message_is methods front words pattern [] between tt tt refl none_even address
     (has_words (message_text (bare pattern)) pattern words None [] read is)
 
 -- a message without a tag string is shown as one with an empty one
 pub bare_alike : {pattern : List ℕ} → IsReadAs (message_text (bare pattern)) pattern None []
-    → IsReadAs (message_text (known pattern [])) pattern (Some []) [] → (words : List ℕ) → IsMessageText (message_text (bare pattern)) words
-    → IsMessageText (message_text (known pattern [])) words
+    → IsReadAs (message_text (known pattern [])) pattern (Some []) [] → (words : List ℕ) → IsMessageText false (message_text (bare pattern)) words
+    → IsMessageText false (message_text (known pattern [])) words
 bare_alike {pattern} read other words is =
     let has = has_words (message_text (bare pattern)) pattern words None [] read is in
     record {
       said = has.said;
-      known = λ none. subst (λ (l : List Argument). AreWords l has.said) (sym other.2) has.are;
+      known = λ none. subst (λ (l : List Argument). AreWords false l has.said) (sym other.2) has.are;
       unknown = λ some. absurd (let none = ap is_some other.3 in cc (none, some));
-      whole = has.whole ∙ ap (λ (l : List ℕ). l ++ has.said) (sym other.0);
+      text = has.whole ∙ ap (λ (l : List ℕ). l ++ has.said) (sym other.0);
     }

@@ -10,7 +10,7 @@ use Rattle.std.proofs.lemmas.Bool.Decides.{nat_tests}
 use Rattle.std.proofs.lemmas.List.{take_all}
 use Rattle.std.proofs.lemmas.Str.{IsUtf8-from_is_utf8, encodes-chars}
 use Rattle.osc_atoms.specs.Atoms.{AreBytes, has_no_zero}
-use Rattle.osc_shown.specs.Texts.{shown_byte, shown_char, most_shown, rest_text, quoted_text, quoted_bytes, quoted}
+use Rattle.osc_shown.specs.Texts.{shown_byte, shown_char, most_shown, rest_text, quoted_text, quoted_bytes, quoted, all_shown, text_word}
 use Rattle.osc_cues.specs.declared.fault.Fault.TheVariants.{NotText}
 use Rattle.osc_cues.specs.Faults.{wrong_at}
 use Rattle.osc_cues.specs.Quoted.{text_read, is_closed, inner, quoted_read}
@@ -149,6 +149,18 @@ text_whole at bytes none each short =
     let is = quoted_is bytes (letters bytes none each) in
     ap (quoted_read at) (is.word_is ∙ ap (λ (l : List ℕ). 34 ∷ (is.shown ++ 34 ∷ l)) (is.no_rest short))
     ∙ read_whole at is.shown bytes (is.reads short)
+
+-- a text that is shown uncut
+all_reads : (bytes : List ℕ) → AreLetters bytes → Reads (all_shown bytes) bytes
+all_reads bytes are = go (is_utf8 bytes) refl where
+  go : (t : Bool) → is_utf8 bytes ≡ t → Reads (cond t (flat_map shown_char (chars bytes)) (flat_map shown_byte bytes)) bytes
+  go true is =
+      let same : encode_utf8_all (chars bytes) ≡ bytes = encodes-chars bytes (IsUtf8-from_is_utf8 bytes is) in
+      subst (Reads (flat_map shown_char (chars bytes))) same (reads_chars (chars bytes) (subst AreLetters (sym same) are))
+  go false is = reads_bytes bytes are
+
+pub uncut_read : (at : ℕ) (bytes : List ℕ) → has_no_zero bytes ≡ true → AreBytes bytes → quoted_read at (text_word true bytes) ≡ Ok bytes
+uncut_read at bytes none each = read_whole at (all_shown bytes) bytes (all_reads bytes (letters bytes none each))
 
 -- a text that was cut short
 not_quote : (last : ℕ) → 48 ≤ last → 34 == last ≡ false

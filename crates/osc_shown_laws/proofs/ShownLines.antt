@@ -31,7 +31,7 @@ pub record SaysArguments (said : List ℕ) (arguments : List Argument) : Type 0 
 none_are : (said : List ℕ) → said ≡ [] → SaysArguments said []
 none_are said is = subst (λ (l : List ℕ). SaysArguments l []) (sym is) (record { spans = []; found = refl; words = tt })
 
-pub arguments_said : (arguments : List Argument) (said : List ℕ) → AllFit arguments → AreOfBytes arguments → AreWords arguments said
+pub arguments_said : (arguments : List Argument) (said : List ℕ) → AllFit arguments → AreOfBytes arguments → AreWords false arguments said
     → SaysArguments said arguments
 arguments_said [] said fit bytes are = none_are said are
 arguments_said (argument ∷ arguments) said fit bytes are =
@@ -48,18 +48,18 @@ arguments_said (argument ∷ arguments) said fit bytes are =
       found =
           ap (λ (l : List ℕ). finished_at (scanned 0 unscanned l) (length said)) said_is
           ∙ ap (λ (s : Scan). finished_at s (length said)) (found.is others) ∙ rest.found;
-      words = (subst (IsWord argument) (sym here) are.2, rest.words);
+      words = (subst (IsWord false argument) (sym here) are.2, rest.words);
     }
 
 pub arguments_again : (arguments : List Argument) (said : List ℕ) → AllFit arguments → AreOfBytes arguments → are_whole arguments ≡ true
-    → AreWords arguments said → and_then (spans_of said) (λ spans. arguments_at said spans) ≡ Ok arguments
+    → AreWords false arguments said → and_then (spans_of said) (λ spans. arguments_at said spans) ≡ Ok arguments
 arguments_again arguments said fit bytes whole are =
     let is = arguments_said arguments said fit bytes are in
     ap (λ (read : Result (List Span) WordFault). and_then read (λ spans. arguments_at said spans)) is.found
     ∙ read_whole said arguments is.spans fit bytes whole is.words
 
 pub arguments_cut : (arguments : List Argument) (said : List ℕ) → AllFit arguments → AreOfBytes arguments → are_whole arguments ≡ false
-    → AreWords arguments said → is_ok (and_then (spans_of said) (λ spans. arguments_at said spans)) ≡ false
+    → AreWords false arguments said → is_ok (and_then (spans_of said) (λ spans. arguments_at said spans)) ≡ false
 arguments_cut arguments said fit bytes cut are =
     let is = arguments_said arguments said fit bytes are in
     ap (λ (read : Result (List Span) WordFault). is_ok (and_then read (λ spans. arguments_at said spans))) is.found
@@ -140,7 +140,7 @@ pub record Says (line pattern : List ℕ) (arguments : List Argument) (before : 
 
 pub message_after : (methods : List (List ℕ)) (front pattern said : List ℕ) (arguments : List Argument)
     → (scanned 0 unscanned front).mode ≡ Between → address_read methods pattern ≡ Ok pattern → AllFit arguments → AreOfBytes arguments
-    → AreWords arguments said → Says (front ++ (pattern ++ said)) pattern arguments (scanned 0 unscanned front).spans
+    → AreWords false arguments said → Says (front ++ (pattern ++ said)) pattern arguments (scanned 0 unscanned front).spans
 message_after methods front pattern said arguments between address fit bytes are =
     let line : List ℕ = front ++ (pattern ++ said) in
     let scan : Scan = scanned 0 unscanned front in

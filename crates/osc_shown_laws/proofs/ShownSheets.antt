@@ -39,7 +39,7 @@ Rereads =
 
 -- No line has a control character.
 
-said_visible : (arguments : List Argument) (said : List ℕ) → AllFit arguments → AreOfBytes arguments → AreWords arguments said → IsVisible said
+said_visible : (arguments : List Argument) (said : List ℕ) → AllFit arguments → AreOfBytes arguments → AreWords false arguments said → IsVisible said
 said_visible [] said fit bytes are = ap (λ (l : List ℕ). list_all (nat_le 32) l) are
 said_visible (argument ∷ arguments) said fit bytes are =
     let one = (word_placed argument are.0 fit.0 bytes.0 are.2).visible in
@@ -64,8 +64,8 @@ shown_line methods cue line rereads showable is =
     let number : List ℕ = encode_lower (tag cue.tag) in
     let front : List ℕ = number ++ 32 ∷ [] in
     let begun = front_of cue.tag in
-    let text : IsMessageText (message_text (known showable.pattern showable.arguments)) words =
-    subst (λ (l : List ℕ). IsMessageText l words) showable.spelled is.1 in
+    let text : IsMessageText false (message_text (known showable.pattern showable.arguments)) words =
+    subst (λ (l : List ℕ). IsMessageText false l words) showable.spelled is.1 in
     let has = has_words (message_text (known showable.pattern showable.arguments)) showable.pattern words
     (Some (map tag_of showable.arguments)) showable.arguments
     (rereads showable.pattern showable.arguments showable.lawful) text in

@@ -9,7 +9,7 @@ use lib.Ieee.{binary32, binary64}
 use Rattle.osc_atoms.specs.Atoms.{word, tag, AreBytes, has_no_zero}
 use Rattle.osc_message.specs.Messages.{Argument, integer, float, text, content, long, time, double, symbol, character, rgba, midi, true_, false_, nil, infinitum}
 use Rattle.osc_message.specs.Messages.{array_start, array_end, Fits}
-use Rattle.osc_shown.specs.Texts.{quoted}
+use Rattle.osc_shown.specs.Texts.{quoted, all_shown, text_word as shown_text}
 use Rattle.osc_shown.specs.Arguments.{is_finite, IsFloat, IsDouble, blob_text, character_text, IsWord}
 use Rattle.osc_cues.specs.declared.fault.Fault.TheVariants.{NotText, NotBlob, NotCharacter, NotEight, NotSixteen}
 use Rattle.osc_cues.specs.declared.fault.WordFault.{WordFault}
@@ -21,7 +21,7 @@ use Rattle.osc_shown_laws.specs.WholeArguments.{IsOfBytes, is_short, is_whole, c
 use Rattle.osc_shown_laws.proofs.Numbers.{long_64}
 use Rattle.osc_shown_laws.proofs.NumberWords.{int_again}
 use Rattle.osc_shown_laws.proofs.HexDigits.{eight_again, sixteen_again, blob_whole, blob_cut}
-use Rattle.osc_shown_laws.proofs.QuotedTexts.{quote_first, text_whole, text_cut}
+use Rattle.osc_shown_laws.proofs.QuotedTexts.{quote_first, text_whole, text_cut, uncut_read}
 use Rattle.osc_shown_laws.proofs.FloatTexts.{float_again}
 use Rattle.osc_shown_laws.proofs.DoubleTexts.{double_again}
 
@@ -72,6 +72,16 @@ symbol_word bytes none each =
       go true short = ap (made symbol) (text_whole 2 bytes none each short)
       go false cut = ap (made symbol) (text_cut 2 bytes none each cut)
 
+-- texts that are shown uncut
+
+uncut_text : (bytes : List ℕ) → has_no_zero bytes ≡ true → AreBytes bytes → argument_read (shown_text true bytes) ≡ Ok (text bytes)
+uncut_text bytes none each =
+    as_text (shown_text true bytes) (all_shown bytes ++ 34 ∷ []) refl ∙ ap (made text) (uncut_read 0 bytes none each)
+
+uncut_symbol : (bytes : List ℕ) → has_no_zero bytes ≡ true → AreBytes bytes → argument_read (codes "S:" ++ shown_text true bytes) ≡ Ok (symbol bytes)
+uncut_symbol bytes none each =
+    ap (made symbol) (as_value 2 (shown_text true bytes) (all_shown bytes ++ 34 ∷ []) refl ∙ uncut_read 2 bytes none each)
+
 -- blobs
 
 pub cut_word : (front size : List ℕ) → codes "b:" ++ front ++ codes ".." ++ size ≡ codes "b:" ++ (front ++ 46 ∷ 46 ∷ size)
@@ -111,7 +121,7 @@ time_word number small = ap (λ (read : Option ℕ). made time (value_or NotSixt
 
 -- all kinds
 
-pub word_again : (argument : Argument) (said : List ℕ) → Fits argument → IsOfBytes argument → IsWord argument said
+pub word_again : (argument : Argument) (said : List ℕ) → Fits argument → IsOfBytes argument → IsWord false argument said
     → argument_read said ≡ read_again argument
 word_again (integer number) said fits bytes is = ap argument_read is ∙ int_again number fits
 word_again (float bits) said fits bytes is = float_word bits said fits is
@@ -130,3 +140,24 @@ word_again nil said fits bytes is = ap argument_read is
 word_again infinitum said fits bytes is = ap argument_read is
 word_again array_start said fits bytes is = ap argument_read is
 word_again array_end said fits bytes is = ap argument_read is
+
+-- the same of words that are shown uncut, none of which is wrong
+
+pub word_uncut : (argument : Argument) (said : List ℕ) → Fits argument → IsOfBytes argument → IsWord true argument said → argument_read said ≡ Ok argument
+word_uncut (integer number) said fits bytes is = word_again (integer number) said fits bytes is
+word_uncut (float bits) said fits bytes is = word_again (float bits) said fits bytes is
+word_uncut (text letters) said fits bytes is = ap argument_read is ∙ uncut_text letters fits bytes
+word_uncut (content blob) said fits bytes is = ap argument_read is ∙ ap (made content) (blob_whole blob bytes)
+word_uncut (long number) said fits bytes is = word_again (long number) said fits bytes is
+word_uncut (time number) said fits bytes is = word_again (time number) said fits bytes is
+word_uncut (double bits) said fits bytes is = word_again (double bits) said fits bytes is
+word_uncut (symbol letters) said fits bytes is = ap argument_read is ∙ uncut_symbol letters fits bytes
+word_uncut (character number) said fits bytes is = word_again (character number) said fits bytes is
+word_uncut (rgba number) said fits bytes is = word_again (rgba number) said fits bytes is
+word_uncut (midi number) said fits bytes is = word_again (midi number) said fits bytes is
+word_uncut true_ said fits bytes is = word_again true_ said fits bytes is
+word_uncut false_ said fits bytes is = word_again false_ said fits bytes is
+word_uncut nil said fits bytes is = word_again nil said fits bytes is
+word_uncut infinitum said fits bytes is = word_again infinitum said fits bytes is
+word_uncut array_start said fits bytes is = word_again array_start said fits bytes is
+word_uncut array_end said fits bytes is = word_again array_end said fits bytes is

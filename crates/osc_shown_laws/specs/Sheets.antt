@@ -1,5 +1,5 @@
 -- Sheets of what is shown: a line for each cue, its message in the words that are shown of it.
-use Rattle.std.specs.Prelude.{◌≡◌, IsTrue, ℕ, ◌<◌, ◌^◌, List, [], ◌∷◌, ◌++◌, Ok}
+use Rattle.std.specs.Prelude.{◌≡◌, IsTrue, false, ℕ, ◌<◌, ◌^◌, List, [], ◌∷◌, ◌++◌, Ok}
 use Rattle.hex.specs.Hex.{encode_lower}
 use Rattle.osc_atoms.specs.Atoms.{tag}
 use Rattle.osc_message.specs.Messages.{Argument, known, message_text, IsLawful}
@@ -22,7 +22,7 @@ pub record IsShowable (methods : List (List ℕ)) (cue : Cue) : Type 0 where
 -- the line of a cue: its time tag in 16 digits, a space, and the words of its message
 abbrev pub IsCueLine : Cue → List ℕ → Type 0
 IsCueLine cue line =
-    (words : List ℕ) × IsMessageText cue.message words
+    (words : List ℕ) × IsMessageText false cue.message words
     × (line ≡ encode_lower (tag cue.tag) ++ 32 ∷ words)
 
 -- the lines of cues, each with a line feed at its end

@@ -1,7 +1,7 @@
 //! What is shown of arguments is read again.
 ghost use Rattle.osc_cues.specs.declared.limits.TheConstants.{MAX_SHEET};
 ghost use Rattle.std.specs.Prelude.{◌≡◌, ◌≤◌, ℕ, List, [], ◌∷◌, length, IsTrue, IsFalse, Ok, None};
-ghost use Rattle.std.specs.Prelude.{codes, pos, negsuc, is_ok};
+ghost use Rattle.std.specs.Prelude.{codes, pos, negsuc, is_ok, true, false};
 ghost use Rattle.std.specs.List.{AllByRecursion};
 ghost use Rattle.jiff_core.specs.declared.civil.date.Date.{Date};
 ghost use Rattle.jiff_core.specs.declared.offset.Offset.{Offset};
@@ -26,23 +26,27 @@ ghost use Rattle.osc_shown_laws.specs.Sheets.{IsShowable, AreCueLines};
 use osc_message::laws as messages;
 
 /// The word that is shown of an argument, as `0.75`, `h:7` or `"act two"`, is read in a sheet of
-/// cues as this argument. One that was cut short, as `b:0102030405060708..64`, is wrong there.
+/// cues as this argument. One that was cut short, as `b:0102030405060708..64`, is wrong there; where
+/// words are shown uncut, each is read.
 pub fn shown_words_are_read_again()
     ensures whole { (argument : Argument) (said : List ℕ) → Fits argument → IsOfBytes argument
-        → IsTrue (is_whole argument) → IsWord argument said → argument_read said ≡ Ok argument }
+        → IsTrue (is_whole argument) → IsWord false argument said
+        → argument_read said ≡ Ok argument }
     ensures cut { (argument : Argument) (said : List ℕ) → Fits argument → IsOfBytes argument
-        → IsFalse (is_whole argument) → IsWord argument said
+        → IsFalse (is_whole argument) → IsWord false argument said
         → argument_read said ≡ cut_fault argument }
+    ensures uncut { (argument : Argument) (said : List ℕ) → Fits argument → IsOfBytes argument
+        → IsWord true argument said → argument_read said ≡ Ok argument }
 {}
 
 /// The words of arguments, as ` [ 60 63 67 ] true`, are found in a line and read as these. Where
 /// one was cut short, nothing is read of them.
 pub fn shown_arguments_are_read_again()
     ensures whole { (arguments : List Argument) (said : List ℕ) → AllFit arguments
-        → AreOfBytes arguments → IsTrue (are_whole arguments) → AreWords arguments said
+        → AreOfBytes arguments → IsTrue (are_whole arguments) → AreWords false arguments said
         → and_then (spans_of said) (λ spans. arguments_at said spans) ≡ Ok arguments }
     ensures cut { (arguments : List Argument) (said : List ℕ) → AllFit arguments
-        → AreOfBytes arguments → IsFalse (are_whole arguments) → AreWords arguments said
+        → AreOfBytes arguments → IsFalse (are_whole arguments) → AreWords false arguments said
         → IsFalse (is_ok (and_then (spans_of said) (λ spans. arguments_at said spans))) }
 {}
 
@@ -54,21 +58,21 @@ pub fn a_shown_message_is_read_again()
         (arguments : List Argument) → EndsBetween front → IsLawful (known pattern arguments)
         → AreOfBytes arguments → IsTrue (are_whole arguments)
         → address_read methods pattern ≡ Ok pattern
-        → IsMessageText (message_text (known pattern arguments)) words
+        → IsMessageText false (message_text (known pattern arguments)) words
         → said_after methods front words ≡ Ok (message_text (known pattern arguments)) }
     ensures cut { (methods : List (List ℕ)) (front pattern words : List ℕ)
         (arguments : List Argument) → EndsBetween front → IsLawful (known pattern arguments)
         → AreOfBytes arguments → IsFalse (are_whole arguments)
         → address_read methods pattern ≡ Ok pattern
-        → IsMessageText (message_text (known pattern arguments)) words
+        → IsMessageText false (message_text (known pattern arguments)) words
         → IsFalse (is_ok (said_after methods front words)) }
     ensures bare { (methods : List (List ℕ)) (front pattern words : List ℕ) → EndsBetween front
         → IsLawful (bare pattern) → address_read methods pattern ≡ Ok pattern
-        → IsMessageText (message_text (bare pattern)) words
+        → IsMessageText false (message_text (bare pattern)) words
         → said_after methods front words ≡ Ok (message_text (known pattern [])) }
     ensures alike { (pattern words : List ℕ) → IsLawful (bare pattern)
-        → IsMessageText (message_text (bare pattern)) words
-        → IsMessageText (message_text (known pattern [])) words }
+        → IsMessageText false (message_text (bare pattern)) words
+        → IsMessageText false (message_text (known pattern [])) words }
 {
     messages::written_is_read_again();
 }
@@ -95,7 +99,7 @@ pub fn examples()
         ≡ Ok (message_text (known (codes "/light/*")
         (float 0x3e80_0000 ∷ text (codes "act # two") ∷ array_start ∷ integer (negsuc 6)
         ∷ long (pos 7) ∷ array_end ∷ true_ ∷ character 35 ∷ symbol [] ∷ []))) }
-    ensures shown { IsMessageText (message_text (known (codes "/a") (integer (pos 7) ∷ [])))
+    ensures shown { IsMessageText false (message_text (known (codes "/a") (integer (pos 7) ∷ [])))
         (codes "/a 7") }
     ensures sheet { (date : Date) (offset : Offset) → sheet_of (codes "/light/front" ∷ [])
         (record { now = 0; date = date; offset = offset; skip = None })

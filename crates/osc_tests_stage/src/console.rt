@@ -96,6 +96,9 @@ fn view(routes: &[Route], quiet: bool) -> View<'_> {
     View {
         look: Look {
             clock: WallClock::at(Offset::UTC),
+            since: None,
+            caller: None,
+            whole: false,
             colours: false,
             quiet,
         },

@@ -344,6 +344,9 @@ fn look(seconds: i32) -> Result<Look, Fail> {
         .ok_or("an offset")?;
     Ok(Look {
         clock: WallClock::at(offset),
+        since: None,
+        caller: None,
+        whole: false,
         colours: false,
         quiet: false,
     })

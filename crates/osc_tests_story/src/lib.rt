@@ -7,6 +7,8 @@ mod carry;
 #[cfg(test)]
 mod drawing;
 #[cfg(test)]
+mod faders;
+#[cfg(test)]
 mod report;
 #[cfg(test)]
 mod runs;

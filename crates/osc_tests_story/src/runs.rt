@@ -78,6 +78,9 @@ const MANY: &[u8] = b"20:00:20.000    /x 0.5 .. 0.5                   1,500 in 2
 fn plain_look() -> Look {
     Look {
         clock: WallClock::at(Offset::UTC),
+        since: None,
+        caller: None,
+        whole: false,
         colours: false,
         quiet: false,
     }
@@ -87,7 +90,7 @@ fn plain_look() -> Look {
 fn take<A: Abort>(rt: &A, runs: &mut Runs, text: &mut Vec<u8>, millis: u64, step: &Step<'_>) {
     if runs.take(step) == Err(TakeFault::TooLate) {
         assert!(rt; millis == 601);
-        assert!(rt; runs.flush(text, plain_look()).is_ok());
+        assert!(rt; runs.flush(text).is_ok());
         assert!(rt; runs.take(step).is_ok());
     }
 }
@@ -103,6 +106,7 @@ fn a_run_is_told_address_by_address(rt: HostRuntime) -> Result<(), Fail> {
     let mut runs = Runs::open(rt.alloc());
     for (millis, address, words, line) in STEPS {
         let step = Step {
+            look: plain_look(),
             moment: tag(millis),
             address,
             words,
@@ -110,7 +114,7 @@ fn a_run_is_told_address_by_address(rt: HostRuntime) -> Result<(), Fail> {
         };
         take(&rt, &mut runs, &mut text, millis, &step);
     }
-    runs.flush(&mut text, plain_look())?;
+    runs.flush(&mut text)?;
     assert_eq!(rt; text.as_slice(), TOLD);
     Ok(())
 }
@@ -121,6 +125,7 @@ fn many_lines_are_one(rt: HostRuntime) -> Result<(), Fail> {
     let mut runs = Runs::open(rt.alloc());
     for at in 0..1_500u64 {
         let step = Step {
+            look: plain_look(),
             moment: tag(20 * at),
             address: b"/x",
             words: b"0.5",
@@ -128,7 +133,7 @@ fn many_lines_are_one(rt: HostRuntime) -> Result<(), Fail> {
         };
         assert!(rt; runs.take(&step).is_ok());
     }
-    runs.flush(&mut text, plain_look())?;
+    runs.flush(&mut text)?;
     assert_eq!(rt; text.as_slice(), MANY);
     Ok(())
 }

@@ -35,14 +35,17 @@ pub(crate) fn follow<W: Wait>(
     let mut page = Page::open(rt);
     // The header, and the bytes that came after the last entry that was shown.
     let mut bytes = Vec::new(rt.alloc());
-    let mut reporter = None;
+    let mut screen = Screen {
+        reporter: None,
+        since: None,
+    };
     for _ in threads.forever() {
         if !read_more(&mut tape, &mut bytes)? {
             report_unread(rt, tape.file());
             return Ok(SOURCE_FAILED);
         }
         let is_over = tape.turn(rt, &showing.files)?;
-        if !show_more(rt, showing, &mut page, &mut bytes, &mut reporter, is_over)? {
+        if !show_more(rt, showing, &mut page, &mut bytes, &mut screen, is_over)? {
             report_malformed(rt, tape.file());
             return Ok(REFUSED);
         }
@@ -53,11 +56,28 @@ pub(crate) fn follow<W: Wait>(
         if is_over {
             report_part(rt, tape.file());
             bytes.clear();
-            reporter = None;
+            screen.turn();
         }
         thread::sleep(rt, Duration::from_millis(LOOK));
     }
     unreachable!()
+}
+
+/// What shows the recording that is read, and the moment of the show's first line, where the recordings
+/// before this one have had one.
+#[derive(Drop)]
+struct Screen {
+    reporter: Option<Reporter>,
+    since: Option<u64>,
+}
+
+impl Screen {
+    /// Another recording follows.
+    fn turn(&mut self) {
+        if let Some(reporter) = self.reporter.take() {
+            self.since = self.since.or(reporter.span().first);
+        }
+    }
 }
 
 /// Reads what has come, and answers whether the file gives it.
@@ -81,7 +101,7 @@ fn show_more(
     showing: &Showing,
     page: &mut Page,
     bytes: &mut Vec<u8>,
-    slot: &mut Option<Reporter>,
+    screen: &mut Screen,
     is_over: bool,
 ) -> Result<bool, AllocError> {
     let header = HEADER_SIZE as usize;
@@ -94,21 +114,27 @@ fn show_more(
     let Some(ticks) = ticks_of(bytes) else {
         return Ok(false);
     };
-    let mut reporter = match slot.take() {
+    let mut reporter = match screen.reporter.take() {
         Some(reporter) => reporter,
-        None => reporter_of(rt, showing, ticks),
+        None => reporter_of(rt, showing, ticks, screen.since),
     };
     let end = if is_over { bytes.len() } else { ticks.end };
     let end = end.max(header).min(bytes.len());
     let are_shown = show_all(page, &mut reporter, &bytes[..end])?;
     bytes.drain(header..end);
-    *slot = Some(reporter);
+    screen.reporter = Some(reporter);
     Ok(are_shown)
 }
 
-/// A reporter that has shown nothing.
-fn reporter_of(rt: &HostRuntime, showing: &Showing, ticks: Ticks) -> Reporter {
-    let options = Options::all(look_for(rt, showing, ticks.first), showing.ticks);
+/// A reporter that has shown nothing, of a show whose first line was at a moment, if one was.
+fn reporter_of(rt: &HostRuntime, showing: &Showing, ticks: Ticks, first: Option<u64>) -> Reporter {
+    let mut look = look_for(rt, showing, ticks.first);
+    if showing.relative {
+        look.since = first;
+    }
+    let mut options = Options::all(look, showing.ticks);
+    options.relative = showing.relative;
+    options.callers = showing.callers;
     Reporter::open(rt.alloc(), options, ticks.late)
 }
 

@@ -39,6 +39,19 @@ struct View {
     window: Window,
 }
 
+impl View {
+    /// The same of what follows a recording whose first line was at a moment, if one had a time.
+    fn since(self, first: Option<u64>) -> View {
+        View {
+            look: Look {
+                since: self.look.since.or(first),
+                ..self.look
+            },
+            ..self
+        }
+    }
+}
+
 /// Shows the recordings one after another, each as far as it is whole, up to one that is refused.
 pub(crate) fn show_recordings(rt: &HostRuntime, showing: &Showing) -> Result<u8, AllocError> {
     let mut view = None;
@@ -145,6 +158,9 @@ fn show_bytes(
         return Ok(REFUSED);
     }
     reporter.end(&mut page.text)?;
+    if showing.relative {
+        *view = Some(shown_by.since(reporter.span().first));
+    }
     if let Some(at) = cut {
         cut_line(&mut page.text, look, at as u64)?;
     }
@@ -169,9 +185,12 @@ fn options_for(
     };
     Ok(Some(Options {
         look: view.look,
+        relative: showing.relative,
+        callers: showing.callers,
         ticks: showing.ticks,
         from: view.window.from,
         to: view.window.to,
+        runs: showing.runs,
         only,
     }))
 }
@@ -229,7 +248,10 @@ pub(crate) fn offset_for(rt: &HostRuntime, showing: &Showing, first: Option<u64>
 
 /// How lines look in that zone.
 pub(crate) fn look_for(rt: &HostRuntime, showing: &Showing, first: Option<u64>) -> Look {
-    look_at(rt, offset_for(rt, showing, first), showing.quiet)
+    Look {
+        whole: showing.whole,
+        ..look_at(rt, offset_for(rt, showing, first), showing.quiet)
+    }
 }
 
 /// Lines that are to be written, and how it went.

@@ -48,7 +48,7 @@ PATCH has a line for each method:
   --carry OLD       go on from the recording OLD: its clock, and the bundles that
                     wait, which call the methods of PATCH
   --turn-over N     at N bytes of FILE go on in FILE.2, FILE.3 and so on; by
-                    default at nine tenths of its room, and over TCP never
+                    default at nine tenths of its room
 
 Type end and Enter to end the show. Ctrl-C ends it at once, and FILE keeps all
 but the last 50 milliseconds.
@@ -64,6 +64,10 @@ can be named, in their order.
   --only PATTERN    only lines with an address that PATTERN matches, as '/light/*'
   --zone ZONE       times of a zone, as +01:00, and not of this machine's
   --utc             times of UTC
+  --relative        seconds since the first line in place of times of day
+  --callers         before each mark the number of who handed it in
+  --whole           long texts, blobs and lists of addresses uncut
+  --runs            one line where an address moves on and on, as a fader does
   --ticks           lines for the clock's ticks and for new callers, too
   --quiet           show refusals alone
   --follow          show what comes while FILE grows, until Ctrl-C

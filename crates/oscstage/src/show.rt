@@ -209,16 +209,11 @@ fn play_links<W: Threads + Wait + Sync, L: Link + Sender + Send + Drop>(
     };
     let file = String::from_str(alloc, &serving.names.file)?;
     let mut reel = Reel::new(rt, shared, caps, file);
-    let mut report = LossReport::new(rt, &destinations);
-    let (ended, size) = play_printed(
-        rt,
-        threads,
-        shared,
-        stage,
-        &mut reel,
-        &mut rings,
-        &mut report,
-    )?;
+    let mut printing = Printing {
+        rings,
+        report: LossReport::new(rt, &destinations),
+    };
+    let (ended, size) = play_printed(rt, threads, shared, stage, &mut reel, &mut printing)?;
     report_losses(rt, &destinations);
     let end = ShowEnd {
         ended,
@@ -230,6 +225,13 @@ fn play_links<W: Threads + Wait + Sync, L: Link + Sender + Send + Drop>(
     Ok(status_of(ended))
 }
 
+/// What is printed while a show plays: what comes out of a ring for each link, and the losses.
+#[derive(Drop)]
+struct Printing<D> {
+    rings: Vec<Consumer<u8, Global>>,
+    report: D,
+}
+
 /// Plays the show, and prints meanwhile what comes out of the rings. Answers how it ended, and how many
 /// bytes its last recording has.
 fn play_printed<W: Threads + Wait + Sync, L: Link + Finish + Send + Drop, D: Chore + Send>(
@@ -238,12 +240,12 @@ fn play_printed<W: Threads + Wait + Sync, L: Link + Finish + Send + Drop, D: Cho
     shared: &Shared,
     stage: Stage<UdpOutlet, L>,
     reel: &mut Reel<'_>,
-    rings: &mut [Consumer<u8, Global>],
-    report: &mut D,
+    printing: &mut Printing<D>,
 ) -> Result<(Ended, usize), AllocError>
     requires { CanPlay stage }
 {
     let mut out = StdSink::open(rt);
+    let Printing { rings, report } = printing;
     let mut given = Some(stage);
     let (is_whole, end) = join_mut(
         threads,

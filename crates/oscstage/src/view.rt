@@ -22,6 +22,9 @@ pub(crate) fn look_of(rt: &HostRuntime, moment: Option<u64>, quiet: bool) -> Loo
 pub(crate) fn look_at(rt: &HostRuntime, offset: Offset, quiet: bool) -> Look {
     Look {
         clock: WallClock::at(offset),
+        since: None,
+        caller: None,
+        whole: false,
         colours: rt.stdout().is_terminal() && !has_no_color(rt),
         quiet,
     }

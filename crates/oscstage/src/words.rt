@@ -67,6 +67,14 @@ pub(crate) struct Showing {
     pub(crate) ticks: bool,
     /// Refusals alone are shown.
     pub(crate) quiet: bool,
+    /// Times are seconds since the first line.
+    pub(crate) relative: bool,
+    /// Lines have the number of who has handed in what they show.
+    pub(crate) callers: bool,
+    /// Texts, blobs and lists of addresses are uncut.
+    pub(crate) whole: bool,
+    /// Lines that say the same of an address again and again are told as one.
+    pub(crate) runs: bool,
     /// The recording grows, and is shown until the program is stopped.
     pub(crate) follow: bool,
     /// From when to when it is shown, where that is said.
@@ -281,7 +289,8 @@ fn size_in(word: Option<&String>) -> Result<Option<u32>, ()> {
 }
 
 /// What is to be shown, where the words are
-/// `show [--utc | --zone ZONE] [--ticks] [--quiet] [--follow] [--from TIME] [--to TIME] FILE..`.
+/// `show [--utc | --zone ZONE] [--relative] [--callers] [--whole] [--runs] [--ticks] [--quiet]
+/// [--follow] [--from TIME] [--to TIME] [--only PATTERN] FILE..`.
 fn showing_of(alloc: Global, words: Vec<String>) -> Result<Said, AllocError> {
     let mut read = ShowWords {
         showing: Showing {
@@ -289,6 +298,10 @@ fn showing_of(alloc: Global, words: Vec<String>) -> Result<Said, AllocError> {
             zone: Zone::Machine,
             ticks: false,
             quiet: false,
+            relative: false,
+            callers: false,
+            whole: false,
+            runs: false,
             follow: false,
             from: None,
             to: None,
@@ -337,13 +350,15 @@ fn drawn(showing: Showing) -> Said {
 
 /// Whether no option is said but those of a zone and of times.
 fn is_drawn(showing: &Showing) -> bool {
-    !showing.ticks && !showing.quiet && !showing.follow && showing.only.is_none()
+    let is_told = showing.ticks || showing.relative || showing.callers || showing.whole;
+    let is_left_out = showing.runs || showing.quiet || showing.only.is_some();
+    !is_told && !is_left_out && !showing.follow
 }
 
-/// Whether one recording is to be shown as a whole, if it is to be followed.
+/// Whether one recording is to be shown as a whole, line by line, if it is to be followed.
 fn can_follow(showing: &Showing) -> bool {
     let is_part = showing.from.is_some() || showing.to.is_some() || showing.only.is_some();
-    !showing.follow || (!is_part && showing.files.len() == 1)
+    !showing.follow || (!is_part && !showing.runs && showing.files.len() == 1)
 }
 
 /// The words of `show` that were read so far.
@@ -380,6 +395,10 @@ fn take_show_word(read: &mut ShowWords, word: String) -> Result<(), AllocError> 
         (ShowTakes::Option, "--utc") => read.showing.zone = Zone::At(Offset::UTC),
         (ShowTakes::Option, "--ticks") => read.showing.ticks = true,
         (ShowTakes::Option, "--quiet") => read.showing.quiet = true,
+        (ShowTakes::Option, "--relative") => read.showing.relative = true,
+        (ShowTakes::Option, "--callers") => read.showing.callers = true,
+        (ShowTakes::Option, "--whole") => read.showing.whole = true,
+        (ShowTakes::Option, "--runs") => read.showing.runs = true,
         (ShowTakes::Option, "--follow") => read.showing.follow = true,
         (ShowTakes::Option, "--from") => read.takes = ShowTakes::From,
         (ShowTakes::Option, "--to") => read.takes = ShowTakes::To,

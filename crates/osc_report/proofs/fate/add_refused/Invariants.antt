@@ -8,6 +8,6 @@ invariant-loop-message l = record {
   can : (goal.iterator-loop-message).can_next l.message-iterator;
   finite : (goal.iterator-loop-message).is_finite l.message-iterator;
   counted : l.left ≡ length l.message-iterator;
-  goes : (after : List ℕ) → AddsRefused l.options l.moment l.tail l.first l.message-iterator l.out.items after
-      → AddsRefused l.options l.moment l.tail l.initial.first l.initial.message-iterator l.initial.out.items after;
+  goes : (after : List ℕ) → AddsRefused l.options l.front l.tail l.first l.message-iterator l.out.items after
+      → AddsRefused l.options l.front l.tail l.initial.first l.initial.message-iterator l.initial.out.items after;
 }

@@ -1,4 +1,4 @@
-use Rattle.std.proofs.Common.{◌≡◌, ◌∷◌, [], sym, subst}
+use Rattle.std.proofs.Common.{[], sym, subst}
 use Rattle.std.specs.List.{slice_split}
 use Rattle.osc_pattern.specs.Items.{is_slash}
 use Rattle.osc_pattern.proofs.Cutting.{FirstPart, cut_at-part}

@@ -1,10 +1,10 @@
-use Rattle.std.proofs.Common.{◌≡◌, ◌≤◌, ◌<◌, ◌+◌, ◌==◌, ◌∷◌, ◌∙◌, ◌&&◌, [], length, drop, true, false, sym, ap, arith, rules}
+use Rattle.std.proofs.Common.{◌≡◌, ◌≤◌, ◌<◌, ◌+◌, ◌==◌, ◌∷◌, ◌∙◌, ◌&&◌, [], length, true, false, sym, ap, arith, rules}
 use Rattle.std.specs.List.{slice_split}
 use Rattle.osc_pattern.specs.Items.{is_slash}
 use Rattle.osc_pattern.specs.Patterns.{parts_of, part_at}
 use Rattle.osc_pattern.specs.Reading.{match_part}
 use Rattle.osc_report.specs.Selections.{is_short}
-use Rattle.osc_report.proofs.Selecting.{all_match, none_left, first_fails, first_matches, ends}
+use Rattle.osc_report.proofs.Selecting.{none_left, first_fails, first_matches, ends}
 use Rattle.osc_report.proofs.selector.matches_in.Goals as goal
 
 pub returns-then-place-parts : goal.returns-then-place-parts

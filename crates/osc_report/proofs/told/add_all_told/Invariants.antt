@@ -7,7 +7,7 @@ use Rattle.osc_report.proofs.told.add_all_told.Given as goal
 abbrev pub invariant-loop-message : goal.invariant-loop-message
 invariant-loop-message l = record {
   counted : l.index + length l.rest ≡ length l.messages;
-  goes : GoesOn l.options l.moment (told_in l.told) l.messages l.initial.out.items l.index l.rest l.out.items;
+  goes : GoesOn l.options l.front (told_in l.told) l.messages l.initial.out.items l.index l.rest l.out.items;
 }
 
 abbrev pub decreases-loop-message : goal.decreases-loop-message

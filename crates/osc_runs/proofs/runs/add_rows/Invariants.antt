@@ -4,7 +4,7 @@ use Rattle.osc_runs.proofs.runs.add_rows.Given as goal
 
 -- what is added, and what the rest adds, is all
 abbrev pub invariant-loop-row : goal.invariant-loop-row
-invariant-loop-row l = l.out.items ++ rows_text l.look l.rest ≡ l.initial.out.items ++ rows_text l.look l.rows
+invariant-loop-row l = l.out.items ++ rows_text l.rest ≡ l.initial.out.items ++ rows_text l.rows
 
 abbrev pub decreases-loop-row : goal.decreases-loop-row
 decreases-loop-row l = length l.rest

@@ -23,11 +23,15 @@ returns c = record {
   letters = refl;
   bytes = refl;
   cut = refl;
+  whole = refl;
+  all_called = refl;
   waits = refl;
   too_late = refl;
   played_late = refl;
   no_room = refl;
   line = refl;
+  since = refl;
+  caller = refl;
   coloured = refl;
   refusal = refl;
 }

@@ -7,6 +7,6 @@ abbrev pub invariant-loop-argument : goal.invariant-loop-argument
 invariant-loop-argument l = record {
   can : (goal.iterator-loop-argument).can_next l.argument-iterator;
   finite : (goal.iterator-loop-argument).is_finite l.argument-iterator;
-  goes : (others : List ℕ) → AreWords (left l.argument-iterator) others
-      → (said : List ℕ) × AreWords (left l.initial.argument-iterator) said × (l.out.items ++ others ≡ l.initial.out.items ++ said);
+  goes : (others : List ℕ) → AreWords l.whole (left l.argument-iterator) others
+      → (said : List ℕ) × AreWords l.whole (left l.initial.argument-iterator) said × (l.out.items ++ others ≡ l.initial.out.items ++ said);
 }

@@ -13,7 +13,7 @@ unfolding hex_on_literals parse_float_on_literals float_is_finite lib.Ieee.to_bi
 returns c = record {
   time = refl;
   said = refl;
-  shown = record { said = codes " 7"; known = λ none. (codes "7", [], refl, refl, refl); unknown = λ some. absurd (cc some); whole = refl };
+  shown = record { said = codes " 7"; known = λ none. (codes "7", [], refl, refl, refl); unknown = λ some. absurd (cc some); text = refl };
   sheet = λ date offset. refl;
   double = refl;
   cut = refl;

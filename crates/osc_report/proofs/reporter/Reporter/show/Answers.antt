@@ -1,7 +1,7 @@
 use Rattle.std.proofs.Common.{◌≡◌, List, rules, ap, subst, ◌∙◌}
 use Rattle.osc_record.specs.declared.event.Entry.{Entry as Read}
-use Rattle.osc_report.specs.Reports.{ShowsEntries, FailsAt}
-use Rattle.osc_report.specs.Stretches.{placed, told, clock_after, HasRead}
+use Rattle.osc_report.specs.Reports.{ShowsEntries, FailsIn}
+use Rattle.osc_report.specs.Stretches.{placed, told, clock_after}
 use Rattle.osc_report.proofs.Showing.{shows_stretch, fails_for}
 use Rattle.osc_report.proofs.reporter.Reporter.show.Goals as goal
 
@@ -22,5 +22,5 @@ returns-clause-why c =
     let clock : c.clock.result ≡ c.args.self.now.standing.clock = search rules in
     fails_for c.args.self.now c.args.unread.now c.read_stretch.new.unread c.in-Ok.shown entries stretch.clock c.in-Err.fault c.args.text.now.items
     c.show_entries.new.text.items c.show_entries.new.self c.in-Ok.ensures.0 (c.in-Ok.ensures.1 ∙ ap (λ n. clock_after n (told entries)) clock)
-    (subst (λ (l : List Read). FailsAt c.args.self.now stretch.clock (placed l) c.in-Err.fault c.args.text.now.items c.show_entries.new.text.items
+    (subst (λ (l : List Read). FailsIn c.args.self.now stretch.clock (placed l) c.in-Err.fault c.args.text.now.items c.show_entries.new.text.items
     c.show_entries.new.self) c.deref.ensures.value c.in-Err.ensures.why)
