@@ -168,23 +168,10 @@ fn with_room(caps: Caps, room: u32) -> Caps
     requires { room ≤ max_recording }
     ensures { result ≡ roomier caps room }
 {
-    let recording = if caps.recording() < room {
-        room
+    if caps.recording() < room {
+        caps.with_recording(room)
     } else {
-        caps.recording()
-    };
-    let made = Caps::new(
-        caps.units(),
-        caps.blocks(),
-        caps.methods(),
-        caps.nodes(),
-        caps.callers(),
-        recording,
-        caps.late(),
-    );
-    match made {
-        Ok(caps) => caps,
-        Err(_) => unreachable!(),
+        caps
     }
 }
 

@@ -1,8 +1,9 @@
--- Inside the crate: what the fields of a header are as limits.
+-- What limits in one value are.
 use Rattle.osc_model.specs.Limits.{Limits, limits_of}
-use Rattle.osc_record.specs.declared.header.Header.{Header}
+use Rattle.osc_record.specs.declared.caps.Limits.{Limits as Given}
 
-abbrev pub limits_in : Header → Limits
-limits_in header =
-    limits_of header.units header.blocks header.methods header.nodes header.callers header.recording
-    header.late
+-- the limits that the fields are
+abbrev pub limits_in : Given → Limits
+limits_in given =
+    limits_of given.units given.blocks given.methods given.nodes given.callers given.recording
+    given.late

@@ -1,6 +1,7 @@
 // The limits of a server's tables and of its recording.
 ghost use Rattle.std.specs.Prelude.{◌≡◌, ◌↔◌, IsOk, IfOk, IfErr, Some, None};
-ghost use Rattle.osc_model.specs.Limits.{Limits, limits_of, AreInRange, is_within, limit_fault};
+ghost use Rattle.osc_model.specs.Limits.{limits_of, AreInRange, is_within, limit_fault};
+ghost use Rattle.osc_record.specs.Headers.{limits_in};
 
 use crate::limits::{HEADER_SIZE, MAX_CALLERS, MAX_METHODS, MAX_RECORDING, MAX_RESERVED};
 use osc_model::Late;
@@ -16,40 +17,51 @@ pub struct CapFault {
 }
 
 /// How many queued units, blocks of 64 bytes, methods, nodes and callers there may be, and how many bytes of recording;
-/// and what becomes of late units.
+/// and what becomes of late units. The numbers may be any, as a header or a user gives them.
+#[derive(Clone, Copy, Debug, PartialEq, Eq)]
+pub struct Limits {
+    pub units: u32,
+    pub blocks: u32,
+    pub methods: u32,
+    pub nodes: u32,
+    pub callers: u32,
+    pub recording: u32,
+    pub late: Late,
+}
+
+/// Limits that are each in its range.
 #[derive(Clone, Copy, Debug, PartialEq, Eq)]
 pub struct Caps {
-    units: u32,
-    blocks: u32,
-    methods: u32,
-    nodes: u32,
-    callers: u32,
-    recording: u32,
-    late: Late,
+    limits: Limits,
 }
 
 impl Model for Caps {
-    ghost use Rattle.osc_model.specs.Limits.{Limits, limits_of, AreInRange};
+    ghost use Rattle.osc_model.specs.Limits.{Limits, AreInRange};
+    ghost use Rattle.osc_record.specs.Headers.{limits_in};
 
     ghost Value = { Limits };
 
-    ghost view = { λ c. limits_of c.units c.blocks c.methods c.nodes c.callers c.recording c.late };
+    ghost view = { λ c. limits_in c.limits };
 
-    ghost invariant = { λ c. AreInRange
-        (limits_of c.units c.blocks c.methods c.nodes c.callers c.recording c.late) };
+    ghost invariant = { λ c. AreInRange (limits_in c.limits) };
 
     ghost inverse = { λ l. record {
-      units = l.units;
-      blocks = l.blocks;
-      methods = l.methods;
-      nodes = l.nodes;
-      callers = l.callers;
-      recording = l.recording;
-      late = l.late;
+      limits = record {
+        units = l.units;
+        blocks = l.blocks;
+        methods = l.methods;
+        nodes = l.nodes;
+        callers = l.callers;
+        recording = l.recording;
+        late = l.late;
+      };
     } };
 }
 
 impl Caps {
+    ghost use Rattle.osc_model.specs.Limits.{header_size, max_recording};
+    ghost use Rattle.std.specs.Prelude.{◌≤◌};
+
     /// The limits, or the first of them that is outside its range: units, blocks and nodes from 1 to
     /// `MAX_RESERVED`, methods to `MAX_METHODS`, callers to `MAX_CALLERS`, and recording from `HEADER_SIZE` to
     /// `MAX_RECORDING`.
@@ -72,25 +84,7 @@ impl Caps {
             (λ fault. limit_fault (limits_of units blocks methods nodes callers recording late)
             ≡ Some fault.field) }
     {
-        if !lies_within(1, MAX_RESERVED, units) {
-            return Err(CapFault { field: 1 });
-        }
-        if !lies_within(1, MAX_RESERVED, blocks) {
-            return Err(CapFault { field: 2 });
-        }
-        if !lies_within(1, MAX_METHODS, methods) {
-            return Err(CapFault { field: 3 });
-        }
-        if !lies_within(1, MAX_RESERVED, nodes) {
-            return Err(CapFault { field: 4 });
-        }
-        if !lies_within(1, MAX_CALLERS, callers) {
-            return Err(CapFault { field: 5 });
-        }
-        if !lies_within(HEADER_SIZE, MAX_RECORDING, recording) {
-            return Err(CapFault { field: 6 });
-        }
-        Ok(Caps {
+        Caps::of(Limits {
             units,
             blocks,
             methods,
@@ -101,12 +95,63 @@ impl Caps {
         })
     }
 
+    /// The same, of limits in one value.
+    pub fn of(limits: Limits) -> Result<Caps, CapFault>
+        ensures ok { IfOk result (λ caps. caps ≡ limits_in limits) }
+        ensures exact { IsOk result ↔ AreInRange (limits_in limits) }
+        ensures read { IsOk result ↔ (limit_fault (limits_in limits) ≡ None) }
+        ensures fault { IfErr result
+            (λ fault. limit_fault (limits_in limits) ≡ Some fault.field) }
+    {
+        if !lies_within(1, MAX_RESERVED, limits.units) {
+            return Err(CapFault { field: 1 });
+        }
+        if !lies_within(1, MAX_RESERVED, limits.blocks) {
+            return Err(CapFault { field: 2 });
+        }
+        if !lies_within(1, MAX_METHODS, limits.methods) {
+            return Err(CapFault { field: 3 });
+        }
+        if !lies_within(1, MAX_RESERVED, limits.nodes) {
+            return Err(CapFault { field: 4 });
+        }
+        if !lies_within(1, MAX_CALLERS, limits.callers) {
+            return Err(CapFault { field: 5 });
+        }
+        if !lies_within(HEADER_SIZE, MAX_RECORDING, limits.recording) {
+            return Err(CapFault { field: 6 });
+        }
+        Ok(Caps { limits })
+    }
+
+    /// The same limits, but for so many bytes of recording, from `HEADER_SIZE` to `MAX_RECORDING`.
+    pub fn with_recording(self, recording: u32) -> Caps
+        requires least { header_size ≤ recording }
+        requires most { recording ≤ max_recording }
+        ensures { result ≡ record self { recording = recording } }
+    {
+        Caps {
+            limits: Limits {
+                recording,
+                ..self.limits
+            },
+        }
+    }
+
+    /// All of them.
+    pub fn limits(&self) -> Limits
+        ensures value { limits_in result ≡ self.now }
+        ensures range { AreInRange self.now }
+    {
+        self.limits
+    }
+
     /// How many units may be queued.
     pub fn units(&self) -> u32
         ensures value { result ≡ self.now.units }
         ensures range { AreInRange self.now }
     {
-        self.units
+        self.limits.units
     }
 
     /// How many blocks of 64 bytes there are for their messages.
@@ -114,7 +159,7 @@ impl Caps {
         ensures value { result ≡ self.now.blocks }
         ensures range { AreInRange self.now }
     {
-        self.blocks
+        self.limits.blocks
     }
 
     /// How many methods there may be.
@@ -122,7 +167,7 @@ impl Caps {
         ensures value { result ≡ self.now.methods }
         ensures range { AreInRange self.now }
     {
-        self.methods
+        self.limits.methods
     }
 
     /// How many nodes the methods' addresses may have.
@@ -130,7 +175,7 @@ impl Caps {
         ensures value { result ≡ self.now.nodes }
         ensures range { AreInRange self.now }
     {
-        self.nodes
+        self.limits.nodes
     }
 
     /// How many callers there may be, the first among them.
@@ -138,7 +183,7 @@ impl Caps {
         ensures value { result ≡ self.now.callers }
         ensures range { AreInRange self.now }
     {
-        self.callers
+        self.limits.callers
     }
 
     /// How many bytes the recording may have, its header among them.
@@ -146,7 +191,7 @@ impl Caps {
         ensures value { result ≡ self.now.recording }
         ensures range { AreInRange self.now }
     {
-        self.recording
+        self.limits.recording
     }
 
     /// What becomes of late units.
@@ -154,7 +199,7 @@ impl Caps {
         ensures value { result ≡ self.now.late }
         ensures range { AreInRange self.now }
     {
-        self.late
+        self.limits.late
     }
 }
 

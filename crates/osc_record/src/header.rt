@@ -9,61 +9,40 @@ ghost use Rattle.osc_record.specs.declared.version.Version.TheVariants.{Second};
 ghost use Rattle.osc_record.specs.Headers.{limits_in};
 
 use crate::arguments::{next_int, next_later};
-use crate::caps::Caps;
+use crate::caps::{Caps, Limits};
 use crate::policy::late_told;
 use crate::sized_messages::first_message;
 use crate::version::Version;
 use osc_atoms::MAX_BYTES;
 use osc_message::{Args, Message};
-use osc_model::Late;
-
-/// The fields of a header, whatever their ranges.
-#[derive(Clone, Copy)]
-pub(crate) struct Header {
-    pub(crate) units: u32,
-    pub(crate) blocks: u32,
-    pub(crate) methods: u32,
-    pub(crate) nodes: u32,
-    pub(crate) callers: u32,
-    pub(crate) recording: u32,
-    pub(crate) late: Late,
-}
 
 /// The limits that the bytes begin with.
 pub(crate) fn read_header(bytes: &[u8]) -> Option<Caps>
     ensures { result ≡ header_read Second bytes.now }
 {
-    let header = told_header(Version::Second, bytes)?;
-    lawful_caps(header)
+    let limits = told_header(Version::Second, bytes)?;
+    lawful_caps(limits)
 }
 
 /// The limits of a header, if each is in its range.
-pub(crate) fn lawful_caps(header: Header) -> Option<Caps>
-    ensures { result ≡ lawful_limits Second (limits_in header) }
+pub(crate) fn lawful_caps(limits: Limits) -> Option<Caps>
+    ensures { result ≡ lawful_limits Second (limits_in limits) }
 {
-    match Caps::new(
-        header.units,
-        header.blocks,
-        header.methods,
-        header.nodes,
-        header.callers,
-        header.recording,
-        header.late,
-    ) {
+    match Caps::of(limits) {
         Ok(caps) => Some(caps),
         Err(_) => None,
     }
 }
 
 /// The fields of the header that the bytes begin with.
-pub(crate) fn told_header(version: Version, bytes: &[u8]) -> Option<Header>
+pub(crate) fn told_header(version: Version, bytes: &[u8]) -> Option<Limits>
     ensures { option_map limits_in result ≡ header_told version bytes.now }
 {
     header_fields(version, first_message(bytes)?)
 }
 
 /// The fields of the header that the message is.
-fn header_fields(version: Version, message: &[u8]) -> Option<Header>
+fn header_fields(version: Version, message: &[u8]) -> Option<Limits>
     ensures { option_map limits_in result ≡ header_of version message.now }
 {
     match Message::check(message, MAX_BYTES) {
@@ -73,7 +52,7 @@ fn header_fields(version: Version, message: &[u8]) -> Option<Header>
 }
 
 /// The fields that a message to the address tells by these arguments.
-fn named_fields(version: Version, address: &[u8], args: Args<'_>) -> Option<Header>
+fn named_fields(version: Version, address: &[u8], args: Args<'_>) -> Option<Limits>
     ensures { option_map limits_in result
         ≡ (if bytes_eq address.now (codes "/osc/rec") then limits_told version (left args.entry)
         else None) }
@@ -85,7 +64,7 @@ fn named_fields(version: Version, address: &[u8], args: Args<'_>) -> Option<Head
     }
 }
 
-fn read_fields(version: Version, mut args: Args<'_>) -> Option<Header>
+fn read_fields(version: Version, mut args: Args<'_>) -> Option<Limits>
     ensures { option_map limits_in result ≡ limits_told version (left args.entry) }
 {
     let number = next_int(&mut args)?;
@@ -99,7 +78,7 @@ fn read_fields(version: Version, mut args: Args<'_>) -> Option<Header>
     if args.next().is_some() || number != number_of(version) {
         return None;
     }
-    Some(Header {
+    Some(Limits {
         units,
         blocks,
         methods,

@@ -25,7 +25,7 @@ mod sizes;
 mod unread;
 mod version;
 
-pub use caps::{CapFault, Caps};
+pub use caps::{CapFault, Caps, Limits};
 pub use entries_left::Entries;
 pub use event::{Answer, Entry, Event};
 pub use limits::{HEADER_SIZE, MAX_CALLERS, MAX_METHODS, MAX_RECORDING, MAX_RESERVED};

@@ -5,8 +5,9 @@ ghost use Rattle.osc_record.specs.Headers.{limits_in};
 ghost use Rattle.osc_record.specs.Reading.{header_read};
 ghost use Rattle.osc_record.specs.Versions.{limit_fault_in};
 
+use crate::caps::Limits;
 use crate::entries_left::Entries;
-use crate::header::{Header, lawful_caps, told_header};
+use crate::header::{lawful_caps, told_header};
 use crate::limits::{MAX_RECORDING, OLD_HEADER_SIZE};
 use crate::reader::Malformed;
 use crate::sized_messages::check_entries;
@@ -17,7 +18,7 @@ use std::marker::Model;
 /// differs. A contract sees the limits, under which late units are delivered, and the entries, each at its place.
 #[derive(Drop)]
 pub struct Old<'a> {
-    header: Header,
+    limits: Limits,
     bytes: &'a [u8],
 }
 
@@ -28,14 +29,15 @@ impl<'a> Model for Old<'a> {
 
     ghost Value = { ReadRecord };
 
-    ghost view = { λ o. read_of First (limits_in o.header) o.bytes.now };
+    ghost view = { λ o. read_of First (limits_in o.limits) o.bytes.now };
 
-    ghost invariant = { λ o. AreRead First (limits_in o.header) o.bytes.now };
+    ghost invariant = { λ o. AreRead First (limits_in o.limits) o.bytes.now };
 }
 
 impl<'a> Old<'a> {
     ghost use Rattle.std.specs.Prelude.{◌≡◌, ◌≤◌, List, length, IfOk, IfErr, IsOkAnd, Ok, Err};
-    ghost use Rattle.osc_model.specs.Limits.{Limits, max_recording};
+    ghost use Rattle.osc_model.specs.Limits.{max_recording};
+    ghost use Rattle.osc_model.specs.Limits.{Limits as ModelLimits};
     ghost use Rattle.osc_model.specs.Events.{Entry as Recorded};
     ghost use Rattle.osc_record.specs.declared.version.Version.TheVariants.{First};
     ghost use Rattle.osc_record.specs.Versions.{header_size_of, record_text_in};
@@ -53,94 +55,101 @@ impl<'a> Old<'a> {
         ensures written { IfOk result
             (λ old. IsRecordIn First old.caps (unplaced old.entries)
             × (bytes.now ≡ record_text_in First old.caps (unplaced old.entries))) }
-        ensures complete { (limits : Limits) (entries : List Recorded)
+        ensures complete { (limits : ModelLimits) (entries : List Recorded)
             → IsRecordIn First limits entries
             → bytes.now ≡ record_text_in First limits entries
             → IsOkAnd result
             (λ old. (old.caps ≡ limits)
             × (old.entries ≡ placed_by First (header_size_of First) entries)) }
     {
-        let Some(header) = read_old_header(bytes) else {
+        let Some(limits) = read_old_header(bytes) else {
             return Err(Malformed { at: 0 });
         };
-        match check_entries(Version::First, bytes, header.recording) {
-            Ok(()) => Ok(Old { header, bytes }),
+        match check_entries(Version::First, bytes, limits.recording) {
+            Ok(()) => Ok(Old { limits, bytes }),
             Err(at) => Err(Malformed { at }),
         }
+    }
+
+    /// The limits; late units are delivered.
+    pub fn limits(&self) -> Limits
+        ensures { limits_in result ≡ self.now.caps }
+    {
+        self.limits
     }
 
     /// How many queued units there may be.
     pub fn units(&self) -> u32
         ensures { result ≡ self.now.caps.units }
     {
-        self.header.units
+        self.limits.units
     }
 
     /// How many blocks of 64 bytes there are for their messages.
     pub fn blocks(&self) -> u32
         ensures { result ≡ self.now.caps.blocks }
     {
-        self.header.blocks
+        self.limits.blocks
     }
 
     /// How many methods there may be.
     pub fn methods(&self) -> u32
         ensures { result ≡ self.now.caps.methods }
     {
-        self.header.methods
+        self.limits.methods
     }
 
     /// How many nodes the methods' addresses may have.
     pub fn nodes(&self) -> u32
         ensures { result ≡ self.now.caps.nodes }
     {
-        self.header.nodes
+        self.limits.nodes
     }
 
     /// How many callers there may be, the first among them.
     pub fn callers(&self) -> u32
         ensures { result ≡ self.now.caps.callers }
     {
-        self.header.callers
+        self.limits.callers
     }
 
     /// How many bytes the recording may have, its header among them.
     pub fn recording(&self) -> u32
         ensures { result ≡ self.now.caps.recording }
     {
-        self.header.recording
+        self.limits.recording
     }
 
     /// The entries, in order: each `Queued` has a `late` of 0, and each place is that in the old bytes.
     pub fn entries(&self) -> Entries<'a>
         ensures { entries_left result ≡ self.now.entries }
     {
-        Entries::new(Version::First, self.bytes, self.header.recording)
+        Entries::new(Version::First, self.bytes, self.limits.recording)
     }
 }
 
 /// The header that the bytes begin with, if each of its limits is in its range.
-fn read_old_header(bytes: &[u8]) -> Option<Header>
+fn read_old_header(bytes: &[u8]) -> Option<Limits>
     ensures { option_map limits_in result ≡ header_read First bytes.now }
 {
-    let header = told_header(Version::First, bytes)?;
-    if is_lawful(header) {
-        Some(header)
+    let limits = told_header(Version::First, bytes)?;
+    if is_lawful(limits) {
+        Some(limits)
     } else {
         None
     }
 }
 
 /// Whether each limit is in its range, where the recording has at least a header.
-fn is_lawful(header: Header) -> bool
-    ensures { result ≡ is_none (limit_fault_in First (limits_in header)) }
+fn is_lawful(limits: Limits) -> bool
+    ensures { result ≡ is_none (limit_fault_in First (limits_in limits)) }
 {
-    if header.recording < OLD_HEADER_SIZE || header.recording > MAX_RECORDING {
+    if limits.recording < OLD_HEADER_SIZE || limits.recording > MAX_RECORDING {
         return false;
     }
-    lawful_caps(Header {
+    lawful_caps(Limits {
         recording: MAX_RECORDING,
-        ..header
+        ..limits
     })
     .is_some()
 }

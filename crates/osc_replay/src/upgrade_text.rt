@@ -18,7 +18,7 @@ ghost use Rattle.osc_replay.specs.Upgrading.{DisagreesThere};
 
 use crate::old::well_formed_old;
 use osc_atoms::Bytes;
-use osc_record::{Caps, Entries, Event, Late, Malformed, Old, append_header, append_recorded};
+use osc_record::{Caps, Entries, Event, Malformed, Old, append_header, append_recorded};
 use std::alloc::{AllocError, Global};
 
 /// Why a recording isn't upgraded.
@@ -114,15 +114,10 @@ fn upgraded_caps(old: &Old<'_>, limit: u32, growth: u64) -> Caps
         ≡ record old.now.caps { recording = min limit (old.now.caps.recording + growth) } }
 {
     let recording = (old.recording() as u64 + growth).min(limit as u64) as u32;
-    match Caps::new(
-        old.units(),
-        old.blocks(),
-        old.methods(),
-        old.nodes(),
-        old.callers(),
+    match Caps::of(osc_record::Limits {
         recording,
-        Late::Deliver,
-    ) {
+        ..old.limits()
+    }) {
         Ok(caps) => caps,
         Err(_) => unreachable!(),
     }

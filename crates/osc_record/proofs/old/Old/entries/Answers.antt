@@ -9,9 +9,9 @@ use Rattle.osc_record.proofs.old.Old.entries.Goals as goal
 pub new-requires-clause-readable : goal.new-requires-clause-readable
 new-requires-clause-readable c =
     let f = c.self.inside in
-    sym (ap is_ok (after_is First (limits_in f.header) f.bytes.now)) ∙ c.self.invariant.entries
+    sym (ap is_ok (after_is First (limits_in f.limits) f.bytes.now)) ∙ c.self.invariant.entries
 
 pub returns : goal.returns
 returns c =
     let f = c.self.inside in
-    c.new.ensures ∙ sym (ap placed_in (after_is First (limits_in f.header) f.bytes.now)) ∙ ap (λ (r : ReadRecord). r.entries) c.self.view_is
+    c.new.ensures ∙ sym (ap placed_in (after_is First (limits_in f.limits) f.bytes.now)) ∙ ap (λ (r : ReadRecord). r.entries) c.self.view_is
