@@ -22,6 +22,7 @@ use Rattle.osc_record.specs.declared.event.Answer.TheVariants.{Released}
 use Rattle.osc_record.specs.declared.parts.Parts.{Parts}
 use Rattle.osc_model.specs.Events.{Entry as Recorded}
 use Rattle.osc_model.specs.Recordings.{hits_in}
+use Rattle.osc_record.specs.declared.rows.Numbers.{Numbers}
 
 -- the event
 abbrev pub event_of : Event → model.Event
@@ -72,3 +73,7 @@ listed args = map shown args
 abbrev pub parts_of : Parts → Recorded
 parts_of parts =
     record { caller = parts.caller; event = event_of parts.event; answer = answer_of parts.answer }
+
+-- the code of a submit's answer, and its three numbers
+abbrev pub numbers_of : Numbers → ℕ × ℕ × ℕ × ℕ
+numbers_of answer = (answer.code, answer.first, answer.second, answer.third)

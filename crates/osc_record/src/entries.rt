@@ -7,7 +7,7 @@ ghost use Rattle.osc_model.specs.Recordings.{entry_text, FitsRow, row_of};
 ghost use Rattle.osc_record.specs.Shown.{event_of, answer_of};
 
 use crate::event::{Answer, Event};
-use crate::rows::{append_add, append_enrol, append_remove, append_submit, append_tick};
+use crate::rows::{Numbers, append_add, append_enrol, append_remove, append_submit, append_tick};
 
 /// Appends an entry of any event but a release.
 #[inline(always)]
@@ -60,13 +60,31 @@ fn submit_entry(out: &mut Vec<u8>, caller: u32, packet: &[u8], answer: Answer<'_
 {
     match answer {
         Answer::Queued { first, count, late } => {
-            append_submit(out, caller, packet, 0, first, count, late)
+            let numbers = Numbers {
+                code: 0,
+                first,
+                second: count,
+                third: late,
+            };
+            append_submit(out, caller, packet, numbers)
         }
         Answer::UnitsFull(room) => {
-            append_submit(out, caller, packet, 1, room.need, room.free as u32, 0)
+            let numbers = Numbers {
+                code: 1,
+                first: room.need,
+                second: room.free as u32,
+                third: 0,
+            };
+            append_submit(out, caller, packet, numbers)
         }
         Answer::PoolFull(room) => {
-            append_submit(out, caller, packet, 2, room.need, room.free as u32, 0)
+            let numbers = Numbers {
+                code: 2,
+                first: room.need,
+                second: room.free as u32,
+                third: 0,
+            };
+            append_submit(out, caller, packet, numbers)
         }
         _ => unreachable!(),
     }

@@ -8,6 +8,7 @@ ghost use Rattle.std.specs.Vec.{vec_len, vec_capacity};
 ghost use Rattle.osc_message.specs.Messages.{AllFit};
 ghost use Rattle.osc_model.specs.Recordings.{sized, row_text, enrol_row, submit_row, add_row};
 ghost use Rattle.osc_model.specs.Recordings.{remove_row, tick_row, header_text};
+ghost use Rattle.osc_record.specs.Shown.{numbers_of};
 
 use crate::caps::Caps;
 use crate::entry_messages::{ADD, REMOVE};
@@ -62,53 +63,46 @@ pub(crate) fn append_enrol(out: &mut Vec<u8>, caller: u32, answer: i32)
     );
 }
 
-/// Appends a submit with the code and the three numbers of its answer.
+/// The answer to a submit, as its code and three numbers (docs/FORMATS.md, "The recording").
+#[derive(Clone, Copy)]
+pub(crate) struct Numbers {
+    pub(crate) code: u32,
+    pub(crate) first: u64,
+    pub(crate) second: u32,
+    pub(crate) third: u32,
+}
+
+/// Appends a submit with the numbers of its answer.
 #[inline(always)]
-pub(crate) fn append_submit(
-    out: &mut Vec<u8>,
-    caller: u32,
-    packet: &[u8],
-    code: u32,
-    first: u64,
-    second: u32,
-    third: u32,
-)
-    requires fits { AllFit (submit_row caller packet.now (code, first, second, third)).arguments }
-    requires small { length (row_text (submit_row caller packet.now (code, first, second, third)))
+pub(crate) fn append_submit(out: &mut Vec<u8>, caller: u32, packet: &[u8], answer: Numbers)
+    requires fits { AllFit (submit_row caller packet.now (numbers_of answer)).arguments }
+    requires small { length (row_text (submit_row caller packet.now (numbers_of answer)))
         ≤ max_recording }
-    requires room { vec_len out.old + length
-        (sized (row_text (submit_row caller packet.now (code, first, second, third))))
+    requires room { vec_len out.old
+        + length (sized (row_text (submit_row caller packet.now (numbers_of answer))))
         ≤ vec_capacity out.old }
     ensures out { out.new.items ≡ out.old.items
-        ++ sized (row_text (submit_row caller packet.now (code, first, second, third))) }
+        ++ sized (row_text (submit_row caller packet.now (numbers_of answer))) }
     ensures capacity { vec_capacity out.old ≤ vec_capacity out.new }
 {
     let size = SUBMIT_HEAD + blob_size(packet.len()) as u32;
-    append_submit_row(out, size, caller, packet, code, first, second, third);
+    append_submit_row(out, size, caller, packet, answer);
 }
 
 /// Appends the message of a submit after its size, number by number: a packet comes more often than anything else.
 #[inline(always)]
-fn append_submit_row(
-    out: &mut Vec<u8>,
-    size: u32,
-    caller: u32,
-    packet: &[u8],
-    code: u32,
-    first: u64,
-    second: u32,
-    third: u32,
-)
+fn append_submit_row(out: &mut Vec<u8>, size: u32, caller: u32, packet: &[u8], answer: Numbers)
     requires packet { length packet.now ≤ MAX_BYTES }
     requires room { vec_len out.old + (48 + length (blob packet.now)) ≤ vec_capacity out.old }
     ensures out { out.new.items ≡ out.old.items
         ++ (word size ++ (SUBMIT ++ (word caller ++ (blob packet.now
-        ++ (word code ++ (tag first ++ (word second ++ word third))))))) }
+        ++ (word answer.code ++ (tag answer.first
+        ++ (word answer.second ++ word answer.third))))))) }
     ensures capacity { vec_capacity out.old ≤ vec_capacity out.new }
 {
     append_bytes(out, &submit_front(size, caller, packet.len() as u32));
     append_padded(out, packet);
-    append_bytes(out, &submit_back(code, first, second, third));
+    append_bytes(out, &submit_back(answer));
 }
 
 /// The bytes of a submit before its packet, for one copy.
@@ -123,14 +117,15 @@ fn submit_front(size: u32, caller: u32, count: u32) -> [u8; 32]
 }
 
 /// The bytes of a submit after its packet.
-fn submit_back(code: u32, first: u64, second: u32, third: u32) -> [u8; 20]
-    ensures { result ≡ word code ++ (tag first ++ (word second ++ word third)) }
+fn submit_back(answer: Numbers) -> [u8; 20]
+    ensures { result ≡ word answer.code
+        ++ (tag answer.first ++ (word answer.second ++ word answer.third)) }
 {
     let mut back = [0; 20];
-    write_word(&mut back, 0, code);
-    write_tag(&mut back, 4, first);
-    write_word(&mut back, 12, second);
-    write_word(&mut back, 16, third);
+    write_word(&mut back, 0, answer.code);
+    write_tag(&mut back, 4, answer.first);
+    write_word(&mut back, 12, answer.second);
+    write_word(&mut back, 16, answer.third);
     back
 }
 

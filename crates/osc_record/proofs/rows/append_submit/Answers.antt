@@ -10,5 +10,5 @@ returns-clause-out c =
     let padding = blob_end (length packet) in
     c.append_submit_row.ensures.out
     ∙ ap (λ l. c.args.out.now.items ++ l)
-    (submit_shape c.args.caller packet c.args.code c.args.first c.args.second c.args.third _
+    (submit_shape c.args.caller packet c.args.answer.code c.args.answer.first c.args.answer.second c.args.answer.third _
     (omega (arith, c.blob_size.ensures, length-append packet (replicate padding 0), length-replicate {A = ℕ} padding 0)))

@@ -14,6 +14,7 @@ pub returns-clause-out : goal.returns-clause-out
 returns-clause-out c =
     let packet : List ℕ = c.args.packet.now in
     three c.args.out.now.items _ _ _ (word c.args.size) SUBMIT (word c.args.caller) (word (length packet))
-    (packet ++ replicate (blob_end (length packet)) 0) (word c.args.code ++ (tag c.args.first ++ (word c.args.second ++ word c.args.third)))
+    (packet ++ replicate (blob_end (length packet)) 0) (word c.args.answer.code
+    ++ (tag c.args.answer.first ++ (word c.args.answer.second ++ word c.args.answer.third)))
     (c.append_bytes.ensures.out ∙ ap (λ l. c.args.out.now.items ++ l) c.submit_front.ensures) c.append_padded.ensures.out
     (c.append_bytes-2.ensures.out ∙ ap (λ l. c.append_padded.new.out.items ++ l) c.submit_back.ensures)
