@@ -8,7 +8,7 @@ use mathlib.Core.List.{IsPrefix}
 use prog.Atomic.{either}
 use Rattle.logbook.specs.Pages.{Cell, cell, keeps, no_nib, step, Moves, Goes}
 use Rattle.osc_turn.specs.History.{StartsWith}
-use Rattle.osc_watch.specs.declared.edit.Edit.{Edit}
+use Rattle.osc_watch.specs.declared.row.Edit.{Edit}
 use Rattle.osc_watch.specs.declared.reached.Reached.{Reached}
 use Rattle.osc_watch.specs.Rule.{IsCounted, Adds}
 use Rattle.osc_watch.specs.Reach.{longer}

@@ -17,7 +17,7 @@ use Rattle.osc_model.specs.Events.{Event, Answer, Entry, add, remove, added, rem
 use Rattle.osc_model.specs.Step.{step}
 use Rattle.osc_model.specs.History.{IsLawful, IsSound, Legal, LegalFrom, after}
 use Rattle.osc_model.proofs.Changes.{Changes, changes, tells_change}
-use Rattle.osc_watch.specs.declared.edit.Edit.{Edit}
+use Rattle.osc_watch.specs.declared.row.Edit.{Edit}
 use Rattle.osc_watch.specs.declared.row.MethodRow.{MethodRow}
 use Rattle.osc_watch.specs.Edits.{edit_by, edits_of}
 use Rattle.osc_watch.specs.Listing.{entered, left, edited, listing}

@@ -12,9 +12,9 @@ use Rattle.osc_model.specs.Limits.{Limits, header_size, max_recording}
 use Rattle.osc_model.specs.Events.{Entry, Event, Answer, enrol, submit, add, remove, tick, release}
 use Rattle.osc_model.specs.Recordings.{IsRecordable, FitsRow, row_of, entry_text, entry_size, header_text, record_text}
 use Rattle.osc_record.specs.Reading.{IsRecord}
-use Rattle.osc_watch.specs.declared.edit.Edit.{Edit}
-use Rattle.osc_watch.specs.declared.stop.Stop.{Stop}
-use Rattle.osc_watch.specs.declared.stop.Stop.TheVariants.{AtEnd, At, NoMemory}
+use Rattle.osc_watch.specs.declared.row.Edit.{Edit}
+use Rattle.osc_watch.specs.declared.entries.Stop.{Stop}
+use Rattle.osc_watch.specs.declared.entries.Stop.TheVariants.{AtEnd, At, NoMemory}
 use Rattle.osc_watch.specs.Edits.{edits_of}
 use Rattle.osc_watch.specs.Parts.{text_of, part, Writes}
 use Rattle.osc_watch.specs.Notes.{AreReadable, AllIn, IsPlaceIn, place_in, Notes}

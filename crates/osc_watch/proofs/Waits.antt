@@ -2,9 +2,9 @@
 use Rattle.std.proofs.Common.{◌≡◌, List, [], ◌∷◌, ◌++◌, Option, Some, Result, Ok, Err, MatchResult, fold, map, refl, sym, ap, ◌∙◌, subst, append_assoc}
 use Rattle.std.proofs.lemmas.List.{map-append, append-nil}
 use Rattle.std.proofs.lemmas.List.Sums.{fold-append}
-use Rattle.osc_watch.specs.declared.edit.Edit.{Edit}
+use Rattle.osc_watch.specs.declared.row.Edit.{Edit}
 use Rattle.osc_watch.specs.declared.row.MethodRow.{MethodRow}
-use Rattle.osc_watch.specs.declared.change.Change.{Change}
+use Rattle.osc_watch.specs.declared.reached.Change.{Change}
 use Rattle.osc_watch.specs.declared.reached.Reached.{Reached}
 use Rattle.osc_watch.specs.declared.sheet.Sheet.{Sheet}
 use Rattle.osc_watch.specs.declared.sheet.Standing.{Standing}

@@ -2,7 +2,7 @@
 use Rattle.std.specs.Prelude.{true, false, List, Option, Some, None}
 use Rattle.std.specs.List.{filter_map}
 use Rattle.osc_model.specs.Events.{Entry, Event, Answer, add, remove, added, removed}
-use Rattle.osc_watch.specs.declared.edit.Edit.{Edit}
+use Rattle.osc_watch.specs.declared.row.Edit.{Edit}
 
 -- the edit that an event with this answer makes, if it makes one: the method that is added enters,
 -- and the one that is removed leaves

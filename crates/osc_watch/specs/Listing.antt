@@ -5,7 +5,7 @@ use Rattle.std.specs.List.{position_or_len, remove}
 use Rattle.std.specs.Ordering.{is_lt, nat_cmp}
 use Rattle.std.specs.Cmp.Lexicographic.{slice_cmp}
 use Rattle.std.specs.Str.{bytes_eq}
-use Rattle.osc_watch.specs.declared.edit.Edit.{Edit}
+use Rattle.osc_watch.specs.declared.row.Edit.{Edit}
 use Rattle.osc_watch.specs.declared.row.MethodRow.{MethodRow}
 use Rattle.osc_watch.specs.declared.row.RowEdit.{RowEdit}
 

@@ -7,9 +7,9 @@ use Rattle.osc_model.specs.Events.{Entry}
 use Rattle.osc_model.specs.Recordings.{IsRecordable, entry_text, header_text}
 use Rattle.osc_record.specs.Reading.{Placed}
 use Rattle.osc_record.specs.Unread.{HasNoNext, Remaining, Reads}
-use Rattle.osc_watch.specs.declared.edit.Edit.{Edit}
-use Rattle.osc_watch.specs.declared.stop.Stop.{Stop}
-use Rattle.osc_watch.specs.declared.stop.Stop.TheVariants.{AtEnd, At, NoMemory}
+use Rattle.osc_watch.specs.declared.row.Edit.{Edit}
+use Rattle.osc_watch.specs.declared.entries.Stop.{Stop}
+use Rattle.osc_watch.specs.declared.entries.Stop.TheVariants.{AtEnd, At, NoMemory}
 use Rattle.osc_watch.specs.Edits.{edits_of}
 use Rattle.osc_watch.specs.Parts.{text_of}
 

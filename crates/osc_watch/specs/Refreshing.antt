@@ -4,9 +4,9 @@ use Rattle.osc_turn.specs.History.{StartsWith}
 use Rattle.osc_model.specs.Limits.{Limits}
 use Rattle.osc_model.specs.Events.{Entry}
 use Rattle.osc_model.specs.Recordings.{record_text}
-use Rattle.osc_watch.specs.declared.edit.Edit.{Edit}
+use Rattle.osc_watch.specs.declared.row.Edit.{Edit}
 use Rattle.osc_watch.specs.declared.board.Board.{Board}
-use Rattle.osc_watch.specs.declared.stop.Stop.{Stop}
+use Rattle.osc_watch.specs.declared.entries.Stop.{Stop}
 use Rattle.osc_watch.specs.declared.refresh.Part.{Part}
 use Rattle.osc_watch.specs.declared.refresh.Part.TheVariants.{Whole}
 use Rattle.osc_watch.specs.Edits.{edits_of}

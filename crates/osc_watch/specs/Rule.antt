@@ -1,7 +1,7 @@
 -- The rule of the one list of edits, and what the step tells that adds one.
 use Rattle.std.specs.Prelude.{◌≡◌, ℕ, ◌==◌, true, List, [], ◌∷◌, ◌++◌, length, MatchBool}
 use Rattle.logbook.specs.Pages.{Cell, Step, View, Book, Named}
-use Rattle.osc_watch.specs.declared.edit.Edit.{Edit}
+use Rattle.osc_watch.specs.declared.row.Edit.{Edit}
 
 -- the first word is the number of edits
 pub record IsCounted (cells : List Cell) (log : List Edit) : Type 0 where

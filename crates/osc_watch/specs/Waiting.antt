@@ -1,7 +1,7 @@
 -- The changes that are noted and not published.
 use Rattle.std.specs.Prelude.{List, [], ◌∷◌, map, Option, Some, None}
-use Rattle.osc_watch.specs.declared.edit.Edit.{Edit}
-use Rattle.osc_watch.specs.declared.change.Change.{Change}
+use Rattle.osc_watch.specs.declared.row.Edit.{Edit}
+use Rattle.osc_watch.specs.declared.reached.Change.{Change}
 use Rattle.osc_watch.specs.declared.reached.Reached.{Reached}
 use Rattle.osc_watch.specs.Listing.{edit_of}
 

@@ -1,9 +1,9 @@
 -- What contracts see of a board, its watchers and its notices.
 use Rattle.std.specs.Prelude.{◌≡◌, nat_lt, if◌then◌else◌, List, length}
-use Rattle.osc_watch.specs.declared.edit.Edit.{Edit}
+use Rattle.osc_watch.specs.declared.row.Edit.{Edit}
 use Rattle.osc_watch.specs.declared.board.Board.{Board}
 use Rattle.osc_watch.specs.declared.watcher.Watcher.{Watcher}
-use Rattle.osc_watch.specs.declared.notice.Notice.{Notice}
+use Rattle.osc_watch.specs.declared.watcher.Notice.{Notice}
 
 -- the edits that the board has read
 abbrev pub noted : Board → List Edit

@@ -11,10 +11,20 @@ ghost use Rattle.osc_watch.specs.Notes.{NotesNext, Notes, IsPlaceIn, StandWithin
 
 use crate::board::Board;
 use crate::row::{MethodRow, RowEdit};
-use crate::stop::Stop;
 use osc_atoms::Bytes;
 use osc_record::{Answer, Entry, Event, Unread};
 use std::alloc::{AllocError, Global};
+
+/// Where reading entries stopped.
+#[derive(Clone, Copy)]
+pub enum Stop {
+    /// All bytes were read.
+    AtEnd,
+    /// The entry at the place isn't whole.
+    At(u32),
+    /// There was no memory for the edit of the entry at the place.
+    NoMemory(u32),
+}
 
 /// Notes the edits of the entries that stand after a header, as many as are whole.
 pub(crate) fn note_all(board: &mut Board, bytes: &[u8]) -> Stop

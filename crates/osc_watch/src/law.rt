@@ -1,6 +1,5 @@
 //! The rule of the one list of edits, which only grows. These types are for the proofs alone.
-use crate::edit::Edit;
-use crate::row::RowEdit;
+use crate::row::{Edit, RowEdit};
 use logbook::{Gain, Plain, Play, Rule};
 
 /// The word is the number of edits.

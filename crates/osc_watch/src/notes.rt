@@ -6,12 +6,11 @@ ghost use Rattle.osc_watch.specs.Waiting.{held_list};
 ghost use Rattle.osc_watch.specs.Watching.{noted, published, noticed, IsNoticeOf, IsSameBoard};
 
 use crate::board::Board;
-use crate::change::Change;
-use crate::notice::Notice;
+use crate::reached::Change;
 use crate::row::RowEdit;
 use crate::rule::Sees;
-use crate::tells::told;
-use crate::told::SheetWriter;
+use crate::told::{SheetWriter, new_reader};
+use crate::watcher::Notice;
 use std::alloc::AllocError;
 use std::sync::Wait;
 
@@ -108,7 +107,7 @@ impl Board {
         ensures told { IfOk result (λ notice. noticed notice ≡ published self.new) }
     {
         Ok(Notice {
-            told: told(&mut self.writer)?,
+            told: new_reader(&mut self.writer)?,
         })
     }
 }

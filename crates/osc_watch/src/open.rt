@@ -11,8 +11,7 @@ use crate::board::Board;
 use crate::reach::begin;
 use crate::rule::Sees;
 use crate::sheet::Sheet;
-use crate::tells::told;
-use crate::told::SheetWriter;
+use crate::told::{SheetWriter, new_reader};
 use crate::watcher::Watcher;
 use left_right::writer::Writer;
 use osc_record::HEADER_SIZE;
@@ -95,7 +94,7 @@ fn deal(alloc: Global, writer: &mut SheetWriter, watchers: u32) -> Result<Vec<Wa
     let mut dealt = Vec::with_capacity(alloc, watchers as usize)?;
     for _ in 0..watchers {
         match dealt.push(Watcher {
-            told: told(writer)?,
+            told: new_reader(writer)?,
         }) {
             Ok(()) => {}
             Err(_) => return Err(AllocError),

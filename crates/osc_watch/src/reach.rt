@@ -5,10 +5,9 @@ ghost use Rattle.osc_watch.specs.Listing.{edit_of};
 ghost use Rattle.osc_watch.specs.Rule.{head_of};
 ghost use Rattle.osc_watch.specs.Reach.{longer};
 
-use crate::edit::Edit;
 use crate::law::{Add, Law, Nothing};
 use crate::reached::Reached;
-use crate::row::RowEdit;
+use crate::row::{Edit, RowEdit};
 use logbook::{Offer, Seen, Start, Word};
 
 /// The word that counts the edits.

@@ -5,12 +5,11 @@ ghost use Rattle.osc_watch.specs.Listing.{listing};
 ghost use Rattle.osc_watch.specs.Watching.{watched, noticed, IsOfOneBoard, IsForWatcher};
 ghost use Rattle.osc_watch.specs.Watching.{longer_edits};
 
-use crate::notice::Notice;
 use crate::reach::compare;
 use crate::rows::copied_rows;
 use crate::rule::Sees;
 use crate::told::Told;
-use crate::watcher::{Methods, Watcher};
+use crate::watcher::{Methods, Notice, Watcher};
 use core::mem::replace_with;
 use std::alloc::{AllocError, Global};
 

@@ -1,4 +1,4 @@
-//! A server whose recording is read while it grows.
+//! A server whose recording is read while it grows; the server of many callers is one.
 ghost use Rattle.std.specs.Prelude.{◌<◌, ◌+◌, ◌≡◌, ℕ, List};
 ghost use Rattle.osc_turn.specs.declared.view.View.{View};
 ghost use Rattle.osc_turn.specs.History.{StartsWith};
@@ -9,6 +9,9 @@ ghost use Rattle.osc_record.specs.Reading.{IsRecord};
 ghost use Rattle.osc_watch.specs.Parts.{Writes};
 ghost use Rattle.osc_live.specs.Looks.{HasLooked};
 
+use osc_live::{Caller, Live};
+use osc_method::Method;
+use osc_model::laws::a_legal_history_is_recordable;
 use std::sync::Wait;
 
 /// What is read from a place on, by whoever has a token. A token knows in the proofs how much of the history it has
@@ -50,4 +53,29 @@ pub trait Recorded {
         ensures taken { taken token < taken result.0 }
         ensures number { number result.0 ≡ number token }
         ensures looks { HasLooked (knows token) (knows result.0) };
+}
+
+impl<M: Method> Recorded for Live<M> {
+    ghost use Rattle.osc_turn.specs.Passes.{view};
+    ghost use Rattle.osc_live.specs.Seen.{history_of};
+    ghost use Rattle.osc_live.specs.Tokens.{IsOurs};
+
+    type Token = Caller;
+
+    ghost caps = { λ live. live.caps };
+
+    ghost ours = { λ live caller. IsOurs live caller };
+
+    ghost seen = { λ caller. history_of (view caller.pass) };
+
+    ghost taken = { λ caller. (view caller.pass).taken };
+
+    ghost number = { λ caller. caller.number };
+
+    ghost knows = { λ caller. view caller.pass };
+
+    fn read<W: Wait>(&self, rt: &W, token: Caller, from: u32, into: &mut [u8]) -> (Caller, usize) {
+        a_legal_history_is_recordable();
+        Live::read(self, rt, token, from, into)
+    }
 }

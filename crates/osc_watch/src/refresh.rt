@@ -11,9 +11,8 @@ ghost use Rattle.osc_watch.specs.Refreshing.{HasRead, HasReadPart, PartNotes, Is
 ghost use Rattle.osc_live.specs.Looks.{HasLooked};
 
 use crate::board::Board;
-use crate::entries::note_all;
+use crate::entries::{Stop, note_all};
 use crate::recorded::Recorded;
-use crate::stop::Stop;
 use core::mem::replace_with;
 use osc_record::HEADER_SIZE;
 use std::alloc::{AllocError, Global};

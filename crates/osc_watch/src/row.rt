@@ -1,5 +1,6 @@
 //! A row of the list of methods, and an edit of it.
 use osc_atoms::Bytes;
+use std::collections::LinkedList;
 
 /// A method, by its id and its address.
 #[derive(Drop)]
@@ -12,5 +13,15 @@ pub struct MethodRow {
 #[derive(Drop)]
 pub struct RowEdit {
     pub row: MethodRow,
+    pub enters: bool,
+}
+
+/// What a proof knows of an edit. No value of it is made.
+pub struct Edit {
+    /// The method's id.
+    pub id: u64,
+    /// Its address.
+    pub address: LinkedList<u64>,
+    /// Whether the method entered, or left.
     pub enters: bool,
 }

@@ -51,13 +51,13 @@ fn place_for(rows: &[MethodRow], address: &[u8]) -> usize
     ensures place { result ≡ place_for address.now rows.now }
     ensures bound { result ≤ length rows.now }
 {
-    match first_behind(rows, address) {
+    match first_after(rows, address) {
         Some(at) => at,
         None => rows.len(),
     }
 }
 
-fn first_behind(rows: &[MethodRow], address: &[u8]) -> Option<usize>
+fn first_after(rows: &[MethodRow], address: &[u8]) -> Option<usize>
     ensures { result ≡ position (λ row. not (is_before address.now row)) rows.now }
 {
     rows.iter().position(|row| !is_before(row, address))

@@ -1,8 +1,7 @@
 //! What is published: the rows that stand after some edits, and which edits these are.
 ghost use Rattle.std.specs.Prelude.{◌≡◌};
 
-use crate::change::Change;
-use crate::reached::Reached;
+use crate::reached::{Change, Reached};
 use crate::row::MethodRow;
 use crate::rows::change;
 use left_right::Absorb;

@@ -1,4 +1,4 @@
-//! Who watches the list of methods.
+//! Who watches the list of methods, and what a watcher is told.
 use crate::row::MethodRow;
 use crate::told::Told;
 
@@ -16,4 +16,10 @@ pub type MethodRows = Vec<MethodRow>;
 pub struct Methods {
     pub edits: u64,
     pub rows: MethodRows,
+}
+
+/// The edits that a board had published. It keeps one of the board's places for readers until it is learned or dropped.
+#[derive(Drop)]
+pub struct Notice {
+    pub(crate) told: Told,
 }

@@ -1,6 +1,6 @@
 use Rattle.std.proofs.Common.{subst, ap, List}
 use mathlib.Core.List.{IsPrefix}
-use Rattle.osc_watch.specs.declared.edit.Edit.{Edit}
+use Rattle.osc_watch.specs.declared.row.Edit.{Edit}
 use Rattle.osc_watch.proofs.Begun.{compared}
 use Rattle.osc_watch.proofs.reach.compare.Goals as goal
 

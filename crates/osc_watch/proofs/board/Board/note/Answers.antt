@@ -1,6 +1,6 @@
 use Rattle.std.proofs.Common.{◌≡◌, ◌++◌, ◌∷◌, [], true, List, drop, sym, ap, ◌∙◌, rules}
 use Rattle.std.proofs.lemmas.List.{append-nil}
-use Rattle.osc_watch.specs.declared.change.Change.{Change}
+use Rattle.osc_watch.specs.declared.reached.Change.{Change}
 use Rattle.osc_watch.specs.declared.reached.Reached.{Reached}
 use Rattle.osc_watch.specs.Listing.{edit_of}
 use Rattle.osc_watch.specs.Waiting.{held_list, edits_in, newest}

@@ -1,6 +1,6 @@
 use Rattle.std.proofs.Common.{◌≡◌, ◌++◌, [], List, drop, refl, sym, ap, ◌∙◌}
 use Rattle.std.proofs.lemmas.List.{append-nil}
-use Rattle.osc_watch.specs.declared.change.Change.{Change}
+use Rattle.osc_watch.specs.declared.reached.Change.{Change}
 use Rattle.osc_watch.specs.Waiting.{edits_in, newest}
 use Rattle.osc_watch.proofs.Publishings.{turns}
 use Rattle.osc_watch.proofs.Waits.{next_listed, next_goes_on}

@@ -1,6 +1,6 @@
 use Rattle.std.proofs.Common.{◌≡◌, ◌++◌, Some, List, drop, sym, ap, ◌∙◌}
 use Rattle.std.proofs.lemmas.List.{append-nil}
-use Rattle.osc_watch.specs.declared.change.Change.{Change}
+use Rattle.osc_watch.specs.declared.reached.Change.{Change}
 use Rattle.osc_watch.specs.declared.reached.Reached.{Reached}
 use Rattle.osc_watch.specs.Waiting.{held_list, edits_in, newest}
 use Rattle.osc_watch.proofs.Publishings.{turns}

@@ -1,6 +1,6 @@
 use Rattle.std.proofs.Common.{rules}
 use Rattle.osc_watch.proofs.Publishings.{admits, forks, merges}
-use Rattle.osc_watch.proofs.tells.told.Goals as goal
+use Rattle.osc_watch.proofs.told.new_reader.Goals as goal
 
 pub reader-requires : goal.reader-requires
 reader-requires c = admits

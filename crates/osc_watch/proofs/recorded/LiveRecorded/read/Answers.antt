@@ -2,7 +2,7 @@ use Rattle.osc_turn.specs.Passes.{view}
 use Rattle.osc_live.specs.Seen.{history_of}
 use Rattle.osc_live.proofs.Looked.{looked_once}
 use Rattle.osc_watch.proofs.ServerReads.{goes_on, recorded, risen}
-use Rattle.osc_watch.proofs.served.LiveRecorded.read.Goals as goal
+use Rattle.osc_watch.proofs.recorded.LiveRecorded.read.Goals as goal
 
 pub returns-clause-goes_on : goal.returns-clause-goes_on
 returns-clause-goes_on g c = goes_on (view c.args.token.pass) (view c.read.result.0.pass) c.read.ensures.read.goes_on
