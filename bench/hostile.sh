@@ -4,7 +4,7 @@
 #     bench/hostile.sh
 #
 # The methods have names of 63 letters below the root, which is called wide, or stand in ten groups, which is called deep.
-# There the pattern's part stands behind `/*`. It needs awk, valgrind and what bin/osc needs.
+# There the pattern's part stands after `/*`. It needs awk, valgrind and what bin/osc needs.
 set -eu
 top=$(cd "$(dirname "$0")/.." && pwd)
 work=$(mktemp -d)

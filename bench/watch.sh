@@ -55,7 +55,7 @@ of_lane() {
     grep -L '^fn=osc_watch::' "$work"/calls-* | grep -v 'calls-01$' | xargs sed -n 's/^totals: //p' | sort -n | tail -n 1
 }
 
-# The instructions of the last read, which the first thread makes behind the lanes.
+# The instructions of the last read, which the first thread makes after the lanes.
 of_read() {
     awk '
         /^cfn=/ { read = /Watcher::list/ }

@@ -68,7 +68,7 @@ function resolve(where, word,   parts, count, pair, key) {
     return key in text ? key : ""
 }
 
-# Puts the definitions that a text names behind those that are there.
+# Puts the definitions that a text names after those that are there.
 function visit(where, body,   lines, count, i, rest, key) {
     count = split(body, lines, "\n")
     for (i = 1; i <= count; i++) {

@@ -98,13 +98,13 @@ is_pattern_byte byte = list_any (λ other. byte == other) (codes "?*[]{}")
 unfoldable pub before : Fault → List ℕ
 before TempoForm = codes "a tempo is written as in: tempo 96 in 4 from 20:00:00"
 before NoAddress = codes "an address is missing: it begins with a slash"
-before EmptyName = codes "a slash has no name behind it"
+before EmptyName = codes "a slash has no name after it"
 before AddressByte = codes "an address has no "
 before LeadingZero = codes "a whole number has no zero before it"
 before OpenText = codes "the text isn't closed by a double quote"
 before InnerQuote = codes "a double quote within a text is written \\\""
-before QuotedEscape = codes "behind a backslash stands \", \\ or x and two hexadecimal digits"
-before PlainEscape = codes "behind a backslash stands x and two hexadecimal digits"
+before QuotedEscape = codes "after a backslash stands \", \\ or x and two hexadecimal digits"
+before PlainEscape = codes "after a backslash stands x and two hexadecimal digits"
 before PlainByte = codes "such a character stands in double quotes"
 before ZeroByte = codes "a text holds no zero byte"
 before NotBlob = codes "a blob is two hexadecimal digits for each byte"
@@ -117,33 +117,33 @@ before LargeMoment = codes "the cues of this moment are more than the 65,504 byt
 before _ = []
 
 -- what stands after it
-unfoldable pub behind : Fault → List ℕ
-behind NotMoment = codes " is no moment: a moment is 20:00:00, +0.625, 1|1 or now"
-behind NotTime = codes " is no time of day: the last is 23:59:59"
-behind ZoneAlone = codes " has a zone and no date: write 2026-11-29T"
-behind NotDay = codes " is no day of the calendar"
-behind EarlyDay = codes " is before 1900-01-01T00:00:00Z, where time tags begin"
-behind PastTags = codes " is past 2036-02-07T06:28:15Z, where time tags end"
-behind (BeforeLine tag) = codes " is before the line before, which is at "
-behind (Gone tag) = codes " has gone by: it is "
-behind NoTempo =
+unfoldable pub after : Fault → List ℕ
+after NotMoment = codes " is no moment: a moment is 20:00:00, +0.625, 1|1 or now"
+after NotTime = codes " is no time of day: the last is 23:59:59"
+after ZoneAlone = codes " has a zone and no date: write 2026-11-29T"
+after NotDay = codes " is no day of the calendar"
+after EarlyDay = codes " is before 1900-01-01T00:00:00Z, where time tags begin"
+after PastTags = codes " is past 2036-02-07T06:28:15Z, where time tags end"
+after (BeforeLine tag) = codes " is before the line before, which is at "
+after (Gone tag) = codes " has gone by: it is "
+after NoTempo =
     codes " is a bar and a beat, and no line `tempo 96 in 4 from 20:00:00` stands before it"
-behind (NotBeat meter) = codes " is no beat: bars count from 1, and the beats of a bar from 1 to "
-behind NotTempo = codes " is no tempo: it is a number of beats a minute, as 96 or 112.5"
-behind NotMeter = codes " is no number of beats in a bar"
-behind NotAddress = codes " is no address: an address begins with a slash"
-behind OpenGroup = codes " isn't closed before the next slash"
-behind NotNumber = codes " is no number: a number is 7, -7, 0.75 or 1e-3"
-behind LongInt = codes " is more than 32 bits: h:"
-behind TooLong = codes " is more than 64 bits"
-behind LargeFloat = codes " is too large for a float; d:"
-behind LargeDouble = codes " is too large for a double"
-behind NotArgument = codes " is no argument: a text stands in double quotes, \""
-behind NotText = codes " is no text: a text stands in double quotes"
-behind NotWhole = codes " is no whole number"
-behind NotEight = codes ": has 8 hexadecimal digits"
-behind NoType = codes ": is no type: the types are i h f d s S b c r m t"
-behind _ = []
+after (NotBeat meter) = codes " is no beat: bars count from 1, and the beats of a bar from 1 to "
+after NotTempo = codes " is no tempo: it is a number of beats a minute, as 96 or 112.5"
+after NotMeter = codes " is no number of beats in a bar"
+after NotAddress = codes " is no address: an address begins with a slash"
+after OpenGroup = codes " isn't closed before the next slash"
+after NotNumber = codes " is no number: a number is 7, -7, 0.75 or 1e-3"
+after LongInt = codes " is more than 32 bits: h:"
+after TooLong = codes " is more than 64 bits"
+after LargeFloat = codes " is too large for a float; d:"
+after LargeDouble = codes " is too large for a double"
+after NotArgument = codes " is no argument: a text stands in double quotes, \""
+after NotText = codes " is no text: a text stands in double quotes"
+after NotWhole = codes " is no whole number"
+after NotEight = codes ": has 8 hexadecimal digits"
+after NoType = codes ": is no type: the types are i h f d s S b c r m t"
+after _ = []
 
 -- what stands at the end
 unfoldable pub end : Fault → List ℕ
@@ -215,7 +215,7 @@ no_method methods word =
 
 abbrev pub plain_message : ℤ → Fault → List ℕ → ℕ → List ℕ
 plain_message ahead fault line at =
-    before fault ++ cited (cite_of fault) line at ++ behind fault ++ detail ahead fault line at
+    before fault ++ cited (cite_of fault) line at ++ after fault ++ detail ahead fault line at
     ++ end fault
 
 -- what is wrong with a line

@@ -40,13 +40,13 @@ fn before(fault: Fault) -> &'static [u8]
     match fault {
         Fault::TempoForm => b"a tempo is written as in: tempo 96 in 4 from 20:00:00",
         Fault::NoAddress => b"an address is missing: it begins with a slash",
-        Fault::EmptyName => b"a slash has no name behind it",
+        Fault::EmptyName => b"a slash has no name after it",
         Fault::AddressByte => b"an address has no ",
         Fault::LeadingZero => b"a whole number has no zero before it",
         Fault::OpenText => b"the text isn't closed by a double quote",
         Fault::InnerQuote => b"a double quote within a text is written \\\"",
-        Fault::QuotedEscape => b"behind a backslash stands \", \\ or x and two hexadecimal digits",
-        Fault::PlainEscape => b"behind a backslash stands x and two hexadecimal digits",
+        Fault::QuotedEscape => b"after a backslash stands \", \\ or x and two hexadecimal digits",
+        Fault::PlainEscape => b"after a backslash stands x and two hexadecimal digits",
         Fault::PlainByte => b"such a character stands in double quotes",
         Fault::ZeroByte => b"a text holds no zero byte",
         Fault::NotBlob => b"a blob is two hexadecimal digits for each byte",
@@ -60,9 +60,9 @@ fn before(fault: Fault) -> &'static [u8]
     }
 }
 
-#[tactic(auto, unfolding(crate::specs::Texts::behind))]
-fn behind(fault: Fault) -> &'static [u8]
-    ensures { result.now ≡ Texts.behind fault }
+#[tactic(auto, unfolding(crate::specs::Texts::after))]
+fn after(fault: Fault) -> &'static [u8]
+    ensures { result.now ≡ Texts.after fault }
 {
     match fault {
         Fault::NotMoment => b" is no moment: a moment is 20:00:00, +0.625, 1|1 or now",
@@ -393,7 +393,7 @@ fn add_plain(
 {
     add(out, before(fault))?;
     add_cited(out, cite_of(fault), line, at)?;
-    add(out, behind(fault))?;
+    add(out, after(fault))?;
     add_detail(out, offset, fault, line, at)?;
     add(out, end(fault))
 }

@@ -61,9 +61,9 @@ open_within text at slash there =
     let items : List ℕ = flat_map item_text there.items in
     let part : List ℕ = items ++ there.first ∷ there.rest in
     let size : length part ≡ length items + suc (length there.rest) = length-append items (there.first ∷ there.rest) in
-    let whole : length text ≡ length (spelled (there.before ++ part ∷ there.behind)) =
+    let whole : length text ≡ length (spelled (there.before ++ part ∷ there.after)) =
     ap length (parts_again text slash) ∙ ap (λ (l : List (List ℕ)). length (spelled l)) there.cut in
-    let within = part_within there.before part there.behind in
+    let within = part_within there.before part there.after in
     let place = there.place in
     omega arith
 

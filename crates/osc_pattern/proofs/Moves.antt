@@ -146,9 +146,9 @@ twice_bit n i =
     let half : n * 2 / 2 ≡ n = omega arith in
     ap (bit_at (n * 2)) e ∙ bit_at-suc (n * 2) i ∙ ap (λ x. bit_at x i) half
 
-pub bits-behind : (a marks place : ℕ) → place < 63
+pub bits-after : (a marks place : ℕ) → place < 63
     → (bit_at (bit_and a marks * 2 % 2 ^ 64) (place + 1) == 1) ≡ (bit_at a place == 1 && bit_at marks place == 1)
-bits-behind a marks place within =
+bits-after a marks place within =
     ap (λ bit. bit == 1) (low_bit (bit_and a marks * 2) (place + 1) (omega arith) ∙ twice_bit (bit_and a marks) place ∙ bit_at_and a marks place)
     ∙ and_bits (bit_at a place) (bit_at marks place) (bit_at-lt a place) (bit_at-lt marks place)
 
@@ -257,11 +257,11 @@ moved item test old new at (byte ∷ name) h =
     ∙ ap (λ t. t || any_rest (λ rest. list_any test (after_byte item rest)) old (at + 1) name)
     (ap (λ n. n && test name) first ∙ one_byte (old at) (has_byte item byte) test name))
 
--- the places right behind a byte that is a text of the item
-pub any_rest-behind : (item : Item) (test : List ℕ → Bool) (old new : ℕ → Bool) (name : List ℕ) → new 0 ≡ false
+-- the places right after a byte that is a text of the item
+pub any_rest-after : (item : Item) (test : List ℕ → Bool) (old new : ℕ → Bool) (name : List ℕ) → new 0 ≡ false
     → ((k : ℕ) → k < length name → new (k + 1) ≡ (old k && has_byte item (get_or name k 0)))
     → any_rest test new 0 name ≡ any_rest (λ rest. list_any test (after_byte item rest)) old 0 name
-any_rest-behind item test old new name none h =
+any_rest-after item test old new name none h =
     moved item test old new 0 name
     (λ k below. (let e : k ≡ 0 + k = omega arith in subst (λ n. new (n + 1) ≡ (old n && has_byte item (get_or name k 0))) e (h k below)))
     ∙ rw none refl
@@ -333,7 +333,7 @@ byte_left : (test : List ℕ → Bool) (old new all : ℕ → Bool) (byte : ℕ)
 byte_left test old new all byte [] name some none moves = absurd (omega arith)
 byte_left test old new all byte (text ∷ more) name some none moves =
     ap (λ t. t || any_rest (λ rest. list_any test (flat_map (after_text rest) more)) all 0 name)
-    (any_rest-behind (plain byte) (λ rest. list_any test (after_text rest text)) old new name none moves
+    (any_rest-after (plain byte) (λ rest. list_any test (after_text rest text)) old new name none moves
     ∙ sym (any_rest-same (λ rest. list_any test (after_text rest (byte ∷ text)))
     (λ rest. list_any (λ left. list_any test (after_text left text)) (after_byte (plain byte) rest)) (λ rest. text_byte test byte text rest) old 0 name))
 
@@ -377,7 +377,7 @@ rests_again : (f : List ℕ → Bool) (name : List ℕ) → list_any (λ left. l
 rests_again f [] = or_false (f [] || false)
 rests_again f (byte ∷ name) = rw (rests_again f name) (or_again (f (byte ∷ name)) (list_any f (rests name)))
 
--- a star right behind a star adds nothing
+-- a star right after a star adds nothing
 pub star_again : (more name : List ℕ) → match_part (42 ∷ more) name ≡ match_part (42 ∷ 42 ∷ more) name
 star_again more name =
     match_part-item (42 ∷ more) star more name refl
@@ -408,14 +408,14 @@ empty_twice (a ∷ b ∷ more) name e =
     let second : b ≡ 125 = grind (arith, nat_tests, both.1) in
     ap (λ xs. match_part xs name) (take_rest (a ∷ b ∷ more) 2) ∙ rw (first, second) (empty_choice more name)
 
--- behind a star, a choice of nothing but the empty text adds nothing
+-- after a star, a choice of nothing but the empty text adds nothing
 star_empty : (more name : List ℕ) → match_part (42 ∷ more) name ≡ match_part (42 ∷ 123 ∷ 125 ∷ more) name
 star_empty more name =
     match_part-item (42 ∷ more) star more name refl
     ∙ same_any (match_part more) (match_part (123 ∷ 125 ∷ more)) (empty_choice more) (rests name)
     ∙ sym (match_part-item (42 ∷ 123 ∷ 125 ∷ more) star (123 ∷ 125 ∷ more) name refl)
 
--- behind a star, stars and empty choices add nothing
+-- after a star, stars and empty choices add nothing
 pub star_idle : (part name : List ℕ) → match_part (42 ∷ drop (idle_bytes part) part) name ≡ match_part (42 ∷ part) name
 star_idle [] name = refl
 star_idle (a ∷ []) name = go (a == 42) refl where
@@ -437,9 +437,9 @@ star_idle (a ∷ b ∷ more) name = go (a == 42) refl where
   go false e = other (a == 123 && b == 125) refl
 
 -- what follows an item, shortened
-pub star_behind : (short others name : List ℕ) → match_part (42 ∷ short) name ≡ match_part (42 ∷ others) name
+pub star_after : (short others name : List ℕ) → match_part (42 ∷ short) name ≡ match_part (42 ∷ others) name
     → list_any (match_part short) (rests name) ≡ list_any (match_part others) (rests name)
-star_behind short others name same =
+star_after short others name same =
     sym (match_part-item (42 ∷ short) star short name refl) ∙ same ∙ match_part-item (42 ∷ others) star others name refl
 
 pub idle_rest : (part : List ℕ) (idle : ℕ) (name : List ℕ) → idle ≡ idle_bytes part

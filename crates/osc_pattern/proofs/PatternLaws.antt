@@ -81,7 +81,7 @@ open_place-some (part ∷ parts) at clean e =
         items = items;
         first = first;
         rest = rest;
-        behind = parts;
+        after = parts;
         cut = ap (λ p. p ∷ parts) spelled;
         whole = All-nil IsLawfulPart;
         lawful = lawful;
@@ -106,7 +106,7 @@ open_place-some (part ∷ parts) at clean e =
             items = there.items;
             first = there.first;
             rest = there.rest;
-            behind = there.behind;
+            after = there.after;
             cut = ap (λ p. part ∷ p) there.cut;
             whole = All-cons IsLawfulPart part there.before (items, read) there.whole;
             lawful = there.lawful;
@@ -143,19 +143,19 @@ read_part-open (item ∷ items) first rest lawful unshut =
     ∙ ap Err (sym (length-append (item_text item) (flat_map item_text items)))
 
 -- a bracket that isn't closed is read at its place
-open_place-open : (before : List (List ℕ)) (items : List Item) (first : ℕ) (rest : List ℕ) (behind : List (List ℕ)) → All IsLawfulPart before
+open_place-open : (before : List (List ℕ)) (items : List Item) (first : ℕ) (rest : List ℕ) (after : List (List ℕ)) → All IsLawfulPart before
     → list_all is_item items ≡ true → IsUnclosed first rest
-    → open_place (before ++ (flat_map item_text items ++ first ∷ rest) ∷ behind)
+    → open_place (before ++ (flat_map item_text items ++ first ∷ rest) ∷ after)
     ≡ Some (length (flat_map (λ part. 47 ∷ part) before) + (1 + length (flat_map item_text items)))
-open_place-open [] items first rest behind whole lawful unshut = rw (read_part-open items first rest lawful unshut) (ap Some (omega arith))
-open_place-open (part ∷ before) items first rest behind whole lawful unshut =
+open_place-open [] items first rest after whole lawful unshut = rw (read_part-open items first rest lawful unshut) (ap Some (omega arith))
+open_place-open (part ∷ before) items first rest after whole lawful unshut =
     let head = All-head IsLawfulPart part before whole in
-    rw (IsPart-read part head.0 head.1, open_place-open before items first rest behind (All-tail IsLawfulPart part before whole) lawful unshut)
+    rw (IsPart-read part head.0 head.1, open_place-open before items first rest after (All-tail IsLawfulPart part before whole) lawful unshut)
     (ap Some (omega (arith, length-append part (flat_map (λ part. 47 ∷ part) before))))
 
 IsOpenAt-read : (parts : List (List ℕ)) (at : ℕ) → IsOpenAt parts at → open_place parts ≡ Some at
 IsOpenAt-read parts at there =
-    ap open_place there.cut ∙ open_place-open there.before there.items there.first there.rest there.behind there.whole there.lawful there.unclosed
+    ap open_place there.cut ∙ open_place-open there.before there.items there.first there.rest there.after there.whole there.lawful there.unclosed
     ∙ ap Some (sym there.place)
 
 position-None : (p : ℕ → Bool) (xs : List ℕ) → list_any p xs ≡ false → position p xs ≡ None

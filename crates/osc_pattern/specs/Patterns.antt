@@ -71,8 +71,8 @@ pub record IsOpenAt (parts : List (List ℕ)) (at : ℕ) : Type 0 where
   pub items : List Item
   pub first : ℕ
   pub rest : List ℕ
-  pub behind : List (List ℕ)
-  pub cut : parts ≡ before ++ (flat_map item_text items ++ first ∷ rest) ∷ behind
+  pub after : List (List ℕ)
+  pub cut : parts ≡ before ++ (flat_map item_text items ++ first ∷ rest) ∷ after
   pub whole : All IsLawfulPart before
   pub lawful : IsTrue (list_all is_item items)
   pub unclosed : IsUnclosed first rest

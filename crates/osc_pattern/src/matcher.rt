@@ -74,7 +74,7 @@ fn match_places<L: Ledger>(part: &[u8], name: &[u8], steps: &mut Steps<L>) -> bo
             return match_choices(part, &reached, name, steps);
         }
         reached = places_after(item, &reached, name, steps);
-        part = behind(item, others);
+        part = rest_after(item, others);
     }
     part.is_empty() && reached.has(name.len())
 }
@@ -256,7 +256,7 @@ fn first_place() -> Places
 }
 
 /// What follows an item, without what adds nothing there.
-pub(crate) fn behind<'a>(item: Item<'_>, others: &'a [u8]) -> &'a [u8]
+pub(crate) fn rest_after<'a>(item: Item<'_>, others: &'a [u8]) -> &'a [u8]
     ensures same { (name : List ℕ)
         → list_any (match_part result.now) (after_item (item_of item.entry) name)
         ≡ list_any (match_part others.now) (after_item (item_of item.entry) name) }
@@ -498,7 +498,7 @@ fn after_any<L: Ledger>(reached: &Places, steps: &mut Steps<L>) -> Places
     ensures bounded { steps.new ≤ steps.old + 1 }
 {
     steps.tick();
-    reached.behind(u64::MAX)
+    reached.after(u64::MAX)
 }
 
 /// The places that stand one byte after one of these, where it is this byte.
@@ -515,7 +515,7 @@ fn after_plain<L: Ledger>(
     ensures bounded { steps.new ≤ steps.old + 1 }
 {
     steps.tick();
-    reached.behind(marks[own as usize])
+    reached.after(marks[own as usize])
 }
 
 /// The places that stand one byte after one of these, where the set matches the byte. The list is read once for all places,
@@ -662,6 +662,6 @@ fn try_byte<L: Ledger>(
         next.join(places);
         *places = reached.again();
     } else {
-        *places = places.behind(marks[byte as usize]);
+        *places = places.after(marks[byte as usize]);
     }
 }

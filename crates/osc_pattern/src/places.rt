@@ -65,7 +65,7 @@ impl Places {
     }
 
     /// The places right after those that are marked.
-    pub(crate) fn behind(&self, marks: u64) -> Places
+    pub(crate) fn after(&self, marks: u64) -> Places
         ensures first { is_place_of result 0 ≡ false }
         ensures others { (place : ℕ) → place < MAX_NAME → is_place_of result (place + 1)
             ≡ (is_place_of self.now place && bit_at marks place == 1) }

@@ -15,7 +15,7 @@ use crate::bytes::ReadSet;
 use crate::item::{Item, first_item};
 use crate::limits::MOST_READY;
 use crate::many::{Many, first_many, first_run, without_repeats};
-use crate::matcher::{behind, without_empty};
+use crate::matcher::{rest_after, without_empty};
 
 /// An item whose list, if it is one, has been read.
 #[derive(Clone, Copy)]
@@ -123,7 +123,7 @@ fn first_ready(part: &[u8], alone: bool) -> Option<(Ready<'_>, &[u8])>
         return Some((Ready::Many(many), others));
     }
     match first_item(part) {
-        Some((item, others)) => Some((ready_item(item), behind(item, others))),
+        Some((item, others)) => Some((ready_item(item), rest_after(item, others))),
         None => None,
     }
 }

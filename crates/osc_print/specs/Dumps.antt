@@ -26,15 +26,15 @@ limits_text limits =
     ++ spaced (policy_word limits.late))
 
 -- after a tick the date of its moment's seconds
-abbrev pub date_behind : Event → List ℕ
-date_behind (tick moment) = spaced (date_text (moment / 2 ^ 32))
-date_behind _ = []
+abbrev pub date_after : Event → List ℕ
+date_after (tick moment) = spaced (date_text (moment / 2 ^ 32))
+date_after _ = []
 
 -- the line of an entry, after its place in the recording
 abbrev pub placed_text : Placed → List ℕ
 placed_text placed =
     line (decimal placed.at ++ spaced (entry_words placed.entry)
-    ++ date_behind placed.entry.event)
+    ++ date_after placed.entry.event)
 
 -- the dump of a recording with these limits and entries, whether a server made it or not
 abbrev pub dumped : Limits → List Entry → List ℕ

@@ -3,7 +3,7 @@ ghost use Rattle.std.specs.Prelude.{◌≡◌, ◌++◌, OnOk, OnErr};
 ghost use Rattle.osc_record.specs.Left.{placed_of};
 ghost use Rattle.osc_record.specs.Shown.{event_of};
 ghost use Rattle.osc_print.specs.Words.{spaced, BeginsWith};
-ghost use Rattle.osc_print.specs.Dumps.{policy_word, limits_text, placed_text, date_behind};
+ghost use Rattle.osc_print.specs.Dumps.{policy_word, limits_text, placed_text, date_after};
 
 use crate::Text;
 use crate::date::date_text;
@@ -66,13 +66,13 @@ impl Text {
         self.number(u64::from(entry.at))?;
         self.word(b" ")?;
         self.entry_words(entry)?;
-        self.date_behind(entry.event)?;
+        self.date_after(entry.event)?;
         self.end_line()
     }
 
     /// Adds the date of a tick's moment.
-    fn date_behind(&mut self, event: Event<'_>) -> Result<(), AllocError>
-        ensures ok { OnOk result (self.new ≡ self.old ++ date_behind (event_of event.entry)) }
+    fn date_after(&mut self, event: Event<'_>) -> Result<(), AllocError>
+        ensures ok { OnOk result (self.new ≡ self.old ++ date_after (event_of event.entry)) }
         ensures err { OnErr result (BeginsWith self.new self.old) }
     {
         match event {

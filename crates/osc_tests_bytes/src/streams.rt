@@ -39,7 +39,7 @@ fn a_stream_is_ready_at_the_last_byte_of_each_packet(rt: HostRuntime) -> Result<
 }
 
 #[test]
-fn a_stream_leaves_what_is_behind_a_packet(rt: HostRuntime) -> Result<(), Fail> {
+fn a_stream_leaves_what_is_after_a_packet(rt: HostRuntime) -> Result<(), Fail> {
     let mut stream = Stream::open(rt.alloc())?;
     assert_eq!(rt; stream.take(&TWO), (8, Fed::Ready));
     assert_eq!(rt; stream.packet(), b"/a\0\0".as_slice());

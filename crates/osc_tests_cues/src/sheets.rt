@@ -265,7 +265,7 @@ line 17, column 9: an address is missing: it begins with a slash
 line 18, column 4: light/front is no address: an address begins with a slash
     +0 light/front 1.0
        ^
-line 19, column 10: a slash has no name behind it
+line 19, column 10: a slash has no name after it
     +0 /light//front 1.0
              ^
 line 20, column 4: the patch has no method /light/front,; did you mean /light/front?
@@ -304,7 +304,7 @@ line 30, column 14: the text isn't closed by a double quote
 line 31, column 19: a double quote within a text is written \\\"
     +0 /cue/name \"act \"two\"\"
                       ^
-line 32, column 16: behind a backslash stands \", \\ or x and two hexadecimal digits
+line 32, column 16: after a backslash stands \", \\ or x and two hexadecimal digits
     +0 /cue/name \"a\\n\"
                    ^
 line 33, column 19: 0.5 is no whole number

@@ -46,7 +46,7 @@ fn moments_are_handed_in_one_after_another(rt: HostRuntime) -> Result<(), Fail> 
 }
 
 #[test]
-fn what_another_submitted_is_released_behind_it(rt: HostRuntime) -> Result<(), Fail> {
+fn what_another_submitted_is_released_after_it(rt: HostRuntime) -> Result<(), Fail> {
     let (live, first) = Live::<Fader>::open(rt.alloc(), caps(2)?)?;
     let (first, guest) = live.guest(first);
     let guest = guest.ok().ok_or("a guest")?;

@@ -43,7 +43,7 @@ fn displayed<R: Threads + Wait + Sync>(
 }
 
 #[test]
-fn a_display_lists_the_methods_that_stand_behind_a_lane(rt: HostRuntime) -> Result<(), Fail> {
+fn a_display_lists_the_methods_that_stand_after_a_lane(rt: HostRuntime) -> Result<(), Fail> {
     let alloc = rt.alloc();
     let done = displayed(&rt, alloc, changing(alloc)?)?;
     assert_eq!(rt; (done.methods.edits, done.methods.rows.len()), (4, 2));

@@ -5,7 +5,7 @@ use Rattle.osc_pattern.specs.Cuts.{rests}
 use Rattle.osc_pattern.specs.Reading.{match_part}
 use Rattle.osc_pattern.specs.Views.{is_place_of, passes}
 use Rattle.osc_pattern.proofs.Reaches.{any_rest-same, any_rest-item, first_and_rest}
-use Rattle.osc_pattern.proofs.Moves.{star_behind}
+use Rattle.osc_pattern.proofs.Moves.{star_after}
 use Rattle.osc_pattern.proofs.matcher.after_first.Goals as goal
 
 pub returns-then-first-eq42-clause-value : goal.returns-then-first-eq42-clause-value
@@ -18,7 +18,7 @@ returns-then-first-eq42-clause-value g c =
     let spelled = first_and_rest part 0 c.in-len1-up.len_at_least ∙ ap (λ b. b ∷ others) c.if-first-eq42.true in
     c.after_star.ensures.value name (match_part left) c.requires.short
     ∙ any_rest-same (λ rest. list_any (match_part left) (rests rest)) (λ rest. list_any (match_part others) (rests rest))
-    (λ rest. star_behind left others rest (c.without_idle.ensures.same rest)) reached 0 name
+    (λ rest. star_after left others rest (c.without_idle.ensures.same rest)) reached 0 name
     ∙ sym (any_rest-item (42 ∷ others) star others reached name refl)
     ∙ ap (λ p. passes (match_part p) c.args.reached.now name) (sym spelled)
 

@@ -18,17 +18,17 @@ loop-item-preserved g c =
     let item = item_of c.in-Some.item in
     let part = c.loop-item.part.now in
     let others = c.in-Some.others.now in
-    let left = c.behind-part.result.now in
+    let left = c.rest_after-part.result.now in
     let name = c.args.name.now in
     let found = sym c.in-Some.ensures.value in
     let more = c.places_after-reached.ensures.counted in
     let most = c.places_after-reached.ensures.bounded in
     let rows = rows_split (length name + 1) (length (item_text item)) (length others) (length part) (first_item-size part item others found) in
-    let less = rows_less (length name + 1) (length left) (length others) c.behind-part.ensures.shorter in
+    let less = rows_less (length name + 1) (length left) (length others) c.rest_after-part.ensures.shorter in
     let so_far = c.loop-item.invariant in (
       c.places_after-reached.ensures.value (match_part left)
           ∙ any_rest-same (λ rest. list_any (match_part left) (after_item item rest)) (λ rest. list_any (match_part others) (after_item item rest))
-          (λ rest. c.behind-part.ensures.same rest) (is_place_of c.loop-item.reached) 0 name
+          (λ rest. c.rest_after-part.ensures.same rest) (is_place_of c.loop-item.reached) 0 name
           ∙ sym (any_rest-item part item others (is_place_of c.loop-item.reached) name found)
           ∙ so_far.0,
       omega arith,

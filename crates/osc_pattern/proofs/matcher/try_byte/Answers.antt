@@ -19,6 +19,6 @@ pub returns-else-byte-eq44-clause-value : goal.returns-else-byte-eq44-clause-val
 returns-else-byte-eq44-clause-value g c name others test short marked =
     let old = is_place_of c.args.places.now in
     let small : c.args.byte < 256 = omega (arith, c.ranges.byte.fits) in
-    choice_byte test old (is_place_of c.behind.result) (is_place_of c.args.reached.now) (c.args.byte ∷ others) others name c.args.byte
-    (passes test c.args.next.now name) _ refl c.if-byte-eq44.false c.behind.ensures.first
-    (λ k below. c.behind.ensures.others k (omega arith) ∙ ap (λ t. old k && t) (marked c.args.byte k small below)) refl
+    choice_byte test old (is_place_of c.after.result) (is_place_of c.args.reached.now) (c.args.byte ∷ others) others name c.args.byte
+    (passes test c.args.next.now name) _ refl c.if-byte-eq44.false c.after.ensures.first
+    (λ k below. c.after.ensures.others k (omega arith) ∙ ap (λ t. old k && t) (marked c.args.byte k small below)) refl

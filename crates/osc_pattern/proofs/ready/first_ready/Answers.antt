@@ -10,8 +10,8 @@ returns-in-Some-first_item-clause-same c name =
     let part = c.args.part.now in
     let others = c.in-Some-first_item.others.now in
     let found = sym c.in-Some-first_item.ensures.value in
-    c.ready_item.ensures.same name (match_part c.behind.result.now)
-    ∙ c.behind.ensures.same name
+    c.ready_item.ensures.same name (match_part c.rest_after.result.now)
+    ∙ c.rest_after.ensures.same name
     ∙ sym (match_part-item part (item_of c.in-Some-first_item.item) others name found)
 
 pub returns-in-Some-first_item-clause-size : goal.returns-in-Some-first_item-clause-size
@@ -19,4 +19,4 @@ returns-in-Some-first_item-clause-size c =
     let part = c.args.part.now in
     let others = c.in-Some-first_item.others.now in
     let size = first_item-size part (item_of c.in-Some-first_item.item) others (sym c.in-Some-first_item.ensures.value) in
-    omega (arith, size, c.ready_item.ensures.size, c.behind.ensures.shorter)
+    omega (arith, size, c.ready_item.ensures.size, c.rest_after.ensures.shorter)
