@@ -13,3 +13,4 @@ pub mod Buildings
 pub mod Readable
 pub mod Openings
 pub mod UnknownTags
+pub mod Bracketing

@@ -9,8 +9,8 @@ ghost use Rattle.osc_message.specs.Reading.{brackets_read};
 ghost use Rattle.osc_message.specs.Shown.{shown};
 
 use crate::argument_bytes::{argument_size, find_null, null_at, put_argument};
+use crate::brackets::are_balanced;
 use crate::limits::{MAX_BUILT, MAX_BUILT_PATTERN};
-use crate::tags::check_brackets;
 use crate::{Arg, BuildFault, argument_bytes};
 use osc_atoms::{Bytes, put_string, string_size};
 use osc_pattern::Pattern;
@@ -125,10 +125,10 @@ impl Builder {
         let pattern = self.pattern.as_slice();
         let tags = self.tags.as_slice();
         let atoms = self.atoms.as_slice();
-        if !are_balanced(tags) {
+        if !tags_balance(tags) {
             return Err(BuildFault::Brackets);
         }
-        Ok(Bytes::of(joined(self.alloc, pattern, tags, atoms)?))
+        Ok(Bytes::of(message_bytes(self.alloc, pattern, tags, atoms)?))
     }
 }
 
@@ -163,16 +163,20 @@ fn add_argument(tags: &mut Vec<u8>, atoms: &mut Vec<u8>, arg: Arg<'_>) -> Result
 }
 
 /// The array brackets among the tags after their comma balance.
-fn are_balanced(tags: &[u8]) -> bool
-    requires comma { 0 < length tags.now }
-    requires small { length tags.now ≤ MAX_BUILT }
+fn tags_balance(tags: &[u8]) -> bool
+    requires { 0 < length tags.now }
     ensures { result ≡ is_ok (brackets_read 0 0 (drop 1 tags.now) 0) }
 {
-    check_brackets(&tags[1..], 0).is_ok()
+    are_balanced(&tags[1..])
 }
 
-/// The pattern as a string, the tags as a string, and the arguments' bytes.
-fn joined(alloc: Global, pattern: &[u8], tags: &[u8], atoms: &[u8]) -> Result<Vec<u8>, AllocError>
+/// A message's bytes: the pattern as a string, the tags as a string, and the arguments' bytes.
+pub fn message_bytes(
+    alloc: Global,
+    pattern: &[u8],
+    tags: &[u8],
+    atoms: &[u8],
+) -> Result<Vec<u8>, AllocError>
     requires pattern { IsTrue (has_no_zero pattern.now) }
     requires tags { IsTrue (has_no_zero tags.now) }
     ensures { IfOk result

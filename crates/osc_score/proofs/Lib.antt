@@ -9,7 +9,6 @@ pub mod Noted
 pub mod Numbers
 pub mod Texts
 pub mod Lengths
-pub mod Bracketing
 pub mod Putting
 pub mod Messages
 pub mod Going

@@ -18,7 +18,7 @@ use Rattle.osc_score.specs.Scores.{Note}
 use Rattle.osc_score.specs.Reading.{are_balanced, balanced_note}
 use Rattle.osc_score.specs.Argued.{arguments_onto, IsReadAs}
 use Rattle.osc_score.proofs.Arguments.{AreSaid, spaced_size, arguments_said}
-use Rattle.osc_score.proofs.Bracketing.{read_closes}
+use Rattle.osc_message.proofs.Bracketing.{read_closes}
 use Rattle.osc_score.proofs.Lengths.{text_few}
 use Rattle.osc_score.proofs.Lines.{words_short}
 use Rattle.osc_score.proofs.Read.{brackets_ok}

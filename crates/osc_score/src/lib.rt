@@ -3,7 +3,6 @@
 
 mod added_note;
 mod argument;
-mod brackets;
 mod fault;
 pub mod laws;
 mod limits;

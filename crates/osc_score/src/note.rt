@@ -1,9 +1,8 @@
 // Reads the words of a line as a note: its tag, its address, and the message to it.
 ghost use Rattle.osc_atoms.specs.declared.limits.TheConstants.{MAX_BYTES};
 ghost use Rattle.osc_score.specs.declared.limits.TheConstants.{MAX_SCORE};
-ghost use Rattle.std.specs.Prelude.{◌≡◌, ◌≤◌, ◌++◌, ◌∷◌, [], ℕ, IsTrue, IfOk, length, ok_or};
+ghost use Rattle.std.specs.Prelude.{◌≡◌, ◌≤◌, ◌∷◌, [], ℕ, IsTrue, IfOk, length, ok_or};
 ghost use Rattle.std.specs.Prelude.{if◌then◌else◌, Err};
-ghost use Rattle.osc_atoms.specs.Atoms.{string, has_no_zero};
 ghost use Rattle.osc_pattern.specs.Addresses.{is_address};
 ghost use Rattle.osc_message.specs.Reading.{is_message};
 ghost use Rattle.osc_script.specs.Words.{words_of};
@@ -14,11 +13,11 @@ ghost use Rattle.osc_score.specs.Reading.{note_read, balanced_note};
 ghost use Rattle.osc_score.specs.Argued.{ArguesAll, TellsMessage, TellsNote};
 
 use crate::argument::put_word;
-use crate::brackets::are_balanced;
 use crate::fault::{LineRefusal, ScoreFault};
 use crate::number::read_tag;
-use osc_atoms::{Bytes, put_string};
+use osc_atoms::Bytes;
 use osc_message::laws::written_is_read_again;
+use osc_message::{are_balanced, message_bytes};
 use osc_pattern::laws::{an_address_is_a_pattern, tests_are_exact};
 use osc_pattern::{Address, AddressFault};
 use osc_script::next_word;
@@ -97,7 +96,7 @@ fn read_message(alloc: Global, address: &Address, words: &[u8]) -> Result<Bytes,
     if !are_balanced(&tags) {
         return Err(LineRefusal::Kind(ScoreFault::BRACKETS));
     }
-    Ok(Bytes::of(joined(alloc, address.bytes(), &tags, &atoms)?))
+    Ok(Bytes::of(message_bytes(alloc, address.bytes(), &tags, &atoms)?))
 }
 
 /// The arguments of the words, each as its tag and its bytes, after those before.
@@ -119,18 +118,4 @@ fn put_words(
         }
     }
     Ok(())
-}
-
-/// A pattern and tags, each as a string, and the arguments' bytes.
-fn joined(alloc: Global, pattern: &[u8], tags: &[u8], atoms: &[u8]) -> Result<Vec<u8>, AllocError>
-    requires pattern { IsTrue (has_no_zero pattern.now) }
-    requires tags { IsTrue (has_no_zero tags.now) }
-    ensures { IfOk result
-        (λ bytes. bytes.items ≡ string pattern.now ++ (string tags.now ++ atoms.now)) }
-{
-    let mut bytes = Vec::new(alloc);
-    put_string(&mut bytes, pattern)?;
-    put_string(&mut bytes, tags)?;
-    bytes.extend_from_slice(atoms)?;
-    Ok(bytes)
 }

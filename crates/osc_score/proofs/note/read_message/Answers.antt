@@ -14,12 +14,12 @@ returns-then-not-are_balanced-clause-read c tag =
     c.in_ok-tags.ensures.items c.new-atoms.ensures.items c.in_default.ensures)
     test
 
-pub joined-requires-clause-pattern : goal.joined-requires-clause-pattern
-joined-requires-clause-pattern c =
+pub message_bytes-requires-clause-pattern : goal.message_bytes-requires-clause-pattern
+message_bytes-requires-clause-pattern c =
     address_nonzero c.an_address_is_a_pattern.ensures.lawful c.bytes.result.now c.bytes.ensures.lawful
 
-pub joined-requires-clause-tags : goal.joined-requires-clause-tags
-joined-requires-clause-tags c =
+pub message_bytes-requires-clause-tags : goal.message_bytes-requires-clause-tags
+message_bytes-requires-clause-tags c =
     rw c.deref-2.ensures.value
     (tags_nonzero c.put_words.new.tags.items c.put_words.new.atoms.items (arguments_read (words_of c.args.words.now))
     (begun c.in_ok-tags.tags.items c.new-atoms.result.items c.put_words.new.tags.items c.put_words.new.atoms.items (arguments_read (words_of c.args.words.now))

@@ -1,6 +1,6 @@
 use Rattle.std.proofs.Common.{◌≡◌, ◌≤◌, drop}
-use Rattle.osc_score.proofs.Bracketing.{closes_all}
-use Rattle.osc_score.proofs.brackets.are_balanced.Given as goal
+use Rattle.osc_message.proofs.Bracketing.{closes_all}
+use Rattle.osc_message.proofs.brackets.are_balanced.Given as goal
 
 abbrev pub invariant-loop-tag : goal.invariant-loop-tag
 invariant-loop-tag l = record {

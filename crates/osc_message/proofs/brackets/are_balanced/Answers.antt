@@ -1,7 +1,7 @@
 use Rattle.std.proofs.Common.{◌≡◌, ◌≤◌, length, arith}
 use Rattle.std.proofs.lemmas.Bool.Decides.{nat_tests}
-use Rattle.osc_score.proofs.Bracketing.{stray, ended}
-use Rattle.osc_score.proofs.brackets.are_balanced.Goals as goal
+use Rattle.osc_message.proofs.Bracketing.{stray, ended}
+use Rattle.osc_message.proofs.brackets.are_balanced.Goals as goal
 
 pub returns-in-93 : goal.returns-in-93
 returns-in-93 c =

@@ -2,8 +2,8 @@
 ghost use Rattle.std.specs.Prelude.{◌≡◌, is_ok};
 ghost use Rattle.osc_message.specs.Reading.{brackets_read};
 
-/// The array brackets among the tags balance. A comma before them is none.
-pub(crate) fn are_balanced(tags: &[u8]) -> bool
+/// Whether the array brackets among the tags balance (OSC 1.0, "OSC Type Tag String"). A comma before them is none.
+pub fn are_balanced(tags: &[u8]) -> bool
     ensures { result ≡ is_ok (brackets_read 0 0 tags.now 0) }
 {
     let mut depth = 0usize;
