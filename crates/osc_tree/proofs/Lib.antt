@@ -35,3 +35,4 @@ pub mod Advances
 pub mod Taken
 pub mod Overs
 mod Bounds
+mod Depths

@@ -5,7 +5,9 @@ use Rattle.std.specs.Prelude.{if◌then◌else◌, List, [], length, take, fold,
 use Rattle.std.specs.List.{starts_with}
 use Rattle.std.specs.Ordering.{is_lt, nat_cmp}
 use Rattle.std.specs.Cmp.Lexicographic.{slice_cmp}
+use Rattle.osc_pattern.specs.declared.limits.TheConstants.{MAX_NAMES}
 use Rattle.osc_pattern.specs.Methods.{Method}
+use Rattle.osc_pattern.specs.Patterns.{parts_of}
 use Rattle.osc_tree.specs.declared.registered.Registered.{Registered}
 use Rattle.osc_tree.specs.Matching.{in_place}
 use Rattle.osc_tree.specs.Views.{methods_of, method_at, methods_at, IsKept}
@@ -19,13 +21,19 @@ pub record IsOrder (registered : List Registered) (places : List ℕ) : Type 0 w
   pub within : All (λ place. place < length registered) places
   pub all : methods_at registered places ≡ ordered (methods_of registered)
 
+-- no method's address has more names than this, which is no more than an address may have
+pub record IsDepth (methods : List Method) (depth : ℕ) : Type 0 where
+  pub names : All (λ method. length (parts_of method.address) ≤ depth) methods
+  pub few : depth ≤ MAX_NAMES
+
 -- the methods are kept, and their places stand in order, with room reserved for as many as there
--- may be methods
+-- may be methods, and with a bound on the names of their addresses
 pub record IsIndexed (registered : List Registered) (places : List ℕ)
-    (method_limit node_limit node_count method_capacity place_capacity : ℕ) : Type 0 where
+    (method_limit node_limit node_count method_capacity place_capacity depth : ℕ) : Type 0 where
   pub kept : IsKept (methods_of registered) method_limit node_limit node_count method_capacity
   pub order : IsOrder registered places
   pub room : method_limit ≤ place_capacity
+  pub deep : IsDepth (methods_of registered) depth
 
 -- whether the method's address is before the text, in the order of their bytes
 abbrev pub is_before : List ℕ → Method → Bool

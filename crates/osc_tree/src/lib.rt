@@ -5,6 +5,7 @@
 mod admission;
 mod aim;
 mod choice;
+mod depth;
 mod guesses;
 mod hits;
 pub mod laws;

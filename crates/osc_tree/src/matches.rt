@@ -11,7 +11,7 @@ ghost use Rattle.osc_pattern.specs.Patterns.{parts_of, part_at, is_special, matc
 ghost use Rattle.osc_pattern.specs.Reading.{match_part};
 ghost use Rattle.osc_pattern.specs.ReadyParts.{StandsFor};
 ghost use Rattle.osc_tree.specs.Matching.{matching_ids};
-ghost use Rattle.osc_tree.specs.Order.{IsOrder};
+ghost use Rattle.osc_tree.specs.Order.{IsDepth, IsOrder};
 ghost use Rattle.osc_tree.specs.Views.{method_at, methods_of, methods_at};
 ghost use Rattle.osc_tree.specs.Walking.{most_steps, shared, agreeing, spent, known_at};
 ghost use Rattle.osc_tree.specs.Walking.{IsWalked, IsSorted, IsFront, IsOnward, AreParts, is_ahead};
@@ -35,6 +35,13 @@ use crate::search::{count_before_near, is_rest_before};
 use osc_pattern::laws::{an_address_is_a_pattern, plain_pattern, tests_are_exact};
 use osc_pattern::{MAX_NAMES, Part, Pattern, Steps};
 use std::sync::ledger::Ledger;
+
+/// What a tree keeps so that less is searched: guesses of where methods stand, and how many names an address has at most.
+#[derive(Clone, Copy)]
+pub(crate) struct Hints<'a> {
+    pub(crate) guesses: &'a Guesses,
+    pub(crate) depth: u32,
+}
 
 /// What is found of a pattern before its walk: how many parts it has, and the whole names that all methods which are
 /// walked begin with.
@@ -60,18 +67,19 @@ struct Walk<'a> {
 
 /// Fills the list with the ids of the methods that the pattern matches, in ascending order of the address. A pattern
 /// without special bytes is looked up; else only the methods that begin with its literal front are tried. One with more
-/// parts than an address has names matches none.
+/// parts than any method's address has names matches none.
 #[inline(always)]
 pub(crate) fn find_ids<L: Ledger>(
     methods: &[Registered],
     places: &[u32],
-    guesses: &Guesses,
+    hints: Hints<'_>,
     pattern: &Pattern<'_>,
     ids: &mut Vec<u32>,
     steps: &mut Steps<L>,
 )
     requires list { IsMethodList (methods_of methods.now) }
     requires order { IsOrder methods.now places.now }
+    requires depth { IsDepth (methods_of methods.now) hints.depth }
     requires room { length places.now ≤ vec_capacity ids.old }
     ensures ids { ids.new.items ≡ matching_ids pattern.now (methods_of methods.now) }
     ensures len { vec_len ids.new ≤ length places.now }
@@ -80,10 +88,10 @@ pub(crate) fn find_ids<L: Ledger>(
     ensures bounded { steps.new ≤ steps.old + most_steps pattern.now (methods_of methods.now) }
 {
     ids.clear();
-    if add_guessed(methods, guesses, pattern, ids) {
+    if add_guessed(methods, hints.guesses, pattern, ids) {
         return;
     }
-    look_up(methods, places, guesses, pattern, ids, steps);
+    look_up(methods, places, hints, pattern, ids, steps);
 }
 
 /// The same, where the method isn't where it is guessed to be.
@@ -91,13 +99,14 @@ pub(crate) fn find_ids<L: Ledger>(
 fn look_up<L: Ledger>(
     methods: &[Registered],
     places: &[u32],
-    guesses: &Guesses,
+    hints: Hints<'_>,
     pattern: &Pattern<'_>,
     ids: &mut Vec<u32>,
     steps: &mut Steps<L>,
 )
     requires list { IsMethodList (methods_of methods.now) }
     requires order { IsOrder methods.now places.now }
+    requires depth { IsDepth (methods_of methods.now) hints.depth }
     requires empty { ids.old.items ≡ [] }
     requires room { length places.now ≤ vec_capacity ids.old }
     ensures ids { ids.new.items ≡ matching_ids pattern.now (methods_of methods.now) }
@@ -109,11 +118,11 @@ fn look_up<L: Ledger>(
     let text = pattern.bytes();
     match first_special(text) {
         Some(end) => {
-            if add_choice(methods, places, guesses, pattern, end, ids) {
+            if add_choice(methods, places, hints.guesses, pattern, end, ids) {
                 return;
             }
             let parts = pattern.parts();
-            if parts as usize > MAX_NAMES {
+            if parts > hints.depth {
                 return;
             }
             let near = beginning_with(methods, places, &text[..end]);
@@ -445,8 +454,18 @@ fn looks(idle: u32) -> bool {
     idle & idle.saturating_sub(1) == 0
 }
 
+/// How many parts match the names at their places, from the first on; whether these are all parts and all names, whether
+/// no more than one name stands after them, and whether none does where parts are left.
+#[derive(Clone, Copy)]
+struct Agreement {
+    matching: u32,
+    is_whole: bool,
+    is_last: bool,
+    is_ended: bool,
+}
+
 /// A method that was tried: its address and its names, how many of these match, whether they are all names and all parts,
-/// and whether no more than one name stands after them.
+/// whether no more than one name stands after them, and whether none does where parts are left.
 #[derive(Clone, Copy)]
 struct Tried<'a> {
     address: &'a [u8],
@@ -454,6 +473,7 @@ struct Tried<'a> {
     matching: u32,
     is_whole: bool,
     is_last: bool,
+    is_ended: bool,
 }
 
 /// Tries the method at this place, and tells where to go on: after all methods below the first node whose part doesn't
@@ -485,20 +505,14 @@ fn visit<L: Ledger>(
     let method = &methods[places[at] as usize];
     let names = names_of(&method.address);
     let known = known_at(methods, places, at, names, walk.front);
-    let (matching, is_whole, is_last) = count_matching(
-        walk.pattern,
-        walk.parts,
-        walk.found,
-        known,
-        names,
-        steps,
-    );
+    let agreement = count_matching(walk.pattern, walk.parts, walk.found, known, names, steps);
     let tried = Tried {
         address: method.address.bytes(),
         names,
-        matching,
-        is_whole,
-        is_last,
+        matching: agreement.matching,
+        is_whole: agreement.is_whole,
+        is_last: agreement.is_last,
+        is_ended: agreement.is_ended,
     };
     go_on(walk, at, &tried, method.id, pace, ids)
 }
@@ -571,7 +585,7 @@ fn pass_hit(walk: &Walk<'_>, at: usize, tried: &Tried<'_>, pace: Pace) -> (usize
 }
 
 /// How many bytes the names take up to the last part that isn't plain, and the plain parts, where those names match and the
-/// method is before the one address that they make.
+/// method is before the one address that they make. Where the method has no more names, none can.
 fn find_below<'a>(walk: &Walk<'a>, tried: &Tried<'_>) -> Option<(usize, &'a [u8])>
     requires rest { IfSome walk.now.plain
         (λ plain. slice_split is_slash plain.now
@@ -586,7 +600,7 @@ fn find_below<'a>(walk: &Walk<'a>, tried: &Tried<'_>) -> Option<(usize, &'a [u8]
         (λ below. is_ahead (drop below.0 tried.now.names.now) below.1.now ≡ true) }
 {
     let plain = walk.plain?;
-    if tried.matching < walk.wild {
+    if tried.is_ended || tried.matching < walk.wild {
         return None;
     }
     let bytes = names_before(tried.names, walk.wild, plain)?;
@@ -694,7 +708,7 @@ fn pass_miss(walk: &Walk<'_>, at: usize, tried: &Tried<'_>, pace: Pace) -> (usiz
 }
 
 /// Where to go on by a search: at what an aim says, if one is looked for and found, else after all that begin with the
-/// name that doesn't match, if more follow it.
+/// name that doesn't match, if more follow it. Nowhere, where the method has no more names.
 fn find_way<'a>(walk: &Walk<'a>, tried: &Tried<'_>, idle: u32) -> Option<Way<'a>>
     requires parts { walk.now.parts ≡ length (parts_of walk.now.pattern.now) }
     requires low { All (λ byte. byte < 127) tried.now.names.now }
@@ -705,6 +719,9 @@ fn find_way<'a>(walk: &Walk<'a>, tried: &Tried<'_>, idle: u32) -> Option<Way<'a>
         tried.now.matching way.bytes
         (take way.kept (drop way.bytes tried.now.names.now) ++ way.tail.now)) }
 {
+    if tried.is_ended {
+        return None;
+    }
     if looks(idle)
         && let Some((bytes, kept, tail)) = find_onward(
             walk.pattern,
@@ -816,9 +833,7 @@ fn matches_name<L: Ledger>(
     pattern.matches_found(place, part, name, steps)
 }
 
-/// How many parts match the names at their places, from the first on, whether these are all parts and all names, and
-/// whether no more than one name stands after them.
-/// Those that the names are known to begin with match.
+/// How far a pattern and the names of a method agree. Those parts that the names are known to begin with match.
 fn count_matching<L: Ledger>(
     pattern: &Pattern<'_>,
     parts: u32,
@@ -826,7 +841,7 @@ fn count_matching<L: Ledger>(
     known: Front,
     names: &[u8],
     steps: &mut Steps<L>,
-) -> (u32, bool, bool)
+) -> Agreement
     requires parts { parts ≡ length (parts_of pattern.now) }
     requires few { parts ≤ MAX_NAMES }
     requires found { AreParts found.now pattern.now }
@@ -836,12 +851,13 @@ fn count_matching<L: Ledger>(
     requires bound { known.bytes ≤ length names.now }
     requires cut { slice_split is_slash (drop known.bytes names.now)
         ≡ drop known.names (slice_split is_slash names.now) }
-    ensures count { result.0 ≡ agreeing (parts_of pattern.now) (slice_split is_slash names.now) }
-    ensures whole { result.1
-        ≡ (result.0 == parts && result.0 == length (slice_split is_slash names.now)) }
-    ensures last { result.2 ≡ true
-        → length (slice_split is_slash names.now) ≤ result.0 + 1 }
-    ensures more { result.2 ≡ true → result.1 ≡ false → result.0 < parts }
+    ensures count { result.matching
+        ≡ agreeing (parts_of pattern.now) (slice_split is_slash names.now) }
+    ensures whole { result.is_whole ≡ (result.matching == parts
+        && result.matching == length (slice_split is_slash names.now)) }
+    ensures last { result.is_last ≡ true
+        → length (slice_split is_slash names.now) ≤ result.matching + 1 }
+    ensures more { result.is_last ≡ true → result.is_whole ≡ false → result.matching < parts }
     ensures counted { steps.old ≤ steps.new }
     ensures bounded { steps.new
         ≤ steps.old + spent known.names (parts_of pattern.now) (slice_split is_slash names.now) }
@@ -851,15 +867,39 @@ fn count_matching<L: Ledger>(
     while place < parts {
         let (name, more) = first_name(rest);
         if !matches_name(pattern, place, found[place as usize], name, steps) {
-            return (place, false, more.is_none());
+            return Agreement {
+                matching: place,
+                is_whole: false,
+                is_last: more.is_none(),
+                is_ended: false,
+            };
         }
         place += 1;
         match more {
             Some(more) => rest = more,
-            None => return (place, place == parts, true),
+            None => return ended(place, parts),
         }
     }
-    (place, false, false)
+    Agreement {
+        matching: place,
+        is_whole: false,
+        is_last: false,
+        is_ended: false,
+    }
+}
+
+/// Where all names match, which are so many.
+fn ended(names: u32, parts: u32) -> Agreement
+    ensures count { result.matching ≡ names }
+    ensures whole { result.is_whole ≡ (result.matching == parts) }
+    ensures last { result.is_last ≡ true }
+{
+    Agreement {
+        matching: names,
+        is_whole: names == parts,
+        is_last: true,
+        is_ended: names < parts,
+    }
 }
 
 /// Where the walk goes on after names of which so many match: how many bytes those take, how many more stay, and a text

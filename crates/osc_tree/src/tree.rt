@@ -12,10 +12,11 @@ ghost use Rattle.osc_tree.specs.Views.{methods_of};
 ghost use Rattle.osc_tree.specs.Walking.{most_steps};
 
 use crate::admission::admit;
+use crate::depth::{count_levels, depth_left};
 use crate::guesses::Guesses;
 use crate::hits::Hits;
 use crate::lookup::{is_there, with_id};
-use crate::matches::find_ids;
+use crate::matches::{Hints, find_ids};
 use crate::nodes::new_nodes;
 use crate::order::{enter, leave};
 use crate::refusals::{NotThere, TreeRefusal};
@@ -38,6 +39,7 @@ pub struct Tree {
     method_limit: u32,
     node_limit: u32,
     node_count: u32,
+    depth: u32,
 }
 
 impl Drop for Tree {
@@ -49,6 +51,7 @@ impl Drop for Tree {
             method_limit: _,
             node_limit: _,
             node_count: _,
+            depth: _,
         } = self;
     }
 }
@@ -69,7 +72,8 @@ impl Model for Tree {
     } };
 
     ghost invariant = { λ tree. IsIndexed tree.methods.items tree.places.items tree.method_limit
-        tree.node_limit tree.node_count (vec_capacity tree.methods) (vec_capacity tree.places) };
+        tree.node_limit tree.node_count (vec_capacity tree.methods) (vec_capacity tree.places)
+        tree.depth };
 }
 
 impl Tree {
@@ -88,6 +92,7 @@ impl Tree {
             method_limit: methods,
             node_limit: nodes,
             node_count: 0,
+            depth: 0,
         })
     }
 
@@ -122,6 +127,7 @@ impl Tree {
             Err(refusal) => return Err((refusal, address)),
         };
         let place = self.methods.len() as u32;
+        self.depth = self.depth.max(count_levels(&address));
         self.guesses.keep(address.bytes(), place);
         match self.methods.push(Registered { id, address }) {
             Ok(()) => {}
@@ -149,6 +155,7 @@ impl Tree {
         let place = leave(at, &mut self.places);
         let method = self.methods.remove(place as usize);
         self.node_count -= new_nodes(&self.methods, &self.places, at, &method.address);
+        self.depth = depth_left(&self.methods, self.depth);
         Ok(method.id)
     }
 
@@ -170,7 +177,10 @@ impl Tree {
         find_ids(
             &self.methods,
             &self.places,
-            &self.guesses,
+            Hints {
+                guesses: &self.guesses,
+                depth: self.depth,
+            },
             pattern,
             &mut hits.ids,
             steps,

@@ -126,8 +126,9 @@ returns-then-not-matches_name-clause-whole g c =
 pub returns-in-None-clause-whole : goal.returns-in-None-clause-whole
 returns-in-None-clause-whole g c =
     let cut : slice_split is_slash c.loop-place.rest.now ≡ c.first_name.result.0.now ∷ [] = search rules in
-    whole_ends (c.loop-place.place + 1) c.args.parts (length (slice_split is_slash c.args.names.now))
-    (omega (arith, c.loop-place.invariant.names, ap length cut))
+    c.ended.ensures.whole
+    ∙ whole_ends c.ended.result.matching c.args.parts (length (slice_split is_slash c.args.names.now))
+    (omega (arith, c.ended.ensures.count, c.loop-place.invariant.names, ap length cut))
 
 pub returns-clause-whole : goal.returns-clause-whole
 returns-clause-whole g c =

@@ -15,8 +15,8 @@ walk_near-requires-clause-sorted g c =
     near_sorted (take c.in-Some.end c.bytes-text.result.now) c.args.methods.now c.args.places.now c.beginning_with-near.result.now c.requires.list
     c.requires.order c.beginning_with-near.ensures.those
 
-pub returns-else-parts-gt-MAX_NAMES-clause-ids : goal.returns-else-parts-gt-MAX_NAMES-clause-ids
-returns-else-parts-gt-MAX_NAMES-clause-ids g c =
+pub returns-else-parts-hints-clause-ids : goal.returns-else-parts-hints-clause-ids
+returns-else-parts-hints-clause-ids g c =
     let pattern = c.args.pattern.now in
     let text = take c.in-Some.end c.bytes-text.result.now in
     let slash : begins_with_slash pattern ≡ true = subst (λ l. begins_with_slash l ≡ true) c.bytes-text.ensures.value c.bytes-text.ensures.lawful.slash in
@@ -27,16 +27,16 @@ returns-else-parts-gt-MAX_NAMES-clause-ids g c =
     ∙ ap (λ l. map (λ (method : Method). method.id) (filter (λ method. matches pattern method.address) l)) c.beginning_with-near.ensures.those
     ∙ ap (map (λ (method : Method). method.id)) (found_is pattern text c.args.methods.now c.args.places.now c.requires.list c.requires.order slash front)
 
-pub returns-else-parts-gt-MAX_NAMES-clause-bounded : goal.returns-else-parts-gt-MAX_NAMES-clause-bounded
-returns-else-parts-gt-MAX_NAMES-clause-bounded g c =
+pub returns-else-parts-hints-clause-bounded : goal.returns-else-parts-hints-clause-bounded
+returns-else-parts-hints-clause-bounded g c =
     let most = near_steps c.args.pattern.now (take c.in-Some.end c.bytes-text.result.now) c.args.methods.now c.args.places.now
     c.beginning_with-near.result.now c.requires.order c.beginning_with-near.ensures.those in
     omega (arith, c.walk_near.ensures.bounded)
 
-pub returns-then-parts-gt-MAX_NAMES-clause-ids : goal.returns-then-parts-gt-MAX_NAMES-clause-ids
-returns-then-parts-gt-MAX_NAMES-clause-ids g c =
+pub returns-then-parts-hints-clause-ids : goal.returns-then-parts-hints-clause-ids
+returns-then-parts-hints-clause-ids g c =
     let empty : c.add_choice.new.ids.items ≡ [] = search rules in
-    empty ∙ sym (no_ids c.args.pattern.now (methods_of c.args.methods.now) c.requires.list (omega (arith, c.parts-parts.ensures.parts)))
+    empty ∙ sym (no_ids c.args.pattern.now c.args.hints.depth (methods_of c.args.methods.now) c.requires.depth (omega (arith, c.parts-parts.ensures.parts)))
 
 pub walk_near-requires-clause-front : goal.walk_near-requires-clause-front
 walk_near-requires-clause-front g c =

@@ -53,7 +53,7 @@ go_on-requires-clause-tried g c =
           c.index-methods-places.is) ∙ sym c.bytes.ensures.value;
       slash = c.bytes.ensures.value ∙ slashed;
       low = low_behind (47 ∷ []) names address slashed (address_low address c.names_of-names.ensures.lawful);
-      count = c.count_matching-matching.ensures.count;
+      count = c.count_matching-agreement.ensures.count;
     }
 
 pub go_on-requires-clause-id : goal.go_on-requires-clause-id
@@ -82,4 +82,4 @@ returns-clause-bounded g c =
     let most = charged walk.pattern.now ms at d c.requires.set.sorted within in
     let on = c.go_on.ensures.on in
     let more = further walk.pattern.now ms (suc at) c.go_on.result.0 (omega arith) in
-    omega (arith, c.count_matching-matching.ensures.bounded)
+    omega (arith, c.count_matching-agreement.ensures.bounded)

@@ -6,6 +6,7 @@ use Rattle.osc_tree.specs.Adding.{IsAddable, IsRefused, refusal_of, add_refusal}
 use Rattle.osc_tree.specs.Order.{IsSearched}
 use Rattle.osc_tree.specs.Views.{method_of, methods_of, methods_at}
 use Rattle.std.proofs.lemmas.List.{length-map}
+use Rattle.osc_tree.proofs.Depths.{one_more_depth}
 use Rattle.osc_tree.proofs.InOrder.{order_length, one_more_ordered}
 use Rattle.osc_tree.proofs.Lines.{not_addable}
 use Rattle.osc_tree.proofs.Lawful.{one_more_kept, kept_lawful}
@@ -73,6 +74,10 @@ invariant_of-self c =
       order = rw (c.in-Ok-push.ensures.items, entered)
           (one_more_ordered registered one places at c.self.invariant.order can.apart.none_at so);
       room = (let room = c.self.invariant.room in omega (arith, c.enter.ensures.capacity));
+      deep = (let few = c.self.invariant.deep.few in
+          rw (c.in-Ok-push.ensures.items)
+          (one_more_depth registered c.args.id c.args.address inside.depth c.max-self-inside.result c.self.invariant.deep (omega (arith, c.max-self-inside.ensures))
+          (omega (arith, c.max-self-inside.ensures, c.count_levels.ensures.count)) (omega (arith, c.max-self-inside.ensures, c.count_levels.ensures.few))));
     }
 
 pub returns-clause-lawful : goal.returns-clause-lawful

@@ -14,15 +14,15 @@ returns-clause-hits g c =
     (c.find_ids.ensures.ids ∙ ap (λ l. matching_ids c.args.pattern.now (methods_of l)) c.deref.ensures.value
     ∙ ap (λ tree. matching_ids c.args.pattern.now tree.methods) c.self.view_is)
 
-few_places : (registered : List Registered) (places : List ℕ) (method_limit node_limit node_count method_capacity place_capacity : ℕ)
-    → IsIndexed registered places method_limit node_limit node_count method_capacity place_capacity → length places ≤ method_limit
-few_places registered places method_limit node_limit node_count method_capacity place_capacity indexed = let few = indexed.kept.few_methods in
+few_places : (registered : List Registered) (places : List ℕ) (method_limit node_limit node_count method_capacity place_capacity depth : ℕ)
+    → IsIndexed registered places method_limit node_limit node_count method_capacity place_capacity depth → length places ≤ method_limit
+few_places registered places method_limit node_limit node_count method_capacity place_capacity depth indexed = let few = indexed.kept.few_methods in
     omega (arith, order_length registered places indexed.order, length-map registered method_of)
 
 pub find_ids-requires-clause-room : goal.find_ids-requires-clause-room
 find_ids-requires-clause-room g c =
     let few = few_places c.self.inside.methods.items c.self.inside.places.items c.self.inside.method_limit c.self.inside.node_limit c.self.inside.node_count
-    (vec_capacity c.self.inside.methods) (vec_capacity c.self.inside.places) c.self.invariant in
+    (vec_capacity c.self.inside.methods) (vec_capacity c.self.inside.places) c.self.inside.depth c.self.invariant in
     let asked = c.requires in
     let kept = c.hits.invariant in
     omega (arith, ap length c.deref-2.ensures.value, ap (λ tree. tree.method_limit) c.self.view_is, ap (λ hits. hits.limit) c.hits.view_is, kept.0, kept.1)
@@ -30,7 +30,7 @@ find_ids-requires-clause-room g c =
 pub invariant_of-hits : goal.invariant_of-hits
 invariant_of-hits g c =
     let few = few_places c.self.inside.methods.items c.self.inside.places.items c.self.inside.method_limit c.self.inside.node_limit c.self.inside.node_count
-    (vec_capacity c.self.inside.methods) (vec_capacity c.self.inside.places) c.self.invariant in
+    (vec_capacity c.self.inside.methods) (vec_capacity c.self.inside.places) c.self.inside.depth c.self.invariant in
     let asked = c.requires in
     let kept = c.hits.invariant in (
       omega (

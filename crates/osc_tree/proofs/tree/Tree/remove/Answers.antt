@@ -4,8 +4,9 @@ use Rattle.osc_pattern.specs.Methods.{Method, IsMethodList}
 use Rattle.osc_tree.specs.declared.registered.Registered.{Registered}
 use Rattle.osc_tree.specs.Registry.{Registry, NoneAt, id_at, without}
 use Rattle.osc_tree.specs.Nodes.{new_nodes}
-use Rattle.osc_tree.specs.Order.{IsOrder, IsSearched, StandsAt, closed_up}
+use Rattle.osc_tree.specs.Order.{IsDepth, IsOrder, IsSearched, StandsAt, closed_up}
 use Rattle.osc_tree.specs.Views.{methods_of, methods_at}
+use Rattle.osc_tree.proofs.Depths.{one_fewer_depth}
 use Rattle.osc_tree.proofs.Lines.{id_at-none, none-id_at, id_at-some}
 use Rattle.osc_tree.proofs.Lookups.{id_at_place}
 use Rattle.osc_tree.proofs.Lawful.{one_fewer_kept, removed_is, nodes_without, kept_lawful}
@@ -109,6 +110,22 @@ overflow_sub-self c =
     let counted = c.self.invariant.kept.counted in
     omega (arith, nodes_without registered place method out.leaves.within)
 
+pub depth_left-self-inside-requires : goal.depth_left-self-inside-requires
+depth_left-self-inside-requires c =
+    let registered = c.self.inside.methods.items in
+    let places = c.self.inside.places.items in
+    let at = c.count_before-at.result in
+    let told = told_is registered c.deref.result.now c.deref-3.result.now places c.deref-2.result.now c.deref-4.result.now at c.args.address.now
+    c.bytes.result.now c.bytes-2.result.now c.deref.ensures.value c.deref-2.ensures.value c.bytes.ensures.value
+    c.deref-3.ensures.value c.deref-4.ensures.value c.bytes-2.ensures.value c.count_before-at.ensures.searched c.if-not-is_there.ensures in
+    let place = c.leave-place.result in
+    let method = c.remove-method.result in
+    let out = out_is registered places place at c.args.address.now method c.remove-method.new.self.items c.leave-place.new.places.items
+    c.self.invariant.kept.list c.self.invariant.order told c.leave-place.ensures.place c.remove-method.ensures.value
+    c.remove-method.ensures.items c.leave-place.ensures.items in
+    subst (λ (l : List Registered). IsDepth (methods_of l) c.self.inside.depth) (sym (c.deref-7.ensures.value ∙ out.items))
+    (one_fewer_depth registered place c.self.inside.depth c.self.invariant.deep)
+
 pub invariant_of-self : goal.invariant_of-self
 invariant_of-self c =
     let registered = c.self.inside.methods.items in
@@ -132,6 +149,7 @@ invariant_of-self c =
           (vec_capacity inside.methods) c.self.invariant.kept out.leaves.first out.leaves.within);
       order = out.left.order;
       room = rw c.leave-place.ensures.capacity c.self.invariant.room;
+      deep = subst (λ (l : List Registered). IsDepth (methods_of l) c.depth_left-self-inside.result) c.deref-7.ensures.value c.depth_left-self-inside.ensures;
     }
 
 pub returns-clause-read : goal.returns-clause-read
