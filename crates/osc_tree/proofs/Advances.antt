@@ -1,5 +1,6 @@
 -- A walk that goes on at a text passes over none that matches.
-use Rattle.std.proofs.Common.{◌≡◌, ℕ, zero, suc, ◌+◌, ◌-◌, ◌<◌, ◌≤◌, Bool, true, false, cond, ◌||◌, nat_eq, nat_lt, nat_le, not, ◌&&◌, ◌==◌, List, [], ◌∷◌, ◌++◌, length, take, drop, map, filter, position, None, Some, Option}
+use Rattle.std.proofs.Common.{◌≡◌, ℕ, zero, suc, ◌+◌, ◌-◌, ◌<◌, ◌≤◌, Bool, true, false, cond, ◌||◌, nat_eq, nat_lt, nat_le, not, ◌&&◌, ◌==◌, List, []}
+use Rattle.std.proofs.Common.{◌∷◌, ◌++◌, length, take, drop, map, filter, position, None, Some, Option}
 use Rattle.std.specs.Prelude.{is_none}
 use Rattle.std.specs.Option.{is_some}
 use Rattle.std.proofs.Common.{Bor, MatchOption, add-zero, append_assoc, one-add, get_or, All, refl, sym, ap, subst, ◌∙◌, arith}
@@ -25,7 +26,8 @@ use Rattle.osc_tree.specs.Order.{is_before, IsSearched}
 use Rattle.osc_tree.specs.Views.{methods_at}
 use Rattle.osc_tree.specs.declared.registered.Registered.{Registered}
 use Rattle.osc_tree.specs.Walking.{shared, agreeing, known_at, IsAim, IsOnward, IsWalked, IsSorted}
-use Rattle.osc_tree.proofs.Alike.{part_first, all_agree, agreeing_names, matched_agree, shared_turn, shared_through, taken_shared, agree_too, prefix_names, prefix_slash, shares_node}
+use Rattle.osc_tree.proofs.Alike.{part_first, all_agree, agreeing_names, matched_agree, shared_turn, shared_through, taken_shared}
+use Rattle.osc_tree.proofs.Alike.{agree_too, prefix_names, prefix_slash, shares_node}
 use Rattle.osc_tree.proofs.Beginnings.{address_low}
 use Rattle.osc_tree.proofs.Charges.{AreApart, at_slash, at_apart, shared_between, begun_between}
 use Rattle.osc_tree.proofs.Lists.{none_placed}
@@ -36,7 +38,7 @@ use Rattle.osc_tree.proofs.Prefixes.{has_prefix_is}
 use Rattle.osc_tree.proofs.Ranges.{lower, lower_order, ascend_far, begun_not_before, searched_none, searched_up}
 use Rattle.osc_tree.proofs.Walks.{filter_far, known_is, walked_over, not_all_shared}
 
--- how many bytes names take, each with one behind it
+-- how many bytes names take, each with one after it
 abbrev size_of : List (List ℕ) → ℕ
 size_of [] = 0
 size_of (name ∷ names) = suc (length name + size_of names)
@@ -54,7 +56,7 @@ size_drop zero names = omega arith
 size_drop (suc k) [] = omega arith
 size_drop (suc k) (name ∷ names) = let more = size_drop k names in omega arith
 
--- names that are cut off with the slash behind them stand there whatever follows
+-- names that are cut off with the slash after them stand there whatever follows
 pub cut_front : (names : List ℕ) (bytes k : ℕ) → bytes ≤ length names → slice_split is_slash (drop bytes names) ≡ drop k (slice_split is_slash names)
     → (rest : List ℕ) → slice_split is_slash (take bytes names ++ rest) ≡ take k (slice_split is_slash names) ++ slice_split is_slash rest
 cut_front names zero zero le e rest = refl
@@ -69,7 +71,8 @@ cut_front [] (suc bytes) k le e rest = absurd (omega arith)
 cut_front (x ∷ names) (suc bytes) zero le e rest =
     absurd (omega (arith, ap size_of e, size_split (drop bytes names), size_split (x ∷ names), length-drop bytes names))
 cut_front (x ∷ names) (suc bytes) (suc k) le e rest = go (is_slash x) e (split-cons names) (cut_front names bytes) where
-  go : (t : Bool) → slice_split is_slash (drop bytes names) ≡ drop (suc k) (cond t ([] ∷ slice_split is_slash names) (onto_first x (slice_split is_slash names)))
+  go : (t : Bool) → slice_split is_slash (drop bytes names)
+      ≡ drop (suc k) (cond t ([] ∷ slice_split is_slash names) (onto_first x (slice_split is_slash names)))
       → (n : List ℕ) × (ns : List (List ℕ)) × (slice_split is_slash names ≡ n ∷ ns)
       → ((k : ℕ) → bytes ≤ length names → slice_split is_slash (drop bytes names) ≡ drop k (slice_split is_slash names)
       → (rest : List ℕ) → slice_split is_slash (take bytes names ++ rest) ≡ take k (slice_split is_slash names) ++ slice_split is_slash rest)
@@ -146,14 +149,14 @@ on_ahead pattern names tail matching bytes on =
     ap (λ l. lower l (aimed bytes names tail)) (ap (λ l. 47 ∷ l) (sym (take-append-drop bytes names)))
     ∙ lower_prefix (47 ∷ take bytes names) (drop bytes names) tail ∙ on.aim.ahead
 
--- what is passed over from a method on: names of it that match, and a text behind them without a slash
+-- what is passed over from a method on: names of it that match, and a text after them without a slash
 pub record IsPassing (pattern names tail : List ℕ) (matching bytes : ℕ) : Type 0 where
   pub bound : bytes ≤ length names
   pub cut : slice_split is_slash (drop bytes names) ≡ drop matching (slice_split is_slash names)
   pub some : matching ≤ agreeing (parts_of pattern) (slice_split is_slash names)
   pub one : length (slice_split is_slash tail) ≡ 1
 
--- the methods before the text that stand behind the first begin with its names
+-- the methods before the text that stand after the first begin with its names
 passed_node : (pattern names tail : List ℕ) (matching bytes : ℕ) → IsPassing pattern names tail matching bytes → (rest : List ℕ)
     → parts_of ((47 ∷ take bytes names) ++ rest) ≡ take matching (slice_split is_slash names) ++ slice_split is_slash rest
 passed_node pattern names tail matching bytes passing rest = cut_front names bytes matching passing.bound passing.cut rest
@@ -359,7 +362,7 @@ plain_name (b ∷ part) (x ∷ name) special slash e =
     let both = plain_first b x part name one.0 two.0 e in
     ap (λ c. c ∷ name) both.0 ∙ ap (λ l. b ∷ l) (plain_name part name one.1 two.1 both.1)
 
--- behind so many parts all names that match are the parts
+-- after so many parts all names that match are the parts
 abbrev pub ArePlain : List (List ℕ) → Type 0
 ArePlain parts = All (λ part. list_any is_special part ≡ false) parts
 
@@ -381,7 +384,7 @@ plain_rest (suc wild) (part ∷ parts) [] plain slash e = absurd (cc)
 plain_rest (suc wild) (part ∷ parts) (name ∷ names) plain slash e =
     plain_rest wild parts names plain slash (and_parts (match_part part name) (match_parts parts names) e).1
 
--- one method that matches is the only one with its names where the parts behind are plain
+-- one method that matches is the only one with its names where the parts after are plain
 lone : (pattern a b : List ℕ) (wild : ℕ) → begins_with_slash a ≡ true → begins_with_slash b ≡ true → bytes_eq a b ≡ false
     → ArePlain (drop wild (parts_of pattern)) → take wild (parts_of a) ≡ take wild (parts_of b) → matches pattern a ≡ true → matches pattern b ≡ true → ⊥
 lone pattern a b wild one two differ plain alike e f =
@@ -393,7 +396,7 @@ lone pattern a b wild one two differ plain alike e f =
     ∙ ap (λ l. take wild (parts_of b) ++ l) (first ∙ sym second) ∙ take-append-drop wild (parts_of b) in
     both_ways (bytes_eq a b) differ ((bytes_eq-Decides a b).1 (same_bytes a b one two same))
 
--- behind a method that matches, those with its names up to the last part that isn't plain are passed over
+-- after a method that matches, those with its names up to the last part that isn't plain are passed over
 pub walked_past : (pattern : List ℕ) (methods : List Method) (at end wild bytes : ℕ) (ids names : List ℕ) (d : Method) → IsSorted methods
     → at < length methods → IsWalked pattern methods (suc at) ids → (get_or methods at d).address ≡ 47 ∷ names
     → matches pattern (get_or methods at d).address ≡ true → ArePlain (drop wild (parts_of pattern)) → IsPassing pattern names (127 ∷ []) wild bytes
@@ -483,7 +486,7 @@ pub past_passing : (pattern names : List ℕ) (wild bytes matching : ℕ) → by
     → IsPassing pattern names (127 ∷ []) wild bytes
 past_passing pattern names wild bytes matching bound cut less is parts = record { bound = bound; cut = cut; some = omega arith; one = refl }
 
--- what is tried stands before what is behind its names
+-- what is tried stands before what is after its names
 pub past_ahead : (names : List ℕ) (bytes : ℕ) → All (λ byte. byte < 127) names → lower (47 ∷ names) (aimed bytes names (127 ∷ [])) ≡ true
 past_ahead names bytes low =
     ap (λ l. lower l (aimed bytes names (127 ∷ []))) (ap (λ l. 47 ∷ l) (sym (take-append-drop bytes names)))
@@ -520,7 +523,8 @@ pub none_near : (pattern : List ℕ) (registered : List Registered) (places : Li
 none_near pattern registered [] e = refl
 none_near pattern registered (place ∷ places) e = absurd (omega arith)
 
-no_more : (test : Method → Bool) (methods : List Method) → ((d : Method) → 0 < length methods → test (get_or methods 0 d) ≡ true) → 0 ≡ position_or_len test methods
+no_more : (test : Method → Bool) (methods : List Method) → ((d : Method) → 0 < length methods → test (get_or methods 0 d) ≡ true)
+    → 0 ≡ position_or_len test methods
 no_more test [] first = refl
 no_more test (method ∷ methods) first = rw (first method (omega arith)) refl
 
@@ -535,7 +539,8 @@ walked_next pattern methods at matching ids d sorted within so is whole last les
     let none : 0 ≡ position_or_len (λ method. not (nat_le (matching + 1) (shared names (parts_of method.address)))) (drop (suc at) methods) =
     no_more (λ method. not (nat_le (matching + 1) (shared names (parts_of method.address)))) (drop (suc at) methods) first in
     subst (λ (n : ℕ). IsWalked pattern methods n ids) (let same : suc at + 0 ≡ suc at = omega arith in same)
-    (walked_over pattern methods at ids 0 matching (matching + 1) d sorted within so is whole (ap (λ (t : Bool). cond t (matching + 1) matching) (sym least)) none)
+    (walked_over pattern methods at ids 0 matching (matching + 1) d sorted within so is whole
+    (ap (λ (t : Bool). cond t (matching + 1) matching) (sym least)) none)
   where
     first : (other : Method) → 0 < length (drop (suc at) methods)
         → not (nat_le (matching + 1) (shared (parts_of (get_or methods at d).address) (parts_of (get_or (drop (suc at) methods) 0 other).address))) ≡ true
@@ -546,7 +551,9 @@ walked_next pattern methods at matching ids d sorted within so is whole last les
         let a = (get_or methods at d).address in
         let b = (get_or methods (suc at) d).address in
         let apart = at_apart methods at (suc at) d sorted (omega arith) inside in
-        let few : shared (parts_of a) (parts_of b) < length (parts_of a) = go a b (at_slash methods at d sorted within) (at_slash methods (suc at) d sorted inside) apart (nat_lt (shared (parts_of a) (parts_of b)) (length (parts_of a))) refl in
+        let few : shared (parts_of a) (parts_of b) < length (parts_of a) =
+        go a b (at_slash methods at d sorted within) (at_slash methods (suc at) d sorted inside) apart
+        (nat_lt (shared (parts_of a) (parts_of b)) (length (parts_of a))) refl in
         let no' : nat_le (matching + 1) (shared (parts_of a) (parts_of b)) ≡ false = grind (arith, nat_tests) in
         rw is (ap not no')
       where

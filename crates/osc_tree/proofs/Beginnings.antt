@@ -81,7 +81,7 @@ filter_range test (x ∷ xs) (suc low) count fits ahead those behind =
     (filter_range test xs low count (omega arith) (λ k d lt. ahead (suc k) d (omega arith)) (λ k d le lt. those (suc k) d (omega arith) (omega arith))
     (λ k d le lt. behind (suc k) d (omega arith) (omega arith)))
 
--- two searches, for a text and for what is behind all that begin with it
+-- two searches, for a text and for what is after all that begin with it
 pub record AreEnds (text : List ℕ) (methods : List Method) (low high : ℕ) : Type 0 where
   pub list : IsMethodList methods
   pub first : IsSearched text methods low low

@@ -1,5 +1,6 @@
--- Where a walk goes on behind a name that a part with a choice doesn't match.
-use Rattle.std.proofs.Common.{◌≡◌, ℕ, zero, suc, ◌+◌, ◌<◌, ◌≤◌, ◌⊎◌, inl, inr, Bool, true, false, cond, ◌||◌, ◌==◌, nat_eq, nat_lt, List, [], ◌∷◌, ◌++◌, length, take, drop, position, Some, None}
+-- Where a walk goes on after a name that a part with a choice doesn't match.
+use Rattle.std.proofs.Common.{◌≡◌, ℕ, zero, suc, ◌+◌, ◌<◌, ◌≤◌, ◌⊎◌, inl, inr, Bool, true, false, cond, ◌||◌, ◌==◌, nat_eq, nat_lt}
+use Rattle.std.proofs.Common.{List, [], ◌∷◌, ◌++◌, length, take, drop, position, Some, None}
 use Rattle.std.proofs.Common.{append_assoc, drop-cons, add-one, Option, Bor, IfSome, MatchOption, get_or, All, refl, sym, ap, subst, ◌∙◌, arith, Contains}
 use Rattle.std.specs.List.{list_any, slice_split, onto_first, flat_map, starts_with}
 use Rattle.std.specs.Option.{option_map}
@@ -21,7 +22,8 @@ use Rattle.osc_pattern.proofs.Parts.{split-cons}
 use Rattle.osc_tree.specs.Walking.{is_ahead, IsAim, IsReached}
 use Rattle.osc_tree.proofs.Lists.{position-some, contains_later}
 use Rattle.osc_tree.proofs.Literals.{empty_part}
-use Rattle.osc_tree.proofs.Onward.{IsBetween, Begun, part_front, front_between, plain_front, none_taken, one_piece, lower_prefix, low_behind, low_end, none_between}
+use Rattle.osc_tree.proofs.Onward.{IsBetween, Begun, part_front, front_between, plain_front, none_taken, one_piece}
+use Rattle.osc_tree.proofs.Onward.{lower_prefix, low_behind, low_end, none_between}
 use Rattle.osc_tree.proofs.Ranges.{lower, lower_order, lower_more}
 
 -- a choice's texts have no slash where it has none
@@ -103,7 +105,7 @@ name_ended (x ∷ tail) name names cut = go (is_slash x) refl (split-cons tail) 
       let so = more n ns f in
       record { rest = so.rest; is = ap (λ l. x ∷ l) so.is ∙ ap (λ l. l ++ so.rest) first; low = so.low }
 
--- the byte behind the texts of a choice, by what follows it
+-- the byte after the texts of a choice, by what follows it
 pub record IsLast (behind : List ℕ) (last : ℕ) : Type 0 where
   pub either : (last ≡ 127) ⊎ ((last ≡ 48) × (behind ≡ []))
 
@@ -191,12 +193,13 @@ Tried rest end texts left aim = (text : List ℕ) → Contains (slice_split is_c
 pub tried_none : (rest : List ℕ) (end : ℕ) (texts aim : List ℕ) → Tried rest end texts texts aim
 tried_none rest end texts aim text stands = inl stands
 
--- what is nearer is behind no text that was tried
+-- what is nearer is after no text that was tried
 reached_nearer : (rest : List ℕ) (end : ℕ) (text aim next : List ℕ) → lower aim next ≡ false → IsReached rest end text aim → IsReached rest end text next
 reached_nearer rest end text aim next nearer so other first last later = lower_order.chain other aim next (so other first last later) nearer
 
 pub tried_more : (rest : List ℕ) (end : ℕ) (texts left text : List ℕ) (more : List (List ℕ)) (aim next after : List ℕ) → slice_split is_comma left ≡ text ∷ more
-    → slice_split is_comma after ≡ more → lower aim next ≡ false → IsReached rest end text next → Tried rest end texts left aim → Tried rest end texts after next
+    → slice_split is_comma after ≡ more → lower aim next ≡ false → IsReached rest end text next → Tried rest end texts left aim
+    → Tried rest end texts after next
 tried_more rest end texts left text more aim next after cut behind nearer here so other stands = go (so other stands) where
   go : Contains (slice_split is_comma left) other ⊎ IsReached rest end other aim → Contains (slice_split is_comma after) other ⊎ IsReached rest end other next
   go (inr reached) = inr (reached_nearer rest end other aim next nearer reached)
@@ -206,7 +209,8 @@ tried_more rest end texts left text more aim next after cut behind nearer here s
     split (suc k, within, is) = inl (subst (λ l. Contains l other) (sym behind) (k, omega arith, is))
 
 pub tried_all : (rest : List ℕ) (end : ℕ) (texts left text aim next : List ℕ) → slice_split is_comma left ≡ text ∷ [] → lower aim next ≡ false
-    → IsReached rest end text next → Tried rest end texts left aim → (other : List ℕ) → Contains (slice_split is_comma texts) other → IsReached rest end other next
+    → IsReached rest end text next → Tried rest end texts left aim
+    → (other : List ℕ) → Contains (slice_split is_comma texts) other → IsReached rest end other next
 tried_all rest end texts left text aim next cut nearer here so other stands = go (so other stands) where
   go : Contains (slice_split is_comma left) other ⊎ IsReached rest end other aim → IsReached rest end other next
   go (inr reached) = reached_nearer rest end other aim next nearer reached

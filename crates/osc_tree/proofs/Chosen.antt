@@ -140,7 +140,8 @@ any_text (text ∷ texts) more name c all =
     ap (λ l. list_any (match_part more) l && c) (flat_map-cons (after_text name) text texts)
     ∙ ap (λ t. t && c) (list_any-append (match_part more) (after_text name text) (flat_map (after_text name) texts))
     ∙ both_or (list_any (match_part more) (after_text name text)) (list_any (match_part more) (flat_map (after_text name) texts)) c
-    ∙ ap (λ t. (t && c) || (list_any (match_part more) (flat_map (after_text name) texts) && c)) (sym (text_first text more name (All-head fine text texts all)))
+    ∙ ap (λ t. (t && c) || (list_any (match_part more) (flat_map (after_text name) texts) && c))
+    (sym (text_first text more name (All-head fine text texts all)))
     ∙ ap (λ t. (match_part (text ++ more) name && c) || t) (any_text texts more name c (All-tail fine text texts all))
 
 -- what has no slash stands before the first part of what follows it
@@ -175,7 +176,8 @@ choice_first texts back a closed odd special = go (split-cons back) (split-cons 
       slice_split-cons_no is_slash 123 (texts ++ 125 ∷ back) refl
       ∙ ap (onto_first 123) (no_slash_first texts (125 ∷ back) (125 ∷ part) parts (odd_parts texts odd).1
       (slice_split-cons_no is_slash 125 back refl ∙ ap (onto_first 125) here)) in
-      let item : first_item (123 ∷ (texts ++ 125 ∷ part)) ≡ _ = ap (option_map (λ cut. (choice cut.0, cut.1))) (cut_at-first is_choice_end texts 125 part closed refl) in
+      let item : first_item (123 ∷ (texts ++ 125 ∷ part)) ≡ _ = ap (option_map (λ cut. (choice cut.0, cut.1)))
+      (cut_at-first is_choice_end texts 125 part closed refl) in
       ap (λ l. match_parts l (slice_split is_slash a)) cut
       ∙ ap (match_parts ((123 ∷ (texts ++ 125 ∷ part)) ∷ parts)) there
       ∙ ap (λ t. t && match_parts parts names) (match_part-item (123 ∷ (texts ++ 125 ∷ part)) (choice texts) part name item)

@@ -1,5 +1,6 @@
 -- The whole names that two texts begin with, found byte by byte.
-use Rattle.std.proofs.Common.{◌≡◌, ℕ, zero, suc, ◌+◌, ◌-◌, ◌<◌, ◌≤◌, min, Bool, true, false, not, cond, nat_eq, List, [], ◌∷◌, ◌++◌, length, take, drop, filter, get_or}
+use Rattle.std.proofs.Common.{◌≡◌, ℕ, zero, suc, ◌+◌, ◌-◌, ◌<◌, ◌≤◌, min, Bool, true, false, not, cond, nat_eq, List}
+use Rattle.std.proofs.Common.{[], ◌∷◌, ◌++◌, length, take, drop, filter, get_or}
 use Rattle.std.proofs.Common.{position, Some, refl, sym, ap, subst, ◌∙◌, arith}
 use Rattle.std.specs.List.{slice_split, onto_first, starts_with, position_or_len}
 use Rattle.std.proofs.lemmas.Bool.{and_parts}
@@ -134,7 +135,7 @@ sharing_ended a b count bytes at is so first second = go (drop at a) (drop at b)
   go (x ∷ xs) [] e f = omega (arith, so.alike, so.two, last b [] f refl)
   go (x ∷ xs) (y ∷ ys) e f = absurd (omega (arith, is, ap length e, ap length f, length-drop at a, length-drop at b))
 
--- the names behind the front
+-- the names after the front
 pub names_behind : (names : List ℕ) (count bytes : ℕ) → slice_split is_slash (drop bytes names) ≡ drop count (slice_split is_slash names)
     → slice_split is_slash (take (length names - bytes) (drop bytes names)) ≡ drop count (slice_split is_slash names)
 names_behind names count bytes cut =

@@ -1,6 +1,8 @@
 -- The methods at the addresses that the texts of a choice make, one text after another.
-use Rattle.std.proofs.Common.{◌≡◌, ℕ, zero, suc, ◌+◌, ◌<◌, ◌≤◌, Bool, true, false, cond, ◌||◌, nat_eq, List, [], ◌∷◌, ◌++◌, length, take, drop, map, filter, find}
-use Rattle.std.proofs.Common.{Bor, MatchOption, get_or, All, Option, Some, None, position, is_some, drop-cons, add-one, ◌==◌, refl, sym, ap, subst, ◌∙◌, arith, length-append}
+use Rattle.std.proofs.Common.{◌≡◌, ℕ, zero, suc, ◌+◌, ◌<◌, ◌≤◌, Bool, true, false, cond, ◌||◌, nat_eq, List, []}
+use Rattle.std.proofs.Common.{◌∷◌, ◌++◌, length, take, drop, map, filter, find}
+use Rattle.std.proofs.Common.{Bor, MatchOption, get_or, All, Option, Some, None, position, is_some, drop-cons, add-one, ◌==◌}
+use Rattle.std.proofs.Common.{refl, sym, ap, subst, ◌∙◌, arith, length-append}
 use Rattle.std.specs.List.{list_any, slice_split, starts_with}
 use Rattle.std.specs.Option.{option_map, option_to_list}
 use Rattle.std.specs.Str.{bytes_eq}
@@ -106,7 +108,8 @@ pub named_ids : (registered : List Registered) (places address : List ℕ) → I
     ≡ option_to_list (id_at (methods_of registered) address)
 named_ids registered places address list order =
     ap (λ l. map (λ (method : Method). method.id) (filter here l)) order.all
-    ∙ ap (map (λ (method : Method). method.id)) (filter_ordered here (methods_of registered) ∙ ap ordered (filter_one here (methods_of registered) (once (methods_of registered) address list)))
+    ∙ ap (map (λ (method : Method). method.id)) (filter_ordered here (methods_of registered)
+    ∙ ap ordered (filter_one here (methods_of registered) (once (methods_of registered) address list)))
     ∙ last (find here (methods_of registered))
   where
     here : Method → Bool
@@ -136,7 +139,8 @@ pub no_ids_left : (registered : List Registered) (places front back : List ℕ) 
 no_ids_left registered places front back =
     ap (map (λ (method : Method). method.id)) (filter_none (λ (method : Method). false) (methods_at registered places) (λ k d lt. refl))
 
-pub few_chosen : (registered : List Registered) (places front back : List ℕ) (texts : List (List ℕ)) → length (chosen_ids registered places front back texts) ≤ length places
+pub few_chosen : (registered : List Registered) (places front back : List ℕ) (texts : List (List ℕ))
+    → length (chosen_ids registered places front back texts) ≤ length places
 few_chosen registered places front back texts =
     let few = filter_few (λ (method : Method). is_chosen front back texts method.address) (methods_at registered places) in
     omega (
@@ -190,7 +194,8 @@ ids_left registered places front back text was is texts more all list order cut 
     ap (λ l. l ++ chosen_ids registered places front back more) e
     ∙ append_assoc was (option_to_list (id_at (methods_of registered) (spelled front back text))) (chosen_ids registered places front back more)
     ∙ ap (λ l. was ++ l)
-    (sym (ap (chosen_ids registered places front back) cut ∙ first_ids registered places front back text more list order (chain_of back text texts more cut up)))
+    (sym (ap (chosen_ids registered places front back) cut
+    ∙ first_ids registered places front back text more list order (chain_of back text texts more cut up)))
     ∙ so
 
 pub room_left : (registered : List Registered) (places front back text was : List ℕ) (texts more all : List (List ℕ)) → IsMethodList (methods_of registered)

@@ -20,7 +20,7 @@ use Rattle.osc_tree.specs.Views.{method_of, methods_of, IsKept}
 use Rattle.osc_tree.proofs.Lists.{position-map, remove-filter}
 use Rattle.osc_tree.proofs.Counts.{one_more_method}
 
--- an address that is apart from the others, with a new number, can stand behind them
+-- an address that is apart from the others, with a new number, can stand after them
 pub one_more_lawful : (methods : List Method) (id : ℕ) (address : List ℕ) → IsMethodList methods → IsNewId methods id → IsApart methods address
     → IsAddress address → IsMethodList (methods ++ record { id = id; address = address } ∷ [])
 one_more_lawful methods id address list new apart spelled = record {

@@ -1,5 +1,6 @@
 -- Where a walk goes on: at the first method that isn't before a text, which no later one that matches is.
-use Rattle.std.proofs.Common.{◌≡◌, ℕ, zero, suc, ◌+◌, ◌-◌, ◌<◌, ◌≤◌, Bool, true, false, cond, not, ◌||◌, ◌==◌, nat_eq, nat_lt, List, [], ◌∷◌, ◌++◌, length, take, drop, position, Some, None}
+use Rattle.std.proofs.Common.{◌≡◌, ℕ, zero, suc, ◌+◌, ◌-◌, ◌<◌, ◌≤◌, Bool, true, false, cond, not, ◌||◌, ◌==◌, nat_eq, nat_lt, List}
+use Rattle.std.proofs.Common.{[], ◌∷◌, ◌++◌, length, take, drop, position, Some, None}
 use Rattle.std.proofs.Common.{drop-cons, one-add, Option, Bor, IfSome, get_or, All, refl, sym, ap, subst, ◌∙◌, arith}
 use Rattle.std.specs.List.{list_any, slice_split, onto_first, position_or_len, starts_with}
 use Rattle.std.proofs.Math.Seq.{get_or-append_seam}
@@ -18,14 +19,15 @@ use Rattle.osc_tree.proofs.Literals.{own_beginning, empty_part, plain_first, pla
 use Rattle.osc_tree.specs.Walking.{is_ahead, IsAim, IsReached}
 use Rattle.osc_tree.proofs.Ranges.{lower, lower_order, lower_more, begun_not_before}
 
--- the names behind a byte
+-- the names after a byte
 cut_letter : (x : ℕ) (xs : List ℕ) (left : ℕ) → is_slash x ≡ false → 0 < left → drop left (slice_split is_slash (x ∷ xs)) ≡ drop left (slice_split is_slash xs)
 cut_letter x xs zero e some = absurd (omega arith)
 cut_letter x xs (suc left) e some =
     let found = split-cons xs in
     ap (drop (suc left)) (slice_split-cons_no is_slash x xs e) ∙ ap (λ l. drop (suc left) (onto_first x l)) found.2 ∙ sym (ap (drop (suc left)) found.2)
 
-cut_slash : (x : ℕ) (xs : List ℕ) (left : ℕ) → is_slash x ≡ true → 0 < left → drop left (slice_split is_slash (x ∷ xs)) ≡ drop (left - 1) (slice_split is_slash xs)
+cut_slash : (x : ℕ) (xs : List ℕ) (left : ℕ) → is_slash x ≡ true → 0 < left
+    → drop left (slice_split is_slash (x ∷ xs)) ≡ drop (left - 1) (slice_split is_slash xs)
 cut_slash x xs zero e some = absurd (omega arith)
 cut_slash x xs (suc left) e some = let back : suc left - 1 ≡ left = omega arith in rw (e, back) refl
 
@@ -41,7 +43,7 @@ names_slash names at left within some is =
     let slash : is_slash (get_or names at 0) ≡ true = grind (arith, nat_tests) in
     ap (λ l. drop left (slice_split is_slash l)) (drop-cons names at 0 within) ∙ cut_slash (get_or names at 0) (drop (suc at) names) left slash some
 
--- what a text is before with one byte behind it
+-- what a text is before with one byte after it
 pub other_end : (rest text : List ℕ) (end : ℕ) → lower rest text ≡ false → starts_with nat_eq rest text ≡ false → lower rest (text ++ end ∷ []) ≡ false
 other_end [] [] end e f = absurd (cc)
 other_end [] (y ∷ text) end e f = absurd (cc)
@@ -75,7 +77,7 @@ long_end (x ∷ rest) (y ∷ text) end d e lt =
     let longer = lower_more x y rest (text ++ end ∷ []) in
     grind (arith, nat_tests)
 
--- no address is behind the byte that is above all of its own
+-- no address is after the byte that is above all of its own
 pub low_end : (rest : List ℕ) → All (λ byte. byte < 127) rest → lower rest (127 ∷ []) ≡ true
 low_end [] low = refl
 low_end (x ∷ rest) low =
@@ -83,7 +85,7 @@ low_end (x ∷ rest) low =
     let is = lower_more x 127 rest [] in
     grind (arith, nat_tests)
 
--- a text that is behind another isn't before a third that the other is behind
+-- a text that is after another isn't before a third that the other is after
 pub none_between : (other rest text aim : List ℕ) → lower rest text ≡ false → lower other rest ≡ false → lower other text ≡ true → lower other aim ≡ false
 none_between other rest text aim e f g = absurd (let no = lower_order.chain other rest text f e in cc)
 
@@ -192,7 +194,8 @@ pub special_between : (part : List ℕ) (end : ℕ) (other name : List ℕ) (nam
 special_between part end other name names found slash low cut e =
     let front = take end part in
     let plain = plain_front part end found in
-    let so = part_front front (drop end part) other name names plain (none_taken part end slash) cut (ap (λ l. match_part l name) (take-append-drop end part) ∙ e) in
+    let so = part_front front (drop end part) other name names plain (none_taken part end slash) cut
+    (ap (λ l. match_part l name) (take-append-drop end part) ∙ e) in
     front_between front so.tail other 127 so.is (low_end so.tail (low_behind front so.tail other so.is low))
 
 pub plain_between : (part other name : List ℕ) (names : List (List ℕ)) → position is_special part ≡ None

@@ -1,4 +1,4 @@
--- A node whose name doesn't match is passed over as an aim: the text behind all that begin with the name and a slash.
+-- A node whose name doesn't match is passed over as an aim: the text after all that begin with the name and a slash.
 use Rattle.std.proofs.Common.{Option, None, Some, Bor, MatchOption, ◌-◌, ◌≡◌, ℕ, zero, suc, ◌+◌, ◌<◌, ◌≤◌, Bool, true, false, cond, nat_eq, nat_lt}
 use Rattle.std.proofs.Common.{◌==◌, List, [], ◌∷◌, ◌++◌, length, take, drop, get_or, All, refl, sym, ap, subst, ◌∙◌, arith}
 use Rattle.std.specs.Prelude.{is_none}

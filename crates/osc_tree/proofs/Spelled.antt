@@ -19,7 +19,8 @@ filter_none test [] all = refl
 filter_none test (x ∷ xs) all = rw (All-head (λ x. test x ≡ false) x xs all) (filter_none test xs (All-tail (λ x. test x ≡ false) x xs all))
 
 -- where at most one passes a test, those that pass are the first that does
-pub filter_one : {X : Type 0} (test : X → Bool) (xs : List X) → AllPairs (λ a b. test a ≡ true → test b ≡ false) xs → filter test xs ≡ option_to_list (find test xs)
+pub filter_one : {X : Type 0} (test : X → Bool) (xs : List X) → AllPairs (λ a b. test a ≡ true → test b ≡ false) xs
+    → filter test xs ≡ option_to_list (find test xs)
 filter_one test [] alone = refl
 filter_one test (x ∷ xs) alone = go (test x) refl (filter_one test xs (λ i j d lt within. alone (suc i) (suc j) d (omega arith) (omega arith))) where
   go : (t : Bool) → test x ≡ t → filter test xs ≡ option_to_list (find test xs)

@@ -35,7 +35,7 @@ own_match (part ∷ parts) plain slash =
     (own_match parts (All-tail (λ part. list_any is_special part ≡ false) part parts plain) (All-tail (λ part. list_any is_slash part ≡ false) part parts
     slash))
 
--- names that match, and plain parts behind them
+-- names that match, and plain parts after them
 front_match : (wild : ℕ) (parts names : List (List ℕ)) → wild ≤ agreeing parts names → ArePlain (drop wild parts)
     → All (λ part. list_any is_slash part ≡ false) (drop wild parts) → match_parts parts (take wild names ++ drop wild parts) ≡ true
 front_match zero parts names le plain slash = own_match parts plain slash
@@ -128,7 +128,7 @@ below_searched pattern methods at wild text plain d below sorted =
     searched_up (text ++ plain) methods 0 (length methods) at d sorted.ascending (searched_none (text ++ plain) methods) below.within
     (below_ahead pattern methods at wild text plain d below)
 
--- the method there is before what is behind its names
+-- the method there is before what is after its names
 end_ahead : (pattern : List ℕ) (methods : List Method) (at wild : ℕ) (text plain : List ℕ) (d : Method) (below : IsBelow pattern methods at wild text plain)
     → lower (get_or methods at d).address (text ++ 127 ∷ []) ≡ true
 end_ahead pattern methods at wild text plain d below =

@@ -305,7 +305,7 @@ pub known_is : (methods : List Method) (at : ℕ) (d : Method) → 0 < at
 known_is methods zero d some = absurd (omega arith)
 known_is methods (suc at) d some = let back : suc at - 1 ≡ at = omega arith in rw back refl
 
--- those that are counted from the places behind
+-- those that are counted from the places after
 pub counted_over : (registered : List Registered) (places : List ℕ) (at count : ℕ) (test : Method → Bool)
     → count ≡ position_or_len (λ place. test (method_at registered place)) (take (length places - (at + 1)) (drop (at + 1) places))
     → count ≡ position_or_len test (drop (suc at) (methods_at registered places))
@@ -335,7 +335,7 @@ whole_names n parts names lt = grind (arith, nat_tests)
 pub whole_ends : (n parts names : ℕ) → n ≡ names → (n == parts) ≡ (n == parts && n == names)
 whole_ends n parts names e = grind (arith, nat_tests)
 
--- those that share so many names with a method stand together behind it
+-- those that share so many names with a method stand together after it
 pub sharing_parted : (registered : List Registered) (places : List ℕ) (at least : ℕ) (d : Method) (names : List (List ℕ))
     → IsSorted (methods_at registered places) → at < length places → names ≡ parts_of (get_or (methods_at registered places) at d).address
     → IsPartitionedBy (λ place. nat_le least (shared names (parts_of (method_at registered place).address)))

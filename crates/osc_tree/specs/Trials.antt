@@ -7,7 +7,7 @@ use Rattle.osc_pattern.specs.declared.limits.TheConstants.{MAX_NAMES}
 use Rattle.osc_pattern.specs.Items.{is_slash}
 use Rattle.osc_pattern.specs.Methods.{Method}
 use Rattle.osc_pattern.specs.Patterns.{parts_of, is_special}
-use Rattle.osc_tree.specs.declared.matches.Walk.{Walk}
+use Rattle.osc_tree.specs.declared.walk.Walk.{Walk}
 use Rattle.osc_tree.specs.Views.{methods_at}
 use Rattle.osc_tree.specs.Walking.{agreeing, is_ahead, IsSorted, IsFront, AreParts}
 

@@ -77,19 +77,19 @@ fn aim_among<'a>(part: &'a [u8], end: usize, rest: &[u8]) -> Option<(usize, &'a 
     ensures aim { IfSome result (λ aim. IsAim part.now rest.now
         (take aim.0 rest.now ++ aim.1.now)) }
 {
-    let (texts, behind) = cut_choice(&part[end + 1..])?;
+    let (texts, after) = cut_choice(&part[end + 1..])?;
     if texts.len() > MOST_TEXTS {
         return None;
     }
-    let aim = least_text(texts, byte_behind(behind), &rest[end..])?;
+    let aim = least_text(texts, byte_after(after), &rest[end..])?;
     Some((end, aim))
 }
 
 /// The byte that is above all which stand after a text of a choice, by what follows that.
-fn byte_behind(behind: &[u8]) -> u8
-    ensures { result ≡ if nat_eq (length behind.now) 0 then 48 else 127 }
+fn byte_after(after: &[u8]) -> u8
+    ensures { result ≡ if nat_eq (length after.now) 0 then 48 else 127 }
 {
-    if behind.is_empty() { b'0' } else { 0x7f }
+    if after.is_empty() { b'0' } else { 0x7f }
 }
 
 /// The texts of a choice, and what follows it.

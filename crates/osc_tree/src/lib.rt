@@ -3,11 +3,15 @@
 #![tactic(auto)]
 
 mod admission;
+mod agreement;
 mod aim;
 mod choice;
+mod common_names;
+mod course;
 mod depth;
 mod guesses;
 mod hits;
+mod ids;
 pub mod laws;
 mod literal;
 mod lookup;
@@ -22,6 +26,8 @@ mod registered;
 mod search;
 mod tree;
 mod uncounted;
+mod walk;
+mod way;
 
 pub use hits::Hits;
 pub use refusals::{NotThere, TreeRefusal};

@@ -24,8 +24,8 @@ pub(crate) fn new_nodes(methods: &[Registered], places: &[u32], at: usize, addre
 {
     let names = names_of(address);
     let before = shared_before(methods, places, at, names);
-    let behind = shared_at(methods, places, at, names);
-    (count_names(names) - before.max(behind)) as u32
+    let after = shared_at(methods, places, at, names);
+    (count_names(names) - before.max(after)) as u32
 }
 
 /// How many of the names the method before a place has, from the first on.

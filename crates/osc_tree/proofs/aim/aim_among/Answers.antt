@@ -11,7 +11,7 @@ pub least_text-requires-clause-one : goal.least_text-requires-clause-one
 least_text-requires-clause-one c =
     let part = c.args.part.now in
     let end = c.args.end in
-    texts_none part c.in_ok-texts.texts.now c.in_ok-texts.behind.now end c.requires.one
+    texts_none part c.in_ok-texts.texts.now c.in_ok-texts.after.now end c.requires.one
     (ap (cut_at is_choice_end) (sym (take_rest part (end + 1))) ∙ sym c.in_ok-texts.ensures)
 
 pub returns-clause-aim : goal.returns-clause-aim
@@ -20,8 +20,9 @@ returns-clause-aim c =
     let end = c.args.end in
     let rest = c.args.rest.now in
     let aim = c.in_ok-aim.aim.now in
-    choice_aims part c.in_ok-texts.texts.now c.in_ok-texts.behind.now rest aim end c.byte_behind.result c.requires.special c.requires.choice
-    (ap (cut_at is_choice_end) (sym (take_rest part (end + 1))) ∙ sym c.in_ok-texts.ensures) (last_is c.in_ok-texts.behind.now c.byte_behind.result c.byte_behind.ensures)
+    choice_aims part c.in_ok-texts.texts.now c.in_ok-texts.after.now rest aim end c.byte_after.result c.requires.special c.requires.choice
+    (ap (cut_at is_choice_end) (sym (take_rest part (end + 1))) ∙ sym c.in_ok-texts.ensures)
+    (last_is c.in_ok-texts.after.now c.byte_after.result c.byte_after.ensures)
     c.requires.one c.requires.begun (ap (λ l. is_ahead l aim) (sym (take_rest rest end)) ∙ c.in_ok-aim.ensures.ahead) c.in_ok-aim.ensures.one
-    (subst (λ l. (text : List ℕ) → Contains (slice_split is_comma c.in_ok-texts.texts.now) text → IsReached l c.byte_behind.result text aim) (take_rest rest end)
+    (subst (λ l. (text : List ℕ) → Contains (slice_split is_comma c.in_ok-texts.texts.now) text → IsReached l c.byte_after.result text aim) (take_rest rest end)
     c.in_ok-aim.ensures.reach)

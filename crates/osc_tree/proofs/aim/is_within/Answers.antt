@@ -3,7 +3,8 @@ use Rattle.osc_tree.proofs.Onward.{other_end, short_end, long_end}
 use Rattle.osc_tree.proofs.aim.is_within.Goals as goal
 
 pub returns-then-not-starts_with : goal.returns-then-not-starts_with
-returns-then-not-starts_with c = sym (other_end c.args.rest.now c.args.text.now c.args.end c.requires (sym c.starts_with.ensures.value ∙ c.if-not-starts_with.true))
+returns-then-not-starts_with c = sym (other_end c.args.rest.now c.args.text.now c.args.end c.requires
+    (sym c.starts_with.ensures.value ∙ c.if-not-starts_with.true))
 
 pub returns-in-Some : goal.returns-in-Some
 returns-in-Some c =

@@ -14,7 +14,7 @@ overflow_sub-result c =
     let names = slice_split is_slash c.names_of-names.result.now in
     let all = methods_at c.args.methods.now c.args.places.now in
     let most = near_most all names c.args.at in
-    omega (arith, c.max.ensures, c.shared_before-before.ensures.count, c.shared_at-behind.ensures.count, c.count_names.ensures.count)
+    omega (arith, c.max.ensures, c.shared_before-before.ensures.count, c.shared_at-after.ensures.count, c.count_names.ensures.count)
 
 pub overflow_cast-result : goal.overflow_cast-result
 overflow_cast-result c =
@@ -30,13 +30,13 @@ returns c =
     let before : c.shared_before-before.result ≡ shared_before all parts at =
     c.shared_before-before.ensures.count ∙ ap (λ l. shared_before (methods_at registered c.args.places.now) l at) c.names_of-names.ensures.parts
     ∙ ap (λ l. shared_before l parts at) c.requires.order.all in
-    let behind : c.shared_at-behind.result ≡ shared_at all parts at =
-    c.shared_at-behind.ensures.count ∙ ap (λ l. shared_at (methods_at registered c.args.places.now) l at) c.names_of-names.ensures.parts
+    let after : c.shared_at-after.result ≡ shared_at all parts at =
+    c.shared_at-after.ensures.count ∙ ap (λ l. shared_at (methods_at registered c.args.places.now) l at) c.names_of-names.ensures.parts
     ∙ ap (λ l. shared_at l parts at) c.requires.order.all in
     let so : IsSearched c.args.address.now all at at =
     subst (λ (l : List Method). IsSearched c.args.address.now l at at) c.requires.order.all c.requires.searched in
     let long = c.count_names.ensures.count ∙ ap length c.names_of-names.ensures.parts in
     let near : c.max.result ≡ max (shared_before all parts at) (shared_at all parts at) =
-    c.max.ensures ∙ ap (λ (n : ℕ). max n c.shared_at-behind.result) before ∙ ap (max (shared_before all parts at)) behind in
+    c.max.ensures ∙ ap (λ (n : ℕ). max n c.shared_at-after.result) before ∙ ap (max (shared_before all parts at)) after in
     ap (λ (n : ℕ). n - c.max.result) long ∙ ap (λ (n : ℕ). length parts - n) near
     ∙ sym (new_nodes_beside (methods_of registered) c.args.address.now at c.requires.list c.names_of-names.ensures.lawful.slash c.requires.apart so)

@@ -34,6 +34,7 @@ count_between-requires-clause-known c =
     let text = c.args.text.now ++ c.args.tail.now in
     let next = c.loop-low.low.place + (c.loop-low.low.place - c.args.from) in
     let here : is_before text (get_or (methods_at methods places) next (method_at methods 0)) ≡ false =
-    ap (is_before text) (methods_at-get methods places next (method_at methods 0) (omega arith)) ∙ sym c.compare-found.ensures.before ∙ is_not c.compare-found.result.is_before c.if-not-found.true in
+    ap (is_before text) (methods_at-get methods places next (method_at methods 0) (omega arith))
+    ∙ sym c.compare-found.ensures.before ∙ is_not c.compare-found.result.is_before c.if-not-found.true in
     searched_down text (methods_at methods places) c.loop-low.low.place (length places) next
     (method_at methods 0) c.requires.ascending c.loop-low.invariant.known (omega arith) (omega arith) here

@@ -76,7 +76,8 @@ invariant_of-self c =
       room = (let room = c.self.invariant.room in omega (arith, c.enter.ensures.capacity));
       deep = (let few = c.self.invariant.deep.few in
           rw (c.in-Ok-push.ensures.items)
-          (one_more_depth registered c.args.id c.args.address inside.depth c.max-self-inside.result c.self.invariant.deep (omega (arith, c.max-self-inside.ensures))
+          (one_more_depth registered c.args.id c.args.address inside.depth c.max-self-inside.result c.self.invariant.deep
+          (omega (arith, c.max-self-inside.ensures))
           (omega (arith, c.max-self-inside.ensures, c.count_levels.ensures.count)) (omega (arith, c.max-self-inside.ensures, c.count_levels.ensures.few))));
     }
 
