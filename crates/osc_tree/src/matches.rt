@@ -69,7 +69,15 @@ pub(crate) fn find_ids<L: Ledger>(
     if add_guessed(methods, hints.guesses, pattern, ids) {
         return;
     }
-    look_up(methods, places, hints, pattern, ids, steps);
+    let Hints { guesses, depth } = hints;
+    look_up(
+        methods,
+        places,
+        Hints { guesses, depth },
+        pattern,
+        ids,
+        steps,
+    );
 }
 
 /// The same, where the method isn't where it is guessed to be.
