@@ -21,7 +21,8 @@ pub(crate) fn count_levels(address: &Address) -> u32
 /// without methods begins anew.
 pub(crate) fn depth_left(methods: &[Registered], depth: u32) -> u32
     requires { IsDepth (methods_of methods.now) depth }
-    ensures { IsDepth (methods_of methods.now) result }
+    ensures deep { IsDepth (methods_of methods.now) result }
+    ensures anew { length methods.now ≡ 0 → result ≡ 0 }
 {
     if methods.is_empty() { 0 } else { depth }
 }
