@@ -1,7 +1,11 @@
 -- Inside the crate: what is kept of the methods that a unit's messages call: for each message how
 -- many they are, and their ids.
-use Rattle.std.specs.Prelude.{◌≡◌, ℕ, ◌≤◌, List, [], ◌∷◌, length, map, take, drop}
+use Rattle.std.specs.Prelude.{◌≡◌, ℕ, ◌≤◌, List, [], ◌∷◌, length, map, take, drop, Some, All}
+use Rattle.std.specs.Prelude.{IsTrue}
 use Rattle.osc_pattern.specs.Methods.{Method}
+use Rattle.osc_pattern.specs.Patterns.{is_pattern}
+use Rattle.osc_tree.specs.Registry.{Registry, address_by_id}
+use Rattle.osc_tree.specs.Matching.{matching, matching_ids}
 use Rattle.osc_model.specs.Calls.{call_by}
 use Rattle.osc_model.specs.Step.{calls_of}
 
@@ -33,3 +37,14 @@ abbrev pub AreFound : List Method → List (List ℕ) → List ℕ → Type 0
 AreFound methods [] kept = Unit {0}
 AreFound methods (message ∷ messages) kept =
     BeginsFound methods message kept × AreFound methods messages (after_found kept)
+
+-- the ids are those of the methods that a pattern matches
+pub record AreOf (tree : Registry) (pattern ids : List ℕ) : Type 0 where
+  pub are : ids ≡ matching_ids pattern tree.methods
+  pub few : length ids ≤ tree.method_limit
+  pub named : All (λ method. address_by_id tree.methods method.id ≡ Some method.address)
+      (matching pattern tree.methods)
+
+-- the ids are those of the methods that the bytes match, where these are a pattern
+abbrev pub StandFor : Registry → List ℕ → List ℕ → Type 0
+StandFor tree bytes ids = IsTrue (is_pattern bytes) → AreOf tree bytes ids

@@ -9,7 +9,7 @@ ghost use Rattle.osc_model.specs.Heard.{all_hear};
 ghost use Rattle.osc_model.specs.Step.{calls_of, calls_from, hits_of, invocations_of};
 ghost use Rattle.osc_core.specs.Calls.{invocation_by, invoked_ids};
 ghost use Rattle.osc_core.specs.Found.{AreFound, BeginsFound, CountsFound, first_found};
-ghost use Rattle.osc_core.specs.Found.{after_found};
+ghost use Rattle.osc_core.specs.Found.{after_found, AreOf, StandFor};
 ghost use Rattle.osc_model.specs.Calls.{call_by};
 ghost use Rattle.osc_core.specs.Ids.{is_ascending};
 ghost use Rattle.osc_core.specs.Telling.{told};
@@ -21,6 +21,7 @@ use crate::shortage::shortage;
 use osc_atoms::Room;
 use osc_message::Message;
 use osc_method::{Call, Method as Called};
+use osc_pattern::Pattern;
 use osc_record::{Recorder, release_size};
 use osc_tree::{Hits, Tree};
 
@@ -115,8 +116,10 @@ fn count_calls(tree: &Tree, hits: &mut Hits, kept: &mut Vec<u32>, messages: Mess
     kept.clear();
     let mut count = 0;
     let mut is_whole = true;
+    let mut last: &[u8] = &[];
     for message in messages {
-        let found = count_hits(tree, hits, &message);
+        let (found, pattern) = count_next(tree, hits, last, &message);
+        last = pattern;
         is_whole = keep(is_whole, &hits.ids()[..found], kept);
         count += found as u64;
     }
@@ -171,6 +174,55 @@ fn count_hits(tree: &Tree, hits: &mut Hits, message: &Message<'_>) -> usize
     hits.ids().len()
 }
 
+/// How many calls the next message of a unit makes, and the pattern by which its methods were found. Where that
+/// is `last`, they were found for a message before.
+#[inline(always)]
+fn count_next<'a>(
+    tree: &Tree,
+    hits: &mut Hits,
+    last: &'a [u8],
+    message: &Message<'a>,
+) -> (usize, &'a [u8])
+    requires limit { tree.now.method_limit ≤ hits.old.limit }
+    requires stand { StandFor tree.now last.now hits.old.ids }
+    ensures count { result.0 ≡ length (invoked_ids tree.now.methods message.now) }
+    ensures calls { (index : ℕ)
+        → map (call_by tree.now.methods index message.now) (take result.0 hits.new.ids)
+        ≡ calls_of tree.now.methods index message.now }
+    ensures within { result.0 ≤ length hits.new.ids }
+    ensures few { result.0 ≤ tree.now.method_limit }
+    ensures stand { StandFor tree.now result.1.now hits.new.ids }
+    ensures limit { hits.new.limit ≡ hits.old.limit }
+{
+    if message.unknown().is_some() {
+        return (0, last);
+    }
+    let pattern = message.pattern();
+    find_next(tree, hits, last, &pattern);
+    (hits.ids().len(), pattern.bytes())
+}
+
+/// Finds the methods that a pattern matches, where they aren't found yet.
+#[inline(always)]
+fn find_next(tree: &Tree, hits: &mut Hits, last: &[u8], pattern: &Pattern<'_>)
+    requires limit { tree.now.method_limit ≤ hits.old.limit }
+    requires stand { StandFor tree.now last.now hits.old.ids }
+    ensures found { AreOf tree.now pattern.now hits.new.ids }
+    ensures limit { hits.new.limit ≡ hits.old.limit }
+{
+    if pattern.bytes() == last {
+        return;
+    }
+    tree.find(pattern, hits);
+}
+
+/// What is kept of the messages that are left, and the pattern by which methods were found last.
+#[derive(Clone, Copy)]
+struct Left<'a> {
+    kept: &'a [u32],
+    last: &'a [u8],
+}
+
 /// Makes the calls of a unit's messages in order. Each is recorded, and then made.
 fn invoke_unit<M: Called>(
     tree: &Tree,
@@ -196,7 +248,7 @@ fn invoke_unit<M: Called>(
     ensures limit { hits.new.limit ≡ hits.old.limit }
 {
     let mut index = 0;
-    let mut left = kept;
+    let mut left = Left { kept, last: &[] };
     for message in messages {
         let call = Call {
             unit,
@@ -213,17 +265,19 @@ fn invoke_unit<M: Called>(
 fn invoke_message<'a, M: Called>(
     tree: &Tree,
     hits: &mut Hits,
-    kept: &'a [u32],
-    call: &Call<'_>,
+    left: Left<'a>,
+    call: &Call<'a>,
     recorder: &mut Recorder,
     boxes: &mut Vec<(u32, M)>,
-) -> &'a [u32]
+) -> Left<'a>
     requires limit { tree.now.method_limit ≤ hits.old.limit }
-    requires found { BeginsFound tree.now.methods call.now.message kept.now }
+    requires found { BeginsFound tree.now.methods call.now.message left.kept.now }
+    requires stand { StandFor tree.now left.last.now hits.old.ids }
     requires owed { length (calls_of tree.now.methods call.now.index call.now.message)
         ≤ owed_by recorder.old }
     requires ascending { IsTrue (is_ascending (map (λ one. one.0) boxes.old.items)) }
-    ensures rest { result.now ≡ after_found kept.now }
+    ensures rest { result.kept.now ≡ after_found left.entry.kept.now }
+    ensures stand { StandFor tree.now result.last.now hits.new.ids }
     ensures recorder { recorder.new
         ≡ with_hits recorder.old
         (hits_of (calls_of tree.now.methods call.now.index call.now.message)) }
@@ -235,27 +289,36 @@ fn invoke_message<'a, M: Called>(
     ensures capacity { vec_capacity boxes.old ≤ vec_capacity boxes.new }
     ensures limit { hits.new.limit ≡ hits.old.limit }
 {
-    if kept.is_empty() {
-        find_and_invoke(tree, hits, call, recorder, boxes);
-        return kept;
+    if left.kept.is_empty() {
+        let last = find_and_invoke(tree, hits, left.last, call, recorder, boxes);
+        return Left {
+            kept: left.kept,
+            last,
+        };
     }
-    let (ids, rest) = split_found(kept);
+    let (ids, rest) = split_found(left.kept);
     invoke_ids(ids, call, recorder, boxes);
-    rest
+    Left {
+        kept: rest,
+        last: left.last,
+    }
 }
 
-/// Makes the calls of one message, whose methods are found.
-fn find_and_invoke<M: Called>(
+/// Makes the calls of one message, whose methods are found, and hands back the pattern by which they were.
+fn find_and_invoke<'a, M: Called>(
     tree: &Tree,
     hits: &mut Hits,
-    call: &Call<'_>,
+    last: &'a [u8],
+    call: &Call<'a>,
     recorder: &mut Recorder,
     boxes: &mut Vec<(u32, M)>,
-)
+) -> &'a [u8]
     requires limit { tree.now.method_limit ≤ hits.old.limit }
+    requires stand { StandFor tree.now last.now hits.old.ids }
     requires owed { length (calls_of tree.now.methods call.now.index call.now.message)
         ≤ owed_by recorder.old }
     requires ascending { IsTrue (is_ascending (map (λ one. one.0) boxes.old.items)) }
+    ensures stand { StandFor tree.now result.now hits.new.ids }
     ensures recorder { recorder.new
         ≡ with_hits recorder.old
         (hits_of (calls_of tree.now.methods call.now.index call.now.message)) }
@@ -267,8 +330,9 @@ fn find_and_invoke<M: Called>(
     ensures capacity { vec_capacity boxes.old ≤ vec_capacity boxes.new }
     ensures limit { hits.new.limit ≡ hits.old.limit }
 {
-    let count = count_hits(tree, hits, &call.message);
+    let (count, pattern) = count_next(tree, hits, last, &call.message);
     invoke_ids(&hits.ids()[..count], call, recorder, boxes);
+    pattern
 }
 
 /// The ids of the first message's methods, and what is kept of the others.

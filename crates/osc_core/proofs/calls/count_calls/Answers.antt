@@ -20,6 +20,7 @@ loop-message-init c =
       found = subst (AreFound methods messages) (sym cleared) (nothing_found methods messages);
       further = λ _ more found. subst (λ (l : List ℕ). AreFound methods messages (l ++ more)) (sym cleared)
           (subst (λ (l : List (List ℕ)). AreFound methods l more) all found);
+      stand = λ e. absurd (cc);
       limit = refl;
     }
 
@@ -27,10 +28,10 @@ pub loop-message-preserved : goal.loop-message-preserved
 loop-message-preserved c =
     let methods = c.args.tree.now.methods in
     let message = c.in-Some.message in
-    let many = c.count_hits-found.result in
+    let many = c.count_next-found.result.0 in
     let ids = take many c.ids.result.now in
     let calls : (index : ℕ) → map (call_by methods index message) ids ≡ calls_of methods index message =
-    λ index. ap (λ (l : List ℕ). map (call_by methods index message) (take many l)) c.ids.ensures ∙ c.count_hits-found.ensures.calls index in
+    λ index. ap (λ (l : List ℕ). map (call_by methods index message) (take many l)) c.ids.ensures ∙ c.count_next-found.ensures.calls index in
     let on = kept_on methods message c.loop-message.message-iterator c.next.new.self c.in-Some.ensures.steps c.args.messages ids c.loop-message.kept.items
     c.keep-is_whole.new.kept.items c.loop-message.is_whole c.keep-is_whole.result calls c.loop-message.invariant.found c.loop-message.invariant.further
     c.keep-is_whole.ensures in
@@ -38,9 +39,10 @@ loop-message-preserved c =
       can = tt;
       finite = tt;
       counted = unit_counted methods 0 message c.loop-message.message-iterator c.next.new.self c.in-Some.ensures.steps
-          c.loop-message.count c.count_hits-found.result _ c.loop-message.invariant.counted c.count_hits-found.ensures.count;
-      small = omega (arith, ap length c.in-Some.ensures.steps, c.count_hits-found.ensures.few, c.requires.few_methods, c.loop-message.invariant.small);
+          c.loop-message.count c.count_next-found.result.0 _ c.loop-message.invariant.counted c.count_next-found.ensures.count;
+      small = omega (arith, ap length c.in-Some.ensures.steps, c.count_next-found.ensures.few, c.requires.few_methods, c.loop-message.invariant.small);
       found = on.0;
       further = on.1;
-      limit = c.count_hits-found.ensures.limit ∙ c.loop-message.invariant.limit;
+      stand = c.count_next-found.ensures.stand;
+      limit = c.count_next-found.ensures.limit ∙ c.loop-message.invariant.limit;
     }

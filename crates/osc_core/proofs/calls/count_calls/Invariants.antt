@@ -1,6 +1,6 @@
 use Rattle.std.proofs.Common.{◌≡◌, ℕ, ◌+◌, ◌*◌, ◌≤◌, ◌++◌, true, List, length}
 use Rattle.osc_model.specs.Step.{calls_from}
-use Rattle.osc_core.specs.Found.{AreFound}
+use Rattle.osc_core.specs.Found.{AreFound, StandFor}
 use Rattle.osc_core.proofs.calls.count_calls.Given as goal
 
 -- the calls so far and those of the messages that are left are as many as all, and what is kept of the others may stand behind what is kept so far
@@ -13,5 +13,6 @@ invariant-loop-message l = record {
   found : AreFound l.tree.methods l.fn.messages l.kept.items;
   further : l.is_whole ≡ true → (more : List ℕ) → AreFound l.tree.methods l.message-iterator more
       → AreFound l.tree.methods l.fn.messages (l.kept.items ++ more);
+  stand : StandFor l.tree l.last l.hits.ids;
   limit : l.hits.limit ≡ l.initial.hits.limit;
 }

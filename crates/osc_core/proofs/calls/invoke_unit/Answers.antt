@@ -6,7 +6,7 @@ use Rattle.osc_core.proofs.calls.invoke_unit.Goals as goal
 
 pub invoke_message-left-requires-clause-found : goal.invoke_message-left-requires-clause-found
 invoke_message-left-requires-clause-found g c =
-    (first_and_rest c.args.tree.now.methods c.in-Some.message c.loop-message.message-iterator c.next.new.self c.in-Some.ensures.steps c.loop-message.left.now
+    (first_and_rest c.args.tree.now.methods c.in-Some.message c.loop-message.message-iterator c.next.new.self c.in-Some.ensures.steps c.loop-message.left.kept.now
     c.loop-message.invariant.found).0
 
 pub invoke_message-left-requires-clause-owed : goal.invoke_message-left-requires-clause-owed
@@ -28,7 +28,8 @@ loop-message-preserved g c =
       finite = tt;
       recorder = unit_put methods index c.in-Some.message left rest first old c.invoke_message-left.new.recorder put ∙ c.loop-message.invariant.recorder;
       found = subst (λ (l : List ℕ). AreFound methods rest l) (sym c.invoke_message-left.ensures.rest)
-          (first_and_rest methods c.in-Some.message left rest first c.loop-message.left.now c.loop-message.invariant.found).1;
+          (first_and_rest methods c.in-Some.message left rest first c.loop-message.left.kept.now c.loop-message.invariant.found).1;
+      stand = c.invoke_message-left.ensures.stand;
       owed = unit_owed methods index c.in-Some.message left rest first old c.invoke_message-left.new.recorder put c.loop-message.invariant.owed;
       boxes = unit_heard methods index c.in-Some.message left rest first c.args.unit _ _ c.invoke_message-left.ensures.boxes ∙ c.loop-message.invariant.boxes;
       ids = c.invoke_message-left.ensures.ids ∙ c.loop-message.invariant.ids;
