@@ -31,7 +31,8 @@ impl<'a> Model for Unread<'a> {
 
 impl<'a> Unread<'a> {
     ghost use Rattle.osc_model.specs.Limits.{max_recording};
-    ghost use Rattle.std.specs.Prelude.{◌≡◌, ◌≤◌, [], length, IfOk, IfErr, IfSome, IfNone, OnErr};
+    ghost use Rattle.std.specs.Prelude.{◌≡◌, ◌≤◌, ◌+◌, [], length, drop, IfOk, IfErr, IfSome};
+    ghost use Rattle.std.specs.Prelude.{IfNone, OnErr};
     ghost use Rattle.osc_record.specs.Left.{placed_of};
     ghost use Rattle.osc_record.specs.Reading.{HasNoHeader};
     ghost use Rattle.osc_record.specs.Unread.{HasHeader, Reads, HasNoNext};
@@ -58,6 +59,19 @@ impl<'a> Unread<'a> {
         ensures { result ≡ self.now.caps }
     {
         self.caps
+    }
+
+    /// Passes over so many bytes without reading them. What is read after them is as it is where they are whole entries.
+    pub fn pass(&mut self, count: u32)
+        requires { count ≤ length self.old.rest }
+        ensures { self.new ≡ record self.old {
+          at = self.old.at + count;
+          rest = drop count self.old.rest;
+        } }
+    {
+        let (_, rest) = self.rest.split_at(count as usize);
+        self.at += count;
+        self.rest = rest;
     }
 
     /// Reads the next entry. Packets and addresses may be any bytes that their arguments can hold.
