@@ -76,8 +76,7 @@ impl<M: Method> Live<M> {
                 Releasing::Released { calls: made, .. } => {
                     released += 1;
                     calls += u64::from(made);
-                    // Whoever waits for the turn gets it before the next release.
-                    thread::yield_now();
+                    offer_turn(released, made);
                 }
                 Releasing::NothingDue { next } => {
                     let end = PumpEnd::NothingDue { next };
@@ -104,5 +103,16 @@ impl<M: Method> Live<M> {
             }
         }
         unreachable!()
+    }
+}
+
+/// After so many releases of a pump, or after one with so many calls, whoever waits for the turn gets it before the next one.
+/// To yield takes as long as a release with one call.
+const OFFERED_AFTER: u32 = 8;
+
+/// Offers the turn to whoever waits for it, after the release with this number, which made so many calls.
+fn offer_turn(released: u32, calls: u32) {
+    if released % OFFERED_AFTER == 0 || calls >= OFFERED_AFTER {
+        thread::yield_now();
     }
 }
