@@ -23,6 +23,12 @@ call_text unit index id address message =
     ++ (spaced (tags_word (tags_of message))
     ++ flat_map (λ argument. spaced (argument_word argument)) (message_arguments message)))
 
+-- what the lines of all calls with a message end with
+abbrev pub call_end : List ℕ → List ℕ
+call_end message =
+    line (spaced (tags_word (tags_of message))
+    ++ flat_map (λ argument. spaced (argument_word argument)) (message_arguments message))
+
 -- the line of a fault of the packet in a line of a script
 abbrev pub fault_text : ℕ → Fault → List ℕ
 fault_text number fault =

@@ -11,7 +11,7 @@ pub mod laws;
 mod methods;
 mod text;
 
-pub use call::call_line;
+pub use call::{call_end, call_line, ended_call_line};
 pub use dump::{dump_line, header_line};
 pub use entry::entry_line;
 pub use fault::{fault_line, link_fault_line};
