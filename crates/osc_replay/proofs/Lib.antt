@@ -12,6 +12,7 @@ pub mod Tallies
 pub mod Unlawful
 pub mod Older
 pub mod Upgraded
+pub mod Roomier
 pub mod OldFormed
 pub mod OnePlace
 pub mod OneDisagreement

@@ -6,6 +6,7 @@ pub mod Dumping
 pub mod Formed
 pub mod Old
 pub mod Printed
+pub mod Room
 pub mod Upgrading
 -- Inside the crate.
 pub mod Calls

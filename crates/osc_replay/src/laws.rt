@@ -1,8 +1,11 @@
-//! What a printed history says, and that old recordings are formed, and that one place at most is told. These functions do nothing; their contracts are the
-//! laws.
-ghost use Rattle.std.specs.Prelude.{◌≡◌, ℕ, List};
-ghost use Rattle.osc_model.specs.Limits.{Limits};
-ghost use Rattle.osc_model.specs.Events.{Entry};
+//! What a printed history says, and that it says the same where the recording may be larger, and that old recordings are formed, and that one place at
+//! most is told. These functions do nothing; their contracts are the laws.
+ghost use Rattle.std.specs.Prelude.{◌≡◌, ◌≤◌, ℕ, List, [], ◌∷◌};
+ghost use Rattle.osc_model.specs.declared.late.Late.TheVariants.{Deliver};
+ghost use Rattle.osc_model.specs.Limits.{Limits, limits_of, max_recording};
+ghost use Rattle.osc_model.specs.Events.{Entry, enrol, callers_full};
+ghost use Rattle.osc_model.specs.History.{Legal};
+ghost use Rattle.osc_replay.specs.Room.{PrintsTheSameIn};
 ghost use Rattle.osc_replay.specs.Printed.{PrintsEntry};
 ghost use Rattle.osc_model.specs.Recordings.{record_text};
 ghost use Rattle.osc_replay.specs.Disagreeing.{DisagreesAt, IsRecordingOf};
@@ -17,6 +20,18 @@ pub fn printed_calls_are_of_matching_methods()
 {
     osc_model::laws::invocations_are_of_registered_methods();
 }
+
+/// A legal history is legal too where its recording may have more bytes, and prints the same lines, those of what was
+/// refused among them. So what is printed of a history that goes on from it begins with these lines. It isn't so with more
+/// of anything else: a caller for whom there was no place has one where there may be two.
+pub fn a_larger_recording_prints_the_same()
+    ensures same { (room : ℕ) (caps : Limits) (history : List Entry) → caps.recording ≤ room
+        → room ≤ max_recording → Legal caps history → PrintsTheSameIn room caps history }
+    ensures one_caller { Legal (limits_of 1 1 1 1 1 1000 Deliver)
+        (record { caller = 0; event = enrol; answer = callers_full } ∷ []) }
+    ensures two_callers { ¬ Legal (limits_of 1 1 1 1 2 1000 Deliver)
+        (record { caller = 0; event = enrol; answer = callers_full } ∷ []) }
+{}
 
 /// A history that a server of the first version gave is formed: its entries can be recorded in that version and fit the
 /// limit. So each recording of then can be upgraded, where it isn't too large as one of today.
