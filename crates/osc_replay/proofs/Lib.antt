@@ -6,6 +6,8 @@ pub mod Entering
 pub mod Reached
 pub mod Agreeing
 pub mod Replayed
+pub mod Further
+pub mod Passed
 pub mod Tallying
 pub mod Listed
 pub mod Tallies
@@ -13,6 +15,7 @@ pub mod Unlawful
 pub mod Older
 pub mod Upgraded
 pub mod Roomier
+pub mod Extended
 pub mod OldFormed
 pub mod OnePlace
 pub mod OneDisagreement

@@ -5,6 +5,7 @@ pub mod Disagreeing
 pub mod Dumping
 pub mod Formed
 pub mod Old
+pub mod Onward
 pub mod Printed
 pub mod Room
 pub mod Upgrading

@@ -78,7 +78,7 @@ pub fn check(alloc: Global, recording: &[u8]) -> Result<Checked, ReplayFault>
 }
 
 /// One more, if so.
-fn one_more(count: u32, more: bool) -> u32
+pub(crate) fn one_more(count: u32, more: bool) -> u32
     requires { count + 1 < 2 ^ 32 }
     ensures { result ≡ count + (if more then 1 else 0) }
 {

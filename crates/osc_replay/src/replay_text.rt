@@ -17,13 +17,13 @@ ghost use Rattle.osc_replay.specs.Playing.{IsReached, Goes, Differs};
 use crate::agreement::agree;
 use crate::calls::Calls;
 use crate::fault::ReplayFault;
-use crate::form::{first_malformed, next_row};
+use crate::onward::Replay;
 use crate::outcome::Outcome;
 use crate::row::Row;
 use crate::server::Server;
 use osc_atoms::Bytes;
 use osc_print::{Text, entry_line};
-use osc_record::{Answer, Entry, Unread, entry_bytes};
+use osc_record::{Answer, Entry, entry_bytes};
 use std::alloc::Global;
 
 /// The printed history of a recording (docs/FORMATS.md, "Printed text"), as a server with its limits plays it again.
@@ -40,26 +40,12 @@ pub fn replay(alloc: Global, recording: &[u8]) -> Result<Text, ReplayFault>
         → IsRecordingOf recording.now caps history
         → IsTextUnlessShort result (printed caps history) }
 {
-    osc_model::laws::a_legal_history_is_recordable();
-    let mut unread = Unread::open(recording)?;
-    let mut server = Server::open(alloc, unread.caps())?;
-    let mut calls = Calls::printed(alloc);
-    let mut text = Text::open(alloc);
-    let mut number = 0;
-    while let Some(row) = next_row(&mut unread)? {
-        if let Err(fault) = replay_row(alloc, &mut server, &mut calls, &mut text, number, row) {
-            if let Some(at) = first_malformed(unread) {
-                return Err(ReplayFault::Malformed { at });
-            }
-            return Err(fault);
-        }
-        number += 1;
-    }
-    Ok(text)
+    let replayed = Replay::open(alloc, recording)?;
+    Ok(replayed.into_text())
 }
 
 /// Plays the entry with a number, and prints it with its invocations.
-fn replay_row<'a>(
+pub(crate) fn replay_row<'a>(
     alloc: Global,
     server: &mut Server<'a>,
     calls: &mut Calls,

@@ -85,6 +85,7 @@ impl<'a> Server<'a> {
     ghost use Rattle.osc_model.specs.History.{IsLawful, IsSound, IsCounted};
     ghost use Rattle.osc_replay.specs.Events.{event_in};
     ghost use Rattle.osc_replay.specs.Playing.{IsReached, Decides, Does, Releases, ComesTo};
+    ghost use Rattle.osc_replay.specs.Room.{in_room};
 
     /// How many callers are enrolled.
     pub(crate) fn callers(&self) -> u32
@@ -112,6 +113,13 @@ impl<'a> Server<'a> {
             record_limit: caps.recording(),
             late: caps.late(),
         })
+    }
+
+    /// Lets the recording have so many bytes.
+    pub(crate) fn make_room(&mut self, room: u32)
+        ensures { self.new ≡ in_room room self.old }
+    {
+        self.record_limit = room;
     }
 
     /// The result of a caller's event. It is no entry where the caller isn't enrolled or the rules add none. A release
