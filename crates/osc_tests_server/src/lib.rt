@@ -15,6 +15,8 @@ mod host_round;
 #[cfg(test)]
 mod late;
 #[cfg(test)]
+mod light;
+#[cfg(test)]
 mod live_calls;
 #[cfg(test)]
 mod live_server;

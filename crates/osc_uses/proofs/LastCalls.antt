@@ -2,8 +2,8 @@
 use Rattle.std.proofs.Common.{◌≡◌, ℕ, zero, suc, List, [], ◌∷◌, map, drop, Option, Some, None, refl, sym, ap, ◌∙◌}
 use Rattle.std.specs.List.{slice_get}
 use Rattle.std.specs.Option.{MatchOption, option_map}
-use Rattle.osc_model.specs.Events.{release, released}
-use Rattle.osc_model.specs.History.{Performance, after, stepped_in, onward}
+use Rattle.osc_model.specs.Events.{release}
+use Rattle.osc_model.specs.History.{Performance, stepped_in, onward}
 use Rattle.osc_core.specs.declared.answers.Releasing.{Releasing}
 use Rattle.osc_core.specs.declared.answers.Releasing.TheVariants as releasing
 use Rattle.osc_core.specs.Answers.{OnReleased, TellsRelease}

@@ -9,3 +9,4 @@ pub mod Levels
 pub mod LiveCalls
 pub mod NotEarly
 pub mod Playing
+pub mod ServedTurns

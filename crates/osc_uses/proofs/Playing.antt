@@ -16,7 +16,8 @@ pub played_bytes : (before after : Performance) (packet bytes : List ℕ) → af
 played_bytes before after packet bytes is same =
     played_one before after (submit bytes) (is ∙ ap (λ (b : List ℕ). onward before 0 (submit b)) same)
 
-played_then : (before : Performance) (events more : List Event) → played (played before events) more ≡ played before (events ++ more)
+-- one list of events, and then another
+pub played_then : (before : Performance) (events more : List Event) → played (played before events) more ≡ played before (events ++ more)
 unfolding played
 played_then before [] more = λ i. played before more
 played_then before (event ∷ events) more = played_then (onward before 0 event) events more
