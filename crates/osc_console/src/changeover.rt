@@ -13,8 +13,12 @@ pub struct Changeover {
 }
 
 impl Changeover {
+    ghost use Rattle.std.specs.Prelude.{◌≡◌, ◌-◌, ◌^◌, nat_lt};
+
     /// At this size; never, where it is the greatest number.
-    pub fn at(size: u64) -> Changeover {
+    pub fn at(size: u64) -> Changeover
+        ensures { result.size ≡ size }
+    {
         Changeover {
             size,
             written: AtomicU64::new(0),
@@ -22,7 +26,9 @@ impl Changeover {
     }
 
     /// Whether the show goes on in a new recording at any size.
-    pub fn is_on(&self) -> bool {
+    pub fn is_on(&self) -> bool
+        ensures { result ≡ nat_lt self.now.size (2 ^ 64 - 1) }
+    {
         self.size < u64::MAX
     }
 

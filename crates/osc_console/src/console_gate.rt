@@ -11,8 +11,12 @@ pub struct ConsoleGate<'a> {
 }
 
 impl<'a> ConsoleGate<'a> {
+    ghost use Rattle.std.specs.Prelude.{◌≡◌};
+
     /// The k-th slot is the k-th link's.
-    pub fn new(rounds: &'a Rounds, slots: &'a [Slot]) -> ConsoleGate<'a> {
+    pub fn new(rounds: &'a Rounds, slots: &'a [Slot]) -> ConsoleGate<'a>
+        ensures { result.slots.now ≡ slots.now }
+    {
         ConsoleGate { rounds, slots }
     }
 }

@@ -1,6 +1,8 @@
 //! The trusted edge to the network: a link that binds a port of UDP, and keeps who has sent the
 //! last datagram.
-ghost use Rattle.std.specs.Prelude.{◌≡◌, ◌≤◌, length, IfOk, None};
+ghost use Rattle.std.specs.Prelude.{◌≡◌, ◌≤◌, length, max, IfOk, IfSome, IsNone, IsTrue, None};
+ghost use Rattle.std.specs.Net.Addr.{is_ipv6};
+ghost use Rattle.std.specs.Net.Socket.{socket_ip};
 
 use crate::{Changeover, Pace, Sender};
 use osc_edge::{Datagram, Link};
@@ -98,7 +100,10 @@ impl<'a> HeardLink<'a> {
 
 /// How many milliseconds a call waits: as the pace says, but not for long where the recording is
 /// soon changed over.
-pub(crate) fn wait_for(pace: &Pace, changeover: &Changeover) -> u32 {
+pub(crate) fn wait_for(pace: &Pace, changeover: &Changeover) -> u32
+    ensures least { 1 ≤ result }
+    ensures most { result ≤ max pace.now.longest 1 }
+{
     let wait = pace.wait().max(1);
     if changeover.is_near() {
         wait.min(SHORT_WAIT)
@@ -108,7 +113,10 @@ pub(crate) fn wait_for(pace: &Pace, changeover: &Changeover) -> u32 {
 }
 
 /// The address, where it is one of four bytes.
-fn of_four(sender: SocketAddr) -> Option<SocketAddrV4> {
+fn of_four(sender: SocketAddr) -> Option<SocketAddrV4>
+    ensures four { IfSome result (λ four. sender ≡ SocketAddr.V4 four) }
+    ensures none { IsNone result → IsTrue (is_ipv6 (socket_ip sender)) }
+{
     match sender {
         SocketAddr::V4(sender) => Some(sender),
         SocketAddr::V6(_) => None,
@@ -124,7 +132,9 @@ pub(crate) fn is_quiet(error: &io::Error) -> bool {
 }
 
 impl Sender for HeardLink<'_> {
-    fn sender(&self) -> Option<SocketAddrV4> {
+    fn sender(&self) -> Option<SocketAddrV4>
+        ensures { result ≡ self.now.sender }
+    {
         self.sender
     }
 }

@@ -1,5 +1,5 @@
 //! The lines that a link shows.
-ghost use Rattle.std.specs.Prelude.{◌≡◌, ◌++◌, [], IsOk, OnOk, None};
+ghost use Rattle.std.specs.Prelude.{◌≡◌, ◌++◌, [], IsOk, OnOk, None, option_and_then, unwrap_or};
 ghost use Rattle.osc_ends.specs.Sinks.{sink_change, GainsAll};
 ghost use Rattle.osc_console.specs.Showing.{unshown_text, IsDayOrNone};
 
@@ -177,7 +177,9 @@ impl<'a> Lines<'a> {
 }
 
 /// The moment of the first line: of the datagram, or of the round in which units were called.
-fn moment_of(came: Option<Came<'_>>, round: u64) -> u64 {
+fn moment_of(came: Option<Came<'_>>, round: u64) -> u64
+    ensures { result ≡ unwrap_or (option_and_then (λ one. one.arrival.moment) came.entry) round }
+{
     match came {
         Some(came) => came.arrival.moment.unwrap_or(round),
         None => round,

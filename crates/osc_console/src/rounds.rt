@@ -1,4 +1,6 @@
 //! What the ticker and the links tell each other of its rounds.
+ghost use Rattle.std.specs.Prelude.{◌≡◌, ◌%◌, ◌^◌};
+
 use std::sync::Wait;
 use std::sync::atomic::{AtomicU64, Ordering};
 use std::thread::Parker;
@@ -77,6 +79,8 @@ impl Rounds {
 }
 
 /// The lower 32 bits, by which a thread sees whether the word has changed.
-fn low_word(word: u64) -> u32 {
+fn low_word(word: u64) -> u32
+    ensures { result ≡ word % 2 ^ 32 }
+{
     (word & u64::from(u32::MAX)) as u32
 }

@@ -1,4 +1,6 @@
 //! Who has sent what a link gave last.
+ghost use Rattle.std.specs.Prelude.{◌≡◌, None};
+
 use osc_edge::Source;
 use osc_stream::StreamLink;
 use std::net::SocketAddrV4;
@@ -10,7 +12,9 @@ pub trait Sender {
 
 /// A stream doesn't tell who is at its other end.
 impl<S: Source> Sender for StreamLink<S> {
-    fn sender(&self) -> Option<SocketAddrV4> {
+    fn sender(&self) -> Option<SocketAddrV4>
+        ensures { result ≡ None }
+    {
         None
     }
 }

@@ -1,5 +1,5 @@
 //! The trusted edge to the time: the system's clock, with waits that a datagram ends.
-ghost use Rattle.std.specs.Prelude.{◌≡◌, None};
+ghost use Rattle.std.specs.Prelude.{◌≡◌, ◌/◌, None};
 ghost use Rattle.osc_console.specs.Waits.{wait_nanos, span_nanos};
 
 use crate::{Changeover, Rounds};
@@ -109,6 +109,8 @@ pub(crate) fn nanos_between(now: u64, next: u64) -> u64
 }
 
 /// How many whole milliseconds it is from one moment to another; none where it isn't later.
-pub(crate) fn millis_between(now: u64, next: u64) -> u64 {
+pub(crate) fn millis_between(now: u64, next: u64) -> u64
+    ensures { result ≡ span_nanos now next / 1_000_000 }
+{
     nanos_between(now, next) / 1_000_000
 }
