@@ -1,8 +1,9 @@
 //! The trusted edge to the network: a link that binds a port of UDP, and keeps who has sent the
 //! last datagram.
-ghost use Rattle.std.specs.Prelude.{◌≡◌, ◌≤◌, length, max, IfOk, IfSome, IsNone, IsTrue, None};
+ghost use Rattle.std.specs.Prelude.{◌≡◌, ◌≤◌, ◌↔◌, ◌⊎◌, length, max, IfOk, IfSome, IsNone, IsTrue, None};
 ghost use Rattle.std.specs.Net.Addr.{is_ipv6};
 ghost use Rattle.std.specs.Net.Socket.{socket_ip};
+ghost use Rattle.std.specs.IoError.{error_kind};
 
 use crate::{Changeover, Pace, Sender};
 use osc_edge::{Datagram, Link};
@@ -52,6 +53,7 @@ impl<'a> HeardLink<'a> {
         ensures left { ⟦<HeardLink<'a> as Link>⟧.left result ≡ None }
         ensures faults { ⟦<HeardLink<'a> as Link>⟧.faults result ≡ 0 }
         ensures quiets { ⟦<HeardLink<'a> as Link>⟧.quiets result ≡ 0 }
+        ensures port { result.port ≡ port }
     {
         HeardLink {
             rt: *rt,
@@ -124,7 +126,11 @@ fn of_four(sender: SocketAddr) -> Option<SocketAddrV4>
 }
 
 /// Whether the error says that nothing came in time.
-pub(crate) fn is_quiet(error: &io::Error) -> bool {
+pub(crate) fn is_quiet(error: &io::Error) -> bool
+    ensures { IsTrue result ↔ ((error_kind error.now ≡ ErrorKind.WouldBlock)
+        ⊎ ((error_kind error.now ≡ ErrorKind.TimedOut)
+        ⊎ (error_kind error.now ≡ ErrorKind.Interrupted))) }
+{
     matches!(
         error.kind(),
         ErrorKind::WouldBlock | ErrorKind::TimedOut | ErrorKind::Interrupted

@@ -57,6 +57,7 @@ impl<'a> HeardSource<'a> {
     ) -> Self
         ensures left { ⟦<HeardSource<'a> as Source>⟧.left result ≡ None }
         ensures faults { ⟦<HeardSource<'a> as Source>⟧.faults result ≡ 0 }
+        ensures port { result.port ≡ port }
     {
         HeardSource {
             rt: *rt,

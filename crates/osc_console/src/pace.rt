@@ -12,11 +12,12 @@ pub struct Pace {
 }
 
 impl Pace {
-    ghost use Rattle.std.specs.Prelude.{◌≡◌, ◌≤◌};
+    ghost use Rattle.std.specs.Prelude.{◌≡◌, ◌≤◌, true, false};
 
     /// Waits of at most so long.
     pub fn new(longest: u32) -> Pace
-        ensures { result.longest ≡ longest }
+        ensures longest { result.longest ≡ longest }
+        ensures steady { result.is_steady ≡ false }
     {
         Pace {
             longest,
@@ -27,7 +28,8 @@ impl Pace {
 
     /// Waits that are all so long.
     pub fn steady(wait: u32) -> Pace
-        ensures { result.longest ≡ wait }
+        ensures longest { result.longest ≡ wait }
+        ensures steady { result.is_steady ≡ true }
     {
         Pace {
             longest: wait,

@@ -23,6 +23,7 @@ pub struct Rounds {
 }
 
 impl Rounds {
+    /// No round was played yet.
     pub fn new() -> Rounds {
         Rounds {
             ticker: Parker::new(),

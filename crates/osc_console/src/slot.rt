@@ -14,6 +14,7 @@ pub struct Slot {
 }
 
 impl Slot {
+    /// No answer was left yet.
     pub fn new() -> Slot {
         Slot {
             last: Mutex::new(None),

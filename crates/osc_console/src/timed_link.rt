@@ -55,6 +55,8 @@ impl<'a, L: Link, W: Wait> TimedLink<'a, L, W> {
         ensures left { ⟦<TimedLink<'a, L, W> as Link>⟧.left result ≡ L.left link }
         ensures faults { ⟦<TimedLink<'a, L, W> as Link>⟧.faults result ≡ L.faults link }
         ensures quiets { ⟦<TimedLink<'a, L, W> as Link>⟧.quiets result ≡ L.quiets link }
+        ensures moments { result.moments.items ≡ moments.items }
+        ensures asked { result.asked ≡ 0 }
     {
         TimedLink {
             rt: *rt,
