@@ -10,6 +10,7 @@ pub struct Losses {
 }
 
 impl Losses {
+    /// None was lost yet.
     pub fn new() -> Losses {
         Losses {
             all: AtomicU64::new(0),

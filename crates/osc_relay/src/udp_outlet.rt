@@ -36,6 +36,7 @@ impl UdpOutlet {
     pub fn to(rt: &HostRuntime, to: SocketAddrV4, losses: Arc<Losses, Global>) -> Self
         ensures sent { ⟦<UdpOutlet as Outlet>⟧.sent result ≡ None }
         ensures losses { ⟦<UdpOutlet as Outlet>⟧.losses result ≡ 0 }
+        ensures to { result.to ≡ to }
     {
         UdpOutlet {
             rt: *rt,
@@ -48,7 +49,8 @@ impl UdpOutlet {
 
     /// Sends once, from the port, which is bound where none is yet: how many bytes were sent.
     fn send_out(&mut self, datagram: &[u8]) -> io::Result<usize>
-        ensures { self.new.lost ≡ self.old.lost }
+        ensures lost { self.new.lost ≡ self.old.lost }
+        ensures to { self.new.to ≡ self.old.to }
     {
         let socket = match self.socket.take() {
             Some(socket) => socket,
