@@ -106,7 +106,7 @@ impl<M: Method> Live<M> {
     }
 }
 
-/// After so many releases of a pump, or after one with so many calls, whoever waits for the turn gets it before the next one.
+/// After so many releases of a pump, or after one with so many calls, the turn is offered to whoever waits for it.
 /// To yield takes as long as a release with one call.
 const OFFERED_AFTER: u32 = 8;
 

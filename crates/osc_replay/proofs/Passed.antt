@@ -1,5 +1,5 @@
 -- Entries of a recording that are passed over.
-use Rattle.std.proofs.Common.{◌≡◌, ℕ, ◌+◌, ◌-◌, ◌≤◌, List, [], ◌++◌, length, drop, refl, sym, ap, subst, ◌∙◌, arith, length-append, append_assoc, Option, Some}
+use Rattle.std.proofs.Common.{◌≡◌, ℕ, ◌+◌, ◌-◌, List, [], ◌++◌, length, drop, sym, ap, subst, ◌∙◌, arith, length-append, append_assoc, Option, Some}
 use Rattle.osc_model.specs.Limits.{Limits}
 use Rattle.osc_model.specs.Events.{Entry}
 use Rattle.osc_model.specs.Recordings.{record_text}
@@ -40,9 +40,9 @@ ahead_of bytes caps before since left end is =
     let front : record_text caps before ≡ head ++ texts before = record_split caps [] before in
     let whole : bytes ≡ record_text caps before ++ texts since = is.text ∙ record_split caps before since in
     let joined : head ++ left.rest ≡ head ++ (texts before ++ texts since) =
-        sym first.text ∙ whole ∙ ap (λ (l : List ℕ). l ++ texts since) front ∙ append_assoc head (texts before) (texts since) in
+    sym first.text ∙ whole ∙ ap (λ (l : List ℕ). l ++ texts since) front ∙ append_assoc head (texts before) (texts since) in
     let long : length (record_text caps before) ≡ left.at + length (texts before) =
-        omega (arith, ap length front, length-append head (texts before), first.place) in
+    omega (arith, ap length front, length-append head (texts before), first.place) in
     record {
       caps_are = same;
       rest_is = sym (drop_front head left.rest) ∙ ap (drop (length head)) joined ∙ drop_front head (texts before ++ texts since);
@@ -59,8 +59,8 @@ passed bytes caps before since left new end count is counted caps_stay moved res
     let ahead = ahead_of bytes caps before since left end is in
     let size : count ≡ length (texts before) = omega (arith, counted, ahead.end_is) in
     let stays : new.rest ≡ texts since =
-        rest ∙ ap (drop count) ahead.rest_is ∙ ap (λ (n : ℕ). drop n (texts before ++ texts since)) size
-        ∙ drop_front (texts before) (texts since) in
+    rest ∙ ap (drop count) ahead.rest_is ∙ ap (λ (n : ℕ). drop n (texts before ++ texts since)) size
+    ∙ drop_front (texts before) (texts since) in
     record {
       caps_are = caps_stay ∙ ahead.caps_are;
       formed = is.begun;

@@ -1,5 +1,5 @@
-//! What a printed history says, and that it says the same where the recording may be larger, and that old recordings are formed, and that one place at
-//! most is told. These functions do nothing; their contracts are the laws.
+//! What a printed history says, and that it says the same where the recording may be larger. Old recordings are formed, and
+//! one malformed place at most is reported. These functions do nothing; their contracts are the laws.
 ghost use Rattle.std.specs.Prelude.{◌≡◌, ◌≤◌, ℕ, List, [], ◌∷◌};
 ghost use Rattle.osc_model.specs.declared.late.Late.TheVariants.{Deliver};
 ghost use Rattle.osc_model.specs.Limits.{Limits, limits_of, max_recording};

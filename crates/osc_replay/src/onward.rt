@@ -98,7 +98,7 @@ impl<'a> Replay<'a> {
     }
 
     /// Goes on with a recording that begins with the entries of this one, and may have more bytes. The entries that were
-    /// played already aren't played again. The `Err` means out of memory.
+    /// played already aren't read, played or printed again. The `Err` means out of memory.
     pub fn go_on(self, alloc: Global, recording: &'a [u8]) -> Result<Replay<'a>, AllocError>
         requires { GoesOnFrom self recording.now }
         ensures { IfOk result (λ replay. replay ≡ recording.now) }

@@ -107,7 +107,7 @@ pub fn open_light(alloc: Global, caps: Caps, address: Address) -> Result<Core<Li
     Ok(core)
 }
 
-/// Serves so many turns of the link, or until it has ended or failed, and tells its last answer. Each turn's datagram is
+/// Serves so many turns of the link, or until it has ended or failed, and answers what the link answered last. Each turn's datagram is
 /// submitted, if it is a packet, and what is due is released. Where the recording is full, nothing more is called. The
 /// `Err` means that there is no memory for a datagram.
 pub fn serve_light<L: Link, C: Clock>(

@@ -1,4 +1,4 @@
-//! Who publishes the list of methods, how it is closed, and whether a watcher knows all that it has read.
+//! The board, which publishes the list of methods: how it is closed, and whether a watcher knows all that it has read.
 ghost use Rattle.std.specs.Prelude.{◌≡◌, ◌++◌, drop, Some};
 ghost use Rattle.left_right.specs.Sides.{view};
 ghost use Rattle.osc_watch.specs.Rule.{head_of};

@@ -18,4 +18,10 @@ pass-requires c =
     )
 
 pub returns : goal.returns
-returns c bytes caps before since is = hole
+returns c bytes caps before since is =
+    let ahead = ahead_of bytes caps before since c.args.unread.now c.args.end is in
+    passed bytes caps before since c.args.unread.now c.pass.new.self c.args.end _ is
+    (omega (arith, ahead.end_is, is.header.at_is, is.small))
+    (ap (λ (r : Remaining). r.caps) c.pass.ensures)
+    (ap (λ (r : Remaining). r.at) c.pass.ensures)
+    (ap (λ (r : Remaining). r.rest) c.pass.ensures)
