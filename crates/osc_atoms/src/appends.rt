@@ -1,4 +1,4 @@
-// Atoms, appended to a vector.
+//! Atoms, appended to a vector.
 ghost use Rattle.osc_atoms.specs.declared.limits.TheConstants.{MAX_BYTES};
 ghost use Rattle.std.specs.Prelude.{◌≡◌, ◌+◌, ◌++◌, ◌≤◌, length, replicate, IsTrue, IsOk, OnOk};
 ghost use Rattle.std.specs.Prelude.{OnErr};

@@ -1,4 +1,4 @@
-// Blobs, read.
+//! Blobs, read.
 ghost use Rattle.osc_atoms.specs.declared.limits.TheConstants.{MAX_BYTES};
 ghost use Rattle.std.specs.Prelude.{◌≡◌, ◌+◌, ◌%◌, ◌<◌, ◌≤◌, ℕ, List, length, IfOk, IfErr, IsOkAnd};
 ghost use Rattle.std.specs.Prelude.{IsTrue, is_ok, Ok};

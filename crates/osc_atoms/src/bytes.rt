@@ -1,4 +1,4 @@
-// A list of bytes that contracts see as one value.
+//! A list of bytes that contracts see as one value.
 ghost use Rattle.std.specs.Prelude.{◌≡◌, IfOk};
 
 use std::alloc::{AllocError, Global};

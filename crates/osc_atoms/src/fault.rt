@@ -1,4 +1,4 @@
-// What is wrong with bytes that should be a packet, and where.
+//! What is wrong with bytes that should be a packet, and where.
 
 /// The first fault of bytes. `at` counts from the packet's first byte; docs/FORMATS.md has the order of the checks.
 #[derive(Clone, Copy, Debug, PartialEq, Eq)]

@@ -1,4 +1,4 @@
-// Words and time tags, read.
+//! Words and time tags, read.
 ghost use Rattle.osc_atoms.specs.declared.limits.TheConstants.{MAX_BYTES};
 ghost use Rattle.std.specs.Prelude.{◌≡◌, ◌+◌, ◌%◌, ◌<◌, ◌≤◌, ℕ, length, take, IfOk, IfErr, IsTrue};
 ghost use Rattle.std.specs.Prelude.{is_ok, Ok};

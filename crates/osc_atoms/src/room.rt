@@ -1,4 +1,4 @@
-// What a refusal for want of room tells.
+//! What a refusal for want of room tells.
 ghost use Rattle.std.specs.Prelude.{◌≡◌, ◌<◌};
 
 /// How much was needed and how much is free, in the unit of the call that refuses.

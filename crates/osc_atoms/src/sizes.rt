@@ -1,4 +1,4 @@
-// How many bytes atoms have.
+//! How many bytes atoms have.
 ghost use Rattle.std.specs.Prelude.{◌≡◌, ◌+◌, ◌<◌, ◌^◌};
 ghost use Rattle.osc_atoms.specs.Atoms as atoms;
 

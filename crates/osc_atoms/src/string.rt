@@ -1,4 +1,4 @@
-// Strings, read.
+//! Strings, read.
 ghost use Rattle.osc_atoms.specs.declared.limits.TheConstants.{MAX_BYTES};
 ghost use Rattle.std.specs.Prelude.{◌≡◌, ◌+◌, ◌%◌, ◌<◌, ◌≤◌, ℕ, List, length, position, IfOk};
 ghost use Rattle.std.specs.Prelude.{IfErr, IsOkAnd, IsTrue, is_ok, Ok, take};

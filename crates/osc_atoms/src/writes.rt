@@ -1,4 +1,4 @@
-// Atoms, written over bytes.
+//! Atoms, written over bytes.
 ghost use Rattle.osc_atoms.specs.declared.limits.TheConstants.{MAX_BYTES};
 ghost use Rattle.std.specs.Prelude.{◌≡◌, ◌+◌, ◌≤◌, length, IsTrue};
 ghost use Rattle.osc_atoms.specs.Atoms;

@@ -1,4 +1,4 @@
-// What is shown of what stands.
+//! What is shown of what stands.
 ghost use Rattle.std.specs.Prelude.{◌≡◌, length, map, take, IfOk, Some, None, option_map};
 ghost use Rattle.osc_board.specs.declared.board.TheConstants.{MOST_WAITS};
 ghost use Rattle.osc_board.specs.Boards as spec;

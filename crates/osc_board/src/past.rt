@@ -1,4 +1,4 @@
-// What the recordings before this one have shown.
+//! What the recordings before this one have shown.
 ghost use Rattle.std.specs.Prelude.{◌≡◌, option_map, bytes_eq};
 ghost use Rattle.osc_board.specs.Pasts as spec;
 

@@ -1,4 +1,4 @@
-// What is seen of a show by the entries of its recording.
+//! What is seen of a show by the entries of its recording.
 
 use crate::board::{counts_of, rows_of, waits_of};
 use crate::last::{Last, note_all};

@@ -1,4 +1,4 @@
-// What a call answers.
+//! What a call answers.
 
 /// What an event is answered: a number of `status`, and what it tells besides. What an answer
 /// doesn't tell is 0.

@@ -1,4 +1,4 @@
-// An argument in C.
+//! An argument in C.
 
 /// An argument: its tag, its number, and where its bytes stand in the message.
 #[repr(C)]

@@ -1,4 +1,4 @@
-// A call of a method in C.
+//! A call of a method in C.
 
 /// A call: the unit, the method's id, which message of the unit it is, and its size.
 #[repr(C)]

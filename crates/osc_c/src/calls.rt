@@ -1,4 +1,4 @@
-// Reading the calls of a release.
+//! Reading the calls of a release.
 ghost use Rattle.std.specs.Prelude.{◌≡◌};
 ghost use Rattle.osc_c.specs.Held.{played, NextOf};
 ghost use Rattle.osc_c.specs.Reading.{TellsNext, left_of};

@@ -1,4 +1,4 @@
-// When the next unit is due.
+//! When the next unit is due.
 ghost use Rattle.std.specs.Prelude.{◌≡◌};
 ghost use Rattle.osc_c.specs.Held.{played, TellsDue};
 

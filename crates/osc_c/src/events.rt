@@ -1,4 +1,4 @@
-// The calls that hand an event in.
+//! The calls that hand an event in.
 ghost use Rattle.osc_atoms.specs.declared.limits.TheConstants.{MAX_PACKET};
 ghost use Rattle.std.specs.Prelude.{◌≡◌, ◌<◌, Some, map};
 ghost use Rattle.osc_packet.specs.Reading.{packet_fault};
@@ -17,7 +17,6 @@ use crate::shown::{
 use crate::state::State;
 use crate::status;
 use osc_core::Releasing;
-use osc_model::laws::a_server_stays_sound;
 use osc_packet::{MAX_PACKET, Packet};
 use std::alloc::Global;
 
@@ -271,7 +270,7 @@ fn release_in(state: &mut State, caller: u32) -> Answer
     ensures unread { left_of state.new
         ≡ map call_of (stepped_in state.old.core.performance release).invocations }
 {
-    a_server_stays_sound();
+    osc_model::laws::a_server_stays_sound();
     // The history is legal, as the recording tells.
     let _ = state.core.bytes();
     let releasing = state.core.release(caller);

@@ -1,4 +1,4 @@
-// The handle of C.
+//! The handle of C.
 ghost use Rattle.std.specs.Option.{option_map};
 ghost use Rattle.std.specs.Prelude.{◌≡◌, None, Some, is_some};
 

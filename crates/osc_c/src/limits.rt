@@ -1,4 +1,4 @@
-// The limits of a server in C.
+//! The limits of a server in C.
 
 /// A server's limits.
 #[repr(C)]

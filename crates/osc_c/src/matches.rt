@@ -1,4 +1,4 @@
-// Matching without a server.
+//! Matching without a server.
 ghost use Rattle.osc_pattern.specs.declared.limits.TheConstants.{MAX_PATTERN};
 ghost use Rattle.std.specs.Prelude.{◌≡◌, ◌≢◌, ◌<◌, ◌≤◌, IsTrue, length};
 ghost use Rattle.osc_pattern.specs.Addresses.{is_address};

@@ -1,4 +1,4 @@
-// Reading a message.
+//! Reading a message.
 ghost use Rattle.osc_atoms.specs.declared.limits.TheConstants.{MAX_PACKET};
 ghost use Rattle.std.specs.Prelude.{◌≡◌, ◌+◌, ◌≤◌, ◌<◌, ◌^◌, length, option_map};
 ghost use Rattle.std.specs.List.{flat_map};
@@ -15,7 +15,6 @@ use crate::answer::Answer;
 use crate::argument::Argument;
 use crate::shown::{counted, fault_shown};
 use osc_atoms::string_size;
-use osc_message::laws::written_is_read_again;
 use osc_message::{Arg, Args, Message, argument_size};
 use osc_packet::MAX_PACKET;
 
@@ -26,7 +25,7 @@ pub extern "C" fn osc_message_read(bytes: &[u8], arguments: &mut [Argument]) -> 
     ensures { ReadsMessage (message_fault MAX_PACKET bytes.now) bytes.now result arguments.old
         arguments.new }
 {
-    written_is_read_again();
+    osc_message::laws::written_is_read_again();
     match Message::check(bytes, MAX_PACKET) {
         Ok(message) => counted(fill(message.args(), first_place(&message), arguments)),
         Err(fault) => fault_shown(fault),

@@ -1,4 +1,4 @@
-// Adding and removing methods.
+//! Adding and removing methods.
 ghost use Rattle.std.specs.Prelude.{◌≡◌, ◌≢◌, ◌<◌, Some, None};
 ghost use Rattle.osc_pattern.specs.Addresses.{address_fault};
 ghost use Rattle.osc_model.specs.History.{state_of};

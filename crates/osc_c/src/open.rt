@@ -1,4 +1,4 @@
-// Opening and closing.
+//! Opening and closing.
 ghost use Rattle.std.specs.Prelude.{◌≡◌, ◌≢◌, Some, None, [], IfOk, IfErr};
 ghost use Rattle.osc_model.specs.Limits.{limit_fault};
 ghost use Rattle.osc_c.specs.Held.{played, left};

@@ -1,4 +1,4 @@
-// Calls without a server.
+//! Calls without a server.
 ghost use Rattle.osc_atoms.specs.declared.limits.TheConstants.{MAX_PACKET};
 ghost use Rattle.std.specs.Prelude.{◌≡◌};
 ghost use Rattle.osc_packet.specs.Reading.{packet_fault};

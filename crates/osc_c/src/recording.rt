@@ -1,4 +1,4 @@
-// Reading the recording.
+//! Reading the recording.
 ghost use Rattle.std.specs.Prelude.{◌≡◌, take, drop, length};
 ghost use Rattle.osc_c.specs.Arguments.{written_over};
 ghost use Rattle.osc_c.specs.Held.{played, recording_in};

@@ -1,4 +1,4 @@
-// A box as a pointer, or none: what a handle of C holds.
+//! A box as a pointer, or none: what a handle of C holds.
 ghost use Rattle.std.specs.Prelude.{◌≡◌, Some, None, IsSome};
 ghost use Rattle.std.specs.declared.option.Option.{Option};
 ghost use Rattle.osc_c.specs.declared.state.State.{State};

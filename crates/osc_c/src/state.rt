@@ -1,4 +1,4 @@
-// An open server with the calls of the unit that was released last.
+//! An open server with the calls of the unit that was released last.
 ghost use Rattle.std.specs.Prelude.{◌≡◌, ◌≤◌, length, IsTrue};
 ghost use Rattle.std.specs.List.{list_all};
 ghost use Rattle.osc_core.specs.Invoked.{last_calls};

@@ -1,4 +1,4 @@
-// The numbers that calls answer.
+//! The numbers that calls answer.
 
 pub const OK: u32 = 0;
 

@@ -1,4 +1,4 @@
-// Writing a message.
+//! Writing a message.
 ghost use Rattle.std.specs.Prelude.{◌≡◌, ◌≢◌, ◌<◌, ◌^◌, nat_lt, if◌then◌else◌, length, IsTrue};
 ghost use Rattle.std.specs.Prelude.{Some, None, option_map};
 ghost use Rattle.osc_message.specs.ArgumentReading.{word_argument, long_argument, text_argument};

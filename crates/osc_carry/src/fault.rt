@@ -1,4 +1,4 @@
-// Why a recording isn't carried on.
+//! Why a recording isn't carried on.
 ghost use Rattle.std.specs.Prelude.{◌≡◌};
 ghost use Rattle.osc_carry.specs.declared.fault.CarryFault.TheVariants.{NoMemory};
 ghost use Rattle.osc_carry.specs.Answers.{refused_as};

@@ -1,4 +1,4 @@
-// The script that carries a recording on.
+//! The script that carries a recording on.
 ghost use Rattle.osc_script.specs.declared.script.TheConstants.{MAX_SCRIPT};
 ghost use Rattle.std.specs.Prelude.{◌≡◌, ◌≤◌, ◌<◌, ◌++◌, ℕ, List, length, map, min};
 ghost use Rattle.std.specs.Prelude.{IfOk, IfErr, OnOk};

@@ -1,4 +1,4 @@
-// What a show ends with, and what comes after a part of it.
+//! What a show ends with, and what comes after a part of it.
 use crate::seam::SeamFault;
 use osc_relay::Outlet;
 use osc_stage::{Stage, Staged};

@@ -1,4 +1,4 @@
-// Where the recordings of a show go.
+//! Where the recordings of a show go.
 use osc_edge::Sink;
 use osc_stage::Ended;
 use std::alloc::AllocError;

@@ -1,4 +1,4 @@
-// How much room what is carried on takes.
+//! How much room what is carried on takes.
 ghost use Rattle.std.specs.Prelude.{◌≡◌, nat_le};
 ghost use Rattle.osc_chain.specs.Rooms.{carried_most};
 

@@ -1,4 +1,4 @@
-// From a stage to the next one, or why there is none.
+//! From a stage to the next one, or why there is none.
 use osc_relay::Outlet;
 use osc_stage::{Stage, Staged};
 

@@ -1,4 +1,4 @@
-// A show on one stage after another.
+//! A show on one stage after another.
 ghost use Rattle.std.specs.Prelude.{◌≡◌, ◌≤◌, ◌<◌, ◌+◌, length, IfOk, IfSome};
 ghost use Rattle.osc_lanes.specs.Performs.{part_of, IsWhole};
 ghost use Rattle.osc_links.specs.declared.limits.TheConstants.{MAX_LINKS};

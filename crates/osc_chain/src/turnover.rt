@@ -1,4 +1,4 @@
-// From a stage to the next one.
+//! From a stage to the next one.
 ghost use Rattle.std.specs.Prelude.{◌≡◌, List, map, Ok, IfOk};
 ghost use Rattle.osc_lanes.specs.Performs.{part_of, IsWhole};
 ghost use Rattle.osc_script.specs.declared.line.Line.{Line};

@@ -36,14 +36,8 @@ ghost use Rattle.osc_chain_laws.specs.Openings.{StandAt, IsPlain, BeginsWith};
 ghost use Rattle.osc_chain_laws.specs.Reels.{Reel, AreChained, PlaysAsOne, later_events, taken_by};
 ghost use Rattle.osc_chain_laws.specs.Shows.{Scene, IsCarriedScript, TurnsOver, IsShow, IsChain};
 
-use osc_alike::laws::alike_servers_stay_alike;
-use osc_carry::laws::{
-    a_carried_script_leads_there, a_chain_plays_as_one, a_history_is_carried_on, carrying_is_small,
-};
 use osc_edge::Link;
 use osc_method::Method;
-use osc_model::laws::{a_legal_history_is_recordable, a_server_stays_sound};
-use osc_record::laws::texts_differ;
 use osc_relay::{Outlet, Relay};
 
 /// An opening does what carries the old server on, in that order, where its relays stand at the
@@ -66,8 +60,8 @@ pub fn the_limits_are_room_enough()
         → carried_size (after (opening caps) history)
         ≤ 108 + 299 * caps.methods + 119 * caps.units + 64 * caps.blocks }
 {
-    a_server_stays_sound();
-    carrying_is_small();
+    osc_model::laws::a_server_stays_sound();
+    osc_carry::laws::carrying_is_small();
 }
 
 /// Lines that caller 0 plays on a new server before anybody else has an entry make of it what they
@@ -106,7 +100,7 @@ pub fn a_carried_stage_goes_on<O: Outlet, L: Link>()
         clock staged
         → Continues caps old room staged }
 {
-    a_history_is_carried_on();
+    osc_carry::laws::a_history_is_carried_on();
 }
 
 /// In a chain of recordings each but the first begins with what carries the one before it on. They
@@ -116,8 +110,8 @@ pub fn chained_recordings_play_as_one()
     ensures { (caps : Limits) (first : List Entry) (reels : List Reel) → Legal caps first
         → AreChained caps first reels → PlaysAsOne caps first reels }
 {
-    alike_servers_stay_alike();
-    a_chain_plays_as_one();
+    osc_alike::laws::alike_servers_stay_alike();
+    osc_carry::laws::a_chain_plays_as_one();
 }
 
 /// The stages of a show that turns over, each of which but the first carries the one before it on,
@@ -132,9 +126,9 @@ pub fn a_show_is_a_chain<O: Outlet, L: Link>()
         scenes
         → IsChain first scenes }
 {
-    a_history_is_carried_on();
-    a_legal_history_is_recordable();
-    texts_differ();
+    osc_carry::laws::a_history_is_carried_on();
+    osc_model::laws::a_legal_history_is_recordable();
+    osc_record::laws::texts_differ();
     chained_recordings_play_as_one();
 }
 
@@ -155,9 +149,9 @@ pub fn a_carried_script_turns_over<O: Outlet, L: Link>()
         + 64 * last.stage.caps.blocks ≤ next.stage.caps.recording
         → TurnsOver last next }
 {
-    a_legal_history_is_recordable();
-    texts_differ();
-    a_carried_script_leads_there();
+    osc_model::laws::a_legal_history_is_recordable();
+    osc_record::laws::texts_differ();
+    osc_carry::laws::a_carried_script_leads_there();
     the_limits_are_room_enough();
 }
 
@@ -180,9 +174,9 @@ pub fn a_stage_turns_over<O: Outlet, L: Link>()
         + 64 * last.stage.caps.blocks ≤ next.stage.caps.recording
         → TurnsOver last next }
 {
-    a_legal_history_is_recordable();
-    texts_differ();
-    a_carried_script_leads_there();
+    osc_model::laws::a_legal_history_is_recordable();
+    osc_record::laws::texts_differ();
+    osc_carry::laws::a_carried_script_leads_there();
     the_limits_are_room_enough();
 }
 
@@ -197,8 +191,8 @@ pub fn a_stage_has_one_history<O: Outlet, L: Link>()
         O.losses stage staged rec)
         → history_in (texts is.hosts.history) ≡ records.history }
 {
-    a_legal_history_is_recordable();
-    texts_differ();
+    osc_model::laws::a_legal_history_is_recordable();
+    osc_record::laws::texts_differ();
 }
 
 /// Two lines of three add methods. And a clock that is carried on goes on in a second recording: what

@@ -1,4 +1,4 @@
-//! What happened to each unit of a packet.
+// What happened to each unit of a packet.
 ghost use Rattle.std.specs.Prelude.{◌≡◌};
 ghost use Rattle.osc_console.specs.Answers.{answer_of, queued};
 

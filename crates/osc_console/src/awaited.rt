@@ -1,4 +1,4 @@
-//! A unit that waits for its time tag.
+// A unit that waits for its time tag.
 ghost use Rattle.std.specs.Prelude.{IfOk};
 ghost use Rattle.osc_console.specs.Agenda.{IsPackedUnit};
 

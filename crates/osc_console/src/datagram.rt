@@ -1,4 +1,4 @@
-//! The lines of a datagram's units.
+// The lines of a datagram's units.
 ghost use Rattle.std.specs.Prelude.{OnOk};
 ghost use Rattle.osc_console.specs.Datagrams.{AddsUnits};
 

@@ -28,12 +28,7 @@ use crate::kept::a_server_stands_for_more;
 use crate::performance::Performance;
 use crate::performance_laws::boxes_stay;
 use crate::release::LastRelease;
-use osc_laws::laws::every_history_keeps_the_laws;
 use osc_method::Method;
-use osc_model::laws::{
-    a_legal_history_is_recordable, a_performance_goes_on, a_server_stays_sound,
-    boxes_hear_the_history,
-};
 use osc_packet::Packet;
 use osc_pattern::Address;
 use osc_record::{Answer, Caps, Event};
@@ -86,7 +81,7 @@ impl<M: Method> Core<M> {
         ensures stands { IfOk result
             (λ core. StandsFor core.performance (told M.keep M.heard core.boxes.items) []) }
     {
-        boxes_hear_the_history();
+        osc_model::laws::boxes_hear_the_history();
         Ok(Core {
             performance: Performance::open(alloc, caps)?,
             boxes: Vec::with_capacity(alloc, caps.methods() as usize)?,
@@ -153,7 +148,7 @@ impl<M: Method> Core<M> {
         a_server_stands_for_more();
         // The address is lawful, as it tells.
         let _ = address.bytes();
-        boxes_hear_the_history();
+        osc_model::laws::boxes_hear_the_history();
         match self.performance.add(caller, address) {
             Ok(id) => {
                 keep_box(&mut self.boxes, id, method);
@@ -190,7 +185,7 @@ impl<M: Method> Core<M> {
         a_server_stands_for_more();
         // The address is lawful, as it tells.
         let _ = address.bytes();
-        boxes_hear_the_history();
+        osc_model::laws::boxes_hear_the_history();
         match self.performance.remove(caller, address) {
             Removing::Removed { id, .. } => Removing::Removed {
                 id,
@@ -233,8 +228,8 @@ impl<M: Method> Core<M> {
     {
         boxes_stay();
         a_server_stands_for_more();
-        boxes_hear_the_history();
-        a_legal_history_is_recordable();
+        osc_model::laws::boxes_hear_the_history();
+        osc_model::laws::a_legal_history_is_recordable();
         // The history is legal, as the recording tells.
         let _ = self.performance.bytes();
         let releasing = self
@@ -269,7 +264,7 @@ impl<M: Method> Core<M> {
         ensures value { result ≡ (state_of self.now.performance).callers }
         ensures some { 1 ≤ result }
     {
-        a_server_stays_sound();
+        osc_model::laws::a_server_stays_sound();
         self.performance.callers()
     }
 
@@ -343,7 +338,7 @@ impl<M: Method> Core<M> {
             ≡ map (λ method. method.id) (state_of self.performance).methods }
         ensures ascending { IsTrue (is_ascending (map (λ one. one.0) result.kept.items)) }
     {
-        every_history_keeps_the_laws();
+        osc_laws::laws::every_history_keeps_the_laws();
         let Core {
             performance,
             boxes,

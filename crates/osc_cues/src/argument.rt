@@ -1,4 +1,4 @@
-// Reads the words of arguments.
+//! Reads the words of arguments.
 ghost use Rattle.osc_atoms.specs.declared.limits.TheConstants.{MAX_BYTES};
 ghost use Rattle.osc_cues.specs.declared.limits.TheConstants.{MAX_SHEET};
 ghost use Rattle.std.specs.Prelude.{◌≡◌, ◌≤◌, ◌+◌, length, IsTrue, IfOk, IfSome, option_map, Ok};

@@ -1,4 +1,4 @@
-// Cues, and lists of them.
+//! Cues, and lists of them.
 use osc_atoms::Bytes;
 use std::alloc::{AllocError, Global};
 use std::marker::Model;

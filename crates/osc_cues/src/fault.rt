@@ -1,4 +1,4 @@
-// Why a word or a line isn't read.
+//! Why a word or a line isn't read.
 use std::alloc::AllocError;
 
 /// What is wrong with a line.

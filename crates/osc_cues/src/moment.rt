@@ -1,4 +1,4 @@
-// Reads the words of moments.
+//! Reads the words of moments.
 ghost use Rattle.std.specs.Prelude.{◌≡◌, ◌≤◌, ◌<◌, ◌^◌, ◌≤ℤ◌, IsTrue, IfOk, IfSome, ℤ, pos, neg_ℤ};
 ghost use Rattle.osc_cues.specs.Moments;
 ghost use Rattle.osc_cues.specs.Moments.{moment_at, after, kept, last_of, nanos_of, beat_moment};

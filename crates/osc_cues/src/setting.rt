@@ -1,4 +1,4 @@
-// What the moments of a sheet lean on.
+//! What the moments of a sheet lean on.
 use jiff_core::Offset;
 use jiff_core::civil::Date;
 

@@ -1,4 +1,4 @@
-// Sheets, read whole.
+//! Sheets, read whole.
 ghost use Rattle.osc_cues.specs.declared.limits.TheConstants.{MAX_SHEET};
 ghost use Rattle.std.specs.Prelude.{◌≡◌, ◌≤◌, IfOk, IfSome, None, length};
 ghost use Rattle.osc_cues.specs.Faults.{made};

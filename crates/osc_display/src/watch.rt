@@ -1,4 +1,4 @@
-//! What goes on while lanes play: a watcher reads the list again and again.
+// What goes on while lanes play: a watcher reads the list again and again.
 ghost use Rattle.std.specs.Prelude.{◌≡◌, IfOk};
 ghost use Rattle.osc_live.specs.Seen.{history_of};
 ghost use Rattle.osc_watch.specs.Refreshing.{HasReadPart};

@@ -1,4 +1,4 @@
-// A door, and the visitors that come by it.
+//! A door, and the visitors that come by it.
 ghost use Rattle.std.specs.Prelude.{◌≡◌, ℕ, List, Option};
 ghost use Rattle.osc_door.specs.Visitors.{IsSaidWithin, SaysFront, IsTookWithin, TakesFront};
 ghost use Rattle.osc_door.specs.Comers.{IsFreshComer};

@@ -1,4 +1,4 @@
-// A door in memory: at each call one visitor comes, with what it says.
+//! A door in memory: at each call one visitor comes, with what it says.
 ghost use Rattle.std.specs.Prelude.{◌≡◌, ◌≤◌, ◌+◌, ◌++◌, [], length, take, drop, Some, IfOk, OnErr};
 
 use crate::{Door, Knock, Said, Took, Visitor};

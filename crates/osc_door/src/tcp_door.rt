@@ -1,4 +1,4 @@
-// The trusted edge to the network: a door that listens at a port of TCP.
+//! The trusted edge to the network: a door that listens at a port of TCP.
 ghost use Rattle.std.specs.Prelude.{None};
 
 use crate::{Door, Knock, Said, Took, Visitor};

@@ -1,4 +1,4 @@
-// The picture of a sketch.
+//! The picture of a sketch.
 ghost use Rattle.std.specs.Prelude.{◌≡◌, IfOk};
 ghost use Rattle.osc_drawing.specs.Pictures.{IsPicture};
 

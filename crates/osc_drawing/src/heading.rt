@@ -1,4 +1,4 @@
-// What stands above a picture.
+//! What stands above a picture.
 ghost use Rattle.std.specs.Prelude.{◌≡◌, IfOk};
 ghost use Rattle.osc_drawing.specs.Headings as spec;
 

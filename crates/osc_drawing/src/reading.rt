@@ -1,4 +1,4 @@
-// The entries of a recording.
+//! The entries of a recording.
 ghost use Rattle.std.specs.Prelude.{◌≡◌, IfOk};
 ghost use Rattle.osc_drawing.specs.Readings.{HasReadAll};
 

@@ -1,4 +1,4 @@
-// What all entries of a recording make.
+//! What all entries of a recording make.
 ghost use Rattle.std.specs.Prelude.{◌≡◌};
 ghost use Rattle.osc_record.specs.Shown.{event_of, answer_of};
 ghost use Rattle.osc_drawing.specs.Pictures.{edge_of};

@@ -1,4 +1,4 @@
-// The title of a picture.
+//! The title of a picture.
 ghost use Rattle.std.specs.Prelude.{◌≡◌, ◌++◌, false, take, codes, OnOk, IfOk};
 ghost use Rattle.osc_shown.specs.Times.{time_text};
 ghost use Rattle.osc_drawing.specs.Headings.{IsTitle};

@@ -1,4 +1,4 @@
-// A clock that gives moments.
+//! A clock that gives moments.
 ghost use Rattle.std.specs.Prelude.{◌≡◌, ℕ, List, Option};
 ghost use Rattle.osc_edge.specs.Clock.{GivesMoment, HasMoments, HasClockCause};
 

@@ -1,4 +1,4 @@
-// The trusted edge to the command line: the words that a program is started with, of which nothing is told.
+//! The trusted edge to the command line: the words that a program is started with, of which nothing is told.
 use std::alloc::AllocError;
 use std::{env, io};
 

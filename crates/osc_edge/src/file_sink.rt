@@ -1,4 +1,4 @@
-// The trusted edge to files: a sink that makes its file, of whose bytes nothing is told.
+//! The trusted edge to files: a sink that makes its file, of whose bytes nothing is told.
 ghost use Rattle.std.specs.Prelude.{◌≡◌, ◌≢◌, ◌≤◌, length, IfOk, None};
 
 use crate::{Put, Sink};

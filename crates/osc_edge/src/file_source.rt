@@ -1,4 +1,4 @@
-// The trusted edge to files: a source that reads a file, of whose bytes nothing is told.
+//! The trusted edge to files: a source that reads a file, of whose bytes nothing is told.
 ghost use Rattle.std.specs.Prelude.{◌≡◌, ◌≤◌, length, IfOk, None};
 
 use crate::{Source, Taken};

@@ -1,4 +1,4 @@
-// A clock in memory that gives its moments in order, and fails at the calls in a list.
+//! A clock in memory that gives its moments in order, and fails at the calls in a list.
 ghost use Rattle.std.specs.Prelude.{◌≡◌, ◌<◌, length, drop, Some, vec_len};
 
 use crate::calls::Calls;

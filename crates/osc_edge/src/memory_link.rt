@@ -1,4 +1,4 @@
-// A link in memory that gives its turns in order, and fails at the calls in a list.
+//! A link in memory that gives its turns in order, and fails at the calls in a list.
 ghost use Rattle.std.specs.Prelude.{◌≡◌, ◌≤◌, length, take, drop, Some, All, vec_len};
 ghost use Rattle.osc_edge.specs.Link.{IsShortTurn};
 

@@ -1,4 +1,4 @@
-// A sink in memory that takes small pieces, and fails at the calls in a list.
+//! A sink in memory that takes small pieces, and fails at the calls in a list.
 ghost use Rattle.std.specs.Prelude.{◌≡◌, ℕ, min, length, take, ◌++◌, Some, []};
 
 use crate::calls::Calls;

@@ -1,4 +1,4 @@
-// A source in memory that gives small pieces, and fails at the calls in a list.
+//! A source in memory that gives small pieces, and fails at the calls in a list.
 ghost use Rattle.std.specs.Prelude.{◌≡◌, ◌≤◌, ℕ, min, length, take, drop, Some, vec_len};
 
 use crate::calls::Calls;

@@ -1,4 +1,4 @@
-// A sink of bytes.
+//! A sink of bytes.
 ghost use Rattle.std.specs.Prelude.{ℕ, List, Option};
 ghost use Rattle.osc_edge.specs.Sink.{IsTookWithin, AddsToEnd, HasWriteCause};
 

@@ -1,4 +1,4 @@
-// A source of bytes.
+//! A source of bytes.
 ghost use Rattle.std.specs.Prelude.{ℕ, List, Option};
 ghost use Rattle.osc_edge.specs.Source.{IsTakenWithin, TakesFront, HasReadCause};
 

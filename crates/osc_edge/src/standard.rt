@@ -1,4 +1,4 @@
-// The trusted edge: the standard input and output, of whose bytes nothing is told.
+//! The trusted edge: the standard input and output, of whose bytes nothing is told.
 ghost use Rattle.std.specs.Prelude.{◌≡◌, ◌≢◌, None};
 
 use crate::{Put, Sink, Source, Taken};

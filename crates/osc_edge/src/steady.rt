@@ -1,4 +1,4 @@
-// A source and a sink in memory that never fail.
+//! A source and a sink in memory that never fail.
 ghost use Rattle.std.specs.Prelude.{◌≡◌, ◌≤◌, ℕ, drop, min, length, Some, vec_len, []};
 
 use crate::memory_source::move_front;

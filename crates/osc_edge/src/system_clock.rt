@@ -1,4 +1,4 @@
-// The trusted edge to the time: the system's clock, of whose moments nothing is told.
+//! The trusted edge to the time: the system's clock, of whose moments nothing is told.
 ghost use Rattle.std.specs.Prelude.{◌≡◌, None};
 ghost use Rattle.std.specs.Duration.{as_nanos};
 ghost use Rattle.osc_edge.specs.Times.{time_tag};

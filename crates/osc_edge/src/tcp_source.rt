@@ -1,4 +1,4 @@
-// The trusted edge to the network: a source that reads one connection of TCP, of whose bytes nothing is told.
+//! The trusted edge to the network: a source that reads one connection of TCP, of whose bytes nothing is told.
 ghost use Rattle.std.specs.Prelude.{◌≡◌, ◌≤◌, length, IfOk, None};
 
 use crate::{Source, Taken};

@@ -1,4 +1,4 @@
-// The trusted edge to the network: a link that binds a port of UDP, of whose datagrams nothing is told.
+//! The trusted edge to the network: a link that binds a port of UDP, of whose datagrams nothing is told.
 ghost use Rattle.std.specs.Prelude.{◌≡◌, ◌≢◌, ◌≤◌, length, IfOk, None};
 
 use crate::{Datagram, Link};

@@ -1,4 +1,4 @@
-// The last lines of a program.
+//! The last lines of a program.
 ghost use Rattle.std.specs.Prelude.{◌≡◌, ◌++◌, OnOk};
 ghost use Rattle.osc_print.specs.Lines.{line};
 ghost use Rattle.osc_print.specs.Entries.{named, named_room};

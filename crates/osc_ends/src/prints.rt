@@ -42,8 +42,6 @@ use crate::status::{BANK_SHORT, CALLERS_FULL, DONE, NO_MEMORY, REFUSED, SINK_FAI
 use crate::whole::{Written, write_whole};
 use osc_atoms::Bytes;
 use osc_edge::Sink;
-use osc_laws::laws::every_history_keeps_the_laws;
-use osc_model::laws::a_legal_history_is_recordable;
 use osc_print::Text;
 use osc_record::MAX_RECORDING;
 use osc_replay::{DumpFault, ReplayFault, UpgradeFault, dump, replay, upgrade};
@@ -76,7 +74,7 @@ fn run_text(alloc: Global, recorded: &Recorded) -> Result<Text, AllocError>
         → IfOk result (λ text. text ≡ recorded_text caps history recorded.now.faults
         recorded.now.outcome) }
 {
-    a_legal_history_is_recordable();
+    osc_model::laws::a_legal_history_is_recordable();
     let mut text = match replay(alloc, &recorded.bytes) {
         Ok(text) => text,
         Err(ReplayFault::NoMemory) => return Err(AllocError),
@@ -94,7 +92,7 @@ pub fn write_replay<O: Sink>(alloc: Global, bytes: &[u8], out: &mut O) -> u8
     ensures replayed { (caps : Limits) (history : List Entry) → IsRecordingOf bytes.now caps history
         → (result ≡ DONE) ⊎ (result ≡ NO_MEMORY) ⊎ (result ≡ SINK_FAILED) }
 {
-    every_history_keeps_the_laws();
+    osc_laws::laws::every_history_keeps_the_laws();
     match replay(alloc, bytes) {
         Ok(text) => write_text(DONE, text.bytes(), out),
         Err(ReplayFault::Malformed { at }) => malformed(alloc, at, out),

@@ -1,5 +1,5 @@
-//! The entries at the front of bytes, each after its size, as a recording has them; its header is
-//! one of them.
+// The entries at the front of bytes, each after its size, as a recording has them; its header is
+// one of them.
 ghost use Rattle.std.specs.Prelude.{◌≡◌, ◌+◌, ◌<◌, ◌≤◌, ◌^◌, length, take, option_map, IfSome};
 ghost use Rattle.std.specs.Int.{w32, from_be_bytes};
 ghost use Rattle.osc_record.specs.Reading.{message_first};

@@ -17,7 +17,6 @@ use osc_ends::write_text;
 use osc_life::Progress;
 use osc_live::{Caller, Live};
 use osc_method::Method;
-use osc_model::laws::a_legal_history_is_recordable;
 use std::alloc::Global;
 use std::sync::Wait;
 
@@ -136,7 +135,7 @@ fn write_new<M: Method, W: Wait, R: Sink>(
         → HasGrown result.1 (sink_change R.held R.faults start rec.new)
         (recorded live.now.caps (view result.0.pass)) }
 {
-    a_legal_history_is_recordable();
+    osc_model::laws::a_legal_history_is_recordable();
     let Growth::Written(from) = growth else {
         return (caller, growth, false);
     };

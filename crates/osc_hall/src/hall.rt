@@ -1,4 +1,4 @@
-// The visitors that are there.
+//! The visitors that are there.
 
 use crate::guest::Guest;
 use crate::limits::{COMERS, GUESTS};

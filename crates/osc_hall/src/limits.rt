@@ -1,4 +1,4 @@
-// Limits of this crate.
+//! Limits of this crate.
 
 /// How many visitors there are at a time.
 pub const GUESTS: usize = 32;

@@ -1,4 +1,4 @@
-//! Plays one line.
+// Plays one line.
 ghost use Rattle.std.specs.Prelude.{◌≡◌, ◌+◌, ◌≤◌, ◌++◌, length, IfOk, OnOk};
 ghost use Rattle.std.specs.Vec.Iter.{into_iter_items};
 ghost use Rattle.osc_core.specs.Answers.{handed_back, handed_out};

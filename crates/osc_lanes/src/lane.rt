@@ -1,4 +1,4 @@
-//! A lane that is being played.
+// A lane that is being played.
 use crate::part::LaneTold;
 use std::vec::IntoIter;
 

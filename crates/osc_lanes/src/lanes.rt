@@ -11,7 +11,6 @@ use crate::worker::play_lane;
 use osc_life::{Gate, all_ended};
 use osc_live::Live;
 use osc_method::Method;
-use osc_model::laws::a_method_is_called_while_it_is_registered;
 use std::alloc::{AllocError, Global};
 use std::sync::Wait;
 use std::thread;
@@ -35,7 +34,7 @@ pub fn play<M: Method + Send, W: Threads + Wait + Sync, G: Gate + Sync>(
         (IsRemovedAt M.keep M.heard live.now.caps (seen_by end.caller)) end.removed.items)
         ends.items) }
 {
-    a_method_is_called_while_it_is_registered();
+    osc_model::laws::a_method_is_called_while_it_is_registered();
     let worker = |plan: LanePlan<M>| -> Result<LaneEnd<M>, AllocError>
         requires { IsOurs live.now plan.caller × IsReady plan }
         ensures { IfOk result

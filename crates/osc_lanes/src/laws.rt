@@ -22,7 +22,6 @@ ghost use Rattle.osc_life.specs.Holders.{seen_by, holder_of};
 ghost use Rattle.osc_lanes.specs.Ends.{told_in, IsReady, IsEndOf};
 
 use osc_method::Method;
-use osc_model::laws::a_method_is_called_while_it_is_registered;
 
 /// A lane's share is its share of every history that goes on with no further entry of its token,
 /// and the boxes that it removed have heard what such a history says.
@@ -37,7 +36,7 @@ pub fn a_lane_keeps_its_share<M: Method>()
         → Legal caps (history_in (texts history))
         → AllByRecursion (IsRemovedAt M.keep M.heard caps history) end.removed.items }
 {
-    a_method_is_called_while_it_is_registered();
+    osc_model::laws::a_method_is_called_while_it_is_registered();
 }
 
 /// A recording of as many bytes as `enough_for` says stops no lane, and refuses no enrolment.

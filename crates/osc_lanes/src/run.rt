@@ -27,7 +27,6 @@ use osc_core::Closed;
 use osc_life::{Gate, Life, Lived, Meanwhile, Nobody, Played, live_on};
 use osc_live::{Caller, Live};
 use osc_method::Method;
-use osc_model::laws::a_method_is_called_while_it_is_registered;
 use osc_record::Caps;
 use std::alloc::{AllocError, Global};
 use std::sync::Wait;
@@ -124,7 +123,7 @@ pub fn perform_beside<
         both.0.closed.kept.items (map told_of both.0.lanes.items)
         (option_map room_of both.0.unenrolled) on.old on.new both.1) }
 {
-    a_method_is_called_while_it_is_registered();
+    osc_model::laws::a_method_is_called_while_it_is_registered();
     let alloc = life.alloc();
     let works = number_parts(alloc, parts)?;
     let lived = live_on(rt, life, works, meanwhile, on, gate)?;

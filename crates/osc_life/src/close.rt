@@ -1,4 +1,4 @@
-//! How a server is closed.
+// How a server is closed.
 ghost use Rattle.std.specs.Prelude.{◌≡◌, ◌≤◌, ◌+◌, length, All, IfOk};
 ghost use Rattle.osc_core.specs.Telling.{told};
 ghost use Rattle.osc_turn.specs.declared.limits.TheConstants.{MAX_PASSES};

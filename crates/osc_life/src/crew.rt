@@ -17,7 +17,6 @@ ghost use Rattle.osc_record.specs.declared.limits.TheConstants.{MAX_CALLERS};
 
 use osc_live::{Caller, EnrolRefusal, Guest, Live};
 use osc_method::Method;
-use osc_model::laws::callers_are_counted;
 use std::alloc::{AllocError, Global};
 use std::sync::Wait;
 
@@ -52,7 +51,7 @@ pub(crate) fn enrol_more<M: Method, W: Wait>(
         (history_of (view first.pass)) count (view both.0.first.pass) both.0.callers.items
         both.1) }
 {
-    callers_are_counted();
+    osc_model::laws::callers_are_counted();
     let mut callers = Vec::with_capacity(alloc, count)?;
     for _ in 0..count {
         let (next, answer) = enrol_next(rt, live, first);

@@ -33,7 +33,6 @@ use osc_atoms::Room;
 use osc_core::Closed;
 use osc_live::{Caller, EnrolRefusal, Guest, Live};
 use osc_method::Method;
-use osc_model::laws::a_server_stays_sound;
 use std::alloc::{AllocError, Global};
 use std::sync::Wait;
 use std::thread::Threads;
@@ -68,7 +67,7 @@ pub fn live_on<
         (view life.first.pass) works.items on.old on.new lived.closed.bytes.items
         (told M.keep M.heard lived.closed.kept.items) lived.works lived.end) }
 {
-    a_server_stays_sound();
+    osc_model::laws::a_server_stays_sound();
     let Life {
         alloc,
         live,
@@ -146,7 +145,7 @@ pub fn live_under<
     ensures looked { IfOk result (λ both. HasLookedOn A.looks life.live.caps lent.old lent.new
         both.0.closed.bytes.items both.1) }
 {
-    a_server_stays_sound();
+    osc_model::laws::a_server_stays_sound();
     let Life {
         alloc,
         live,

@@ -1,4 +1,4 @@
-//! Workers that play at the same time, while something else goes on, and someone looks.
+// Workers that play at the same time, while something else goes on, and someone looks.
 ghost use Rattle.std.specs.Prelude.{IfOk};
 ghost use Rattle.osc_live.specs.Tokens.{IsOurs};
 ghost use Rattle.osc_life.specs.Looking.{IsBack, CanLook, CanStart, HasComeBack, HavePlayed};

@@ -1,4 +1,4 @@
-//! Works with their callers, and what goes on meanwhile with its own.
+// Works with their callers, and what goes on meanwhile with its own.
 ghost use Rattle.std.specs.Prelude.{◌≡◌, ◌+◌, ◌∷◌, ◌++◌, [], length, map, IfOk};
 ghost use Rattle.osc_life.specs.Works.{caller_of, work_of};
 

@@ -1,4 +1,4 @@
-//! A gate that reports to whoever looks that something was done.
+// A gate that reports to whoever looks that something was done.
 
 use crate::gate::Gate;
 use crate::progress::Progress;

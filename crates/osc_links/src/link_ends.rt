@@ -1,4 +1,4 @@
-//! The ends of links, put together.
+// The ends of links, put together.
 ghost use Rattle.std.specs.Prelude.{◌≡◌, ◌≤◌, ◌++◌, length, map, IfOk, OnOk, Some};
 ghost use Rattle.std.specs.Prelude.{None, if◌then◌else◌};
 ghost use Rattle.std.specs.Option.{option_map};

@@ -1,4 +1,4 @@
-//! The worker of one link.
+// The worker of one link.
 ghost use Rattle.std.specs.Prelude.{◌≡◌, ◌<◌, length, IfOk};
 ghost use Rattle.osc_edge.specs.declared.limits.TheConstants.{MAX_DATAGRAM};
 ghost use Rattle.osc_turn.specs.Passes.{view};

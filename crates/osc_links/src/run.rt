@@ -18,7 +18,6 @@ use osc_growing::{Growth, Writer, growth_of};
 use osc_lanes::{LanePart, LaneTold, LaneWork};
 use osc_life::{Gate, Life, Lived, Nobody, OpenGate, Played, Tasks, live_on, live_under};
 use osc_method::Method;
-use osc_model::laws::a_method_is_called_while_it_is_registered;
 use osc_record::Caps;
 use std::alloc::{AllocError, Global};
 use std::sync::Wait;
@@ -80,7 +79,7 @@ pub fn run_links<
     ensures grown { IfOk result (λ hosted. HasGrown hosted.growth
         (sink_change R.held R.faults rec.old rec.new) hosted.closed.bytes.items) }
 {
-    a_method_is_called_while_it_is_registered();
+    osc_model::laws::a_method_is_called_while_it_is_registered();
     // Limits are in their ranges, as each of them tells.
     let _ = host.caps.callers();
     let new = Life::open(alloc, host.caps)?;

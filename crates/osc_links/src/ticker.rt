@@ -1,4 +1,4 @@
-//! The ticker's rounds.
+// The ticker's rounds.
 ghost use Rattle.std.specs.Prelude.{◌≡◌, [], None};
 ghost use Rattle.std.specs.Option.{option_map};
 ghost use Rattle.osc_record.specs.Shown.{room_of};

@@ -14,7 +14,6 @@ use crate::guest::Guest;
 use crate::live::Live;
 use osc_core::Closed;
 use osc_method::Method;
-use osc_record::laws::headers_differ;
 use osc_turn::Pass;
 use std::alloc::Global;
 
@@ -78,7 +77,7 @@ impl<M: Method> Live<M> {
         ensures back_ours { IfErr result (λ out. AreOurs out self.caps) }
         ensures guests_back { IfErr result (λ out. guests_back out ≡ guests.items) }
     {
-        headers_differ();
+        osc_record::laws::headers_differ();
         let _ = self.caps.units();
         let handed = (callers.len() + guests.len()) as u32;
         let Ok(mut passes) = Vec::with_capacity(alloc, handed as usize) else {

@@ -4,7 +4,6 @@ ghost use Rattle.osc_live.specs.Reads.{Writes};
 use osc_core::Core;
 use osc_method::Method;
 use osc_record::Caps;
-use osc_record::laws::headers_differ;
 use osc_turn::{Job, Pass};
 use std::snapshot::Snapshot;
 
@@ -33,7 +32,7 @@ impl<'a, M: Method> Job<Core<M>> for Copying<'a> {
         × Copied old.caps old.from old.into.now new.into.now new.count before after };
 
     fn run(&mut self, state: &mut Core<M>) -> bool {
-        headers_differ();
+        osc_record::laws::headers_differ();
         // Limits are in their ranges, as each of them tells.
         let _ = self.caps.units();
         self.count = copy_part(state.bytes(), self.from, self.into);

@@ -16,7 +16,6 @@ use crate::live::Live;
 use crate::refusal::EnrolRefusal;
 use osc_core::Enrolled;
 use osc_method::Method;
-use osc_model::laws::callers_are_counted;
 use osc_turn::GuestRefusal;
 use std::sync::Wait;
 
@@ -68,7 +67,7 @@ impl<M: Method> Live<M> {
         ensures guest_back { IfErr result.1 (λ refused. view refused.1.pass ≡ view guest.pass) }
         ensures back_ours { IfErr result.1 (λ refused. IsOurGuest self.now refused.1) }
     {
-        callers_are_counted();
+        osc_model::laws::callers_are_counted();
         let Caller { pass, number } = caller;
         let Guest { pass: guest } = guest;
         let (guest, pass) = self.turn.meet(guest, pass);

@@ -10,7 +10,6 @@ ghost use Rattle.osc_live.specs.Calls.{Looks};
 use crate::caller::Caller;
 use osc_core::Core;
 use osc_method::Method;
-use osc_model::laws::callers_are_counted;
 use osc_record::Caps;
 use osc_turn::Turn;
 use std::alloc::{AllocError, Global};
@@ -45,7 +44,7 @@ impl<M: Method> Live<M> {
         ensures number { result.0.number ≡ caller.number }
         ensures look { Looks result.1 (view caller.pass) (view result.0.pass) }
     {
-        callers_are_counted();
+        osc_model::laws::callers_are_counted();
         let Caller { pass, number } = caller;
         let (pass, entries) = self.turn.front(pass);
         (Caller { pass, number }, entries)

@@ -9,7 +9,6 @@ ghost use Rattle.osc_live.specs.Tokens.{IsOurs};
 use crate::caller::Caller;
 use crate::live::Live;
 use osc_method::Method;
-use osc_model::laws::callers_are_counted;
 
 impl<M: Method> Live<M> {
     /// Tells `into` what `from` has seen. Of what the two have seen, one list begins with the other.
@@ -27,7 +26,7 @@ impl<M: Method> Live<M> {
         ensures told { StartsWith (view result.1.pass).seen (view from.pass).seen }
         ensures none_added { KeepsOwn (view into.pass) (view result.1.pass) }
     {
-        callers_are_counted();
+        osc_model::laws::callers_are_counted();
         let Caller { pass, number } = from;
         let Caller {
             pass: learner,

@@ -3,8 +3,6 @@ use crate::ask::Ask;
 use crate::asked::Asking;
 use osc_core::Core;
 use osc_method::Method;
-use osc_model::laws::callers_are_counted;
-use osc_record::laws::headers_differ;
 use osc_turn::Job;
 
 /// What a caller asks, until it is played, and what it is answered then.
@@ -30,8 +28,8 @@ impl<M: Method, B: Drop, A: Ask<M, B> + Drop> Job<Core<M>> for Playing<A, B> {
         after };
 
     fn run(&mut self, state: &mut Core<M>) -> bool {
-        callers_are_counted();
-        headers_differ();
+        osc_model::laws::callers_are_counted();
+        osc_record::laws::headers_differ();
         // Limits are in their ranges, as each of them tells.
         let _ = self.asking.caps.units();
         let caller = self.asking.caller;

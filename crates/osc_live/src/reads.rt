@@ -9,7 +9,6 @@ use crate::caller::Caller;
 use crate::copy::Copying;
 use crate::live::Live;
 use osc_method::Method;
-use osc_model::laws::callers_are_counted;
 use osc_turn::Pass;
 use std::snapshot::Snapshot;
 use std::sync::Wait;
@@ -31,7 +30,7 @@ impl<M: Method> Live<M> {
         ensures read { Reads self.now.caps from into.old into.new result.1 (view caller.pass)
             (view result.0.pass) }
     {
-        callers_are_counted();
+        osc_model::laws::callers_are_counted();
         let Caller { pass, number } = caller;
         let mut job = Copying {
             was: Snapshot::of(&pass),

@@ -6,7 +6,6 @@ ghost use Rattle.osc_core.specs.Answers.{removing_of};
 use crate::ask::Ask;
 use osc_core::{Core, Removing};
 use osc_method::Method;
-use osc_model::laws::a_performance_goes_on;
 use osc_pattern::Address;
 
 #[derive(Drop)]
@@ -33,7 +32,7 @@ impl<'a, M: Method> Ask<M, Removing<M>> for Remove<'a> {
         (record { id = id; keep = M.keep method; heard = M.heard method })) };
 
     fn ask(self, caller: u32, core: &mut Core<M>) -> (Removing<M>, bool) {
-        a_performance_goes_on();
+        osc_model::laws::a_performance_goes_on();
         let answer = core.remove(caller, self.address);
         let recorded = is_recorded(&answer);
         (answer, recorded)

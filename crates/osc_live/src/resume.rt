@@ -32,10 +32,6 @@ use crate::live::Live;
 use crate::rows::Rows;
 use osc_core::Core;
 use osc_method::Method;
-use osc_model::laws::{
-    a_legal_history_is_recordable, a_method_is_called_while_it_is_registered, a_server_stays_sound,
-    callers_are_counted,
-};
 use osc_pattern::Address;
 use osc_record::{Answer, Caps, Entry, Event};
 use osc_turn::{Pass, Turn};
@@ -80,10 +76,10 @@ impl<M: Method> Live<M> {
         ensures back { IfErr result
             (λ refused. marks M.keep M.heard refused.1.items ≡ marks M.keep M.heard bank.items) }
     {
-        callers_are_counted();
-        a_legal_history_is_recordable();
-        a_server_stays_sound();
-        a_method_is_called_while_it_is_registered();
+        osc_model::laws::callers_are_counted();
+        osc_model::laws::a_legal_history_is_recordable();
+        osc_model::laws::a_server_stays_sound();
+        osc_model::laws::a_method_is_called_while_it_is_registered();
         let (caps, rows) = Rows::open(recording);
         let caps = with_room(caps, room);
         let mut stage = match set_stage(alloc, caps) {

@@ -14,7 +14,6 @@ use crate::caller::Caller;
 use crate::live::Live;
 use crate::play::Playing;
 use osc_method::Method;
-use osc_model::laws::callers_are_counted;
 use osc_turn::Tried;
 use std::sync::Wait;
 
@@ -34,7 +33,7 @@ impl<M: Method> Live<M> {
             (view result.0.pass) }
         ensures tells { A.tells asked result.1 self.now.caps (texts (view result.0.pass).seen) }
     {
-        callers_are_counted();
+        osc_model::laws::callers_are_counted();
         let Caller { pass, number } = caller;
         let mut job = Playing {
             asking: Asking::new(&pass, number, self.caps),
@@ -63,7 +62,7 @@ impl<M: Method> Live<M> {
         ensures busy { IfErr result.1
             (λ busy. IsBusy busy.found (view caller.pass) (view result.0.pass)) }
     {
-        callers_are_counted();
+        osc_model::laws::callers_are_counted();
         let Caller { pass, number } = caller;
         let mut job = Playing {
             asking: Asking::new(&pass, number, self.caps),

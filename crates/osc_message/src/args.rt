@@ -1,4 +1,4 @@
-// The arguments of a message, one after another.
+//! The arguments of a message, one after another.
 ghost use Rattle.osc_atoms.specs.declared.limits.TheConstants.{MAX_BYTES};
 ghost use Rattle.std.specs.Prelude.{◌≡◌, ◌%◌, ◌≤◌, length, IsTrue, is_ok};
 ghost use Rattle.osc_message.specs.ArgumentReading.{arguments_end, arguments_of};

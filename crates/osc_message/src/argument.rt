@@ -1,4 +1,4 @@
-// The arguments that a message can have.
+//! The arguments that a message can have.
 
 /// An argument, or an array bracket (OSC 1.0, "OSC Type Tag String"). The floats stay the words that they are sent as.
 #[derive(Clone, Copy, Debug, PartialEq, Eq)]

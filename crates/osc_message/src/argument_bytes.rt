@@ -1,4 +1,4 @@
-// An argument's tag, and its bytes.
+//! An argument's tag, and its bytes.
 ghost use Rattle.osc_atoms.specs.declared.limits.TheConstants.{MAX_BYTES};
 ghost use Rattle.osc_message.specs.declared.limits.TheConstants.{MAX_BUILT};
 ghost use Rattle.std.specs.Prelude.{◌≡◌, ◌++◌, ◌≤◌, ◌<◌, ◌^◌, ◌+◌, None, length, take, position};

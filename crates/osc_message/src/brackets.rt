@@ -1,4 +1,4 @@
-// Array brackets among type tags.
+//! Array brackets among type tags.
 ghost use Rattle.std.specs.Prelude.{◌≡◌, is_ok};
 ghost use Rattle.osc_message.specs.Reading.{brackets_read};
 

@@ -1,4 +1,4 @@
-// Why a message isn't built.
+//! Why a message isn't built.
 ghost use Rattle.std.specs.Prelude.{◌≡◌};
 ghost use Rattle.osc_message.specs.declared.build_fault.BuildFault.TheVariants.{NoMemory};
 

@@ -1,4 +1,4 @@
-// Messages that are built argument by argument.
+//! Messages that are built argument by argument.
 ghost use Rattle.osc_message.specs.declared.limits.TheConstants.{MAX_BUILT};
 ghost use Rattle.std.specs.Prelude.{◌≡◌, ◌++◌, ◌∷◌, [], ◌<◌, ◌≤◌, ◌+◌, None, IsTrue, is_ok, drop};
 ghost use Rattle.std.specs.Prelude.{length, IfOk, OnOk, OnErr};

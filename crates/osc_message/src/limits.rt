@@ -1,4 +1,4 @@
-// The limits of messages that are built.
+//! The limits of messages that are built.
 
 /// The most bytes of a message that is built, as many as a packet may have.
 pub const MAX_BUILT: usize = 65_504;

@@ -1,4 +1,4 @@
-// Messages, borrowed from their bytes.
+//! Messages, borrowed from their bytes.
 ghost use Rattle.osc_atoms.specs.declared.limits.TheConstants.{MAX_BYTES};
 ghost use Rattle.std.specs.Prelude.{◌≡◌, ◌↔◌, ◌≤◌, ℕ, length, IsOk, IfOk, IfErr, Option, List, Err};
 ghost use Rattle.std.specs.Prelude.{option_map, is_ok};

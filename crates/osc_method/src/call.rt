@@ -1,4 +1,4 @@
-// A call of a method.
+//! A call of a method.
 use osc_message::Message;
 
 /// What a method is invoked with.

@@ -1,4 +1,4 @@
-// The trait of methods.
+//! The trait of methods.
 ghost use Rattle.std.specs.Prelude.{◌≡◌, ◌≤◌, ℕ, List, [], length, Option, IfSome};
 ghost use Rattle.std.specs.Option.{option_map};
 ghost use Rattle.osc_method.specs.Heard.{Fixed, after_call, byte_heard};

@@ -1,4 +1,4 @@
-// A method that does nothing.
+//! A method that does nothing.
 ghost use Rattle.std.specs.Prelude.{None, []};
 
 use crate::{Call, Method};

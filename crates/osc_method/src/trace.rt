@@ -1,4 +1,4 @@
-// A method that keeps the last bytes of what it was told.
+//! A method that keeps the last bytes of what it was told.
 ghost use Rattle.std.specs.Prelude.{◌≡◌, ◌≤◌, ◌<◌, ◌^◌, ◌++◌, Some, [], IfOk};
 ghost use Rattle.osc_atoms.specs.Atoms.{word, tag};
 

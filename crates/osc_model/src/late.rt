@@ -1,4 +1,4 @@
-// What becomes of late bundles.
+//! What becomes of late bundles.
 
 /// What becomes of a unit that is late when it is submitted: its effective tag isn't 1, and is before the clock.
 #[derive(Clone, Copy, Debug, PartialEq, Eq)]

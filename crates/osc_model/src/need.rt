@@ -1,4 +1,4 @@
-// Which units of a packet are kept, and what they need.
+//! Which units of a packet are kept, and what they need.
 ghost use Rattle.std.specs.Prelude.{◌≡◌, ◌+◌, ◌<◌, ◌≤◌, ◌^◌, ◌∷◌, [], length};
 ghost use Rattle.osc_packet.specs.Reading.{units_read};
 ghost use Rattle.osc_packet.specs.Units.{blocks_of};

@@ -1,4 +1,4 @@
-// The notes of a cue.
+//! The notes of a cue.
 ghost use Rattle.std.specs.Prelude.{◌≡◌, ◌++◌, ◌∷◌, [], ◌<◌, OnOk};
 ghost use Rattle.osc_pattern.specs.Patterns.{matches};
 ghost use Rattle.osc_message.specs.Reading.{pattern_of};

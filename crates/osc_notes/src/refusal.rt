@@ -1,4 +1,4 @@
-// Why the notes of a cue aren't added.
+//! Why the notes of a cue aren't added.
 ghost use Rattle.std.specs.Prelude.{◌≡◌};
 ghost use Rattle.osc_notes.specs.declared.refusal.NotesError.TheVariants.{NoMemory};
 

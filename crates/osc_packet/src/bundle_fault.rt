@@ -1,4 +1,4 @@
-// Why a message isn't pushed.
+//! Why a message isn't pushed.
 ghost use Rattle.std.specs.Prelude.{◌≡◌};
 ghost use Rattle.osc_packet.specs.declared.bundle_fault.BundleFault.TheVariants.{NoMemory};
 

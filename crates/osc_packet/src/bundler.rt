@@ -1,4 +1,4 @@
-// Bundles that are built message by message.
+//! Bundles that are built message by message.
 ghost use Rattle.osc_atoms.specs.declared.limits.TheConstants.{MAX_PACKET};
 ghost use Rattle.osc_atoms.specs.declared.limits.TheConstants.{MAX_BYTES};
 ghost use Rattle.std.specs.Prelude.{◌≡◌, ◌++◌, ◌≤◌, length, IsTrue, IfOk, OnOk, OnErr};
@@ -8,7 +8,6 @@ ghost use Rattle.osc_packet.specs.Bundling.{sized, IsSpelled};
 ghost use Rattle.osc_atoms.specs.Atoms;
 
 use crate::BundleFault;
-use crate::laws::of_messages;
 use osc_atoms::{Bytes, MAX_PACKET};
 use osc_message::Message;
 use std::alloc::{AllocError, Global};
@@ -87,7 +86,7 @@ impl Bundler {
         ensures written { (forms : List Form) → self.now.messages ≡ map message_text forms
             → bundled self.now ≡ packet_text (bundle self.now.tag (elements_of forms)) }
     {
-        of_messages();
+        crate::laws::of_messages();
         Bytes::copied(self.alloc, &self.bytes)
     }
 }
@@ -116,7 +115,7 @@ fn read_is_spelled(bytes: &[u8])
     requires { IsTrue (is_message MAX_BYTES bytes.now) }
     ensures { IsSpelled bytes.now }
 {
-    of_messages();
+    crate::laws::of_messages();
 }
 
 /// Adds an element after its size, or nothing.

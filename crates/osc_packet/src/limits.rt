@@ -1,4 +1,4 @@
-// The limits of bundles, the size of a block, and the most bytes of a unit that is kept.
+//! The limits of bundles, the size of a block, and the most bytes of a unit that is kept.
 
 /// The most bytes of the messages of one unit where they are kept, each after its length in 4 bytes.
 pub const MAX_STORED: u32 = 65_508;

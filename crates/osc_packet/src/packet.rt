@@ -1,8 +1,7 @@
-// Packets, borrowed from their bytes.
+//! Packets, borrowed from their bytes.
 
 use crate::checks::{IMMEDIATELY, check_packet, is_bundle};
 use crate::content::Content;
-use crate::laws::{of_messages, units_are_read_again};
 use crate::{Unit, Units};
 use osc_atoms::Fault;
 use std::marker::Model;
@@ -49,7 +48,7 @@ impl<'a> Packet<'a> {
         ensures fault_read { result_err result ≡ packet_fault max bytes.now }
     {
         // What packets are stands on what messages are.
-        of_messages();
+        crate::laws::of_messages();
         check_packet(bytes, max)?;
         Ok(Packet { bytes })
     }
@@ -109,7 +108,7 @@ impl<'a> Packet<'a> {
             → self.now ≡ packet_text packet → result ≡ units_of packet }
         ensures few { length (units_read self.now) ≤ MAX_PACKET }
     {
-        units_are_read_again();
+        crate::laws::units_are_read_again();
         Units::new(self.bytes)
     }
 }

@@ -1,4 +1,4 @@
-// Units: the messages that are released together.
+//! Units: the messages that are released together.
 
 use crate::UnitMessages;
 use crate::content::Content;

@@ -1,4 +1,4 @@
-// The messages of a unit, one after another.
+//! The messages of a unit, one after another.
 ghost use Rattle.osc_atoms.specs.declared.limits.TheConstants.{MAX_PACKET};
 ghost use Rattle.std.specs.Prelude.{◌≡◌, ◌≤◌, length, None};
 ghost use Rattle.osc_packet.specs.Reading.{message_fault_at};

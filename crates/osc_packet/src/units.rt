@@ -1,4 +1,4 @@
-// The units of a packet, one after another.
+//! The units of a packet, one after another.
 ghost use Rattle.std.specs.Prelude.{◌≡◌, None};
 ghost use Rattle.osc_packet.specs.Reading.{packet_fault, units_read};
 

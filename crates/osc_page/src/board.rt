@@ -1,4 +1,4 @@
-// What a page shows of a show at one moment.
+//! What a page shows of a show at one moment.
 
 use osc_atoms::Bytes;
 use std::marker::Model;

@@ -1,4 +1,4 @@
-// Limits of this crate.
+//! Limits of this crate.
 
 /// How many bytes a request's head has at most.
 pub const MAX_HEAD: usize = 8_192;

@@ -1,4 +1,4 @@
-// The page.
+//! The page.
 
 /// The page, as a browser gets it. It asks this server for the state, and nobody else for anything.
 pub const PAGE: &str = r##"<!doctype html>

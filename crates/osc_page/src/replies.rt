@@ -1,4 +1,4 @@
-// What a visitor is answered.
+//! What a visitor is answered.
 ghost use Rattle.std.specs.Prelude.{◌≡◌, ◌++◌, ◌∷◌, codes, IfOk, OnOk};
 ghost use Rattle.httparse.specs.Ascii.{space, crlf_bytes};
 ghost use Rattle.httparse.specs.Grammar.{print_field};

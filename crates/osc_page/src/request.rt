@@ -1,4 +1,4 @@
-// What a request asks for.
+//! What a request asks for.
 ghost use Rattle.std.specs.Prelude.{◌≡◌, ◌≤◌, ℕ, List, length};
 ghost use Rattle.httparse.specs.Grammar.{RequestHead, ReadsRequest};
 ghost use Rattle.osc_page.specs.declared.limits.TheConstants.{MAX_FIELDS};

@@ -1,4 +1,4 @@
-// The state of a show as JSON.
+//! The state of a show as JSON.
 ghost use Rattle.std.specs.Prelude.{◌≡◌, ◌++◌, ◌∷◌, [], Some, OnOk, IfOk, decimal};
 ghost use Rattle.std.specs.List.{flat_map};
 ghost use Rattle.json.specs.Token.{begin_object, end_object, begin_array, end_array, key, number};

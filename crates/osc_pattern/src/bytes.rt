@@ -1,4 +1,4 @@
-//! Sets of bytes.
+// Sets of bytes.
 ghost use Rattle.std.specs.Prelude.{◌≡◌, ◌≤◌, ◌<◌, ◌+◌, ◌||◌, ◌&&◌, ◌==◌, ℕ, false, nat_lt, nat_le, min};
 ghost use Rattle.std.specs.Prelude.{length};
 ghost use Rattle.osc_pattern.specs.Items.{stands_for, is_in_set, is_between};

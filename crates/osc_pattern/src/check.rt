@@ -1,4 +1,4 @@
-//! The faults of a pattern, in the order in which they are tried.
+// The faults of a pattern, in the order in which they are tried.
 ghost use Rattle.osc_pattern.specs.declared.limits.TheConstants.{MAX_PATTERN};
 ghost use Rattle.std.specs.Prelude.{◌≡◌, ◌≤◌, ◌<◌, length, position, IfSome};
 ghost use Rattle.std.specs.Prelude.{IsTrue, false, ◌==◌, nat_lt};

@@ -1,4 +1,4 @@
-//! Cuts of texts at one byte.
+// Cuts of texts at one byte.
 ghost use Rattle.std.specs.Prelude.{◌≡◌, ◌==◌, option_map, count_by, position, ◌∷◌, length};
 ghost use Rattle.std.specs.Prelude.{MatchOption, IfSome, [], ◌+◌};
 ghost use Rattle.std.specs.List.{slice_split};

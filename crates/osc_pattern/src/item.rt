@@ -1,4 +1,4 @@
-//! Items of a pattern, borrowed from its bytes.
+// Items of a pattern, borrowed from its bytes.
 ghost use Rattle.std.specs.Prelude.{◌≡◌, ◌<◌, ◌≤◌, ◌+◌, length, option_map, IfSome};
 ghost use Rattle.osc_pattern.specs.Items.{item_text, stands_for, is_in_set, is_between};
 ghost use Rattle.osc_pattern.specs.Cuts.{has_byte};

@@ -1,4 +1,4 @@
-//! What stands many times in a part: items that follow one another, and texts of a choice.
+// What stands many times in a part: items that follow one another, and texts of a choice.
 ghost use Rattle.std.specs.Prelude.{◌≡◌, ◌≤◌, ◌<◌, ◌+◌, ◌*◌, ℕ, List, length, IfSome, true};
 ghost use Rattle.std.specs.Prelude.{Bool};
 ghost use Rattle.std.specs.List.{list_any, flat_map, slice_split};

@@ -1,4 +1,4 @@
-//! At which places of a name each byte stands.
+// At which places of a name each byte stands.
 ghost use Rattle.osc_pattern.specs.declared.limits.TheConstants.{MAX_NAME};
 ghost use Rattle.std.specs.Prelude.{◌≤◌, length};
 ghost use Rattle.osc_pattern.specs.Views.{AreMarks};

@@ -1,4 +1,4 @@
-//! The matcher: one item of a part after another, and the places of the name that they reach.
+// The matcher: one item of a part after another, and the places of the name that they reach.
 ghost use Rattle.osc_pattern.specs.declared.limits.TheConstants.{MAX_NAME};
 ghost use Rattle.std.specs.Prelude.{◌≡◌, ◌≤◌, ◌<◌, ◌+◌, ◌*◌, ◌||◌, ℕ, Bool, false, List, ◌∷◌, length};
 ghost use Rattle.std.specs.Prelude.{IsTrue, IfSome, MatchOption, Some, None};

@@ -1,4 +1,4 @@
-//! Sets of places of a name.
+// Sets of places of a name.
 ghost use Rattle.osc_pattern.specs.declared.limits.TheConstants.{MAX_NAME, MAX_PLACES};
 ghost use Rattle.std.specs.Prelude.{◌≡◌, ◌<◌, ◌+◌, ◌||◌, ◌&&◌, ◌==◌, ℕ, true, false, IsTrue};
 ghost use Rattle.std.specs.Int.{bit_at};

@@ -1,4 +1,4 @@
-// The lines of bundles.
+//! The lines of bundles.
 ghost use Rattle.std.specs.Prelude.{◌≡◌, ◌++◌, OnOk};
 ghost use Rattle.osc_picture.specs.Bundles as spec;
 

@@ -1,4 +1,4 @@
-// Where a moment stands.
+//! Where a moment stands.
 ghost use Rattle.std.specs.Prelude.{◌≡◌, ◌≤◌, max, min};
 ghost use Rattle.osc_picture.specs.Frames as spec;
 

@@ -1,4 +1,4 @@
-// What a picture has.
+//! What a picture has.
 use crate::bundle::Bundle;
 use crate::frame::Frame;
 use crate::row::Row;

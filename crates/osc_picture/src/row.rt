@@ -1,4 +1,4 @@
-// What is drawn of one address.
+//! What is drawn of one address.
 ghost use Rattle.std.specs.Prelude.{◌≡◌};
 
 use crate::said::Said;

@@ -1,4 +1,4 @@
-// A text that a call carried.
+//! A text that a call carried.
 ghost use Rattle.std.specs.Prelude.{◌≡◌};
 
 use osc_atoms::Bytes;

@@ -1,4 +1,4 @@
-// From when to when something was so.
+//! From when to when something was so.
 
 /// From a moment to another, or to the end.
 #[derive(Clone, Copy)]

@@ -1,4 +1,4 @@
-// The text of a picture.
+//! The text of a picture.
 ghost use Rattle.std.specs.Prelude.{◌≡◌, ◌++◌, ◌<◌, ◌^◌, OnOk, OnErr, IfOk};
 ghost use Rattle.osc_picture.specs.Pictures as spec;
 

@@ -5,7 +5,6 @@ ghost use Rattle.osc_script.specs.declared.mode.Mode.TheVariants.{Plain};
 ghost use Rattle.osc_script.specs.Scripts.{script_of};
 ghost use Rattle.osc_plain.specs.Commands as commands;
 
-use osc_script::laws::generated_scripts_are_read_again;
 use osc_script::{Line, Mode, Script, ScriptRefusal};
 use std::alloc::{AllocError, Global};
 
@@ -14,7 +13,7 @@ pub(crate) fn drawn_lines(alloc: Global, seed: u64, lines: u32) -> Result<Vec<Li
     requires { lines ≤ MAX_GENERATED_LINES }
     ensures { IfOk result (λ drawn. drawn.items ≡ commands.drawn_lines seed lines) }
 {
-    generated_scripts_are_read_again();
+    osc_script::laws::generated_scripts_are_read_again();
     let script = Script::generate(alloc, seed, lines)?;
     read_again(alloc, script.as_slice())
 }

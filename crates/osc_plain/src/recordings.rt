@@ -12,7 +12,6 @@ ghost use Rattle.osc_ends.specs.Recordings.{EndsDump, EndsReplay, EndsUpgrade};
 
 use osc_edge::{Sink, Source};
 use osc_ends::{read_recording, write_dump, write_replay, write_upgrade};
-use osc_model::laws::a_legal_history_is_recordable;
 use std::alloc::Global;
 
 /// Replays the recording that the input is.
@@ -21,7 +20,7 @@ pub(crate) fn replay<S: Source, O: Sink>(alloc: Global, input: &mut S, out: &mut
         input.new out.old out.new (EndsReplay result) (λ recording. (caps : Limits)
         × (history : List Entry) × IsRecordingOf recording caps history) }
 {
-    a_legal_history_is_recordable();
+    osc_model::laws::a_legal_history_is_recordable();
     match read_recording(alloc, input, out) {
         Ok(bytes) => write_replay(alloc, &bytes, out),
         Err(status) => status,
@@ -35,7 +34,7 @@ pub(crate) fn dump<S: Source, O: Sink>(alloc: Global, input: &mut S, out: &mut O
         × (entries : List Entry) × IsFormed caps entries
         × (recording ≡ record_text caps entries)) }
 {
-    a_legal_history_is_recordable();
+    osc_model::laws::a_legal_history_is_recordable();
     match read_recording(alloc, input, out) {
         Ok(bytes) => write_dump(alloc, &bytes, out),
         Err(status) => status,

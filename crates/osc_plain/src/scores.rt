@@ -24,10 +24,6 @@ use osc_ends::status::{DONE, NO_MEMORY};
 use osc_ends::{Ended, read_score, write_text};
 use osc_method::Method;
 use osc_score::Score;
-use osc_score::laws::{what_is_kept_plays_the_score, what_is_read_is_a_score};
-use osc_score_laws::laws::{
-    a_read_score_is_played, a_score_adds_its_addresses, a_score_script_is_read,
-};
 use osc_script::Line;
 use std::alloc::{AllocError, Global};
 
@@ -36,9 +32,9 @@ pub(crate) fn write_score<S: Source, O: Sink>(alloc: Global, input: &mut S, out:
     ensures end { IsCommandsEnd S.left S.faults O.held O.faults MAX_SCORE result input.old input.new
         out.old out.new (EndsScore result) (λ score. IsOk (score_of score)) }
 {
-    what_is_kept_plays_the_score();
-    what_is_read_is_a_score();
-    a_score_script_is_read();
+    osc_score::laws::what_is_kept_plays_the_score();
+    osc_score::laws::what_is_read_is_a_score();
+    osc_score_laws::laws::a_score_script_is_read();
     match read_score(alloc, input, out) {
         Ok(score) => write_script(&score, out),
         Err(status) => status,
@@ -72,11 +68,11 @@ pub(crate) fn play_score<S: Source, O: Sink>(
         (λ notes. length (addresses_of notes) ≤ length bank.items)) }
     ensures back { HandsBack result.status bank.items result.heard.items result.left.items }
 {
-    what_is_kept_plays_the_score();
-    what_is_read_is_a_score();
-    a_score_script_is_read();
-    a_read_score_is_played();
-    a_score_adds_its_addresses();
+    osc_score::laws::what_is_kept_plays_the_score();
+    osc_score::laws::what_is_read_is_a_score();
+    osc_score_laws::laws::a_score_script_is_read();
+    osc_score_laws::laws::a_read_score_is_played();
+    osc_score_laws::laws::a_score_adds_its_addresses();
     match read_score(alloc, input, out) {
         Ok(score) => play_script(alloc, &score, out, bank),
         Err(status) => unplayed(alloc, status, bank),

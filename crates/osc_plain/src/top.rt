@@ -52,7 +52,6 @@ use osc_edge::{Sink, Source};
 use osc_ends::status::NO_MEMORY;
 use osc_ends::{Ended, usage};
 use osc_method::Method;
-use osc_player::laws::enough_room_never_stops;
 use osc_words::{PlainCommand, Reading, plain_command_of};
 use std::alloc::Global;
 
@@ -109,7 +108,7 @@ pub fn plain_top<S: Source, O: Sink>(
         → ¬ Fails (sink_change O.held O.faults out.old out.new) →
         (result.status ≡ DONE) ⊎ (result.status ≡ NO_MEMORY)) }
 {
-    enough_room_never_stops();
+    osc_player::laws::enough_room_never_stops();
     match plain_command_of(alloc, words) {
         Ok(Some(PlainCommand::Read(reading))) => follow(alloc, reading, input, out, bank),
         Ok(Some(PlainCommand::Gen { seed, lines })) => generate(alloc, seed, lines, out, bank),

@@ -27,7 +27,6 @@ ghost use Rattle.osc_player.specs.Tallied.{HasTallied, IsDone, AreParted};
 use crate::player::Player;
 use osc_atoms::Room;
 use osc_core::{Closed, Core};
-use osc_laws::laws::every_history_keeps_the_laws;
 use osc_method::Method;
 use osc_print::Text;
 use osc_record::Caps;
@@ -68,7 +67,7 @@ pub fn play<M: Method>(
     ensures ascending { IfOk result
         (λ played. IsTrue (is_ascending (map (λ one. one.0) played.heard.items))) }
 {
-    every_history_keeps_the_laws();
+    osc_laws::laws::every_history_keeps_the_laws();
     let mut player = Player::open(alloc, caps, bank)?;
     let stop = player.play_lines(lines)?;
     let played = player.finish(stop)?;

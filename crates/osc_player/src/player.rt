@@ -13,7 +13,6 @@ ghost use Rattle.osc_player.specs.Tallied.{TalliesAct, TalliesLines};
 use osc_atoms::{Bytes, Room};
 use osc_core::{Adding, Core, Releasing, Removing};
 use osc_method::Method;
-use osc_model::laws::{a_box_hears_its_calls, invocations_are_of_registered_methods};
 use osc_packet::{MAX_PACKET, Packet};
 use osc_pattern::Address;
 use osc_print::{Text, fault_line};
@@ -119,8 +118,8 @@ impl<M: Method> Player<M> {
         requires caller { 0 < (state_of self.old.core.performance).callers }
         ensures { TalliesAct M.keep M.heard Pump [] result self.old self.new }
     {
-        a_box_hears_its_calls();
-        invocations_are_of_registered_methods();
+        osc_model::laws::a_box_hears_its_calls();
+        osc_model::laws::invocations_are_of_registered_methods();
         loop {
             match self.core.release(0) {
                 Releasing::Released { .. } => {}

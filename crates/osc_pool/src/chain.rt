@@ -1,4 +1,4 @@
-// What a pool hands out for bytes that it stores.
+//! What a pool hands out for bytes that it stores.
 ghost use Rattle.std.specs.Prelude.{◌≡◌};
 
 /// The blocks in which a pool stores bytes. Whoever drops a chain, and doesn't give it back, leaves its blocks taken.

@@ -1,4 +1,4 @@
-// The lines of a dump.
+//! The lines of a dump.
 ghost use Rattle.std.specs.Prelude.{◌≡◌, ◌++◌, OnOk, OnErr};
 ghost use Rattle.osc_record.specs.Left.{placed_of};
 ghost use Rattle.osc_record.specs.Shown.{event_of};

@@ -1,4 +1,4 @@
-// The line of an entry.
+//! The line of an entry.
 ghost use Rattle.std.specs.Prelude.{◌≡◌, ◌++◌, length, OnOk, OnErr};
 ghost use Rattle.osc_model.specs.Events.{tick, queued, clock_back, released};
 ghost use Rattle.osc_model.specs.Recordings.{hits_in};

@@ -1,4 +1,4 @@
-// The lines of packets that are refused.
+//! The lines of packets that are refused.
 ghost use Rattle.std.specs.Prelude.{◌≡◌, ◌++◌, OnOk, OnErr};
 ghost use Rattle.std.specs.Fmt.{decimal};
 ghost use Rattle.osc_print.specs.Lines.{datagram_words, fault_text, link_fault_text};

@@ -1,4 +1,4 @@
-// The lines of a list of methods.
+//! The lines of a list of methods.
 ghost use Rattle.std.specs.Prelude.{◌≡◌, ◌++◌, OnOk, OnErr};
 ghost use Rattle.osc_print.specs.Lines.{list_text, method_text};
 ghost use Rattle.osc_print.specs.Words.{BeginsWith};

@@ -1,4 +1,4 @@
-// The limits of a server's tables and of its recording.
+//! The limits of a server's tables and of its recording.
 ghost use Rattle.std.specs.Prelude.{◌≡◌, ◌↔◌, IsOk, IfOk, IfErr, Some, None};
 ghost use Rattle.osc_model.specs.Limits.{limits_of, AreInRange, is_within, limit_fault};
 ghost use Rattle.osc_record.specs.Headers.{limits_in};

@@ -1,4 +1,4 @@
-// The entries of a recording, one after another.
+//! The entries of a recording, one after another.
 ghost use Rattle.osc_model.specs.Limits.{max_recording};
 ghost use Rattle.std.specs.Prelude.{◌≡◌, ◌≤◌, length, drop, IsTrue, is_ok};
 ghost use Rattle.osc_record.specs.Reading.{entries_at};

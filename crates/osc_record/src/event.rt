@@ -1,4 +1,4 @@
-// Events, their answers, and entries of the two.
+//! Events, their answers, and entries of the two.
 ghost use Rattle.osc_record.specs.Shown.{HasWholeHits};
 
 use osc_atoms::Room;

@@ -1,4 +1,4 @@
-// The limits of limits, and the size of a header.
+//! The limits of limits, and the size of a header.
 
 /// How many bytes the header of a recording has.
 pub const HEADER_SIZE: u32 = 60;

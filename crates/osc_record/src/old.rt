@@ -1,4 +1,4 @@
-// Recordings of the first version of the format, read from borrowed bytes.
+//! Recordings of the first version of the format, read from borrowed bytes.
 ghost use Rattle.std.specs.Prelude.{◌≡◌, ◌≤◌, length, is_none, option_map};
 ghost use Rattle.osc_record.specs.declared.version.Version.TheVariants.{First};
 ghost use Rattle.osc_record.specs.Headers.{limits_in};

@@ -1,4 +1,4 @@
-// Recordings, read from borrowed bytes.
+//! Recordings, read from borrowed bytes.
 ghost use Rattle.std.specs.Prelude.{◌≡◌, ◌≤◌, length, Some, None};
 
 use crate::caps::Caps;

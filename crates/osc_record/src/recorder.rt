@@ -1,4 +1,4 @@
-// A recording in the making.
+//! A recording in the making.
 ghost use Rattle.osc_model.specs.Limits.{release_head_size};
 ghost use Rattle.std.specs.Prelude.{◌≡◌, ◌+◌, ◌*◌, ◌<◌, ◌≤◌, ◌^◌, ◌==◌, ◌++◌, length};
 ghost use Rattle.std.specs.Prelude.{if◌then◌else◌};

@@ -1,4 +1,4 @@
-// The header and the messages of entries, appended to bytes that have room for them.
+//! The header and the messages of entries, appended to bytes that have room for them.
 ghost use Rattle.osc_model.specs.Limits.{max_recording};
 ghost use Rattle.osc_atoms.specs.declared.limits.TheConstants.{MAX_BYTES};
 ghost use Rattle.osc_atoms.specs.Atoms.{word, tag, blob, blob_end, string, has_no_zero};

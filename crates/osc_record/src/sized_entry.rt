@@ -1,4 +1,4 @@
-// The bytes of an entry, on their own.
+//! The bytes of an entry, on their own.
 ghost use Rattle.osc_model.specs.Limits.{max_recording};
 ghost use Rattle.std.specs.Prelude.{◌≡◌, ◌+◌, ◌%◌, ◌≤◌, [], ◌++◌, length, IfOk};
 ghost use Rattle.std.specs.Option.{option_map_or};

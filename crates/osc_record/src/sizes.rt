@@ -1,4 +1,4 @@
-// How many bytes entries have.
+//! How many bytes entries have.
 ghost use Rattle.osc_model.specs.Limits.{release_head_size};
 ghost use Rattle.std.specs.Prelude.{◌≡◌, ◌+◌, ◌*◌, ◌<◌, ◌^◌, length};
 ghost use Rattle.osc_atoms.specs.Atoms.{string, blob_end};

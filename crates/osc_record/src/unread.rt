@@ -1,4 +1,4 @@
-// Recordings, read entry by entry.
+//! Recordings, read entry by entry.
 ghost use Rattle.std.specs.Prelude.{◌≡◌, ◌≤◌, length};
 
 use crate::caps::Caps;

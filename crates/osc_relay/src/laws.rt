@@ -9,9 +9,6 @@ ghost use Rattle.osc_relay.specs.Relayed.{relayed, to_address};
 ghost use Rattle.osc_relay.specs.Sent.{Called, IsShort, calls_text, messages_of, Relays};
 ghost use Rattle.osc_relay.specs.Sent.{HasRelayed};
 
-use osc_message::laws::written_is_read_again;
-use osc_pattern::laws::an_address_is_a_pattern;
-
 /// What is sent on of a message is the message with another pattern, and with the same tags and arguments. To an
 /// address it is a message again.
 pub fn a_relayed_message_is_the_message_to_another_address()
@@ -20,8 +17,8 @@ pub fn a_relayed_message_is_the_message_to_another_address()
     ensures lawful { (form : Form) (address : List ℕ) → IsLawful form → IsAddress address
         → IsLawful (to_address address form) }
 {
-    written_is_read_again();
-    an_address_is_a_pattern();
+    osc_message::laws::written_is_read_again();
+    osc_pattern::laws::an_address_is_a_pattern();
 }
 
 /// What was sent is what was called. A server says of a method which bytes it has heard, the last of those of its calls.

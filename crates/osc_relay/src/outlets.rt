@@ -1,4 +1,4 @@
-//! All outlets of a relay, one after another.
+// All outlets of a relay, one after another.
 ghost use Rattle.std.specs.Prelude.{◌≡◌, ◌≤◌, length, take, option_map};
 ghost use Rattle.std.specs.List.{AllZip};
 ghost use Rattle.std.specs.Option.{ForSome};

@@ -13,7 +13,6 @@ use osc_atoms::{string_size, write_string};
 use osc_message::Message;
 use osc_method::{Call, Method, Trace};
 use osc_pattern::Address;
-use osc_pattern::laws::an_address_is_a_pattern;
 use std::alloc::{AllocError, Global};
 
 /// A method that sends each message that it is called with to each of its outlets, with its own address in place of the
@@ -110,7 +109,7 @@ fn write_start(space: &mut [u8], address: &[u8]) -> usize
     ensures within { result ≤ length space.new }
     ensures same { length space.new ≡ length space.old }
 {
-    an_address_is_a_pattern();
+    osc_pattern::laws::an_address_is_a_pattern();
     write_string(space, 0, address)
 }
 

@@ -1,4 +1,4 @@
-// Recordings, printed as they stand.
+//! Recordings, printed as they stand.
 ghost use Rattle.std.specs.Prelude.{◌≡◌, ◌≤◌, ◌++◌, List, length, IfOk};
 ghost use Rattle.osc_print.specs.Dumps.{dumped};
 ghost use Rattle.osc_model.specs.Limits.{Limits, max_recording};

@@ -1,4 +1,4 @@
-// Why a recording isn't replayed.
+//! Why a recording isn't replayed.
 ghost use Rattle.std.specs.Prelude.{◌≡◌};
 ghost use Rattle.osc_replay.specs.declared.fault.ReplayFault.TheVariants.{Malformed as MalformedAt};
 ghost use Rattle.osc_replay.specs.declared.fault.ReplayFault.TheVariants.{NoMemory};

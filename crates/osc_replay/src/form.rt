@@ -1,4 +1,4 @@
-// Whether the packets and addresses of a recording are lawful.
+//! Whether the packets and addresses of a recording are lawful.
 ghost use Rattle.std.specs.Prelude.{◌≡◌, ◌≤◌, ℕ, [], List, length, Err, IfOk, IfErr, IsOkAnd};
 ghost use Rattle.std.specs.Prelude.{IfSome, IfNone, true, false};
 ghost use Rattle.osc_model.specs.Limits.{Limits, header_size, max_recording};

@@ -1,4 +1,4 @@
-// Recordings, replayed entry by entry.
+//! Recordings, replayed entry by entry.
 ghost use Rattle.std.specs.Prelude.{◌≡◌, ◌≢◌, ◌+◌, ◌≤◌, ◌<◌, ◌^◌, ◌%◌, ◌++◌, ℕ, List, length, IfOk};
 ghost use Rattle.std.specs.Prelude.{IfErr, OnOk, true};
 ghost use Rattle.osc_print.specs.Entries.{event_line};

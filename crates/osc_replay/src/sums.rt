@@ -1,4 +1,4 @@
-// The summary of a history.
+//! The summary of a history.
 ghost use Rattle.std.specs.Prelude.{◌≡◌, ◌++◌, List, IfOk, OnOk};
 ghost use Rattle.osc_model.specs.Limits.{Limits};
 ghost use Rattle.osc_model.specs.Events.{Entry as Recorded};

@@ -1,4 +1,4 @@
-// What is shown.
+//! What is shown.
 ghost use Rattle.std.specs.Prelude.{◌≡◌};
 ghost use Rattle.osc_report.specs.Fronts as fronts;
 ghost use Rattle.osc_report.specs.Windows as windows;

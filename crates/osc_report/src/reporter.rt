@@ -1,4 +1,4 @@
-// Shows a recording, stretch by stretch.
+//! Shows a recording, stretch by stretch.
 ghost use Rattle.std.specs.Prelude.{◌≡◌};
 ghost use Rattle.osc_report.specs.Reports as spec;
 

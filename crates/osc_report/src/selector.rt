@@ -1,4 +1,4 @@
-// A pattern that selects lines.
+//! A pattern that selects lines.
 ghost use Rattle.std.specs.Prelude.{◌≡◌, ◌<◌, ◌+◌, ◌∷◌, ◌&&◌, [], length, MatchOption, IfSome};
 ghost use Rattle.std.specs.Prelude.{ℕ, List, option_map, position};
 ghost use Rattle.std.specs.List.{list_all, slice_split};

@@ -1,4 +1,4 @@
-// From when to when there are lines.
+//! From when to when there are lines.
 
 /// The moment of the first line that has a time, shown or left out, and that of the last that was shown.
 #[derive(Clone, Copy, Debug, PartialEq, Eq)]

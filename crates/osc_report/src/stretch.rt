@@ -1,4 +1,4 @@
-// The entries up to the next tick or release.
+//! The entries up to the next tick or release.
 ghost use Rattle.std.specs.Prelude.{◌≡◌, IfOk};
 ghost use Rattle.osc_record.specs.Shown.{event_of, answer_of};
 ghost use Rattle.osc_report.specs.Moments as spec;

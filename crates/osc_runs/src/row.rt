@@ -1,4 +1,4 @@
-// The lines of one address in a run.
+//! The lines of one address in a run.
 ghost use Rattle.std.specs.Prelude.{◌≡◌, OnOk, OnErr};
 ghost use Rattle.osc_runs.specs.Gathering.{kept_second};
 ghost use Rattle.osc_runs.specs.Telling.{head_at};

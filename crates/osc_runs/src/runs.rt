@@ -1,4 +1,4 @@
-// Lines that are gathered until something else comes.
+//! Lines that are gathered until something else comes.
 ghost use Rattle.std.specs.Prelude.{◌≡◌, ◌++◌, ◌∷◌, [], position, OnOk, OnErr};
 ghost use Rattle.osc_runs.specs.Gathering.{enter, gathered_of, goes_on, is_of};
 ghost use Rattle.osc_runs.specs.Telling.{rows_text};

@@ -1,4 +1,4 @@
-// A line that may be told with others.
+//! A line that may be told with others.
 use osc_shown::Look;
 use std::marker::Model;
 

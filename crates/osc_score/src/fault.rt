@@ -1,4 +1,4 @@
-// Why a score isn't read.
+//! Why a score isn't read.
 ghost use Rattle.std.specs.Prelude.{◌≡◌};
 ghost use Rattle.osc_score.specs.declared.fault.LineRefusal.TheVariants.{NoMemory};
 ghost use Rattle.osc_score.specs.declared.fault.ScoreRefusal.TheVariants.{NoMemory as NoScoreMemory};

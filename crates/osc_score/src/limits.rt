@@ -1,4 +1,4 @@
-// The limits of scores.
+//! The limits of scores.
 
 /// The most bytes of a score, 1 MiB.
 pub const MAX_SCORE: usize = 1_048_576;

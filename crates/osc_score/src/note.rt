@@ -16,9 +16,7 @@ use crate::argument::put_word;
 use crate::fault::{LineRefusal, ScoreFault};
 use crate::number::read_tag;
 use osc_atoms::Bytes;
-use osc_message::laws::written_is_read_again;
 use osc_message::{are_balanced, message_bytes};
-use osc_pattern::laws::{an_address_is_a_pattern, tests_are_exact};
 use osc_pattern::{Address, AddressFault};
 use osc_script::next_word;
 use std::alloc::{AllocError, Global};
@@ -85,9 +83,9 @@ fn read_message(alloc: Global, address: &Address, words: &[u8]) -> Result<Bytes,
         (balanced_note tag address.now)) }
     ensures message { IfOk result (λ message. IsTrue (is_message MAX_BYTES message)) }
 {
-    written_is_read_again();
-    an_address_is_a_pattern();
-    tests_are_exact();
+    osc_message::laws::written_is_read_again();
+    osc_pattern::laws::an_address_is_a_pattern();
+    osc_pattern::laws::tests_are_exact();
     let mut tags = Vec::from_slice(alloc, b",")?;
     let mut atoms = Vec::new(alloc);
     if let Err(refusal) = put_words(alloc, words, &mut tags, &mut atoms) {

@@ -1,4 +1,4 @@
-// Scores.
+//! Scores.
 use crate::added_note::all_runs;
 use crate::fault::{ScoreFault, ScoreRefusal};
 use crate::limits::MAX_SCORE;

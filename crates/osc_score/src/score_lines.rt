@@ -13,7 +13,6 @@ use crate::limits::{MAX_ADDRESSES, MAX_NODES};
 use crate::note::{Said, read_note};
 use crate::reader::Reader;
 use osc_message::Message;
-use osc_pattern::laws::tests_are_exact;
 use osc_script::{first_line, next_word};
 use osc_tree::Tree;
 use std::alloc::{AllocError, Global};
@@ -23,7 +22,7 @@ pub(crate) fn read_lines(alloc: Global, bytes: &[u8]) -> Result<Reader, ScoreRef
     requires { length bytes.now ≤ MAX_SCORE }
     ensures { KeepsAll result (lines_read 1 [] (lines_of bytes.now)) }
 {
-    tests_are_exact();
+    osc_pattern::laws::tests_are_exact();
     let mut reader = open_reader(alloc)?;
     let mut number = 1;
     let mut rest = bytes;

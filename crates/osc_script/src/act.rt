@@ -1,4 +1,4 @@
-// What a line says.
+//! What a line says.
 use osc_atoms::Bytes;
 use osc_pattern::Address;
 

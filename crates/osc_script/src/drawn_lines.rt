@@ -1,4 +1,4 @@
-// Writes the lines of a generated script.
+//! Writes the lines of a generated script.
 ghost use Rattle.std.specs.Prelude.{◌≡◌, ◌++◌, ◌∷◌, [], ◌+◌, ◌<◌, ◌≤◌, ◌^◌, IfOk, OnOk, OnErr};
 ghost use Rattle.std.specs.Prelude.{length, take};
 ghost use Rattle.hex.specs.Hex.{encode_lower};

@@ -1,4 +1,4 @@
-// Scripts that are drawn from a seed.
+//! Scripts that are drawn from a seed.
 ghost use Rattle.osc_script.specs.declared.drawn_script.TheConstants.{MAX_GENERATED_LINES};
 ghost use Rattle.std.specs.Prelude.{◌≡◌, ◌≤◌, ◌++◌, ◌<◌, ◌+◌, ◌^◌, IfOk, OnOk};
 ghost use Rattle.osc_script.specs.Draws.{after, drawn};

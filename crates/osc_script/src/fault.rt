@@ -1,4 +1,4 @@
-// Why a script isn't read.
+//! Why a script isn't read.
 ghost use Rattle.std.specs.Prelude.{◌≡◌};
 ghost use Rattle.osc_script.specs.declared.fault.LineRefusal.TheVariants.{NoMemory};
 

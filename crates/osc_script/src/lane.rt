@@ -1,4 +1,4 @@
-// The number of a lane.
+//! The number of a lane.
 ghost use Rattle.std.specs.Prelude.{◌≡◌};
 ghost use Rattle.osc_script.specs.Lanes;
 

@@ -1,4 +1,4 @@
-// A line of a script.
+//! A line of a script.
 use crate::act::Act;
 
 /// A line that says something.

@@ -1,4 +1,4 @@
-// The ways in which scripts are read.
+//! The ways in which scripts are read.
 
 /// How a script is read.
 #[derive(Clone, Copy, Debug, PartialEq, Eq)]

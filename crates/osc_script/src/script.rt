@@ -1,4 +1,4 @@
-// Scripts, read whole.
+//! Scripts, read whole.
 use crate::drawn_script::script_of_seed;
 use crate::fault::{ScriptFault, ScriptRefusal};
 use crate::line::Line;

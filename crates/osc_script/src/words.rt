@@ -1,4 +1,4 @@
-// Cuts lines off a script, and words off a line.
+//! Cuts lines off a script, and words off a line.
 ghost use Rattle.std.specs.Prelude.{◌≡◌, ◌<◌, [], ◌∷◌, length, position, MatchOption, IfSome};
 ghost use Rattle.osc_script.specs.Words;
 ghost use Rattle.osc_script.specs.Words.{is_space, is_no_space, is_line_feed, words_of, lines_of};

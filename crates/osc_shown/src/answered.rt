@@ -1,4 +1,4 @@
-// What the server answered.
+//! What the server answered.
 
 /// What the server answered about a unit: its own answer to the packet, and what its rules make of
 /// each unit of it (docs/SERVER.md, "Step").

@@ -1,4 +1,4 @@
-// Arguments, in the words of a sheet of cues.
+//! Arguments, in the words of a sheet of cues.
 ghost use Rattle.std.specs.Prelude.{◌≡◌, ◌++◌, OnOk, IfOk, codes};
 ghost use lib.Ieee.{binary32, binary64, nan_bits};
 ghost use Rattle.std.specs.Fmt.{signed_decimal};

@@ -1,4 +1,4 @@
-// When something came, and from whom.
+//! When something came, and from whom.
 use std::net::SocketAddrV4;
 
 /// When a datagram came, or its unit was released, and who has sent it, as far as that is known.

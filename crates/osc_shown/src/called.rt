@@ -1,4 +1,4 @@
-// Where a message went.
+//! Where a message went.
 ghost use Rattle.std.specs.Prelude.{◌≡◌, ◌++◌, OnOk, IfOk, take};
 ghost use Rattle.std.specs.List.{flat_map};
 ghost use Rattle.osc_message.specs.Arguments.{unknown_of};

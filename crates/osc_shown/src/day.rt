@@ -1,4 +1,4 @@
-// The line before the first of a day, and dates.
+//! The line before the first of a day, and dates.
 ghost use Rattle.std.specs.Prelude.{◌≡◌, ◌<◌, ◌^◌, ◌++◌, ◌-ℤ◌, ◌%◌, pos, OnOk, OnErr, codes};
 ghost use Rattle.jiff_core.specs.Date.{epoch_day};
 ghost use Rattle.jiff_fmt.specs.Text.{date_text};

@@ -1,4 +1,4 @@
-// What stands at the front of a line.
+//! What stands at the front of a line.
 use crate::Look;
 
 /// What stands at the front of a line, before its words, and how the line looks.

@@ -1,4 +1,4 @@
-// One line, whose words and tail its writer chooses.
+//! One line, whose words and tail its writer chooses.
 ghost use Rattle.std.specs.Prelude.{◌≡◌, ◌++◌, [], OnOk, OnErr};
 ghost use Rattle.osc_shown.specs.Columns.{painted};
 ghost use Rattle.osc_shown.specs.Told.{AddsHeaded, AddsTold, headed, note_text};

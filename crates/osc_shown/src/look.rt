@@ -1,4 +1,4 @@
-// How lines look.
+//! How lines look.
 use crate::WallClock;
 
 /// How lines look, and which of them are shown.

@@ -1,4 +1,4 @@
-// Numbers, as a person reads them.
+//! Numbers, as a person reads them.
 ghost use Rattle.std.specs.Prelude.{◌≡◌, ◌+◌, ◌%◌, ◌∷◌, ◌++◌, OnOk, IfOk};
 ghost use Rattle.std.specs.Fmt.{decimal, signed_decimal};
 ghost use Rattle.osc_shown.specs.Numbers.{two, three, comma_before, grouped, thousands};

@@ -1,4 +1,4 @@
-// A method that a message called.
+//! A method that a message called.
 ghost use Rattle.std.specs.Prelude.{◌≡◌};
 
 use std::marker::Model;

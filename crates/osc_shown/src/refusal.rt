@@ -1,4 +1,4 @@
-// The line of a datagram that is no packet.
+//! The line of a datagram that is no packet.
 ghost use Rattle.std.specs.Prelude.{◌≡◌, ◌++◌, OnOk, OnErr, map};
 ghost use Rattle.osc_shown.specs.Refusals.{dotted, bytes_text, datagram_text, fault_words};
 ghost use Rattle.osc_shown.specs.Refusals.{refusal_words, refusal_text};

@@ -1,4 +1,4 @@
-// The methods of a patch.
+//! The methods of a patch.
 ghost use Rattle.std.specs.Prelude.{◌≡◌, ◌<◌};
 ghost use Rattle.osc_pattern.specs.Patterns.{matches};
 

@@ -1,4 +1,4 @@
-// The lines before and after those of a whole recording.
+//! The lines before and after those of a whole recording.
 ghost use Rattle.std.specs.Prelude.{◌≡◌, ◌++◌, [], OnOk, OnErr, codes, if◌then◌else◌};
 ghost use Rattle.osc_shown.specs.Columns.{painted};
 ghost use Rattle.osc_shown.specs.Summaries as spec;

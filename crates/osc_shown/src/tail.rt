@@ -1,4 +1,4 @@
-// What happened to a message.
+//! What happened to a message.
 ghost use Rattle.std.specs.Prelude.{◌≡◌, ◌++◌, [], OnOk, IfOk, Some, codes, string_bytes};
 ghost use Rattle.std.specs.Net.Text.{socket_v4_text};
 ghost use Rattle.osc_shown.specs.Tails.{comma, joined, from_words, late_words, wait_words};

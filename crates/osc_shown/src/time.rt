@@ -1,4 +1,4 @@
-// Moments, as a wall clock shows them.
+//! Moments, as a wall clock shows them.
 ghost use Rattle.std.specs.Prelude.{◌≡◌, ◌<◌, ◌^◌, ◌++◌, OnOk, IfOk};
 ghost use Rattle.osc_shown.specs.Times.{millis_of, shown_millis, day_of, clock_text};
 ghost use Rattle.osc_shown.specs.Times.{time_text, span_text, seconds_text, bare_seconds};

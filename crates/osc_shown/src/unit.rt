@@ -1,4 +1,4 @@
-// The lines of a unit.
+//! The lines of a unit.
 ghost use Rattle.std.specs.Prelude.{◌≡◌, ◌++◌, OnOk, OnErr, true};
 ghost use Rattle.osc_shown.specs.Added.{report_in, AddsMarkedLine, AddsMessageLine};
 ghost use Rattle.osc_shown.specs.Added.{AddsMessageLines, AddsEach};

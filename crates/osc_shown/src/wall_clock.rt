@@ -1,4 +1,4 @@
-// The clock on the wall.
+//! The clock on the wall.
 ghost use Rattle.std.specs.Prelude.{◌≡◌, pos, ◌+ℤ◌};
 
 use jiff_core::Offset;

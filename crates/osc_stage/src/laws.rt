@@ -9,9 +9,6 @@ ghost use Rattle.osc_model.specs.State.{opening};
 ghost use Rattle.osc_relay.specs.Sent.{HasRelayed};
 ghost use Rattle.osc_stage.specs.Sent.{HasSent};
 
-use osc_model::laws::{a_server_stays_sound, invocations_are_of_registered_methods};
-use osc_relay::laws::what_was_sent_is_what_was_called;
-
 /// What a relay sent is what the history called. Where the relay's calls in a legal history have
 /// fewer bytes than it keeps, each outlet was handed exactly these calls, and each was sent or
 /// lost.
@@ -23,7 +20,7 @@ pub fn what_was_sent_is_what_the_history_called()
         → ∥ HasRelayed address room told.keep.most told.heard sent losses ∥₁
         → HasSent (invocations (opening caps) history) told.id address room sent losses }
 {
-    invocations_are_of_registered_methods();
-    a_server_stays_sound();
-    what_was_sent_is_what_was_called();
+    osc_model::laws::invocations_are_of_registered_methods();
+    osc_model::laws::a_server_stays_sound();
+    osc_relay::laws::what_was_sent_is_what_was_called();
 }

@@ -9,7 +9,6 @@ ghost use Rattle.osc_stage.specs.Ends.{HasCause, HasWritten};
 ghost use Rattle.osc_stage.specs.Stages.{RecordsStage, IsStaged, IsOpened, end_of};
 
 use crate::ended::ended_by;
-use crate::laws::what_was_sent_is_what_the_history_called;
 use crate::{Ended, Stage, Staged};
 use osc_edge::{Clock, Link, Sink};
 use osc_ends::status::{DONE, SINK_FAILED};
@@ -17,8 +16,6 @@ use osc_growing::{Growth, write_rest};
 use osc_lanes::Gate;
 use osc_links::{HostPart, Hosted, run_links};
 use osc_method::Method;
-use osc_model::laws::a_legal_history_is_recordable;
-use osc_record::laws::a_written_entry_is_read_again;
 use osc_relay::{Outlet, Relay};
 use std::alloc::{AllocError, Global};
 use std::sync::Wait;
@@ -67,9 +64,9 @@ pub fn stage_top<
         staged.links.items (clock_read C.left C.faults clock.old clock.new)
         (sink_change R.held R.faults rec.old rec.new)) }
 {
-    what_was_sent_is_what_the_history_called();
-    a_legal_history_is_recordable();
-    a_written_entry_is_read_again();
+    crate::laws::what_was_sent_is_what_the_history_called();
+    osc_model::laws::a_legal_history_is_recordable();
+    osc_record::laws::a_written_entry_is_read_again();
     let host = HostPart {
         caps: stage.caps,
         opening: stage.opening,

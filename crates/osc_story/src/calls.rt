@@ -1,4 +1,4 @@
-// The calls that a release tells.
+//! The calls that a release tells.
 ghost use Rattle.std.specs.Prelude.{◌≡◌, ◌<◌, ◌==◌, ◌&&◌, find, map, length, is_some};
 ghost use Rattle.std.specs.Prelude.{unwrap_or, slice_index_or, []};
 ghost use Rattle.std.specs.List.{list_all};

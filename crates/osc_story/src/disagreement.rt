@@ -1,4 +1,4 @@
-// Why an entry can't be seen.
+//! Why an entry can't be seen.
 
 /// Why no server gives an entry after those before it. What a pattern matches isn't looked at, nor
 /// why an event is refused: a replay of the whole recording does that (`osc_replay`).

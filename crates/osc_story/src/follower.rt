@@ -1,4 +1,4 @@
-// A recording that comes in pieces.
+//! A recording that comes in pieces.
 ghost use Rattle.std.specs.Prelude.{◌≡◌, ◌≤◌, ◌++◌, length, take, drop};
 ghost use Rattle.osc_story.specs.Looks as spec;
 

@@ -1,4 +1,4 @@
-// A message of a unit that waits.
+//! A message of a unit that waits.
 ghost use Rattle.std.specs.Prelude.{◌≡◌, IfOk};
 
 use osc_atoms::Bytes;

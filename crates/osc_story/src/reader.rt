@@ -1,4 +1,4 @@
-// All that is left of a recording, entry by entry.
+//! All that is left of a recording, entry by entry.
 ghost use Rattle.std.specs.Prelude.{◌≡◌};
 ghost use Rattle.osc_story.specs.Seen.{HasSeen, SeesNext};
 

@@ -1,4 +1,4 @@
-// A method that is there.
+//! A method that is there.
 ghost use Rattle.std.specs.Prelude.{◌≡◌};
 
 use osc_atoms::Bytes;

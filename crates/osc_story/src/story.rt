@@ -1,4 +1,4 @@
-// What stands after entries of a recording.
+//! What stands after entries of a recording.
 ghost use Rattle.std.specs.Prelude.{◌≡◌, length};
 ghost use Rattle.osc_tree.specs.Registry.{without};
 ghost use Rattle.osc_model.specs.Recordings.{hits_in};

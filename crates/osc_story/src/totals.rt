@@ -1,4 +1,4 @@
-// How much entries told.
+//! How much entries told.
 ghost use Rattle.std.specs.Prelude.{◌≡◌, ◌-◌, length, true};
 ghost use Rattle.osc_packet.specs.Reading.{is_packet, units_read};
 ghost use Rattle.osc_atoms.specs.declared.limits.TheConstants.{MAX_PACKET};

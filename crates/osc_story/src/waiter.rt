@@ -1,4 +1,4 @@
-// A unit that waits.
+//! A unit that waits.
 ghost use Rattle.std.specs.Prelude.{◌≡◌, IfOk};
 
 use crate::kept_message::KeptMessage;

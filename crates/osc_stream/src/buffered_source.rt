@@ -1,4 +1,4 @@
-// A source that is read through a buffer.
+//! A source that is read through a buffer.
 ghost use Rattle.std.specs.Prelude.{◌≡◌, ◌<◌, ◌≤◌, vec_len};
 
 use osc_edge::{Source, Taken};

@@ -1,4 +1,4 @@
-// What a stream answers.
+//! What a stream answers.
 
 /// The result of taking bytes.
 #[derive(Clone, Copy, Debug, PartialEq, Eq)]

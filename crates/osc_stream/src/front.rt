@@ -1,4 +1,4 @@
-// What stands at the front of bytes.
+//! What stands at the front of bytes.
 ghost use Rattle.std.specs.Prelude.{◌≡◌, ◌≤◌, ◌-◌, ◌+◌, length, min, take, ◌++◌};
 ghost use Rattle.std.specs.Int.{w32, from_be_bytes};
 ghost use Rattle.osc_stream.specs.Frames.{is_length, front, wanted};

@@ -1,4 +1,4 @@
-// How a link over a stream stands.
+//! How a link over a stream stands.
 ghost use Rattle.std.specs.Prelude.{◌≡◌};
 ghost use Rattle.osc_stream.specs.Links.{is_end};
 

@@ -1,4 +1,4 @@
-// A stream of packets, which takes its bytes in any pieces.
+//! A stream of packets, which takes its bytes in any pieces.
 ghost use Rattle.osc_stream.specs.declared.limits.TheConstants.{MAX_FRAME};
 ghost use Rattle.std.specs.Prelude.{◌≡◌, ◌≤◌, ◌<◌, ◌+◌, ◌^◌, length, IfOk, IsTrue, is_some};
 ghost use Rattle.std.specs.Prelude.{Some, nat_lt};

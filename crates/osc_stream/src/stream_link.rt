@@ -1,4 +1,4 @@
-// A link that gives the packets of a source's bytes.
+//! A link that gives the packets of a source's bytes.
 ghost use Rattle.std.specs.Prelude.{◌≡◌, ◌≤◌, length, take, IfOk, IsTrue};
 ghost use Rattle.osc_stream.specs.Feeding.{at_start};
 ghost use Rattle.osc_stream.specs.Links.{is_below, is_sound};

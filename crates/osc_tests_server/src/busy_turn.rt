@@ -11,7 +11,6 @@ use crate::live_threads::{Flag, await_flag, flag};
 use crate::tokens::caps;
 use osc_core::{AddRefusal, Adding, Core};
 use osc_method::Method;
-use osc_model::laws::callers_are_counted;
 use osc_pattern::Address;
 use osc_record::Caps;
 use osc_turn::{Job, Pass, Tried, Turn};
@@ -39,7 +38,7 @@ impl<M: Method> Job<Core<M>> for First<M> {
     ghost did = { λ old new before after. Unit {0} };
 
     fn run(&mut self, state: &mut Core<M>) -> bool {
-        callers_are_counted();
+        osc_model::laws::callers_are_counted();
         let Some((address, method)) = self.asked.take() else {
             return false;
         };

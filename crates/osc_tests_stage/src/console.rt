@@ -1,4 +1,4 @@
-//! Links whose datagrams are shown.
+// Links whose datagrams are shown.
 use jiff_core::Offset;
 use osc_atoms::Room;
 use osc_console::{

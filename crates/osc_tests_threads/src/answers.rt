@@ -1,4 +1,4 @@
-//! What a gate is told of the submits of a link, and of what the ticker releases.
+// What a gate is told of the submits of a link, and of what the ticker releases.
 use crate::callers::enrolled;
 use osc_atoms::{Bytes, Room};
 use osc_core::Submitted;

@@ -1,4 +1,4 @@
-//! A recording that is written while its links are served.
+// A recording that is written while its links are served.
 use crate::hold::{Flag, HoldEach};
 use crate::program::{replayed, words};
 use crate::serve::{ADD, FADER, answer};

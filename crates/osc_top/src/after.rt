@@ -39,9 +39,6 @@ use osc_ends::{Ended, bank_short, callers_full, count_adds};
 use osc_lanes::{Gate, resume_lanes};
 use osc_live::{Live, LiveResumed};
 use osc_method::Method;
-use osc_model::laws::{
-    a_method_is_called_while_it_is_registered, a_server_stays_sound, callers_are_counted,
-};
 use osc_replay::Checked;
 use osc_script::Line;
 use std::alloc::{AllocError, Global};
@@ -74,8 +71,8 @@ pub(crate) fn play_after<O: Sink, R: Sink, W: Threads + Wait + Sync, G: Gate + S
     ensures sink { result.status ≡ SINK_FAILED
         → Fails (sink_change O.held O.faults out.old out.new) ⊎ (out.new ≡ out.old) }
 {
-    a_server_stays_sound();
-    callers_are_counted();
+    osc_model::laws::a_server_stays_sound();
+    osc_model::laws::callers_are_counted();
     let Taken { past, lines } = taken;
     if let Some(status) = refuse_short(alloc, past.checked, &lines, bank.len(), out) {
         return unplayed(alloc, status, bank);
@@ -136,7 +133,7 @@ fn stage_after<M: Method + Send, W: Threads + Wait + Sync, G: Gate + Sync>(
         (roomier caps room) played.recorded.bytes.items played.recorded.faults
         played.recorded.outcome) }
 {
-    a_method_is_called_while_it_is_registered();
+    osc_model::laws::a_method_is_called_while_it_is_registered();
     let LiveResumed {
         live,
         callers,

@@ -24,7 +24,6 @@ use crate::parts::{find_parts, read_parts, ready_parts};
 use crate::prefix::beginning_with;
 use crate::registered::Registered;
 use crate::walk::Walk;
-use osc_pattern::laws::{an_address_is_a_pattern, plain_pattern, tests_are_exact};
 use osc_pattern::{Pattern, Steps};
 use std::sync::ledger::Ledger;
 
@@ -164,8 +163,8 @@ fn add_guessed(
     ensures len { vec_len ids.new ≤ length methods.now }
     ensures capacity { vec_capacity ids.old ≤ vec_capacity ids.new }
 {
-    an_address_is_a_pattern();
-    tests_are_exact();
+    osc_pattern::laws::an_address_is_a_pattern();
+    osc_pattern::laws::tests_are_exact();
     let Some(id) = guessed_id(methods, guesses, pattern.bytes()) else {
         return false;
     };
@@ -184,8 +183,8 @@ fn add_spelled(methods: &[Registered], places: &[u32], pattern: &Pattern<'_>, id
     ensures len { vec_len ids.new ≤ length places.now }
     ensures capacity { vec_capacity ids.old ≤ vec_capacity ids.new }
 {
-    plain_pattern();
-    tests_are_exact();
+    osc_pattern::laws::plain_pattern();
+    osc_pattern::laws::tests_are_exact();
     if let Some(id) = id_at(methods, places, pattern.bytes()) {
         add_id(id, ids);
     }

@@ -4,7 +4,6 @@ ghost use Rattle.osc_tree.specs.Registry.{IsLawful};
 ghost use Rattle.osc_tree.specs.Matching.{matching_ids};
 
 use crate::hits::Hits;
-use crate::laws::the_matching_methods_ascend;
 use crate::tree::Tree;
 use osc_pattern::{Pattern, Steps};
 use std::marker::Brand;
@@ -26,7 +25,7 @@ impl Tree {
             (matching pattern.now self.now.methods) }
         ensures limit { hits.new.limit ≡ hits.old.limit }
     {
-        the_matching_methods_ascend();
+        crate::laws::the_matching_methods_ascend();
         find_in::<Brand>(self, pattern, hits, Blank::new(1));
     }
 }

@@ -1,4 +1,4 @@
-//! How the turn is looked at, taken, and held while a job is run.
+// How the turn is looked at, taken, and held while a job is run.
 ghost use Rattle.std.specs.Prelude.{◌≡◌, ℕ, ◌+◌, ◌/◌, ◌%◌, ◌<◌, List, [], length, true};
 ghost use Rattle.osc_turn.specs.History.{StartsWith, texts};
 ghost use Rattle.osc_turn.specs.Rule.{Rests};

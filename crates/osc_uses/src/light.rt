@@ -18,7 +18,6 @@ ghost use Rattle.osc_uses.specs.declared.light.TheConstants.{RELEASES};
 
 use osc_core::{Core, Releasing};
 use osc_edge::{Clock, Datagram, Link, MAX_DATAGRAM, Moment};
-use osc_laws::laws::every_history_keeps_the_laws;
 use osc_message::{Arg, Message};
 use osc_method::{Call, Method, Trace};
 use osc_packet::{MAX_PACKET, Packet};
@@ -125,7 +124,7 @@ pub fn serve_light<L: Link, C: Clock>(
         (told ⟦<Light as Method>⟧.keep ⟦<Light as Method>⟧.heard core.new.boxes.items) }
     ensures err { OnErr result (core.new ≡ core.old) }
 {
-    every_history_keeps_the_laws();
+    osc_laws::laws::every_history_keeps_the_laws();
     let mut room = vec![in alloc; 0; MAX_DATAGRAM]?;
     let space = room.as_mut_slice();
     let mut last = Datagram::Quiet;

@@ -4,7 +4,6 @@ ghost use Rattle.osc_replay.specs.Printed.{printed};
 
 use osc_core::Core;
 use osc_method::Method;
-use osc_model::laws::a_legal_history_is_recordable;
 use osc_print::Text;
 use osc_replay::{ReplayFault, replay};
 use std::alloc::Global;
@@ -15,6 +14,6 @@ pub fn printed_history<M: Method>(alloc: Global, core: &Core<M>) -> Result<Text,
     ensures { IsTextUnlessShort result
         (printed core.now.performance.caps core.now.performance.history) }
 {
-    a_legal_history_is_recordable();
+    osc_model::laws::a_legal_history_is_recordable();
     replay(alloc, core.bytes())
 }

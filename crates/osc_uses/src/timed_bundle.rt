@@ -10,9 +10,7 @@ ghost use Rattle.osc_uses.specs.Played.{played};
 ghost use Rattle.osc_uses.specs.Early.{IsNotEarly};
 
 use osc_core::{Core, Releasing, Submitted, Ticking};
-use osc_laws::laws::{a_queued_unit_waits_for_its_tag, every_history_keeps_the_laws};
 use osc_method::Method;
-use osc_model::laws::a_release_takes_the_least_unit;
 use osc_packet::Packet;
 
 /// The result of a bundle that waits for its moment: a release before it, and the tick and a release then.
@@ -38,8 +36,8 @@ pub fn release_due<M: Method>(core: &mut Core<M>) -> Releasing
         ≡ all_hear (stepped_in core.old.performance release).invocations
         (told M.keep M.heard core.old.boxes.items) }
 {
-    a_release_takes_the_least_unit();
-    a_queued_unit_waits_for_its_tag();
+    osc_model::laws::a_release_takes_the_least_unit();
+    osc_laws::laws::a_queued_unit_waits_for_its_tag();
     // The history is legal, as the recording tells.
     let _ = core.bytes();
     core.release(0)
@@ -82,7 +80,7 @@ pub fn timed_run<M: Method>(core: &mut Core<M>, bundle: &Packet<'_>, moment: u64
         ≡ played core.old.performance (submit bundle.now ∷ release ∷ tick moment ∷ release ∷ []) }
     ensures laws { KeepsTheLaws core.new.performance.caps core.new.performance.history }
 {
-    every_history_keeps_the_laws();
+    osc_laws::laws::every_history_keeps_the_laws();
     let submitted = core.submit(0, bundle);
     let early = release_due(core);
     let (ticked, released) = release_at(core, moment);

@@ -1,4 +1,4 @@
-// How the edits of entries are noted.
+//! How the edits of entries are noted.
 ghost use Rattle.std.specs.Prelude.{◌≡◌, ◌≤◌, ◌++◌, ◌∷◌, [], length, IfOk, MatchResult};
 ghost use Rattle.std.specs.Option.{option_map};
 ghost use Rattle.osc_model.specs.Limits.{header_size, max_recording};

@@ -10,8 +10,6 @@ ghost use Rattle.osc_model.specs.History.{Legal, after};
 ghost use Rattle.osc_watch.specs.Edits.{edits_of};
 ghost use Rattle.osc_watch.specs.Listing.{listing};
 
-use osc_model::laws::a_server_stays_sound;
-
 /// The rows that stand after a legal history are the server's methods, each once, in ascending byte order of their
 /// addresses.
 pub fn rows_are_the_methods()
@@ -23,7 +21,7 @@ pub fn rows_are_the_methods()
         → IsStrictlySortedBy (slice_cmp nat_cmp)
         (map (λ row. row.address) (listing (edits_of history))) }
 {
-    a_server_stays_sound();
+    osc_model::laws::a_server_stays_sound();
 }
 
 /// Four entries make four edits, of which two methods stand, in the order of their addresses.

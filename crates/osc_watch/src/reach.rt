@@ -1,4 +1,4 @@
-//! How the one list of edits begins, grows and is told.
+// How the one list of edits begins, grows and is told.
 ghost use Rattle.std.specs.Prelude.{◌≡◌, ◌^◌, ◌+◌, ◌<◌, [], ◌∷◌, ◌++◌, length, MatchBool};
 ghost use Rattle.osc_turn.specs.History.{StartsWith};
 ghost use Rattle.osc_watch.specs.Listing.{edit_of};

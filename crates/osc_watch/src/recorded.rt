@@ -11,7 +11,6 @@ ghost use Rattle.osc_live.specs.Looks.{HasLooked};
 
 use osc_live::{Caller, Live};
 use osc_method::Method;
-use osc_model::laws::a_legal_history_is_recordable;
 use std::sync::Wait;
 
 /// What is read from a place on, by whoever has a token. A token knows in the proofs how much of the history it has
@@ -75,7 +74,7 @@ impl<M: Method> Recorded for Live<M> {
     ghost knows = { λ caller. view caller.pass };
 
     fn read<W: Wait>(&self, rt: &W, token: Caller, from: u32, into: &mut [u8]) -> (Caller, usize) {
-        a_legal_history_is_recordable();
+        osc_model::laws::a_legal_history_is_recordable();
         Live::read(self, rt, token, from, into)
     }
 }

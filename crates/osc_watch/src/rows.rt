@@ -1,4 +1,4 @@
-//! The rows in ascending byte order of their addresses, as edits change them.
+// The rows in ascending byte order of their addresses, as edits change them.
 ghost use Rattle.std.specs.Prelude.{◌≡◌, ◌≤◌, length, not, position, insert, is_ok, if◌then◌else◌};
 ghost use Rattle.std.specs.Prelude.{IfOk};
 ghost use Rattle.std.specs.List.{remove};

@@ -1,4 +1,4 @@
-// The commands of the programs.
+//! The commands of the programs.
 ghost use Rattle.std.specs.Prelude.{◌≡◌};
 ghost use Rattle.osc_words.specs.Ranges.{AreInRange, default_capacities};
 

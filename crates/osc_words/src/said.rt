@@ -1,4 +1,4 @@
-// What the words of a command line say.
+//! What the words of a command line say.
 ghost use Rattle.std.specs.Prelude.{◌≡◌, IfOk, IfSome, map, option_map, string_bytes};
 ghost use Rattle.clap.specs.Words.{first_of, found_of, rows_of};
 ghost use Rattle.osc_words.specs.Options.{IsInRange};

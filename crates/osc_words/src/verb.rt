@@ -1,4 +1,4 @@
-// The first word, and what each command has after it.
+//! The first word, and what each command has after it.
 ghost use Rattle.std.specs.Prelude.{◌≡◌};
 ghost use Rattle.osc_words.specs.Verbs;
 

@@ -1,4 +1,4 @@
-//! The methods of a stage.
+// The methods of a stage.
 use osc_patch::{Patch, PatchMethod, Route};
 use osc_relay::{Losses, Relay, UdpOutlet};
 use osc_shown::Route as ShownRoute;

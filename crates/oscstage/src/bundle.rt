@@ -1,4 +1,4 @@
-//! What is sent at the moments of a sheet.
+// What is sent at the moments of a sheet.
 use crate::cues::SheetRead;
 use osc_atoms::Bytes;
 use std::alloc::{AllocError, Global};

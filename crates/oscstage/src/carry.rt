@@ -1,4 +1,4 @@
-//! The script that carries a recording on.
+// The script that carries a recording on.
 ghost use Rattle.std.specs.Prelude.{◌≤◌, length, IfOk};
 ghost use Rattle.osc_model.specs.Limits.{max_recording};
 

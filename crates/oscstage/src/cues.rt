@@ -1,4 +1,4 @@
-//! Reads a sheet of cues, and shows what would be sent.
+// Reads a sheet of cues, and shows what would be sent.
 use crate::bundle::{Timed, bundles_of};
 use crate::patch::read_patch;
 use crate::playback::play_sheet;

@@ -1,4 +1,4 @@
-//! Draws a picture of a recording, or of a show in several.
+// Draws a picture of a recording, or of a show in several.
 ghost use Rattle.std.specs.Prelude.{◌≤◌, length};
 ghost use Rattle.osc_model.specs.Limits.{max_recording};
 

@@ -1,4 +1,4 @@
-//! Shows a recording that grows.
+// Shows a recording that grows.
 ghost use Rattle.std.specs.Prelude.{◌≤◌, length, IfOk};
 ghost use Rattle.osc_model.specs.Limits.{max_recording};
 

@@ -1,4 +1,4 @@
-//! The word that ends a show.
+// The word that ends a show.
 use osc_console::Shutdown;
 use std::alloc::Global;
 use std::io::{IsTerminal, Read};

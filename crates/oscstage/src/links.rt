@@ -1,4 +1,4 @@
-//! The links to serve.
+// The links to serve.
 ghost use Rattle.std.specs.Prelude.{◌<◌, ◌≤◌};
 ghost use Rattle.osc_links.specs.declared.limits.TheConstants.{MAX_LINKS};
 

@@ -1,4 +1,4 @@
-//! Reports what couldn't be sent on.
+// Reports what couldn't be sent on.
 use crate::bank::Destination;
 use osc_console::Chore;
 use std::time::{Duration, Instant};

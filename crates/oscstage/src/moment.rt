@@ -1,4 +1,4 @@
-//! A moment in words, and as a time tag.
+// A moment in words, and as a time tag.
 use crate::cues::setting_at;
 use crate::view::{time_of, zone_offset};
 use jiff_core::Offset;

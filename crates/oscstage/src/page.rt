@@ -1,4 +1,4 @@
-//! Serves a page in the browser that shows a recording while it grows.
+// Serves a page in the browser that shows a recording while it grows.
 use crate::report::{report_door, report_malformed, report_page, report_unread};
 use crate::tape::Tape;
 use crate::words::Paging;

@@ -1,4 +1,4 @@
-//! The recordings of a show: the files, and at which size one gives way to the next.
+// The recordings of a show: the files, and at which size one gives way to the next.
 use crate::words::Serving;
 use osc_words::Capacities;
 use std::alloc::{AllocError, Global};

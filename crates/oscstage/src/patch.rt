@@ -1,4 +1,4 @@
-//! The patch that the words name.
+// The patch that the words name.
 use crate::report::report_patch;
 use osc_edge::FileSource;
 use osc_ends::status::REFUSED;

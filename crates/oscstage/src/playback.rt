@@ -1,4 +1,4 @@
-//! Plays a sheet of cues at its moments.
+// Plays a sheet of cues at its moments.
 ghost use Rattle.std.specs.Prelude.{◌≤◌, All, IfOk, IsSomeAnd, length};
 ghost use Rattle.osc_edge.specs.Link.{IsShortTurn};
 ghost use Rattle.osc_model.specs.Limits.{max_recording};

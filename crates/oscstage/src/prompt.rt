@@ -1,4 +1,4 @@
-//! Prints the cues of a sheet as they are called.
+// Prints the cues of a sheet as they are called.
 use osc_console::{Lines, Rounds, Shutdown};
 use osc_edge::Sink;
 use std::sync::Wait;

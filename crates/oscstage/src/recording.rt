@@ -1,4 +1,4 @@
-//! Shows recordings.
+// Shows recordings.
 ghost use Rattle.std.specs.Prelude.{◌≤◌, length};
 ghost use Rattle.osc_model.specs.Limits.{max_recording};
 

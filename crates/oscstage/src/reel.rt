@@ -1,4 +1,4 @@
-//! The recordings of a show, in files.
+// The recordings of a show, in files.
 use crate::parts::{next_part, part_name};
 use crate::report::report_part;
 use crate::show::Shared;

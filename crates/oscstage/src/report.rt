@@ -1,4 +1,4 @@
-//! What is reported on standard error, and the help.
+// What is reported on standard error, and the help.
 use crate::bank::{Bank, RouteFault, WrongRoute};
 use crate::parts::{NEVER, size_of};
 use crate::words::{Paging, Serving, Taken};

@@ -1,4 +1,4 @@
-//! Writes a sheet of cues as a score.
+// Writes a sheet of cues as a score.
 use crate::cues::{SheetRead, addresses_of};
 use crate::report::report_score;
 use osc_edge::StdSink;

@@ -1,4 +1,4 @@
-//! Serves links, and prints meanwhile what comes in.
+// Serves links, and prints meanwhile what comes in.
 ghost use Rattle.std.specs.Prelude.{◌≡◌, ◌≤◌, length, IfOk, IsSomeAnd};
 ghost use Rattle.osc_links.specs.declared.limits.TheConstants.{MAX_LINKS};
 ghost use Rattle.osc_chain.specs.Shows.{CanPlay};

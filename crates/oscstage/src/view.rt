@@ -1,4 +1,4 @@
-//! How what comes in is shown.
+// How what comes in is shown.
 use jiff_core::civil::Date;
 use jiff_core::{Offset, Timestamp};
 use jiff_tz::{SystemTimeZone, TimeZoneDatabase};
